@@ -1,0 +1,12 @@
+-- The laws between files and scenes: what `encode` writes `parse` reads, what `parse` reads fits.
+pub mod TagCodes
+pub mod NestingLaws
+pub mod LeafLaws
+pub mod NodeLaws
+pub mod FileLaws
+pub mod NameLaws
+pub mod ByteLaws
+pub mod SizeLaws
+pub mod PlaceLaws
+pub mod RefusalLaws
+pub mod TagLaws

@@ -1,0 +1,110 @@
+-- Files, scenes and tables together: what the demands on reader, writer and clearer come from.
+use mathlib.Core.Path.{_≡_, refl, ap, sym, _∙_}
+use Prim.Native.Nat.{ℕ, suc, _+_, _*_, _≤_}
+use native.Mathlib.Omega.{arith}
+use mathlib.Core.Option.{some}
+use mathlib.Core.List.{List, [], _∷_, _++_, map, append-assoc}
+use lib.ListN.{length, take, drop, length-append, length-drop}
+use lib.Seq.{take-append-seam, take-all}
+use Rattle.wire.specs.Bytes.{AllBytes}
+use Rattle.layout.specs.Out.{got}
+use Rattle.layout.specs.Parts.{Name}
+use Rattle.layout.proofs.Lists.{All, all-map, all-zip, all-append, all-of-map}
+use Rattle.layout.proofs.PlaceLaws.{NameIn}
+use Rattle.b3d_scene.specs.Encode.{encode}
+use Rattle.b3d_scene.specs.Names.{rename, bare, cleared}
+use Rattle.b3d_scene.specs.Parse.{parse}
+use Rattle.b3d_scene.specs.Rebuild.{Lent, lentRows, nodeNames, names, rebuild}
+use Rattle.b3d_scene.specs.Rules.{rowLimit}
+use Rattle.b3d_scene.specs.Scene.{Texture, Brush, Forest, leaf, node, Scene}
+use Rattle.b3d_scene.specs.Tables.{width, rows, table, tables}
+use Rattle.b3d_scene.proofs.Rows.CountLaws.{table-length}
+use Rattle.b3d_scene.proofs.Files.FileLaws.{parse-back, parse-fine}
+use Rattle.b3d_scene.proofs.Fitting.{Fit}
+use Rattle.b3d_scene.proofs.Files.NameLaws.{copy-back}
+use Rattle.b3d_scene.proofs.Files.PlaceLaws.{NodeNames, NamesIn, parse-names}
+use Rattle.b3d_scene.proofs.Rows.RebuildLaws.{Holds, rebuild-back, rebuild-fine, held-rows}
+use Rattle.b3d_scene.proofs.Rows.Rename.{named, unplaced, unnamed, nameOff, bare-rows, cleared-rows, bare-same, lentOf, same-cells}
+use Rattle.b3d_scene.proofs.Rows.RowParts.{Stands}
+
+-- ---- reader: a file's tables and its own bytes give its scene back
+
+stand : (s : List ℕ) (n : Name) → NameIn s n → Stands s n
+stand s n h =
+    let e : drop (n .place) s ≡ n .bytes ++ (0 ∷ h .after) = h .stands ∙ append-assoc (n .bytes) (0 ∷ []) (h .after) in
+    let l : length (drop (n .place) s) ≡ length (n .bytes) + suc (length (h .after)) = ap length e ∙ length-append (n .bytes) (0 ∷ h .after) in
+    (omega (arith, length-drop (n .place) s), ap (take (length (n .bytes))) e ∙ take-append-seam (n .bytes) (0 ∷ h .after))
+
+nodes-in : (s : List ℕ) (t : Forest) (r : List Name) → NodeNames s t → All (NameIn s) r → All (NameIn s) (nodeNames t r)
+unfolding nodeNames
+nodes-in s leaf r h k = k
+nodes-in s (node d f g) r h k = (h .0, nodes-in s f (nodeNames g r) (h .1) (nodes-in s g r (h .2) k))
+
+all-in : (s : List ℕ) (t : Scene) → NamesIn s t → All (NameIn s) (names t)
+unfolding names
+all-in s t h =
+    all-append (NameIn s) (map (λ (x : Texture). x .name) (t .textures)) _ (all-of-map (NameIn s) (λ (x : Texture). x .name) (t .textures) (h .textures))
+    (all-append (NameIn s) (map (λ (x : Brush). x .name) (t .brushes)) _ (all-of-map (NameIn s) (λ (x : Brush). x .name) (t .brushes) (h .brushes)) (nodes-in s (t .nodes) [] (h .nodes) tt))
+
+own-holds : (t : Scene) → Fit t → All (λ k. length (rows k t) ≤ rowLimit) tables → All (Holds (lentOf t) t) tables
+unfolding lentOf
+own-holds t f small =
+    all-zip (λ k. length (rows k t) ≤ rowLimit) (λ k. length (table k t) ≡ width k * length (rows k t)) (Holds (lentOf t) t)
+    (λ k n l. record { many = refl; few = n; room = omega (arith, l); cells = take-all (width k * length (rows k t)) (table k t) (omega (arith, l)) }) tables small (table-length t f)
+
+own-version : (t : Scene) → (lentOf t) .version ≡ t .version
+unfolding lentOf
+own-version t = refl
+
+own-slots : (t : Scene) → (lentOf t) .slots ≡ t .slots
+unfolding lentOf
+own-slots t = refl
+
+bare-version : (t u : Scene) → bare t ≡ bare u → t .version ≡ u .version
+unfolding bare rename
+bare-version t u e = ap (λ (x : Scene). x .version) e
+
+bare-slots : (t u : Scene) → bare t ≡ bare u → t .slots ≡ u .slots
+unfolding bare rename
+bare-slots t u e = ap (λ (x : Scene). x .slots) e
+
+pub read-rebuild : (s : List ℕ) (t : Scene) → AllBytes s → parse s ≡ got t → All (λ k. length (rows k t) ≤ rowLimit) tables → rebuild (lentOf t) s ≡ some t
+read-rebuild s t b e small =
+    let f = parse-fine s t b e .0 in
+    let st = all-map (NameIn s) (Stands s) (stand s) (names t) (all-in s t (parse-names s t e)) in
+    rebuild-back s (lentOf t) t f (record { version = own-version t; slots = own-slots t; held = own-holds t f small; named = st })
+
+-- ---- writer: its file, read back, has the lent cells but for name places
+
+pub write-read : (ns : List ℕ) (T : Lent) (t : Scene) → rebuild T ns ≡ some t → length (encode t) ≤ 16777216
+    → (u : Scene) × (parse (encode t) ≡ got u) × ((u .version ≡ T .version) × ((u .slots ≡ T .slots) × All (λ k. named unplaced k (rows k u) ≡ named unplaced k (lentRows T k)) tables))
+write-read ns T t e size =
+    let f = rebuild-fine ns T t e in
+    let x = parse-back t (f .0) size in
+    let r = held-rows T t (f .0) (f .1 .held) in (
+      x .0,
+      x .1,
+      (
+        bare-version (x .0) t (x .2) ∙ sym (f .1 .version),
+        (
+          bare-slots (x .0) t (x .2) ∙ sym (f .1 .slots),
+          all-zip (λ k. named unplaced k (rows k (x .0)) ≡ named unplaced k (rows k t)) (λ k. lentRows T k ≡ rows k t) _ (λ k a b. a ∙ ap (named unplaced k) (sym b)) tables (bare-same (x .0) t (x .2)) r,
+        ),
+      ),
+    )
+
+-- ---- clearer: files with the same cells but for names have one copy, and the copy has those cells
+
+pub cells-copy : (s v : List ℕ) (t u : Scene) → AllBytes s → AllBytes v → parse s ≡ got t → parse v ≡ got u → t .version ≡ u .version → t .slots ≡ u .slots
+    → All (λ k. named nameOff k (rows k t) ≡ named nameOff k (rows k u)) tables → encode (cleared t) ≡ encode (cleared u)
+cells-copy s v t u bs bv et eu ev es h = ap encode (same-cells t u (parse-fine s t bs et .0) (parse-fine v u bv eu .0) ev es h)
+
+pub copy-cells : (s : List ℕ) (t : Scene) → AllBytes s → parse s ≡ got t
+    → (u : Scene) × (parse (encode (cleared t)) ≡ got u) × All (λ k. named unplaced k (rows k u) ≡ named unnamed k (rows k t)) tables
+copy-cells s t b e =
+    let c = copy-back s t b e in (
+      c .scene,
+      c .accepted,
+      all-zip (λ k. rows k (bare (c .scene)) ≡ named unplaced k (rows k (c .scene))) (λ k. rows k (cleared t) ≡ named unnamed k (rows k t)) _
+          (λ k x y. sym x ∙ ap (rows k) (c .is-cleared) ∙ y) tables (bare-rows (c .scene)) (cleared-rows t),
+    )

@@ -1,0 +1,9 @@
+-- The laws of the definitions. `Laws` has those that the rest rests on; their proofs are in Files and Rows. Cases has the worked files.
+pub mod Fitting
+pub mod Files
+pub mod Rows
+pub mod Join
+pub mod Laws
+pub mod Computing
+pub mod Cases
+pub mod Large

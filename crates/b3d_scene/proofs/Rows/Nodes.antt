@@ -1,0 +1,174 @@
+-- A node's own rows in all tables: how wide and how many they are, and that the node comes back from them.
+use mathlib.Core.Path.{_≡_, refl, ap, ap₂, sym, _∙_}
+use Prim.Native.Nat.{ℕ, suc, _+_}
+use native.Mathlib.Omega.{arith}
+use native.Mathlib.Nat.{add-zero}
+use mathlib.Core.List.{List, _++_}
+use lib.ListN.{length, drop, getD}
+use lib.Seq.{take-append-seam, take-at, drop-at}
+use Rattle.wire.specs.Test.{if}
+use Rattle.layout.proofs.Lists.{All, all-map}
+use Rattle.b3d_scene.specs.Rebuild.{Rows, nameFrom, mine, keysFrom, animFrom, kindFrom, dataFrom}
+use Rattle.b3d_scene.specs.Scene.{Kind, pivot, mesh, bone, anim, Data}
+use Rattle.b3d_scene.specs.Tables.{width, Counts, reached, nodeTables, meshesOf, weightsOf, nameCells, kindCells, animCells, nodeRow, meshRow, listRows, keyRows, meshRows, ownRows, withMeshes, withNode}
+use Rattle.b3d_scene.proofs.Fitting.{FitKind, FitData}
+use Rattle.b3d_scene.proofs.Rows.RowParts.{Wide, Stands, Others, sets-length, sets-wide, triangles-wide, vertices-wide, vertices-length, mesh-back, lists-length, lists-wide, keys-wide, mine-back, keys-back, anim-back, kind-wide, node-wide}
+use Rattle.b3d_scene.proofs.Rows.WordCounts.{any-words}
+use Rattle.layout.proofs.Fitting.{Fits}
+use Rattle.layout.proofs.PartLaws.{length-fits}
+use Rattle.b3d_scene.specs.Rules.{weightRow}
+
+-- ---- widths
+
+meshes-wide : (b c : ℕ) (k : Kind) (n : Counts) → FitKind b c k
+    → All (Wide 9) (meshRows 4 (meshesOf k) n) × (All (Wide 42) (meshRows 5 (meshesOf k) n)
+    × (All (Wide 4) (meshRows 6 (meshesOf k) n) × (All (Wide 3) (meshRows 7 (meshesOf k) n) × All (Wide 2) (weightsOf k))))
+unfolding meshRows meshesOf weightsOf if meshRow
+meshes-wide b c pivot n h = (tt, (tt, (tt, (tt, tt))))
+meshes-wide b c (mesh m) n h =
+    ((refl, tt), (vertices-wide m, (sets-wide (n .meshes) (n .triangles) (m .triangleSets), (triangles-wide b (length (m .vertices)) (m .triangleSets) (h .triangles), tt))))
+meshes-wide b c (bone ws) n h = (tt, (tt, (tt, (tt, all-map (Fits (weightRow c)) (Wide 2) (λ w f. length-fits (weightRow c) w f) ws h))))
+
+abbrev pub OwnWide : Data → ℕ → Counts → ℕ → Type 0
+OwnWide d p n k = All (Wide (width k)) (ownRows k d p n)
+
+pub own-wide : (b c : ℕ) (d : Data) (p : ℕ) (n : Counts) → FitData b c d → All (OwnWide d p n) nodeTables
+unfolding nodeTables width if ownRows
+own-wide b c d p n h =
+    let w = meshes-wide b c (d .kind) n (h .kind) in
+    ((node-wide b c d p n h, tt), (w .0, (w .1 .0, (w .1 .1 .0, (w .1 .1 .1 .0, (w .1 .1 .1 .1, (lists-wide (n .nodes) (n .keys) (d .keys), (keys-wide (d .keys), tt))))))))
+
+-- ---- counts
+
+abbrev pub Step : Data → ℕ → Counts → ℕ → Type 0
+Step d p n k = reached k (withNode d n) ≡ reached k n + length (ownRows k d p n)
+
+with-meshes : (k : Kind) (n : Counts) (x : Counts) → x ≡ withMeshes (meshesOf k) n
+    → (x .nodes ≡ n .nodes) × ((x .weights ≡ n .weights) × ((x .lists ≡ n .lists) × ((x .keys ≡ n .keys)
+    × ((x .meshes ≡ n .meshes + length (meshRows 4 (meshesOf k) n)) × ((x .vertices ≡ n .vertices + length (meshRows 5 (meshesOf k) n))
+    × ((x .sets ≡ n .sets + length (meshRows 6 (meshesOf k) n)) × (x .triangles ≡ n .triangles + length (meshRows 7 (meshesOf k) n))))))))
+unfolding withMeshes meshesOf meshRows if
+with-meshes pivot n x e = (
+  ap (λ (c : Counts). c .nodes) e,
+  (
+    ap (λ (c : Counts). c .weights) e,
+    (
+      ap (λ (c : Counts). c .lists) e,
+      (
+        ap (λ (c : Counts). c .keys) e,
+        (
+          ap (λ (c : Counts). c .meshes) e ∙ sym (add-zero _),
+          (
+            ap (λ (c : Counts). c .vertices) e ∙ sym (add-zero _),
+            (ap (λ (c : Counts). c .sets) e ∙ sym (add-zero _), ap (λ (c : Counts). c .triangles) e ∙ sym (add-zero _)),
+          ),
+        ),
+      ),
+    ),
+  ),
+)
+with-meshes (mesh m) n x e = (
+  ap (λ (c : Counts). c .nodes) e,
+  (
+    ap (λ (c : Counts). c .weights) e,
+    (
+      ap (λ (c : Counts). c .lists) e,
+      (
+        ap (λ (c : Counts). c .keys) e,
+        (
+          ap (λ (c : Counts). c .meshes) e,
+          (
+            ap (λ (c : Counts). c .vertices) e ∙ ap (λ (l : ℕ). n .vertices + l) (sym (vertices-length m)),
+            (ap (λ (c : Counts). c .sets) e ∙ ap (λ (l : ℕ). n .sets + l) (sym (sets-length (n .meshes) (n .triangles) (m .triangleSets))), ap (λ (c : Counts). c .triangles) e),
+          ),
+        ),
+      ),
+    ),
+  ),
+)
+with-meshes (bone ws) n x e = (
+  ap (λ (c : Counts). c .nodes) e,
+  (
+    ap (λ (c : Counts). c .weights) e,
+    (
+      ap (λ (c : Counts). c .lists) e,
+      (
+        ap (λ (c : Counts). c .keys) e,
+        (
+          ap (λ (c : Counts). c .meshes) e ∙ sym (add-zero _),
+          (
+            ap (λ (c : Counts). c .vertices) e ∙ sym (add-zero _),
+            (ap (λ (c : Counts). c .sets) e ∙ sym (add-zero _), ap (λ (c : Counts). c .triangles) e ∙ sym (add-zero _)),
+          ),
+        ),
+      ),
+    ),
+  ),
+)
+
+pub steps : (d : Data) (p : ℕ) (n : Counts) → All (Step d p n) nodeTables
+unfolding nodeTables reached withNode ownRows if
+steps d p n =
+    let w = with-meshes (d .kind) n (withMeshes (meshesOf (d .kind)) n) refl in (
+      ap (λ (x : ℕ). x + 1) (w .0),
+      (
+        w .1 .1 .1 .1 .0,
+        (
+          w .1 .1 .1 .1 .1 .0,
+          (
+            w .1 .1 .1 .1 .1 .1 .0,
+            (
+              w .1 .1 .1 .1 .1 .1 .1,
+              (
+                ap (λ (x : ℕ). x + length (weightsOf (d .kind))) (w .1 .0),
+                (
+                  ap₂ _+_ (w .1 .1 .0) (sym (lists-length (n .nodes) (n .keys) (d .keys))),
+                  (ap (λ (x : ℕ). x + length (keyRows (d .keys))) (w .1 .1 .1 .0), tt),
+                ),
+              ),
+            ),
+          ),
+        ),
+      ),
+    )
+
+pub nodes-step : (d : Data) (n : Counts) → (withNode d n) .nodes ≡ suc (n .nodes)
+unfolding withNode
+nodes-step d n =
+    let w = with-meshes (d .kind) n (withMeshes (meshesOf (d .kind)) n) refl in
+    let e : withMeshes (meshesOf (d .kind)) n .nodes ≡ n .nodes = w .0 in
+    omega arith
+
+-- ---- back
+
+-- table k goes on, after n rows, with S k
+abbrev pub From : Rows → Counts → Rows → ℕ → Type 0
+From R n S k = drop (reached k n) (R k) ≡ S k
+
+kind-back : (b c : ℕ) (R S : Rows) (n : Counts) (k : Kind) → FitKind b c k
+    → drop (n .meshes) (R 4) ≡ meshRows 4 (meshesOf k) n ++ S 4 → drop (n .vertices) (R 5) ≡ meshRows 5 (meshesOf k) n ++ S 5
+    → drop (n .sets) (R 6) ≡ meshRows 6 (meshesOf k) n ++ S 6 → drop (n .triangles) (R 7) ≡ meshRows 7 (meshesOf k) n ++ S 7
+    → drop (n .weights) (R 8) ≡ weightsOf k ++ S 8 → (r : List ℕ)
+    → kindFrom R n (getD (kindCells k n ++ r) 0 0) (getD (kindCells k n ++ r) 2 0) ≡ k
+unfolding meshRows meshesOf weightsOf kindCells kindFrom if
+kind-back b c R S n pivot h e4 e5 e6 e7 e8 r = refl
+kind-back b c R S n (mesh m) h e4 e5 e6 e7 e8 r = rw (e4, e5, e6, e7) (ap mesh (mesh-back b m n (n .meshes) (n .triangles) (S 5) (S 6) (S 7) h))
+kind-back b c R S n (bone ws) h e4 e5 e6 e7 e8 r = rw e8 (ap bone (take-append-seam ws (S 8)))
+
+pub data-back : (ns : List ℕ) (b c : ℕ) (R S : Rows) (n : Counts) (d : Data) (p : ℕ) → FitData b c d → Stands ns (d .name)
+    → All (From R n (λ k. ownRows k d p n ++ S k)) nodeTables → Others (n .nodes) (S 9) → dataFrom ns R (nodeRow d p n) n ≡ d
+unfolding nodeTables reached ownRows if dataFrom nodeRow nameCells nameFrom
+data-back ns b c R S n d p h s f o =
+    let r = animCells (d .anim) in
+    let y = kindCells (d .kind) n ++ r in
+    let ew = take-at (d .words) y 10 (any-words 10 (d .words) (h .words)) in
+    let ey = drop-at (d .words) y 10 (any-words 10 (d .words) (h .words)) in
+    let g = f .1 .1 .1 .1 .1 in
+    let ek = kind-back b c R S n (d .kind) (h .kind) (f .1 .0) (f .1 .1 .0) (f .1 .1 .1 .0) (f .1 .1 .1 .1 .0) (g .0) r in
+    let em : mine (n .nodes) (drop (n .lists) (R 9)) ≡ listRows (n .nodes) (n .keys) (d .keys) = rw (g .1 .0) (mine-back (n .nodes) (n .keys) (d .keys) (S 9) o) in
+    let el : keysFrom (mine (n .nodes) (drop (n .lists) (R 9))) (drop (n .keys) (R 10)) ≡ d .keys =
+    rw (em, g .1 .1 .0) (keys-back (n .nodes) (n .keys) (d .keys) (S 10) (h .keys)) in
+    let ed : drop 3 y ≡ r = drop-at (kindCells (d .kind) n) r 3 (kind-wide (d .kind) n) in
+    let ea : animFrom (drop 3 (drop 10 (d .words ++ y))) ≡ d .anim = rw (ey, ed) (anim-back (d .anim)) in
+    let eK : kindFrom R n (getD (drop 10 (d .words ++ y)) 0 0) (getD (drop 10 (d .words ++ y)) 2 0) ≡ d .kind = rw ey ek in
+    λ i. record { name = record { place = d .name .place; bytes = s .1 i }; words = ew i; kind = eK i; keys = el i; anim = ea i }

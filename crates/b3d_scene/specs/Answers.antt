@@ -1,0 +1,108 @@
+-- What reader, writer and clearer answer, and what they leave in each lent slice, on every input. Checks 1 to 9 are `parse`'s; then 10
+-- over all tables, then 11; for the writer 12, then 11.
+use Prim.Native.Nat.{ℕ, _*_}
+use mathlib.Core.Bool.{Bool}
+use mathlib.Core.Option.{Option, none, some}
+use mathlib.Core.List.{List, [], _∷_}
+use lib.ListN.{length, replicate}
+use lib.Dec.{leb}
+use Rattle.wire.specs.Bytes.{over}
+use Rattle.layout.specs.Out.{Out, got, bad, check, _>>=_}
+use Rattle.b3d_scene.specs.Scene.{Scene}
+use Rattle.b3d_scene.specs.Rules.{rowLimit, mostBytes}
+use Rattle.b3d_scene.specs.Parse.{parse}
+use Rattle.b3d_scene.specs.Encode.{encode}
+use Rattle.b3d_scene.specs.Names.{cleared}
+use Rattle.b3d_scene.specs.Tables.{width, rows, table, tables, counts}
+use Rattle.b3d_scene.specs.Rebuild.{Lent, rebuild}
+use Rattle.b3d_scene.specs.declared.Answer.{Answer}
+use Rattle.b3d_scene.specs.declared.Written.{Written}
+
+-- go on where the test holds of each of these tables, else refuse at the first of which it does not
+unfoldable pub eachTable : ℕ → (ℕ → Bool) → List ℕ → Out (Unit {0})
+eachTable n ok [] = got tt
+eachTable n ok (k ∷ ks) = do
+  _ ← check (ok k) n k
+  eachTable n ok ks
+
+-- ---- reader
+
+-- a file without the faults 1 to 10: what 01 calls accepted
+unfoldable pub judge : List ℕ → Out Scene
+judge s = do
+  t ← parse s
+  _ ← eachTable 10 (λ k. leb (length (rows k t)) rowLimit) tables
+  got t
+
+-- the same with lent tables, table k of room k words
+unfoldable pub read : (ℕ → ℕ) → List ℕ → Out Scene
+read room s = do
+  t ← judge s
+  _ ← eachTable 11 (λ k. leb (width k * length (rows k t)) (room k)) tables
+  got t
+
+unfoldable pub answer : Out Scene → Answer
+answer (got t) = record { number = 0; place = 0; version = t .version; «n_texs» = t .slots; counts = counts t }
+answer (bad n p) = record { number = n; place = p; version = 0; «n_texs» = 0; counts = replicate 10 0 }
+
+-- table k afterwards: its rows, then what stood there; where refused, what stood there
+unfoldable pub tableAfter : ℕ → Out Scene → List ℕ → List ℕ
+tableAfter k (got t) xs = over (table k t) xs
+tableAfter k (bad n p) xs = xs
+
+unfoldable pub readAnswer : (ℕ → ℕ) → List ℕ → Answer
+readAnswer room s = answer (read room s)
+
+unfoldable pub readTable : ℕ → (ℕ → ℕ) → List ℕ → List ℕ → List ℕ
+readTable k room s xs = tableAfter k (read room s) xs
+
+-- ---- writer and clearer
+
+-- bytes that have room in an output, else 11 and their number
+unfoldable pub roomFor : ℕ → List ℕ → Out (List ℕ)
+roomFor room b = do
+  _ ← check (leb (length b) room) 11 (length b)
+  got b
+
+-- the shortest file of the scene of sound tables, if it is not too long
+unfoldable pub shortest : Option Scene → Out (List ℕ)
+shortest none = bad 12 0
+shortest (some t) = do
+  _ ← check (leb (length (encode t)) mostBytes) 12 0
+  got (encode t)
+
+-- the writer's file, of lent tables and the bytes that hold the names
+unfoldable pub write : Lent → List ℕ → ℕ → Out (List ℕ)
+write T ns room = do
+  b ← shortest (rebuild T ns)
+  roomFor room b
+
+-- the copy: what 01 calls so, with every name empty
+unfoldable pub copy : Scene → List ℕ
+copy t = encode (cleared t)
+
+unfoldable pub clear : List ℕ → ℕ → Out (List ℕ)
+clear s room = do
+  t ← judge s
+  roomFor room (copy t)
+
+unfoldable pub written : Out (List ℕ) → Written
+written (got b) = record { number = 0; place = 0; size = length b }
+written (bad n p) = record { number = n; place = p; size = 0 }
+
+-- the output afterwards: what was written, then what stood there; where refused, what stood there
+unfoldable pub outputAfter : Out (List ℕ) → List ℕ → List ℕ
+outputAfter (got b) out = over b out
+outputAfter (bad n p) out = out
+
+unfoldable pub writeAnswer : Lent → List ℕ → List ℕ → Written
+writeAnswer T ns out = written (write T ns (length out))
+
+unfoldable pub writeOutput : Lent → List ℕ → List ℕ → List ℕ
+writeOutput T ns out = outputAfter (write T ns (length out)) out
+
+unfoldable pub clearAnswer : List ℕ → List ℕ → Written
+clearAnswer s out = written (clear s (length out))
+
+unfoldable pub clearOutput : List ℕ → List ℕ → List ℕ
+clearOutput s out = outputAfter (clear s (length out)) out

@@ -1,0 +1,13 @@
+pub mod Tags
+pub mod Scene
+pub mod Rules
+pub mod Nesting
+pub mod Parse
+pub mod Encode
+pub mod Names
+pub mod Fit
+pub mod Mask
+pub mod Tables
+pub mod Rebuild
+pub mod Sizes
+pub mod Answers

@@ -1,0 +1,52 @@
+-- Rows whose words are there or not, by a mask: the file has those that are there, in order; in the row the others are 0.
+use Prim.Native.Nat.{ℕ, zero, suc, _+_, _-_, _/_, _%_}
+use mathlib.Core.Bool.{Bool, true, false, _&&_}
+use mathlib.Core.List.{List, [], _∷_}
+use lib.Dec.{ltb, eqb}
+use Rattle.wire.specs.Test.{if}
+
+-- does word w say that it is there: n words from word w on
+unfoldable pub mask : (ℕ → Bool) → ℕ → ℕ → List Bool
+mask f zero w = []
+mask f (suc n) w = f w ∷ mask f n (w + 1)
+
+-- how many words a mask has
+unfoldable pub ones : List Bool → ℕ
+ones [] = 0
+ones (true ∷ m) = suc (ones m)
+ones (false ∷ m) = ones m
+
+-- a row of a mask's width: where the mask says so the next word, else 0
+unfoldable pub spread : List Bool → List ℕ → List ℕ
+spread [] ws = []
+spread (true ∷ m) [] = 0 ∷ spread m []
+spread (true ∷ m) (w ∷ ws) = w ∷ spread m ws
+spread (false ∷ m) ws = 0 ∷ spread m ws
+
+-- a row's words where the mask says so
+unfoldable pub squeeze : List Bool → List ℕ → List ℕ
+squeeze [] r = []
+squeeze (b ∷ m) [] = []
+squeeze (true ∷ m) (x ∷ r) = x ∷ squeeze m r
+squeeze (false ∷ m) (x ∷ r) = squeeze m r
+
+-- a vertex: 3 position; 3 normal by flag 1; 4 colour by flag 2; coordinate c of set s at word 10 + 4 s + c
+unfoldable pub vertexHas : ℕ → ℕ → ℕ → ℕ → Bool
+vertexHas flags sets size w =
+    if (ltb w 3) true
+    (if (ltb w 6) (eqb (flags % 2) 1)
+    (if (ltb w 10) (eqb (flags / 2 % 2) 1)
+    (ltb ((w - 10) / 4) sets && ltb ((w - 10) % 4) size)))
+
+unfoldable pub vertexMask : ℕ → ℕ → ℕ → List Bool
+vertexMask flags sets size = mask (vertexHas flags sets size) 42 0
+
+-- a key: the frame; 3 position by flag 1; 3 scale by flag 2; 4 rotation by flag 4
+unfoldable pub keyHas : ℕ → ℕ → Bool
+keyHas flags w =
+    if (ltb w 1) true
+    (if (ltb w 4) (eqb (flags % 2) 1)
+    (if (ltb w 7) (eqb (flags / 2 % 2) 1) (eqb (flags / 4 % 2) 1)))
+
+unfoldable pub keyMask : ℕ → List Bool
+keyMask flags = mask (keyHas flags) 11 0

@@ -1,0 +1,214 @@
+-- From bytes to a scene, or to the first refusal in reading order: checks 1 to 9. A chunk's reader is given the place of its
+-- header, p, and its body, which starts at p + 8. Which chunks come, and in which order, `inside` has seen to.
+use Prim.Native.Nat.{ℕ, zero, suc, _+_}
+use mathlib.Core.Option.{Option, none}
+use mathlib.Core.List.{List, [], _∷_, _++_}
+use lib.ListN.{length, take, drop}
+use lib.Dec.{eqb}
+use Rattle.wire.specs.Test.{if}
+use Rattle.layout.specs.Chunks.{done, stop, chunk, ended}
+use Rattle.layout.specs.Out.{Out, got, bad, check, _>>=_}
+use Rattle.layout.specs.Parts.{Step, row, number, named, items}
+use Rattle.b3d_scene.specs.Nesting.{inside}
+use Rattle.b3d_scene.specs.Rules.{textureRow, brushRow, brushIds, nodeRow, vertexRow, triangleRow, weightRow, keyRow, animRow, boneVertices, bonesBelow, levels, fileSize, header, fileHead, brushesHead, meshHead, verticesHead, trianglesHead, keysHead}
+use Rattle.b3d_scene.specs.Scene.{Texture, Brush, TriangleSet, Mesh, Kind, pivot, mesh, bone, Keys, Anim, still, anim, Data, Forest, leaf, node, Scene}
+use Rattle.b3d_scene.specs.declared.Tag.{Tag}
+use Rattle.b3d_scene.specs.declared.Tag.the-variants.{BB3D, TEXS, BRUS, NODE, MESH, VRTS, BONE, KEYS, ANIM}
+use Rattle.b3d_scene.specs.Tags.{code, is, Chunks, Found}
+
+-- ---- a chunk
+
+-- the first chunk, if it is of this kind; else `a`
+unfoldable pub readOne : {A : Type 0} → Tag → A → (ℕ → List ℕ → Out A) → Chunks → Out (Found A)
+readOne k a one done = got (record { value = a; rest = done })
+readOne k a one (stop n p) = bad n p
+readOne {A} k a one (chunk t p b r) =
+    let it : Out (Found A) = one p b >>= λ x. got (record { value = x; rest = r }) in
+    if (is t k) it (got (record { value = a; rest = chunk t p b r }))
+
+-- ---- textures and brushes
+
+unfoldable pub readTexture : ℕ → List ℕ → Out (Step Texture)
+readTexture p s = do
+  x ← named textureRow p s
+  got (record { value = record { name = x .value .0; words = x .value .1 }; place = x .place; left = x .left })
+
+unfoldable pub readTextures : ℕ → List ℕ → Out (List Texture)
+readTextures p b = items readTexture (p + 8) b
+
+unfoldable pub readBrush : ℕ → ℕ → ℕ → List ℕ → Out (Step Brush)
+readBrush slots textures p s = do
+  x ← named (brushRow ++ brushIds slots textures) p s
+  got (record { value = record { name = x .value .0; words = take 7 (x .value .1); ids = drop 7 (x .value .1) }; place = x .place; left = x .left })
+
+-- the slots of a brush, and the brushes
+unfoldable pub readBrushes : ℕ → ℕ → List ℕ → Out (ℕ × List Brush)
+readBrushes textures p b = do
+  h ← row brushesHead (p + 8) b
+  l ← items (readBrush (number h 0) textures) (h .place) (h .left)
+  got (number h 0, l)
+
+-- ---- meshes
+
+pub record Vertices : Type 0 where
+  pub flags : ℕ
+  pub sets : ℕ
+  pub size : ℕ
+  pub items : List (List ℕ)
+
+-- there is a VRTS in every MESH
+abbrev pub noVertices : Vertices
+noVertices = record { flags = 0; sets = 0; size = 0; items = [] }
+
+unfoldable pub readVertices : ℕ → List ℕ → Out Vertices
+readVertices p b = do
+  h ← row verticesHead (p + 8) b
+  l ← items (row (vertexRow (number h 0) (number h 1) (number h 2))) (h .place) (h .left)
+  got (record { flags = number h 0; sets = number h 1; size = number h 2; items = l })
+
+unfoldable pub readTriangles : ℕ → ℕ → ℕ → List ℕ → Out TriangleSet
+readTriangles brushes vertices p b = do
+  h ← row (trianglesHead brushes) (p + 8) b
+  l ← items (row (triangleRow vertices)) (h .place) (h .left)
+  got (record { brush = number h 0; triangles = l })
+
+-- TRIS chunks to the end
+unfoldable pub readSets : ℕ → ℕ → Chunks → Out (List TriangleSet)
+readSets brushes vertices done = got []
+readSets brushes vertices (stop n p) = bad n p
+readSets brushes vertices (chunk t p b r) = do
+  x ← readTriangles brushes vertices p b
+  l ← readSets brushes vertices r
+  got (x ∷ l)
+
+-- one VRTS, then one or more TRIS
+unfoldable pub readMesh : ℕ → ℕ → List ℕ → Out Mesh
+readMesh brushes p b = do
+  h ← row (meshHead brushes) (p + 8) b
+  v ← readOne VRTS noVertices readVertices (inside MESH p (h .place) (h .left))
+  l ← readSets brushes (length (v .value .items)) (v .rest)
+  got (record { brush = number h 0; flags = v .value .flags; sets = v .value .sets; size = v .value .size; vertices = v .value .items; triangleSets = l })
+
+-- ---- bones, keys, animation
+
+unfoldable pub readBone : ℕ → ℕ → List ℕ → Out (List (List ℕ))
+readBone vertices p b = items (row (weightRow vertices)) (p + 8) b
+
+unfoldable pub readKeys : ℕ → List ℕ → Out Keys
+readKeys p b = do
+  h ← row keysHead (p + 8) b
+  l ← items (row (keyRow (number h 0))) (h .place) (h .left)
+  got (record { flags = number h 0; items = l })
+
+-- an ANIM of 12 bytes
+unfoldable pub filled : ℕ → List ℕ → List ℕ → Out (List ℕ)
+filled p [] ws = got ws
+filled p (c ∷ s) ws = bad 5 p
+
+unfoldable pub readAnim : ℕ → List ℕ → Out (List ℕ)
+readAnim p b = do
+  x ← row animRow (p + 8) b
+  filled (p + 8) (x .left) (x .value)
+
+-- ---- nodes
+
+-- a mesh or a bone, before the chunks r
+unfoldable pub aMesh : ℕ → ℕ → List ℕ → Chunks → Out (Found Kind)
+aMesh brushes p b r = do
+  m ← readMesh brushes p b
+  got (record { value = mesh m; rest = r })
+
+unfoldable pub aBone : ℕ → ℕ → List ℕ → Chunks → Out (Found Kind)
+aBone vertices p b r = do
+  ws ← readBone vertices p b
+  got (record { value = bone ws; rest = r })
+
+-- a MESH or a BONE, if it comes first
+unfoldable pub readKind : ℕ → ℕ → Chunks → Out (Found Kind)
+readKind brushes vertices done = got (record { value = pivot; rest = done })
+readKind brushes vertices (stop n p) = bad n p
+readKind brushes vertices (chunk t p b r) =
+    let m = aMesh brushes p b r in
+    let w = aBone vertices p b r in
+    let other = if (is t BONE) w (got (record { value = pivot; rest = chunk t p b r })) in
+    if (is t MESH) m other
+
+pub record Moves : Type 0 where
+  pub keys : List Keys
+  pub anim : Anim
+
+-- these keys before those found in x
+unfoldable pub withKeys : Keys → Found Moves → Found Moves
+withKeys k x = record { value = record { keys = k ∷ x .value .keys; anim = x .value .anim }; rest = x .rest }
+
+-- KEYS and ANIM, in any mix; `seen` is the ANIM read so far
+unfoldable pub readMoves : Anim → Chunks → Out (Found Moves)
+readMoves seen done = got (record { value = record { keys = []; anim = seen }; rest = done })
+readMoves seen (stop n p) = bad n p
+readMoves seen (chunk t p b r) =
+    let k = readKeys p b >>= λ x. readMoves seen r >>= λ l. got (withKeys x l) in
+    let a = readAnim p b >>= λ ws. readMoves (anim ws) r in
+    let other = if (is t ANIM) a (got (record { value = record { keys = []; anim = seen }; rest = chunk t p b r })) in
+    if (is t KEYS) k other
+
+-- a node and the nodes below it
+pub record Inner : Type 0 where
+  pub self : Data
+  pub below : Forest
+
+-- NODE chunks to the end, each read by `one`
+unfoldable pub readNodes : (ℕ → List ℕ → Out Inner) → Chunks → Out Forest
+readNodes one done = got leaf
+readNodes one (stop n p) = bad n p
+readNodes one (chunk t p b r) = do
+  x ← one p b
+  l ← readNodes one r
+  got (node (x .self) (x .below) l)
+
+-- the nodes below a node, read by `one` under what the node says of bones
+unfoldable pub readBelow : (Option ℕ → ℕ → List ℕ → Out Inner) → Option ℕ → Data → Chunks → Out Inner
+readBelow one above d cs = do
+  f ← readNodes (one (bonesBelow above d)) cs
+  got (record { self = d; below = f })
+
+-- a NODE with so many levels left; `above`: what the nodes above say of bones
+unfoldable pub readNode : ℕ → ℕ → Option ℕ → ℕ → List ℕ → Out Inner
+readNode zero brushes above p b = bad 9 p
+readNode (suc l) brushes above p b = do
+  h ← named nodeRow (p + 8) b
+  k ← readKind brushes (boneVertices above) (inside NODE p (h .place) (h .left))
+  m ← readMoves still (k .rest)
+  readBelow (readNode l brushes) above
+      (record { name = h .value .0; words = h .value .1; kind = k .value; keys = m .value .keys; anim = m .value .anim })
+      (m .rest)
+
+unfoldable pub readRoot : ℕ → ℕ → List ℕ → Out Forest
+readRoot brushes p b = do
+  x ← readNode levels brushes none p b
+  got (node (x .self) (x .below) leaf)
+
+-- ---- the file
+
+-- the slots count only where there is a brush
+unfoldable pub slotsOf : ℕ → List Brush → ℕ
+slotsOf n [] = 0
+slotsOf n (b ∷ l) = n
+
+-- a BB3D's body, at place p: the version, at most one each of TEXS, BRUS, NODE, in that order
+unfoldable pub readBody : ℕ → List ℕ → Out Scene
+readBody p b = do
+  h ← row fileHead p b
+  t ← readOne TEXS [] readTextures (inside BB3D 0 (h .place) (h .left))
+  u ← readOne BRUS (0, []) (readBrushes (length (t .value))) (t .rest)
+  n ← readOne NODE leaf (readRoot (length (u .value .1))) (u .rest)
+  ended (n .rest)
+      (record { version = number h 0; textures = t .value; slots = slotsOf (u .value .0) (u .value .1); brushes = u .value .1; nodes = n .value })
+
+-- a file: one BB3D, whose length is that of the bytes after its header
+unfoldable pub parse : List ℕ → Out Scene
+parse s = do
+  _ ← check (fileSize (length s)) 1 0
+  h ← row header 0 s
+  _ ← check (eqb (number h 0) (code BB3D)) 2 0
+  _ ← check (eqb (number h 1) (length (h .left))) 2 4
+  readBody (h .place) (h .left)

@@ -1,0 +1,202 @@
+-- The ten tables of a scene: `rows k t` the rows of table k, `table k t` their words one after the other.
+use Prim.Native.Nat.{ℕ, _+_, _-_}
+use mathlib.Core.List.{List, [], _∷_, _++_, map}
+use lib.ListN.{length, replicate}
+use lib.Dec.{eqb}
+use Rattle.wire.specs.Test.{if}
+use Rattle.layout.specs.Parts.{Name}
+use Rattle.layout.specs.Rules.{NONE}
+use Rattle.b3d_scene.specs.Mask.{spread, vertexMask, keyMask}
+use Rattle.b3d_scene.specs.Scene.{Texture, Brush, TriangleSet, Mesh, Kind, pivot, mesh, bone, Keys, Anim, still, anim, Data, Forest, leaf, node, Scene}
+
+-- how many words a row of table k has
+unfoldable pub width : ℕ → ℕ
+width k =
+    if (eqb k 1) 9
+    (if (eqb k 2) 17
+    (if (eqb k 3) 20
+    (if (eqb k 4) 9
+    (if (eqb k 5) 42
+    (if (eqb k 6) 4
+    (if (eqb k 7) 3
+    (if (eqb k 8) 2
+    (if (eqb k 9) 4
+    (if (eqb k 10) 11 0)))))))))
+
+-- how many rows of tables 3 to 10 came before
+pub record Counts : Type 0 where
+  pub nodes : ℕ
+  pub meshes : ℕ
+  pub vertices : ℕ
+  pub sets : ℕ
+  pub triangles : ℕ
+  pub weights : ℕ
+  pub lists : ℕ
+  pub keys : ℕ
+
+unfoldable pub start : Counts
+start = record { nodes = 0; meshes = 0; vertices = 0; sets = 0; triangles = 0; weights = 0; lists = 0; keys = 0 }
+
+-- how many rows of table k came before
+unfoldable pub reached : ℕ → Counts → ℕ
+reached k n =
+    if (eqb k 3) (n .nodes)
+    (if (eqb k 4) (n .meshes)
+    (if (eqb k 5) (n .vertices)
+    (if (eqb k 6) (n .sets)
+    (if (eqb k 7) (n .triangles)
+    (if (eqb k 8) (n .weights)
+    (if (eqb k 9) (n .lists)
+    (if (eqb k 10) (n .keys) 0)))))))
+
+-- ---- what a node has: at most one mesh, weights, key lists
+
+unfoldable pub meshesOf : Kind → List Mesh
+meshesOf pivot = []
+meshesOf (mesh m) = m ∷ []
+meshesOf (bone ws) = []
+
+unfoldable pub weightsOf : Kind → List (List ℕ)
+weightsOf pivot = []
+weightsOf (mesh m) = []
+weightsOf (bone ws) = ws
+
+-- ---- single rows
+
+unfoldable pub nameCells : Name → List ℕ
+nameCells n = n .place ∷ length (n .bytes) ∷ []
+
+unfoldable pub textureRow : Texture → List ℕ
+textureRow x = nameCells (x .name) ++ x .words
+
+unfoldable pub brushRow : Brush → List ℕ
+brushRow b = nameCells (b .name) ++ (b .words ++ (b .ids ++ replicate (8 - length (b .ids)) NONE))
+
+-- kind, first, count
+unfoldable pub kindCells : Kind → Counts → List ℕ
+kindCells pivot n = 0 ∷ 0 ∷ 0 ∷ []
+kindCells (mesh m) n = 1 ∷ n .meshes ∷ 1 ∷ []
+kindCells (bone ws) n = 2 ∷ n .weights ∷ length ws ∷ []
+
+-- is ANIM there, and its values
+unfoldable pub animCells : Anim → List ℕ
+animCells still = 0 ∷ 0 ∷ 0 ∷ 0 ∷ []
+animCells (anim vs) = 1 ∷ vs
+
+-- of a node under parent p, when n rows came before
+unfoldable pub nodeRow : Data → ℕ → Counts → List ℕ
+nodeRow d p n = nameCells (d .name) ++ (p ∷ (d .words ++ (kindCells (d .kind) n ++ animCells (d .anim))))
+
+unfoldable pub meshRow : Mesh → Counts → List ℕ
+meshRow m n = n .nodes ∷ m .brush ∷ m .flags ∷ m .sets ∷ m .size ∷ n .vertices ∷ length (m .vertices) ∷ n .sets ∷ length (m .triangleSets) ∷ []
+
+-- ---- runs of rows
+
+unfoldable pub vertexRows : Mesh → List (List ℕ)
+vertexRows m = map (spread (vertexMask (m .flags) (m .sets) (m .size))) (m .vertices)
+
+-- the sets of mesh i, the first triangle being number r
+unfoldable pub setRows : ℕ → ℕ → List TriangleSet → List (List ℕ)
+setRows i r [] = []
+setRows i r (s ∷ ss) = (i ∷ s .brush ∷ r ∷ length (s .triangles) ∷ []) ∷ setRows i (r + length (s .triangles)) ss
+
+unfoldable pub triangleRows : List TriangleSet → List (List ℕ)
+triangleRows [] = []
+triangleRows (s ∷ ss) = s .triangles ++ triangleRows ss
+
+-- the key lists of node i, the first key being number k
+unfoldable pub listRows : ℕ → ℕ → List Keys → List (List ℕ)
+listRows i k [] = []
+listRows i k (x ∷ xs) = (i ∷ x .flags ∷ k ∷ length (x .items) ∷ []) ∷ listRows i (k + length (x .items)) xs
+
+unfoldable pub keyRows : List Keys → List (List ℕ)
+keyRows [] = []
+keyRows (x ∷ xs) = map (spread (keyMask (x .flags))) (x .items) ++ keyRows xs
+
+-- ---- a node, then the nodes in it, then those after it
+
+-- table k's rows of a mesh, when n rows came before its node
+unfoldable pub meshRows : ℕ → List Mesh → Counts → List (List ℕ)
+meshRows k [] n = []
+meshRows k (m ∷ ms) n =
+    if (eqb k 4) (meshRow m n ∷ [])
+    (if (eqb k 5) (vertexRows m)
+    (if (eqb k 6) (setRows (n .meshes) (n .triangles) (m .triangleSets))
+    (if (eqb k 7) (triangleRows (m .triangleSets)) [])))
+
+-- table k's rows of a node itself
+unfoldable pub ownRows : ℕ → Data → ℕ → Counts → List (List ℕ)
+ownRows k d p n =
+    if (eqb k 3) (nodeRow d p n ∷ [])
+    (if (eqb k 8) (weightsOf (d .kind))
+    (if (eqb k 9) (listRows (n .nodes) (n .keys) (d .keys))
+    (if (eqb k 10) (keyRows (d .keys)) (meshRows k (meshesOf (d .kind)) n))))
+
+-- the counts after a node itself
+unfoldable pub withMeshes : List Mesh → Counts → Counts
+withMeshes [] n = n
+withMeshes (m ∷ ms) n =
+    record {
+      nodes = n .nodes;
+      meshes = n .meshes + 1;
+      vertices = n .vertices + length (m .vertices);
+      sets = n .sets + length (m .triangleSets);
+      triangles = n .triangles + length (triangleRows (m .triangleSets));
+      weights = n .weights;
+      lists = n .lists;
+      keys = n .keys;
+    }
+
+unfoldable pub withNode : Data → Counts → Counts
+withNode d n =
+    let x = withMeshes (meshesOf (d .kind)) n in
+    record {
+      nodes = x .nodes + 1;
+      meshes = x .meshes;
+      vertices = x .vertices;
+      sets = x .sets;
+      triangles = x .triangles;
+      weights = x .weights + length (weightsOf (d .kind));
+      lists = x .lists + length (d .keys);
+      keys = x .keys + length (keyRows (d .keys));
+    }
+
+unfoldable pub withForest : Forest → Counts → Counts
+withForest leaf n = n
+withForest (node d ch sib) n = withForest sib (withForest ch (withNode d n))
+
+-- table k's rows of nodes under parent p
+unfoldable pub forestRows : ℕ → Forest → ℕ → Counts → List (List ℕ)
+forestRows k leaf p n = []
+forestRows k (node d ch sib) p n =
+    let m = withNode d n in
+    ownRows k d p n ++ (forestRows k ch (n .nodes) m ++ forestRows k sib p (withForest ch m))
+
+-- ---- the tables
+
+unfoldable pub rows : ℕ → Scene → List (List ℕ)
+rows k t =
+    if (eqb k 1) (map textureRow (t .textures))
+    (if (eqb k 2) (map brushRow (t .brushes)) (forestRows k (t .nodes) NONE start))
+
+-- rows one after the other
+unfoldable pub words : List (List ℕ) → List ℕ
+words [] = []
+words (r ∷ rs) = r ++ words rs
+
+unfoldable pub table : ℕ → Scene → List ℕ
+table k t = words (rows k t)
+
+-- the tables of what nodes have, and with them that of the nodes
+abbrev pub partTables : List ℕ
+partTables = 4 ∷ 5 ∷ 6 ∷ 7 ∷ 8 ∷ 9 ∷ 10 ∷ []
+
+unfoldable pub nodeTables : List ℕ
+nodeTables = 3 ∷ partTables
+
+unfoldable pub tables : List ℕ
+tables = 1 ∷ 2 ∷ nodeTables
+
+-- how many rows each of the ten has
+unfoldable pub counts : Scene → List ℕ
+counts t = map (λ (k : ℕ). length (rows k t)) tables

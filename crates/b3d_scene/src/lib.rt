@@ -1,0 +1,32 @@
+// The meaning of B3D files: what a file says (parse), what its tables hold (table), which file is written (encode), which tables a
+// file can have (rebuild), and what reader, writer and clearer answer. Definitions in specs/, their laws in proofs/; no function.
+
+// The ten known tags.
+pub enum Tag {
+    BB3D,
+    TEXS,
+    BRUS,
+    NODE,
+    MESH,
+    VRTS,
+    TRIS,
+    BONE,
+    KEYS,
+    ANIM,
+}
+
+// What the reader answers: refusal number and place, or 0 and 0 with the version, the texture slots of a brush and the ten row counts.
+pub struct Answer {
+    pub number: u32,
+    pub place: u32,
+    pub version: u32,
+    pub n_texs: u32,
+    pub counts: [u32; 10],
+}
+
+// What writer and clearer answer: refusal number and place, or 0 and 0 with the size written.
+pub struct Written {
+    pub number: u32,
+    pub place: u32,
+    pub size: u32,
+}

@@ -1,0 +1,9 @@
+pub mod Outs
+pub mod Lists
+pub mod Testing
+pub mod Fitting
+pub mod PartLaws
+pub mod StepLaws
+pub mod ChunkLaws
+pub mod PlaceLaws
+pub mod RefusalLaws
