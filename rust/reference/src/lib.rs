@@ -1,0 +1,186 @@
+//! A plain reader, writer, clearer and lister of Blitz3D B3D files, written
+//! from the rules alone, for comparison with other code. It uses the heap
+//! freely and fills lent slices only after all checks.
+//!
+//! Reading: `parse` makes a `scene` (refusals 1 to 9), `tables` counts its rows
+//! (10) and fills them. Writing: `soundness` judges lent tables (12), `encode`
+//! makes the bytes.
+
+mod chunks;
+mod encode;
+mod layout;
+mod lent;
+pub mod limits;
+mod lister;
+mod numbers;
+mod parse;
+pub mod refusal;
+mod scene;
+mod size;
+mod soundness;
+mod tables;
+
+use lent::Lent;
+use limits::{BRUSHES, NODES, ROW_WORDS, TEXTURES};
+use refusal::{Refusal, SHORT, UNSOUND};
+
+pub use lister::list;
+
+/// The reader's answer. All but number and place are 0 on refusal.
+#[derive(Clone, Copy, Debug, Default, PartialEq, Eq)]
+pub struct Answer {
+    pub number: u32,
+    pub place: u32,
+    pub version: u32,
+    pub n_texs: u32,
+    pub counts: [u32; 10],
+}
+
+/// The answer of writer and clearer. The size is 0 on refusal.
+#[derive(Clone, Copy, Debug, Default, PartialEq, Eq)]
+pub struct Written {
+    pub number: u32,
+    pub place: u32,
+    pub size: u32,
+}
+
+/// Judges a file without tables: refusals 1 to 10.
+pub fn judge(file: &[u8]) -> Answer {
+    match accept(file) {
+        Ok(accepted) => accepted.answer(),
+        Err(refusal) => refused_file(refusal),
+    }
+}
+
+/// Reads a file to lent tables: refusals 1 to 11. A refused call changes no
+/// word, and words past the last row stay as found.
+pub fn read(file: &[u8], tables: &mut [&mut [u32]; 10]) -> Answer {
+    let accepted = match accept(file) {
+        Ok(accepted) => accepted,
+        Err(refusal) => return refused_file(refusal),
+    };
+    for (table, lent) in tables.iter().enumerate() {
+        if lent.len() < accepted.tables[table].len() {
+            return refused_file(Refusal {
+                number: SHORT,
+                place: table + 1,
+            });
+        }
+    }
+    for (lent, words) in tables.iter_mut().zip(&accepted.tables) {
+        lent[..words.len()].copy_from_slice(words);
+    }
+    accepted.answer()
+}
+
+/// Writes tables as the shortest file: refusals 12, then 11. A refused call
+/// changes no byte, and bytes past the size stay as found.
+pub fn write(
+    tables: &[&[u32]; 10],
+    counts: &[u32; 10],
+    version: u32,
+    n_texs: u32,
+    names: &[u8],
+    out: &mut [u8],
+) -> Written {
+    let Some(lent) = Lent::new(*tables, counts, version, n_texs, names) else {
+        return refused_output(UNSOUND, 0);
+    };
+    let Some(size) = soundness::sound_size(&lent) else {
+        return refused_output(UNSOUND, 0);
+    };
+    if out.len() < size {
+        return refused_output(SHORT, size);
+    }
+    put(&encode::encode(&lent), out)
+}
+
+/// Copies a file without names: refusals 1 to 10, then 11.
+pub fn clear(file: &[u8], out: &mut [u8]) -> Written {
+    let accepted = match accept(file) {
+        Ok(accepted) => accepted,
+        Err(refusal) => return refused_output(refusal.number, refusal.place),
+    };
+    let copy = accepted.cleared_copy();
+    if out.len() < copy.len() {
+        return refused_output(SHORT, copy.len());
+    }
+    put(&copy, out)
+}
+
+/// An accepted file's words: all that the reader gives.
+struct Accepted {
+    version: u32,
+    n_texs: u32,
+    counts: [u32; 10],
+    tables: [Vec<u32>; 10],
+}
+
+/// The words of a file without faults 1 to 10, else the first fault.
+fn accept(file: &[u8]) -> Result<Accepted, Refusal> {
+    let scene = parse::parse(file)?;
+    let counts = tables::limited_counts(&scene)?;
+    // n_texs is 0 if there is no brush.
+    let n_texs = match counts[BRUSHES] {
+        0 => 0,
+        _ => scene.n_texs,
+    };
+    Ok(Accepted {
+        version: scene.version,
+        n_texs,
+        counts: counts.map(|count| count as u32),
+        tables: tables::fill(file, &scene),
+    })
+}
+
+impl Accepted {
+    fn answer(&self) -> Answer {
+        Answer {
+            number: 0,
+            place: 0,
+            version: self.version,
+            n_texs: self.n_texs,
+            counts: self.counts,
+        }
+    }
+
+    /// What the writer makes of these words with each name empty.
+    fn cleared_copy(mut self) -> Vec<u8> {
+        for table in [TEXTURES, BRUSHES, NODES] {
+            for row in self.tables[table].chunks_mut(ROW_WORDS[table]) {
+                row[0] = 0;
+                row[1] = 0;
+            }
+        }
+        let tables = std::array::from_fn(|table| self.tables[table].as_slice());
+        let lent = Lent::new(tables, &self.counts, self.version, self.n_texs, &[])
+            .expect("an accepted file has no more rows than the limit");
+        encode::encode(&lent)
+    }
+}
+
+fn refused_file(refusal: Refusal) -> Answer {
+    Answer {
+        number: refusal.number,
+        place: refusal.place as u32,
+        ..Answer::default()
+    }
+}
+
+fn refused_output(number: u32, place: usize) -> Written {
+    Written {
+        number,
+        place: place as u32,
+        size: 0,
+    }
+}
+
+/// Puts the bytes at the start of the output; the rest stays as found.
+fn put(bytes: &[u8], out: &mut [u8]) -> Written {
+    out[..bytes.len()].copy_from_slice(bytes);
+    Written {
+        number: 0,
+        place: 0,
+        size: bytes.len() as u32,
+    }
+}

@@ -1,0 +1,80 @@
+//! Damaged files: the refusals that are aimed at, and consistency of all
+//! functions on files changed at random.
+
+mod common;
+
+use common::*;
+use reference::{judge, list};
+use scenes::change::changed;
+use scenes::damage::aimed;
+use scenes::{scene, Profile, Rng};
+use std::collections::BTreeMap;
+
+#[test]
+fn aimed_refusals() {
+    let mut rng = Rng::new(11);
+    let mut met: BTreeMap<&str, usize> = BTreeMap::new();
+    for _ in 0..1500 {
+        let profile = Profile::any(&mut rng);
+        let scene = scene(&mut rng, profile);
+        for damaged in aimed(&scene, &mut rng) {
+            let (number, place) = (damaged.number, damaged.place);
+            assert_refused(&damaged.file, number, place, damaged.aim);
+            *met.entry(damaged.aim).or_default() += 1;
+        }
+    }
+    println!("{met:#?}");
+    assert_eq!(met.len(), 18 + 6, "kinds of damage");
+    assert!(met.values().all(|&count| count >= 20), "{met:?}");
+}
+
+#[test]
+fn random_changes() {
+    let mut rng = Rng::new(12);
+    let mut met = [0; 11];
+    for _ in 0..3000 {
+        let profile = Profile::any(&mut rng);
+        let scene = scene(&mut rng, profile);
+        for _ in 0..10 {
+            let file = changed(&scene, &mut rng);
+            let answer = judge(&file);
+            met[answer.number as usize] += 1;
+            match answer.number {
+                0 => assert_accepted(&file),
+                number => assert_refused(&file, number, answer.place, "changed"),
+            }
+            check_listing(&file);
+        }
+    }
+    println!("numbers met by random changes: {met:?}");
+    assert!((2..=9).all(|number| met[number] > 0), "{met:?}");
+    assert!(met[0] > 1000, "{met:?}");
+}
+
+/// A changed file that is accepted can be written and cleared.
+fn assert_accepted(file: &[u8]) {
+    let sheet = sheet_of(file);
+    let written = written(&sheet, file.len());
+    assert!(sheet_of(&written).same_but_name_places(&sheet));
+    let copy = cleared(file);
+    assert!(sheet_of(&copy).same_but_name_places(&sheet.without_names()));
+    assert_eq!(cleared(&copy), copy);
+}
+
+/// The first line agrees with the judge, and there is a line for each node.
+fn check_listing(file: &[u8]) {
+    let answer = judge(file);
+    let listing = String::from_utf8(list(file)).expect("printable");
+    let lines: Vec<&str> = listing.lines().collect();
+    if file.len() > 65_536 {
+        assert_eq!(listing, "1 0\n");
+        return;
+    }
+    assert_eq!(lines[0], format!("{} {}", answer.number, answer.place));
+    let expected = match answer.number {
+        0 => 3 + answer.counts[2] as usize,
+        _ => 1,
+    };
+    assert_eq!(lines.len(), expected);
+    assert!(listing.ends_with('\n'));
+}

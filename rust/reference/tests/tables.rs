@@ -1,0 +1,196 @@
+//! Damaged tables for the writer. Whether tables are sound is told by a file
+//! rebuilt from them: they are if it is accepted and read back as the same
+//! words.
+
+mod common;
+
+use common::*;
+use reference::{judge, Written};
+use scenes::rebuild::rebuild;
+use scenes::words::{each_cell, each_header_word, each_name_byte, reshaped};
+use scenes::{scene, Profile, Rng, Sheet};
+
+const UNSOUND: Written = Written {
+    number: 12,
+    place: 0,
+    size: 0,
+};
+
+/// The file that the writer must make of these tables, if they are sound.
+fn expected(sheet: &Sheet) -> Option<Vec<u8>> {
+    let file = rebuild(sheet)?;
+    if judge(&file).number != 0 {
+        return None;
+    }
+    match sheet_of(&file).same_but_name_places(sheet) {
+        true => Some(file),
+        false => None,
+    }
+}
+
+/// How many tables were found sound and unsound.
+#[derive(Default)]
+struct Found {
+    sound: usize,
+    unsound: usize,
+}
+
+impl Found {
+    /// Checks the writer against the rebuilt file.
+    fn check(&mut self, sheet: &Sheet) {
+        match expected(sheet) {
+            Some(file) => {
+                assert_eq!(written(sheet, file.len() + SPARE), file);
+                let (answer, out) = write_to(sheet, file.len() - 1);
+                assert_eq!((answer.number, answer.place), (11, file.len() as u32));
+                assert!(untouched(&out));
+                self.sound += 1;
+            }
+            None => {
+                for size in [0, 4000] {
+                    let (answer, out) = write_to(sheet, size);
+                    assert_eq!(answer, UNSOUND, "{sheet:?}");
+                    assert!(untouched(&out));
+                }
+                self.unsound += 1;
+            }
+        }
+    }
+
+    fn assert_both(&self) {
+        let (sound, unsound) = (self.sound, self.unsound);
+        println!("{sound} tables sound, {unsound} not");
+        assert!(sound > 500 && unsound > 500);
+    }
+}
+
+/// Small sound tables, with the names in the file or in bytes of their own.
+fn small(rng: &mut Rng) -> Sheet {
+    let sheet = scene(rng, Profile::SMALL).sheet;
+    match rng.percent(30) {
+        true => sheet,
+        false => sheet.with_own_names(),
+    }
+}
+
+#[test]
+fn each_word_changed() {
+    let mut rng = Rng::new(21);
+    let mut found = Found::default();
+    for _ in 0..60 {
+        let sheet = small(&mut rng);
+        each_cell(&sheet, &mut rng, |changed| found.check(changed));
+    }
+    found.assert_both();
+}
+
+#[test]
+fn each_count_version_and_n_texs_changed() {
+    let mut rng = Rng::new(22);
+    let mut found = Found::default();
+    for _ in 0..100 {
+        let sheet = small(&mut rng);
+        each_header_word(&sheet, &mut rng, |changed| found.check(changed));
+    }
+    found.assert_both();
+}
+
+#[test]
+fn each_name_byte_changed() {
+    let mut rng = Rng::new(23);
+    let mut found = Found::default();
+    for _ in 0..100 {
+        let sheet = small(&mut rng);
+        each_name_byte(&sheet, |changed| found.check(changed));
+    }
+    found.assert_both();
+}
+
+#[test]
+fn rows_moved() {
+    let mut rng = Rng::new(24);
+    let mut found = Found::default();
+    for _ in 0..2000 {
+        let profile = rng.pick(&[Profile::SMALL, Profile::WIDE, Profile::DEEP]);
+        let sheet = scene(&mut rng, profile).sheet.with_own_names();
+        for _ in 0..10 {
+            if let Some(changed) = reshaped(&sheet, &mut rng) {
+                found.check(&changed);
+            }
+        }
+    }
+    found.assert_both();
+}
+
+/// Tables of one node, whose name is of this length.
+fn long_name(length: usize) -> Sheet {
+    let mut sheet = Sheet::default();
+    sheet.tables[2] = vec![0; 20];
+    sheet.tables[2][1] = length as u32;
+    sheet.tables[2][2] = 0xFFFF_FFFF;
+    sheet.count_rows();
+    sheet.names = vec![b'n'; length];
+    sheet
+}
+
+#[test]
+fn size_limit_of_the_written_file() {
+    let longest = 16_777_216 - (12 + 8 + 1 + 40);
+    let sheet = long_name(longest);
+    let file = written(&sheet, 16_777_216);
+    assert_eq!(file.len(), 16_777_216);
+    assert_eq!(judge(&file).number, 0);
+    let (answer, _) = write_to(&long_name(longest + 1), 16_777_217);
+    assert_eq!(answer, UNSOUND);
+    let (answer, _) = write_to(&sheet, 16_777_215);
+    assert_eq!((answer.number, answer.place), (11, 16_777_216));
+}
+
+#[test]
+fn the_same_long_name_many_times() {
+    let mut sheet = long_name(2000);
+    sheet.names.resize(100_000, b'n');
+    let mut child = sheet.row(2, 0).to_vec();
+    child[2] = 0;
+    for _ in 1..16_383 {
+        sheet.tables[2].extend_from_slice(&child);
+    }
+    sheet.count_rows();
+    assert_eq!(write_to(&sheet, 0).0, UNSOUND);
+    for row in sheet.tables[2].chunks_mut(20) {
+        row[1] = 3;
+    }
+    let size = 12 + 16_383 * 52;
+    assert_eq!(written(&sheet, size).len(), size);
+}
+
+#[test]
+fn row_limit_of_the_writer() {
+    let mut sheet = long_name(0);
+    let mut child = sheet.row(2, 0).to_vec();
+    child[2] = 0;
+    for _ in 1..16_384 {
+        sheet.tables[2].extend_from_slice(&child);
+    }
+    sheet.counts[2] = 16_383;
+    assert_eq!(write_to(&sheet, 16_777_216).0.number, 0);
+    sheet.counts[2] = 16_384;
+    assert_eq!(write_to(&sheet, 16_777_216).0, UNSOUND);
+}
+
+#[test]
+fn name_places() {
+    let with_name = |place: u32, length: u32| {
+        let mut sheet = long_name(4);
+        sheet.tables[2][0] = place;
+        sheet.tables[2][1] = length;
+        write_to(&sheet, 200).0.number
+    };
+    assert_eq!(with_name(0, 4), 0);
+    assert_eq!(with_name(4, 0), 0);
+    assert_eq!(with_name(2, 2), 0);
+    assert_eq!(with_name(5, 0), 12);
+    assert_eq!(with_name(1, 4), 12);
+    assert_eq!(with_name(0xFFFF_FFFF, 1), 12);
+    assert_eq!(with_name(0xFFFF_FFFF, 3), 12);
+}

@@ -1,0 +1,27 @@
+//! Valid and damaged B3D files and tables for comparing readers and writers.
+//! All is made from a seed; no reader is used.
+//!
+//! - `make`: random valid files with the words that a reader must give.
+//! - `damage`: files with one fault, and the refusal that it must bring.
+//! - `change`: files changed without regard to the outcome.
+//! - `rows`: files with a given number of rows in one table.
+//! - `private`: files that differ only in what a clearer drops.
+//! - `words`: damaged tables for a writer.
+//! - `rebuild`: a file from tables, as far as that goes.
+
+pub mod change;
+pub mod chunk;
+pub mod damage;
+pub mod make;
+pub mod private;
+pub mod rebuild;
+pub mod rng;
+pub mod rows;
+pub mod sheet;
+pub mod words;
+
+pub use chunk::Chunk;
+pub use damage::Damaged;
+pub use make::{scene, Profile, Scene};
+pub use rng::Rng;
+pub use sheet::Sheet;
