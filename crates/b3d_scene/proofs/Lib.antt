@@ -1,9 +1,12 @@
--- The laws of the definitions. `Laws` has those that the rest rests on; their proofs are in Files and Rows. Cases has the worked files.
+-- The laws of the definitions. `Laws` has those that the rest rests on; their proofs are in Files and Rows. Cases has the starred worked
+-- files, ExtraCases others.
 pub mod Fitting
 pub mod Files
 pub mod Rows
 pub mod Join
 pub mod Laws
+pub mod AnswerLaws
 pub mod Computing
 pub mod Cases
+pub mod ExtraCases
 pub mod Large

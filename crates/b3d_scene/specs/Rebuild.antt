@@ -12,7 +12,8 @@ use Rattle.b3d_scene.specs.Fit.{fits}
 use Rattle.b3d_scene.specs.Mask.{squeeze, vertexMask, keyMask}
 use Rattle.b3d_scene.specs.Rules.{rowLimit}
 use Rattle.b3d_scene.specs.Scene.{Texture, Brush, TriangleSet, Mesh, Kind, pivot, mesh, bone, Keys, Anim, still, anim, Data, Forest, leaf, node, Scene}
-use Rattle.b3d_scene.specs.Tables.{width, Counts, start, withNode, rows, tables}
+use Rattle.b3d_scene.specs.Tables.{width, start, withNode, rows, tables}
+use Rattle.b3d_scene.specs.declared.Counts.{Counts}
 
 -- what the writer is lent: row counts and words by table number; the words may go on past the counted rows
 pub record Lent : Type 0 where

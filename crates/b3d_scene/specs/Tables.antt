@@ -6,6 +6,7 @@ use lib.Dec.{eqb}
 use Rattle.wire.specs.Test.{if}
 use Rattle.layout.specs.Parts.{Name}
 use Rattle.layout.specs.Rules.{NONE}
+use Rattle.b3d_scene.specs.declared.Counts.{Counts}
 use Rattle.b3d_scene.specs.Mask.{spread, vertexMask, keyMask}
 use Rattle.b3d_scene.specs.Scene.{Texture, Brush, TriangleSet, Mesh, Kind, pivot, mesh, bone, Keys, Anim, still, anim, Data, Forest, leaf, node, Scene}
 
@@ -22,17 +23,6 @@ width k =
     (if (eqb k 8) 2
     (if (eqb k 9) 4
     (if (eqb k 10) 11 0)))))))))
-
--- how many rows of tables 3 to 10 came before
-pub record Counts : Type 0 where
-  pub nodes : ℕ
-  pub meshes : ℕ
-  pub vertices : ℕ
-  pub sets : ℕ
-  pub triangles : ℕ
-  pub weights : ℕ
-  pub lists : ℕ
-  pub keys : ℕ
 
 unfoldable pub start : Counts
 start = record { nodes = 0; meshes = 0; vertices = 0; sets = 0; triangles = 0; weights = 0; lists = 0; keys = 0 }

@@ -15,6 +15,18 @@ pub enum Tag {
     ANIM,
 }
 
+// How many rows of tables 3 to 10 came before.
+pub struct Counts {
+    pub nodes: usize,
+    pub meshes: usize,
+    pub vertices: usize,
+    pub sets: usize,
+    pub triangles: usize,
+    pub weights: usize,
+    pub lists: usize,
+    pub keys: usize,
+}
+
 // What the reader answers: refusal number and place, or 0 and 0 with the version, the texture slots of a brush and the ten row counts.
 pub struct Answer {
     pub number: u32,

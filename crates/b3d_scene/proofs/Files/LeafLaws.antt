@@ -26,10 +26,11 @@ use Rattle.b3d_scene.specs.Parse.{readTexture, readTextures, readBrush, 
 use Rattle.b3d_scene.specs.Rules.{slots, vertexFlags, sets, setSize, keyFlags, brushId, textureRow, brushRow, brushIds, vertexWords, keyWords, vertexRow, triangleRow, weightRow, keyRow, animRow, brushesHead, meshHead, verticesHead, trianglesHead, keysHead}
 use Rattle.b3d_scene.specs.Scene.{Texture, Brush, TriangleSet, Mesh, Keys}
 use Rattle.b3d_scene.specs.declared.Tag.{Tag}
-use Rattle.b3d_scene.specs.declared.Tag.the-variants.{BB3D, TEXS, BRUS, NODE, MESH, VRTS, TRIS, BONE, KEYS, ANIM}
+use Rattle.b3d_scene.specs.declared.Tag.the-variants.{MESH, VRTS, TRIS}
 use Rattle.b3d_scene.specs.Tags.{tagOf, Chunks, split, Found, Chunk, writeChunk, writeChunks, code}
 use Rattle.b3d_scene.proofs.Fitting.{FitTexture, FitBrush, FitTriangles, FitMesh, FitKeys}
 use Rattle.b3d_scene.proofs.Files.NestingLaws.{mesh-keeps, inside-back, order-of}
+use Rattle.b3d_scene.proofs.Files.TagCodes.{by-tag}
 
 -- ---- rows of one rule list
 
@@ -255,19 +256,12 @@ vrts-found : (head size : ℕ) (cs : Chunks) (x : Found Vertices) → Of size cs
 unfolding readOne order onward next if
 vrts-found head size done x h e = bad-got e
 vrts-found head size (stop i p) x h e = bad-got e
-vrts-found head size (chunk VRTS p b r) x h e =
-    by-got (readVertices p b) _ e (λ v ev e₁.
+vrts-found head size (chunk t p b r) x h e =
+    let P : Tag → Type 0 = λ k. readOne VRTS noVertices readVertices (order MESH head start (chunk k p b r)) ≡ got x → VrtsFound head size x in
+    let vrts : P VRTS = λ e. by-got (readVertices p b) _ e (λ v ev e₁.
     subst (VrtsFound head size) (got-inj e₁)
-    (record { body = b; before = r; fine = vertices-fine p b v (h .0) ev; fits = h .1; of = h .2; rest-is = refl }))
-vrts-found head size (chunk BB3D p b r) x h e = bad-got e
-vrts-found head size (chunk TEXS p b r) x h e = bad-got e
-vrts-found head size (chunk BRUS p b r) x h e = bad-got e
-vrts-found head size (chunk NODE p b r) x h e = bad-got e
-vrts-found head size (chunk MESH p b r) x h e = bad-got e
-vrts-found head size (chunk TRIS p b r) x h e = bad-got e
-vrts-found head size (chunk BONE p b r) x h e = bad-got e
-vrts-found head size (chunk KEYS p b r) x h e = bad-got e
-vrts-found head size (chunk ANIM p b r) x h e = bad-got e
+    (record { body = b; before = r; fine = vertices-fine p b v (h .0) ev; fits = h .1; of = h .2; rest-is = refl })) in
+    by-tag P (bad-got, bad-got, bad-got, bad-got, bad-got, vrts, bad-got, bad-got, bad-got, bad-got) t e
 
 module _ (brushes n : ℕ) where
   triangles-back : (x : TriangleSet) → FitTriangles brushes n x → (p : ℕ) → readTriangles brushes n p (writeTriangles x) ≡ got x

@@ -1,4 +1,4 @@
--- A tag's number gives the tag, and is a word.
+-- What holds at each of the ten tags holds at any. A tag's number gives the tag, and is a word.
 use mathlib.Core.Path.{_≡_, refl}
 use mathlib.Core.Option.{some}
 use lib.Dec.{lit<}
@@ -8,27 +8,22 @@ use Rattle.b3d_scene.specs.declared.Tag.{Tag}
 use Rattle.b3d_scene.specs.declared.Tag.the-variants.{BB3D, TEXS, BRUS, NODE, MESH, VRTS, TRIS, BONE, KEYS, ANIM}
 use Rattle.b3d_scene.specs.Tags.{code, tagOf}
 
+-- in the order of the list of tags
+pub by-tag : (P : Tag → Type 0) → P BB3D × P TEXS × P BRUS × P NODE × P MESH × P VRTS × P TRIS × P BONE × P KEYS × P ANIM → (t : Tag) → P t
+by-tag P h BB3D = h .0
+by-tag P h TEXS = h .1
+by-tag P h BRUS = h .2
+by-tag P h NODE = h .3
+by-tag P h MESH = h .4
+by-tag P h VRTS = h .5
+by-tag P h TRIS = h .6
+by-tag P h BONE = h .7
+by-tag P h KEYS = h .8
+by-tag P h ANIM = h .9
+
 pub tag-code : (t : Tag) → tagOf (code t) ≡ some t
 unfolding tagOf if
-tag-code BB3D = refl
-tag-code TEXS = refl
-tag-code BRUS = refl
-tag-code NODE = refl
-tag-code MESH = refl
-tag-code VRTS = refl
-tag-code TRIS = refl
-tag-code BONE = refl
-tag-code KEYS = refl
-tag-code ANIM = refl
+tag-code = by-tag (λ t. tagOf (code t) ≡ some t) (refl, refl, refl, refl, refl, refl, refl, refl, refl, refl)
 
 pub code-word : (t : Tag) → IsWord (code t)
-code-word BB3D = lit< tt
-code-word TEXS = lit< tt
-code-word BRUS = lit< tt
-code-word NODE = lit< tt
-code-word MESH = lit< tt
-code-word VRTS = lit< tt
-code-word TRIS = lit< tt
-code-word BONE = lit< tt
-code-word KEYS = lit< tt
-code-word ANIM = lit< tt
+code-word = by-tag (λ t. IsWord (code t)) (lit< tt, lit< tt, lit< tt, lit< tt, lit< tt, lit< tt, lit< tt, lit< tt, lit< tt, lit< tt)

@@ -9,7 +9,8 @@ use Rattle.wire.specs.Test.{if}
 use Rattle.layout.specs.Rules.{NONE}
 use Rattle.layout.proofs.Lists.{All, all-pure, all-map, all-zip}
 use Rattle.b3d_scene.specs.Scene.{Forest, leaf, node, Scene}
-use Rattle.b3d_scene.specs.Tables.{width, Counts, start, reached, nodeTables, ownRows, textureRow, brushRow, withNode, withForest, forestRows, rows, words, table, tables, counts}
+use Rattle.b3d_scene.specs.Tables.{width, start, reached, nodeTables, ownRows, textureRow, brushRow, withNode, withForest, forestRows, rows, words, table, tables, counts}
+use Rattle.b3d_scene.specs.declared.Counts.{Counts}
 use Rattle.b3d_scene.proofs.Fitting.{Fit}
 use Rattle.b3d_scene.proofs.Rows.Nodes.{Step, steps}
 use Rattle.b3d_scene.proofs.Rows.RebuildLaws.{rows-wide}

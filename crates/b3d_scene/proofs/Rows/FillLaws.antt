@@ -13,7 +13,8 @@ use Rattle.layout.proofs.Lists.{All}
 use Rattle.layout.proofs.Outs.{by-test}
 use Rattle.b3d_scene.specs.Rules.{bonesBelow, boneVertices}
 use Rattle.b3d_scene.specs.Scene.{Data, Forest, leaf, node}
-use Rattle.b3d_scene.specs.Tables.{width, Counts, reached, ownRows, withNode, withForest, forestRows, words, nodeTables}
+use Rattle.b3d_scene.specs.Tables.{width, reached, ownRows, withNode, withForest, forestRows, words, nodeTables}
+use Rattle.b3d_scene.specs.declared.Counts.{Counts}
 use Rattle.b3d_scene.proofs.Rows.CountLaws.{Rise, rises, words-append}
 use Rattle.b3d_scene.proofs.Fitting.{FitNodes}
 use Rattle.b3d_scene.proofs.Rows.Nodes.{OwnWide, own-wide, Step, steps}

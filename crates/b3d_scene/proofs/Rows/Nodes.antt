@@ -1,16 +1,17 @@
 -- A node's own rows in all tables: how wide and how many they are, and that the node comes back from them.
-use mathlib.Core.Path.{_≡_, refl, ap, ap₂, sym, _∙_}
+use mathlib.Core.Path.{_≡_, refl, ap, ap₂, sym}
 use Prim.Native.Nat.{ℕ, suc, _+_}
 use native.Mathlib.Omega.{arith}
 use native.Mathlib.Nat.{add-zero}
-use mathlib.Core.List.{List, _++_}
+use mathlib.Core.List.{List, [], _∷_, _++_}
 use lib.ListN.{length, drop, getD}
 use lib.Seq.{take-append-seam, take-at, drop-at}
 use Rattle.wire.specs.Test.{if}
 use Rattle.layout.proofs.Lists.{All, all-map}
 use Rattle.b3d_scene.specs.Rebuild.{Rows, nameFrom, mine, keysFrom, animFrom, kindFrom, dataFrom}
-use Rattle.b3d_scene.specs.Scene.{Kind, pivot, mesh, bone, anim, Data}
-use Rattle.b3d_scene.specs.Tables.{width, Counts, reached, nodeTables, meshesOf, weightsOf, nameCells, kindCells, animCells, nodeRow, meshRow, listRows, keyRows, meshRows, ownRows, withMeshes, withNode}
+use Rattle.b3d_scene.specs.Scene.{Mesh, Kind, pivot, mesh, bone, Data}
+use Rattle.b3d_scene.specs.Tables.{width, reached, nodeTables, meshesOf, weightsOf, nameCells, kindCells, animCells, nodeRow, meshRow, listRows, keyRows, meshRows, ownRows, withMeshes, withNode}
+use Rattle.b3d_scene.specs.declared.Counts.{Counts}
 use Rattle.b3d_scene.proofs.Fitting.{FitKind, FitData}
 use Rattle.b3d_scene.proofs.Rows.RowParts.{Wide, Stands, Others, sets-length, sets-wide, triangles-wide, vertices-wide, vertices-length, mesh-back, lists-length, lists-wide, keys-wide, mine-back, keys-back, anim-back, kind-wide, node-wide}
 use Rattle.b3d_scene.proofs.Rows.WordCounts.{any-words}
@@ -43,101 +44,52 @@ own-wide b c d p n h =
 abbrev pub Step : Data → ℕ → Counts → ℕ → Type 0
 Step d p n k = reached k (withNode d n) ≡ reached k n + length (ownRows k d p n)
 
-with-meshes : (k : Kind) (n : Counts) (x : Counts) → x ≡ withMeshes (meshesOf k) n
-    → (x .nodes ≡ n .nodes) × ((x .weights ≡ n .weights) × ((x .lists ≡ n .lists) × ((x .keys ≡ n .keys)
-    × ((x .meshes ≡ n .meshes + length (meshRows 4 (meshesOf k) n)) × ((x .vertices ≡ n .vertices + length (meshRows 5 (meshesOf k) n))
-    × ((x .sets ≡ n .sets + length (meshRows 6 (meshesOf k) n)) × (x .triangles ≡ n .triangles + length (meshRows 7 (meshesOf k) n))))))))
-unfolding withMeshes meshesOf meshRows if
-with-meshes pivot n x e = (
-  ap (λ (c : Counts). c .nodes) e,
-  (
-    ap (λ (c : Counts). c .weights) e,
-    (
-      ap (λ (c : Counts). c .lists) e,
-      (
-        ap (λ (c : Counts). c .keys) e,
-        (
-          ap (λ (c : Counts). c .meshes) e ∙ sym (add-zero _),
-          (
-            ap (λ (c : Counts). c .vertices) e ∙ sym (add-zero _),
-            (ap (λ (c : Counts). c .sets) e ∙ sym (add-zero _), ap (λ (c : Counts). c .triangles) e ∙ sym (add-zero _)),
-          ),
-        ),
-      ),
-    ),
-  ),
-)
-with-meshes (mesh m) n x e = (
-  ap (λ (c : Counts). c .nodes) e,
-  (
-    ap (λ (c : Counts). c .weights) e,
-    (
-      ap (λ (c : Counts). c .lists) e,
-      (
-        ap (λ (c : Counts). c .keys) e,
-        (
-          ap (λ (c : Counts). c .meshes) e,
-          (
-            ap (λ (c : Counts). c .vertices) e ∙ ap (λ (l : ℕ). n .vertices + l) (sym (vertices-length m)),
-            (ap (λ (c : Counts). c .sets) e ∙ ap (λ (l : ℕ). n .sets + l) (sym (sets-length (n .meshes) (n .triangles) (m .triangleSets))), ap (λ (c : Counts). c .triangles) e),
-          ),
-        ),
-      ),
-    ),
-  ),
-)
-with-meshes (bone ws) n x e = (
-  ap (λ (c : Counts). c .nodes) e,
-  (
-    ap (λ (c : Counts). c .weights) e,
-    (
-      ap (λ (c : Counts). c .lists) e,
-      (
-        ap (λ (c : Counts). c .keys) e,
-        (
-          ap (λ (c : Counts). c .meshes) e ∙ sym (add-zero _),
-          (
-            ap (λ (c : Counts). c .vertices) e ∙ sym (add-zero _),
-            (ap (λ (c : Counts). c .sets) e ∙ sym (add-zero _), ap (λ (c : Counts). c .triangles) e ∙ sym (add-zero _)),
-          ),
-        ),
-      ),
-    ),
-  ),
-)
+-- the counts after meshes ms, when n came before: only those of tables 4 to 7 rise
+record Added (ms : List Mesh) (n x : Counts) : Type 0 where
+  nodes : x .nodes ≡ n .nodes
+  meshes : x .meshes ≡ n .meshes + length (meshRows 4 ms n)
+  vertices : x .vertices ≡ n .vertices + length (meshRows 5 ms n)
+  sets : x .sets ≡ n .sets + length (meshRows 6 ms n)
+  triangles : x .triangles ≡ n .triangles + length (meshRows 7 ms n)
+  weights : x .weights ≡ n .weights
+  lists : x .lists ≡ n .lists
+  keys : x .keys ≡ n .keys
+
+added : (ms : List Mesh) (n : Counts) → Added ms n (withMeshes ms n)
+unfolding withMeshes meshRows if
+added [] n = record {
+  nodes = refl;
+  meshes = sym (add-zero _);
+  vertices = sym (add-zero _);
+  sets = sym (add-zero _);
+  triangles = sym (add-zero _);
+  weights = refl;
+  lists = refl;
+  keys = refl;
+}
+added (m ∷ ms) n = record {
+  nodes = refl;
+  meshes = refl;
+  vertices = ap (λ (l : ℕ). n .vertices + l) (sym (vertices-length m));
+  sets = ap (λ (l : ℕ). n .sets + l) (sym (sets-length (n .meshes) (n .triangles) (m .triangleSets)));
+  triangles = refl;
+  weights = refl;
+  lists = refl;
+  keys = refl;
+}
 
 pub steps : (d : Data) (p : ℕ) (n : Counts) → All (Step d p n) nodeTables
 unfolding nodeTables reached withNode ownRows if
 steps d p n =
-    let w = with-meshes (d .kind) n (withMeshes (meshesOf (d .kind)) n) refl in (
-      ap (λ (x : ℕ). x + 1) (w .0),
-      (
-        w .1 .1 .1 .1 .0,
-        (
-          w .1 .1 .1 .1 .1 .0,
-          (
-            w .1 .1 .1 .1 .1 .1 .0,
-            (
-              w .1 .1 .1 .1 .1 .1 .1,
-              (
-                ap (λ (x : ℕ). x + length (weightsOf (d .kind))) (w .1 .0),
-                (
-                  ap₂ _+_ (w .1 .1 .0) (sym (lists-length (n .nodes) (n .keys) (d .keys))),
-                  (ap (λ (x : ℕ). x + length (keyRows (d .keys))) (w .1 .1 .1 .0), tt),
-                ),
-              ),
-            ),
-          ),
-        ),
-      ),
-    )
+    let w = added (meshesOf (d .kind)) n in
+    let weights = ap (λ (x : ℕ). x + length (weightsOf (d .kind))) (w .weights) in
+    let lists = ap₂ _+_ (w .lists) (sym (lists-length (n .nodes) (n .keys) (d .keys))) in
+    let keys = ap (λ (x : ℕ). x + length (keyRows (d .keys))) (w .keys) in
+    (ap (λ (x : ℕ). x + 1) (w .nodes), (w .meshes, (w .vertices, (w .sets, (w .triangles, (weights, (lists, (keys, tt))))))))
 
 pub nodes-step : (d : Data) (n : Counts) → (withNode d n) .nodes ≡ suc (n .nodes)
 unfolding withNode
-nodes-step d n =
-    let w = with-meshes (d .kind) n (withMeshes (meshesOf (d .kind)) n) refl in
-    let e : withMeshes (meshesOf (d .kind)) n .nodes ≡ n .nodes = w .0 in
-    omega arith
+nodes-step d n = omega (arith, added (meshesOf (d .kind)) n .nodes)
 
 -- ---- back
 

@@ -15,7 +15,8 @@ use Rattle.layout.proofs.Testing.{Tests, both, le-is, all-is}
 use Rattle.b3d_scene.specs.Rebuild.{Lent, cut, lentRows, roomy, textureFrom, brushFrom, Rows, Placed, walk, tree, together, nodeNames, names, stands, sound, rebuild}
 use Rattle.b3d_scene.specs.Rules.{bonesBelow, levels, rowLimit, boneVertices}
 use Rattle.b3d_scene.specs.Scene.{Texture, Brush, Forest, leaf, node, Scene}
-use Rattle.b3d_scene.specs.Tables.{width, Counts, start, reached, textureRow, brushRow, ownRows, withNode, withForest, forestRows, rows, words, table, nodeTables, tables}
+use Rattle.b3d_scene.specs.Tables.{width, start, reached, textureRow, brushRow, ownRows, withNode, withForest, forestRows, rows, words, table, nodeTables, tables}
+use Rattle.b3d_scene.specs.declared.Counts.{Counts}
 use Rattle.b3d_scene.proofs.Fitting.{FitTexture, FitBrush, FitSlots, FitNodes, OneRoot, Fit, fits-is}
 use Rattle.b3d_scene.proofs.Rows.Nodes.{OwnWide, own-wide, From}
 use Rattle.b3d_scene.proofs.Rows.RowLists.{same-is, same-rows-is, cut-length, words-cut, cut-words}
@@ -89,12 +90,12 @@ rows-holds T t k few room e =
 
 -- ---- put together
 
-names-rest : (P : Name → Type 0) (t : Forest) (r : List Name) → All P (nodeNames t r) → All P r
+pub names-rest : (P : Name → Type 0) (t : Forest) (r : List Name) → All P (nodeNames t r) → All P r
 unfolding nodeNames
 names-rest P leaf r h = h
 names-rest P (node d ch sib) r h = names-rest P sib r (names-rest P ch (nodeNames sib r) (h .1))
 
-flat-known : (ns : List ℕ) (l b : ℕ) (above : Option ℕ) (t : Forest) (p : ℕ) (n : Counts) (r : List Name) (fs : List Placed)
+pub flat-known : (ns : List ℕ) (l b : ℕ) (above : Option ℕ) (t : Forest) (p : ℕ) (n : Counts) (r : List Name) (fs : List Placed)
     → FitNodes l b above t → All (Stands ns) (nodeNames t r) → All (Known ns b) fs → All (Known ns b) (flat p n t fs)
 unfolding flat nodeNames
 flat-known ns l b above leaf p n r fs h s k = k

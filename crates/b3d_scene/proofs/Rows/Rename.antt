@@ -13,7 +13,8 @@ use Rattle.layout.proofs.Lists.{All, all-pure, all-map, all-zip, all-append, al
 use Rattle.b3d_scene.specs.Names.{renameTexture, renameBrush, renameData, renameForest, rename, bareName, noName, bare, cleared}
 use Rattle.b3d_scene.specs.Rebuild.{Lent, cut, lentRows, nodeNames, names}
 use Rattle.b3d_scene.specs.Scene.{Texture, Brush, Data, Forest, leaf, node, Scene}
-use Rattle.b3d_scene.specs.Tables.{width, Counts, start, nameCells, textureRow, brushRow, nodeRow, ownRows, withNode, withForest, forestRows, rows, words, table, nodeTables, tables}
+use Rattle.b3d_scene.specs.Tables.{width, start, nameCells, textureRow, brushRow, nodeRow, ownRows, withNode, withForest, forestRows, rows, words, table, nodeTables, tables}
+use Rattle.b3d_scene.specs.declared.Counts.{Counts}
 use Rattle.b3d_scene.proofs.Fitting.{Fit}
 use Rattle.b3d_scene.proofs.Rows.RebuildLaws.{rows-wide, together-back}
 use Rattle.b3d_scene.proofs.Rows.RowLists.{cut-words}

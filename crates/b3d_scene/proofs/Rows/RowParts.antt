@@ -16,7 +16,8 @@ use Rattle.layout.proofs.Outs.{if-yes, if-no}
 use Rattle.b3d_scene.specs.Mask.{mask, spread, squeeze, vertexMask, vertexHas, keyMask, keyHas}
 use Rattle.b3d_scene.specs.Rebuild.{nameFrom, textureFrom, brushFrom, setsFrom, meshFrom, mine, keysFrom, animFrom}
 use Rattle.b3d_scene.specs.Scene.{Texture, Brush, TriangleSet, Mesh, Kind, pivot, mesh, bone, Keys, Anim, still, anim, Data}
-use Rattle.b3d_scene.specs.Tables.{Counts, nameCells, textureRow, brushRow, kindCells, animCells, nodeRow, meshRow, vertexRows, setRows, triangleRows, listRows, keyRows}
+use Rattle.b3d_scene.specs.Tables.{nameCells, textureRow, brushRow, kindCells, animCells, nodeRow, meshRow, vertexRows, setRows, triangleRows, listRows, keyRows}
+use Rattle.b3d_scene.specs.declared.Counts.{Counts}
 use Rattle.b3d_scene.proofs.Fitting.{FitTexture, FitBrush, FitTriangles, FitMesh, FitKeys, FitAnim, FitData}
 use Rattle.b3d_scene.proofs.Rows.MaskLaws.{mask-length, spread-length, squeeze-spread}
 use Rattle.b3d_scene.proofs.Rows.WordCounts.{any-words, ids-words, vertex-ones, key-ones}

@@ -14,7 +14,8 @@ use Rattle.layout.proofs.Lists.{All, all-zip}
 use Rattle.layout.proofs.Outs.{if-yes, if-no}
 use Rattle.b3d_scene.specs.Rebuild.{Rows, dataFrom, Placed, walk, Group, Off, off, groups, tree}
 use Rattle.b3d_scene.specs.Scene.{Keys, Data, Forest, leaf, node}
-use Rattle.b3d_scene.specs.Tables.{Counts, start, reached, nodeTables, nameCells, nodeRow, listRows, ownRows, withNode, withForest, forestRows}
+use Rattle.b3d_scene.specs.Tables.{start, reached, nodeTables, nameCells, nodeRow, listRows, ownRows, withNode, withForest, forestRows}
+use Rattle.b3d_scene.specs.declared.Counts.{Counts}
 use Rattle.b3d_scene.proofs.Fitting.{FitData}
 use Rattle.b3d_scene.proofs.Rows.Nodes.{Step, steps, nodes-step, From, data-back}
 use Rattle.b3d_scene.proofs.Rows.RowParts.{Stands, Others}

@@ -1,13 +1,13 @@
 -- How many words the rows of a scene that fits have.
 use mathlib.Core.Path.{_≡_, sym, _∙_}
-use Prim.Native.Nat.{ℕ, _≤_}
-use mathlib.Core.List.{List, []}
+use Prim.Native.Nat.{ℕ}
+use mathlib.Core.List.{List}
 use lib.ListN.{length, replicate, length-replicate}
 use lib.Dec.{leb→le}
 use Rattle.layout.specs.Rules.{any}
 use Rattle.layout.proofs.Fitting.{Fits}
 use Rattle.layout.proofs.PartLaws.{length-fits}
-use Rattle.b3d_scene.specs.Scene.{Mesh, Keys, Anim, anim}
+use Rattle.b3d_scene.specs.Scene.{Mesh, Keys}
 use Rattle.b3d_scene.specs.Rules.{textureId, brushIds, vertexRow, vertexWords, keyRow, keyWords}
 use Rattle.b3d_scene.specs.Mask.{ones, vertexMask, keyMask}
 use Rattle.b3d_scene.proofs.Fitting.{FitMesh, FitKeys}

@@ -1,0 +1,98 @@
+-- What reader, writer and clearer have seen to where they accept, and that 1 to 10 are answered whatever is lent.
+use mathlib.Core.Path.{_≡_, refl, subst}
+use Prim.Native.Nat.{ℕ, _*_, _≤_}
+use mathlib.Core.Bool.{Bool}
+use mathlib.Core.Option.{Option, none, some}
+use mathlib.Core.List.{List, [], _∷_}
+use lib.ListN.{length}
+use lib.Dec.{T, leb, leb→le, le→leb}
+use Rattle.layout.specs.Out.{Out, got, bad, _>>=_}
+use Rattle.layout.proofs.Lists.{All, all-map}
+use Rattle.layout.proofs.Outs.{by-check, by-got, bad-got, check-yes, got-inj}
+use Rattle.b3d_scene.specs.Answers.{eachTable, judge, read, roomFor, shortest, write, clear}
+use Rattle.b3d_scene.specs.Encode.{encode}
+use Rattle.b3d_scene.specs.Parse.{parse}
+use Rattle.b3d_scene.specs.Rebuild.{Lent, rebuild}
+use Rattle.b3d_scene.specs.Rules.{rowLimit, mostBytes}
+use Rattle.b3d_scene.specs.Scene.{Scene}
+use Rattle.b3d_scene.specs.Tables.{width, rows, tables}
+
+-- ---- ten tables, each within a bound
+
+each-got : (n : ℕ) (ok : ℕ → Bool) (ks : List ℕ) → eachTable n ok ks ≡ got tt → All (λ k. T (ok k)) ks
+unfolding eachTable
+each-got n ok [] e = tt
+each-got n ok (k ∷ ks) e = by-check (ok k) n k _ e (λ t e₁. (t, each-got n ok ks e₁))
+
+each-yes : (n : ℕ) (ok : ℕ → Bool) (ks : List ℕ) → All (λ k. T (ok k)) ks → eachTable n ok ks ≡ got tt
+unfolding eachTable
+each-yes n ok [] h = refl
+each-yes n ok (k ∷ ks) h = rw (check-yes (ok k) n k (h .0)) (each-yes n ok ks (h .1))
+
+module _ (n : ℕ) (size : ℕ → Scene → ℕ) (most : ℕ → ℕ) where
+  abbrev Within : Scene → Type 0
+  Within t = All (λ k. size k t ≤ most k) tables
+
+  abbrev held : Scene → Out Scene
+  held t = eachTable n (λ k. leb (size k t) (most k)) tables >>= λ x. got t
+
+  within-got : (m : Out Scene) (t : Scene) → (m >>= held) ≡ got t → (m ≡ got t) × Within t
+  within-got m t e =
+      by-got m _ e (λ u eu e₁. by-got (eachTable n _ tables) _ e₁ (λ x ex e₂.
+      subst (λ (v : Scene). (m ≡ got v) × Within v) (got-inj e₂)
+      (eu, all-map (λ k. T (leb (size k u) (most k))) _ (λ k. leb→le (size k u) (most k)) tables (each-got n _ tables ex))))
+
+  within-yes : (t : Scene) → Within t → held t ≡ got t
+  within-yes t h = rw (each-yes n (λ k. leb (size k t) (most k)) tables (all-map (λ k. size k t ≤ most k) _ (λ k. le→leb (size k t) (most k)) tables h))
+
+-- ---- reader
+
+-- no table has more rows than the limit; each has room
+abbrev pub Small : Scene → Type 0
+Small t = All (λ k. length (rows k t) ≤ rowLimit) tables
+
+abbrev pub Roomy : (ℕ → ℕ) → Scene → Type 0
+Roomy room t = All (λ k. width k * length (rows k t) ≤ room k) tables
+
+pub judge-got : (s : List ℕ) (t : Scene) → judge s ≡ got t → (parse s ≡ got t) × Small t
+unfolding judge
+judge-got s t e = within-got 10 (λ k t. length (rows k t)) (λ k. rowLimit) (parse s) t e
+
+pub judge-yes : (s : List ℕ) (t : Scene) → parse s ≡ got t → Small t → judge s ≡ got t
+unfolding judge
+judge-yes s t e h = rw e (within-yes 10 (λ k t. length (rows k t)) (λ k. rowLimit) t h)
+
+-- a file that is not accepted gets its refusal with any tables and any output
+pub judge-first : (s : List ℕ) (n p : ℕ) → judge s ≡ bad n p → (room : ℕ → ℕ) (size : ℕ) → (read room s ≡ bad n p) × (clear s size ≡ bad n p)
+unfolding read clear
+judge-first s n p e room size = (rw e, rw e)
+
+pub read-got : (room : ℕ → ℕ) (s : List ℕ) (t : Scene) → read room s ≡ got t → (judge s ≡ got t) × Roomy room t
+unfolding read
+read-got room s t e = within-got 11 (λ k t. width k * length (rows k t)) room (judge s) t e
+
+pub read-yes : (room : ℕ → ℕ) (s : List ℕ) (t : Scene) → judge s ≡ got t → Roomy room t → read room s ≡ got t
+unfolding read
+read-yes room s t e h = rw e (within-yes 11 (λ k t. width k * length (rows k t)) room t h)
+
+-- ---- writer
+
+room-got : (room : ℕ) (b c : List ℕ) → roomFor room b ≡ got c → (b ≡ c) × (length b ≤ room)
+unfolding roomFor
+room-got room b c e = by-check (leb (length b) room) 11 (length b) _ e (λ t e₁. (got-inj e₁, leb→le (length b) room t))
+
+shortest-got : (o : Option Scene) (b : List ℕ) → shortest o ≡ got b → (t : Scene) × (o ≡ some t) × (encode t ≡ b) × (length b ≤ mostBytes)
+unfolding shortest
+shortest-got none b e = bad-got e
+shortest-got (some t) b e =
+    by-check (leb (length (encode t)) mostBytes) 12 0 _ e (λ h e₁. subst (λ (c : List ℕ). (u : Scene) × (some t ≡ some u) × (encode u ≡ c) × (length c ≤ mostBytes)) (got-inj e₁)
+    (t, refl, refl, leb→le (length (encode t)) mostBytes h))
+
+-- what is written is the shortest file of the tables' scene, within the limit and the output
+pub write-got : (T : Lent) (ns : List ℕ) (room : ℕ) (b : List ℕ) → write T ns room ≡ got b
+    → (t : Scene) × (rebuild T ns ≡ some t) × (encode t ≡ b) × (length b ≤ mostBytes) × (length b ≤ room)
+unfolding write
+write-got T ns room b e =
+    by-got (shortest (rebuild T ns)) _ e (λ c ec e₁. let x = shortest-got (rebuild T ns) c ec in
+    let y = room-got room c b e₁ in
+    subst (λ (d : List ℕ). (t : Scene) × (rebuild T ns ≡ some t) × (encode t ≡ d) × (length d ≤ mostBytes) × (length d ≤ room)) (y .0) (x .0, x .1, x .2, x .3, y .1))

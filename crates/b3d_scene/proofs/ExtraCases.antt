@@ -1,0 +1,135 @@
+-- Worked files beside the starred ones, for what no law says and no starred file shows: a file with rows in all ten tables, and
+-- refusals. Their lengths are counted here, so that only the contents are written out.
+use mathlib.Core.Path.{_≡_, refl}
+use Prim.Native.Nat.{ℕ, zero, suc}
+use mathlib.Core.List.{List, [], _∷_, _++_, map}
+use lib.ListN.{length, replicate}
+use Rattle.layout.specs.Out.{Out, bad}
+use Rattle.layout.specs.Rules.{NONE}
+use Rattle.layout.specs.Write.{writeWords}
+use Rattle.b3d_scene.specs.declared.Tag.{Tag}
+use Rattle.b3d_scene.specs.declared.Tag.the-variants.{BB3D, TEXS, BRUS, NODE, MESH, VRTS, TRIS, BONE, KEYS, ANIM}
+use Rattle.b3d_scene.specs.Tags.{code}
+use Rattle.b3d_scene.specs.Tables.{tables}
+use Rattle.b3d_scene.specs.Scene.{Scene}
+use Rattle.b3d_scene.specs.Answers.{judge, readAnswer, readTable, clearOutput}
+use Rattle.b3d_scene.proofs.Computing.{computing}
+use Rattle.b3d_scene.proofs.Cases.{zeros}
+
+-- ---- the parts of a file
+
+-- words as bytes
+abbrev ws : List ℕ → List ℕ
+ws l = writeWords l []
+
+abbrev part : Tag → List ℕ → List ℕ
+part t b = ws (code t ∷ length b ∷ []) ++ b
+
+abbrev file : List ℕ → List ℕ
+file b = part BB3D (ws (1 ∷ []) ++ b)
+
+-- a node with this name, its ten floats 0, and then these chunks
+abbrev aNode : List ℕ → List ℕ → List ℕ
+aNode name b = part NODE (name ++ zeros 41 ++ b)
+
+-- a mesh without a brush: a VRTS of plain vertices, a TRIS without a brush
+abbrev aMesh : List ℕ → List ℕ → List ℕ
+aMesh vertices ids = part MESH (ws (NONE ∷ []) ++ part VRTS (zeros 12 ++ ws vertices) ++ part TRIS (ws (NONE ∷ ids)))
+
+-- ---- rows in all ten tables
+
+-- one texture with this name
+abbrev textures : List ℕ → List ℕ
+textures name = part TEXS (name ++ 0 ∷ ws (1 ∷ 2 ∷ 3 ∷ 4 ∷ 5 ∷ 6 ∷ 7 ∷ []))
+
+-- one brush without a name, with one texture
+abbrev brushes : List ℕ
+brushes = part BRUS (ws (1 ∷ []) ++ 0 ∷ ws (11 ∷ 12 ∷ 13 ∷ 14 ∷ 15 ∷ 16 ∷ 17 ∷ 0 ∷ []))
+
+-- a vertex with a normal and one set of two; a triangle
+abbrev kind : List ℕ
+kind = part MESH (ws (0 ∷ []) ++ part VRTS (ws (1 ∷ 1 ∷ 2 ∷ 1 ∷ 2 ∷ 3 ∷ 4 ∷ 5 ∷ 6 ∷ 7 ∷ 8 ∷ [])) ++ part TRIS (ws (NONE ∷ 0 ∷ 0 ∷ 0 ∷ [])))
+
+-- a frame and its rotation
+abbrev keys : List ℕ
+keys = part KEYS (ws (4 ∷ 5 ∷ 1 ∷ 2 ∷ 3 ∷ 4 ∷ []))
+
+abbrev anim : List ℕ
+anim = part ANIM (ws (9 ∷ 10 ∷ 11 ∷ []))
+
+-- a bone with one weight; a bone without, and in it a mesh without vertices and a KEYS without keys
+abbrev children : List ℕ
+children = aNode [] (part BONE (ws (0 ∷ 6 ∷ []))) ++ aNode [] (part BONE [] ++ aNode [] (aMesh [] [] ++ part KEYS (ws (0 ∷ []))))
+
+-- the names are "t" and "r"; ANIM stands before KEYS
+pub full : List ℕ
+full = file (textures (116 ∷ []) ++ brushes ++ aNode (114 ∷ []) (kind ++ anim ++ keys ++ children))
+
+-- no names, KEYS before ANIM
+pub full-copy : List ℕ
+full-copy = file (textures [] ++ brushes ++ aNode [] (kind ++ keys ++ anim ++ children))
+
+pub full-read : readAnswer (λ k. 80) full ≡ record { number = 0; place = 0; version = 1; «n_texs» = 1; counts = 1 ∷ 1 ∷ 4 ∷ 2 ∷ 1 ∷ 2 ∷ 1 ∷ 1 ∷ 2 ∷ 1 ∷ [] }
+unfolding computing full
+full-read = refl
+
+-- words of a node: name place and length, parent; ten zeros; then kind, first, count and ANIM
+abbrev nodeWords : List ℕ → List ℕ → List ℕ
+nodeWords name kind = name ++ zeros 10 ++ kind
+
+pub full-tables : map (λ k. readTable k (λ j. 80) full []) tables
+    ≡ (20 ∷ 1 ∷ 1 ∷ 2 ∷ 3 ∷ 4 ∷ 5 ∷ 6 ∷ 7 ∷ [])
+    ∷ (62 ∷ 0 ∷ 11 ∷ 12 ∷ 13 ∷ 14 ∷ 15 ∷ 16 ∷ 17 ∷ 0 ∷ replicate 7 NONE)
+    ∷ (nodeWords (103 ∷ 1 ∷ NONE ∷ []) (1 ∷ 0 ∷ 1 ∷ 1 ∷ 9 ∷ 10 ∷ 11 ∷ []) ++ nodeWords (293 ∷ 0 ∷ 0 ∷ []) (2 ∷ 0 ∷ 1 ∷ zeros 4)
+    ++ nodeWords (358 ∷ 0 ∷ 0 ∷ []) (2 ∷ 1 ∷ 0 ∷ zeros 4) ++ nodeWords (415 ∷ 0 ∷ 2 ∷ []) (1 ∷ 1 ∷ 1 ∷ zeros 4))
+    ∷ (0 ∷ 0 ∷ 1 ∷ 1 ∷ 2 ∷ 0 ∷ 1 ∷ 0 ∷ 1 ∷ 3 ∷ NONE ∷ 0 ∷ 0 ∷ 0 ∷ 1 ∷ 0 ∷ 1 ∷ 1 ∷ [])
+    ∷ ((1 ∷ 2 ∷ 3 ∷ 4 ∷ 5 ∷ 6 ∷ zeros 4) ++ (7 ∷ 8 ∷ zeros 30))
+    ∷ (0 ∷ NONE ∷ 0 ∷ 1 ∷ 1 ∷ NONE ∷ 1 ∷ 0 ∷ [])
+    ∷ zeros 3
+    ∷ (0 ∷ 6 ∷ [])
+    ∷ (0 ∷ 4 ∷ 0 ∷ 1 ∷ 3 ∷ 0 ∷ 1 ∷ 0 ∷ [])
+    ∷ ((5 ∷ zeros 6) ++ (1 ∷ 2 ∷ 3 ∷ 4 ∷ []))
+    ∷ []
+unfolding computing full
+full-tables = refl
+
+pub full-cleared : clearOutput full (zeros (length full-copy)) ≡ full-copy
+unfolding computing full full-copy
+full-cleared = refl
+
+-- ---- refusals
+
+-- a mesh of one vertex
+abbrev one : List ℕ
+one = aMesh (zeros 3) []
+
+-- nodes one in the other
+deep : ℕ → List ℕ
+deep zero = []
+deep (suc n) = aNode [] (deep n)
+
+pub refusals : List (List ℕ × Out Scene)
+refusals =
+    -- a length that is not the file's
+    (ws (code BB3D ∷ 5 ∷ 1 ∷ []), bad 2 4)
+    -- TRIS before VRTS
+    ∷ (file (aNode [] (part MESH (ws (NONE ∷ []) ++ part TRIS (ws (NONE ∷ []))))), bad 4 73)
+    -- an ANIM of 13 bytes
+    ∷ (file (aNode [] (part ANIM (zeros 13))), bad 5 69)
+    -- a triangle that is cut and whose ids name nothing
+    ∷ (file (aNode [] (aMesh [] (9 ∷ 9 ∷ []))), bad 5 105)
+    -- a texture id of -1
+    ∷ (file (part BRUS (ws (1 ∷ []) ++ zeros 29 ++ ws (NONE ∷ []))), bad 7 53)
+    -- the id is one of another mesh
+    ∷ (file (aNode [] (one ++ aNode [] (aMesh [] (zeros 3)))), bad 7 210)
+    -- a bone: of the root; past the root's mesh; of another mesh than the root's
+    ∷ (file (aNode [] (part BONE (zeros 8))), bad 7 69)
+    ∷ (file (aNode [] (one ++ aNode [] (part BONE (ws (1 ∷ 0 ∷ []))))), bad 7 174)
+    ∷ (file (aNode [] (aMesh [] [] ++ aNode [] (one ++ aNode [] (part BONE (zeros 8))))), bad 7 267)
+    -- the 17th level
+    ∷ (file (deep 17), bad 9 796)
+    ∷ []
+
+pub refused : map (λ (c : List ℕ × Out Scene). judge (c .0)) refusals ≡ map (λ (c : List ℕ × Out Scene). c .1) refusals
+unfolding computing refusals deep
+refused = refl
