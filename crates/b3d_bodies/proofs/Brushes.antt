@@ -1,0 +1,203 @@
+-- The brushes of a BRUS: what the loop of `brush_items` has counted, and what the answers say of `readBrushes`.
+use Prim.Native.Nat.{ℕ, zero, suc, _+_, _-_, _*_, _<_, _≤_}
+use native.Mathlib.Omega.{arith}
+use native.Mathlib.Nat.{mul-le-mul-left}
+use mathlib.Core.Path.{_≡_, refl, sym, ap, subst, _∙_}
+use mathlib.Core.List.{List, [], _∷_, _++_}
+use lib.ListN.{length, take, drop, length-replicate}
+use mir.Val.{Fits}
+use mir.Syntax.{w64}
+use borrow.Author.Tests.{lt-leb, le-leb}
+use Rattle.wire.specs.Bytes.{wordAt}
+use Rattle.wire.specs.Cursors.{Inside, left, numberAt}
+use Rattle.wire.specs.declared.Cursor.{Cursor}
+use Rattle.wire.specs.declared.Number.{Number}
+use Rattle.wire.specs.declared.Number.the-variants as number
+use Rattle.wire.proofs.Left.{left-length, left-four}
+use Rattle.wire.proofs.Found.{numbered, number-cut}
+use Rattle.layout.specs.Out.{Out, got, bad, check, _>>=_}
+use Rattle.layout.specs.Parts.{Name, words, wordsOf, judged, row, items}
+use Rattle.layout.specs.Rules.{Rule, holds, refusal}
+use Rattle.layout.proofs.StepLaws.{row-short}
+use Rattle.b3d_scene.specs.Scene.{Brush}
+use Rattle.b3d_scene.specs.Rules.{slots, brushRow, brushIds, mostBytes}
+use Rattle.b3d_scene.specs.Parse.{readBrush, readBrushes, slotsOf}
+use Rattle.b3d_chunks.specs.Chunks.{namedAt, NamedIn}
+use Rattle.b3d_chunks.specs.Items.{firstBad}
+use Rattle.b3d_chunks.specs.declared.Named.{Named}
+use Rattle.b3d_chunks.specs.declared.Named.the-variants as named
+use Rattle.b3d_chunks.specs.declared.Counted.{Counted}
+use Rattle.b3d_chunks.specs.declared.Counted.the-variants as counts
+use Rattle.b3d_chunks.proofs.Names.{named-among}
+use Rattle.b3d_chunks.proofs.Ids.{after-good, after-bad}
+use Rattle.b3d_bodies.specs.Tally.{noTally, brusOf, brusTally, Within}
+use Rattle.b3d_bodies.specs.Answers.{Body, countedBrushes, BrushesIn, slotted, SlotsAre}
+use Rattle.b3d_bodies.specs.declared.Tally.{Tally}
+use Rattle.b3d_bodies.specs.declared.Slotted.{Slotted}
+use Rattle.b3d_bodies.specs.declared.Slotted.the-variants as slot
+use Rattle.b3d_bodies.proofs.Tallies.{within-none}
+use Rattle.b3d_bodies.proofs.Counting.{countedFrom, Counting, count-none, count-done, count-cut, count-bad, count-one}
+
+-- ---- the loop
+
+brush : Name × List ℕ → Brush
+brush x = record { name = x .0; words = take 7 (x .1); ids = drop 7 (x .1) }
+
+-- so many brushes have been passed, each the zero of a text, seven words and its slots at least
+abbrev pub Brushes : ℕ → ℕ → List ℕ → Cursor → Cursor → ℕ → Type 0
+Brushes slots textures s from c count = Counting (readBrush slots textures) (29 + 4 * slots) s from c count
+
+from-none : (o : Out (List Brush)) (x : Counted) → countedFrom 0 o ≡ x → x ≡ countedBrushes o
+from-none (got l) x e = let z : 0 + length l ≡ length l = omega arith in sym e ∙ ap counts.Is z
+from-none (bad n p) x e = sym e
+
+module _ (slots textures : ℕ) (s : List ℕ) (from : Cursor) where
+  abbrev rules : List Rule
+  rules = brushRow ++ brushIds slots textures
+
+  abbrev all : Out (List Brush)
+  all = items (readBrush slots textures) (from .at) (left from s)
+
+  long : length rules ≡ 7 + slots
+  long = simp length-replicate (omega arith)
+
+  pub brushes-none : Inside from (length s) → Brushes slots textures s from from 0
+  brushes-none i = count-none (readBrush slots textures) (29 + 4 * slots) s from i
+
+  module _ (c : Cursor) (count : ℕ) (k : Brushes slots textures s from c count) where
+    pub brushes-done : c .end ≤ c .at → counts.Is count ≡ countedBrushes all
+    unfolding readBrush brush
+    brushes-done h = from-none all _ (count-done brush rules k h)
+
+    pub brushes-room : count * (29 + 4 * slots) ≤ from .end - from .at
+    brushes-room = omega arith
+
+    module _ (h : c .at < c .end) (r : Named) (e : r ≡ namedAt s c (7 + slots)) where
+      pub brushes-cut : r ≡ named.Cut → counts.Not 5 (c .at) ≡ countedBrushes all
+      unfolding readBrush brush
+      brushes-cut q = from-none all _ (count-cut brush rules k h long e q)
+
+      module _ (len : ℕ) (w n : Cursor) (q : r ≡ named.Is len w n) (b : NamedIn c (7 + slots) r) where
+        abbrev ids : Cursor
+        ids = record { at = w .at + 28; end = w .end }
+
+        pub ids-room : ids .at + 4 * slots ≤ ids .end
+        ids-room = let f = named-among c (7 + slots) r b len w n q in omega arith
+
+        pub ids-inside : Inside ids (length s)
+        ids-inside = let f = named-among c (7 + slots) r b len w n q in omega arith
+
+        pub ids-fit : Fits w64 (w .end) → Fits w64 (ids .at)
+        ids-fit z = omega (arith, ids-room)
+
+        pub id-fits : (g : ℕ) → g < slots → Fits w64 (w .end) → Fits w64 (ids .at + 4 * g)
+        id-fits g z y = omega (arith, ids-room)
+
+        pub id-before : (g : ℕ) → g < slots → ids .at + 4 * g ≤ from .end
+        id-before g z = let f = named-among c (7 + slots) r b len w n q in omega arith
+
+        module _ (g : ℕ) (f : g ≡ firstBad textures (wordsOf slots (left ids s))) where
+          pub brushes-bad : g < slots → counts.Not 7 (ids .at + 4 * g) ≡ countedBrushes all
+          unfolding readBrush brush
+          brushes-bad z =
+              let m = ids-room in
+              let i : Inside w (length s) = omega (arith, ids-inside) in
+              from-none all _ (count-bad brush rules k h long e q (λ a. after-bad s w ids textures 7 slots a i (omega arith) refl refl g f z))
+
+          pub brushes-one : slots ≤ g → g ≤ slots → Brushes slots textures s from n (count + 1)
+          unfolding readBrush brush
+          brushes-one y z =
+              let m = ids-room in
+              let i : Inside w (length s) = omega (arith, ids-inside) in
+              count-one brush rules k h long e q b (omega arith) (λ a. after-good s w ids textures 7 slots a i (omega arith) refl refl g f y z)
+
+pub ruleset brushes = (brushes-none, brushes-done, brushes-room, brushes-cut, ids-room, ids-inside, ids-fit, id-fits, id-before, brushes-bad, brushes-one)
+
+-- ---- a head of one number
+
+module _ (s : List ℕ) (c : Cursor) (i : Inside c (length s)) (rule : Rule) (r : Number) (e : r ≡ numberAt s c) where
+  head-short : r ≡ number.Cut → row (rule ∷ []) (c .at) (left c s) ≡ bad 5 (c .at)
+  head-short q = row-short (rule ∷ []) (c .at) (left c s) (omega (arith, left-length s c i, number-cut s c (sym e ∙ q)))
+
+  head-is : (k : ℕ) (n : Cursor) → r ≡ number.Is k n
+      → row (rule ∷ []) (c .at) (left c s) ≡ (check (holds rule k) (refusal rule) (c .at) >>= λ _. got (record { value = k ∷ []; place = n .at; left = left n s }))
+  unfolding row words judged wordAt
+  head-is k n q = let f = numbered s c k n (sym e ∙ q) in rw (left-four s c n i (f .room) (f .to) (f .same), f .is, f .to)
+
+-- ---- answers
+
+within-brus : (slots k n : ℕ) → 12 + k * (29 + 4 * slots) ≤ n → Within (brusOf slots k) n
+unfolding brusOf
+within-brus slots zero n le = within-none n
+within-brus slots (suc k) n le =
+    let h : 29 ≤ 29 + 4 * slots = omega arith in
+    let m = mul-le-mul-left (suc k) h in
+    record { rows = omega arith; copy = omega arith }
+
+module _ (k : ℕ) where
+  slots-not : (o : Out (List Brush)) (x p : ℕ) → counts.Not x p ≡ countedBrushes o → slot.Not x p ≡ slotted (o >>= λ l. got (k, l))
+  slots-not (got l) x p e = let z : _≡_ {A = ℕ} 0 1 = cc in absurd (omega arith)
+  slots-not (bad n q) x p e = cc
+
+  -- without a brush there are no slots
+  slots-none : (o : Out (List Brush)) → counts.Is 0 ≡ countedBrushes o → slot.Is 0 noTally ≡ slotted (o >>= λ l. got (k, l))
+  unfolding slotsOf brusTally brusOf
+  slots-none (got []) e = refl
+  slots-none (got (b ∷ l)) e = let z : 0 ≡ suc (length l) = cc in absurd (omega arith)
+  slots-none (bad n q) e = let z : _≡_ {A = ℕ} 0 1 = cc in absurd (omega arith)
+
+  slots-some : (o : Out (List Brush)) (count : ℕ) → (count ≡ 0 → ⊥) → counts.Is count ≡ countedBrushes o → slot.Is k (brusOf k count) ≡ slotted (o >>= λ l. got (k, l))
+  unfolding slotsOf brusTally
+  slots-some (got []) count h e = let z : count ≡ 0 = cc in absurd (h z)
+  slots-some (got (b ∷ l)) count h e = let z : count ≡ suc (length l) = cc in ap (λ (i : ℕ). slot.Is k (brusOf k i)) z
+  slots-some (bad n q) count h e = let z : _≡_ {A = ℕ} 0 1 = cc in absurd (omega arith)
+
+module _ (textures at : ℕ) (s : List ℕ) (body : Cursor) (b : Body at body (length s)) (r : Number) (e : r ≡ numberAt s body) where
+  abbrev Answer : Slotted → Type 0
+  Answer x = SlotsAre (readBrushes textures at (left body s)) at (body .end) x
+
+  inside : Inside body (length s)
+  inside = record { before = b .room; within = b .within }
+
+  pub head-cut : r ≡ number.Cut → Answer (slot.Not 5 (body .at))
+  unfolding readBrushes
+  head-cut q = record { is = rw (← b .head, head-short s body inside slots r e q); within = b .room }
+
+  module _ (k : ℕ) (n : Cursor) (q : r ≡ number.Is k n) where
+    pub head-over : 8 < k → Answer (slot.Not 6 (body .at))
+    unfolding readBrushes check
+    head-over h = record { is = rw (← b .head, head-is s body inside slots r e k n q, lt-leb _ _ h); within = b .room }
+
+    module _ (h : k ≤ 8) (m : ℕ) (y : m ≡ k) (t : Counted) (f : t ≡ countedBrushes (items (readBrush m textures) (n .at) (left n s))) (w : BrushesIn n m t) where
+      abbrev all-k : Out (List Brush)
+      all-k = items (readBrush k textures) (n .at) (left n s)
+
+      after-head : readBrushes textures at (left body s) ≡ (all-k >>= λ l. got (k, l))
+      unfolding readBrushes check
+      after-head = rw (← b .head, head-is s body inside slots r e k n q, le-leb _ _ h)
+
+      pub brushes-not : (x p : ℕ) → t ≡ counts.Not x p → Answer (slot.Not x p)
+      brushes-not x p v =
+          let a = numbered s body k n (sym e ∙ q) in
+          let z : p ≤ n .end = subst (BrushesIn n m) v w in
+          record { is = rw after-head (slots-not k all-k x p (sym v ∙ rw y at f)); within = omega arith }
+
+      module _ (count : ℕ) (v : t ≡ counts.Is count) where
+        room : count * (29 + 4 * m) ≤ n .end - n .at
+        room = subst (BrushesIn n m) v w
+
+        pub brushes-few : count ≤ mostBytes
+        brushes-few =
+            let a = numbered s body k n (sym e ∙ q) in
+            let z : 1 ≤ 29 + 4 * m = omega arith in
+            omega (arith, room, mul-le-mul-left count z)
+
+        pub no-brush : count ≡ 0 → (u : Tally) → u ≡ noTally → Answer (slot.Is 0 u)
+        no-brush z u g = record { is = rw (g, after-head) (slots-none k all-k (rw z at (sym v ∙ rw y at f))); within = rw g (within-none _) }
+
+        pub some-brush : (count ≡ 0 → ⊥) → (u : Tally) → u ≡ brusOf m count → Answer (slot.Is k u)
+        some-brush z u g =
+            let a = numbered s body k n (sym e ∙ q) in
+            record { is = rw (g, y, after-head) (slots-some k all-k count z (sym v ∙ rw y at f)); within = rw g (within-brus m count (body .end - at) (omega (arith, room))) }
+
+pub ruleset brus = (head-cut, head-over, brushes-not, brushes-few, no-brush, some-brush)

@@ -1,0 +1,8 @@
+-- The laws of the steps: what the functions rest on, and what their answers say to callers.
+pub mod Tagging
+pub mod Passing
+pub mod Nexts
+pub mod Names
+pub mod Divided
+pub mod Ids
+pub mod IdItems

@@ -1,0 +1,41 @@
+-- Ids below a limit, and items to the end of a chunk.
+use Prim.Native.Nat.{ℕ, zero, suc, _+_, _-_, _*_, _/_, _%_, _≤_}
+use mathlib.Core.List.{List, [], _∷_, _++_}
+use lib.ListN.{length, replicate}
+use lib.Dec.{ltb, eqb}
+use Rattle.wire.specs.Test.{if}
+use Rattle.wire.specs.declared.Cursor.{Cursor}
+use Rattle.layout.specs.Out.{Out, got, bad}
+use Rattle.layout.specs.Rules.{Rule, any, names}
+use Rattle.layout.specs.Parts.{row, items}
+use Rattle.b3d_chunks.specs.declared.Counted.{Counted}
+use Rattle.b3d_chunks.specs.declared.Counted.the-variants as counts
+
+-- how many words stand below the limit before one that does not
+unfoldable pub firstBad : ℕ → List ℕ → ℕ
+firstBad limit [] = 0
+firstBad limit (w ∷ ws) = if (ltb w limit) (suc (firstBad limit ws)) 0
+
+-- so many ids of things below a limit, then so many words that are not looked at
+abbrev pub idRow : ℕ → ℕ → ℕ → List Rule
+idRow ids others limit = replicate ids (names limit) ++ replicate others any
+
+abbrev pub idItems : ℕ → ℕ → ℕ → ℕ → List ℕ → Out (List (List ℕ))
+idItems ids others limit p s = items (row (idRow ids others limit)) p s
+
+-- how many items there are, or the refusal
+abbrev pub counted : Out (List (List ℕ)) → Counted
+counted (got l) = counts.Is (length l)
+counted (bad n p) = counts.Not n p
+
+-- the same of items that are not looked at, by one division
+unfoldable pub dividedAt : Cursor → ℕ → Counted
+dividedAt c words =
+    let size = 4 * words in
+    let n = c .end - c .at in
+    if (eqb (n % size) 0) (counts.Is (n / size)) (counts.Not 5 (c .at + n / size * size))
+
+-- so many items of so many words have room; a refusal's place is before the end
+abbrev pub CountedIn : Cursor → ℕ → Counted → Type 0
+CountedIn c words (counts.Is k) = k * (4 * words) ≤ c .end - c .at
+CountedIn c words (counts.Not n p) = p ≤ c .end

@@ -1,0 +1,3 @@
+-- What the steps of a walk find, in the terms of layout and b3d_scene.
+pub mod Chunks
+pub mod Items

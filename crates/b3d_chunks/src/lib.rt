@@ -1,0 +1,192 @@
+// Steps that every walk over a B3D file takes: the next known chunk, a text with its row, ids below a limit, items by one division.
+ghost use mathlib.Core.Path.{_≡_};
+ghost use Prim.Native.Nat.{ℕ, _+_, _-_, _*_, _<_, _≤_};
+ghost use lib.ListN.{length};
+ghost use Rattle.wire.specs.Cursors.{Inside, left};
+ghost use Rattle.layout.specs.Parts.{wordsOf};
+ghost use Rattle.b3d_scene.specs.Tags.{tagOf};
+ghost use Rattle.b3d_scene.specs.Rules.{vertexWords, keyWords};
+ghost use Rattle.b3d_chunks.specs.Chunks.{tagged, NextIs, namedAt, NamedIn};
+ghost use Rattle.b3d_chunks.specs.Items.{firstBad, dividedAt, CountedIn, idItems, counted};
+use b3d_scene::Tag;
+use wire::Cursor;
+use wire::Header;
+use wire::Text;
+
+pub enum Tagged {
+    Known(Tag),
+    Other,
+}
+
+// The known tag with these letters.
+pub fn tag_of(n: u32) -> Tagged
+    ensures { λ r. ⌜ r ≡ tagged (tagOf n) ⌝ }
+{
+    match n {
+        0x44334242 => Tagged::Known(Tag::BB3D),
+        0x53584554 => Tagged::Known(Tag::TEXS),
+        0x53555242 => Tagged::Known(Tag::BRUS),
+        0x45444F4E => Tagged::Known(Tag::NODE),
+        0x4853454D => Tagged::Known(Tag::MESH),
+        0x53545256 => Tagged::Known(Tag::VRTS),
+        0x53495254 => Tagged::Known(Tag::TRIS),
+        0x454E4F42 => Tagged::Known(Tag::BONE),
+        0x5359454B => Tagged::Known(Tag::KEYS),
+        0x4D494E41 => Tagged::Known(Tag::ANIM),
+        _ => Tagged::Other,
+    }
+}
+
+// The next known chunk: its tag, the place of its header, its body, the cursor after it; or the place of a cut header; or none.
+pub enum Next {
+    Chunk {
+        tag: Tag,
+        at: usize,
+        body: Cursor,
+        next: Cursor,
+    },
+    Cut(usize),
+    Done,
+}
+
+// Unknown chunks are passed over.
+pub fn next_chunk(s: &[u8], from: Cursor) -> Next
+    requires { ⌜ Inside from (length (now s)) ⌝ }
+    ensures { λ r. ⌜ NextIs (now (s .entry)) from r ⌝ }
+{
+    let mut c = from;
+    loop {
+        match c.header(s) {
+            Header::End => {
+                return Next::Done;
+            }
+            Header::Cut => {
+                return Next::Cut(c.at);
+            }
+            Header::Whole { tag, body, next } => match tag_of(tag) {
+                Tagged::Known(t) => {
+                    return Next::Chunk {
+                        tag: t,
+                        at: c.at,
+                        body,
+                        next,
+                    };
+                }
+                Tagged::Other => {
+                    c = next;
+                }
+            },
+        }
+    }
+}
+
+// A text of so many bytes, a cursor at the words that follow it, the cursor after those; or not all of it is there.
+pub enum Named {
+    Is {
+        length: usize,
+        row: Cursor,
+        next: Cursor,
+    },
+    Cut,
+}
+
+// A text and so many words.
+pub fn named_row(s: &[u8], c: Cursor, words: usize) -> Named
+    requires { ⌜ Inside c (length (now s)) × (words ≤ 64) ⌝ }
+    ensures { λ r. ⌜ (r ≡ namedAt (now (s .entry)) c words) × NamedIn c words r ⌝ }
+{
+    match c.text(s) {
+        Text::Cut => Named::Cut,
+        Text::Is(length, row) => {
+            let at = row.at;
+            let end = row.end;
+            if end - at < 4 * words {
+                return Named::Cut;
+            }
+            Named::Is {
+                length,
+                row,
+                next: Cursor {
+                    at: at + 4 * words,
+                    end,
+                },
+            }
+        }
+    }
+}
+
+// How many of the first n words stand below the limit before one that does not.
+pub fn first_bad(s: &[u8], c: Cursor, n: usize, limit: usize) -> usize
+    requires { ⌜ Inside c (length (now s)) × (c .at + 4 * n ≤ c .end) × (n ≤ 64) ⌝ }
+    ensures { λ r. ⌜ (r ≡ firstBad limit (wordsOf n (left c (now (s .entry))))) × (r ≤ n) ⌝ }
+{
+    let start = c.at;
+    let mut i: usize = 0;
+    while i < n {
+        if limit <= wire::size(wire::number_at(s, start + 4 * i)) {
+            return i;
+        }
+        i += 1;
+    }
+    i
+}
+
+// So many items, or a refusal and its place.
+pub enum Counted {
+    Is(usize),
+    Not(u32, usize),
+}
+
+// Items of so many words that are not looked at, by one division: 5 at one that is cut.
+pub fn whole_items(c: Cursor, words: usize) -> Counted
+    requires { ⌜ (c .at ≤ c .end) × (0 < words) × (words ≤ 64) ⌝ }
+    ensures { λ r. ⌜ (r ≡ dividedAt c words) × CountedIn c words r ⌝ }
+{
+    let at = c.at;
+    let end = c.end;
+    let size = 4 * words;
+    let count = (end - at) / size;
+    if (end - at) % size == 0 {
+        return Counted::Is(count);
+    }
+    Counted::Not(5, at + count * size)
+}
+
+// Items of so many words, the first of them ids below a limit: 5 at a cut item, 7 at an id that names nothing.
+pub fn id_items(s: &[u8], from: Cursor, words: usize, ids: usize, limit: usize) -> Counted
+    requires { ⌜ Inside from (length (now s)) × (0 < words) × (words ≤ 64) × (ids ≤ words) ⌝ }
+    ensures { λ r. ⌜ (r ≡ counted (idItems ids (words - ids) limit (from .at) (left from (now (s .entry))))) × CountedIn from words r ⌝ }
+{
+    let end = from.end;
+    let size = 4 * words;
+    let mut at = from.at;
+    let mut count: usize = 0;
+    while at < end {
+        if end - at < size {
+            return Counted::Not(5, at);
+        }
+        let good = first_bad(s, Cursor { at, end }, ids, limit);
+        if good < ids {
+            return Counted::Not(7, at + 4 * good);
+        }
+        at += size;
+        count += 1;
+    }
+    Counted::Is(count)
+}
+
+// How many words a vertex has.
+pub fn vertex_words(flags: u32, sets: u32, size: u32) -> usize
+    requires { ⌜ (flags ≤ 3) × (sets ≤ 8) × (size ≤ 4) ⌝ }
+    ensures { λ r. ⌜ (r ≡ vertexWords flags sets size) × (3 ≤ r) × (r ≤ 42) ⌝ }
+{
+    wire::size(3 + flags / 1 % 2 * 3 + flags / 2 % 2 * 4 + sets * size)
+}
+
+// How many words a key has.
+pub fn key_words(flags: u32) -> usize
+    requires { ⌜ flags ≤ 7 ⌝ }
+    ensures { λ r. ⌜ (r ≡ keyWords flags) × (1 ≤ r) × (r ≤ 11) ⌝ }
+{
+    wire::size(1 + flags / 1 % 2 * 3 + flags / 2 % 2 * 3 + flags / 4 % 2 * 4)
+}
