@@ -1,0 +1,100 @@
+-- A law for each way through the loop of `judge_moves`.
+use mathlib.Core.Path.{_≡_, refl, ap, ap₂, sym, subst, _∙_}
+use Prim.Native.Nat.{ℕ, zero, suc, _+_, _-_, _*_, _<_, _≤_}
+use native.Mathlib.Omega.{arith}
+use mathlib.Core.Bool.{Bool, true, false}
+use mathlib.Core.Option.{none, some}
+use mathlib.Core.List.{List, [], _∷_}
+use lib.ListN.{length, drop, length-drop}
+use lib.Dec.{T, ltb, ltb→lt, nltb→le}
+use types.Run.{OneOf}
+use denote.Enum.Declared.{tagOf}
+use Rattle.wire.specs.Test.{if}
+use Rattle.wire.specs.Cursors.{Inside, left}
+use Rattle.wire.specs.declared.Cursor.{Cursor}
+use Rattle.wire.proofs.Left.{left-length}
+use Rattle.layout.specs.Out.{Out, got, bad, _>>=_}
+use Rattle.layout.specs.Chunks.{done, stop, chunk}
+use Rattle.layout.specs.Parts.{wordsOf}
+use Rattle.layout.proofs.Outs.{by-test}
+use Rattle.layout.proofs.StepLaws.{row-any, any-short}
+use Rattle.b3d_scene.specs.declared.Tag.{Tag}
+use Rattle.b3d_scene.specs.declared.Tag.the-variants.{NODE, KEYS, ANIM}
+use Rattle.b3d_scene.specs.Tags.{Chunks, Found, is}
+use Rattle.b3d_scene.specs.Scene.{Keys, Anim, still, anim}
+use Rattle.b3d_scene.specs.Rules.{mostBytes}
+use Rattle.b3d_scene.specs.Nesting.{nesting, Reached, next as nextTurn, onward, order}
+use Rattle.b3d_scene.specs.Parse.{Moves, withKeys, readKeys, filled, readAnim, readMoves}
+use Rattle.b3d_scene.proofs.Tag.{the-type}
+use Rattle.b3d_chunks.specs.Chunks.{NextIs}
+use Rattle.b3d_chunks.specs.declared.Next.{Next}
+use Rattle.b3d_chunks.specs.declared.Next.the-variants as next
+use Rattle.b3d_chunks.proofs.Nexts.{chunk-among, cut-before}
+use Rattle.b3d_bodies.specs.Tally.{noTally, bytesTally, listTally, listsTally, animTally, movesTally, plus, Within}
+use Rattle.b3d_bodies.specs.Answers.{Body, JudgedIn, Judges}
+use Rattle.b3d_bodies.specs.declared.Tally.{Tally}
+use Rattle.b3d_bodies.specs.declared.Judged.{Judged}
+use Rattle.b3d_bodies.specs.declared.Judged.the-variants as judge
+use Rattle.b3d_bodies.proofs.Tallies.{none-plus, plus-assoc, within-none, within-more, within-plus}
+use Rattle.b3d_judge.specs.States.{reached, restIn, animOf}
+use Rattle.b3d_judge.specs.Answers.{Among, Onward, tallied, talliedFrom, phased, Phases}
+use Rattle.b3d_judge.specs.declared.Phase.{Phase}
+use Rattle.b3d_judge.specs.declared.Phase.the-variants as phase
+use Rattle.b3d_judge.proofs.Answered.{judged-bad, judged-good}
+use Rattle.b3d_judge.proofs.Rests.{rest-chunk, rest-cut, rest-done}
+use Rattle.b3d_judge.proofs.TagTests.{wrong, wrong-here}
+
+-- ---- an ANIM
+
+pub anim-whole : (p : ℕ) (b : List ℕ) → length b ≡ 12 → readAnim p b ≡ got (wordsOf 3 b)
+unfolding readAnim filled
+anim-whole p b h = rw (row-any 3 (p + 8) b (omega arith)) (nothing (drop 12 b) (length-drop 12 b ∙ omega arith))
+  where
+    nothing : (r : List ℕ) → length r ≡ 0 → filled (p + 8) r (wordsOf 3 b) ≡ got (wordsOf 3 b)
+    nothing [] e = refl
+    nothing (c ∷ r) e = absurd (omega arith)
+
+pub anim-other : (p : ℕ) (b : List ℕ) → (length b ≡ 12 → ⊥) → readAnim p b ≡ bad 5 (p + 8)
+unfolding readAnim filled
+anim-other p b h =
+    by-test (ltb (length b) 12)
+    (λ t. let l = ltb→lt (length b) 12 t in rw (any-short 3 (p + 8) b (omega arith)))
+    (λ t. let l = nltb→le (length b) 12 t in rw (row-any 3 (p + 8) b (omega arith)) (more (drop 12 b) (length-drop 12 b) l))
+  where
+    more : (r : List ℕ) → length r ≡ length b - 12 → 12 ≤ length b → filled (p + 8) r (wordsOf 3 b) ≡ bad 5 (p + 8)
+    more [] e l = absurd (h (omega arith))
+    more (c ∷ r) e l = refl
+
+-- ---- tallies of moves
+
+-- a key list before others
+pub keys-first : (m : Tally) (k : Keys) (o : Out (Found Moves))
+    → talliedFrom m movesTally (o >>= λ x. got (withKeys k x)) ≡ talliedFrom (plus m (listTally k)) movesTally o
+unfolding movesTally listsTally withKeys
+keys-first m k (bad n p) = refl
+keys-first m k (got x) =
+    ap (λ (t : Tally). got (t, x .rest))
+    (ap (plus m) (plus-assoc (listTally k) (listsTally (x .value .keys)) (animTally (x .value .anim)))
+    ∙ sym (plus-assoc m (listTally k) (plus (listsTally (x .value .keys)) (animTally (x .value .anim)))))
+
+-- what an ANIM says is not counted
+pub anim-same : (cs : Chunks) (m : Tally) (ws vs : List ℕ) → talliedFrom m movesTally (readMoves (anim ws) cs) ≡ talliedFrom m movesTally (readMoves (anim vs) cs)
+unfolding readMoves movesTally animTally if
+anim-same done m ws vs = refl
+anim-same (stop n p) m ws vs = refl
+anim-same (chunk t p b r) m ws vs = go (λ k. anim-same r k ws vs) (is t KEYS) (is t ANIM) (readKeys p b)
+  where
+    keyed : (us : List ℕ) → Out Keys → Out (Found Moves)
+    keyed us o = o >>= λ k. readMoves (anim us) r >>= λ l. got (withKeys k l)
+
+    go : ((k : Tally) → talliedFrom k movesTally (readMoves (anim ws) r) ≡ talliedFrom k movesTally (readMoves (anim vs) r)) → (a c : Bool) (o : Out Keys)
+        → talliedFrom m movesTally (if a (keyed ws o) (if c (readAnim p b >>= λ us. readMoves (anim us) r) (got (record { value = record { keys = []; anim = anim ws }; rest = chunk t p b r }))))
+        ≡ talliedFrom m movesTally (if a (keyed vs o) (if c (readAnim p b >>= λ us. readMoves (anim us) r) (got (record { value = record { keys = []; anim = anim vs }; rest = chunk t p b r }))))
+    go ih true c (bad n q) = refl
+    go ih true c (got k) = keys-first m k (readMoves (anim ws) r) ∙ ih (plus m (listTally k)) ∙ sym (keys-first m k (readMoves (anim vs) r))
+    go ih false true o = refl
+    go ih false false o = refl
+
+pub tallied-start : {A : Type 0} (f : A → Tally) (o : Out (Found A)) → tallied f o ≡ talliedFrom noTally f o
+tallied-start f (got x) = ap (λ (t : Tally). got (t, x .rest)) (sym (none-plus (f (x .value))))
+tallied-start f (bad n p) = refl

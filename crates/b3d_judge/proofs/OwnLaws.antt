@@ -1,0 +1,271 @@
+-- A law for each way through `own_rows`, `judge_parts` and `judge_own`.
+use mathlib.Core.Path.{_≡_, refl, ap, sym, subst, _∙_}
+use Prim.Native.Nat.{ℕ, _+_, _-_, _*_, _<_, _≤_}
+use native.Mathlib.Omega.{arith}
+use mathlib.Core.Bool.{true, false}
+use mathlib.Core.Option.{Option, none, some}
+use mathlib.Core.List.{List, [], _∷_}
+use lib.ListN.{length, take, replicate}
+use Rattle.wire.specs.Cursors.{Inside, left}
+use Rattle.wire.specs.declared.Cursor.{Cursor}
+use Rattle.layout.specs.Out.{Out, got, bad, _>>=_}
+use Rattle.layout.specs.Rules.{any}
+use Rattle.layout.proofs.Outs.{got-inj}
+use Rattle.layout.specs.Parts.{Step, Name, wordsOf, named as namedOf}
+use Rattle.b3d_scene.specs.declared.Tag.the-variants.{NODE}
+use Rattle.b3d_scene.specs.Tags.{Chunks, Found}
+use Rattle.b3d_scene.specs.Scene.{Kind, still, Data}
+use Rattle.b3d_scene.specs.Rules.{nodeRow, ownVertices, boneVertices, bonesBelow, mostBytes}
+use Rattle.b3d_scene.specs.Nesting.{start, inside}
+use Rattle.b3d_scene.specs.Parse.{Moves, readKind, readMoves}
+use Rattle.b3d_chunks.specs.Chunks.{namedAt, NamedIn}
+use Rattle.b3d_chunks.specs.declared.Named.{Named}
+use Rattle.b3d_chunks.specs.declared.Named.the-variants as named
+use Rattle.b3d_chunks.proofs.Names.{named-cut, named-any, named-among}
+use Rattle.b3d_bodies.specs.Tally.{headTally, listsTally, animTally, kindTally, movesTally, dataTally, plus, Within}
+use Rattle.b3d_bodies.specs.Answers.{Body}
+use Rattle.b3d_bodies.specs.declared.Tally.{Tally}
+use Rattle.b3d_bodies.proofs.Tallies.{within-more, within-plus, within-head}
+use Rattle.b3d_judge.specs.States.{reached, restIn, readParts, readOwn, belowBy}
+use Rattle.b3d_judge.specs.Answers.{Among, Onward, tallied, phased, PhasedIn, Phases, kinded, kindedBy, KindedIn, Kinds, parted, PartedIn, Parted, aboveOf, owned, ownedBy, Owns}
+use Rattle.b3d_judge.specs.declared.Above.{Above}
+use Rattle.b3d_judge.specs.declared.Kinded.{Kinded}
+use Rattle.b3d_judge.specs.declared.Kinded.the-variants as kind
+use Rattle.b3d_judge.specs.declared.Phase.{Phase}
+use Rattle.b3d_judge.specs.declared.Phase.the-variants as phase
+use Rattle.b3d_judge.specs.declared.Owned.{Owned}
+use Rattle.b3d_judge.specs.declared.Owned.the-variants as own
+
+-- ---- what the answers say
+
+kinded-bad : (o : Out (Found Kind)) (e q : ℕ) → bad e q ≡ kinded o → o ≡ bad e q
+kinded-bad (got x) e q h = let z : _≡_ {A = ℕ} 0 1 = cc in absurd (omega arith)
+kinded-bad (bad n p) e q h = cc
+
+record GaveKind (o : Out (Found Kind)) (k : ℕ) (t : Tally) (rest : Chunks) : Type 0 where
+  value : Kind
+  is : o ≡ got (record { value = value; rest = rest })
+  vertices : k ≡ ownVertices value
+  has : t ≡ kindTally value
+
+kinded-good : (o : Out (Found Kind)) (k : ℕ) (t : Tally) (rest : Chunks) → got (k, t, rest) ≡ kinded o → GaveKind o k t rest
+kinded-good (got x) k t rest h =
+    let e : _≡_ {A = ℕ × Tally × Chunks} (k, t, rest) (ownVertices (x .value), kindTally (x .value), x .rest) = got-inj h in
+    record { value = x .value; is = λ i. got (record { value = x .value; rest = sym e i .2 }); vertices = ap (λ (z : ℕ × Tally × Chunks). z .0) e; has = ap (λ (z : ℕ × Tally × Chunks). z .1) e }
+kinded-good (bad n p) k t rest h = let z : _≡_ {A = ℕ} 0 1 = cc in absurd (omega arith)
+
+parted-bad : (o : Out (Found (Kind × Moves))) (e q : ℕ) → bad e q ≡ parted o → o ≡ bad e q
+parted-bad (got x) e q h = let z : _≡_ {A = ℕ} 0 1 = cc in absurd (omega arith)
+parted-bad (bad n p) e q h = cc
+
+record GaveParts (o : Out (Found (Kind × Moves))) (k : ℕ) (t : Tally) (rest : Chunks) : Type 0 where
+  value : Kind × Moves
+  is : o ≡ got (record { value = value; rest = rest })
+  vertices : k ≡ ownVertices (value .0)
+  has : t ≡ plus (plus headTally (kindTally (value .0))) (movesTally (value .1))
+
+parted-good : (o : Out (Found (Kind × Moves))) (k : ℕ) (t : Tally) (rest : Chunks) → got (k, t, rest) ≡ parted o → GaveParts o k t rest
+parted-good (got x) k t rest h =
+    let e : _≡_ {A = ℕ × Tally × Chunks} (k, t, rest) (ownVertices (x .value .0), plus (plus headTally (kindTally (x .value .0))) (movesTally (x .value .1)), x .rest) = got-inj h in
+    record { value = x .value; is = λ i. got (record { value = x .value; rest = sym e i .2 }); vertices = ap (λ (z : ℕ × Tally × Chunks). z .0) e; has = ap (λ (z : ℕ × Tally × Chunks). z .1) e }
+parted-good (bad n p) k t rest h = let z : _≡_ {A = ℕ} 0 1 = cc in absurd (omega arith)
+
+pub tallied-bad : {A : Type 0} (f : A → Tally) (o : Out (Found A)) (e q : ℕ) → bad e q ≡ tallied f o → o ≡ bad e q
+tallied-bad f (got x) e q h = let z : _≡_ {A = ℕ} 0 1 = cc in absurd (omega arith)
+tallied-bad f (bad n p) e q h = cc
+
+pub record GaveFound {A : Type 0} (f : A → Tally) (o : Out (Found A)) (t : Tally) (rest : Chunks) : Type 0 where
+  pub value : A
+  pub is : o ≡ got (record { value = value; rest = rest })
+  pub has : t ≡ f value
+
+pub tallied-good : {A : Type 0} (f : A → Tally) (o : Out (Found A)) (t : Tally) (rest : Chunks) → got (t, rest) ≡ tallied f o → GaveFound f o t rest
+tallied-good f (got x) t rest h =
+    let e : _≡_ {A = Tally × Chunks} (t, rest) (f (x .value), x .rest) = got-inj h in
+    record { value = x .value; is = λ i. got (record { value = x .value; rest = sym e i .1 }); has = ap (λ (z : Tally × Chunks). z .0) e }
+tallied-good f (bad n p) t rest h = let z : _≡_ {A = ℕ} 0 1 = cc in absurd (omega arith)
+
+kinds-at : (o : Out (Found Kind)) (rest : Cursor → Chunks) (from : Cursor) (k : Kinded) → Kinds o rest from k → {x : Kinded} → k ≡ x → kindedBy rest x ≡ kinded o
+kinds-at o rest from k h z = subst (λ (x : Kinded). kindedBy rest x ≡ kinded o) z (h .is)
+
+pub phases-at : {A : Type 0} (f : A → Tally) (o : Out (Found A)) (rest : Cursor → Chunks) (from : Cursor) (k : Phase) → Phases f o rest from k → {x : Phase} → k ≡ x → phased rest x ≡ tallied f o
+phases-at f o rest from k h z = subst (λ (x : Phase). phased rest x ≡ tallied f o) z (h .is)
+
+below-is : (a : Option ℕ) (d : Data) → belowBy a (ownVertices (d .kind)) ≡ bonesBelow a d
+below-is none d = refl
+below-is (some n) d = refl
+
+-- ---- the ways of `own_rows`
+
+pub own-head-small : (h : Tally) → h ≡ headTally → Within h mostBytes
+own-head-small h e = rw e (within-head mostBytes (omega arith))
+
+module _ (h h₁ t : Tally) (e : h ≡ headTally) (e₁ : h₁ ≡ plus h t) where
+  pub own-rows-small : Within (plus headTally t) mostBytes → Within h₁ mostBytes
+  own-rows-small z = rw (e₁, e) z
+
+  pub own-rows-are : (u m : Tally) → m ≡ plus h₁ u → m ≡ plus (plus headTally t) u
+  own-rows-are u m z = z ∙ ap (λ (q : Tally). plus q u) (e₁ ∙ ap (λ (q : Tally). plus q t) e)
+
+pub ruleset own-rows-laws = (own-head-small, own-rows-small, own-rows-are)
+
+-- ---- the ways of `judge_parts`
+
+module _ (s : List ℕ) (at : ℕ) (from : Cursor) (g : Among at from (length s)) (far : at + 49 ≤ from .at) (brushes bones : ℕ)
+    (k : Kinded) (hk : Kinds (readKind brushes bones (restIn s NODE at start from)) (restIn s NODE at (reached 2 false)) from k) where
+  abbrev Right-parts : Kinded → Type 0
+  Right-parts x = Parted (readParts brushes bones (restIn s NODE at start from)) (restIn s NODE at (reached 3 false)) at from x
+
+  -- the moves after a kind
+  abbrev made : Kind → Out (Found Moves) → Out (Found (Kind × Moves))
+  made v o = o >>= λ m. got (record { value = (v, m .value); rest = m .rest })
+
+  abbrev go : Out (Found Kind) → Out (Found (Kind × Moves))
+  go o = o >>= λ v. made (v .value) (readMoves still (v .rest))
+
+  pub parts-kind-bad : (e q : ℕ) → k ≡ kind.Not e q → Right-parts (kind.Not e q)
+  unfolding readParts
+  parts-kind-bad e q z =
+      let b = kinded-bad (readKind brushes bones (restIn s NODE at start from)) e q (kinds-at (readKind brushes bones (restIn s NODE at start from)) (restIn s NODE at (reached 2 false)) from k hk z) in
+      record { is = rw b; within = subst (KindedIn from) z (hk .within) }
+
+  module _ (have : ℕ) (t : Tally) (c : Cursor) (z : k ≡ kind.To have t c) where
+    on : Onward from c t
+    on = subst (KindedIn from) z (hk .within)
+
+    gave : GaveKind (readKind brushes bones (restIn s NODE at start from)) have t (restIn s NODE at (reached 2 false) c)
+    gave = kinded-good (readKind brushes bones (restIn s NODE at start from)) have t (restIn s NODE at (reached 2 false) c) (kinds-at (readKind brushes bones (restIn s NODE at start from)) (restIn s NODE at (reached 2 false)) from k hk z)
+
+    pub parts-among : Among at c (length s)
+    parts-among = let o = on in record { head = omega (arith, g .head, o .from-at); room = o .room; within = omega (arith, g .within, o .same); small = g .small }
+
+    pub parts-kind-small : Within t mostBytes
+    parts-kind-small = let o = on in within-more (c .at - from .at) mostBytes (o .within) (omega (arith, parts-among .room, parts-among .within, g .small))
+
+    first-within : Within (plus headTally t) (c .at - at)
+    first-within =
+        let o = on in
+        within-plus headTally t 49 (c .at - from .at) (c .at - at) (within-head 49 (omega arith)) (o .within) (omega (arith, far, o .from-at))
+
+    pub parts-first-small : Within (plus headTally t) mostBytes
+    parts-first-small = let q = parts-among in within-more (c .at - at) mostBytes first-within (omega (arith, q .room, q .within, g .small))
+
+    module _ (j : Phase) (hj : Phases movesTally (readMoves still (restIn s NODE at (reached 2 false) c)) (restIn s NODE at (reached 3 false)) c j) where
+      pub parts-moves-bad : (e q : ℕ) → j ≡ phase.Not e q → Right-parts (kind.Not e q)
+      unfolding readParts
+      parts-moves-bad e q y =
+          let o = on in
+          let v = gave in
+          let b = tallied-bad movesTally (readMoves still (restIn s NODE at (reached 2 false) c)) e q (phases-at movesTally (readMoves still (restIn s NODE at (reached 2 false) c)) (restIn s NODE at (reached 3 false)) c j hj y) in
+          let le : q ≤ c .end = subst (PhasedIn c) y (hj .within) in
+          record { is = rw (v .is, b); within = omega (arith, o .same) }
+
+      module _ (u : Tally) (d : Cursor) (y : j ≡ phase.To u d) where
+        moved : Onward c d u
+        moved = subst (PhasedIn c) y (hj .within)
+
+        pub parts-moves-small : Within u mostBytes
+        parts-moves-small = let q = parts-among in let m = moved in within-more (d .at - c .at) mostBytes (m .within) (omega (arith, m .room, m .same, q .within, g .small))
+
+        pub parts-good : (x : Tally) → x ≡ plus (plus headTally t) u → Right-parts (kind.To have x d)
+        unfolding readParts
+        parts-good x ex =
+            let o = on in
+            let m = moved in
+            let kd = gave in
+            let mv = tallied-good movesTally (readMoves still (restIn s NODE at (reached 2 false) c)) u (restIn s NODE at (reached 3 false) d) (phases-at movesTally (readMoves still (restIn s NODE at (reached 2 false) c)) (restIn s NODE at (reached 3 false)) c j hj y) in
+            let to : readParts brushes bones (restIn s NODE at start from) ≡ got (record { value = (kd .value, mv .value); rest = restIn s NODE at (reached 3 false) d }) =
+            ap go (kd .is) ∙ ap (made (kd .value)) (mv .is) in
+            let eq-own : have ≡ ownVertices (kd .value) = kd .vertices in
+            let eq-tally : x ≡ plus (plus headTally (kindTally (kd .value))) (movesTally (mv .value)) = ex ∙ ap (λ (q : Tally). plus q u) (ap (plus headTally) (kd .has)) ∙ ap (plus (plus headTally (kindTally (kd .value)))) (mv .has) in
+            record {
+              is = rw to (λ i. got (eq-own i, eq-tally i, restIn s NODE at (reached 3 false) d));
+              within = (
+                record {
+                  from-at = omega (arith, far, o .from-at, m .from-at);
+                  room = m .room;
+                  same = m .same ∙ o .same;
+                  within = rw ex (within-plus (plus headTally t) u (c .at - at) (d .at - c .at) (d .at - at) first-within (m .within) (omega (arith, far, o .from-at, m .from-at)));
+                },
+                omega (arith, far, o .from-at, m .from-at),
+              );
+            }
+
+pub ruleset parts-laws = (parts-kind-bad, parts-among, parts-kind-small, parts-first-small, parts-moves-bad, parts-moves-small, parts-good)
+
+-- ---- the ways of `judge_own`
+
+module _ (s : List ℕ) (at : ℕ) (body : Cursor) (g : Body at body (length s)) (r : Named) (ir : NamedIn body 10 r) (len : ℕ) (v n : Cursor) (w : r ≡ named.Is len v n) where
+  pub own-among : Among at n (length s)
+  own-among =
+      let f = named-among body 10 r ir len v n w in
+      record { head = omega (arith, g .head); room = f .to; within = omega (arith, g .within); small = g .small }
+
+  pub own-far : at + 49 ≤ n .at
+  own-far = let f = named-among body 10 r ir len v n w in omega (arith, f .row, f .after, g .head)
+
+module _ (s : List ℕ) (at : ℕ) (body : Cursor) (g : Body at body (length s)) (brushes : ℕ) (a : Option ℕ) (r : Named) (er : r ≡ namedAt s body 10) where
+  -- the answers that are right
+  abbrev Right : Owned → Type 0
+  Right x = Owns a (readOwn brushes a at (left body s)) (restIn s NODE at (reached 3 false)) at body x
+
+  inside-body : Inside body (length s)
+  inside-body = record { before = g .room; within = g .within }
+
+  pub own-cut : r ≡ named.Cut → Right (own.Not 5 (body .at))
+  unfolding readOwn
+  own-cut w = record { is = rw (← g .head, named-cut s body 10 inside-body nodeRow refl r er w); within = g .room }
+
+  module _ (ir : NamedIn body 10 r) (len : ℕ) (v n : Cursor) (w : r ≡ named.Is len v n) where
+    abbrev dataOf : Kind × Moves → Data
+    dataOf x = record { name = record { place = body .at; bytes = take len (left body s) }; words = wordsOf 10 (left v s); kind = x .0; keys = x .1 .keys; anim = x .1 .anim }
+
+    abbrev within-name : Out (Found (Kind × Moves)) → Out (Found Data)
+    within-name o = o >>= λ x. got (record { value = dataOf (x .value); rest = x .rest })
+
+    opened : readOwn brushes a at (left body s) ≡ within-name (readParts brushes (boneVertices a) (restIn s NODE at start n))
+    unfolding readOwn readParts inside restIn
+    opened = rw (← g .head, named-any s body 10 inside-body r er len v n w) (kinds (readKind brushes (boneVertices a) (restIn s NODE at start n)))
+      where
+        moves : (k : Kind) (o : Out (Found Moves))
+            → (o >>= λ m. got (record { value = dataOf (k, m .value); rest = m .rest })) ≡ within-name (o >>= λ m. got (record { value = (k, m .value); rest = m .rest }))
+        moves k (got m) = refl
+        moves k (bad n p) = refl
+
+        kinds : (o : Out (Found Kind))
+            → (o >>= λ k. readMoves still (k .rest) >>= λ m. got (record { value = dataOf (k .value, m .value); rest = m .rest }))
+            ≡ within-name (o >>= λ k. readMoves still (k .rest) >>= λ m. got (record { value = (k .value, m .value); rest = m .rest }))
+        kinds (got k) = moves (k .value) (readMoves still (k .rest))
+        kinds (bad n p) = refl
+
+    module _ (bones : ℕ) (eb : bones ≡ boneVertices a) (k : Kinded) (hk : Parted (readParts brushes bones (restIn s NODE at start n)) (restIn s NODE at (reached 3 false)) at n k) where
+      parted-at : {x : Kinded} → k ≡ x → kindedBy (restIn s NODE at (reached 3 false)) x ≡ parted (readParts brushes bones (restIn s NODE at start n))
+      parted-at z = subst (λ (x : Kinded). kindedBy (restIn s NODE at (reached 3 false)) x ≡ parted (readParts brushes bones (restIn s NODE at start n))) z (hk .is)
+
+      pub own-parts-bad : (e q : ℕ) → k ≡ kind.Not e q → Right (own.Not e q)
+      own-parts-bad e q z =
+          let f = named-among body 10 r ir len v n w in
+          let b = parted-bad (readParts brushes bones (restIn s NODE at start n)) e q (parted-at z) in
+          let le : q ≤ n .end = subst (PartedIn at n) z (hk .within) in
+          record { is = rw (opened, ← eb, b); within = omega (arith, f .same) }
+
+      pub own-good : (have : ℕ) (t : Tally) (c : Cursor) → k ≡ kind.To have t c → (below a₀ : Above) → aboveOf a₀ ≡ a → aboveOf below ≡ belowBy (aboveOf a₀) have → Right (own.To below t c)
+      unfolding dataTally movesTally
+      own-good have t c z below a₀ ea eb₂ =
+          let f = named-among body 10 r ir len v n w in
+          let on = subst (PartedIn at n) z (hk .within) in
+          let p = parted-good (readParts brushes bones (restIn s NODE at start n)) have t (restIn s NODE at (reached 3 false) c) (parted-at z) in
+          let D : Data = dataOf (p .value) in
+          let to : readOwn brushes a at (left body s) ≡ got (record { value = D; rest = restIn s NODE at (reached 3 false) c }) =
+          opened ∙ ap (λ (b : ℕ). within-name (readParts brushes b (restIn s NODE at start n))) (sym eb) ∙ ap within-name (p .is) in
+          let eq-below : aboveOf below ≡ bonesBelow a D = eb₂ ∙ ap (λ (q : Option ℕ). belowBy q have) ea ∙ ap (belowBy a) (p .vertices) ∙ below-is a D in
+          let eq-tally : t ≡ dataTally D = p .has in
+          record {
+            is = rw to (λ i. got (eq-below i, eq-tally i, restIn s NODE at (reached 3 false) c));
+            within = (
+              record { from-at = on .0 .from-at; room = on .0 .room; same = on .0 .same ∙ f .same; within = on .0 .within },
+              on .1,
+            );
+          }
+
+pub ruleset own-laws = (own-cut, own-among, own-far, own-parts-bad, own-good)

@@ -1,0 +1,59 @@
+-- Laws of the judge's small functions.
+use mathlib.Core.Path.{_≡_, refl, ap, sym, _∙_}
+use Prim.Native.Nat.{ℕ, suc, _<_, _≤_}
+use native.Mathlib.Omega.{arith}
+use mathlib.Core.Bool.{Bool, true, false}
+use mathlib.Core.List.{List, [], _∷_}
+use lib.ListN.{length, getD}
+use lib.Dec.{ltb}
+use borrow.Author.Tests.{lt-ltb, le-ltb}
+use Rattle.wire.specs.Test.{if}
+use Rattle.wire.specs.Bytes.{AllBytes}
+use Rattle.b3d_scene.specs.Rules.{mostBytes, rowLimit}
+use Rattle.b3d_bodies.specs.Tally.{noTally, bytesTally, animTally, plus, Within}
+use Rattle.b3d_bodies.specs.declared.Tally.{Tally}
+use Rattle.b3d_bodies.proofs.Tallies.{within-none, within-bytes}
+use Rattle.b3d_judge.specs.States.{animOf, belowBy}
+use Rattle.b3d_judge.specs.Answers.{aboveOf}
+use Rattle.b3d_judge.specs.declared.Above.{Above}
+use Rattle.b3d_judge.specs.declared.Above.the-variants as above
+
+pub bytes-small : (b : Tally) → b ≡ bytesTally 20 → Within b mostBytes
+bytes-small b e = rw e (within-bytes 20 mostBytes (omega arith))
+
+pub none-small : (b : Tally) → b ≡ noTally → Within b mostBytes
+none-small b e = rw e (within-none mostBytes)
+
+module _ (m b : Tally) where
+  module _ (seen : Bool) (y : Tally) (ey : y ≡ plus m b) where
+    pub anim-seen : seen ≡ true → b ≡ bytesTally 20 → y ≡ plus m (animTally (animOf seen))
+    unfolding animTally
+    anim-seen q e = ey ∙ rw (q, e)
+
+    pub anim-unseen : seen ≡ false → b ≡ noTally → y ≡ plus m (animTally (animOf seen))
+    unfolding animTally
+    anim-unseen q e = ey ∙ rw (q, e)
+
+pub ruleset anim-laws = (bytes-small, none-small, anim-seen, anim-unseen)
+
+pub below-root : (a : Above) (own : ℕ) → a ≡ above.Root → aboveOf (above.Of own) ≡ belowBy (aboveOf a) own
+below-root a own e = rw e
+
+pub below-of : (a : Above) (own n : ℕ) → a ≡ above.Of n → aboveOf (above.Of n) ≡ belowBy (aboveOf a) own
+below-of a own n e = rw e
+
+pub over-yes : (k rows later : ℕ) → 16383 < rows → k ≡ if (ltb rowLimit rows) k later
+unfolding rowLimit if
+over-yes k rows later h = simp (lt-ltb 16383 rows h)
+
+pub over-no : (k rows later : ℕ) → rows ≤ 16383 → later ≡ if (ltb rowLimit rows) k later
+unfolding rowLimit if
+over-no k rows later h = simp (le-ltb 16383 rows h)
+
+pub all-bytes : (s : List ℕ) → ((i : ℕ) → getD s i 0 < 256) → AllBytes s
+all-bytes [] h = tt
+all-bytes (x ∷ s) h = (h 0, all-bytes s (λ i. h (suc i)))
+
+pub no-bytes : (s : List ℕ) → length s ≡ 0 → AllBytes s
+no-bytes [] h = tt
+no-bytes (x ∷ s) h = absurd (omega arith)

@@ -1,0 +1,20 @@
+-- `judge_parts` judges the chunks inside a node up to the nodes below it.
+use Rattle.b3d_judge.proofs.OwnLaws.{parts-laws}
+use borrow.Author.Needs.{needs}
+use Rattle.b3d_judge.proofs.nodes.judge_parts.Statement.{statement}
+use Rattle.b3d_judge.proofs.nodes.judge_parts.Tie as tie
+
+pub judge-parts-spec : {M : Type 1} → statement M
+judge-parts-spec =
+    tie.close
+    (tie.spec
+    (λ c κs. search (parts-laws, needs))
+    (λ c. search (parts-laws, needs))
+    (λ c. search (parts-laws, needs))
+    (λ c κs. search (parts-laws, needs))
+    (λ c. search (parts-laws, needs))
+    (λ c. search (parts-laws, needs))
+    (λ c κs. search (parts-laws, needs))
+    (λ c. search (parts-laws, needs))
+    (λ c. search (parts-laws, needs))
+    (λ c. search (parts-laws, needs)))

@@ -1,0 +1,180 @@
+// The body of a file: its version, then at most one each of TEXS, BRUS and NODE, in that order.
+ghost use mathlib.Core.Path.{_≡_};
+ghost use mathlib.Core.Bool.{true};
+ghost use mathlib.Core.List.{[]};
+ghost use Prim.Native.Nat.{ℕ, _≤_};
+ghost use lib.ListN.{length, drop};
+ghost use Rattle.b3d_scene.specs.declared.Tag.the-variants.{BB3D, TEXS, BRUS, NODE};
+ghost use Rattle.b3d_scene.specs.Scene.{leaf};
+ghost use Rattle.b3d_scene.specs.Rules.{mostBytes};
+ghost use Rattle.b3d_scene.specs.Nesting.{start};
+ghost use Rattle.b3d_scene.specs.Parse.{readOne, readTextures, readBrushes, readRoot, readBody};
+ghost use Rattle.b3d_bodies.specs.Tally.{bytesTally, texsTally, forestTally, plus, Within};
+ghost use Rattle.b3d_bodies.specs.Answers.{Judges};
+ghost use Rattle.b3d_judge.specs.States.{reached, restIn, readLast, readRest, readChunks};
+ghost use Rattle.b3d_judge.specs.Answers.{Among, Phases, Brushes, Rests, Walks};
+use crate::Above;
+use crate::Brushed;
+use crate::Phase;
+use crate::Summary;
+use crate::Verdict;
+use crate::nodes;
+use b3d_bodies::Judged;
+use b3d_bodies::Slotted;
+use b3d_bodies::Tally;
+use b3d_bodies::rows;
+use b3d_chunks::Next;
+use b3d_scene::Tag;
+use wire::Cursor;
+use wire::Number;
+
+// The textures, if TEXS comes first.
+fn judge_texs(s: &[u8], from: Cursor) -> Phase
+    requires { ⌜ Among 0 from (length (now s)) ⌝ }
+    ensures { λ r. ⌜ Phases texsTally (readOne TEXS [] readTextures (restIn (now (s .entry)) BB3D 0 start from)) (restIn (now (s .entry)) BB3D 0 (reached 1 true)) from r ⌝ }
+{
+    match b3d_chunks::next_chunk(s, from) {
+        Next::Done => Phase::To(rows::none(), from),
+        Next::Cut(p) => Phase::Not(3, p),
+        Next::Chunk {
+            tag,
+            at,
+            body,
+            next,
+        } => match tag {
+            Tag::TEXS => match b3d_bodies::judge_textures(s, at, body) {
+                Judged::Bad(e, p) => Phase::Not(e, p),
+                Judged::Good(t) => Phase::To(t, next),
+            },
+            Tag::BRUS | Tag::NODE => Phase::To(rows::none(), from),
+            _ => Phase::Not(4, at),
+        },
+    }
+}
+
+// The brushes, if BRUS comes first.
+fn judge_brus(s: &[u8], from: Cursor, textures: usize) -> Brushed
+    requires { ⌜ Among 0 from (length (now s)) ⌝ }
+    ensures { λ r. ⌜ Brushes (readOne BRUS (0, []) (readBrushes textures) (restIn (now (s .entry)) BB3D 0 (reached 1 true) from)) (restIn (now (s .entry)) BB3D 0 (reached 2 true)) from r ⌝ }
+{
+    match b3d_chunks::next_chunk(s, from) {
+        Next::Done => Brushed::To(0, rows::none(), from),
+        Next::Cut(p) => Brushed::Not(3, p),
+        Next::Chunk {
+            tag,
+            at,
+            body,
+            next,
+        } => match tag {
+            Tag::BRUS => match b3d_bodies::judge_brushes(s, at, body, textures) {
+                Slotted::Not(e, p) => Brushed::Not(e, p),
+                Slotted::Is(slots, t) => Brushed::To(slots, t, next),
+            },
+            Tag::NODE => Brushed::To(0, rows::none(), from),
+            _ => Brushed::Not(4, at),
+        },
+    }
+}
+
+// The nodes, if NODE comes first.
+fn judge_root(s: &[u8], from: Cursor, brushes: usize) -> Phase
+    requires { ⌜ Among 0 from (length (now s)) ⌝ }
+    ensures { λ r. ⌜ Phases forestTally (readOne NODE leaf (readRoot brushes) (restIn (now (s .entry)) BB3D 0 (reached 2 true) from)) (restIn (now (s .entry)) BB3D 0 (reached 3 true)) from r ⌝ }
+{
+    match b3d_chunks::next_chunk(s, from) {
+        Next::Done => Phase::To(rows::none(), from),
+        Next::Cut(p) => Phase::Not(3, p),
+        Next::Chunk {
+            tag,
+            at,
+            body,
+            next,
+        } => match tag {
+            Tag::NODE => match nodes::judge_node(s, at, body, 16, brushes, Above::Root) {
+                Judged::Bad(e, p) => Phase::Not(e, p),
+                Judged::Good(t) => Phase::To(t, next),
+            },
+            _ => Phase::Not(4, at),
+        },
+    }
+}
+
+// The nodes, if NODE comes first, and nothing known after it.
+fn judge_last(s: &[u8], from: Cursor, brushes: usize) -> Judged
+    requires { ⌜ Among 0 from (length (now s)) ⌝ }
+    ensures { λ r. ⌜ Judges forestTally (readLast brushes (restIn (now (s .entry)) BB3D 0 (reached 2 true) from)) (from .at) (from .end) r ⌝ }
+{
+    match judge_root(s, from, brushes) {
+        Phase::Not(e, p) => Judged::Bad(e, p),
+        Phase::To(t, end) => match b3d_chunks::next_chunk(s, end) {
+            Next::Done => Judged::Good(t),
+            Next::Cut(p) => Judged::Bad(3, p),
+            Next::Chunk {
+                tag: _,
+                at,
+                body: _,
+                next: _,
+            } => Judged::Bad(4, at),
+        },
+    }
+}
+
+// BRUS and NODE.
+fn judge_rest(s: &[u8], from: Cursor, textures: usize) -> Slotted
+    requires { ⌜ Among 0 from (length (now s)) ⌝ }
+    ensures { λ r. ⌜ Rests (readRest textures (restIn (now (s .entry)) BB3D 0 (reached 1 true) from)) (from .at) (from .end) r ⌝ }
+{
+    match judge_brus(s, from, textures) {
+        Brushed::Not(e, p) => Slotted::Not(e, p),
+        Brushed::To(slots, b, c) => match judge_last(s, c, b.brushes) {
+            Judged::Bad(e, p) => Slotted::Not(e, p),
+            Judged::Good(f) => Slotted::Is(slots, rows::plus(b, f)),
+        },
+    }
+}
+
+// The rows of a file: its header and version, its textures, the rest.
+fn file_rows(textures: Tally, rest: Tally) -> Tally
+    requires { ⌜ Within textures mostBytes × Within (plus (bytesTally 12) textures) mostBytes × Within rest mostBytes ⌝ }
+    ensures { λ r. ⌜ r ≡ plus (plus (bytesTally 12) textures) rest ⌝ }
+{
+    rows::plus(rows::plus(rows::bytes(12), textures), rest)
+}
+
+// TEXS, BRUS and NODE.
+fn judge_chunks(s: &[u8], version: u32, from: Cursor) -> Verdict
+    requires { ⌜ Among 0 from (length (now s)) × (from .at ≡ 12) ⌝ }
+    ensures { λ r. ⌜ Walks (readChunks version (restIn (now (s .entry)) BB3D 0 start from)) (from .end) r ⌝ }
+{
+    match judge_texs(s, from) {
+        Phase::Not(e, p) => Verdict::Bad(e, p),
+        Phase::To(t, c) => match judge_rest(s, c, t.textures) {
+            Slotted::Not(e, p) => Verdict::Bad(e, p),
+            Slotted::Is(slots, r) => Verdict::Good(Summary {
+                version,
+                n_texs: slots,
+                tally: file_rows(t, r),
+            }),
+        },
+    }
+}
+
+// All that follows the header of a file.
+pub fn judge_body(s: &[u8]) -> Verdict
+    requires { ⌜ (8 ≤ length (now s)) × (length (now s) ≤ mostBytes) ⌝ }
+    ensures { λ r. ⌜ Walks (readBody 8 (drop 8 (now (s .entry)))) (length (now (s .entry))) r ⌝ }
+{
+    let behind = Cursor {
+        at: 8,
+        end: s.len(),
+    };
+    match behind.number(s) {
+        Number::Cut => Verdict::Bad(5, 8),
+        Number::Is(version, c) => {
+            if 99 < version {
+                return Verdict::Bad(6, 8);
+            }
+            judge_chunks(s, version, c)
+        }
+    }
+}

@@ -1,0 +1,123 @@
+// A MESH: its brush, its VRTS, its TRIS.
+ghost use mathlib.Core.Path.{_≡_};
+ghost use mathlib.Core.Bool.{true};
+ghost use Prim.Native.Nat.{ℕ, _+_, _≤_};
+ghost use lib.ListN.{length};
+ghost use Rattle.wire.specs.Cursors.{left};
+ghost use Rattle.b3d_scene.specs.declared.Tag.the-variants.{MESH};
+ghost use Rattle.b3d_scene.specs.Parse.{readVertices, readSets, readMesh};
+ghost use Rattle.b3d_scene.specs.Rules.{mostBytes};
+ghost use Rattle.b3d_bodies.specs.Tally.{plus, setsTally, verticesTally, Within};
+ghost use Rattle.b3d_bodies.specs.Answers.{Body, Judges};
+ghost use Rattle.b3d_scene.specs.Nesting.{start};
+ghost use Rattle.b3d_judge.specs.States.{reached, restIn, readAfter, readInside};
+ghost use Rattle.b3d_judge.specs.Answers.{Among, Meshes};
+use crate::Meshed;
+use b3d_bodies::Judged;
+use b3d_bodies::Shaped;
+use b3d_bodies::Tally;
+use b3d_bodies::rows;
+use b3d_chunks::Next;
+use b3d_scene::Tag;
+use wire::Cursor;
+use wire::Number;
+
+// The TRIS chunks of a mesh whose header is at `at`, with so many vertices: one or more.
+pub fn judge_sets(s: &[u8], at: usize, from: Cursor, brushes: usize, vertices: usize) -> Judged
+    requires { ⌜ Among at from (length (now s)) ⌝ }
+    ensures { λ r. ⌜ Judges setsTally (readSets brushes vertices (restIn (now (s .entry)) MESH at (reached 1 true) from)) (from .at) (from .end) r ⌝ }
+{
+    let mut c = from;
+    let mut m = rows::none();
+    let mut some = false;
+    loop {
+        match b3d_chunks::next_chunk(s, c) {
+            Next::Done => {
+                if some {
+                    return Judged::Good(m);
+                }
+                return Judged::Bad(8, at);
+            }
+            Next::Cut(p) => {
+                return Judged::Bad(3, p);
+            }
+            Next::Chunk {
+                tag,
+                at: p,
+                body,
+                next,
+            } => match tag {
+                Tag::TRIS => match b3d_bodies::judge_triangles(s, p, body, brushes, vertices) {
+                    Judged::Bad(e, q) => {
+                        return Judged::Bad(e, q);
+                    }
+                    Judged::Good(t) => {
+                        m = rows::plus(m, t);
+                        some = true;
+                        c = next;
+                    }
+                },
+                _ => {
+                    return Judged::Bad(4, p);
+                }
+            },
+        }
+    }
+}
+
+// The rows of a mesh of n vertices of so many words each, and of its TRIS.
+fn mesh_rows(n: usize, words: usize, sets: Tally) -> Tally
+    requires { ⌜ (n ≤ mostBytes) × (words ≤ 42) × Within (verticesTally n words) mostBytes × Within sets mostBytes ⌝ }
+    ensures { λ r. ⌜ r ≡ plus (verticesTally n words) sets ⌝ }
+{
+    rows::plus(rows::vertices(n, words), sets)
+}
+
+// A VRTS whose header is at p, and the TRIS after it, of a mesh whose header is at `at`.
+fn judge_shape(s: &[u8], at: usize, p: usize, body: Cursor, next: Cursor, brushes: usize) -> Meshed
+    requires { ⌜ Body p body (length (now s)) × Among at next (length (now s)) × (at + 12 ≤ p) × (body .end ≡ next .at) ⌝ }
+    ensures { λ r. ⌜ Meshes (readAfter brushes 0 (readVertices p (left body (now (s .entry)))) (restIn (now (s .entry)) MESH at (reached 1 true) next)) at (next .end) r ⌝ }
+{
+    match b3d_bodies::judge_vertices(s, p, body) {
+        Shaped::Not(e, q) => Meshed::Not(e, q),
+        Shaped::Is(n, words) => match judge_sets(s, at, next, brushes, n) {
+            Judged::Bad(e, q) => Meshed::Not(e, q),
+            Judged::Good(t) => Meshed::Is(n, mesh_rows(n, words, t)),
+        },
+    }
+}
+
+// The VRTS of a mesh and its TRIS, from the first chunk on.
+fn judge_inside(s: &[u8], at: usize, from: Cursor, brushes: usize) -> Meshed
+    requires { ⌜ Among at from (length (now s)) × (at + 12 ≤ from .at) ⌝ }
+    ensures { λ r. ⌜ Meshes (readInside brushes 0 (restIn (now (s .entry)) MESH at start from)) at (from .end) r ⌝ }
+{
+    match b3d_chunks::next_chunk(s, from) {
+        Next::Done => Meshed::Not(8, at),
+        Next::Cut(p) => Meshed::Not(3, p),
+        Next::Chunk {
+            tag,
+            at: p,
+            body,
+            next,
+        } => match tag {
+            Tag::VRTS => judge_shape(s, at, p, body, next, brushes),
+            _ => Meshed::Not(4, p),
+        },
+    }
+}
+
+pub fn judge_mesh(s: &[u8], at: usize, body: Cursor, brushes: usize) -> Meshed
+    requires { ⌜ Body at body (length (now s)) ⌝ }
+    ensures { λ r. ⌜ Meshes (readMesh brushes at (left body (now (s .entry)))) at (body .end) r ⌝ }
+{
+    match body.number(s) {
+        Number::Cut => Meshed::Not(5, body.at),
+        Number::Is(brush, c) => {
+            if !b3d_bodies::brush_named(brush, brushes) {
+                return Meshed::Not(7, body.at);
+            }
+            judge_inside(s, at, c, brushes)
+        }
+    }
+}

@@ -1,0 +1,248 @@
+// A NODE: its name and place, its kind, its keys and animation, and the nodes below it.
+ghost use mathlib.Core.Path.{_≡_};
+ghost use mathlib.Core.Bool.{true, false};
+ghost use Prim.Native.Nat.{ℕ, _+_, _*_, _≤_};
+ghost use lib.ListN.{length};
+ghost use Rattle.wire.specs.Cursors.{left};
+ghost use Rattle.b3d_scene.specs.declared.Tag.the-variants.{NODE};
+ghost use Rattle.b3d_scene.specs.Scene.{still};
+ghost use Rattle.b3d_scene.specs.Rules.{boneVertices, mostBytes};
+ghost use Rattle.b3d_scene.specs.Nesting.{start};
+ghost use Rattle.b3d_scene.specs.Parse.{readKind, readMoves, readNodes, readNode};
+ghost use Rattle.b3d_bodies.specs.Tally.{plus, headTally, animTally, movesTally, forestTally, innerTally, Within};
+ghost use Rattle.b3d_bodies.specs.Answers.{Body, Judges};
+ghost use Rattle.b3d_judge.specs.States.{reached, restIn, animOf, readParts, readOwn, belowBy};
+ghost use Rattle.b3d_judge.specs.Answers.{Among, Kinds, Parted, Phases, Owns, aboveOf};
+use crate::Above;
+use crate::Kinded;
+use crate::Meshed;
+use crate::Owned;
+use crate::Phase;
+use crate::meshes;
+use b3d_bodies::Judged;
+use b3d_bodies::Tally;
+use b3d_bodies::rows;
+use b3d_chunks::Named;
+use b3d_chunks::Next;
+use b3d_scene::Tag;
+use wire::Cursor;
+
+// How many vertices a bone of this node may name.
+pub fn bone_vertices(a: Above) -> usize
+    ensures { λ r. ⌜ r ≡ boneVertices (aboveOf a) ⌝ }
+{
+    match a {
+        Above::Root => 0,
+        Above::Of(n) => n,
+    }
+}
+
+// What a node with so many vertices of its own says to those below.
+pub fn bones_below(a: Above, own: usize) -> Above
+    ensures { λ r. ⌜ aboveOf r ≡ belowBy (aboveOf a) own ⌝ }
+{
+    match a {
+        Above::Root => Above::Of(own),
+        Above::Of(n) => Above::Of(n),
+    }
+}
+
+// A MESH or a BONE, if it comes first.
+pub fn judge_kind(s: &[u8], at: usize, from: Cursor, brushes: usize, bones: usize) -> Kinded
+    requires { ⌜ Among at from (length (now s)) ⌝ }
+    ensures { λ r. ⌜ Kinds (readKind brushes bones (restIn (now (s .entry)) NODE at start from)) (restIn (now (s .entry)) NODE at (reached 2 false)) from r ⌝ }
+{
+    match b3d_chunks::next_chunk(s, from) {
+        Next::Done => Kinded::To(0, rows::none(), from),
+        Next::Cut(p) => Kinded::Not(3, p),
+        Next::Chunk {
+            tag,
+            at: p,
+            body,
+            next,
+        } => match tag {
+            Tag::MESH => match meshes::judge_mesh(s, p, body, brushes) {
+                Meshed::Not(e, q) => Kinded::Not(e, q),
+                Meshed::Is(own, t) => Kinded::To(own, t, next),
+            },
+            Tag::BONE => match b3d_bodies::judge_bone(s, p, body, bones) {
+                Judged::Bad(e, q) => Kinded::Not(e, q),
+                Judged::Good(t) => Kinded::To(0, t, next),
+            },
+            Tag::NODE | Tag::KEYS | Tag::ANIM => Kinded::To(0, rows::none(), from),
+            _ => Kinded::Not(4, p),
+        },
+    }
+}
+
+// The tally of keys, with an ANIM where one was seen.
+fn with_anim(m: Tally, seen: bool) -> Tally
+    requires { ⌜ Within m mostBytes ⌝ }
+    ensures { λ r. ⌜ r ≡ plus m (animTally (animOf seen)) ⌝ }
+{
+    if seen {
+        return rows::plus(m, rows::bytes(20));
+    }
+    rows::plus(m, rows::none())
+}
+
+// KEYS and ANIM, in any mix, up to the first NODE.
+pub fn judge_moves(s: &[u8], at: usize, from: Cursor) -> Phase
+    requires { ⌜ Among at from (length (now s)) ⌝ }
+    ensures { λ r. ⌜ Phases movesTally (readMoves still (restIn (now (s .entry)) NODE at (reached 2 false) from)) (restIn (now (s .entry)) NODE at (reached 3 false)) from r ⌝ }
+{
+    let mut c = from;
+    let mut m = rows::none();
+    let mut seen = false;
+    loop {
+        match b3d_chunks::next_chunk(s, c) {
+            Next::Done => {
+                return Phase::To(with_anim(m, seen), c);
+            }
+            Next::Cut(p) => {
+                return Phase::Not(3, p);
+            }
+            Next::Chunk {
+                tag,
+                at: p,
+                body,
+                next,
+            } => match tag {
+                Tag::NODE => {
+                    return Phase::To(with_anim(m, seen), c);
+                }
+                Tag::KEYS => match b3d_bodies::judge_keys(s, p, body) {
+                    Judged::Bad(e, q) => {
+                        return Phase::Not(e, q);
+                    }
+                    Judged::Good(t) => {
+                        m = rows::plus(m, t);
+                        c = next;
+                    }
+                },
+                Tag::ANIM => {
+                    if seen {
+                        return Phase::Not(4, p);
+                    }
+                    if body.end - body.at != 12 {
+                        return Phase::Not(5, body.at);
+                    }
+                    seen = true;
+                    c = next;
+                }
+                _ => {
+                    return Phase::Not(4, p);
+                }
+            },
+        }
+    }
+}
+
+// The rows of a node without those below it: its NODE, its kind, its KEYS and ANIM.
+fn own_rows(kind: Tally, moves: Tally) -> Tally
+    requires { ⌜ Within kind mostBytes × Within (plus headTally kind) mostBytes × Within moves mostBytes ⌝ }
+    ensures { λ r. ⌜ r ≡ plus (plus headTally kind) moves ⌝ }
+{
+    rows::plus(rows::plus(rows::head(), kind), moves)
+}
+
+// The chunks inside a NODE up to the nodes below it.
+pub fn judge_parts(s: &[u8], at: usize, from: Cursor, brushes: usize, bones: usize) -> Kinded
+    requires { ⌜ Among at from (length (now s)) × (at + 49 ≤ from .at) ⌝ }
+    ensures { λ r. ⌜ Parted (readParts brushes bones (restIn (now (s .entry)) NODE at start from)) (restIn (now (s .entry)) NODE at (reached 3 false)) at from r ⌝ }
+{
+    match judge_kind(s, at, from, brushes, bones) {
+        Kinded::Not(e, q) => Kinded::Not(e, q),
+        Kinded::To(own, k, c) => match judge_moves(s, at, c) {
+            Phase::Not(e, q) => Kinded::Not(e, q),
+            Phase::To(m, d) => Kinded::To(own, own_rows(k, m), d),
+        },
+    }
+}
+
+// A NODE whose header is at `at`, without the nodes below it.
+pub fn judge_own(s: &[u8], at: usize, body: Cursor, brushes: usize, above: Above) -> Owned
+    requires { ⌜ Body at body (length (now s)) ⌝ }
+    ensures { λ r. ⌜ Owns (aboveOf above) (readOwn brushes (aboveOf above) at (left body (now (s .entry)))) (restIn (now (s .entry)) NODE at (reached 3 false)) at body r ⌝ }
+{
+    match b3d_chunks::named_row(s, body, 10) {
+        Named::Cut => Owned::Not(5, body.at),
+        Named::Is {
+            length: _,
+            row: _,
+            next,
+        } => match judge_parts(s, at, next, brushes, bone_vertices(above)) {
+            Kinded::Not(e, q) => Owned::Not(e, q),
+            Kinded::To(own, t, c) => Owned::To(bones_below(above, own), t, c),
+        },
+    }
+}
+
+// A NODE whose header is at `at`, with so many levels left.
+pub fn judge_node(
+    s: &[u8],
+    at: usize,
+    body: Cursor,
+    levels: u32,
+    brushes: usize,
+    above: Above,
+) -> Judged
+    requires { ⌜ Body at body (length (now s)) ⌝ }
+    ensures { λ r. ⌜ Judges innerTally (readNode levels brushes (aboveOf above) at (left body (now (s .entry)))) at (body .end) r ⌝ }
+{
+    if levels == 0 {
+        return Judged::Bad(9, at);
+    }
+    match judge_own(s, at, body, brushes, above) {
+        Owned::Not(e, p) => Judged::Bad(e, p),
+        Owned::To(below, t, c) => match judge_nodes(s, at, c, levels - 1, brushes, below) {
+            Judged::Bad(e, p) => Judged::Bad(e, p),
+            Judged::Good(f) => Judged::Good(rows::plus(t, f)),
+        },
+    }
+}
+
+// The nodes inside a node whose header is at `at`, with so many levels left.
+pub fn judge_nodes(
+    s: &[u8],
+    at: usize,
+    from: Cursor,
+    levels: u32,
+    brushes: usize,
+    above: Above,
+) -> Judged
+    requires { ⌜ Among at from (length (now s)) ⌝ }
+    ensures { λ r. ⌜ Judges forestTally (readNodes (readNode levels brushes (aboveOf above)) (restIn (now (s .entry)) NODE at (reached 3 false) from)) (from .at) (from .end) r ⌝ }
+{
+    let mut c = from;
+    let mut m = rows::none();
+    loop {
+        match b3d_chunks::next_chunk(s, c) {
+            Next::Done => {
+                return Judged::Good(m);
+            }
+            Next::Cut(p) => {
+                return Judged::Bad(3, p);
+            }
+            Next::Chunk {
+                tag,
+                at: p,
+                body,
+                next,
+            } => match tag {
+                Tag::NODE => match judge_node(s, p, body, levels, brushes, above) {
+                    Judged::Bad(e, q) => {
+                        return Judged::Bad(e, q);
+                    }
+                    Judged::Good(t) => {
+                        m = rows::plus(m, t);
+                        c = next;
+                    }
+                },
+                _ => {
+                    return Judged::Bad(4, p);
+                }
+            },
+        }
+    }
+}

@@ -1,0 +1,2 @@
+-- Rows in a table.
+pub mod Puts

@@ -1,0 +1,71 @@
+-- The running counts after a node, from cells alone, as code has them.
+use Prim.Native.Nat.{ℕ, _+_}
+use mathlib.Core.List.{List, [], _∷_}
+use lib.ListN.{length, take, drop, getD}
+use lib.Dec.{eqb}
+use Rattle.wire.specs.Test.{if}
+use Rattle.b3d_scene.specs.Rebuild.{mine, Rows}
+use Rattle.b3d_scene.specs.declared.Counts.{Counts}
+
+-- a count after rows that have in cell 3 how many more there are
+unfoldable pub endOf : ℕ → List (List ℕ) → ℕ
+endOf r [] = r
+endOf r (x ∷ xs) = endOf (r + getD x 3 0) xs
+
+-- after a mesh with row x, its set rows being the first of ss
+unfoldable pub meshCounts : List ℕ → List (List ℕ) → Counts → Counts
+meshCounts x ss n =
+    record {
+      nodes = n .nodes;
+      meshes = n .meshes + 1;
+      vertices = n .vertices + getD x 6 0;
+      sets = n .sets + getD x 8 0;
+      triangles = endOf (n .triangles) (take (getD x 8 0) ss);
+      weights = n .weights;
+      lists = n .lists;
+      keys = n .keys;
+    }
+
+-- after c weights
+unfoldable pub weightCounts : ℕ → Counts → Counts
+weightCounts c n =
+    record {
+      nodes = n .nodes;
+      meshes = n .meshes;
+      vertices = n .vertices;
+      sets = n .sets;
+      triangles = n .triangles;
+      weights = n .weights + c;
+      lists = n .lists;
+      keys = n .keys;
+    }
+
+-- after what kind, first and count in y say
+unfoldable pub kindCounts : Rows → Counts → List ℕ → Counts
+kindCounts R n y =
+    if (eqb (getD y 0 0) 1) (meshCounts (getD (drop (n .meshes) (R 4)) 0 []) (drop (n .sets) (R 6)) n)
+    (if (eqb (getD y 0 0) 2) (weightCounts (getD y 2 0) n) n)
+
+-- the vertices of the mesh that kind, first and count in y say; 0 where there is none
+unfoldable pub cellVertices : Rows → Counts → List ℕ → ℕ
+cellVertices R n y = if (eqb (getD y 0 0) 1) (getD (getD (drop (n .meshes) (R 4)) 0 []) 6 0) 0
+
+-- one node more, its key lists and keys being counted to l and k
+unfoldable pub nodeCounts : ℕ → ℕ → Counts → Counts
+nodeCounts l k n =
+    record {
+      nodes = n .nodes + 1;
+      meshes = n .meshes;
+      vertices = n .vertices;
+      sets = n .sets;
+      triangles = n .triangles;
+      weights = n .weights;
+      lists = l;
+      keys = k;
+    }
+
+-- after node row x: its kind, its key lists
+unfoldable pub cellCounts : Rows → List ℕ → Counts → Counts
+cellCounts R x n =
+    let ls = mine (n .nodes) (drop (n .lists) (R 9)) in
+    nodeCounts (n .lists + length ls) (endOf (n .keys) ls) (kindCounts R n (drop 13 x))
