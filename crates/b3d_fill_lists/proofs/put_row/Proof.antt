@@ -1,0 +1,17 @@
+-- `put_row` stores a row: the cells of a name, words of the file, cells that name nothing.
+use borrow.Author.Needs.{needs}
+use Rattle.b3d_fill_lists.proofs.Stores.{row-put}
+use Rattle.b3d_fill_lists.proofs.put_row.Statement.{statement}
+use Rattle.b3d_fill_lists.proofs.put_row.Tie as tie
+
+pub put-row-spec : {M : Type 1} → statement M
+put-row-spec =
+    tie.close
+    (tie.spec
+    (λ c κs. search needs)
+    (λ c. search needs)
+    (λ c. search needs)
+    (λ c κs. search needs)
+    (λ c. search needs)
+    (λ c. search needs)
+    (λ c. search (row-put, needs)))

@@ -1,0 +1,2 @@
+-- Texts with words, and the rows that they make.
+pub mod Named

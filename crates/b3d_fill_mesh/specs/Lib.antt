@@ -1,0 +1,2 @@
+-- The rows of the parts of a MESH.
+pub mod Parts

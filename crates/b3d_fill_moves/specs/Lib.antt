@@ -1,0 +1,2 @@
+-- The rows of key lists.
+pub mod Moves

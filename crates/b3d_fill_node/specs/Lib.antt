@@ -1,0 +1,2 @@
+-- The cells of a node's row.
+pub mod Cells

@@ -1,0 +1,3 @@
+-- Rows of what a node has.
+pub mod Own
+pub mod Parts
