@@ -1,0 +1,3 @@
+-- The laws of the running counts.
+pub mod BeforeLaws
+pub mod CountLaws

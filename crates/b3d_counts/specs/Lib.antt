@@ -1,0 +1,2 @@
+-- The running counts of the walk over the nodes.
+pub mod Counting
