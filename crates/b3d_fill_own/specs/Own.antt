@@ -17,7 +17,7 @@ kindRows which n x = if (eqb which 8) (weightsOf (x .value)) (meshRows which (me
 unfoldable pub ownRowsOf : ℕ → ℕ → Counts → Found Data → List (List ℕ)
 ownRowsOf which parent n x = ownRows which (x .value) parent n
 
--- counts that fit a cell, with room for one more table
+-- counts that a file can have: each fits a cell
 pub record Small (n : Counts) : Type 0 where
   pub nodes : n .nodes ≤ mostBytes
   pub meshes : n .meshes ≤ mostBytes
