@@ -1,8 +1,8 @@
 // The running counts of the walk over the nodes: how many rows of each table came before.
 ghost use mathlib.Core.Path.{_≡_};
-ghost use Prim.Native.Nat.{ℕ, _≤_};
+ghost use Prim.Native.Nat.{ℕ, _*_, _≤_};
 ghost use Rattle.b3d_scene.specs.Rules.{mostBytes};
-ghost use Rattle.b3d_scene.specs.Tables.{reached};
+ghost use Rattle.b3d_scene.specs.Tables.{width, reached};
 ghost use Rattle.b3d_bodies.specs.Tally.{Within};
 ghost use Rattle.b3d_fill_own.specs.Own.{Small};
 ghost use Rattle.b3d_counts.specs.Counting.{countsWith};
@@ -26,31 +26,31 @@ pub fn counts_with(n: Counts, t: Tally) -> Counts
     }
 }
 
-// How many rows of a table came before.
-pub fn rows_before(which: u32, n: Counts) -> usize
-    requires { ⌜ (3 ≤ which) × (which ≤ 10) ⌝ }
-    ensures { λ r. ⌜ r ≡ reached which n ⌝ }
+// How many words of a table the rows that came before take.
+pub fn words_before(which: u32, n: Counts) -> usize
+    requires { ⌜ Small n × (3 ≤ which) × (which ≤ 10) ⌝ }
+    ensures { λ r. ⌜ r ≡ width which * reached which n ⌝ }
 {
     if which == 3 {
-        return n.nodes;
+        return 20 * n.nodes;
     }
     if which == 4 {
-        return n.meshes;
+        return 9 * n.meshes;
     }
     if which == 5 {
-        return n.vertices;
+        return 42 * n.vertices;
     }
     if which == 6 {
-        return n.sets;
+        return 4 * n.sets;
     }
     if which == 7 {
-        return n.triangles;
+        return 3 * n.triangles;
     }
     if which == 8 {
-        return n.weights;
+        return 2 * n.weights;
     }
     if which == 9 {
-        return n.lists;
+        return 4 * n.lists;
     }
-    n.keys
+    11 * n.keys
 }

@@ -46,7 +46,7 @@ use Rattle.b3d_judge.proofs.Rests.{rest-chunk, rest-cut, rest-done}
 
 -- ---- what the answers say
 
-texs-count : (l : List Texture) → (texsTally l) .textures ≡ length l
+pub texs-count : (l : List Texture) → (texsTally l) .textures ≡ length l
 unfolding texsTally texsOf noTally
 texs-count l = go (length l)
   where
@@ -54,7 +54,7 @@ texs-count l = go (length l)
     go zero = refl
     go (suc n) = refl
 
-brus-count : (slots : ℕ) (l : List Brush) → (brusTally slots l) .brushes ≡ length l
+pub brus-count : (slots : ℕ) (l : List Brush) → (brusTally slots l) .brushes ≡ length l
 unfolding brusTally brusOf noTally
 brus-count slots l = go (length l)
   where
@@ -62,24 +62,24 @@ brus-count slots l = go (length l)
     go zero = refl
     go (suc n) = refl
 
-brushes-bad : (o : Out (Found (ℕ × List Brush))) (e q : ℕ) → bad e q ≡ brushes o → o ≡ bad e q
+pub brushes-bad : (o : Out (Found (ℕ × List Brush))) (e q : ℕ) → bad e q ≡ brushes o → o ≡ bad e q
 brushes-bad (got x) e q h = let z : _≡_ {A = ℕ} 0 1 = cc in absurd (omega arith)
 brushes-bad (bad n p) e q h = cc
 
-record GaveBrushes (o : Out (Found (ℕ × List Brush))) (k : ℕ) (t : Tally) (rest : Chunks) : Type 0 where
-  value : ℕ × List Brush
-  is : o ≡ got (record { value = value; rest = rest })
-  slots : k ≡ slotsOf (value .0) (value .1)
-  has : t ≡ brusTally (slotsOf (value .0) (value .1)) (value .1)
+pub record GaveBrushes (o : Out (Found (ℕ × List Brush))) (k : ℕ) (t : Tally) (rest : Chunks) : Type 0 where
+  pub value : ℕ × List Brush
+  pub is : o ≡ got (record { value = value; rest = rest })
+  pub slots : k ≡ slotsOf (value .0) (value .1)
+  pub has : t ≡ brusTally (slotsOf (value .0) (value .1)) (value .1)
 
-brushes-good : (o : Out (Found (ℕ × List Brush))) (k : ℕ) (t : Tally) (rest : Chunks) → got (k, t, rest) ≡ brushes o → GaveBrushes o k t rest
+pub brushes-good : (o : Out (Found (ℕ × List Brush))) (k : ℕ) (t : Tally) (rest : Chunks) → got (k, t, rest) ≡ brushes o → GaveBrushes o k t rest
 brushes-good (got x) k t rest h =
     let n = slotsOf (x .value .0) (x .value .1) in
     let e : _≡_ {A = ℕ × Tally × Chunks} (k, t, rest) (n, brusTally n (x .value .1), x .rest) = got-inj h in
     record { value = x .value; is = λ i. got (record { value = x .value; rest = sym e i .2 }); slots = ap (λ (z : ℕ × Tally × Chunks). z .0) e; has = ap (λ (z : ℕ × Tally × Chunks). z .1) e }
 brushes-good (bad n p) k t rest h = let z : _≡_ {A = ℕ} 0 1 = cc in absurd (omega arith)
 
-brushes-at : (o : Out (Found (ℕ × List Brush))) (rest : Cursor → Chunks) (from : Cursor) (k : Brushed) → Brushes o rest from k → {x : Brushed} → k ≡ x → brushedBy rest x ≡ brushes o
+pub brushes-at : (o : Out (Found (ℕ × List Brush))) (rest : Cursor → Chunks) (from : Cursor) (k : Brushed) → Brushes o rest from k → {x : Brushed} → k ≡ x → brushedBy rest x ≡ brushes o
 brushes-at o rest from k h z = subst (λ (x : Brushed). brushedBy rest x ≡ brushes o) z (h .is)
 
 rested-bad : (o : Out ((ℕ × List Brush) × Forest)) (e q : ℕ) → rested o ≡ slotted.Not e q → o ≡ bad e q
@@ -185,7 +185,7 @@ module _ (s : List ℕ) (c : Cursor) (g : Among 0 c (length s)) (textures : ℕ)
     brus-on : Onward c d b
     brus-on = subst (BrushedIn c) y (hk .within)
 
-    gave-brus : GaveBrushes (readOne BRUS (0, []) (readBrushes textures) (restIn s BB3D 0 (reached 1 true) c)) slots b (restIn s BB3D 0 (reached 2 true) d)
+    pub gave-brus : GaveBrushes (readOne BRUS (0, []) (readBrushes textures) (restIn s BB3D 0 (reached 1 true) c)) slots b (restIn s BB3D 0 (reached 2 true) d)
     gave-brus = brushes-good (readOne BRUS (0, []) (readBrushes textures) (restIn s BB3D 0 (reached 1 true) c)) slots b (restIn s BB3D 0 (reached 2 true) d) (brushes-at (readOne BRUS (0, []) (readBrushes textures) (restIn s BB3D 0 (reached 1 true) c)) (restIn s BB3D 0 (reached 2 true)) c k hk y)
 
     pub rest-among : Among 0 d (length s)
@@ -268,7 +268,7 @@ module _ (s : List ℕ) (v : ℕ) (from : Cursor) (g : Among 0 from (length s)) 
     texs-on : Onward from c t
     texs-on = subst (PhasedIn from) z (hj .within)
 
-    gave-texs : GaveFound texsTally (readOne TEXS [] readTextures (restIn s BB3D 0 start from)) t (restIn s BB3D 0 (reached 1 true) c)
+    pub gave-texs : GaveFound texsTally (readOne TEXS [] readTextures (restIn s BB3D 0 start from)) t (restIn s BB3D 0 (reached 1 true) c)
     gave-texs = tallied-good texsTally (readOne TEXS [] readTextures (restIn s BB3D 0 start from)) t (restIn s BB3D 0 (reached 1 true) c) (phases-at texsTally (readOne TEXS [] readTextures (restIn s BB3D 0 start from)) (restIn s BB3D 0 (reached 1 true)) from j hj z)
 
     pub chunks-among : Among 0 c (length s)

@@ -46,7 +46,7 @@ use Rattle.b3d_judge.proofs.Totals.{total}
 abbrev pub behind : List ℕ → Cursor
 behind s = record { at = 8; end = length s }
 
-left-behind : (s : List ℕ) → left (behind s) s ≡ drop 8 s
+pub left-behind : (s : List ℕ) → left (behind s) s ≡ drop 8 s
 unfolding left
 left-behind s = ap (drop 8) (take-all (length s) s (omega arith))
 
@@ -88,7 +88,7 @@ last-made v t u cs =
     ∙ sym (bind-bind (readOne NODE leaf (readRoot (length (u .1))) cs) (λ n. ended (n .rest) (n .value)) (λ f. got (sceneOf v t (slotted u) f)))
     ∙ sym (bind-bind (readLast (length (u .1)) cs) (λ f. got (slotted u, f)) (λ x. got (sceneOf v t (x .0) (x .1))))
 
-regroup : (v : ℕ) (cs : Chunks) → body v cs ≡ readChunks v cs
+pub regroup : (v : ℕ) (cs : Chunks) → body v cs ≡ readChunks v cs
 unfolding readChunks readRest
 regroup v cs =
     bind-cong (readOne TEXS [] readTextures cs) (λ t _.
@@ -162,14 +162,14 @@ positive = (omega arith, (omega arith, (omega arith, (omega arith, (omega arith,
 -- ---- the whole
 
 -- the two words of a file's header, and what follows it
-head-is : (s : List ℕ) → 8 ≤ length s → row header 0 s ≡ got (record { value = wordsOf 2 s; place = 8; left = drop 8 s })
+pub head-is : (s : List ℕ) → 8 ≤ length s → row header 0 s ≡ got (record { value = wordsOf 2 s; place = 8; left = drop 8 s })
 head-is s h = row-any 2 0 s h
 
-first-word : (s : List ℕ) → 8 ≤ length s → getD (wordsOf 2 s) 0 0 ≡ wordAt s 0
+pub first-word : (s : List ℕ) → 8 ≤ length s → getD (wordsOf 2 s) 0 0 ≡ wordAt s 0
 unfolding wordAt
 first-word s h = word-of 2 0 s (omega arith) h
 
-second-word : (s : List ℕ) → 8 ≤ length s → getD (wordsOf 2 s) 1 0 ≡ wordAt s 4
+pub second-word : (s : List ℕ) → 8 ≤ length s → getD (wordsOf 2 s) 1 0 ≡ wordAt s 4
 unfolding wordAt
 second-word s h = word-of 2 1 s (omega arith) h
 

@@ -29,7 +29,7 @@ use wire::Cursor;
 use wire::Number;
 
 // The textures, if TEXS comes first.
-fn judge_texs(s: &[u8], from: Cursor) -> Phase
+pub fn judge_texs(s: &[u8], from: Cursor) -> Phase
     requires { ⌜ Among 0 from (length (now s)) ⌝ }
     ensures { λ r. ⌜ Phases texsTally (readOne TEXS [] readTextures (restIn (now (s .entry)) BB3D 0 start from)) (restIn (now (s .entry)) BB3D 0 (reached 1 true)) from r ⌝ }
 {
@@ -53,7 +53,7 @@ fn judge_texs(s: &[u8], from: Cursor) -> Phase
 }
 
 // The brushes, if BRUS comes first.
-fn judge_brus(s: &[u8], from: Cursor, textures: usize) -> Brushed
+pub fn judge_brus(s: &[u8], from: Cursor, textures: usize) -> Brushed
     requires { ⌜ Among 0 from (length (now s)) ⌝ }
     ensures { λ r. ⌜ Brushes (readOne BRUS (0, []) (readBrushes textures) (restIn (now (s .entry)) BB3D 0 (reached 1 true) from)) (restIn (now (s .entry)) BB3D 0 (reached 2 true)) from r ⌝ }
 {

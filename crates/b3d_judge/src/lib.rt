@@ -83,7 +83,7 @@ fn over_limit(t: Tally) -> usize
 }
 
 // Called for its promise alone: the elements of a slice of bytes are bytes. The result says nothing and is not used.
-fn are_bytes(s: &[u8]) -> bool
+pub fn are_bytes(s: &[u8]) -> bool
     ensures { λ _. ⌜ AllBytes (now (s .entry)) ⌝ }
 {
     if 0 < s.len() {
