@@ -76,7 +76,7 @@ pub fn fill_node(
     requires { ⌜ Fillable alone (readNode levels brushes (aboveOf above) at (left body (now file))) levels brushes (aboveOf above) which n (length (now out)) ⌝ }
     ensures { λ r. ⌜ Filled alone (readNode levels brushes (aboveOf above) at (left body (now (file .entry)))) which parent n (now (out .entry)) (now (out .exit)) r ⌝ }
 {
-    let own = b3d_rows::cell(n.nodes);
+    let itself = b3d_rows::cell(n.nodes);
     let x = fill_self(file, at, body, brushes, above, which, parent, n, out);
     let below = x.above;
     fill_nodes(
@@ -87,7 +87,7 @@ pub fn fill_node(
         brushes,
         below,
         which,
-        own,
+        itself,
         x.counts,
         out,
     )
