@@ -12,7 +12,7 @@ use Rattle.layout.specs.Parts.{Name}
 use Rattle.layout.proofs.Lists.{All, all-map, all-zip, all-append, all-of-map}
 use Rattle.layout.proofs.PlaceLaws.{NameIn}
 use Rattle.b3d_scene.specs.Encode.{encode}
-use Rattle.b3d_scene.specs.Names.{rename, bare, cleared}
+use Rattle.b3d_scene.specs.Names.{rename, bare, cleared, named, unplaced, unnamed, nameOff}
 use Rattle.b3d_scene.specs.Parse.{parse}
 use Rattle.b3d_scene.specs.Rebuild.{Lent, lentRows, nodeNames, names, rebuild}
 use Rattle.b3d_scene.specs.Rules.{rowLimit}
@@ -24,12 +24,12 @@ use Rattle.b3d_scene.proofs.Fitting.{Fit}
 use Rattle.b3d_scene.proofs.Files.NameLaws.{copy-back}
 use Rattle.b3d_scene.proofs.Files.PlaceLaws.{NodeNames, NamesIn, parse-names}
 use Rattle.b3d_scene.proofs.Rows.RebuildLaws.{Holds, rebuild-back, rebuild-fine, held-rows}
-use Rattle.b3d_scene.proofs.Rows.Rename.{named, unplaced, unnamed, nameOff, bare-rows, cleared-rows, bare-same, lentOf, same-cells}
+use Rattle.b3d_scene.proofs.Rows.Rename.{bare-rows, cleared-rows, bare-same, lentOf, same-cells}
 use Rattle.b3d_scene.proofs.Rows.RowParts.{Stands}
 
 -- ---- reader: a file's tables and its own bytes give its scene back
 
-stand : (s : List ℕ) (n : Name) → NameIn s n → Stands s n
+pub stand : (s : List ℕ) (n : Name) → NameIn s n → Stands s n
 stand s n h =
     let e : drop (n .place) s ≡ n .bytes ++ (0 ∷ h .after) = h .stands ∙ append-assoc (n .bytes) (0 ∷ []) (h .after) in
     let l : length (drop (n .place) s) ≡ length (n .bytes) + suc (length (h .after)) = ap length e ∙ length-append (n .bytes) (0 ∷ h .after) in
@@ -40,7 +40,7 @@ unfolding nodeNames
 nodes-in s leaf r h k = k
 nodes-in s (node d f g) r h k = (h .0, nodes-in s f (nodeNames g r) (h .1) (nodes-in s g r (h .2) k))
 
-all-in : (s : List ℕ) (t : Scene) → NamesIn s t → All (NameIn s) (names t)
+pub all-in : (s : List ℕ) (t : Scene) → NamesIn s t → All (NameIn s) (names t)
 unfolding names
 all-in s t h =
     all-append (NameIn s) (map (λ (x : Texture). x .name) (t .textures)) _ (all-of-map (NameIn s) (λ (x : Texture). x .name) (t .textures) (h .textures))
@@ -60,11 +60,11 @@ own-slots : (t : Scene) → (lentOf t) .slots ≡ t .slots
 unfolding lentOf
 own-slots t = refl
 
-bare-version : (t u : Scene) → bare t ≡ bare u → t .version ≡ u .version
+pub bare-version : (t u : Scene) → bare t ≡ bare u → t .version ≡ u .version
 unfolding bare rename
 bare-version t u e = ap (λ (x : Scene). x .version) e
 
-bare-slots : (t u : Scene) → bare t ≡ bare u → t .slots ≡ u .slots
+pub bare-slots : (t u : Scene) → bare t ≡ bare u → t .slots ≡ u .slots
 unfolding bare rename
 bare-slots t u e = ap (λ (x : Scene). x .slots) e
 

@@ -1,5 +1,9 @@
 -- A scene with its names changed: name places left out, or each name empty.
-use mathlib.Core.List.{[], map}
+use Prim.Native.Nat.{ℕ}
+use mathlib.Core.List.{List, [], _∷_, map}
+use lib.ListN.{drop}
+use lib.Dec.{leb}
+use Rattle.wire.specs.Test.{if}
 use Rattle.layout.specs.Parts.{Name}
 use Rattle.b3d_scene.specs.Scene.{Texture, Brush, Data, Forest, leaf, node, Scene}
 
@@ -36,3 +40,20 @@ bare t = rename bareName t
 -- every name empty
 unfoldable pub cleared : Scene → Scene
 cleared t = rename noName t
+
+-- ---- the same in rows
+
+-- table k's rows under g where they begin with a name: in tables 1 to 3
+unfoldable pub named : (List ℕ → List ℕ) → ℕ → List (List ℕ) → List (List ℕ)
+named g k rs = if (leb k 3) (map g rs) rs
+
+-- a row with its name's place 0; with place and length 0
+unfoldable pub unplaced : List ℕ → List ℕ
+unplaced r = 0 ∷ drop 1 r
+
+unfoldable pub unnamed : List ℕ → List ℕ
+unnamed r = 0 ∷ 0 ∷ drop 2 r
+
+-- a row without its name's place and length
+unfoldable pub nameOff : List ℕ → List ℕ
+nameOff r = drop 2 r

@@ -10,7 +10,7 @@ use Rattle.wire.specs.Test.{if}
 use Rattle.layout.specs.Parts.{Name}
 use Rattle.layout.specs.Rules.{NONE}
 use Rattle.layout.proofs.Lists.{All, all-pure, all-map, all-zip, all-append, all-of-map}
-use Rattle.b3d_scene.specs.Names.{renameTexture, renameBrush, renameData, renameForest, rename, bareName, noName, bare, cleared}
+use Rattle.b3d_scene.specs.Names.{renameTexture, renameBrush, renameData, renameForest, rename, bareName, noName, bare, cleared, named, unplaced, unnamed, nameOff}
 use Rattle.b3d_scene.specs.Rebuild.{Lent, cut, lentRows, nodeNames, names}
 use Rattle.b3d_scene.specs.Scene.{Texture, Brush, Data, Forest, leaf, node, Scene}
 use Rattle.b3d_scene.specs.Tables.{width, start, nameCells, textureRow, brushRow, nodeRow, ownRows, withNode, withForest, forestRows, rows, words, table, nodeTables, tables}
@@ -22,10 +22,6 @@ use Rattle.b3d_scene.proofs.Rows.RowParts.{Wide, Stands}
 use Rattle.b3d_scene.proofs.Files.NameLaws.{cleared-fits}
 
 -- ---- rows
-
--- table k's rows under g where they begin with a name: in tables 1 to 3
-unfoldable pub named : (List ℕ → List ℕ) → ℕ → List (List ℕ) → List (List ℕ)
-named g k rs = if (leb k 3) (map g rs) rs
 
 module _ (g : List ℕ → List ℕ) where
   map-append : (a b : List (List ℕ)) → map g (a ++ b) ≡ map g a ++ map g b
@@ -101,13 +97,6 @@ module _ (f : Name → Name) (g : List ℕ → List ℕ) (law : (n : Name) (r : 
   renamed-rows t =
       (map-renamed textureRow (renameTexture f) texture-renamed (t .textures), (map-renamed brushRow (renameBrush f) brush-renamed (t .brushes), forest-renamed (t .nodes) NONE start))
 
--- a row with its name's place 0; with place and length 0
-unfoldable pub unplaced : List ℕ → List ℕ
-unplaced r = 0 ∷ drop 1 r
-
-unfoldable pub unnamed : List ℕ → List ℕ
-unnamed r = 0 ∷ 0 ∷ drop 2 r
-
 pub bare-rows : (t : Scene) → All (λ k. rows k (bare t) ≡ named unplaced k (rows k t)) tables
 unfolding bare unplaced nameCells
 bare-rows t = renamed-rows bareName unplaced (λ n r. refl) t
@@ -170,10 +159,6 @@ same-tables ns t u ft fu ev es st su e =
     sym (together-back ns (lentOf t) t ft (own-version t) (own-slots t) st (own-rows t ft))
     ∙ together-back ns (lentOf t) u fu (own-version t ∙ ev) (own-slots t ∙ es) su
     (all-zip (λ k. lentRows (lentOf t) k ≡ rows k t) (λ k. rows k t ≡ rows k u) (λ k. lentRows (lentOf t) k ≡ rows k u) (λ k a b. a ∙ b) tables (own-rows t ft) e)
-
--- a row without its name's place and length
-unfoldable pub nameOff : List ℕ → List ℕ
-nameOff r = drop 2 r
 
 cleared-version : (t u : Scene) → t .version ≡ u .version → (cleared t) .version ≡ (cleared u) .version
 unfolding cleared rename

@@ -1,0 +1,78 @@
+-- The demands, in the paper's words.
+use mathlib.Core.Path.{_≡_}
+use Prim.Native.Nat.{ℕ, _*_, _≤_, _<_}
+use mathlib.Core.List.{List}
+use lib.ListN.{length, replicate}
+use Rattle.wire.specs.Bytes.{AllBytes, over}
+use Rattle.layout.specs.Out.{got, bad}
+use Rattle.layout.proofs.Lists.{All}
+use Rattle.b3d_scene.specs.Answers.{judge, read, readAnswer, readTable, write, copy, clear}
+use Rattle.b3d_scene.specs.Names.{named, unplaced, unnamed, nameOff}
+use Rattle.b3d_scene.specs.Parse.{parse}
+use Rattle.b3d_scene.specs.Rebuild.{Lent}
+use Rattle.b3d_scene.specs.Rules.{rowLimit}
+use Rattle.b3d_scene.specs.Scene.{Scene}
+use Rattle.b3d_scene.specs.Tables.{width, rows, table, tables, counts}
+use Rattle.b3d_demands.specs.Having.{Has}
+
+-- Demands 1 and 2 on the reader, for a file s and lent tables of `room` words.
+pub record Reading (room : ℕ → ℕ) (s : List ℕ) : Type 0 where
+  -- accepted exactly when the file keeps the layout rules, and fits limits and tables
+  pub keeps : (t : Scene) → read room s ≡ got t → parse s ≡ got t
+  pub few : (t : Scene) → read room s ≡ got t → All (λ k. length (rows k t) ≤ rowLimit) tables
+  pub fits : (t : Scene) → read room s ≡ got t → All (λ k. width k * length (rows k t) ≤ room k) tables
+  pub accepted : (t : Scene) → parse s ≡ got t → All (λ k. length (rows k t) ≤ rowLimit) tables → All (λ k. width k * length (rows k t) ≤ room k) tables → read room s ≡ got t
+  -- the tables then hold its own numbers, and the answer says how many rows
+  pub holds : (t : Scene) → read room s ≡ got t → (k : ℕ) (xs : List ℕ) → readTable k room s xs ≡ over (table k t) xs
+  pub says : (t : Scene) → read room s ≡ got t → readAnswer room s ≡ record { number = 0; place = 0; version = t .version; «n_texs» = t .slots; counts = counts t }
+  -- a refusal has its number and place and changes no lent word
+  pub untouched : (n p : ℕ) → read room s ≡ bad n p → (k : ℕ) (xs : List ℕ) → readTable k room s xs ≡ xs
+  pub refuses : (n p : ℕ) → read room s ≡ bad n p → readAnswer room s ≡ record { number = n; place = p; version = 0; «n_texs» = 0; counts = replicate 10 0 }
+  -- 1 to 10 come first, whatever is lent
+  pub first : (n p : ℕ) → judge s ≡ bad n p → read room s ≡ bad n p
+
+-- Demand 2 on the writer, for lent tables T with names in ns.
+pub record Writing (T : Lent) (ns : List ℕ) : Type 0 where
+  -- refused as unsound exactly when no accepted file has those names and, name places aside, those words
+  pub unsound : (room : ℕ) → write T ns room ≡ bad 12 0 → (s : List ℕ) → AllBytes s → Has s T ns → ⊥
+  pub no-file : ((s : List ℕ) → AllBytes s → Has s T ns → ⊥) → (room : ℕ) → write T ns room ≡ bad 12 0
+  -- the file written is accepted and reads back as just those names and words
+  pub reads-back : (room : ℕ) (b : List ℕ) → write T ns room ≡ got b → Has b T ns
+  pub bytes : (room : ℕ) (b : List ℕ) → write T ns room ≡ got b → AllBytes b
+  -- no file with those tables is shorter
+  pub least : (room : ℕ) (b : List ℕ) → write T ns room ≡ got b → (s : List ℕ) → AllBytes s → Has s T ns → length b ≤ length s
+  -- the same file whatever the room; with less room than it needs 11 and its size, which comes after 12
+  pub enough : (room : ℕ) (b : List ℕ) → write T ns room ≡ got b → (more : ℕ) → length b ≤ more → write T ns more ≡ got b
+  pub short : (room : ℕ) (b : List ℕ) → write T ns room ≡ got b → (less : ℕ) → less < length b → write T ns less ≡ bad 11 (length b)
+  -- given room for a file that has them, they are written
+  pub given-room : (s : List ℕ) → AllBytes s → Has s T ns → (b : List ℕ) × (write T ns (length s) ≡ got b)
+
+-- two accepted files alike in version, texture slots, row counts and every table word but the places and lengths of names
+pub record Alike (s v : List ℕ) : Type 0 where
+  pub one : Scene
+  pub other : Scene
+  pub one-is : judge s ≡ got one
+  pub other-is : judge v ≡ got other
+  pub version : one .version ≡ other .version
+  pub slots : one .slots ≡ other .slots
+  pub cells : All (λ k. named nameOff k (rows k one) ≡ named nameOff k (rows k other)) tables
+
+-- Demand 3 on the clearer, for a file s. Private are: names, passed-over chunks, where ANIM stands among KEYS, TEXS without items, BRUS
+-- without items and its n_texs; the copy depends on none of them.
+pub record Clearing (s : List ℕ) : Type 0 where
+  -- clearing depends on nothing but those words: the same answer and the same copy
+  pub same : (v : List ℕ) → AllBytes v → Alike s v → (room : ℕ) → clear s room ≡ clear v room
+  -- an accepted file is refused exactly when the output is shorter than its copy
+  pub enough : (t : Scene) → judge s ≡ got t → (room : ℕ) → length (copy t) ≤ room → clear s room ≡ got (copy t)
+  pub short : (t : Scene) → judge s ≡ got t → (room : ℕ) → room < length (copy t) → clear s room ≡ bad 11 (length (copy t))
+  -- another file is refused as the reader refuses it
+  pub first : (n p : ℕ) → judge s ≡ bad n p → (room : ℕ) → clear s room ≡ bad n p
+  -- the copy is accepted, and reads back with all those words unchanged and each name empty
+  pub scene : (t : Scene) → judge s ≡ got t → Scene
+  pub accepted : (t : Scene) (e : judge s ≡ got t) → judge (copy t) ≡ got (scene t e)
+  pub version : (t : Scene) (e : judge s ≡ got t) → (scene t e) .version ≡ t .version
+  pub slots : (t : Scene) (e : judge s ≡ got t) → (scene t e) .slots ≡ t .slots
+  pub cells : (t : Scene) (e : judge s ≡ got t) → All (λ k. named unplaced k (rows k (scene t e)) ≡ named unnamed k (rows k t)) tables
+  pub bytes : (t : Scene) → judge s ≡ got t → AllBytes (copy t)
+  -- cleared again, with any room, it gets the answer that the file gets, and gives its own bytes
+  pub again : (t : Scene) → judge s ≡ got t → (room : ℕ) → clear (copy t) room ≡ clear s room

@@ -1,0 +1,3 @@
+-- What the demands speak of.
+pub mod Having
+pub mod Demands
