@@ -1,0 +1,203 @@
+-- A law for each way through `answer_for` and `read`.
+use mathlib.Core.Path.{_≡_, refl, ap, sym, _∙_}
+use Prim.Native.Nat.{ℕ, _*_, _<_, _≤_}
+use native.Mathlib.Omega.{arith}
+use mathlib.Core.List.{List, [], _∷_}
+use lib.ListN.{length}
+use lib.Dec.{leb}
+use Rattle.wire.specs.Bytes.{AllBytes}
+use Rattle.layout.specs.Out.{Out, got, bad, _>>=_}
+use Rattle.layout.proofs.Lists.{All, all-zip}
+use Rattle.b3d_scene.specs.declared.Answer.{Answer}
+use Rattle.b3d_scene.specs.Answers.{eachTable, judge, read, answer, readAnswer, readTable, tableAfter}
+use Rattle.b3d_scene.specs.Rules.{rowLimit}
+use Rattle.b3d_scene.specs.Scene.{Scene}
+use Rattle.b3d_scene.specs.Tables.{width, rows, table, tables, nodeTables, counts}
+use Rattle.b3d_scene.proofs.AnswerLaws.{judge-got, judge-first, read-got}
+use Rattle.b3d_scene.proofs.Files.FileLaws.{parse-fine}
+use Rattle.b3d_scene.proofs.Rows.CountLaws.{table-length}
+use Rattle.b3d_rows.specs.Puts.{Ready}
+use Rattle.b3d_judge.specs.Answers.{tallyOf, verdictOf}
+use Rattle.b3d_judge.specs.declared.Summary.{Summary}
+use Rattle.b3d_judge.specs.declared.Verdict.{Verdict}
+use Rattle.b3d_judge.specs.declared.Verdict.the-variants as verdict
+use Rattle.b3d_read.specs.Rooms.{numberOf, countsIn, firstShort, Limited}
+use Rattle.b3d_read.specs.Reads.{tableIn, roomIn, Reads, acceptedAs, Fits, Fills}
+use Rattle.b3d_read.proofs.RoomLaws.{short-none, short-some, short-at-most, each-table, table-each, ten-tables}
+use Rattle.b3d_read.proofs.Refusals.{judge-place, read-number}
+
+-- ---- what a verdict says of what was read
+
+abbrev summaryOf : Scene → Summary
+summaryOf t = record { version = t .version; «n_texs» = t .slots; tally = tallyOf t }
+
+record Good (o : Out Scene) (x : Summary) : Type 0 where
+  scene : Scene
+  is : o ≡ got scene
+  same : x ≡ summaryOf scene
+
+was-bad : (o : Out Scene) (e p : ℕ) → verdictOf o ≡ verdict.Bad e p → o ≡ bad e p
+was-bad (got t) e p h = let z : _≡_ {A = ℕ} 0 1 = cc in absurd (omega arith)
+was-bad (bad n q) e p h = cc
+
+was-good : (o : Out Scene) (x : Summary) → verdictOf o ≡ verdict.Good x → Good o x
+was-good (got t) x h = record { scene = t; is = refl; same = cc }
+was-good (bad n p) x h = let z : _≡_ {A = ℕ} 0 1 = cc in absurd (omega arith)
+
+-- ---- `answer_for`
+
+-- the counts of the tally are those of the scene
+short-is : (t : Scene) (room : ℕ → ℕ) → firstShort (numberOf (countsIn (tallyOf t))) room tables ≡ firstShort (λ k. length (rows k t)) room tables
+unfolding firstShort countsIn tables nodeTables
+short-is t room = refl
+
+-- each of them within the limit
+limited : (t : Scene) → All (λ k. length (rows k t) ≤ rowLimit) tables → Limited (tallyOf t)
+unfolding tables nodeTables
+limited t h =
+    record {
+      textures = h .0;
+      brushes = h .1 .0;
+      nodes = h .1 .1 .0;
+      meshes = h .1 .1 .1 .0;
+      vertices = h .1 .1 .1 .1 .0;
+      sets = h .1 .1 .1 .1 .1 .0;
+      triangles = h .1 .1 .1 .1 .1 .1 .0;
+      weights = h .1 .1 .1 .1 .1 .1 .1 .0;
+      lists = h .1 .1 .1 .1 .1 .1 .1 .1 .0;
+      keys = h .1 .1 .1 .1 .1 .1 .1 .1 .1 .0;
+    }
+
+accepted-is : (t : Scene) → acceptedAs (summaryOf t) ≡ answer (got t)
+unfolding acceptedAs answer countsIn counts tables nodeTables
+accepted-is t = refl
+
+module _ (s : List ℕ) (v : Verdict) (ev : v ≡ verdictOf (judge s)) where
+  module _ (e p : ℕ) (w : v ≡ verdict.Bad e p) where
+    bad-is : judge s ≡ bad e p
+    bad-is = was-bad (judge s) e p (sym ev ∙ w)
+
+    pub place-fits : p < 4294967296
+    place-fits = let h = judge-place s e p bad-is in omega arith
+
+    pub answer-bad : (room : ℕ → ℕ) (y : Answer) → y ≡ answer (bad e p) → y ≡ readAnswer room s
+    unfolding readAnswer
+    answer-bad room y h = h ∙ ap answer (sym (judge-first s e p bad-is room 0 .0))
+
+  module _ (x : Summary) (w : v ≡ verdict.Good x) where
+    good : Good (judge s) x
+    good = was-good (judge s) x (sym ev ∙ w)
+
+    pub good-limited : Limited (x .tally)
+    good-limited = rw (good .same) (limited (good .scene) (judge-got s (good .scene) (good .is) .1))
+
+    module _ (room : ℕ → ℕ) (n : ℕ) (en : n ≡ firstShort (numberOf (countsIn (x .tally))) room tables) where
+      abbrev count : ℕ → ℕ
+      count k = length (rows k (good .scene))
+
+      first-is : n ≡ firstShort count room tables
+      first-is = en ∙ ap (λ (y : Summary). firstShort (numberOf (countsIn (y .tally))) room tables) (good .same) ∙ short-is (good .scene) room
+
+      opened : read room s ≡ (eachTable 11 (λ k. leb (width k * count k) (room k)) tables >>= λ _. got (good .scene))
+      unfolding read
+      opened = rw (good .is)
+
+      pub short-fits : n < 4294967296
+      short-fits = let h = short-at-most count room 10 tables (each-table (λ k. k ≤ 10) (λ k a b. b)) in omega (arith, first-is)
+
+      pub answer-short : (n ≡ 0 → ⊥) → (y : Answer) → y ≡ answer (bad 11 n) → y ≡ readAnswer room s
+      unfolding readAnswer
+      answer-short d y h =
+          let e : read room s ≡ bad 11 (firstShort count room tables) = rw (opened, short-some count room tables (λ q. d (first-is ∙ q))) in
+          h ∙ ap (λ (i : ℕ). answer (bad 11 i)) first-is ∙ ap answer (sym e)
+
+      pub answer-good : n ≡ 0 → (y : Answer) → y ≡ acceptedAs x → y ≡ readAnswer room s
+      unfolding readAnswer
+      answer-good z y h =
+          let e : read room s ≡ got (good .scene) = rw (opened, short-none count room tables (each-table (λ k. 0 < k) (λ k a b. a)) (sym first-is ∙ z)) in
+          h ∙ ap acceptedAs (good .same) ∙ accepted-is (good .scene) ∙ ap answer (sym e)
+
+pub ruleset answer-laws = (place-fits, answer-bad, good-limited, short-fits, answer-short, answer-good)
+
+-- ---- `read`
+
+-- the number says whether a file is accepted, for no refusal has the number 0
+record Accepted (room : ℕ → ℕ) (s : List ℕ) : Type 0 where
+  scene : Scene
+  is : read room s ≡ got scene
+
+accepts : (room : ℕ → ℕ) (s : List ℕ) → readAnswer room s .number ≡ 0 → Accepted room s
+unfolding readAnswer answer
+accepts room s = go (read room s) refl
+  where
+    go : (o : Out Scene) → read room s ≡ o → answer o .number ≡ 0 → Accepted room s
+    go (got t) e z = record { scene = t; is = e }
+    go (bad n p) e z = absurd (omega (arith, read-number room s n p e))
+
+-- where it is refused, a table stays
+stays : (room : ℕ → ℕ) (s : List ℕ) (k : ℕ) (xs : List ℕ) → (readAnswer room s .number ≡ 0 → ⊥) → xs ≡ readTable k room s xs
+unfolding readAnswer readTable answer tableAfter
+stays room s k xs = go (read room s)
+  where
+    go : (o : Out Scene) → (answer o .number ≡ 0 → ⊥) → xs ≡ tableAfter k o xs
+    go (got t) d = absurd (d refl)
+    go (bad n p) d = refl
+
+-- where `read` accepts, it has read what the judge has, and each table has room
+fits : (s : List ℕ) (room : ℕ → ℕ) (t : Scene) → AllBytes s → read room s ≡ got t → All (λ k. Ready (rows k) (judge s) 0 (room k)) tables
+unfolding table
+fits s room t b e =
+    let g = read-got room s t e in
+    all-zip (λ k. length (table k t) ≡ width k * length (rows k t)) (λ k. width k * length (rows k t) ≤ room k) _
+    (λ k l r. record { value = t; is = g .0; room = omega (arith, l, r) })
+    tables (table-length t (parse-fine s t b (judge-got s t (g .0) .0) .0)) (g .1)
+
+module _ (s : List ℕ) (t1 t2 t3 t4 t5 t6 t7 t8 t9 t10 : List ℕ) (y : Answer)
+    (ey : y ≡ readAnswer (numberOf (length t1 ∷ length t2 ∷ length t3 ∷ length t4 ∷ length t5 ∷ length t6 ∷ length t7 ∷ length t8 ∷ length t9 ∷ length t10 ∷ [])) s) where
+  abbrev lent : List (List ℕ)
+  lent = t1 ∷ t2 ∷ t3 ∷ t4 ∷ t5 ∷ t6 ∷ t7 ∷ t8 ∷ t9 ∷ t10 ∷ []
+
+  answer-is : y ≡ readAnswer (roomIn lent) s
+  unfolding readAnswer read eachTable tables nodeTables
+  answer-is = ey
+
+  pub read-refused : (y .number ≡ 0 → ⊥) → Reads s lent lent y
+  read-refused d = record { answer = answer-is; table = λ k a b. stays (roomIn lent) s k (tableIn lent k) (λ z. d (ap (λ (a : Answer). a .number) answer-is ∙ z)) }
+
+  module _ (z : y .number ≡ 0) where
+    accepted : Accepted (roomIn lent) s
+    accepted = accepts (roomIn lent) s (sym (ap (λ (a : Answer). a .number) answer-is) ∙ z)
+
+    pub first-fits : AllBytes s → Fits (judge s) 1 (length t1) (length t2) (length t3) (length t4) (length t5)
+    unfolding tables nodeTables
+    first-fits b =
+        let h = fits s (roomIn lent) (accepted .scene) b (accepted .is) in
+        record { first = h .0; second = h .1 .0; third = h .1 .1 .0; fourth = h .1 .1 .1 .0; fifth = h .1 .1 .1 .1 .0 }
+
+    pub last-fits : AllBytes s → Fits (judge s) 6 (length t6) (length t7) (length t8) (length t9) (length t10)
+    unfolding tables nodeTables
+    last-fits b =
+        let h = fits s (roomIn lent) (accepted .scene) b (accepted .is) .1 .1 .1 .1 .1 in
+        record { first = h .0; second = h .1 .0; third = h .1 .1 .0; fourth = h .1 .1 .1 .0; fifth = h .1 .1 .1 .1 .0 }
+
+    module _ (u1 u2 u3 u4 u5 u6 u7 u8 u9 u10 : List ℕ)
+        (f : Fills (judge s) 1 t1 t2 t3 t4 t5 u1 u2 u3 u4 u5) (g : Fills (judge s) 6 t6 t7 t8 t9 t10 u6 u7 u8 u9 u10) where
+      abbrev Filled : ℕ → Type 0
+      Filled k = tableIn (u1 ∷ u2 ∷ u3 ∷ u4 ∷ u5 ∷ u6 ∷ u7 ∷ u8 ∷ u9 ∷ u10 ∷ []) k ≡ readTable k (roomIn lent) s (tableIn lent k)
+
+      -- what the judge has read is what the definition of `read` has
+      same : (k : ℕ) (xs ys : List ℕ) → ys ≡ tableAfter k (judge s) xs → ys ≡ readTable k (roomIn lent) s xs
+      unfolding readTable
+      same k xs ys e = e ∙ ap (λ (o : Out Scene). tableAfter k o xs) (read-got (roomIn lent) s (accepted .scene) (accepted .is) .0 ∙ sym (accepted .is))
+
+      pub read-filled : Reads s lent (u1 ∷ u2 ∷ u3 ∷ u4 ∷ u5 ∷ u6 ∷ u7 ∷ u8 ∷ u9 ∷ u10 ∷ []) y
+      read-filled =
+          record {
+            answer = answer-is;
+            table =
+                table-each Filled
+                (ten-tables Filled (same 1 t1 u1 (f .first)) (same 2 t2 u2 (f .second)) (same 3 t3 u3 (f .third)) (same 4 t4 u4 (f .fourth)) (same 5 t5 u5 (f .fifth))
+                (same 6 t6 u6 (g .first)) (same 7 t7 u7 (g .second)) (same 8 t8 u8 (g .third)) (same 9 t9 u9 (g .fourth)) (same 10 t10 u10 (g .fifth)));
+          }
+
+pub ruleset read-laws = (read-refused, first-fits, last-fits, read-filled)

@@ -1,0 +1,370 @@
+-- Refusals in numbers: a place is one of the file or a table's number, so no more than the most bytes of a file; a refusal's number is not 0.
+use mathlib.Core.Path.{_≡_, refl, subst}
+use Prim.Native.Nat.{ℕ, zero, suc, _+_, _*_, _≤_}
+use native.Mathlib.Omega.{arith}
+use mathlib.Core.Bool.{Bool, true, false}
+use mathlib.Core.Option.{Option, none, some}
+use mathlib.Core.List.{List, [], _∷_, _++_}
+use lib.ListN.{length, take, drop, length-drop}
+use lib.Seq.{length-take-le}
+use lib.Dec.{T, leb, eqb, leb→le}
+use Rattle.wire.specs.Test.{if}
+use Rattle.wire.specs.Bytes.{word}
+use Rattle.layout.specs.Chunks.{done, stop, chunk, keep, splitIn, split as splitOf, ended}
+use Rattle.layout.specs.Out.{Out, got, bad, check, _>>=_}
+use Rattle.layout.specs.Parts.{Step, text, words, judged, row, number, named, itemsIn, items}
+use Rattle.layout.specs.Rules.{Rule, holds, refusal}
+use Rattle.layout.proofs.Lists.{All}
+use Rattle.b3d_scene.specs.declared.Tag.{Tag}
+use Rattle.b3d_scene.specs.declared.Tag.the-variants.{BB3D, TEXS, BRUS, NODE, MESH, VRTS, BONE, KEYS, ANIM}
+use Rattle.b3d_scene.specs.Answers.{eachTable, judge, read}
+use Rattle.b3d_scene.specs.Nesting.{nesting, Reached, start, owed, end, next, onward, order, inside}
+use Rattle.b3d_scene.specs.Parse.{readOne, readTexture, readTextures, readBrush, readBrushes, noVertices, readVertices, readTriangles, readSets, readMesh, readBone, readKeys, filled, readAnim, aMesh, aBone, readKind, withKeys, readMoves, Inner, readNodes, readBelow, readNode, readRoot, readBody, parse}
+use Rattle.b3d_scene.specs.Rules.{header, fileHead, textureRow, brushesHead, brushRow, brushIds, nodeRow, meshHead, verticesHead, vertexRow, trianglesHead, triangleRow, weightRow, keysHead, keyRow, animRow, boneVertices, bonesBelow, levels, fileSize, mostBytes}
+use Rattle.b3d_scene.specs.Scene.{Anim, still, anim, Data, leaf, Scene}
+use Rattle.b3d_scene.specs.Tables.{tables}
+use Rattle.b3d_scene.specs.Tags.{code, tagOf, is, Chunks, split, Found}
+use Rattle.b3d_scene.proofs.Files.FileLaws.{size-bound}
+use Rattle.b3d_scene.proofs.Files.RefusalLaws.{parse-refusal}
+use Rattle.b3d_read.proofs.RoomLaws.{each-table}
+
+-- a value with P, or a refusal whose place is no more than the most bytes of a file
+abbrev Low : {A : Type 0} → (A → Type 0) → Out A → Type 0
+Low P (got a) = P a
+Low P (bad n p) = p ≤ mostBytes
+
+abbrev Any : {A : Type 0} → A → Type 0
+Any a = Unit {0}
+
+bind-low : {A B : Type 0} (P : A → Type 0) (Q : B → Type 0) (m : Out A) (k : A → Out B) → Low P m → ((a : A) → P a → Low Q (k a)) → Low Q (m >>= k)
+bind-low P Q (got a) k h f = f a h
+bind-low P Q (bad n p) k h f = h
+
+if-low : {A : Type 0} (P : A → Type 0) (b : Bool) (x y : Out A) → Low P x → Low P y → Low P (if b x y)
+unfolding if
+if-low P true x y h k = h
+if-low P false x y h k = k
+
+check-low : (b : Bool) (n p : ℕ) → p ≤ mostBytes → Low Any (check b n p)
+unfolding check
+check-low true n p h = tt
+check-low false n p h = h
+
+-- ---- parts
+
+-- what is left ends there or before
+abbrev Left : {A : Type 0} → Step A → Type 0
+Left x = x .place + length (x .left) ≤ mostBytes
+
+text-low : (first p : ℕ) (s : List ℕ) → first ≤ mostBytes → p + length s ≤ mostBytes → Low Left (text first p s)
+unfolding text
+text-low first p [] h k = h
+text-low first p (zero ∷ s) h k = omega arith
+text-low first p (suc c ∷ s) h k = bind-low Left _ (text first (p + 1) s) _ (text-low first (p + 1) s h (omega arith)) (λ x hx. hx)
+
+-- the words too
+abbrev Words : ℕ → Step (List ℕ) → Type 0
+Words p x = (x .place ≡ p + 4 * length (x .value)) × Left x
+
+words-low : (first n p : ℕ) (s : List ℕ) → first ≤ mostBytes → p + length s ≤ mostBytes → Low (Words p) (words first n p s)
+unfolding words
+words-low first zero p s h k = (omega arith, k)
+words-low first (suc n) p [] h k = h
+words-low first (suc n) p (a ∷ []) h k = h
+words-low first (suc n) p (a ∷ b ∷ []) h k = h
+words-low first (suc n) p (a ∷ b ∷ c ∷ []) h k = h
+words-low first (suc n) p (a ∷ b ∷ c ∷ d ∷ s) h k =
+    bind-low (Words (p + 4)) _ (words first n (p + 4) s) _ (words-low first n (p + 4) s h (omega arith)) (λ x hx. (omega (arith, hx .0), hx .1))
+
+judged-low : {A : Type 0} (P : A → Type 0) (rs : List Rule) (p : ℕ) (ws : List ℕ) (a : A) → p + 4 * length ws ≤ mostBytes → P a → Low P (judged rs p ws a)
+unfolding judged
+judged-low P [] p ws a h k = k
+judged-low P (r ∷ rs) p [] a h k = k
+judged-low P (r ∷ rs) p (w ∷ ws) a h k =
+    bind-low Any P (check (holds r w) (refusal r) p) _ (check-low (holds r w) (refusal r) p (omega arith)) (λ u _. judged-low P rs (p + 4) ws a (omega arith) k)
+
+row-low : (rs : List Rule) (p : ℕ) (s : List ℕ) → p + length s ≤ mostBytes → Low Left (row rs p s)
+unfolding row
+row-low rs p s h =
+    bind-low (Words p) Left (words p (length rs) p s) _ (words-low p (length rs) p s (omega arith) h) (λ x hx.
+    judged-low Left rs p (x .value) x (omega (arith, hx .0, hx .1)) (hx .1))
+
+named-low : (rs : List Rule) (p : ℕ) (s : List ℕ) → p + length s ≤ mostBytes → Low Left (named rs p s)
+unfolding named
+named-low rs p s h =
+    bind-low Left Left (text p p s) _ (text-low p p s (omega arith) h) (λ n hn.
+    bind-low (Words (n .place)) Left (words p (length rs) (n .place) (n .left)) _ (words-low p (length rs) (n .place) (n .left) (omega arith) hn) (λ x hx.
+    judged-low Left rs (n .place) (x .value) _ (omega (arith, hx .0, hx .1)) (hx .1)))
+
+module _ {A : Type 0} (one : ℕ → List ℕ → Out (Step A)) (low : (p : ℕ) (s : List ℕ) → p + length s ≤ mostBytes → Low Left (one p s)) where
+  in-low : (f p : ℕ) (s : List ℕ) → p + length s ≤ mostBytes → Low Any (itemsIn f one p s)
+  unfolding itemsIn
+  in-low zero p [] h = tt
+  in-low zero p (c ∷ s) h = omega arith
+  in-low (suc f) p [] h = tt
+  in-low (suc f) p (c ∷ s) h =
+      bind-low Left Any (one p (c ∷ s)) _ (low p (c ∷ s) h) (λ x hx. bind-low Any Any (itemsIn f one (x .place) (x .left)) _ (in-low f (x .place) (x .left) hx) (λ l _. tt))
+
+  items-low : (p : ℕ) (s : List ℕ) → p + length s ≤ mostBytes → Low Any (items one p s)
+  unfolding items
+  items-low p s h = in-low (length s) p s h
+
+-- ---- chunks
+
+-- each chunk ends there or before, and the refusal that they end in has its place there or before
+abbrev LowC : Chunks → Type 0
+LowC done = Unit {0}
+LowC (stop n p) = p ≤ mostBytes
+LowC (chunk t p b r) = (p + 8 + length b ≤ mostBytes) × LowC r
+
+abbrev Rest : {A : Type 0} → Found A → Type 0
+Rest x = LowC (x .rest)
+
+if-chunks : (b : Bool) (x y : Chunks) → (T b → LowC x) → LowC y → LowC (if b x y)
+unfolding if
+if-chunks true x y h k = h tt
+if-chunks false x y h k = k
+
+keep-low : (o : Option Tag) (p : ℕ) (b : List ℕ) (r : Chunks) → p + 8 + length b ≤ mostBytes → LowC r → LowC (keep o p b r)
+unfolding keep
+keep-low none p b r h k = k
+keep-low (some t) p b r h k = (h, k)
+
+split-in-low : (f p : ℕ) (s : List ℕ) → p + length s ≤ mostBytes → LowC (splitIn tagOf f p s)
+unfolding splitIn
+split-in-low zero p s h = tt
+split-in-low (suc f) p [] h = tt
+split-in-low (suc f) p (a ∷ []) h = omega arith
+split-in-low (suc f) p (a ∷ b ∷ []) h = omega arith
+split-in-low (suc f) p (a ∷ b ∷ c ∷ []) h = omega arith
+split-in-low (suc f) p (a ∷ b ∷ c ∷ d ∷ []) h = omega arith
+split-in-low (suc f) p (a ∷ b ∷ c ∷ d ∷ e ∷ []) h = omega arith
+split-in-low (suc f) p (a ∷ b ∷ c ∷ d ∷ e ∷ g ∷ []) h = omega arith
+split-in-low (suc f) p (a ∷ b ∷ c ∷ d ∷ e ∷ g ∷ i ∷ []) h = omega arith
+split-in-low (suc f) p (a ∷ b ∷ c ∷ d ∷ e ∷ g ∷ i ∷ j ∷ s) h =
+    let n = word e g i j in
+    if-chunks (leb n (length s)) _ (stop 3 p)
+    (λ t. let l = leb→le n (length s) t in
+    keep-low (tagOf (word a b c d)) p (take n s) _ (omega (arith, length-take-le n s l)) (split-in-low f (p + 8 + n) (drop n s) (omega (arith, length-drop n s))))
+    (omega arith)
+
+onward-low : (o : Option Reached) (p : ℕ) (go : Reached → Chunks) → p ≤ mostBytes → ((r : Reached) → LowC (go r)) → LowC (onward o p go)
+unfolding onward
+onward-low none p go k h = k
+onward-low (some r) p go k h = h r
+
+order-low : (k : Tag) (head : ℕ) (r : Reached) (cs : Chunks) → head ≤ mostBytes → LowC cs → LowC (order k head r cs)
+unfolding order
+order-low k head r done g h = if-chunks (owed (nesting k) (r .turn) end) (stop 8 head) done (λ t. g) tt
+order-low k head r (stop n p) g h = h
+order-low k head r (chunk t p b l) g h = onward-low (next (nesting k) (nesting k) r t) p _ (omega (arith, h .0)) (λ q. (h .0, order-low k head q l g (h .1)))
+
+inside-low : (k : Tag) (head p : ℕ) (s : List ℕ) → head ≤ mostBytes → p + length s ≤ mostBytes → LowC (inside k head p s)
+unfolding inside splitOf
+inside-low k head p s g h = order-low k head start (split p s) g (split-in-low (length s) p s h)
+
+ended-low : {A : Type 0} (cs : Chunks) (a : A) → LowC cs → Low Any (ended cs a)
+unfolding ended
+ended-low done a h = tt
+ended-low (stop n p) a h = h
+ended-low (chunk t p b r) a h = ended-low r a (h .1)
+
+-- a reader of a chunk's body
+abbrev Body : {A : Type 0} → (ℕ → List ℕ → Out A) → Type 0
+Body one = (p : ℕ) (b : List ℕ) → p + 8 + length b ≤ mostBytes → Low Any (one p b)
+
+one-low : {A : Type 0} (k : Tag) (a : A) (one : ℕ → List ℕ → Out A) → Body one → (cs : Chunks) → LowC cs → Low Rest (readOne k a one cs)
+unfolding readOne
+one-low k a one low done h = tt
+one-low k a one low (stop n p) h = h
+one-low k a one low (chunk t p b r) h = if-low Rest (is t k) _ _ (bind-low Any Rest (one p b) _ (low p b (h .0)) (λ x _. h .1)) h
+
+-- ---- bodies
+
+rows-low : (rs : List Rule) (p : ℕ) (b : List ℕ) → p + length b ≤ mostBytes → Low Any (items (row rs) p b)
+rows-low rs p b h = items-low (row rs) (row-low rs) p b h
+
+texture-low : (p : ℕ) (s : List ℕ) → p + length s ≤ mostBytes → Low Left (readTexture p s)
+unfolding readTexture
+texture-low p s h = bind-low Left Left (named textureRow p s) _ (named-low textureRow p s h) (λ x hx. hx)
+
+textures-low : Body readTextures
+unfolding readTextures
+textures-low p b h = items-low readTexture texture-low (p + 8) b h
+
+brush-low : (n textures p : ℕ) (s : List ℕ) → p + length s ≤ mostBytes → Low Left (readBrush n textures p s)
+unfolding readBrush
+brush-low n textures p s h = bind-low Left Left (named (brushRow ++ brushIds n textures) p s) _ (named-low (brushRow ++ brushIds n textures) p s h) (λ x hx. hx)
+
+brushes-low : (textures : ℕ) → Body (readBrushes textures)
+unfolding readBrushes
+brushes-low textures p b h =
+    bind-low Left Any (row brushesHead (p + 8) b) _ (row-low brushesHead (p + 8) b h) (λ x hx.
+    bind-low Any Any (items (readBrush (number x 0) textures) (x .place) (x .left)) _ (items-low (readBrush (number x 0) textures) (brush-low (number x 0) textures) (x .place) (x .left) hx) (λ l _. tt))
+
+vertices-low : Body readVertices
+unfolding readVertices
+vertices-low p b h =
+    bind-low Left Any (row verticesHead (p + 8) b) _ (row-low verticesHead (p + 8) b h) (λ x hx.
+    bind-low Any Any (items (row (vertexRow (number x 0) (number x 1) (number x 2))) (x .place) (x .left)) _ (rows-low (vertexRow (number x 0) (number x 1) (number x 2)) (x .place) (x .left) hx) (λ l _. tt))
+
+triangles-low : (brushes n : ℕ) → Body (readTriangles brushes n)
+unfolding readTriangles
+triangles-low brushes n p b h =
+    bind-low Left Any (row (trianglesHead brushes) (p + 8) b) _ (row-low (trianglesHead brushes) (p + 8) b h) (λ x hx.
+    bind-low Any Any (items (row (triangleRow n)) (x .place) (x .left)) _ (rows-low (triangleRow n) (x .place) (x .left) hx) (λ l _. tt))
+
+sets-low : (brushes n : ℕ) (cs : Chunks) → LowC cs → Low Any (readSets brushes n cs)
+unfolding readSets
+sets-low brushes n done h = tt
+sets-low brushes n (stop i p) h = h
+sets-low brushes n (chunk t p b r) h =
+    bind-low Any Any (readTriangles brushes n p b) _ (triangles-low brushes n p b (h .0)) (λ x _.
+    bind-low Any Any (readSets brushes n r) _ (sets-low brushes n r (h .1)) (λ l _. tt))
+
+mesh-low : (brushes : ℕ) → Body (readMesh brushes)
+unfolding readMesh
+mesh-low brushes p b h =
+    bind-low Left Any (row (meshHead brushes) (p + 8) b) _ (row-low (meshHead brushes) (p + 8) b h) (λ x hx.
+    let cs = inside MESH p (x .place) (x .left) in
+    bind-low Rest Any (readOne VRTS noVertices readVertices cs) _ (one-low VRTS noVertices readVertices vertices-low cs (inside-low MESH p (x .place) (x .left) (omega arith) hx)) (λ v hv.
+    bind-low Any Any (readSets brushes (length (v .value .items)) (v .rest)) _ (sets-low brushes (length (v .value .items)) (v .rest) hv) (λ l _. tt)))
+
+bone-low : (n : ℕ) → Body (readBone n)
+unfolding readBone
+bone-low n p b h = rows-low (weightRow n) (p + 8) b h
+
+keys-low : Body readKeys
+unfolding readKeys
+keys-low p b h =
+    bind-low Left Any (row keysHead (p + 8) b) _ (row-low keysHead (p + 8) b h) (λ x hx.
+    bind-low Any Any (items (row (keyRow (number x 0))) (x .place) (x .left)) _ (rows-low (keyRow (number x 0)) (x .place) (x .left) hx) (λ l _. tt))
+
+filled-low : (p : ℕ) (s ws : List ℕ) → p ≤ mostBytes → Low Any (filled p s ws)
+unfolding filled
+filled-low p [] ws h = tt
+filled-low p (c ∷ s) ws h = h
+
+anim-low : Body readAnim
+unfolding readAnim
+anim-low p b h = bind-low Left Any (row animRow (p + 8) b) _ (row-low animRow (p + 8) b h) (λ x hx. filled-low (p + 8) (x .left) (x .value) (omega arith))
+
+-- ---- nodes
+
+kind-low : (brushes n : ℕ) (cs : Chunks) → LowC cs → Low Rest (readKind brushes n cs)
+unfolding readKind aMesh aBone
+kind-low brushes n done h = tt
+kind-low brushes n (stop i p) h = h
+kind-low brushes n (chunk t p b r) h =
+    if-low Rest (is t MESH) _ _ (bind-low Any Rest (readMesh brushes p b) _ (mesh-low brushes p b (h .0)) (λ m _. h .1))
+    (if-low Rest (is t BONE) _ _ (bind-low Any Rest (readBone n p b) _ (bone-low n p b (h .0)) (λ w _. h .1)) h)
+
+moves-low : (cs : Chunks) (seen : Anim) → LowC cs → Low Rest (readMoves seen cs)
+unfolding readMoves withKeys
+moves-low done seen h = tt
+moves-low (stop i p) seen h = h
+moves-low (chunk t p b r) seen h =
+    if-low Rest (is t KEYS) _ _
+    (bind-low Any Rest (readKeys p b) _ (keys-low p b (h .0)) (λ k _. bind-low Rest Rest (readMoves seen r) _ (moves-low r seen (h .1)) (λ x hx. hx)))
+    (if-low Rest (is t ANIM) _ _ (bind-low Any Rest (readAnim p b) _ (anim-low p b (h .0)) (λ ws _. moves-low r (anim ws) (h .1))) h)
+
+nodes-low : (one : ℕ → List ℕ → Out Inner) → Body one → (cs : Chunks) → LowC cs → Low Any (readNodes one cs)
+unfolding readNodes
+nodes-low one low done h = tt
+nodes-low one low (stop i p) h = h
+nodes-low one low (chunk t p b r) h =
+    bind-low Any Any (one p b) _ (low p b (h .0)) (λ x _. bind-low Any Any (readNodes one r) _ (nodes-low one low r (h .1)) (λ l _. tt))
+
+node-low : (l brushes : ℕ) (above : Option ℕ) → Body (readNode l brushes above)
+unfolding readNode readBelow
+node-low zero brushes above p b h = omega arith
+node-low (suc l) brushes above p b h =
+    bind-low Left Any (named nodeRow (p + 8) b) _ (named-low nodeRow (p + 8) b h) (λ x hx.
+    let cs = inside NODE p (x .place) (x .left) in
+    bind-low Rest Any (readKind brushes (boneVertices above) cs) _ (kind-low brushes (boneVertices above) cs (inside-low NODE p (x .place) (x .left) (omega arith) hx)) (λ k hk.
+    bind-low Rest Any (readMoves still (k .rest)) _ (moves-low (k .rest) still hk) (λ m hm.
+    let d : Data = record { name = x .value .0; words = x .value .1; kind = k .value; keys = m .value .keys; anim = m .value .anim } in
+    bind-low Any Any (readNodes (readNode l brushes (bonesBelow above d)) (m .rest)) _ (nodes-low (readNode l brushes (bonesBelow above d)) (node-low l brushes (bonesBelow above d)) (m .rest) hm) (λ f _. tt))))
+
+-- ---- the file
+
+root-low : (brushes : ℕ) → Body (readRoot brushes)
+unfolding readRoot
+root-low brushes p b h = bind-low Any Any (readNode levels brushes none p b) _ (node-low levels brushes none p b h) (λ x _. tt)
+
+body-low : (p : ℕ) (b : List ℕ) → p + length b ≤ mostBytes → Low Any (readBody p b)
+unfolding readBody
+body-low p b h =
+    bind-low Left Any (row fileHead p b) _ (row-low fileHead p b h) (λ x hx.
+    let cs = inside BB3D 0 (x .place) (x .left) in
+    bind-low Rest Any (readOne TEXS [] readTextures cs) _ (one-low TEXS [] readTextures textures-low cs (inside-low BB3D 0 (x .place) (x .left) (omega arith) hx)) (λ t ht.
+    bind-low Rest Any (readOne BRUS (0, []) (readBrushes (length (t .value))) (t .rest)) _ (one-low BRUS (0, []) (readBrushes (length (t .value))) (brushes-low (length (t .value))) (t .rest) ht) (λ u hu.
+    bind-low Rest Any (readOne NODE leaf (readRoot (length (u .value .1))) (u .rest)) _ (one-low NODE leaf (readRoot (length (u .value .1))) (root-low (length (u .value .1))) (u .rest) hu) (λ n hn.
+    ended-low (n .rest) _ hn))))
+
+-- the number of a table
+each-low : (n : ℕ) (ok : ℕ → Bool) (ks : List ℕ) → All (λ k. k ≤ mostBytes) ks → Low Any (eachTable n ok ks)
+unfolding eachTable
+each-low n ok [] h = tt
+each-low n ok (k ∷ ks) h = bind-low Any Any (check (ok k) n k) _ (check-low (ok k) n k (h .0)) (λ u _. each-low n ok ks (h .1))
+
+-- ---- what is answered
+
+-- a file is read only where its size is within the limits
+size-low : {A : Type 0} (b : Bool) (m : Out A) → (T b → Low Any m) → Low Any (check b 1 0 >>= λ _. m)
+unfolding check
+size-low true m h = h tt
+size-low false m h = omega arith
+
+parse-low : (s : List ℕ) → Low Any (parse s)
+unfolding parse
+parse-low s =
+    size-low (fileSize (length s)) _ (λ t.
+    bind-low Left Any (row header 0 s) _ (row-low header 0 s (omega (arith, size-bound (length s) t))) (λ x hx.
+    bind-low Any Any (check (eqb (number x 0) (code BB3D)) 2 0) _ (check-low (eqb (number x 0) (code BB3D)) 2 0 (omega arith)) (λ u _.
+    bind-low Any Any (check (eqb (number x 1) (length (x .left))) 2 4) _ (check-low (eqb (number x 1) (length (x .left))) 2 4 (omega arith)) (λ v _.
+    body-low (x .place) (x .left) hx))))
+
+judge-low : (s : List ℕ) → Low Any (judge s)
+unfolding judge
+judge-low s =
+    bind-low Any Any (parse s) _ (parse-low s) (λ t _.
+    bind-low Any Any (eachTable 10 _ tables) _ (each-low 10 _ tables (each-table (λ k. k ≤ mostBytes) (λ k a b. omega arith))) (λ u _. tt))
+
+pub judge-place : (s : List ℕ) (n p : ℕ) → judge s ≡ bad n p → p ≤ mostBytes
+judge-place s n p e = subst (λ (o : Out Scene). Low Any o) e (judge-low s)
+
+-- ---- numbers: 1 to 9, then 10, then 11
+
+abbrev Numbered : {A : Type 0} → Out A → Type 0
+Numbered (got a) = Unit {0}
+Numbered (bad n p) = 1 ≤ n
+
+bind-numbered : {A B : Type 0} (m : Out A) (k : A → Out B) → Numbered m → ((a : A) → Numbered (k a)) → Numbered (m >>= k)
+bind-numbered (got a) k h f = f a
+bind-numbered (bad n p) k h f = h
+
+each-numbered : (n : ℕ) (ok : ℕ → Bool) (ks : List ℕ) → 1 ≤ n → Numbered (eachTable n ok ks)
+unfolding eachTable check
+each-numbered n ok [] h = tt
+each-numbered n ok (k ∷ ks) h = bind-numbered (check (ok k) n k) _ (one (ok k)) (λ u. each-numbered n ok ks h)
+  where
+    one : (b : Bool) → Numbered (check b n k)
+    one true = tt
+    one false = h
+
+parse-numbered : (s : List ℕ) → Numbered (parse s)
+parse-numbered s = go (parse s) (λ n p e. parse-refusal s n p e .0)
+  where
+    go : (o : Out Scene) → ((n p : ℕ) → o ≡ bad n p → 1 ≤ n) → Numbered o
+    go (got t) f = tt
+    go (bad n p) f = f n p refl
+
+read-numbered : (room : ℕ → ℕ) (s : List ℕ) → Numbered (read room s)
+unfolding read judge
+read-numbered room s =
+    bind-numbered (judge s) _ (bind-numbered (parse s) _ (parse-numbered s) (λ t. bind-numbered (eachTable 10 _ tables) _ (each-numbered 10 _ tables (omega arith)) (λ u. tt)))
+    (λ t. bind-numbered (eachTable 11 _ tables) _ (each-numbered 11 _ tables (omega arith)) (λ u. tt))
+
+pub read-number : (room : ℕ → ℕ) (s : List ℕ) (n p : ℕ) → read room s ≡ bad n p → 1 ≤ n
+read-number room s n p e = subst (λ (o : Out Scene). Numbered o) e (read-numbered room s)

@@ -1,0 +1,3 @@
+-- What the reader promises, and the promises of its parts.
+pub mod Rooms
+pub mod Reads
