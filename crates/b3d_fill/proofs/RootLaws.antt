@@ -29,7 +29,7 @@ use Rattle.b3d_scene.specs.Tables.{start, width, reached as rowsAt, nodeTables,
 use Rattle.b3d_scene.proofs.Tag.{the-type}
 use Rattle.b3d_scene.proofs.Fitting.{FitNodes}
 use Rattle.b3d_scene.proofs.Rows.CountLaws.{Rise, rises}
-use Rattle.b3d_scene.proofs.Rows.FillLaws.{at-table}
+use Rattle.b3d_scene.proofs.Rows.Numbers.{at-table}
 use Rattle.b3d_scene.proofs.Rows.RebuildLaws.{forest-wide}
 use Rattle.b3d_scene.proofs.Rows.RowLists.{words-length}
 use Rattle.b3d_scene.proofs.Rows.RowParts.{Wide}

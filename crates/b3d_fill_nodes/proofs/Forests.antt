@@ -11,7 +11,8 @@ use Rattle.b3d_scene.specs.Scene.{Data, Forest, leaf, node}
 use Rattle.b3d_scene.specs.Tables.{width, reached, nodeTables, withNode, withForest, forestRows}
 use Rattle.b3d_scene.proofs.Fitting.{FitNodes}
 use Rattle.b3d_scene.proofs.Rows.CountLaws.{Rise, rises}
-use Rattle.b3d_scene.proofs.Rows.FillLaws.{at-table, filled, fill-leaf, fill-node}
+use Rattle.b3d_scene.proofs.Rows.Numbers.{at-table}
+use Rattle.b3d_scene.proofs.Rows.FillLaws.{filled, fill-leaf, fill-node}
 use Rattle.b3d_fill_own.specs.Own.{Small}
 
 module _ (t : Forest) (n : Counts) where

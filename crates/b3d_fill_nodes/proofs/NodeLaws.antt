@@ -19,7 +19,8 @@ use Rattle.b3d_scene.specs.Rules.{boneVertices, bonesBelow}
 use Rattle.b3d_scene.specs.Parse.{Inner, readNodes, readNode}
 use Rattle.b3d_scene.specs.Tables.{width, reached as before, ownRows, withNode, withForest, forestRows, words}
 use Rattle.b3d_scene.proofs.Fitting.{FitNodes}
-use Rattle.b3d_scene.proofs.Rows.FillLaws.{at-table, filled, fill-leaf, fill-node}
+use Rattle.b3d_scene.proofs.Rows.Numbers.{at-table}
+use Rattle.b3d_scene.proofs.Rows.FillLaws.{filled, fill-leaf, fill-node}
 use Rattle.b3d_scene.proofs.Rows.Nodes.{OwnWide, own-wide, Step, steps}
 use Rattle.b3d_scene.proofs.Rows.RowLists.{words-length}
 use Rattle.b3d_bodies.specs.Answers.{Body}

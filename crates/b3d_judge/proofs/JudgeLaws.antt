@@ -27,7 +27,9 @@ use Rattle.b3d_scene.specs.Rules.{version, header, fileSize, mostBytes, rowLimi
 use Rattle.b3d_scene.specs.Nesting.{start, inside}
 use Rattle.b3d_scene.specs.Parse.{readOne, readTextures, readBrushes, readRoot, slotsOf, readBody, parse}
 use Rattle.b3d_scene.specs.Tables.{rows, tables, nodeTables}
-use Rattle.b3d_scene.specs.Answers.{eachTable, judge}
+use Rattle.b3d_scene.specs.Answers.{eachTable, firstNot, judge}
+use Rattle.b3d_scene.proofs.AnswerLaws.{first-none, first-some, over-not}
+use Rattle.b3d_scene.proofs.Rows.Numbers.{each-table}
 use Rattle.b3d_scene.proofs.Files.FileLaws.{parse-fine}
 use Rattle.b3d_bodies.specs.Tally.{sceneTally, Within}
 use Rattle.b3d_bodies.specs.Answers.{Body}
@@ -133,31 +135,15 @@ over : (ℕ → ℕ) → List ℕ → ℕ
 over f [] = 0
 over f (k ∷ ks) = if (ltb rowLimit (f k)) k (over f ks)
 
-over-none : (f : ℕ → ℕ) (ks : List ℕ) → All (λ k. 0 < k) ks → over f ks ≡ 0 → eachTable 10 (λ k. leb (f k) rowLimit) ks ≡ got tt
-unfolding over eachTable check
-over-none f [] h e = refl
-over-none f (k ∷ ks) h e =
-    by-test (ltb rowLimit (f k))
-    (λ t. let z : k ≡ 0 = sym (if-yes (ltb rowLimit (f k)) k (over f ks) t) ∙ e in absurd (omega (arith, h .0)))
-    (λ t. let z : over f ks ≡ 0 = sym (if-no (ltb rowLimit (f k)) k (over f ks) t) ∙ e in
-    rw (le-leb (f k) rowLimit (nltb→le rowLimit (f k) t)) (over-none f ks (h .1) z))
-
-over-some : (f : ℕ → ℕ) (ks : List ℕ) → (over f ks ≡ 0 → ⊥) → eachTable 10 (λ k. leb (f k) rowLimit) ks ≡ bad 10 (over f ks)
-unfolding over eachTable check
-over-some f [] d = absurd (d refl)
-over-some f (k ∷ ks) d =
-    by-test (ltb rowLimit (f k))
-    (λ t. rw (lt-leb (f k) rowLimit (ltb→lt rowLimit (f k) t), if-yes (ltb rowLimit (f k)) k (over f ks) t))
-    (λ t. let z = if-no (ltb rowLimit (f k)) k (over f ks) t in
-    rw (le-leb (f k) rowLimit (nltb→le rowLimit (f k) t), z) (over-some f ks (λ q. d (z ∙ q))))
+-- that is the first table whose rows are not within the limit
+over-first : (f : ℕ → ℕ) (ks : List ℕ) → over f ks ≡ firstNot (λ k. leb (f k) rowLimit) ks
+unfolding over firstNot
+over-first f [] = refl
+over-first f (k ∷ ks) = ap (λ (n : ℕ). if (ltb rowLimit (f k)) k n) (over-first f ks) ∙ over-not rowLimit (f k) k (firstNot (λ k. leb (f k) rowLimit) ks)
 
 over-is : (t : Scene) → overLimit (tallyOf t) ≡ over (λ k. length (rows k t)) tables
 unfolding overLimit over tables nodeTables
 over-is t = refl
-
-positive : All (λ k. 0 < k) tables
-unfolding tables nodeTables
-positive = (omega arith, (omega arith, (omega arith, (omega arith, (omega arith, (omega arith, (omega arith, (omega arith, (omega arith, (omega arith, tt))))))))))
 
 -- ---- the whole
 
@@ -240,13 +226,13 @@ module _ (s : List ℕ) where
           tally-is = gave .has ∙ total (gave .value) (parse-fine s (gave .value) b (gave .is) .0)
 
           module _ (n : ℕ) (en : n ≡ overLimit (x .tally)) where
-            over-at : n ≡ over (λ k. length (rows k (gave .value))) tables
-            over-at = en ∙ ap overLimit tally-is ∙ over-is (gave .value)
+            over-at : n ≡ firstNot (λ k. leb (length (rows k (gave .value))) rowLimit) tables
+            over-at = en ∙ ap overLimit tally-is ∙ over-is (gave .value) ∙ over-first (λ k. length (rows k (gave .value))) tables
 
             pub judge-over : (n ≡ 0 → ⊥) → verdict.Bad 10 n ≡ verdictOf (judge s)
             unfolding judge
             judge-over d = finish (parse s) (gave .value) (gave .is)
-                (over-some (λ k. length (rows k (gave .value))) tables (λ q. d (over-at ∙ q)) ∙ ap (λ (i : ℕ). bad 10 i) (sym over-at))
+                (first-some 10 (λ k. leb (length (rows k (gave .value))) rowLimit) tables (λ q. d (over-at ∙ q)) ∙ ap (λ (i : ℕ). bad 10 i) (sym over-at))
               where
                 finish : (o : Out Scene) (t : Scene) → o ≡ got t → eachTable 10 (λ k. leb (length (rows k t)) rowLimit) tables ≡ bad 10 n
                     → verdict.Bad 10 n ≡ verdictOf (o >>= λ t. eachTable 10 (λ k. leb (length (rows k t)) rowLimit) tables >>= λ _. got t)
@@ -254,7 +240,7 @@ module _ (s : List ℕ) where
 
             pub judge-good : n ≡ 0 → verdict.Good x ≡ verdictOf (judge s)
             unfolding judge
-            judge-good q = finish (parse s) (gave .value) (gave .is) (over-none (λ k. length (rows k (gave .value))) tables positive (sym over-at ∙ q))
+            judge-good q = finish (parse s) (gave .value) (gave .is) (first-none 10 (λ k. leb (length (rows k (gave .value))) rowLimit) tables (each-table (λ k. 0 < k) (λ k a b. a)) (sym over-at ∙ q))
                 (λ i. record { version = gave .version i; «n_texs» = gave .slots i; tally = tally-is i })
               where
                 finish : (o : Out Scene) (t : Scene) → o ≡ got t → eachTable 10 (λ k. leb (length (rows k t)) rowLimit) tables ≡ got tt

@@ -9,11 +9,13 @@ use Rattle.wire.specs.Bytes.{AllBytes}
 use Rattle.layout.specs.Out.{Out, got, bad, _>>=_}
 use Rattle.layout.proofs.Lists.{All, all-zip}
 use Rattle.b3d_scene.specs.declared.Answer.{Answer}
-use Rattle.b3d_scene.specs.Answers.{eachTable, judge, read, answer, readAnswer, readTable, tableAfter}
+use Rattle.b3d_scene.specs.Answers.{eachTable, firstNot, judge, read, answer, readAnswer, readTable, tableAfter}
 use Rattle.b3d_scene.specs.Rules.{rowLimit}
 use Rattle.b3d_scene.specs.Scene.{Scene}
 use Rattle.b3d_scene.specs.Tables.{width, rows, table, tables, nodeTables, counts}
-use Rattle.b3d_scene.proofs.AnswerLaws.{judge-got, judge-first, read-got}
+use Rattle.b3d_scene.proofs.Refusals.{judge-place, read-number}
+use Rattle.b3d_scene.proofs.Rows.Numbers.{each-table, table-each, ten-tables}
+use Rattle.b3d_scene.proofs.AnswerLaws.{first-none, first-some, judge-got, judge-first, read-got}
 use Rattle.b3d_scene.proofs.Files.FileLaws.{parse-fine}
 use Rattle.b3d_scene.proofs.Rows.CountLaws.{table-length}
 use Rattle.b3d_rows.specs.Puts.{Ready}
@@ -23,8 +25,7 @@ use Rattle.b3d_judge.specs.declared.Verdict.{Verdict}
 use Rattle.b3d_judge.specs.declared.Verdict.the-variants as verdict
 use Rattle.b3d_read.specs.Rooms.{numberOf, countsIn, firstShort, Limited}
 use Rattle.b3d_read.specs.Reads.{tableIn, roomIn, Reads, acceptedAs, Fits, Fills}
-use Rattle.b3d_read.proofs.RoomLaws.{short-none, short-some, short-at-most, each-table, table-each, ten-tables}
-use Rattle.b3d_read.proofs.Refusals.{judge-place, read-number}
+use Rattle.b3d_read.proofs.RoomLaws.{short-first, short-at-most}
 
 -- ---- what a verdict says of what was read
 
@@ -95,26 +96,29 @@ module _ (s : List ℕ) (v : Verdict) (ev : v ≡ verdictOf (judge s)) where
       abbrev count : ℕ → ℕ
       count k = length (rows k (good .scene))
 
-      first-is : n ≡ firstShort count room tables
-      first-is = en ∙ ap (λ (y : Summary). firstShort (numberOf (countsIn (y .tally))) room tables) (good .same) ∙ short-is (good .scene) room
+      short-count : n ≡ firstShort count room tables
+      short-count = en ∙ ap (λ (y : Summary). firstShort (numberOf (countsIn (y .tally))) room tables) (good .same) ∙ short-is (good .scene) room
+
+      first-is : n ≡ firstNot (λ k. leb (width k * count k) (room k)) tables
+      first-is = short-count ∙ short-first count room tables
 
       opened : read room s ≡ (eachTable 11 (λ k. leb (width k * count k) (room k)) tables >>= λ _. got (good .scene))
       unfolding read
       opened = rw (good .is)
 
       pub short-fits : n < 4294967296
-      short-fits = let h = short-at-most count room 10 tables (each-table (λ k. k ≤ 10) (λ k a b. b)) in omega (arith, first-is)
+      short-fits = let h = short-at-most count room 10 tables (each-table (λ k. k ≤ 10) (λ k a b. b)) in omega (arith, short-count)
 
       pub answer-short : (n ≡ 0 → ⊥) → (y : Answer) → y ≡ answer (bad 11 n) → y ≡ readAnswer room s
       unfolding readAnswer
       answer-short d y h =
-          let e : read room s ≡ bad 11 (firstShort count room tables) = rw (opened, short-some count room tables (λ q. d (first-is ∙ q))) in
+          let e : read room s ≡ bad 11 (firstNot (λ k. leb (width k * count k) (room k)) tables) = rw (opened, first-some 11 (λ k. leb (width k * count k) (room k)) tables (λ q. d (first-is ∙ q))) in
           h ∙ ap (λ (i : ℕ). answer (bad 11 i)) first-is ∙ ap answer (sym e)
 
       pub answer-good : n ≡ 0 → (y : Answer) → y ≡ acceptedAs x → y ≡ readAnswer room s
       unfolding readAnswer
       answer-good z y h =
-          let e : read room s ≡ got (good .scene) = rw (opened, short-none count room tables (each-table (λ k. 0 < k) (λ k a b. a)) (sym first-is ∙ z)) in
+          let e : read room s ≡ got (good .scene) = rw (opened, first-none 11 (λ k. leb (width k * count k) (room k)) tables (each-table (λ k. 0 < k) (λ k a b. a)) (sym first-is ∙ z)) in
           h ∙ ap acceptedAs (good .same) ∙ accepted-is (good .scene) ∙ ap answer (sym e)
 
 pub ruleset answer-laws = (place-fits, answer-bad, good-limited, short-fits, answer-short, answer-good)

@@ -1,15 +1,18 @@
 -- What reader, writer and clearer have seen to where they accept, and that 1 to 10 are answered whatever is lent.
-use mathlib.Core.Path.{_≡_, refl, subst}
-use Prim.Native.Nat.{ℕ, _*_, _≤_}
-use mathlib.Core.Bool.{Bool}
+use mathlib.Core.Path.{_≡_, refl, sym, subst, _∙_}
+use Prim.Native.Nat.{ℕ, _*_, _≤_, _<_}
+use native.Mathlib.Omega.{arith}
+use mathlib.Core.Bool.{Bool, true, false, not}
 use mathlib.Core.Option.{Option, none, some}
 use mathlib.Core.List.{List, [], _∷_}
 use lib.ListN.{length}
-use lib.Dec.{T, leb, leb→le, le→leb}
-use Rattle.layout.specs.Out.{Out, got, bad, _>>=_}
+use lib.Dec.{T, leb, ltb, leb→le, le→leb, ltb→lt, nltb→le}
+use borrow.Author.Tests.{lt-leb, le-leb, lt-ltb, le-ltb}
+use Rattle.wire.specs.Test.{if}
+use Rattle.layout.specs.Out.{Out, got, bad, check, _>>=_}
 use Rattle.layout.proofs.Lists.{All, all-map}
-use Rattle.layout.proofs.Outs.{by-check, by-got, bad-got, check-yes, got-inj}
-use Rattle.b3d_scene.specs.Answers.{eachTable, judge, read, roomFor, shortest, write, clear}
+use Rattle.layout.proofs.Outs.{by-test, if-yes, if-no, by-check, by-got, bad-got, check-yes, got-inj}
+use Rattle.b3d_scene.specs.Answers.{eachTable, firstNot, judge, read, roomFor, shortest, write, clear}
 use Rattle.b3d_scene.specs.Encode.{encode}
 use Rattle.b3d_scene.specs.Parse.{parse}
 use Rattle.b3d_scene.specs.Rebuild.{Lent, rebuild}
@@ -28,6 +31,37 @@ each-yes : (n : ℕ) (ok : ℕ → Bool) (ks : List ℕ) → All (λ k. T (ok k)
 unfolding eachTable
 each-yes n ok [] h = refl
 each-yes n ok (k ∷ ks) h = rw (check-yes (ok k) n k (h .0)) (each-yes n ok ks (h .1))
+
+check-no : (b : Bool) (n p : ℕ) → T (not b) → check b n p ≡ bad n p
+unfolding check
+check-no true n p t = absurd t
+check-no false n p t = refl
+
+-- the test holds of each just where the first without it is 0; else that is refused
+module _ (n : ℕ) (ok : ℕ → Bool) where
+  pub first-none : (ks : List ℕ) → All (λ k. 0 < k) ks → firstNot ok ks ≡ 0 → eachTable n ok ks ≡ got tt
+  unfolding firstNot eachTable
+  first-none [] h e = refl
+  first-none (k ∷ ks) h e =
+      by-test (ok k)
+      (λ t. rw (check-yes (ok k) n k t) (first-none ks (h .1) (sym (if-yes (ok k) (firstNot ok ks) k t) ∙ e)))
+      (λ t. let z : k ≡ 0 = sym (if-no (ok k) (firstNot ok ks) k t) ∙ e in absurd (omega (arith, h .0)))
+
+  pub first-some : (ks : List ℕ) → (firstNot ok ks ≡ 0 → ⊥) → eachTable n ok ks ≡ bad n (firstNot ok ks)
+  unfolding firstNot eachTable
+  first-some [] d = absurd (d refl)
+  first-some (k ∷ ks) d =
+      by-test (ok k)
+      (λ t. let z = if-yes (ok k) (firstNot ok ks) k t in rw (check-yes (ok k) n k t, z) (first-some ks (λ q. d (z ∙ q))))
+      (λ t. rw (check-no (ok k) n k t, if-no (ok k) (firstNot ok ks) k t))
+
+-- a bound that is passed, or not kept
+pub over-not : {A : Type 0} (a b : ℕ) (x y : A) → if (ltb a b) x y ≡ if (leb b a) y x
+unfolding if
+over-not a b x y =
+    by-test (ltb a b)
+    (λ t. rw (lt-ltb a b (ltb→lt a b t), lt-leb b a (ltb→lt a b t)))
+    (λ t. rw (le-ltb a b (nltb→le a b t), le-leb b a (nltb→le a b t)))
 
 module _ (n : ℕ) (size : ℕ → Scene → ℕ) (most : ℕ → ℕ) where
   abbrev Within : Scene → Type 0

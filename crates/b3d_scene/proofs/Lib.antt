@@ -6,6 +6,7 @@ pub mod Rows
 pub mod Join
 pub mod Laws
 pub mod AnswerLaws
+pub mod Refusals
 pub mod Computing
 pub mod Cases
 pub mod ExtraCases

@@ -1,4 +1,5 @@
 -- The laws between scenes and tables: what `rebuild` makes of a scene's rows, and the rows of what it rebuilds.
+pub mod Numbers
 pub mod MaskLaws
 pub mod WordCounts
 pub mod RowLists

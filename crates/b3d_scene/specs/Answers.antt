@@ -7,6 +7,7 @@ use mathlib.Core.List.{List, [], _∷_}
 use lib.ListN.{length, replicate}
 use lib.Dec.{leb}
 use Rattle.wire.specs.Bytes.{over}
+use Rattle.wire.specs.Test.{if}
 use Rattle.layout.specs.Out.{Out, got, bad, check, _>>=_}
 use Rattle.b3d_scene.specs.Scene.{Scene}
 use Rattle.b3d_scene.specs.Rules.{rowLimit, mostBytes}
@@ -24,6 +25,11 @@ eachTable n ok [] = got tt
 eachTable n ok (k ∷ ks) = do
   _ ← check (ok k) n k
   eachTable n ok ks
+
+-- of these tables the first of which the test does not hold, by its number; 0 where there is none
+unfoldable pub firstNot : (ℕ → Bool) → List ℕ → ℕ
+firstNot ok [] = 0
+firstNot ok (k ∷ ks) = if (ok k) (firstNot ok ks) k
 
 -- ---- reader
 

@@ -1,45 +1,24 @@
 -- How code fills table k: a node's own rows, then its children's, then its later siblings', each run from the place that the counts say.
-use mathlib.Core.Path.{_≡_, refl, ap, sym, _∙_, subst}
-use mathlib.Core.Logic.{_≢_}
-use Prim.Native.Nat.{ℕ, zero, suc, _+_, _*_, _≤_, _<_}
+use mathlib.Core.Path.{_≡_, refl, ap, sym, _∙_}
+use Prim.Native.Nat.{ℕ, suc, _+_, _*_, _≤_}
 use native.Mathlib.Nat.{add-zero, add-suc, suc-add}
 use native.Mathlib.Omega.{arith}
 use mathlib.Core.List.{List, [], _∷_, _++_}
 use lib.ListN.{length, set}
 use lib.Seq.{sets}
-use lib.Dec.{eqb, eqb→eq}
-use mir.Facts.{eqb-no}
 use Rattle.layout.proofs.Lists.{All}
-use Rattle.layout.proofs.Outs.{by-test}
 use Rattle.b3d_scene.specs.Rules.{bonesBelow, boneVertices}
 use Rattle.b3d_scene.specs.Scene.{Data, Forest, leaf, node}
-use Rattle.b3d_scene.specs.Tables.{width, reached, ownRows, withNode, withForest, forestRows, words, nodeTables}
+use Rattle.b3d_scene.specs.Tables.{width, reached, ownRows, withNode, withForest, forestRows, words}
 use Rattle.b3d_scene.specs.declared.Counts.{Counts}
 use Rattle.b3d_scene.proofs.Rows.CountLaws.{Rise, rises, words-append}
 use Rattle.b3d_scene.proofs.Fitting.{FitNodes}
+use Rattle.b3d_scene.proofs.Rows.Numbers.{at-table}
 use Rattle.b3d_scene.proofs.Rows.Nodes.{OwnWide, own-wide, Step, steps}
 use Rattle.b3d_scene.proofs.Rows.RebuildLaws.{forest-wide}
 use Rattle.b3d_scene.proofs.Rows.RowLists.{words-length}
 use Rattle.b3d_scene.proofs.Rows.RowParts.{Wide}
 use mathlib.Core.Option.{Option}
-
--- ---- one table of those that nodes have rows in
-
-range : ℕ → ℕ → List ℕ
-range a zero = []
-range a (suc n) = a ∷ range (suc a) n
-
-in-range : (P : ℕ → Type 0) (n a k : ℕ) → All P (range a n) → a ≤ k → k < a + n → P k
-unfolding range
-in-range P zero a k h l u = absurd (omega arith)
-in-range P (suc n) a k h l u =
-    by-test (eqb k a) (λ e. subst P (sym (eqb→eq k a e)) (h .0))
-    (λ e. let d : k ≢ a = eqb-no e in in-range P n (suc a) k (h .1) (omega arith) (omega arith))
-
--- what holds of each of the tables 3 to 10 holds of table k
-pub at-table : (P : ℕ → Type 0) (k : ℕ) → All P nodeTables → 3 ≤ k → k ≤ 10 → P k
-unfolding nodeTables range
-at-table P k h l u = in-range P 8 3 k h l (omega arith)
 
 -- ---- stores
 

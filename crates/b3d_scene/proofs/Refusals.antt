@@ -15,18 +15,18 @@ use Rattle.layout.specs.Out.{Out, got, bad, check, _>>=_}
 use Rattle.layout.specs.Parts.{Step, text, words, judged, row, number, named, itemsIn, items}
 use Rattle.layout.specs.Rules.{Rule, holds, refusal}
 use Rattle.layout.proofs.Lists.{All}
 use Rattle.b3d_scene.specs.declared.Tag.{Tag}
 use Rattle.b3d_scene.specs.declared.Tag.the-variants.{BB3D, TEXS, BRUS, NODE, MESH, VRTS, BONE, KEYS, ANIM}
 use Rattle.b3d_scene.specs.Answers.{eachTable, judge, read}
 use Rattle.b3d_scene.specs.Nesting.{nesting, Reached, start, owed, end, next, onward, order, inside}
 use Rattle.b3d_scene.specs.Parse.{readOne, readTexture, readTextures, readBrush, readBrushes, noVertices, readVertices, readTriangles, readSets, readMesh, readBone, readKeys, filled, readAnim, aMesh, aBone, readKind, withKeys, readMoves, Inner, readNodes, readBelow, readNode, readRoot, readBody, parse}
 use Rattle.b3d_scene.specs.Rules.{header, fileHead, textureRow, brushesHead, brushRow, brushIds, nodeRow, meshHead, verticesHead, vertexRow, trianglesHead, triangleRow, weightRow, keysHead, keyRow, animRow, boneVertices, bonesBelow, levels, fileSize, mostBytes}
 use Rattle.b3d_scene.specs.Scene.{Anim, still, anim, Data, leaf, Scene}
 use Rattle.b3d_scene.specs.Tables.{tables}
 use Rattle.b3d_scene.specs.Tags.{code, tagOf, is, Chunks, split, Found}
 use Rattle.b3d_scene.proofs.Files.FileLaws.{size-bound}
 use Rattle.b3d_scene.proofs.Files.RefusalLaws.{parse-refusal}
-use Rattle.b3d_read.proofs.RoomLaws.{each-table}
+use Rattle.b3d_scene.proofs.Rows.Numbers.{each-table}
 
 -- a value with P, or a refusal whose place is no more than the most bytes of a file
 abbrev Low : {A : Type 0} → (A → Type 0) → Out A → Type 0
