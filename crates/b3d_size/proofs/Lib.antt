@@ -1,0 +1,4 @@
+-- The size of lent tables is that of their scene's file.
+pub mod SizeLaws
+pub mod RowLaws
+pub mod TotalLaws

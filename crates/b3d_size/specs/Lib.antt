@@ -1,0 +1,2 @@
+-- The size of the shortest file, from lent tables.
+pub mod LentSize
