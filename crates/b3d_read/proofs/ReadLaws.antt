@@ -1,4 +1,4 @@
--- A law for each way through `answer_for` and `read`.
+-- A law for each way through `judge`, `answer_for` and `read`.
 use mathlib.Core.Path.{_≡_, refl, ap, sym, _∙_}
 use Prim.Native.Nat.{ℕ, _*_, _<_, _≤_}
 use native.Mathlib.Omega.{arith}
@@ -45,7 +45,7 @@ was-good : (o : Out Scene) (x : Summary) → verdictOf o ≡ verdict.Good x → 
 was-good (got t) x h = record { scene = t; is = refl; same = cc }
 was-good (bad n p) x h = let z : _≡_ {A = ℕ} 0 1 = cc in absurd (omega arith)
 
--- ---- `answer_for`
+-- ---- `judge` and `answer_for`
 
 -- the counts of the tally are those of the scene
 short-is : (t : Scene) (room : ℕ → ℕ) → firstShort (numberOf (countsIn (tallyOf t))) room tables ≡ firstShort (λ k. length (rows k t)) room tables
@@ -81,6 +81,9 @@ module _ (s : List ℕ) (v : Verdict) (ev : v ≡ verdictOf (judge s)) where
     pub place-fits : p < 4294967296
     place-fits = let h = judge-place s e p bad-is in omega arith
 
+    pub judge-bad : (y : Answer) → y ≡ answer (bad e p) → y ≡ answer (judge s)
+    judge-bad y h = h ∙ ap answer (sym bad-is)
+
     pub answer-bad : (room : ℕ → ℕ) (y : Answer) → y ≡ answer (bad e p) → y ≡ readAnswer room s
     unfolding readAnswer
     answer-bad room y h = h ∙ ap answer (sym (judge-first s e p bad-is room 0 .0))
@@ -91,6 +94,9 @@ module _ (s : List ℕ) (v : Verdict) (ev : v ≡ verdictOf (judge s)) where
 
     pub good-limited : Limited (x .tally)
     good-limited = rw (good .same) (limited (good .scene) (judge-got s (good .scene) (good .is) .1))
+
+    pub judge-good : (y : Answer) → y ≡ acceptedAs x → y ≡ answer (judge s)
+    judge-good y h = h ∙ ap acceptedAs (good .same) ∙ accepted-is (good .scene) ∙ ap answer (sym (good .is))
 
     module _ (room : ℕ → ℕ) (n : ℕ) (en : n ≡ firstShort (numberOf (countsIn (x .tally))) room tables) where
       abbrev count : ℕ → ℕ
@@ -120,6 +126,8 @@ module _ (s : List ℕ) (v : Verdict) (ev : v ≡ verdictOf (judge s)) where
       answer-good z y h =
           let e : read room s ≡ got (good .scene) = rw (opened, first-none 11 (λ k. leb (width k * count k) (room k)) tables (each-table (λ k. 0 < k) (λ k a b. a)) (sym first-is ∙ z)) in
           h ∙ ap acceptedAs (good .same) ∙ accepted-is (good .scene) ∙ ap answer (sym e)
+
+pub ruleset judge-laws = (place-fits, judge-bad, good-limited, judge-good)
 
 pub ruleset answer-laws = (place-fits, answer-bad, good-limited, short-fits, answer-short, answer-good)
 

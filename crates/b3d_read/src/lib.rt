@@ -56,6 +56,16 @@ fn accepted(x: Summary) -> Answer
     }
 }
 
+// The answer for a file without any table.
+pub fn judge(file: &[u8]) -> Answer
+    ensures { λ r. ⌜ r ≡ answer (judge (now (file .entry))) ⌝ }
+{
+    match b3d_judge::judge(file) {
+        Verdict::Bad(number, place) => refused(number, place),
+        Verdict::Good(found) => accepted(found),
+    }
+}
+
 // The table k where so many rows of this width have no room in it, else what is found later.
 fn short_or(k: usize, width: usize, rows: usize, room: usize, later: usize) -> usize
     requires { ⌜ 0 < width ⌝ }

@@ -148,15 +148,23 @@ module _ (R : Rows) (d : Data) (ch sib : Forest) (p : ℕ) (n : Counts) (S : Row
   unfolding nodeTables reached ownRows if
   here-lists = rw (here-own .1 .1 .1 .1 .1 .1 .0) (mine-back (n .nodes) (n .keys) (d .keys) (afterOwn d ch sib p n S 9) here-others)
 
-  -- the counts after it come from its cells
-  pub here-counts : (ns : List ℕ) (b c : ℕ) → FitData b c d → Stands ns (d .name) → withNode d n ≡ cellCounts R (nodeRow d p n) n
-  unfolding nodeTables reached ownRows nodeRow nameCells if
-  here-counts ns b c f st =
-      let x = nodeRow d p n in
-      let S′ = afterOwn d ch sib p n S in
-      let is : NodeIs ns b c R x n d = next-from ns b c R x (S′ 3) n d (here-own .0) S′ ((f, st), here-own) .0 in
-      let e : dataFrom ns R x n ≡ d = data-back ns b c R S′ n d p f st here-own here-others in
-      ap (λ (y : Data). withNode y n) (sym e) ∙ cell-counts ns b c R x n (subst (NodeIs ns b c R x n) (sym e) is)
+  -- it is what its row says, with what is its own in the other tables
+  module _ (ns : List ℕ) (b c : ℕ) (f : FitData b c d) (st : Stands ns (d .name)) where
+    abbrev own-row : List ℕ
+    own-row = nodeRow d p n
+
+    pub here-data : dataFrom ns R (nodeRow d p n) n ≡ d
+    here-data = data-back ns b c R (afterOwn d ch sib p n S) n d p f st here-own here-others
+
+    pub here-is : NodeIs ns b c R (nodeRow d p n) n (dataFrom ns R (nodeRow d p n) n)
+    unfolding nodeTables reached ownRows nodeRow nameCells if
+    here-is =
+        let S′ = afterOwn d ch sib p n S in
+        subst (NodeIs ns b c R own-row n) (sym here-data) (next-from ns b c R own-row (S′ 3) n d (here-own .0) S′ ((f, st), here-own) .0)
+
+    -- the counts after it come from its cells
+    pub here-counts : withNode d n ≡ cellCounts R (nodeRow d p n) n
+    here-counts = ap (λ (y : Data). withNode y n) (sym here-data) ∙ cell-counts ns b c R own-row n here-is
 
 -- ---- at the root, and at the end
 

@@ -8,12 +8,13 @@ use crate::rng::Rng;
 
 /// A file changed in one of the ways below.
 pub fn changed(scene: &Scene, rng: &mut Rng) -> Vec<u8> {
-    match rng.below(6) {
+    match rng.below(7) {
         0 => byte_change(&scene.file, rng),
         1 => word_change(&scene.file, rng),
         2 => marked_change(&scene.tree, rng).bytes(),
         3 => cut_and_mended(&scene.file, rng),
         4 => tree_change(&scene.tree, rng).bytes(),
+        5 => inserted(&scene.tree, rng).bytes(),
         _ => two_faults(&scene.tree, rng).bytes(),
     }
 }
@@ -113,6 +114,19 @@ pub fn tree_change(tree: &Chunk, rng: &mut Rng) -> Chunk {
             }
         }
     }
+    tree
+}
+
+/// A copy of one chunk put among the chunks of another, or into one that has
+/// none; all lengths mended.
+pub fn inserted(tree: &Chunk, rng: &mut Rng) -> Chunk {
+    let mut tree = tree.clone();
+    let spots = tree.spots();
+    let from = &spots[rng.below(spots.len())];
+    let to = &spots[rng.below(spots.len())];
+    let copy = tree.at(&from.path).clone();
+    let chunks = &mut tree.at_mut(&to.path).chunks;
+    chunks.insert(rng.between(0, chunks.len()), copy);
     tree
 }
 

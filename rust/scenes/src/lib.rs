@@ -7,6 +7,7 @@
 //! - `rows`: files with a given number of rows in one table.
 //! - `private`: files that differ only in what a clearer drops.
 //! - `words`: damaged tables for a writer.
+//! - `worked`: the worked files and cases of paper 01.
 //! - `rebuild`: a file from tables, as far as that goes.
 
 pub mod change;
@@ -19,6 +20,7 @@ pub mod rng;
 pub mod rows;
 pub mod sheet;
 pub mod words;
+pub mod worked;
 
 pub use chunk::Chunk;
 pub use damage::Damaged;

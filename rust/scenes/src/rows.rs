@@ -76,7 +76,7 @@ fn bone(weights: usize) -> Chunk {
 }
 
 /// KEYS with flags 0.
-fn keys(count: usize) -> Chunk {
+pub fn keys(count: usize) -> Chunk {
     let mut chunk = Chunk::new(b"KEYS");
     chunk.words(&vec![0; 1 + count]);
     chunk

@@ -1,0 +1,23 @@
+-- `kelompuris_b3d_read` answers, and leaves in the tables, what `b3d_read::read` does.
+use borrow.Author.Needs.{needs}
+use Rattle.kelompuris_c.proofs.Laws.{outward-laws}
+use Rattle.kelompuris_c.proofs.kelompuris_b3d_read.Statement.{statement}
+use Rattle.kelompuris_c.proofs.kelompuris_b3d_read.Tie as tie
+
+pub kelompuris-b3d-read-spec : {M : Type 1} → statement M
+kelompuris-b3d-read-spec =
+    tie.close
+    (tie.spec
+    (λ c κs. search needs)
+    (λ c κs. search needs)
+    (λ c. search needs)
+    (λ c. search needs)
+    (λ c. search needs)
+    (λ c. search needs)
+    (λ c. search needs)
+    (λ c. search needs)
+    (λ c. search needs)
+    (λ c. search needs)
+    (λ c. search needs)
+    (λ c. search needs)
+    (λ c. search outward-laws))

@@ -1,0 +1,81 @@
+/* Kelompuris: B3D scene files for showroom terminals.
+ *
+ * The functions are in libkelompuris_c.a, for x86-64 Linux (`rt staticlib kelompuris_c`). They keep nothing between calls and use no heap.
+ * Each takes every file: bytes that are no B3D file are answered by a refusal.
+ *
+ * A lent array is a pointer and its number of elements. The caller sees to this:
+ *   - the pointer holds for that many elements, and is aligned as its type asks; with 0 elements it may be null;
+ *   - no two lent arrays overlap, and nothing else writes them while the function runs.
+ */
+#ifndef KELOMPURIS_H
+#define KELOMPURIS_H
+
+#include <stddef.h>
+#include <stdint.h>
+
+#ifdef __cplusplus
+extern "C" {
+#endif
+
+/* What a file is answered.
+ *
+ * number 0: accepted. place is 0; version, n_texs (texture slots of a brush, 0 without a brush) and counts (rows of tables 1 to 10) are
+ * the file's. Any other number is a refusal, and version, n_texs and counts are 0:
+ *
+ *    number                                                              place
+ *    1  file size not 12 to 16,777,216                                   0
+ *    2  first tag not BB3D; or its length not the file size minus 8      0; 4
+ *    3  a chunk's header is cut, or its length passes what encloses it   byte of the header
+ *    4  a known tag not allowed there, once too often or out of order    byte of the header
+ *    5  fixed data or an item runs past its chunk; ANIM not 12 bytes     byte where that data or item starts
+ *    6  a number outside its range                                       byte of the number
+ *    7  an id that names nothing                                         byte of the number
+ *    8  a MESH without VRTS or TRIS                                      byte of the MESH header
+ *    9  a node nested 17 deep                                            byte of the header
+ *   10  a table would have more than 16,383 rows                         lowest such table, 1 to 10
+ *   11  a lent table is too short for its rows                           lowest such table, 1 to 10
+ */
+typedef struct {
+    uint32_t number, place, version, n_texs, counts[10];
+} kelompuris_answer;
+
+/* Judges a file without tables: answers 0 or 1 to 10. Writes nothing. The counts say how long the tables must be for
+ * kelompuris_b3d_read. */
+kelompuris_answer kelompuris_b3d_judge(const uint8_t *file, size_t file_len);
+
+/* Words of a row of tables 1 to 10. */
+enum {
+    KELOMPURIS_TEXTURE_WORDS = 9,
+    KELOMPURIS_BRUSH_WORDS = 17,
+    KELOMPURIS_NODE_WORDS = 20,
+    KELOMPURIS_MESH_WORDS = 9,
+    KELOMPURIS_VERTEX_WORDS = 42,
+    KELOMPURIS_TRIANGLE_SET_WORDS = 4,
+    KELOMPURIS_TRIANGLE_WORDS = 3,
+    KELOMPURIS_WEIGHT_WORDS = 2,
+    KELOMPURIS_KEY_LIST_WORDS = 4,
+    KELOMPURIS_KEY_WORDS = 11
+};
+
+/* Reads a file into ten lent tables of 32-bit words: answers 0 or 1 to 11.
+ *
+ * Accepted: each table begins with its rows, as many as its count says; the words behind them stay as they were.
+ * Refused, also by 11: all ten tables stay as they were.
+ * The file is not written. The lengths are in words, not in rows.
+ *
+ *   t1 textures   t2 brushes         t3 nodes       t4 meshes   t5 vertices
+ *   t6 triangle sets   t7 triangles   t8 weights   t9 key lists   t10 keys
+ */
+kelompuris_answer kelompuris_b3d_read(
+    const uint8_t *file, size_t file_len,
+    uint32_t *t1, size_t t1_len, uint32_t *t2, size_t t2_len,
+    uint32_t *t3, size_t t3_len, uint32_t *t4, size_t t4_len,
+    uint32_t *t5, size_t t5_len, uint32_t *t6, size_t t6_len,
+    uint32_t *t7, size_t t7_len, uint32_t *t8, size_t t8_len,
+    uint32_t *t9, size_t t9_len, uint32_t *t10, size_t t10_len);
+
+#ifdef __cplusplus
+}
+#endif
+
+#endif

@@ -1,0 +1,200 @@
+//! Holds the proved functions to the independent reference: the same answers,
+//! the same words in all ten tables, and no other word changed.
+
+use reference::Answer;
+use scenes::sheet::ROW_WORDS;
+use scenes::Rng;
+use std::error::Error;
+use std::fmt;
+
+/// What was compared so far.
+#[derive(Default)]
+pub struct Compared {
+    pub files: usize,
+    pub reads: usize,
+    /// Words of tables, those around the rows too.
+    pub words: usize,
+    /// How often each number was answered.
+    pub numbers: [usize; 12],
+}
+
+/// Where the two differ.
+#[derive(Debug)]
+pub struct Disagreement {
+    pub about: String,
+    pub file: Vec<u8>,
+}
+
+/// Most bytes of a file that are printed.
+const SHOWN: usize = 4096;
+
+impl fmt::Display for Disagreement {
+    fn fmt(&self, f: &mut fmt::Formatter) -> fmt::Result {
+        writeln!(f, "{}", self.about)?;
+        write!(f, "file of {} bytes, the first {SHOWN}:", self.file.len())?;
+        for byte in self.file.iter().take(SHOWN) {
+            write!(f, " {byte:02x}")?;
+        }
+        Ok(())
+    }
+}
+
+impl Error for Disagreement {}
+
+impl Compared {
+    /// Judges a file and reads it with tables of several sizes; the answer of
+    /// both to a file without tables.
+    pub fn file(&mut self, file: &[u8], rng: &mut Rng) -> Result<Answer, Disagreement> {
+        self.files += 1;
+        let answer = own(kelompuris::judge(file));
+        self.same("judge", file, answer, reference::judge(file))?;
+        for sizes in sizes_to_lend(&answer, rng) {
+            self.read(file, sizes)?;
+        }
+        Ok(answer)
+    }
+
+    /// Compares, and holds both to an answer that is known.
+    pub fn known(
+        &mut self,
+        about: &str,
+        file: &[u8],
+        (number, place): (u32, u32),
+        rng: &mut Rng,
+    ) -> Result<(), Disagreement> {
+        let answer = self.file(file, rng)?;
+        if (answer.number, answer.place) == (number, place) {
+            return Ok(());
+        }
+        let about = format!("{about}: both answer {answer:?}, not {number} at {place}");
+        disagree(about, file)
+    }
+
+    /// Reads with tables of these sizes.
+    fn read(&mut self, file: &[u8], sizes: [usize; 10]) -> Result<(), Disagreement> {
+        self.reads += 1;
+        let (mut proved, mut plain) = (Lent::new(sizes), Lent::new(sizes));
+        let answer = own(kelompuris::read(file, &mut proved.tables()));
+        let expected = reference::read(file, &mut plain.tables());
+        let about = format!("read with {sizes:?} words");
+        self.same(&about, file, answer, expected)?;
+        for table in 0..10 {
+            let (own, other) = (&proved.words[table], &plain.words[table]);
+            if let Some(at) = (0..own.len()).find(|&at| own[at] != other[at]) {
+                let (own, other) = (own[at], other[at]);
+                let at = at as isize - AROUND as isize;
+                let word = format!("word {at} of table {}", table + 1);
+                let values = format!("proved {own:#x}, reference {other:#x}");
+                return disagree(format!("{about}: {word}: {values}"), file);
+            }
+            self.words += own.len();
+        }
+        match proved.changed_outside(&answer) {
+            None => Ok(()),
+            Some(table) => disagree(format!("{about}: table {table} outside its rows"), file),
+        }
+    }
+
+    fn same(
+        &mut self,
+        about: &str,
+        file: &[u8],
+        answer: Answer,
+        expected: Answer,
+    ) -> Result<(), Disagreement> {
+        self.numbers[answer.number.min(11) as usize] += 1;
+        if answer == expected {
+            return Ok(());
+        }
+        let about = format!("{about}: proved {answer:?}, reference {expected:?}");
+        disagree(about, file)
+    }
+}
+
+fn disagree<T>(about: String, file: &[u8]) -> Result<T, Disagreement> {
+    let file = file.to_vec();
+    Err(Disagreement { about, file })
+}
+
+/// The proved answer as one of the reference.
+fn own(answer: kelompuris::Answer) -> Answer {
+    Answer {
+        number: answer.number,
+        place: answer.place,
+        version: answer.version,
+        n_texs: answer.n_texs,
+        counts: answer.counts,
+    }
+}
+
+/// Words before and behind each lent table.
+const AROUND: usize = 3;
+
+/// Ten tables to lend, each among other words, all filled by a pattern.
+struct Lent {
+    words: [Vec<u32>; 10],
+}
+
+impl Lent {
+    fn new(sizes: [usize; 10]) -> Lent {
+        let fill = |table| (0..sizes[table] + 2 * AROUND).map(move |at| pattern(table, at));
+        Lent {
+            words: std::array::from_fn(|table| fill(table).collect()),
+        }
+    }
+
+    fn tables(&mut self) -> [&mut [u32]; 10] {
+        self.words.each_mut().map(|words| {
+            let end = words.len() - AROUND;
+            &mut words[AROUND..end]
+        })
+    }
+
+    /// The first table with a change outside the rows of this answer.
+    fn changed_outside(&self, answer: &Answer) -> Option<usize> {
+        let kept = |table: usize, at: usize| self.words[table][at] == pattern(table, at);
+        (0..10)
+            .find(|&table| {
+                let rows_end = AROUND + row_words(answer, table);
+                let behind = rows_end..self.words[table].len();
+                !(0..AROUND).chain(behind).all(|at| kept(table, at))
+            })
+            .map(|table| table + 1)
+    }
+}
+
+/// The word that stands there before a call.
+fn pattern(table: usize, at: usize) -> u32 {
+    (at as u32 * 10 + table as u32).wrapping_mul(0x9E37_79B1) ^ 0xA5C3_0F1E
+}
+
+/// Words of the rows of a table; 0 for a refusal.
+fn row_words(answer: &Answer, table: usize) -> usize {
+    answer.counts[table] as usize * ROW_WORDS[table]
+}
+
+/// Sizes of the tables to lend for a file with this answer. For one that is
+/// accepted: just enough; more; one word short in one table, in each where
+/// that is quick; short in several; none at all.
+fn sizes_to_lend(answer: &Answer, rng: &mut Rng) -> Vec<[usize; 10]> {
+    let full: [usize; 10] = std::array::from_fn(|table| row_words(answer, table));
+    let more = full.map(|size| size + rng.below(50));
+    if answer.number != 0 {
+        return vec![more];
+    }
+    let mut filled: Vec<usize> = (0..10).filter(|&table| full[table] > 0).collect();
+    let several = full.map(|size| match rng.percent(40) && size > 0 {
+        true => rng.below(size),
+        false => size,
+    });
+    if full.iter().sum::<usize>() > 2000 && !filled.is_empty() {
+        filled = vec![rng.pick(&filled)];
+    }
+    let mut all = vec![full, more, several, [0; 10]];
+    for table in filled {
+        let mut short = more;
+        short[table] = full[table] - 1;
+        all.push(short);
+    }
+    all
+}

@@ -1,0 +1,143 @@
+//! Compares the proved functions with the reference on the cases of paper 01,
+//! on generated files and on damaged ones, and prints how often each number
+//! was met. Fails at the first disagreement, and if a number was never met.
+
+use compare::{Compared, Disagreement};
+use scenes::change::changed;
+use scenes::damage::{aimed, node_of};
+use scenes::rows::keys;
+use scenes::worked::{self, with};
+use scenes::{scene, Profile, Rng};
+use std::process::ExitCode;
+use std::time::Instant;
+
+const SCENES: usize = 2000;
+const CHANGES: usize = 20;
+
+/// The cases of paper 01.
+fn worked_files(compared: &mut Compared, rng: &mut Rng) -> Result<(), Disagreement> {
+    for case in worked::cases() {
+        compared.known(&case.about, &case.file, (case.number, case.place), rng)?;
+    }
+    Ok(())
+}
+
+/// Small files with each byte changed in many ways, and cut at each place.
+fn every_byte(compared: &mut Compared, rng: &mut Rng) -> Result<(), Disagreement> {
+    let mut files = vec![worked::h_and_unknown(), worked::t(), worked::brush(2)];
+    while files.len() < 25 {
+        let file = scene(rng, Profile::SMALL).file;
+        if file.len() < 700 {
+            files.push(file);
+        }
+    }
+    for file in files {
+        for place in 0..file.len() {
+            change_byte(compared, rng, &file, place)?;
+            compared.file(&file[..place], rng)?;
+            if place >= 12 {
+                let cut = file[..place].to_vec();
+                compared.file(&with(cut, 4, place as u32 - 8), rng)?;
+            }
+        }
+    }
+    Ok(())
+}
+
+/// The byte at this place one more, one less, small, at an edge, or with one
+/// bit changed.
+fn change_byte(
+    compared: &mut Compared,
+    rng: &mut Rng,
+    file: &[u8],
+    place: usize,
+) -> Result<(), Disagreement> {
+    let old = file[place];
+    let near = [old.wrapping_add(1), old.wrapping_sub(1)];
+    let edges = [0, 1, 2, 4, 8, 9, 0x7F, 0x80, 0xFE, 0xFF];
+    let bits = [1, 2, 4, 8, 0x20, 0x40].map(|bit| old ^ bit);
+    let mut changed = file.to_vec();
+    for byte in near.into_iter().chain(edges).chain(bits) {
+        changed[place] = byte;
+        compared.file(&changed, rng)?;
+    }
+    Ok(())
+}
+
+/// Generated files, one fault aimed at after the other, and changes without
+/// regard to the outcome.
+fn generated(compared: &mut Compared, rng: &mut Rng) -> Result<(), Disagreement> {
+    for _ in 0..SCENES {
+        let profile = Profile::any(rng);
+        let scene = scene(rng, profile);
+        compared.known("generated", &scene.file, (0, 0), rng)?;
+        for damaged in aimed(&scene, rng) {
+            let answer = (damaged.number, damaged.place);
+            compared.known(damaged.aim, &damaged.file, answer, rng)?;
+        }
+        for _ in 0..CHANGES {
+            compared.file(&changed(&scene, rng), rng)?;
+        }
+    }
+    Ok(())
+}
+
+/// Generated files with one row too many, and the same with a fault behind
+/// those rows: 10 comes after all faults of the file.
+fn too_many_rows(compared: &mut Compared, rng: &mut Rng) -> Result<(), Disagreement> {
+    for _ in 0..100 {
+        let mut tree = scene(rng, Profile::SMALL).tree;
+        let Some(root) = tree.chunks.iter_mut().find(|chunk| &chunk.tag == b"NODE") else {
+            continue;
+        };
+        root.chunks.push(node_of(vec![keys(16_384)]));
+        compared.known("16,384 keys", &tree.bytes(), (10, 10), rng)?;
+        let end = tree.size() as u32;
+        tree.tail = rng.bytes(5);
+        compared.known("spare bytes behind", &tree.bytes(), (3, end), rng)?;
+    }
+    Ok(())
+}
+
+type Group = fn(&mut Compared, &mut Rng) -> Result<(), Disagreement>;
+
+const GROUPS: [(&str, Group); 4] = [
+    ("cases of paper 01", worked_files),
+    ("every byte of small files", every_byte),
+    ("generated and damaged files", generated),
+    ("too many rows", too_many_rows),
+];
+
+fn main() -> ExitCode {
+    let mut numbers = [0; 12];
+    for (name, group) in GROUPS {
+        let start = Instant::now();
+        let mut compared = Compared::default();
+        if let Err(disagreement) = group(&mut compared, &mut Rng::new(2026)) {
+            eprintln!("{name}: {disagreement}");
+            return ExitCode::FAILURE;
+        }
+        let Compared {
+            files,
+            reads,
+            words,
+            ..
+        } = compared;
+        let seconds = start.elapsed().as_secs_f32();
+        println!("{name}: {files} files, {reads} reads, {words} words, {seconds:.1} s");
+        for (sum, count) in numbers.iter_mut().zip(compared.numbers) {
+            *sum += count;
+        }
+    }
+    println!("How often each number was answered:");
+    for (number, count) in numbers.iter().enumerate() {
+        println!("{number:2}: {count}");
+    }
+    match numbers.iter().position(|&count| count == 0) {
+        None => ExitCode::SUCCESS,
+        Some(number) => {
+            eprintln!("no file was answered {number}");
+            ExitCode::FAILURE
+        }
+    }
+}

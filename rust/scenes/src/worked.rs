@@ -1,0 +1,215 @@
+//! The worked files of paper 01, its cases of the reader and its slips that
+//! look right, each with the answer that the paper gives.
+
+use crate::chunk::Chunk;
+use crate::damage::{file_of, node_of, too_large};
+use crate::rows::{file_with_rows, file_with_rows_and_keys};
+
+const NONE: u32 = 0xFFFF_FFFF;
+
+/// The ten floats of a node: 1 to 10 as bits.
+const FLOATS: [u32; 10] = [1, 2, 3, 4, 5, 6, 7, 8, 9, 10];
+
+/// A file and its number and place.
+pub struct Case {
+    pub about: String,
+    pub file: Vec<u8>,
+    pub number: u32,
+    pub place: u32,
+}
+
+/// Bytes of tags, texts and numbers.
+#[derive(Default)]
+struct Bytes(Vec<u8>);
+
+impl Bytes {
+    fn text(mut self, text: &[u8]) -> Bytes {
+        self.0.extend_from_slice(text);
+        self
+    }
+
+    fn word(mut self, word: u32) -> Bytes {
+        self.0.extend_from_slice(&word.to_le_bytes());
+        self
+    }
+
+    fn words(self, words: &[u32]) -> Bytes {
+        words.iter().fold(self, |bytes, &word| bytes.word(word))
+    }
+}
+
+/// 12 bytes: version 1.
+pub fn p() -> Vec<u8> {
+    Bytes::default().text(b"BB3D").word(4).word(1).0
+}
+
+/// One pivot "Hall".
+pub fn h() -> Vec<u8> {
+    let start = Bytes::default().text(b"BB3D").word(57).word(1);
+    let node = start.text(b"NODE").word(45).text(b"Hall\0");
+    node.words(&FLOATS).0
+}
+
+/// H cleared, by hand.
+pub fn cleared_h() -> Vec<u8> {
+    let start = Bytes::default().text(b"BB3D").word(53).word(1);
+    start.text(b"NODE").word(41).text(b"\0").words(&FLOATS).0
+}
+
+/// H with a last chunk XTRA of 3 bytes.
+pub fn h_and_unknown() -> Vec<u8> {
+    let mut file = h();
+    file.extend_from_slice(b"XTRA\x03\0\0\0abc");
+    with(file, 4, 57 + 11)
+}
+
+/// A nameless root with a mesh of one triangle.
+pub fn t() -> Vec<u8> {
+    let start = Bytes::default().text(b"BB3D").word(145).word(1);
+    let node = start.text(b"NODE").word(133).text(b"\0").words(&FLOATS);
+    let mesh = node.text(b"MESH").word(84).word(NONE);
+    let vrts = mesh.text(b"VRTS").word(48).words(&[0, 0, 0]);
+    let vertices = vrts.words(&[11, 12, 13, 21, 22, 23, 31, 32, 33]);
+    let tris = vertices.text(b"TRIS").word(16).word(NONE);
+    tris.words(&[0, 1, 2]).0
+}
+
+/// The file with this number at this place.
+pub fn with(mut file: Vec<u8>, place: usize, word: u32) -> Vec<u8> {
+    file[place..place + 4].copy_from_slice(&word.to_le_bytes());
+    file
+}
+
+/// Nodes inside each other.
+pub fn chain(levels: usize) -> Vec<u8> {
+    let nodes = (0..levels).fold(Vec::new(), |inside, _| vec![node_of(inside)]);
+    file_of(nodes).bytes()
+}
+
+/// A texture and a brush that uses it `n_texs` times.
+pub fn brush(n_texs: u32) -> Vec<u8> {
+    let mut texs = Chunk::new(b"TEXS");
+    texs.name(b"t");
+    texs.words(&[0; 7]);
+    let mut brus = Chunk::new(b"BRUS");
+    brus.word(n_texs);
+    brus.name(b"b");
+    brus.words(&[0; 7]);
+    brus.words(&vec![0; n_texs as usize]);
+    file_of(vec![texs, brus]).bytes()
+}
+
+/// The largest file: 16,777,216 bytes.
+pub fn largest() -> Vec<u8> {
+    let mut file = too_large().file;
+    file.pop();
+    let file = with(file, 4, 16_777_216 - 8);
+    with(file, 16, 16_777_216 - 20)
+}
+
+/// A root mesh of 3 vertices, and in a child one of 1 whose triangle has
+/// this id.
+fn two_meshes(id: u32) -> Vec<u8> {
+    let child = node_of(vec![mesh(1, &[0, 0, id])]);
+    file_of(vec![node_of(vec![mesh(3, &[0, 1, 2]), child])]).bytes()
+}
+
+fn mesh(vertices: usize, ids: &[u32]) -> Chunk {
+    let mut vrts = Chunk::new(b"VRTS");
+    vrts.words(&vec![0; 3 + 3 * vertices]);
+    let mut tris = Chunk::new(b"TRIS");
+    tris.word(NONE);
+    tris.words(ids);
+    let mut mesh = Chunk::new(b"MESH");
+    mesh.word(NONE);
+    mesh.chunks = vec![vrts, tris];
+    mesh
+}
+
+/// T with one more id in its TRIS.
+fn cut_item() -> Vec<u8> {
+    let mut file = t();
+    file.extend_from_slice(&[0; 4]);
+    let mended = [(4, 149), (16, 137), (65, 88), (129 + 4, 20)];
+    let set = |file, (place, length)| with(file, place, length);
+    mended.into_iter().fold(file, set)
+}
+
+/// T without TRIS.
+fn no_tris() -> Vec<u8> {
+    let mended = [(4, 145 - 24), (16, 133 - 24), (65, 84 - 24)];
+    let set = |file, (place, length)| with(file, place, length);
+    mended.into_iter().fold(t()[..129].to_vec(), set)
+}
+
+/// An unknown chunk whose place and length add up to 16 in 32 bits.
+fn wrapped_length() -> Vec<u8> {
+    let mut chunk = Chunk::of_bytes(*b"XTRA", vec![0; 8]);
+    chunk.wrong_length = Some(0xFFFF_FFFC);
+    file_of(vec![chunk]).bytes()
+}
+
+/// An unknown chunk of odd length before the root.
+fn odd_length() -> Vec<u8> {
+    let chunk = Chunk::of_bytes(*b"XTRA", vec![0; 3]);
+    file_of(vec![chunk, node_of(Vec::new())]).bytes()
+}
+
+/// Cleared H with five zero bytes added.
+fn spare_bytes() -> Vec<u8> {
+    let mut file = cleared_h();
+    file.extend_from_slice(&[0; 5]);
+    with(file, 4, 58)
+}
+
+/// All cases, starred or not.
+pub fn cases() -> Vec<Case> {
+    let mut cases = Vec::new();
+    let mut add = |about: &str, file, number, place| {
+        cases.push(Case {
+            about: about.to_string(),
+            file,
+            number,
+            place,
+        })
+    };
+    add("P", p(), 0, 0);
+    add("no byte", Vec::new(), 1, 0);
+    add("11 bytes", p()[..11].to_vec(), 1, 0);
+    add("H", h(), 0, 0);
+    add("H cleared", cleared_h(), 0, 0);
+    add("H and XTRA", h_and_unknown(), 0, 0);
+    add("five bytes left", spare_bytes(), 3, 61);
+    add("T", t(), 0, 0);
+    add("last id 3", with(t(), 149, 3), 7, 149);
+    add("brush 0", with(t(), 69, 0), 7, 69);
+    add("no TRIS", no_tris(), 8, 61);
+    add("VRTS length 47", with(t(), 77, 47), 5, 117);
+    for version in [0, 99] {
+        add("version in range", with(p(), 8, version), 0, 0);
+    }
+    for version in [100, 101, NONE, 0x8000_0000] {
+        add("version out of range", with(p(), 8, version), 6, 8);
+    }
+    add("16 levels", chain(16), 0, 0);
+    add("17 levels", chain(17), 9, 12 + 16 * 49);
+    add("n_texs 8", brush(8), 0, 0);
+    add("n_texs 9", brush(9), 6, 12 + 8 + 30 + 8);
+    add("largest file", largest(), 0, 0);
+    add("one byte too many", too_large().file, 1, 0);
+    for table in 1..=10 {
+        // Each mesh needs a node, and 3 is below 4.
+        let lowest = if table == 4 { 3 } else { table as u32 };
+        let about = format!("table {table}, 16,38x rows");
+        add(&about, file_with_rows(table, 16_383), 0, 0);
+        add(&about, file_with_rows(table, 16_384), 10, lowest);
+        let two = file_with_rows_and_keys(table, 16_384);
+        add(&about, two, 10, lowest);
+    }
+    add("id of its own mesh", two_meshes(0), 0, 0);
+    add("id of another mesh", two_meshes(1), 7, 202 + 64);
+    add("cut item", cut_item(), 5, 153);
+    add("odd length", odd_length(), 0, 0);
+    add("wrapped length", wrapped_length(), 3, 12);
+    cases
+}

@@ -1,0 +1,47 @@
+/* Reads file H of paper 01 through the C interface: a scene of version 1 with one node, "Hall". Prints the answer and the node's row.
+ * The test rust/kelompuris/tests/c_program.rs builds and runs it, as C and as C++. */
+#include "kelompuris.h"
+#include <assert.h>
+#include <stdio.h>
+
+static_assert(sizeof(kelompuris_answer) == 14 * 4, "fourteen words, no gap");
+
+static const uint8_t hall[65] = {
+    'B', 'B', '3', 'D', 57, 0, 0, 0, 1, 0, 0, 0,
+    'N', 'O', 'D', 'E', 45, 0, 0, 0, 'H', 'a', 'l', 'l', 0
+    /* forty zero bytes: ten floats */
+};
+
+static void print(const char *about, kelompuris_answer answer) {
+    int i;
+    printf("%s: %u %u, %u %u,", about, (unsigned)answer.number, (unsigned)answer.place,
+           (unsigned)answer.version, (unsigned)answer.n_texs);
+    for (i = 0; i < 10; i++) {
+        printf(" %u", (unsigned)answer.counts[i]);
+    }
+    printf("\n");
+}
+
+/* Reads into a table of nodes of this many words; the other tables have none. */
+static kelompuris_answer read_nodes(const uint8_t *file, size_t len, uint32_t *nodes, size_t words) {
+    return kelompuris_b3d_read(file, len, NULL, 0, NULL, 0, nodes, words, NULL, 0, NULL, 0, NULL, 0, NULL, 0, NULL, 0, NULL, 0, NULL, 0);
+}
+
+int main(void) {
+    uint32_t nodes[KELOMPURIS_NODE_WORDS + 1];
+    int i;
+    for (i = 0; i <= KELOMPURIS_NODE_WORDS; i++) {
+        nodes[i] = 77;
+    }
+    print("judge", kelompuris_b3d_judge(hall, sizeof hall));
+    print("cut", kelompuris_b3d_judge(hall, 11));
+    print("short", read_nodes(hall, sizeof hall, nodes, KELOMPURIS_NODE_WORDS - 1));
+    printf("untouched: %u\n", (unsigned)nodes[0]);
+    print("read", read_nodes(hall, sizeof hall, nodes, KELOMPURIS_NODE_WORDS + 1));
+    printf("row:");
+    for (i = 0; i <= KELOMPURIS_NODE_WORDS; i++) {
+        printf(" %u", (unsigned)nodes[i]);
+    }
+    printf("\nname: %.*s\n", (int)nodes[1], (const char *)(hall + nodes[0]));
+    return 0;
+}
