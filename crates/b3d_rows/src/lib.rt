@@ -126,7 +126,8 @@ fn key_has(flags: u32, w: usize) -> bool
     flags / 4 % 2 == 1
 }
 
-fn vertex_mask(flags: u32, sets: u32, size: u32, m: &mut [bool])
+// Which words of a row a vertex has.
+pub fn vertex_mask(flags: u32, sets: u32, size: u32, m: &mut [bool])
     ensures { λ _. ⌜ now (m .exit) ≡ mask (vertexHas flags sets size) (length (now (m .entry))) 0 ⌝ }
 {
     let mut w: usize = 0;
@@ -136,7 +137,8 @@ fn vertex_mask(flags: u32, sets: u32, size: u32, m: &mut [bool])
     }
 }
 
-fn key_mask(flags: u32, m: &mut [bool])
+// Which words of a row a key has.
+pub fn key_mask(flags: u32, m: &mut [bool])
     ensures { λ _. ⌜ now (m .exit) ≡ mask (keyHas flags) (length (now (m .entry))) 0 ⌝ }
 {
     let mut w: usize = 0;

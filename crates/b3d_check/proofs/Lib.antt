@@ -1,0 +1,4 @@
+-- The laws of the whole check.
+pub mod SameRows
+pub mod CheckLaws
+pub mod Verdict

@@ -1,0 +1,2 @@
+-- Lent tables as code has them.
+pub mod Lent

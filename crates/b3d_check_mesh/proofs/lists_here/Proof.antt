@@ -1,0 +1,40 @@
+-- `lists_here` looks at each row with its items. The loop has passed those before i; its measure is how many are left.
+use Prim.Native.Nat.{_-_}
+use Rattle.b3d_write.specs.Check.{listHere}
+use Rattle.b3d_check_mesh.proofs.Runs.{RunsFrom, runs-next, runs-laws}
+use borrow.Author.Needs.{needs}
+use Rattle.b3d_check_mesh.proofs.lists_here.Statement.{statement}
+use Rattle.b3d_check_mesh.proofs.lists_here.Tie as tie
+
+abbrev Inv-loop : tie.InvT-loop
+Inv-loop t first count keys from total end r₀ i₀ r i = RunsFrom (listHere) 11 from first count t total keys end r i
+
+abbrev μ-loop : tie.MeasureT-loop
+μ-loop t first count keys from total end r₀ i₀ r i = end - i
+
+pub lists-here-spec : {M : Type 1} → statement M
+lists-here-spec =
+    tie.close
+    (tie.spec
+    Inv-loop
+    μ-loop
+    (λ c. search (runs-laws, needs))
+    (λ c. search (runs-laws, needs))
+    (λ c. search (runs-laws, needs))
+    (λ c. search (runs-laws, needs))
+    (λ c κs. search (runs-laws, needs))
+    (λ c. search (runs-laws, needs))
+    (λ c. search (runs-laws, needs))
+    (λ c κs. search (runs-laws, needs))
+    (λ c. search (runs-laws, needs))
+    (λ c. search (runs-laws, needs))
+    (λ c. search (runs-laws, needs))
+    (λ c κs. search (runs-laws, needs))
+    (λ c. search (runs-laws, needs))
+    (λ c. search (runs-laws, needs))
+    (λ c. search (runs-laws, needs))
+    (λ c. search (runs-laws, needs))
+    (λ c. runs-next _ _ _ _ _ _ _ _ _ _ _ (c .before .before .before .before .before .before .before .loop .inv) (c .before .before .before .before .before .before .loop-test .taken) _ _
+    (c .before .before .before .before .before .cell .ensures) (c .before .before .before .before .cell2 .ensures) (c .before .before .before .if1 .left) (c .before .before .if2 .left) _
+    (c .before .list-here .ensures) (c .if3 .left))
+    (λ c. search (runs-laws, needs)))

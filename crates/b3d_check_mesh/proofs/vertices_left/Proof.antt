@@ -1,0 +1,14 @@
+-- `vertices_left` answers `rowsHere` of vertices.
+use Rattle.b3d_check_mesh.proofs.MeshLaws.{left-laws}
+use borrow.Author.Needs.{needs}
+use Rattle.b3d_check_mesh.proofs.vertices_left.Statement.{statement}
+use Rattle.b3d_check_mesh.proofs.vertices_left.Tie as tie
+
+pub vertices-left-spec : {M : Type 1} → statement M
+vertices-left-spec =
+    tie.close
+    (tie.spec
+    (λ c. search (left-laws, needs))
+    (λ c. search (left-laws, needs))
+    (λ c κs. search (left-laws, needs))
+    (λ c. search (left-laws, needs)))

@@ -1,0 +1,282 @@
+// Meshes, weights and key lists among the rows of lent tables: each function is a test of b3d_write's specs/Check, or a count of rows, on
+// rows that are given by their number.
+ghost use mathlib.Core.Path.{_≡_};
+ghost use Prim.Native.Nat.{_+_, _-_, _*_, _<_, _≤_};
+ghost use lib.ListN.{length};
+ghost use Rattle.b3d_scene.specs.Mask.{vertexMask};
+ghost use Rattle.b3d_scene.specs.Rules.{weightRow};
+ghost use Rattle.b3d_write.specs.CellCounts.{endOf};
+ghost use Rattle.b3d_write.specs.Check.{keeps, clean, rowsHere, runsHere, setHere, meshHere, listHere};
+ghost use Rattle.b3d_check_rows.specs.Rows.{rowAt, rowsAt};
+ghost use Rattle.b3d_check_mesh.specs.Parts.{meshHead, meshSets, MeshRoom, MineTo};
+use b3d_scene::Counts;
+
+// ---- triangle sets
+
+// Row i, a set of mesh number `mesh`, which has v vertices, with so many triangles from row `first` on.
+fn set_here(
+    brushes: u32,
+    v: u32,
+    mesh: usize,
+    t: &[u32],
+    i: usize,
+    triangles: &[u32],
+    first: usize,
+    count: usize,
+) -> bool
+    requires { ⌜ (4 * i + 4 ≤ length (now t)) × (3 * (first + count) ≤ length (now triangles)) ⌝ }
+    ensures { λ r. ⌜ r ≡ setHere brushes v mesh (rowAt 4 i (now (t .entry))) (rowsAt 3 first count (now (triangles .entry))) ⌝ }
+{
+    let o = 4 * i;
+    let own = b3d_check_rows::cell(t, o);
+    let brush = t[o + 1];
+    if !(own == mesh) {
+        return false;
+    }
+    if !((brush == 0xFFFFFFFF) | (brush < brushes)) {
+        return false;
+    }
+    b3d_check_rows::triangles_here(triangles, v, first, count)
+}
+
+// So many sets from row `first` on; their triangles are those from number `from` on, of which there are `total` in all.
+fn sets_here(
+    brushes: u32,
+    v: u32,
+    mesh: usize,
+    t: &[u32],
+    first: usize,
+    count: usize,
+    triangles: &[u32],
+    from: usize,
+    total: usize,
+) -> bool
+    requires { ⌜ (4 * (first + count) ≤ length (now t)) × (from ≤ total) × (3 * total ≤ length (now triangles)) ⌝ }
+    ensures { λ r. ⌜ r ≡ runsHere (setHere brushes v mesh) from (rowsAt 4 first count (now (t .entry))) (rowsAt 3 from (total - from) (now (triangles .entry))) ⌝ }
+{
+    let end = first + count;
+    let mut r = from;
+    let mut i = first;
+    while i < end {
+        let to = b3d_check_rows::cell(t, 4 * i + 2);
+        let many = b3d_check_rows::cell(t, 4 * i + 3);
+        if !(to == r) {
+            return false;
+        }
+        if total - r < many {
+            return false;
+        }
+        if !set_here(brushes, v, mesh, t, i, triangles, r, many) {
+            return false;
+        }
+        r += many;
+        i += 1;
+    }
+    true
+}
+
+// ---- key lists
+
+// Row i, a key list, with so many keys from row `first` on.
+fn list_here(t: &[u32], i: usize, keys: &[u32], first: usize, count: usize) -> bool
+    requires { ⌜ (4 * i + 4 ≤ length (now t)) × (11 * (first + count) ≤ length (now keys)) ⌝ }
+    ensures { λ r. ⌜ r ≡ listHere (rowAt 4 i (now (t .entry))) (rowsAt 11 first count (now (keys .entry))) ⌝ }
+{
+    let flags = t[4 * i + 1];
+    if !(flags <= 7) {
+        return false;
+    }
+    b3d_check_rows::keys_here(keys, flags, first, count)
+}
+
+// So many key lists from row `first` on; their keys are those from number `from` on, of which there are `total` in all.
+pub fn lists_here(
+    t: &[u32],
+    first: usize,
+    count: usize,
+    keys: &[u32],
+    from: usize,
+    total: usize,
+) -> bool
+    requires { ⌜ (4 * (first + count) ≤ length (now t)) × (from ≤ total) × (11 * total ≤ length (now keys)) ⌝ }
+    ensures { λ r. ⌜ r ≡ runsHere listHere from (rowsAt 4 first count (now (t .entry))) (rowsAt 11 from (total - from) (now (keys .entry))) ⌝ }
+{
+    let end = first + count;
+    let mut r = from;
+    let mut i = first;
+    while i < end {
+        let to = b3d_check_rows::cell(t, 4 * i + 2);
+        let many = b3d_check_rows::cell(t, 4 * i + 3);
+        if !(to == r) {
+            return false;
+        }
+        if total - r < many {
+            return false;
+        }
+        if !list_here(t, i, keys, r, many) {
+            return false;
+        }
+        r += many;
+        i += 1;
+    }
+    true
+}
+
+// Where the key lists of a node end, of those from row `first` on.
+pub fn lists_of(node: usize, t: &[u32], first: usize, total: usize) -> usize
+    requires { ⌜ (first ≤ total) × (4 * total ≤ length (now t)) ⌝ }
+    ensures { λ r. ⌜ MineTo node first total (now (t .entry)) r ⌝ }
+{
+    let mut i = first;
+    while i < total {
+        let own = b3d_check_rows::cell(t, 4 * i);
+        if !(own == node) {
+            return i;
+        }
+        i += 1;
+    }
+    i
+}
+
+// The number after the last item of so many rows from row `first` on, the first item being number `from`.
+pub fn end_of(t: &[u32], first: usize, count: usize, from: usize) -> usize
+    requires { ⌜ (4 * (first + count) ≤ length (now t)) × (endOf from (rowsAt 4 first count (now t)) ≤ 0xFFFFFFFF) ⌝ }
+    ensures { λ r. ⌜ r ≡ endOf from (rowsAt 4 first count (now (t .entry))) ⌝ }
+{
+    let end = first + count;
+    let mut r = from;
+    let mut i = first;
+    while i < end {
+        let many = b3d_check_rows::cell(t, 4 * i + 3);
+        r += many;
+        i += 1;
+    }
+    r
+}
+
+// ---- vertices and weights
+
+// So many vertices from row `first` on, of which there are `total` in all.
+fn vertices_left(
+    t: &[u32],
+    flags: u32,
+    sets: u32,
+    size: u32,
+    count: usize,
+    first: usize,
+    total: usize,
+) -> bool
+    requires { ⌜ (first ≤ total) × (42 * total ≤ length (now t)) ⌝ }
+    ensures { λ r. ⌜ r ≡ rowsHere (clean (vertexMask flags sets size)) count (rowsAt 42 first (total - first) (now (t .entry))) ⌝ }
+{
+    if total - first < count {
+        return false;
+    }
+    b3d_check_rows::vertices_here(t, flags, sets, size, first, count)
+}
+
+// So many weights from row `first` on, of which there are `total` in all.
+pub fn weights_left(t: &[u32], bones: u32, count: usize, first: usize, total: usize) -> bool
+    requires { ⌜ (first ≤ total) × (2 * total ≤ length (now t)) ⌝ }
+    ensures { λ r. ⌜ r ≡ rowsHere (keeps (weightRow bones)) count (rowsAt 2 first (total - first) (now (t .entry))) ⌝ }
+{
+    if total - first < count {
+        return false;
+    }
+    b3d_check_rows::weights_here(t, bones, first, count)
+}
+
+// ---- meshes
+
+// Row i, a mesh of node number `node`, by its cells alone.
+fn mesh_head(brushes: u32, node: usize, vertices: usize, t: &[u32], i: usize) -> bool
+    requires { ⌜ 9 * i + 9 ≤ length (now t) ⌝ }
+    ensures { λ r. ⌜ r ≡ meshHead brushes node vertices (rowAt 9 i (now (t .entry))) ⌝ }
+{
+    let o = 9 * i;
+    let own = b3d_check_rows::cell(t, o);
+    let from = b3d_check_rows::cell(t, o + 5);
+    let brush = t[o + 1];
+    let some = (brush == 0xFFFFFFFF) | (brush < brushes);
+    let ranges = (t[o + 2] <= 3) & ((t[o + 3] <= 8) & ((t[o + 4] <= 4) & (from == vertices)));
+    (own == node) & (some & ranges)
+}
+
+// The sets of row i, a mesh: those from row `first` on, of which there are `total` in all, their triangles from number `from` on.
+fn mesh_sets(
+    brushes: u32,
+    t: &[u32],
+    i: usize,
+    sets: &[u32],
+    first: usize,
+    total: usize,
+    triangles: &[u32],
+    from: usize,
+    all: usize,
+) -> bool
+    requires { ⌜ (9 * i + 9 ≤ length (now t)) × (first ≤ total) × (4 * total ≤ length (now sets)) ⌝ }
+    requires { ⌜ (from ≤ all) × (3 * all ≤ length (now triangles)) ⌝ }
+    ensures { λ r. ⌜ r ≡ meshSets brushes i first from (rowAt 9 i (now (t .entry))) (rowsAt 4 first (total - first) (now (sets .entry))) (rowsAt 3 from (all - from) (now (triangles .entry))) ⌝ }
+{
+    let o = 9 * i;
+    let to = b3d_check_rows::cell(t, o + 7);
+    let count = b3d_check_rows::cell(t, o + 8);
+    if !(to == first) {
+        return false;
+    }
+    if count <= 0 {
+        return false;
+    }
+    if total - first < count {
+        return false;
+    }
+    sets_here(
+        brushes,
+        t[o + 6],
+        i,
+        sets,
+        first,
+        count,
+        triangles,
+        from,
+        all,
+    )
+}
+
+// The mesh that comes after n rows, of those that `all` counts, in the tables 4 to 7.
+pub fn mesh_here(
+    brushes: u32,
+    n: Counts,
+    all: Counts,
+    t4: &[u32],
+    t5: &[u32],
+    t6: &[u32],
+    t7: &[u32],
+) -> bool
+    requires { ⌜ MeshRoom n all (length (now t4)) (length (now t5)) (length (now t6)) (length (now t7)) ⌝ }
+    ensures { λ r. ⌜ r ≡ meshHere brushes n (rowAt 9 (n .meshes) (now (t4 .entry))) (rowsAt 42 (n .vertices) (all .vertices - n .vertices) (now (t5 .entry)))
+        (rowsAt 4 (n .sets) (all .sets - n .sets) (now (t6 .entry))) (rowsAt 3 (n .triangles) (all .triangles - n .triangles) (now (t7 .entry))) ⌝ }
+{
+    let i = n.meshes;
+    let o = 9 * i;
+    let count = b3d_check_rows::cell(t4, o + 6);
+    let from = n.vertices;
+    let end = all.vertices;
+    if !mesh_head(brushes, n.nodes, n.vertices, t4, i) {
+        return false;
+    }
+    if !vertices_left(t5, t4[o + 2], t4[o + 3], t4[o + 4], count, from, end) {
+        return false;
+    }
+    mesh_sets(
+        brushes,
+        t4,
+        i,
+        t6,
+        n.sets,
+        all.sets,
+        t7,
+        n.triangles,
+        all.triangles,
+    )
+}

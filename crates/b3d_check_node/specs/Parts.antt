@@ -1,0 +1,63 @@
+-- The rows of the tables 4 to 10 by their words, and what code may rely on of counts and tables.
+use Prim.Native.Nat.{ℕ, _+_, _*_, _≤_, _<_}
+use mathlib.Core.List.{List, []}
+use lib.ListN.{getD}
+use lib.Dec.{eqb}
+use Rattle.wire.specs.Test.{if}
+use Rattle.b3d_scene.specs.Rebuild.{cut, Rows}
+use Rattle.b3d_scene.specs.declared.Counts.{Counts}
+use Rattle.b3d_write.specs.CellCounts.{endOf}
+use Rattle.b3d_check_rows.specs.Rows.{rowsAt}
+
+-- the rows that a counts
+unfoldable pub partRows : Counts → List ℕ → List ℕ → List ℕ → List ℕ → List ℕ → List ℕ → List ℕ → Rows
+partRows a t₄ t₅ t₆ t₇ t₈ t₉ t₁₀ k =
+    if (eqb k 4) (cut 9 (a .meshes) t₄)
+    (if (eqb k 5) (cut 42 (a .vertices) t₅)
+    (if (eqb k 6) (cut 4 (a .sets) t₆)
+    (if (eqb k 7) (cut 3 (a .triangles) t₇)
+    (if (eqb k 8) (cut 2 (a .weights) t₈)
+    (if (eqb k 9) (cut 4 (a .lists) t₉)
+    (if (eqb k 10) (cut 11 (a .keys) t₁₀) []))))))
+
+-- n rows are among those that a counts
+pub record Below (n a : Counts) : Type 0 where
+  pub nodes : n .nodes ≤ a .nodes
+  pub meshes : n .meshes ≤ a .meshes
+  pub vertices : n .vertices ≤ a .vertices
+  pub sets : n .sets ≤ a .sets
+  pub triangles : n .triangles ≤ a .triangles
+  pub weights : n .weights ≤ a .weights
+  pub lists : n .lists ≤ a .lists
+  pub keys : n .keys ≤ a .keys
+
+-- no count is above the limit of rows
+pub record Limited (a : Counts) : Type 0 where
+  pub nodes : a .nodes ≤ 16383
+  pub meshes : a .meshes ≤ 16383
+  pub vertices : a .vertices ≤ 16383
+  pub sets : a .sets ≤ 16383
+  pub triangles : a .triangles ≤ 16383
+  pub weights : a .weights ≤ 16383
+  pub lists : a .lists ≤ 16383
+  pub keys : a .keys ≤ 16383
+
+-- the rows of the tables 4 to 8 are there: these have so many words
+pub record KindRoom (a : Counts) (words₄ words₅ words₆ words₇ words₈ : ℕ) : Type 0 where
+  pub room₄ : 9 * a .meshes ≤ words₄
+  pub room₅ : 42 * a .vertices ≤ words₅
+  pub room₆ : 4 * a .sets ≤ words₆
+  pub room₇ : 3 * a .triangles ≤ words₇
+  pub room₈ : 2 * a .weights ≤ words₈
+
+-- and those of the tables 9 and 10
+pub record ListRoom (a : Counts) (words₉ words₁₀ : ℕ) : Type 0 where
+  pub room₉ : 4 * a .lists ≤ words₉
+  pub room₁₀ : 11 * a .keys ≤ words₁₀
+
+-- the mesh that comes after n rows is there, and with what its row says that it has the counts are no more than those of a
+pub record MeshEnds (n a : Counts) (t₄ t₆ : List ℕ) : Type 0 where
+  pub one : n .meshes < a .meshes
+  pub vertices : n .vertices + getD t₄ (9 * n .meshes + 6) 0 ≤ a .vertices
+  pub sets : n .sets + getD t₄ (9 * n .meshes + 8) 0 ≤ a .sets
+  pub triangles : endOf (n .triangles) (rowsAt 4 (n .sets) (getD t₄ (9 * n .meshes + 8) 0) t₆) ≤ a .triangles

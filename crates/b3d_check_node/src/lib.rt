@@ -1,0 +1,214 @@
+// A node and what is its own among the rows of lent tables: is it sound, and the running counts after it.
+ghost use mathlib.Core.Path.{_≡_};
+ghost use mathlib.Core.List.{[], _∷_};
+ghost use Prim.Native.Nat.{_+_, _-_, _*_, _<_, _≤_};
+ghost use lib.ListN.{length, drop};
+ghost use Rattle.b3d_scene.specs.Rebuild.{mine};
+ghost use Rattle.b3d_write.specs.CellCounts.{meshCounts, kindCounts, cellCounts};
+ghost use Rattle.b3d_write.specs.Check.{runsHere, listHere, kindHere, animHere, nodeHere};
+ghost use Rattle.b3d_check_rows.specs.Rows.{rowAt, rowsAt};
+ghost use Rattle.b3d_check_node.specs.Parts.{partRows, Below, Limited, KindRoom, ListRoom, MeshEnds};
+use b3d_scene::Counts;
+
+// The kind, first and count of the node that comes after n rows, of those that `all` counts; a weight may name so many vertices at most.
+fn kind_here(
+    brushes: u32,
+    most: u32,
+    n: Counts,
+    all: Counts,
+    kind: u32,
+    first: usize,
+    count: usize,
+    t4: &[u32],
+    t5: &[u32],
+    t6: &[u32],
+    t7: &[u32],
+    t8: &[u32],
+) -> bool
+    requires { ⌜ Below n all × KindRoom all (length (now t4)) (length (now t5)) (length (now t6)) (length (now t7)) (length (now t8)) ⌝ }
+    ensures { λ r. ⌜ r ≡ kindHere brushes most (partRows all (now (t4 .entry)) (now (t5 .entry)) (now (t6 .entry)) (now (t7 .entry)) (now (t8 .entry)) [] []) n (kind ∷ first ∷ count ∷ []) ⌝ }
+{
+    if kind == 1 {
+        if !((first == n.meshes) & (count == 1)) {
+            return false;
+        }
+        if all.meshes <= n.meshes {
+            return false;
+        }
+        return b3d_check_mesh::mesh_here(brushes, n, all, t4, t5, t6, t7);
+    }
+    if kind == 2 {
+        if !(first == n.weights) {
+            return false;
+        }
+        return b3d_check_mesh::weights_left(t8, most, count, n.weights, all.weights);
+    }
+    (kind == 0) & ((first == 0) & (count == 0))
+}
+
+// The same, of the cells of its row.
+fn own_kind(
+    brushes: u32,
+    most: u32,
+    n: Counts,
+    all: Counts,
+    t3: &[u32],
+    t4: &[u32],
+    t5: &[u32],
+    t6: &[u32],
+    t7: &[u32],
+    t8: &[u32],
+) -> bool
+    requires { ⌜ Below n all × KindRoom all (length (now t4)) (length (now t5)) (length (now t6)) (length (now t7)) (length (now t8)) ⌝ }
+    requires { ⌜ (n .nodes < all .nodes) × (20 * all .nodes ≤ length (now t3)) ⌝ }
+    ensures { λ r. ⌜ r ≡ kindHere brushes most (partRows all (now (t4 .entry)) (now (t5 .entry)) (now (t6 .entry)) (now (t7 .entry)) (now (t8 .entry)) [] []) n (drop 13 (rowAt 20 (n .nodes) (now (t3 .entry)))) ⌝ }
+{
+    let o = 20 * n.nodes;
+    let kind = t3[o + 13];
+    let first = b3d_check_rows::cell(t3, o + 14);
+    let count = b3d_check_rows::cell(t3, o + 15);
+    kind_here(
+        brushes,
+        most,
+        n,
+        all,
+        kind,
+        first,
+        count,
+        t4,
+        t5,
+        t6,
+        t7,
+        t8,
+    )
+}
+
+// The key lists of the node that comes after n rows, with their keys.
+fn own_lists(n: Counts, all: Counts, t9: &[u32], t10: &[u32]) -> bool
+    requires { ⌜ Below n all × ListRoom all (length (now t9)) (length (now t10)) ⌝ }
+    ensures { λ r. ⌜ r ≡ runsHere listHere (n .keys) (mine (n .nodes) (rowsAt 4 (n .lists) (all .lists - n .lists) (now (t9 .entry)))) (rowsAt 11 (n .keys) (all .keys - n .keys) (now (t10 .entry))) ⌝ }
+{
+    let end = b3d_check_mesh::lists_of(n.nodes, t9, n.lists, all.lists);
+    b3d_check_mesh::lists_here(t9, n.lists, end - n.lists, t10, n.keys, all.keys)
+}
+
+// Row i, a node: is ANIM there, and its values.
+fn anim_here(t: &[u32], i: usize) -> bool
+    requires { ⌜ 20 * i + 20 ≤ length (now t) ⌝ }
+    ensures { λ r. ⌜ r ≡ animHere (drop 3 (drop 13 (rowAt 20 i (now (t .entry))))) ⌝ }
+{
+    let o = 20 * i;
+    let there = t[o + 16];
+    if there == 1 {
+        return true;
+    }
+    (there == 0) & ((t[o + 17] == 0) & ((t[o + 18] == 0) & (t[o + 19] == 0)))
+}
+
+// The node that comes after n rows and all that is its own, in the tables 3 to 10. The names are in `text`; a weight may name so many
+// vertices at most.
+pub fn node_here(
+    text: &[u8],
+    brushes: u32,
+    most: u32,
+    n: Counts,
+    all: Counts,
+    t3: &[u32],
+    t4: &[u32],
+    t5: &[u32],
+    t6: &[u32],
+    t7: &[u32],
+    t8: &[u32],
+    t9: &[u32],
+    t10: &[u32],
+) -> bool
+    requires { ⌜ Below n all × KindRoom all (length (now t4)) (length (now t5)) (length (now t6)) (length (now t7)) (length (now t8)) ⌝ }
+    requires { ⌜ (n .nodes < all .nodes) × (20 * all .nodes ≤ length (now t3)) × ListRoom all (length (now t9)) (length (now t10)) ⌝ }
+    ensures { λ r. ⌜ r ≡ nodeHere (now (text .entry)) brushes most (partRows all (now (t4 .entry)) (now (t5 .entry)) (now (t6 .entry)) (now (t7 .entry)) (now (t8 .entry)) (now (t9 .entry)) (now (t10 .entry)))
+        (rowAt 20 (n .nodes) (now (t3 .entry))) n ⌝ }
+{
+    let i = n.nodes;
+    let o = 20 * i;
+    if !b3d_check_rows::name_here(text, t3[o], t3[o + 1]) {
+        return false;
+    }
+    if !own_kind(brushes, most, n, all, t3, t4, t5, t6, t7, t8) {
+        return false;
+    }
+    if !own_lists(n, all, t9, t10) {
+        return false;
+    }
+    anim_here(t3, i)
+}
+
+// ---- the counts after a node
+
+// After the mesh that comes after n rows.
+fn mesh_counts(n: Counts, all: Counts, t4: &[u32], t6: &[u32]) -> Counts
+    requires { ⌜ MeshEnds n all (now t4) (now t6) × Limited all × (9 * all .meshes ≤ length (now t4)) × (4 * all .sets ≤ length (now t6)) ⌝ }
+    ensures { λ r. ⌜ r ≡ meshCounts (rowAt 9 (n .meshes) (now (t4 .entry))) (rowsAt 4 (n .sets) (all .sets - n .sets) (now (t6 .entry))) n ⌝ }
+{
+    let i = n.meshes;
+    let o = 9 * i;
+    let vertices = b3d_check_rows::cell(t4, o + 6);
+    let sets = b3d_check_rows::cell(t4, o + 8);
+    let triangles = b3d_check_mesh::end_of(t6, n.sets, sets, n.triangles);
+    Counts {
+        nodes: n.nodes,
+        meshes: i + 1,
+        vertices: n.vertices + vertices,
+        sets: n.sets + sets,
+        triangles,
+        weights: n.weights,
+        lists: n.lists,
+        keys: n.keys,
+    }
+}
+
+// After the kind and count of the node that comes after n rows.
+fn kind_counts(n: Counts, all: Counts, kind: u32, count: usize, t4: &[u32], t6: &[u32]) -> Counts
+    requires { ⌜ Below n all × Limited all × (9 * all .meshes ≤ length (now t4)) × (4 * all .sets ≤ length (now t6)) ⌝ }
+    requires { ⌜ Below (kindCounts (partRows all (now t4) [] (now t6) [] [] [] []) n (kind ∷ 0 ∷ count ∷ [])) all ⌝ }
+    ensures { λ r. ⌜ r ≡ kindCounts (partRows all (now (t4 .entry)) [] (now (t6 .entry)) [] [] [] []) n (kind ∷ 0 ∷ count ∷ []) ⌝ }
+{
+    if kind == 1 {
+        return mesh_counts(n, all, t4, t6);
+    }
+    if kind == 2 {
+        return Counts {
+            nodes: n.nodes,
+            meshes: n.meshes,
+            vertices: n.vertices,
+            sets: n.sets,
+            triangles: n.triangles,
+            weights: n.weights + count,
+            lists: n.lists,
+            keys: n.keys,
+        };
+    }
+    n
+}
+
+// After the node that comes after n rows, where that is sound.
+pub fn node_counts(n: Counts, all: Counts, t3: &[u32], t4: &[u32], t6: &[u32], t9: &[u32]) -> Counts
+    requires { ⌜ Below n all × Limited all × (n .nodes < all .nodes) × (20 * all .nodes ≤ length (now t3)) ⌝ }
+    requires { ⌜ (9 * all .meshes ≤ length (now t4)) × (4 * all .sets ≤ length (now t6)) × (4 * all .lists ≤ length (now t9)) ⌝ }
+    requires { ⌜ Below (cellCounts (partRows all (now t4) [] (now t6) [] [] (now t9) []) (rowAt 20 (n .nodes) (now t3)) n) all ⌝ }
+    ensures { λ r. ⌜ r ≡ cellCounts (partRows all (now (t4 .entry)) [] (now (t6 .entry)) [] [] (now (t9 .entry)) []) (rowAt 20 (n .nodes) (now (t3 .entry))) n ⌝ }
+{
+    let o = 20 * n.nodes;
+    let count = b3d_check_rows::cell(t3, o + 15);
+    let m = kind_counts(n, all, t3[o + 13], count, t4, t6);
+    let end = b3d_check_mesh::lists_of(n.nodes, t9, n.lists, all.lists);
+    let keys = b3d_check_mesh::end_of(t9, n.lists, end - n.lists, n.keys);
+    Counts {
+        nodes: m.nodes + 1,
+        meshes: m.meshes,
+        vertices: m.vertices,
+        sets: m.sets,
+        triangles: m.triangles,
+        weights: m.weights,
+        lists: end,
+        keys,
+    }
+}

@@ -1,0 +1,59 @@
+-- A row of ids against its rules, by its cells; and a name.
+use mathlib.Core.Path.{_≡_, refl, ap, sym, _∙_}
+use Prim.Native.Nat.{ℕ, _+_, _*_, _≤_, _<_}
+use native.Mathlib.Omega.{arith}
+use mathlib.Core.Bool.{Bool, true, false, _&&_}
+use mathlib.Core.List.{List, [], _∷_}
+use lib.ListN.{length, take, drop, getD}
+use lib.Dec.{ltb}
+use borrow.Author.Tests.{lt-leb, le-leb}
+use Rattle.layout.specs.Fit.{all}
+use Rattle.layout.specs.Rules.{Rule}
+use Rattle.b3d_scene.specs.Rules.{triangleRow, weightRow}
+use Rattle.b3d_write.specs.Check.{keeps, nameHere}
+use Rattle.b3d_write.proofs.Check.Rows.{cells, cells-are}
+use Rattle.b3d_check_rows.specs.Rows.{rowAt}
+use Rattle.b3d_check_rows.proofs.Rows.{row-cell, row-first, row-length}
+
+pub and-true : (b : Bool) → (b && true) ≡ b
+and-true true = refl
+and-true false = refl
+
+-- a row of w words as its cells
+keeps-cells : (rs : List Rule) (w i : ℕ) (ws : List ℕ) → w * i + w ≤ length ws → keeps rs (cells (rowAt w i ws) 0 w) ≡ keeps rs (rowAt w i ws)
+keeps-cells rs w i ws h = ap (keeps rs) (cells-are (rowAt w i ws) w (row-length w i ws h))
+
+pub triangle-row : (v i : ℕ) (ws : List ℕ) → 3 * i + 3 ≤ length ws
+    → (ltb (getD ws (3 * i) 0) v && (ltb (getD ws (3 * i + 1) 0) v && ltb (getD ws (3 * i + 2) 0) v)) ≡ keeps (triangleRow v) (rowAt 3 i ws)
+unfolding keeps cells
+triangle-row v i ws h =
+    rw (← row-first 3 i ws (omega arith), ← row-cell 3 i 1 ws (omega arith), ← row-cell 3 i 2 ws (omega arith))
+    (ap (λ (b : Bool). ltb (getD (rowAt 3 i ws) 0 0) v && (ltb (getD (rowAt 3 i ws) 1 0) v && b)) (sym (and-true (ltb (getD (rowAt 3 i ws) 2 0) v)))
+    ∙ keeps-cells (triangleRow v) 3 i ws h)
+
+pub weight-row : (bones i : ℕ) (ws : List ℕ) → 2 * i + 2 ≤ length ws → ltb (getD ws (2 * i) 0) bones ≡ keeps (weightRow bones) (rowAt 2 i ws)
+unfolding keeps cells
+weight-row bones i ws h =
+    rw (← row-first 2 i ws (omega arith))
+    (sym (and-true (ltb (getD (rowAt 2 i ws) 0 0) bones)) ∙ keeps-cells (weightRow bones) 2 i ws h)
+
+-- ---- names
+
+module _ (ns : List ℕ) (place size from many : ℕ) (e : from ≡ place) (f : many ≡ size) where
+  pub name-past : length ns < from + many → false ≡ nameHere ns (place ∷ size ∷ [])
+  unfolding nameHere
+  name-past h = rw (← e, ← f, lt-leb (from + many) (length ns) h)
+
+  pub name-bytes : from + many ≤ length ns → (r : Bool) → r ≡ all (λ b. ltb 0 b) (take many (drop from ns)) → r ≡ nameHere ns (place ∷ size ∷ [])
+  unfolding nameHere
+  name-bytes h r q = rw (← e, ← f, le-leb (from + many) (length ns) h) q
+
+-- a row that begins with the name's cells
+pub name-cells : (ns : List ℕ) (w i : ℕ) (ws : List ℕ) → 2 ≤ w → nameHere ns (getD ws (w * i) 0 ∷ getD ws (w * i + 1) 0 ∷ []) ≡ nameHere ns (rowAt w i ws)
+unfolding nameHere
+name-cells ns w i ws h = rw (row-first w i ws (omega arith), row-cell w i 1 ws (omega arith))
+
+pub name-row : (ns : List ℕ) (w i : ℕ) (ws : List ℕ) → 2 ≤ w → (r : Bool) → r ≡ nameHere ns (getD ws (w * i) 0 ∷ getD ws (w * i + 1) 0 ∷ []) → r ≡ nameHere ns (rowAt w i ws)
+name-row ns w i ws h r e = e ∙ name-cells ns w i ws h
+
+pub ruleset name-laws = (name-past, name-bytes)

@@ -1,0 +1,32 @@
+-- `none_here` looks at each cell. The loop has passed those before i; its measure is how many are left.
+use Prim.Native.Nat.{_-_}
+use lib.Dec.{eqb}
+use Rattle.layout.specs.Rules.{NONE}
+use Rattle.b3d_check_rows.specs.Cells.{ofCell}
+use Rattle.b3d_check_rows.proofs.Loops.{AllFrom}
+use Rattle.b3d_check_rows.proofs.CellLaws.{cell-laws}
+use borrow.Author.Needs.{needs}
+use Rattle.b3d_check_rows.proofs.none_here.Statement.{statement}
+use Rattle.b3d_check_rows.proofs.none_here.Tie as tie
+
+abbrev Inv-loop : tie.InvT-loop
+Inv-loop t place count end i₀ i = AllFrom (ofCell (λ w. eqb w NONE)) 1 place count t end i
+
+abbrev μ-loop : tie.MeasureT-loop
+μ-loop t place count end i₀ i = end - i
+
+pub none-here-spec : {M : Type 1} → statement M
+none-here-spec =
+    tie.close
+    (tie.spec
+    Inv-loop
+    μ-loop
+    (λ c. search (cell-laws, needs))
+    (λ c. search (cell-laws, needs))
+    (λ c. search (cell-laws, needs))
+    (λ c. search (cell-laws, needs))
+    (λ c. search (cell-laws, needs))
+    (λ c. search (cell-laws, needs))
+    (λ c. search (cell-laws, needs))
+    (λ c. search (cell-laws, needs))
+    (λ c. search (cell-laws, needs)))

@@ -1,0 +1,32 @@
+-- `rows_clean` looks at each row. The loop has passed those before i; its measure is how many are left.
+use Prim.Native.Nat.{_-_}
+use lib.ListN.{length}
+use Rattle.b3d_write.specs.Check.{clean}
+use Rattle.b3d_check_rows.proofs.Loops.{AllFrom, all-laws}
+use Rattle.b3d_check_rows.proofs.Rows.{row-room, row-fits}
+use Rattle.b3d_check_rows.proofs.CleanLaws.{clean-row}
+use borrow.Author.Needs.{needs}
+use Rattle.b3d_check_rows.proofs.rows_clean.Statement.{statement}
+use Rattle.b3d_check_rows.proofs.rows_clean.Tie as tie
+
+abbrev Inv-loop : tie.InvT-loop
+Inv-loop t mask first count end i₀ i = AllFrom (clean mask) (length mask) first count t end i
+
+abbrev μ-loop : tie.MeasureT-loop
+μ-loop t mask first count end i₀ i = end - i
+
+pub rows-clean-spec : {M : Type 1} → statement M
+rows-clean-spec =
+    tie.close
+    (tie.spec
+    Inv-loop
+    μ-loop
+    (λ c. search (all-laws, clean-row, row-room, row-fits, needs))
+    (λ c. search (all-laws, clean-row, row-room, row-fits, needs))
+    (λ c. search (all-laws, clean-row, row-room, row-fits, needs))
+    (λ c κs. search (all-laws, clean-row, row-room, row-fits, needs))
+    (λ c. search (all-laws, clean-row, row-room, row-fits, needs))
+    (λ c. search (all-laws, clean-row, row-room, row-fits, needs))
+    (λ c. search (all-laws, clean-row, row-room, row-fits, needs))
+    (λ c. search (all-laws, clean-row, row-room, row-fits, needs))
+    (λ c. search (all-laws, clean-row, row-room, row-fits, needs)))

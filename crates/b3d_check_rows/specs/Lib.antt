@@ -1,0 +1,3 @@
+-- Rows of a lent table by their number.
+pub mod Rows
+pub mod Cells

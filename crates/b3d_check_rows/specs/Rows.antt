@@ -1,0 +1,13 @@
+-- Rows of a table by their number, each of w words.
+use Prim.Native.Nat.{ℕ, _*_}
+use mathlib.Core.List.{List}
+use lib.ListN.{take, drop}
+use Rattle.b3d_scene.specs.Rebuild.{cut}
+
+-- row i
+unfoldable pub rowAt : ℕ → ℕ → List ℕ → List ℕ
+rowAt w i ws = take w (drop (w * i) ws)
+
+-- c rows from row i on
+unfoldable pub rowsAt : ℕ → ℕ → ℕ → List ℕ → List (List ℕ)
+rowsAt w i c ws = cut w c (drop (w * i) ws)

@@ -1,0 +1,261 @@
+// Rows of lent tables against their rules: names, brushes, cells that a mask leaves out, ids. Each function is a test of b3d_write's
+// specs/Check on rows that are given by their number.
+ghost use mathlib.Core.Path.{_≡_};
+ghost use mathlib.Core.List.{[], _∷_};
+ghost use Prim.Native.Nat.{_+_, _*_, _<_, _≤_};
+ghost use lib.ListN.{length, getD, take, drop};
+ghost use lib.Dec.{ltb, eqb};
+ghost use Rattle.layout.specs.Fit.{all};
+ghost use Rattle.layout.specs.Rules.{NONE};
+ghost use Rattle.b3d_scene.specs.Mask.{vertexMask, keyMask};
+ghost use Rattle.b3d_scene.specs.Rules.{triangleRow, weightRow};
+ghost use Rattle.b3d_write.specs.Check.{keeps, clean, nameHere, brushHere, slotsHere};
+ghost use Rattle.b3d_check_rows.specs.Rows.{rowAt, rowsAt};
+
+// A cell as a number of rows.
+pub fn cell(t: &[u32], at: usize) -> usize
+    requires { ⌜ at < length (now t) ⌝ }
+    ensures { λ r. ⌜ r ≡ getD (now (t .entry)) at 0 ⌝ }
+{
+    wire::size(t[at])
+}
+
+// ---- names
+
+// No byte of so many from a place on is zero.
+fn text_here(names: &[u8], place: usize, count: usize) -> bool
+    requires { ⌜ place + count ≤ length (now names) ⌝ }
+    ensures { λ r. ⌜ r ≡ all (λ b. ltb 0 b) (take count (drop place (now (names .entry)))) ⌝ }
+{
+    let end = place + count;
+    let mut i = place;
+    while i < end {
+        let one = names[i];
+        if !(0 < one) {
+            return false;
+        }
+        i += 1;
+    }
+    true
+}
+
+// The name that a row's first two cells say is among the bytes, with no zero inside.
+pub fn name_here(names: &[u8], place: u32, count: u32) -> bool
+    ensures { λ r. ⌜ r ≡ nameHere (now (names .entry)) (place ∷ count ∷ []) ⌝ }
+{
+    let from = wire::size(place);
+    let many = wire::size(count);
+    if names.len() < from + many {
+        return false;
+    }
+    text_here(names, from, many)
+}
+
+// Each texture has its name.
+pub fn textures_here(names: &[u8], t: &[u32], count: usize) -> bool
+    requires { ⌜ 9 * count ≤ length (now t) ⌝ }
+    ensures { λ r. ⌜ r ≡ all (nameHere (now (names .entry))) (rowsAt 9 0 count (now (t .entry))) ⌝ }
+{
+    let mut i: usize = 0;
+    while i < count {
+        let o = 9 * i;
+        if !name_here(names, t[o], t[o + 1]) {
+            return false;
+        }
+        i += 1;
+    }
+    true
+}
+
+// ---- brushes
+
+// So many cells from a place on name textures.
+fn ids_here(t: &[u32], textures: u32, place: usize, count: usize) -> bool
+    requires { ⌜ place + count ≤ length (now t) ⌝ }
+    ensures { λ r. ⌜ r ≡ all (λ w. ltb w textures) (take count (drop place (now (t .entry)))) ⌝ }
+{
+    let end = place + count;
+    let mut i = place;
+    while i < end {
+        let one = t[i];
+        if !(one < textures) {
+            return false;
+        }
+        i += 1;
+    }
+    true
+}
+
+// So many cells from a place on are NONE.
+fn none_here(t: &[u32], place: usize, count: usize) -> bool
+    requires { ⌜ place + count ≤ length (now t) ⌝ }
+    ensures { λ r. ⌜ r ≡ all (λ w. eqb w NONE) (take count (drop place (now (t .entry)))) ⌝ }
+{
+    let end = place + count;
+    let mut i = place;
+    while i < end {
+        let one = t[i];
+        if !(one == 0xFFFFFFFF) {
+            return false;
+        }
+        i += 1;
+    }
+    true
+}
+
+// Row i, a brush of so many slots beside so many textures.
+fn brush_here(names: &[u8], slots: u32, textures: u32, t: &[u32], i: usize) -> bool
+    requires { ⌜ (slots ≤ 8) × (17 * i + 17 ≤ length (now t)) ⌝ }
+    ensures { λ r. ⌜ r ≡ brushHere (now (names .entry)) slots textures (rowAt 17 i (now (t .entry))) ⌝ }
+{
+    let many = wire::size(slots);
+    let o = 17 * i;
+    if !name_here(names, t[o], t[o + 1]) {
+        return false;
+    }
+    if !ids_here(t, textures, o + 9, many) {
+        return false;
+    }
+    none_here(t, o + 9 + many, 8 - many)
+}
+
+// Each brush.
+pub fn brushes_here(names: &[u8], slots: u32, textures: u32, t: &[u32], count: usize) -> bool
+    requires { ⌜ (slots ≤ 8) × (17 * count ≤ length (now t)) ⌝ }
+    ensures { λ r. ⌜ r ≡ all (brushHere (now (names .entry)) slots textures) (rowsAt 17 0 count (now (t .entry))) ⌝ }
+{
+    let mut i: usize = 0;
+    while i < count {
+        if !brush_here(names, slots, textures, t, i) {
+            return false;
+        }
+        i += 1;
+    }
+    true
+}
+
+// No slots where there is no brush, else at most eight.
+pub fn slots_here(slots: u32, brushes: u32) -> bool
+    ensures { λ r. ⌜ r ≡ slotsHere slots brushes ⌝ }
+{
+    if brushes == 0 {
+        return slots == 0;
+    }
+    slots <= 8
+}
+
+// ---- ids
+
+// Row i, a triangle, names three of v vertices.
+fn triangle_here(t: &[u32], v: u32, i: usize) -> bool
+    requires { ⌜ 3 * i + 3 ≤ length (now t) ⌝ }
+    ensures { λ r. ⌜ r ≡ keeps (triangleRow v) (rowAt 3 i (now (t .entry))) ⌝ }
+{
+    let o = 3 * i;
+    (t[o] < v) & ((t[o + 1] < v) & (t[o + 2] < v))
+}
+
+// So many triangles from row `first` on.
+pub fn triangles_here(t: &[u32], v: u32, first: usize, count: usize) -> bool
+    requires { ⌜ 3 * (first + count) ≤ length (now t) ⌝ }
+    ensures { λ r. ⌜ r ≡ all (keeps (triangleRow v)) (rowsAt 3 first count (now (t .entry))) ⌝ }
+{
+    let end = first + count;
+    let mut i = first;
+    while i < end {
+        if !triangle_here(t, v, i) {
+            return false;
+        }
+        i += 1;
+    }
+    true
+}
+
+// Row i, a weight, names one of so many vertices.
+fn weight_here(t: &[u32], bones: u32, i: usize) -> bool
+    requires { ⌜ 2 * i + 2 ≤ length (now t) ⌝ }
+    ensures { λ r. ⌜ r ≡ keeps (weightRow bones) (rowAt 2 i (now (t .entry))) ⌝ }
+{
+    t[2 * i] < bones
+}
+
+// So many weights from row `first` on.
+pub fn weights_here(t: &[u32], bones: u32, first: usize, count: usize) -> bool
+    requires { ⌜ 2 * (first + count) ≤ length (now t) ⌝ }
+    ensures { λ r. ⌜ r ≡ all (keeps (weightRow bones)) (rowsAt 2 first count (now (t .entry))) ⌝ }
+{
+    let end = first + count;
+    let mut i = first;
+    while i < end {
+        if !weight_here(t, bones, i) {
+            return false;
+        }
+        i += 1;
+    }
+    true
+}
+
+// ---- cells that a mask leaves out
+
+// The row from a place on has 0 wherever the mask says no.
+fn row_clean(t: &[u32], base: usize, mask: &[bool]) -> bool
+    requires { ⌜ base + length (now mask) ≤ length (now t) ⌝ }
+    ensures { λ r. ⌜ r ≡ clean (now (mask .entry)) (drop base (now (t .entry))) ⌝ }
+{
+    let mut k: usize = 0;
+    while k < mask.len() {
+        let on = mask[k];
+        let x = t[base + k];
+        k += 1;
+        if !on {
+            if x != 0 {
+                return false;
+            }
+        }
+    }
+    true
+}
+
+// So many rows of the mask's width from row `first` on.
+fn rows_clean(t: &[u32], mask: &[bool], first: usize, count: usize) -> bool
+    requires { ⌜ (first + count ≤ length (now t)) × (length (now mask) * (first + count) ≤ length (now t)) ⌝ }
+    ensures { λ r. ⌜ r ≡ all (clean (now (mask .entry))) (rowsAt (length (now (mask .entry))) first count (now (t .entry))) ⌝ }
+{
+    let end = first + count;
+    let mut i = first;
+    while i < end {
+        let base = mask.len() * i;
+        if !row_clean(t, base, mask) {
+            return false;
+        }
+        i += 1;
+    }
+    true
+}
+
+// So many vertices.
+pub fn vertices_here(
+    t: &[u32],
+    flags: u32,
+    sets: u32,
+    size: u32,
+    first: usize,
+    count: usize,
+) -> bool
+    requires { ⌜ 42 * (first + count) ≤ length (now t) ⌝ }
+    ensures { λ r. ⌜ r ≡ all (clean (vertexMask flags sets size)) (rowsAt 42 first count (now (t .entry))) ⌝ }
+{
+    let mut m = [false; 42];
+    b3d_rows::vertex_mask(flags, sets, size, &mut m);
+    rows_clean(t, &m, first, count)
+}
+
+// So many keys.
+pub fn keys_here(t: &[u32], flags: u32, first: usize, count: usize) -> bool
+    requires { ⌜ 11 * (first + count) ≤ length (now t) ⌝ }
+    ensures { λ r. ⌜ r ≡ all (clean (keyMask flags)) (rowsAt 11 first count (now (t .entry))) ⌝ }
+{
+    let mut m = [false; 11];
+    b3d_rows::key_mask(flags, &mut m);
+    rows_clean(t, &m, first, count)
+}

@@ -1,0 +1,148 @@
+// The nodes of lent tables: each with what is its own, their parents, and that no row is left over.
+ghost use mathlib.Core.Path.{_≡_};
+ghost use mathlib.Core.List.{List, [], _∷_, map};
+ghost use Prim.Native.Nat.{ℕ, _+_, _-_, _*_, _<_, _≤_};
+ghost use lib.ListN.{length, getD};
+ghost use Rattle.b3d_scene.specs.Rebuild.{cut};
+ghost use Rattle.b3d_write.specs.Check.{parentsHere, nodesHere, treeHere};
+ghost use Rattle.b3d_check_rows.specs.Rows.{rowsAt};
+ghost use Rattle.b3d_check_node.specs.Parts.{partRows, Below, Limited, KindRoom, ListRoom};
+ghost use Rattle.b3d_check_tree.specs.Ended.{ended};
+ghost use Rattle.b3d_check_tree.specs.Path.{CutTo};
+use b3d_check_node::node_here;
+use b3d_scene::Counts;
+
+// No row came before.
+const START: Counts = Counts {
+    nodes: 0,
+    meshes: 0,
+    vertices: 0,
+    sets: 0,
+    triangles: 0,
+    weights: 0,
+    lists: 0,
+    keys: 0,
+};
+
+// ---- parents
+
+// How much of the path is left when it ends in p; 0 where p is not on it.
+fn up_to(path: &[usize], depth: usize, p: usize) -> usize
+    requires { ⌜ depth ≤ length (now path) ⌝ }
+    ensures { λ r. ⌜ CutTo (now (path .entry)) depth p r ⌝ }
+{
+    let mut d = depth;
+    while 0 < d {
+        let one = path[d - 1];
+        if !(p == one) {
+            d -= 1;
+        } else {
+            return d;
+        }
+    }
+    0
+}
+
+// Each node but the root has the node before it, or one above that, for its parent, and is at most 16 deep.
+fn parents_here(t: &[u32], count: usize) -> bool
+    requires { ⌜ (1 ≤ count) × (20 * count ≤ length (now t)) ⌝ }
+    ensures { λ r. ⌜ r ≡ parentsHere (0 ∷ []) 1 (map (λ (y : List ℕ). getD y 2 0) (rowsAt 20 1 (count - 1) (now (t .entry)))) ⌝ }
+{
+    let mut path: [usize; 16] = [0; 16];
+    let mut depth: usize = 1;
+    let mut i: usize = 1;
+    while i < count {
+        let p = b3d_check_rows::cell(t, 20 * i + 2);
+        let d = up_to(&path, depth, p);
+        if d <= 0 {
+            return false;
+        }
+        if 16 <= d {
+            return false;
+        }
+        path[d] = i;
+        depth = d + 1;
+        i += 1;
+    }
+    true
+}
+
+// ---- nodes
+
+// No row that `all` counts is left over after n rows.
+fn ended(n: Counts, all: Counts) -> bool
+    ensures { λ r. ⌜ r ≡ ended n all ⌝ }
+{
+    let moves = (all.weights <= n.weights) & ((all.lists <= n.lists) & (all.keys <= n.keys));
+    let rest = (all.sets <= n.sets) & ((all.triangles <= n.triangles) & moves);
+    (all.meshes <= n.meshes) & ((all.vertices <= n.vertices) & rest)
+}
+
+// The nodes after the rows `from`, of those that `all` counts, in the tables 3 to 10. The names are in `text`; a weight may name so many
+// vertices at most.
+fn nodes_here(
+    text: &[u8],
+    brushes: u32,
+    most: u32,
+    from: Counts,
+    all: Counts,
+    t3: &[u32],
+    t4: &[u32],
+    t5: &[u32],
+    t6: &[u32],
+    t7: &[u32],
+    t8: &[u32],
+    t9: &[u32],
+    t10: &[u32],
+) -> bool
+    requires { ⌜ Below from all × KindRoom all (length (now t4)) (length (now t5)) (length (now t6)) (length (now t7)) (length (now t8)) ⌝ }
+    requires { ⌜ Limited all × (20 * all .nodes ≤ length (now t3)) × ListRoom all (length (now t9)) (length (now t10)) ⌝ }
+    ensures { λ r. ⌜ r ≡ nodesHere (now (text .entry)) brushes most (partRows all (now (t4 .entry)) (now (t5 .entry)) (now (t6 .entry)) (now (t7 .entry)) (now (t8 .entry)) (now (t9 .entry)) (now (t10 .entry)))
+        (rowsAt 20 (from .nodes) (all .nodes - from .nodes) (now (t3 .entry))) from ⌝ }
+{
+    let mut n = from;
+    while n.nodes < all.nodes {
+        if !node_here(text, brushes, most, n, all, t3, t4, t5, t6, t7, t8, t9, t10) {
+            return false;
+        }
+        n = b3d_check_node::node_counts(n, all, t3, t4, t6, t9);
+    }
+    ended(n, all)
+}
+
+// The root and all nodes below it, of those that `all` counts, in the tables 3 to 10. The names are in `text`.
+pub fn tree_here(
+    text: &[u8],
+    brushes: u32,
+    all: Counts,
+    t3: &[u32],
+    t4: &[u32],
+    t5: &[u32],
+    t6: &[u32],
+    t7: &[u32],
+    t8: &[u32],
+    t9: &[u32],
+    t10: &[u32],
+) -> bool
+    requires { ⌜ Limited all × KindRoom all (length (now t4)) (length (now t5)) (length (now t6)) (length (now t7)) (length (now t8)) ⌝ }
+    requires { ⌜ (20 * all .nodes ≤ length (now t3)) × ListRoom all (length (now t9)) (length (now t10)) ⌝ }
+    ensures { λ r. ⌜ r ≡ treeHere (now (text .entry)) brushes (partRows all (now (t4 .entry)) (now (t5 .entry)) (now (t6 .entry)) (now (t7 .entry)) (now (t8 .entry)) (now (t9 .entry)) (now (t10 .entry)))
+        (cut 20 (all .nodes) (now (t3 .entry))) ⌝ }
+{
+    let n = START;
+    if all.nodes <= 0 {
+        return ended(n, all);
+    }
+    if !(t3[2] == 0xFFFFFFFF) {
+        return false;
+    }
+    if !node_here(text, brushes, 0, n, all, t3, t4, t5, t6, t7, t8, t9, t10) {
+        return false;
+    }
+    let m = b3d_check_node::node_counts(n, all, t3, t4, t6, t9);
+    let most = b3d_rows::cell(m.vertices);
+    if !nodes_here(text, brushes, most, m, all, t3, t4, t5, t6, t7, t8, t9, t10) {
+        return false;
+    }
+    parents_here(t3, all.nodes)
+}
