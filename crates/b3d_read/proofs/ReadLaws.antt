@@ -29,19 +29,19 @@ use Rattle.b3d_read.proofs.RoomLaws.{short-first, short-at-most}
 
 -- ---- what a verdict says of what was read
 
-abbrev summaryOf : Scene → Summary
+abbrev pub summaryOf : Scene → Summary
 summaryOf t = record { version = t .version; «n_texs» = t .slots; tally = tallyOf t }
 
-record Good (o : Out Scene) (x : Summary) : Type 0 where
-  scene : Scene
-  is : o ≡ got scene
-  same : x ≡ summaryOf scene
+pub record Good (o : Out Scene) (x : Summary) : Type 0 where
+  pub scene : Scene
+  pub is : o ≡ got scene
+  pub same : x ≡ summaryOf scene
 
-was-bad : (o : Out Scene) (e p : ℕ) → verdictOf o ≡ verdict.Bad e p → o ≡ bad e p
+pub was-bad : (o : Out Scene) (e p : ℕ) → verdictOf o ≡ verdict.Bad e p → o ≡ bad e p
 was-bad (got t) e p h = let z : _≡_ {A = ℕ} 0 1 = cc in absurd (omega arith)
 was-bad (bad n q) e p h = cc
 
-was-good : (o : Out Scene) (x : Summary) → verdictOf o ≡ verdict.Good x → Good o x
+pub was-good : (o : Out Scene) (x : Summary) → verdictOf o ≡ verdict.Good x → Good o x
 was-good (got t) x h = record { scene = t; is = refl; same = cc }
 was-good (bad n p) x h = let z : _≡_ {A = ℕ} 0 1 = cc in absurd (omega arith)
 

@@ -1,0 +1,152 @@
+-- A law for each way through the functions of the lister.
+use mathlib.Core.Path.{_≡_, ap, ap₂, sym, _∙_}
+use Prim.Native.Nat.{ℕ, suc, _+_, _-_, _*_, _<_, _≤_}
+use native.Mathlib.Nat.{add-zero}
+use native.Mathlib.Omega.{arith}
+use mathlib.Core.List.{List, [], _∷_, _++_, append-assoc}
+use lib.ListN.{length, drop, getD, length-append, length-drop}
+use lib.Seq.{getD-drop, drop-drop}
+use borrow.Author.Tests.{lt-ltb, le-ltb}
+use Rattle.wire.specs.Test.{if}
+use Rattle.wire.specs.Bytes.{AllBytes, over}
+use Rattle.layout.specs.Out.{Out, got}
+use Rattle.b3d_scene.specs.Answers.{judge, tableAfter}
+use Rattle.b3d_scene.specs.Parse.{parse}
+use Rattle.b3d_scene.specs.Scene.{Scene}
+use Rattle.b3d_scene.specs.Tables.{rows, table, counts, tables, nodeTables}
+use Rattle.b3d_scene.proofs.AnswerLaws.{judge-got}
+use Rattle.b3d_judge.specs.Answers.{verdictOf}
+use Rattle.b3d_judge.specs.declared.Summary.{Summary}
+use Rattle.b3d_judge.specs.declared.Verdict.{Verdict}
+use Rattle.b3d_judge.specs.declared.Verdict.the-variants as verdict
+use Rattle.b3d_names.specs.Name.{nameOr}
+use Rattle.b3d_read.specs.Rooms.{countsIn}
+use Rattle.b3d_read.proofs.ReadLaws.{summaryOf, Good, was-bad, was-good}
+use Rattle.b3d_rows.specs.Puts.{Ready}
+use Rattle.b3d_text.specs.Puts.{Puts}
+use Rattle.b3d_text.specs.Text.{numberLine, textLine}
+use Rattle.b3d_text.proofs.Putting.{put-both, put-inside, Putting, putting-start, putting-part, putting-done}
+use Rattle.b3d_listing.specs.Listing.{unnamed, nodeLines, listed, listing}
+use Rattle.b3d_listing.specs.Parts.{headLines, nodeLinesOf, rowLine, rowLines, Listable}
+use Rattle.b3d_listing.proofs.NameLines.{nodes-count, table-room, table-lines}
+
+-- ---- `put_heads`
+
+module _ (x : Summary) (xs ys : List ℕ) (p : ℕ) (h : Puts (numberLine (0 ∷ 0 ∷ [])) xs 0 ys p) where
+  pub heads-done : (v n : ℕ) → v ≡ x .version → n ≡ x .«n_texs» → (zs : List ℕ) (q : ℕ) → Puts (numberLine (v ∷ n ∷ [])) ys p zs q
+      → (us : List ℕ) (r : ℕ) → Puts (numberLine (countsIn (x .tally))) zs q us r → Puts (headLines x) xs 0 us r
+  unfolding headLines
+  heads-done v n e f zs q k us r l =
+      rw (← e, ← f) (put-both (numberLine (0 ∷ 0 ∷ [])) _ xs 0 ys p us r h (put-both (numberLine (v ∷ n ∷ [])) (numberLine (countsIn (x .tally))) ys p zs q us r k l))
+
+pub ruleset heads-laws = (heads-done, put-inside)
+
+-- ---- `put_name`
+
+pub name-done : (s ws : List ℕ) (i place size : ℕ) → place ≡ getD ws (20 * i) 0 → size ≡ getD ws (20 * i + 1) 0
+    → (w : List ℕ) → w ≡ nameOr s unnamed place size → (xs : List ℕ) (at : ℕ) (ys : List ℕ) (p : ℕ) → Puts (textLine w) xs at ys p
+    → Puts (rowLine s (drop (20 * i) ws)) xs at ys p
+unfolding rowLine
+name-done s ws i place size e f w g xs at ys p h = rw (getD-drop (20 * i) ws 0 0, add-zero (20 * i), getD-drop (20 * i) ws 1 0, ← e, ← f, ← g) h
+
+-- ---- `put_names`: the lines of the rows from i on are left
+
+pub record Naming (s ws : List ℕ) (n : ℕ) (xs : List ℕ) (at : ℕ) (ys : List ℕ) (p i : ℕ) : Type 0 where
+  pub before : i ≤ n
+  pub puts : Putting (rowLines s ws n) xs at (rowLines s (drop (20 * i) ws) (n - i)) ys p
+
+module _ (s ws : List ℕ) (n : ℕ) (xs : List ℕ) (at : ℕ) where
+  pub names-start : at ≤ length xs → Naming s ws n xs at xs at 0
+  names-start h = let z : n - 0 ≡ n = omega arith in record { before = omega arith; puts = rw z (putting-start (rowLines s ws n) xs at h) }
+
+  module _ (ys : List ℕ) (p i : ℕ) (g : Naming s ws n xs at ys p i) where
+    pub names-inside : p ≤ length ys
+    names-inside = g .puts .inside
+
+    pub names-next : i < n → (zs : List ℕ) (q : ℕ) → Puts (rowLine s (drop (20 * i) ws)) ys p zs q → Naming s ws n xs at zs q (i + 1)
+    unfolding rowLines
+    names-next h zs q k =
+        let m : n - i ≡ suc (n - (i + 1)) = omega arith in
+        let d : drop 20 (drop (20 * i) ws) ≡ drop (20 * (i + 1)) ws = drop-drop 20 (20 * i) ws ∙ ap (λ (j : ℕ). drop j ws) (let j : 20 * i + 20 ≡ 20 * (i + 1) = omega arith in j) in
+        let rest = rowLines s (drop (20 * (i + 1)) ws) (n - (i + 1)) in
+        let e : rowLines s (drop (20 * i) ws) (n - i) ≡ rowLine s (drop (20 * i) ws) ++ rest = rw (m, d) in
+        record { before = omega arith; puts = putting-part (rowLines s ws n) xs at (rowLines s (drop (20 * i) ws) (n - i)) ys p (g .puts) (rowLine s (drop (20 * i) ws)) rest zs q e k }
+
+    pub names-done : n ≤ i → Puts (rowLines s ws n) xs at ys p
+    unfolding rowLines
+    names-done h = let z : n - i ≡ 0 = omega arith in putting-done (rowLines s ws n) xs at (rowLines s (drop (20 * i) ws) (n - i)) ys p (g .puts) (rw z)
+
+pub ruleset names-laws = (names-start, names-inside, names-next, names-done)
+
+-- ---- `put_nodes`
+
+module _ (s : List ℕ) (n : ℕ) (l : Listable s n) (b : AllBytes s) where
+  parsed : parse s ≡ got (l .scene)
+  parsed = judge-got s (l .scene) (l .accepted) .0
+
+  pub table-ready : (room : ℕ) → 26740 ≡ room → Ready (rows 3) (judge s) 0 room
+  unfolding table
+  table-ready room e = record { value = l .scene; is = l .accepted; room = omega (arith, table-room s (l .scene) b parsed (l .short)) }
+
+  -- the table after it was filled is as long as before
+  pub table-rows : (xs ws : List ℕ) → 26740 ≡ length xs → ws ≡ tableAfter 3 (judge s) xs → 20 * n ≤ length ws
+  unfolding tableAfter over
+  table-rows xs ws e f =
+      let t = table 3 (l .scene) in
+      let r = table-room s (l .scene) b parsed (l .short) in
+      let c : 20 * n ≤ 26740 = omega (arith, l .count, nodes-count s (l .scene) b parsed, l .short) in
+      let g : ws ≡ t ++ drop (length t) xs = f ∙ ap (λ (o : Out Scene). tableAfter 3 o xs) (l .accepted) in
+      omega (arith, ap length g, length-append t (drop (length t) xs), length-drop (length t) xs)
+
+  lines-are : (xs ws : List ℕ) → ws ≡ tableAfter 3 (judge s) xs → rowLines s ws n ≡ nodeLinesOf (judge s)
+  unfolding tableAfter nodeLinesOf
+  lines-are xs ws e =
+      ap₂ (rowLines s) (e ∙ ap (λ (o : Out Scene). tableAfter 3 o xs) (l .accepted)) (l .count)
+      ∙ table-lines s (l .scene) b parsed xs ∙ sym (ap nodeLinesOf (l .accepted))
+
+  pub nodes-done : (xs ws : List ℕ) → ws ≡ tableAfter 3 (judge s) xs → (out : List ℕ) (at : ℕ) (ys : List ℕ) (p : ℕ) → Puts (rowLines s ws n) out at ys p
+      → Puts (nodeLinesOf (judge s)) out at ys p
+  nodes-done xs ws e out at ys p h = rw (← lines-are xs ws e) h
+
+pub ruleset nodes-laws = (table-ready, table-rows, nodes-done)
+
+-- ---- `put_listing`
+
+-- the text of what the judge has accepted
+accepted-lines : (t : Scene) → headLines (summaryOf t) ++ nodeLines (t .nodes) ≡ listed (got t)
+unfolding headLines listed countsIn counts tables nodeTables
+accepted-lines t = simp append-assoc
+
+module _ (s xs ys : List ℕ) (p : ℕ) where
+  pub listing-long : 65536 < length s → Puts (numberLine (1 ∷ 0 ∷ [])) xs 0 ys p → Puts (listing s) xs 0 ys p
+  unfolding listing if
+  listing-long h k = rw (lt-ltb 65536 (length s) h) k
+
+  module _ (h : length s ≤ 65536) (v : Verdict) (ev : v ≡ verdictOf (judge s)) where
+    listing-short : listing s ≡ listed (judge s)
+    unfolding listing if
+    listing-short = rw (le-ltb 65536 (length s) h)
+
+    pub listing-bad : (n q : ℕ) → v ≡ verdict.Bad n q → (k : ℕ) → k ≡ n → Puts (numberLine (k ∷ q ∷ [])) xs 0 ys p → Puts (listing s) xs 0 ys p
+    unfolding listed
+    listing-bad n q w k e g = rw (listing-short, was-bad (judge s) n q (sym ev ∙ w), ← e) g
+
+    module _ (x : Summary) (w : v ≡ verdict.Good x) where
+      good : Good (judge s) x
+      good = was-good (judge s) x (sym ev ∙ w)
+
+      listing-lines : headLines x ++ nodeLinesOf (judge s) ≡ listing s
+      unfolding nodeLinesOf
+      listing-lines =
+          ap₂ (λ (y : Summary) (o : Out Scene). headLines y ++ nodeLinesOf o) (good .same) (good .is)
+          ∙ accepted-lines (good .scene) ∙ sym (listing-short ∙ ap listed (good .is))
+
+      pub listing-good : Puts (headLines x) xs 0 ys p → (zs : List ℕ) (q : ℕ) → Puts (nodeLinesOf (judge s)) ys p zs q → Puts (listing s) xs 0 zs q
+      listing-good k zs q l = rw (← listing-lines) (put-both (headLines x) (nodeLinesOf (judge s)) xs 0 ys p zs q k l)
+
+pub listing-nodes : (s : List ℕ) → length s ≤ 65536 → (v : Verdict) → v ≡ verdictOf (judge s) → (x : Summary) → v ≡ verdict.Good x → Listable s (x .tally .nodes)
+listing-nodes s h v ev x w =
+    let g = was-good (judge s) x (sym ev ∙ w) in
+    record { scene = g .scene; accepted = g .is; count = ap (λ (y : Summary). y .tally .nodes) (g .same); short = h }
+
+pub ruleset listing-laws = (listing-long, listing-bad, listing-good, listing-nodes, put-inside)

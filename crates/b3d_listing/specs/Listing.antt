@@ -1,0 +1,51 @@
+-- What the lister prints for a file, as bytes.
+use mathlib.Core.Path.{_≡_}
+use Prim.Native.Nat.{ℕ, _≤_}
+use mathlib.Core.List.{List, [], _∷_, _++_}
+use lib.ListN.{length, take}
+use lib.Dec.{ltb}
+use Rattle.wire.specs.Bytes.{over}
+use Rattle.wire.specs.Test.{if}
+use Rattle.layout.specs.Out.{Out, got, bad}
+use Rattle.b3d_scene.specs.Answers.{judge}
+use Rattle.b3d_scene.specs.Scene.{Forest, leaf, node, Scene}
+use Rattle.b3d_scene.specs.Tables.{counts}
+use Rattle.b3d_text.specs.Text.{numberLine, textLine}
+
+-- the most bytes that the lister reads
+abbrev pub mostListed : ℕ
+mostListed = 65536
+
+-- the most bytes that it prints: 14 words of ten digits and what follows each, and for the nodes no more than their bytes of the file
+abbrev pub mostPrinted : ℕ
+mostPrinted = 65678
+
+-- the word `unnamed`
+abbrev pub unnamed : List ℕ
+unnamed = 117 ∷ 110 ∷ 110 ∷ 97 ∷ 109 ∷ 101 ∷ 100 ∷ []
+
+-- a name, or that word where it is empty
+unfoldable pub nameOrWord : List ℕ → List ℕ
+nameOrWord [] = unnamed
+nameOrWord (b ∷ bs) = b ∷ bs
+
+-- a line for each node, in file order
+unfoldable pub nodeLines : Forest → List ℕ
+nodeLines leaf = []
+nodeLines (node d f g) = textLine (nameOrWord (d .name .bytes)) ++ (nodeLines f ++ nodeLines g)
+
+-- number and place; where accepted, version and n_texs, the ten counts, and the nodes' names
+unfoldable pub listed : Out Scene → List ℕ
+listed (got t) = numberLine (0 ∷ 0 ∷ []) ++ (numberLine (t .version ∷ t .slots ∷ []) ++ (numberLine (counts t) ++ nodeLines (t .nodes)))
+listed (bad n p) = numberLine (n ∷ p ∷ [])
+
+-- the whole text; a file of too many bytes is refused with 1 at 0
+unfoldable pub listing : List ℕ → List ℕ
+listing s = if (ltb mostListed (length s)) (numberLine (1 ∷ 0 ∷ [])) (listed (judge s))
+
+-- an output before and after a file was listed, and the size of the text
+pub record Lists (s xs ys : List ℕ) (size : ℕ) : Type 0 where
+  pub text : ys ≡ over (listing s) xs
+  pub bytes : size ≡ length (listing s)
+  pub inside : size ≤ length ys
+  pub printed : take size ys ≡ listing s
