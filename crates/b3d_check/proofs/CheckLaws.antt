@@ -17,8 +17,8 @@ use Rattle.b3d_scene.specs.Rebuild.{lentRows, roomy, cut}
 use Rattle.b3d_scene.specs.Rules.{rowLimit}
 use Rattle.b3d_scene.specs.Tables.{width, tables, nodeTables}
 use Rattle.b3d_scene.specs.declared.Counts.{Counts}
-use Rattle.b3d_write.specs.Check.{nameHere, brushHere, slotsHere, treeHere, check}
-use Rattle.b3d_write.proofs.Check.Testing.{if-case}
+use Rattle.b3d_sound.specs.Check.{nameHere, brushHere, slotsHere, treeHere, check}
+use Rattle.b3d_sound.proofs.Check.Testing.{if-case}
 use Rattle.b3d_check_rows.specs.Rows.{rowsAt}
 use Rattle.b3d_check_rows.proofs.Ands.{and-stop, and-go}
 use Rattle.b3d_check_rows.proofs.RowLaws.{and-true}

@@ -12,8 +12,8 @@ use Rattle.b3d_scene.specs.Rules.{boneVertices, bonesBelow}
 use Rattle.b3d_scene.specs.Scene.{Data}
 use Rattle.b3d_scene.specs.Tables.{start}
 use Rattle.b3d_scene.specs.declared.Counts.{Counts}
-use Rattle.b3d_write.specs.CellCounts.{kindCounts, cellCounts}
-use Rattle.b3d_write.specs.Check.{kindHere, nodeHere, spent, nodesHere, parentsHere, treeHere}
+use Rattle.b3d_sound.specs.CellCounts.{kindCounts, cellCounts}
+use Rattle.b3d_sound.specs.Check.{kindHere, nodeHere, spent, nodesHere, parentsHere, treeHere}
 
 pub record Agree (R S : Rows) : Type 0 where
   pub meshes : R 4 ≡ S 4

@@ -10,8 +10,8 @@ use Rattle.wire.specs.Test.{if}
 use Rattle.layout.proofs.Lists.{All}
 use Rattle.b3d_scene.specs.Rebuild.{together, rebuild}
 use Rattle.b3d_scene.specs.Tables.{tables, nodeTables}
-use Rattle.b3d_write.specs.Check.{check}
-use Rattle.b3d_write.proofs.Check.Verdict.{Typed, rebuild-check}
+use Rattle.b3d_sound.specs.Check.{check}
+use Rattle.b3d_sound.proofs.Check.Verdict.{Typed, rebuild-check}
 use Rattle.b3d_check.specs.Lent.{lentOf}
 
 pub all-words : (l : List ℕ) → ((i : ℕ) → getD l i 0 < 4294967296) → All IsWord l

@@ -10,7 +10,7 @@ use Rattle.layout.specs.Rules.{holds}
 use Rattle.b3d_scene.specs.Rebuild.{Lent, cut}
 use Rattle.b3d_scene.specs.Rules.{version, rowLimit}
 use Rattle.b3d_scene.specs.declared.Counts.{Counts}
-use Rattle.b3d_write.specs.Check.{nameHere, brushHere, slotsHere, treeHere}
+use Rattle.b3d_sound.specs.Check.{nameHere, brushHere, slotsHere, treeHere}
 use Rattle.b3d_check_node.specs.Parts.{partRows}
 
 -- ten counts and ten tables

@@ -5,7 +5,7 @@ ghost use mathlib.Core.Option.{none, some};
 ghost use lib.ListN.{length};
 ghost use Rattle.wire.specs.Test.{if};
 ghost use Rattle.b3d_scene.specs.Rebuild.{together, rebuild};
-ghost use Rattle.b3d_write.specs.Check.{check};
+ghost use Rattle.b3d_sound.specs.Check.{check};
 ghost use Rattle.b3d_check.specs.Lent.{lentOf, partCounts, fitsIn, rooms, Rooms, rowsPart};
 use b3d_scene::Counts;
 
@@ -52,7 +52,7 @@ fn rooms_here(
 }
 
 // The counts of the tables 3 to 10.
-fn sizes(counts: &[u32; 10]) -> Counts
+pub fn sizes(counts: &[u32; 10]) -> Counts
     ensures { λ r. ⌜ r ≡ partCounts (now (counts .entry)) ⌝ }
 {
     Counts {

@@ -6,7 +6,7 @@ use mathlib.Core.List.{List, [], _∷_}
 use lib.ListN.{getD}
 use mir.Syntax.{w64}
 use mir.Val.{Fits}
-use Rattle.b3d_write.specs.CellCounts.{endOf}
+use Rattle.b3d_sound.specs.CellCounts.{endOf}
 use Rattle.b3d_check_rows.specs.Rows.{rowsAt}
 use Rattle.b3d_check_rows.proofs.Rows.{row-cell, rows-none, rows-next}
 

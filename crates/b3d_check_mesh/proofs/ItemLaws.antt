@@ -10,7 +10,7 @@ use Rattle.layout.specs.Fit.{all}
 use Rattle.layout.specs.Rules.{NONE}
 use Rattle.b3d_scene.specs.Mask.{keyMask}
 use Rattle.b3d_scene.specs.Rules.{triangleRow}
-use Rattle.b3d_write.specs.Check.{keeps, clean, setHere, listHere}
+use Rattle.b3d_sound.specs.Check.{keeps, clean, setHere, listHere}
 use Rattle.b3d_check_rows.specs.Rows.{rowAt}
 use Rattle.b3d_check_rows.proofs.Rows.{row-cell, row-first}
 

@@ -7,7 +7,7 @@ use mathlib.Core.List.{List}
 use lib.ListN.{take, drop, getD}
 use lib.Dec.{leb, eqb}
 use borrow.Author.Tests.{lt-leb, le-leb}
-use Rattle.b3d_write.specs.Check.{runsHere}
+use Rattle.b3d_sound.specs.Check.{runsHere}
 use Rattle.b3d_check_rows.specs.Rows.{rowAt, rowsAt}
 use Rattle.b3d_check_rows.proofs.Ands.{and-stop, and-go}
 use Rattle.b3d_check_rows.proofs.Rows.{row-cell, rows-none, rows-next, rows-length, rows-take, rows-drop}

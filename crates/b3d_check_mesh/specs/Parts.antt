@@ -9,7 +9,7 @@ use Rattle.layout.specs.Rules.{holds}
 use Rattle.b3d_scene.specs.Rebuild.{mine}
 use Rattle.b3d_scene.specs.Rules.{vertexFlags, sets, setSize, brushId}
 use Rattle.b3d_scene.specs.declared.Counts.{Counts}
-use Rattle.b3d_write.specs.Check.{runsHere, setHere}
+use Rattle.b3d_sound.specs.Check.{runsHere, setHere}
 use Rattle.b3d_check_rows.specs.Rows.{rowsAt}
 
 -- mesh row x of node number `node`, its first vertex being number `first`

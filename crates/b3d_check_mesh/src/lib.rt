@@ -1,12 +1,12 @@
-// Meshes, weights and key lists among the rows of lent tables: each function is a test of b3d_write's specs/Check, or a count of rows, on
+// Meshes, weights and key lists among the rows of lent tables: each function is a test of b3d_sound's specs/Check, or a count of rows, on
 // rows that are given by their number.
 ghost use mathlib.Core.Path.{_≡_};
 ghost use Prim.Native.Nat.{_+_, _-_, _*_, _<_, _≤_};
 ghost use lib.ListN.{length};
 ghost use Rattle.b3d_scene.specs.Mask.{vertexMask};
 ghost use Rattle.b3d_scene.specs.Rules.{weightRow};
-ghost use Rattle.b3d_write.specs.CellCounts.{endOf};
-ghost use Rattle.b3d_write.specs.Check.{keeps, clean, rowsHere, runsHere, setHere, meshHere, listHere};
+ghost use Rattle.b3d_sound.specs.CellCounts.{endOf};
+ghost use Rattle.b3d_sound.specs.Check.{keeps, clean, rowsHere, runsHere, setHere, meshHere, listHere};
 ghost use Rattle.b3d_check_rows.specs.Rows.{rowAt, rowsAt};
 ghost use Rattle.b3d_check_mesh.specs.Parts.{meshHead, meshSets, MeshRoom, MineTo};
 use b3d_scene::Counts;

@@ -16,9 +16,9 @@ use Rattle.b3d_scene.specs.Rebuild.{Rows, mine}
 use Rattle.b3d_scene.specs.Rules.{vertexFlags, sets, setSize, brushId, weightRow}
 use Rattle.b3d_scene.specs.declared.Counts.{Counts}
 use Rattle.b3d_scene.proofs.Rows.RowLists.{cut-length}
-use Rattle.b3d_write.specs.CellCounts.{endOf, meshCounts, weightCounts, kindCounts, nodeCounts, cellCounts}
-use Rattle.b3d_write.specs.Check.{keeps, clean, rowsHere, runsHere, nameHere, setHere, listHere, meshHere, kindHere, nodeHere}
-use Rattle.b3d_write.proofs.Check.Testing.{if-case, if-both}
+use Rattle.b3d_sound.specs.CellCounts.{endOf, meshCounts, weightCounts, kindCounts, nodeCounts, cellCounts}
+use Rattle.b3d_sound.specs.Check.{keeps, clean, rowsHere, runsHere, nameHere, setHere, listHere, meshHere, kindHere, nodeHere}
+use Rattle.b3d_sound.proofs.Check.Testing.{if-case, if-both}
 use Rattle.b3d_check_node.specs.Parts.{partRows, Below}
 use Rattle.b3d_check_node.proofs.AfterLaws.{kind-keeps}
 

@@ -9,7 +9,7 @@ use mir.Syntax.{w64}
 use mir.Val.{Fits}
 use Rattle.wire.specs.Test.{if}
 use Rattle.b3d_scene.specs.declared.Counts.{Counts}
-use Rattle.b3d_write.specs.CellCounts.{endOf, meshCounts, weightCounts, kindCounts}
+use Rattle.b3d_sound.specs.CellCounts.{endOf, meshCounts, weightCounts, kindCounts}
 use Rattle.b3d_check_rows.specs.Rows.{rowAt, rowsAt}
 use Rattle.b3d_check_rows.proofs.Rows.{row-cell, rows-from, rows-first, rows-take}
 use Rattle.b3d_check_node.specs.Parts.{partRows, Below, Limited, MeshEnds}

@@ -11,7 +11,7 @@ use Rattle.wire.specs.Test.{if}
 use Rattle.b3d_scene.specs.Rebuild.{cut}
 use Rattle.b3d_scene.specs.Rules.{weightRow}
 use Rattle.b3d_scene.specs.declared.Counts.{Counts}
-use Rattle.b3d_write.specs.Check.{keeps, rowsHere, meshHere, kindHere}
+use Rattle.b3d_sound.specs.Check.{keeps, rowsHere, meshHere, kindHere}
 use Rattle.b3d_check_rows.specs.Rows.{rowAt, rowsAt}
 use Rattle.b3d_check_rows.proofs.Ands.{and-stop, and-go, and-assoc}
 use Rattle.b3d_check_rows.proofs.Rows.{rows-length, rows-from, rows-first}

@@ -12,8 +12,8 @@ use Rattle.wire.specs.Test.{if}
 use Rattle.layout.specs.Fit.{all}
 use Rattle.b3d_scene.specs.Rebuild.{mine}
 use Rattle.b3d_scene.specs.declared.Counts.{Counts}
-use Rattle.b3d_write.specs.Check.{runsHere, nameHere, kindHere, listHere, animHere, nodeHere}
-use Rattle.b3d_write.proofs.Check.Rows.{cells, cells-are}
+use Rattle.b3d_sound.specs.Check.{runsHere, nameHere, kindHere, listHere, animHere, nodeHere}
+use Rattle.b3d_sound.proofs.Check.Rows.{cells, cells-are}
 use Rattle.b3d_check_rows.specs.Rows.{rowAt, rowsAt}
 use Rattle.b3d_check_rows.proofs.Rows.{row-cell, row-length, rows-from}
 use Rattle.b3d_check_rows.proofs.RowLaws.{and-true, name-cells}

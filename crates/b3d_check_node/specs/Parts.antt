@@ -6,7 +6,7 @@ use lib.Dec.{eqb}
 use Rattle.wire.specs.Test.{if}
 use Rattle.b3d_scene.specs.Rebuild.{cut, Rows}
 use Rattle.b3d_scene.specs.declared.Counts.{Counts}
-use Rattle.b3d_write.specs.CellCounts.{endOf}
+use Rattle.b3d_sound.specs.CellCounts.{endOf}
 use Rattle.b3d_check_rows.specs.Rows.{rowsAt}
 
 -- the rows that a counts

@@ -12,7 +12,7 @@ use Rattle.wire.specs.Test.{if}
 use Rattle.layout.specs.Fit.{all}
 use Rattle.layout.specs.Rules.{NONE, Rule, holds}
 use Rattle.b3d_scene.specs.Rules.{textureId}
-use Rattle.b3d_write.specs.Check.{keeps, nameHere, brushHere, slotsHere}
+use Rattle.b3d_sound.specs.Check.{keeps, nameHere, brushHere, slotsHere}
 use Rattle.b3d_check_rows.specs.Rows.{rowAt}
 use Rattle.b3d_check_rows.proofs.RowLaws.{name-cells}
 

@@ -12,7 +12,7 @@ use borrow.Author.Tests.{not-true, not-false, ne-eqb}
 use Rattle.layout.specs.Fit.{all}
 use Rattle.b3d_scene.specs.Mask.{mask}
 use Rattle.b3d_scene.proofs.Rows.MaskLaws.{mask-length}
-use Rattle.b3d_write.specs.Check.{clean}
+use Rattle.b3d_sound.specs.Check.{clean}
 use Rattle.b3d_check_rows.specs.Rows.{rowAt, rowsAt}
 
 -- the cells before k are clean: what the rest says is what the row says

@@ -10,8 +10,8 @@ use borrow.Author.Tests.{lt-leb, le-leb}
 use Rattle.layout.specs.Fit.{all}
 use Rattle.layout.specs.Rules.{Rule}
 use Rattle.b3d_scene.specs.Rules.{triangleRow, weightRow}
-use Rattle.b3d_write.specs.Check.{keeps, nameHere}
-use Rattle.b3d_write.proofs.Check.Rows.{cells, cells-are}
+use Rattle.b3d_sound.specs.Check.{keeps, nameHere}
+use Rattle.b3d_sound.proofs.Check.Rows.{cells, cells-are}
 use Rattle.b3d_check_rows.specs.Rows.{rowAt}
 use Rattle.b3d_check_rows.proofs.Rows.{row-cell, row-first, row-length}
 

@@ -10,7 +10,7 @@ use mir.Syntax.{w64}
 use mir.Val.{Fits}
 use Rattle.b3d_scene.specs.Rebuild.{cut}
 use Rattle.b3d_scene.proofs.Rows.RowLists.{cut-length}
-use Rattle.b3d_write.proofs.Places.{cut-drop}
+use Rattle.b3d_sound.proofs.Places.{cut-drop}
 use Rattle.b3d_check_rows.specs.Rows.{rowAt, rowsAt}
 
 -- ---- cells

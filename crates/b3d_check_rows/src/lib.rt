@@ -1,4 +1,4 @@
-// Rows of lent tables against their rules: names, brushes, cells that a mask leaves out, ids. Each function is a test of b3d_write's
+// Rows of lent tables against their rules: names, brushes, cells that a mask leaves out, ids. Each function is a test of b3d_sound's
 // specs/Check on rows that are given by their number.
 ghost use mathlib.Core.Path.{_≡_};
 ghost use mathlib.Core.List.{[], _∷_};
@@ -9,7 +9,7 @@ ghost use Rattle.layout.specs.Fit.{all};
 ghost use Rattle.layout.specs.Rules.{NONE};
 ghost use Rattle.b3d_scene.specs.Mask.{vertexMask, keyMask};
 ghost use Rattle.b3d_scene.specs.Rules.{triangleRow, weightRow};
-ghost use Rattle.b3d_write.specs.Check.{keeps, clean, nameHere, brushHere, slotsHere};
+ghost use Rattle.b3d_sound.specs.Check.{keeps, clean, nameHere, brushHere, slotsHere};
 ghost use Rattle.b3d_check_rows.specs.Rows.{rowAt, rowsAt};
 
 // A cell as a number of rows.

@@ -9,8 +9,8 @@ use Rattle.b3d_scene.specs.Rebuild.{Rows}
 use Rattle.b3d_scene.specs.Tables.{reached}
 use Rattle.b3d_scene.specs.declared.Counts.{Counts}
 use Rattle.b3d_scene.proofs.Rows.RowLists.{cut-length}
-use Rattle.b3d_write.specs.CellCounts.{kindCounts, nodeCounts, cellCounts}
-use Rattle.b3d_write.specs.Check.{nodeHere, spent, nodesHere}
+use Rattle.b3d_sound.specs.CellCounts.{kindCounts, nodeCounts, cellCounts}
+use Rattle.b3d_sound.specs.Check.{nodeHere, spent, nodesHere}
 use Rattle.b3d_check_rows.specs.Rows.{rowAt, rowsAt}
 use Rattle.b3d_check_rows.proofs.Ands.{and-stop, and-go}
 use Rattle.b3d_check_rows.proofs.RowLaws.{and-true}

@@ -12,7 +12,7 @@ use lib.Dec.{T, leb, ltb, eqb, leb→le}
 use borrow.Author.Tests.{not-true, not-false, lt-ltb, le-ltb}
 use Rattle.wire.specs.Test.{if}
 use Rattle.b3d_scene.specs.Rules.{levels}
-use Rattle.b3d_write.specs.Check.{upTo, parentsHere}
+use Rattle.b3d_sound.specs.Check.{upTo, parentsHere}
 use Rattle.b3d_check_rows.specs.Rows.{rowsAt}
 use Rattle.b3d_check_rows.proofs.Rows.{row-cell, rows-none, rows-next}
 use Rattle.b3d_check_tree.specs.Path.{pathOf, CutTo}

@@ -18,8 +18,8 @@ use Rattle.b3d_scene.specs.Rules.{sets, ownVertices, boneVertices, bonesBelow}
 use Rattle.b3d_scene.specs.Scene.{Kind}
 use Rattle.b3d_scene.specs.Tables.{start}
 use Rattle.b3d_scene.specs.declared.Counts.{Counts}
-use Rattle.b3d_write.specs.CellCounts.{meshCounts, weightCounts, kindCounts, nodeCounts, cellCounts}
-use Rattle.b3d_write.specs.Check.{nameHere, kindHere, nodeHere, nodesHere, parentsHere, treeHere}
+use Rattle.b3d_sound.specs.CellCounts.{meshCounts, weightCounts, kindCounts, nodeCounts, cellCounts}
+use Rattle.b3d_sound.specs.Check.{nameHere, kindHere, nodeHere, nodesHere, parentsHere, treeHere}
 use Rattle.b3d_check_rows.specs.Rows.{rowAt, rowsAt}
 use Rattle.b3d_check_rows.proofs.Ands.{and-stop, and-go}
 use Rattle.b3d_check_rows.proofs.Rows.{row-cell, rows-next, rows-whole}

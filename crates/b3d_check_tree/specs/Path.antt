@@ -3,7 +3,7 @@ use mathlib.Core.Path.{_≡_}
 use Prim.Native.Nat.{ℕ, zero, suc, _≤_}
 use mathlib.Core.List.{List, [], _∷_}
 use lib.ListN.{getD}
-use Rattle.b3d_write.specs.Check.{upTo}
+use Rattle.b3d_sound.specs.Check.{upTo}
 
 unfoldable pub pathOf : List ℕ → ℕ → List ℕ
 pathOf a zero = []

@@ -4,7 +4,7 @@ ghost use mathlib.Core.List.{List, [], _∷_, map};
 ghost use Prim.Native.Nat.{ℕ, _+_, _-_, _*_, _<_, _≤_};
 ghost use lib.ListN.{length, getD};
 ghost use Rattle.b3d_scene.specs.Rebuild.{cut};
-ghost use Rattle.b3d_write.specs.Check.{parentsHere, nodesHere, treeHere};
+ghost use Rattle.b3d_sound.specs.Check.{parentsHere, nodesHere, treeHere};
 ghost use Rattle.b3d_check_rows.specs.Rows.{rowsAt};
 ghost use Rattle.b3d_check_node.specs.Parts.{partRows, Below, Limited, KindRoom, ListRoom};
 ghost use Rattle.b3d_check_tree.specs.Ended.{ended};

@@ -6,25 +6,25 @@ use mathlib.Core.Option.{Option, none, some}
 use mathlib.Core.List.{List, [], _∷_, _++_, map}
 use lib.ListN.{length, getD, length-append, length-map}
 use lib.Seq.{getD-append-add}
-use lib.Dec.{eqb}
+use lib.Dec.{eqb, leb→le}
 use borrow.Author.Tests.{ne-eqb}
 use Rattle.wire.specs.Test.{if}
 use Rattle.layout.specs.Rules.{NONE}
-use Rattle.layout.proofs.Lists.{All, all-map}
+use Rattle.layout.proofs.Lists.{All, all-map, all-append}
 use Rattle.b3d_scene.specs.declared.Counts.{Counts}
 use Rattle.b3d_scene.specs.Encode.{encode}
 use Rattle.b3d_scene.specs.Mask.{spread, vertexMask, keyMask}
 use Rattle.b3d_scene.specs.Rebuild.{Lent, cut, lentRows, rebuild}
-use Rattle.b3d_scene.specs.Rules.{vertexWords, keyWords, bonesBelow, levels}
+use Rattle.b3d_scene.specs.Rules.{vertexWords, keyWords, bonesBelow, boneVertices, levels}
 use Rattle.b3d_scene.specs.Scene.{Texture, Brush, TriangleSet, Kind, pivot, mesh, bone, Keys, Anim, still, anim, Data, Forest, leaf, node, Scene}
 use Rattle.b3d_scene.specs.Sizes.{textureSize, texsSize, brushSize, brusSize, setsSize, kindSize, keysSize, animSize, nodesSize, sizeOf}
 use Rattle.b3d_scene.specs.Tables.{start, nameCells, textureRow, brushRow, kindCells, animCells, nodeRow, meshRow, setRows, triangleRows, listRows, meshesOf, weightsOf, meshRows, ownRows, withNode, withForest, forestRows, rows, tables, nodeTables}
-use Rattle.b3d_scene.proofs.Fitting.{FitNodes, Fit}
+use Rattle.b3d_scene.proofs.Fitting.{FitKind, FitKeys, FitNodes, Fit}
 use Rattle.b3d_scene.proofs.Laws.{file-length}
 use Rattle.b3d_scene.proofs.Rows.RebuildLaws.{Holds, rebuild-fine, held-rows}
 use Rattle.b3d_scene.proofs.Rows.RowParts.{sets-length}
 use Rattle.b3d_scene.proofs.Rows.WordCounts.{any-words}
-use Rattle.b3d_size.specs.LentSize.{sum, around, namedBytes, nodeBytes, meshBytes, listBytes, rowBytes, rowsBytes, listsBytes, nodesBytes, lentSize}
+use Rattle.b3d_size.specs.LentSize.{sum, around, namedBytes, nodeBytes, meshBytes, listBytes, rowBytes, rowsBytes, listsBytes, nodesBytes, lentSize, Sizable}
 
 -- ---- sums
 
@@ -141,3 +141,40 @@ pub lent-size : (T : Lent) (ns : List ℕ) (t : Scene) → rebuild T ns ≡ some
 lent-size T ns t e =
     let f = rebuild-fine ns T t e in
     scene-sum T t (f .0) (f .1 .slots) (all-map (Holds T t) _ (λ k h. h .many) tables (f .1 .held)) (held-rows T t (f .0) (f .1 .held)) ∙ sym (file-length t (f .0))
+
+-- ---- rows that can be added up
+
+mesh-sizable : (b c : ℕ) (k : Kind) (n : Counts) → FitKind b c k → All (Sizable 4) (meshRows 4 (meshesOf k) n)
+unfolding meshRows meshesOf if meshRow
+mesh-sizable b c pivot n h = tt
+mesh-sizable b c (mesh m) n h = (
+  record {
+    flags = λ e. leb→le (m .flags) 3 (h .head .1);
+    sets = λ e. leb→le (m .sets) 8 (h .head .2 .1);
+    size = λ e. leb→le (m .size) 4 (h .head .2 .2 .1);
+    keys = λ e. absurd (omega arith);
+  },
+  tt,
+)
+mesh-sizable b c (bone ws) n h = tt
+
+lists-sizable : (i k : ℕ) (l : List Keys) → All FitKeys l → All (Sizable 9) (listRows i k l)
+unfolding listRows
+lists-sizable i k [] h = tt
+lists-sizable i k (x ∷ l) h = (
+  record { flags = λ e. absurd (omega arith); sets = λ e. absurd (omega arith); size = λ e. absurd (omega arith); keys = λ e. leb→le (x .flags) 7 (h .0 .0 .1) },
+  lists-sizable i (k + length (x .items)) l (h .1),
+)
+
+pub nodes-sizable : (l b : ℕ) (above : Option ℕ) (t : Forest) (p : ℕ) (n : Counts) → FitNodes l b above t → All (Sizable 4) (forestRows 4 t p n) × All (Sizable 9) (forestRows 9 t p n)
+unfolding forestRows ownRows if
+nodes-sizable l b above leaf p n f = (tt, tt)
+nodes-sizable zero b above (node d ch sib) p n f = absurd f
+nodes-sizable (suc l) b above (node d ch sib) p n f =
+    let m = withNode d n in
+    let q = withForest ch m in
+    let x = nodes-sizable l b (bonesBelow above d) ch (n .nodes) m (f .1) in
+    let y = nodes-sizable (suc l) b above sib p q (f .2) in (
+      all-append (Sizable 4) (meshRows 4 (meshesOf (d .kind)) n) _ (mesh-sizable b (boneVertices above) (d .kind) n (f .0 .kind)) (all-append (Sizable 4) (forestRows 4 ch (n .nodes) m) _ (x .0) (y .0)),
+      all-append (Sizable 9) (listRows (n .nodes) (n .keys) (d .keys)) _ (lists-sizable (n .nodes) (n .keys) (d .keys) (f .0 .keys)) (all-append (Sizable 9) (forestRows 9 ch (n .nodes) m) _ (x .1) (y .1)),
+    )

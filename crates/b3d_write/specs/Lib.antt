@@ -1,3 +1,2 @@
--- The verdict on lent tables as code finds it.
-pub mod CellCounts
-pub mod Check
+-- What the writer promises.
+pub mod Writes

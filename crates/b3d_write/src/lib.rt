@@ -1,2 +1,238 @@
-// The writer: from lent tables and the bytes that hold the names to the shortest file that has them, or a refusal. Here are the verdict
-// on the tables as code finds it (specs/) and that it is the right one (proofs/); the functions follow.
+// The writer: lent tables and the bytes that hold their names into the shortest file that has them, with the answer that 01 gives to all tables.
+ghost use mathlib.Core.Path.{_≡_};
+ghost use Rattle.b3d_scene.specs.Rebuild.{rebuild};
+ghost use Rattle.b3d_scene.specs.Answers.{shortest};
+ghost use Prim.Native.Nat.{ℕ, _*_, _≤_};
+ghost use lib.ListN.{length, take};
+ghost use Rattle.b3d_scene.specs.Encode.{encode};
+ghost use Rattle.b3d_check.specs.Lent.{lentOf};
+ghost use Rattle.b3d_put_own.specs.Own.{tableRows};
+ghost use Rattle.b3d_put_nodes.specs.Walk.{Sized};
+ghost use Rattle.b3d_put_file.specs.Whole.{OfScene, Some, Each};
+ghost use Rattle.b3d_write.specs.Writes.{sizeNeeded, LowRooms, HighRooms, Writes};
+use b3d_scene::Counts;
+use b3d_scene::Written;
+
+// How long the file of these tables is; 0 where they are unsound or it is too long.
+fn needed(
+    version: u32,
+    slots: u32,
+    counts: &[u32; 10],
+    t1: &[u32],
+    t2: &[u32],
+    t3: &[u32],
+    t4: &[u32],
+    t5: &[u32],
+    t6: &[u32],
+    t7: &[u32],
+    t8: &[u32],
+    t9: &[u32],
+    t10: &[u32],
+    names: &[u8],
+) -> usize
+    ensures { λ r. ⌜ r ≡ sizeNeeded (shortest (rebuild (lentOf version slots (now (counts .entry)) (now (t1 .entry)) (now (t2 .entry)) (now (t3 .entry)) (now (t4 .entry)) (now (t5 .entry)) (now (t6 .entry)) (now (t7 .entry)) (now (t8 .entry)) (now (t9 .entry)) (now (t10 .entry))) (now (names .entry)))) ⌝ }
+{
+    if !b3d_check::sound(
+        version,
+        slots,
+        counts,
+        t1,
+        t2,
+        t3,
+        t4,
+        t5,
+        t6,
+        t7,
+        t8,
+        t9,
+        t10,
+        names,
+    ) {
+        return 0;
+    }
+    let all = b3d_check::sizes(counts);
+    let textures = wire::size(counts[0]);
+    let brushes = wire::size(counts[1]);
+    let n = b3d_size::file_bytes(slots, textures, brushes, all, t1, t2, t3, t4, t9);
+    if 16777216 < n {
+        return 0;
+    }
+    n
+}
+
+// The file, the tables 6 to 10 being lent with more words than their rows.
+fn put_high(
+    names: &[u8],
+    version: u32,
+    slots: u32,
+    t1: &[u32],
+    t2: &[u32],
+    t3: &[u32],
+    t4: &[u32],
+    t5: &[u32],
+    t6: &[u32],
+    t7: &[u32],
+    t8: &[u32],
+    t9: &[u32],
+    t10: &[u32],
+    all: Counts,
+    out: &mut [u8],
+) -> usize
+    requires { ⌜ HighRooms all (length (now t6)) (length (now t7)) (length (now t8)) (length (now t9)) (length (now t10)) ⌝ }
+    requires { ⌜ Sized all (now t3) (now t4) (now t5) (take (4 * all .sets) (now t6)) (take (3 * all .triangles) (now t7)) (take (2 * all .weights) (now t8)) (take (4 * all .lists) (now t9)) (take (11 * all .keys) (now t10)) ⌝ }
+    requires { ⌜ Some (OfScene (now names) (now t1) (now t2) (tableRows (now t3) (now t4) (now t5) (take (4 * all .sets) (now t6)) (take (3 * all .triangles) (now t7)) (take (2 * all .weights) (now t8)) (take (4 * all .lists) (now t9)) (take (11 * all .keys) (now t10))) version slots) encode (now out) ⌝ }
+    ensures { λ r. ⌜ Each (OfScene (now (names .entry)) (now (t1 .entry)) (now (t2 .entry)) (tableRows (now (t3 .entry)) (now (t4 .entry)) (now (t5 .entry)) (take (4 * all .sets) (now (t6 .entry))) (take (3 * all .triangles) (now (t7 .entry))) (take (2 * all .weights) (now (t8 .entry))) (take (4 * all .lists) (now (t9 .entry))) (take (11 * all .keys) (now (t10 .entry)))) version slots) encode (now (out .entry)) (now (out .exit)) r ⌝ }
+{
+    let n6 = 4 * all.sets;
+    let n7 = 3 * all.triangles;
+    let n8 = 2 * all.weights;
+    let n9 = 4 * all.lists;
+    let n10 = 11 * all.keys;
+    b3d_put_file::put_file(
+        names,
+        version,
+        slots,
+        t1,
+        t2,
+        t3,
+        t4,
+        t5,
+        &t6[..n6],
+        &t7[..n7],
+        &t8[..n8],
+        &t9[..n9],
+        &t10[..n10],
+        all,
+        out,
+    )
+}
+
+// The file, all tables being lent with more words than their rows.
+fn put_low(
+    names: &[u8],
+    version: u32,
+    slots: u32,
+    textures: usize,
+    brushes: usize,
+    t1: &[u32],
+    t2: &[u32],
+    t3: &[u32],
+    t4: &[u32],
+    t5: &[u32],
+    t6: &[u32],
+    t7: &[u32],
+    t8: &[u32],
+    t9: &[u32],
+    t10: &[u32],
+    all: Counts,
+    out: &mut [u8],
+) -> usize
+    requires { ⌜ LowRooms textures brushes all (length (now t1)) (length (now t2)) (length (now t3)) (length (now t4)) (length (now t5)) ⌝ }
+    requires { ⌜ HighRooms all (length (now t6)) (length (now t7)) (length (now t8)) (length (now t9)) (length (now t10)) ⌝ }
+    requires { ⌜ Sized all (take (20 * all .nodes) (now t3)) (take (9 * all .meshes) (now t4)) (take (42 * all .vertices) (now t5)) (take (4 * all .sets) (now t6)) (take (3 * all .triangles) (now t7)) (take (2 * all .weights) (now t8)) (take (4 * all .lists) (now t9)) (take (11 * all .keys) (now t10)) ⌝ }
+    requires { ⌜ Some (OfScene (now names) (take (9 * textures) (now t1)) (take (17 * brushes) (now t2)) (tableRows (take (20 * all .nodes) (now t3)) (take (9 * all .meshes) (now t4)) (take (42 * all .vertices) (now t5)) (take (4 * all .sets) (now t6)) (take (3 * all .triangles) (now t7)) (take (2 * all .weights) (now t8)) (take (4 * all .lists) (now t9)) (take (11 * all .keys) (now t10))) version slots) encode (now out) ⌝ }
+    ensures { λ r. ⌜ Each (OfScene (now (names .entry)) (take (9 * textures) (now (t1 .entry))) (take (17 * brushes) (now (t2 .entry))) (tableRows (take (20 * all .nodes) (now (t3 .entry))) (take (9 * all .meshes) (now (t4 .entry))) (take (42 * all .vertices) (now (t5 .entry))) (take (4 * all .sets) (now (t6 .entry))) (take (3 * all .triangles) (now (t7 .entry))) (take (2 * all .weights) (now (t8 .entry))) (take (4 * all .lists) (now (t9 .entry))) (take (11 * all .keys) (now (t10 .entry)))) version slots) encode (now (out .entry)) (now (out .exit)) r ⌝ }
+{
+    let n1 = 9 * textures;
+    let n2 = 17 * brushes;
+    let n3 = 20 * all.nodes;
+    let n4 = 9 * all.meshes;
+    let n5 = 42 * all.vertices;
+    put_high(
+        names,
+        version,
+        slots,
+        &t1[..n1],
+        &t2[..n2],
+        &t3[..n3],
+        &t4[..n4],
+        &t5[..n5],
+        t6,
+        t7,
+        t8,
+        t9,
+        t10,
+        all,
+        out,
+    )
+}
+
+// Writes the shortest file that has these tables, with names in `names`: 12 where no accepted file has them, 11 with the size needed where
+// the output is too short; then the output stays as it was. Past the file it stays so too.
+pub fn write(
+    t1: &[u32],
+    t2: &[u32],
+    t3: &[u32],
+    t4: &[u32],
+    t5: &[u32],
+    t6: &[u32],
+    t7: &[u32],
+    t8: &[u32],
+    t9: &[u32],
+    t10: &[u32],
+    counts: &[u32; 10],
+    version: u32,
+    slots: u32,
+    names: &[u8],
+    out: &mut [u8],
+) -> Written
+    ensures { λ r. ⌜ Writes (lentOf version slots (now (counts .entry)) (now (t1 .entry)) (now (t2 .entry)) (now (t3 .entry)) (now (t4 .entry)) (now (t5 .entry)) (now (t6 .entry)) (now (t7 .entry)) (now (t8 .entry)) (now (t9 .entry)) (now (t10 .entry))) (now (names .entry)) (now (out .entry)) (now (out .exit)) r ⌝ }
+{
+    let size = needed(
+        version,
+        slots,
+        counts,
+        t1,
+        t2,
+        t3,
+        t4,
+        t5,
+        t6,
+        t7,
+        t8,
+        t9,
+        t10,
+        names,
+    );
+    if size == 0 {
+        return Written {
+            number: 12,
+            place: 0,
+            size: 0,
+        };
+    }
+    if out.len() < size {
+        return Written {
+            number: 11,
+            place: size as u32,
+            size: 0,
+        };
+    }
+    let all = b3d_check::sizes(counts);
+    let textures = wire::size(counts[0]);
+    let brushes = wire::size(counts[1]);
+    put_low(
+        names,
+        version,
+        slots,
+        textures,
+        brushes,
+        t1,
+        t2,
+        t3,
+        t4,
+        t5,
+        t6,
+        t7,
+        t8,
+        t9,
+        t10,
+        all,
+        out,
+    );
+    Written {
+        number: 0,
+        place: 0,
+        size: size as u32,
+    }
+}

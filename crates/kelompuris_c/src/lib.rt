@@ -4,8 +4,12 @@ ghost use mathlib.Core.Path.{_≡_};
 ghost use mathlib.Core.List.{[], _∷_};
 ghost use Rattle.b3d_scene.specs.Answers.{judge, answer};
 ghost use Rattle.b3d_read.specs.Reads.{Reads};
-ghost use Rattle.kelompuris_c.specs.Answers.{answerIn};
+ghost use Rattle.b3d_scene.specs.Answers.{clearAnswer, clearOutput};
+ghost use Rattle.b3d_check.specs.Lent.{lentOf};
+ghost use Rattle.b3d_write.specs.Writes.{Writes};
+ghost use Rattle.kelompuris_c.specs.Answers.{answerIn, writtenIn};
 use b3d_scene::Answer;
+use b3d_scene::Written;
 
 // The reader's answer as C lays it out.
 #[repr(C)]
@@ -15,6 +19,14 @@ pub struct KelompurisAnswer {
     pub version: u32,
     pub n_texs: u32,
     pub counts: [u32; 10],
+}
+
+// What the writer and the clearer answer, as C lays it out.
+#[repr(C)]
+pub struct KelompurisWritten {
+    pub number: u32,
+    pub place: u32,
+    pub size: u32,
 }
 
 // The same answer in C's layout.
@@ -61,4 +73,65 @@ pub extern "C" fn kelompuris_b3d_read(
         ∷ now (t6 .exit) ∷ now (t7 .exit) ∷ now (t8 .exit) ∷ now (t9 .exit) ∷ now (t10 .exit) ∷ []) (answerIn r) ⌝ }
 {
     outward(b3d_read::read(file, t1, t2, t3, t4, t5, t6, t7, t8, t9, t10))
+}
+
+// What the writer or the clearer answers, in C's layout.
+fn outward_written(w: Written) -> KelompurisWritten
+    ensures { λ r. ⌜ writtenIn r ≡ w ⌝ }
+{
+    KelompurisWritten {
+        number: w.number,
+        place: w.place,
+        size: w.size,
+    }
+}
+
+// Writes the shortest file that has the lent tables.
+#[no_mangle]
+pub extern "C" fn kelompuris_b3d_write(
+    t1: &[u32],
+    t2: &[u32],
+    t3: &[u32],
+    t4: &[u32],
+    t5: &[u32],
+    t6: &[u32],
+    t7: &[u32],
+    t8: &[u32],
+    t9: &[u32],
+    t10: &[u32],
+    counts: &[u32; 10],
+    version: u32,
+    n_texs: u32,
+    names: &[u8],
+    out: &mut [u8],
+) -> KelompurisWritten
+    ensures { λ r. ⌜ Writes (lentOf version «n_texs» (now (counts .entry)) (now (t1 .entry)) (now (t2 .entry)) (now (t3 .entry)) (now (t4 .entry)) (now (t5 .entry))
+        (now (t6 .entry)) (now (t7 .entry)) (now (t8 .entry)) (now (t9 .entry)) (now (t10 .entry))) (now (names .entry)) (now (out .entry)) (now (out .exit)) (writtenIn r) ⌝ }
+{
+    outward_written(b3d_write::write(
+        t1,
+        t2,
+        t3,
+        t4,
+        t5,
+        t6,
+        t7,
+        t8,
+        t9,
+        t10,
+        counts,
+        version,
+        n_texs,
+        names,
+        out,
+    ))
+}
+
+// Writes the copy without names of a file.
+#[no_mangle]
+pub extern "C" fn kelompuris_b3d_clear(file: &[u8], out: &mut [u8]) -> KelompurisWritten
+    ensures { λ r. ⌜ writtenIn r ≡ clearAnswer (now (file .entry)) (now (out .entry)) ⌝ }
+    ensures { λ _. ⌜ now (out .exit) ≡ clearOutput (now (file .entry)) (now (out .entry)) ⌝ }
+{
+    outward_written(b3d_clear::clear(file, out))
 }

@@ -1,6 +1,6 @@
 -- `brushes_here` looks at each row. The loop has passed those before i; its measure is how many are left.
 use Prim.Native.Nat.{_-_}
-use Rattle.b3d_write.specs.Check.{brushHere}
+use Rattle.b3d_sound.specs.Check.{brushHere}
 use Rattle.b3d_check_rows.proofs.Loops.{AllFrom, all-laws}
 use borrow.Author.Needs.{needs}
 use Rattle.b3d_check_rows.proofs.brushes_here.Statement.{statement}

@@ -1,7 +1,7 @@
 -- `rows_clean` looks at each row. The loop has passed those before i; its measure is how many are left.
 use Prim.Native.Nat.{_-_}
 use lib.ListN.{length}
-use Rattle.b3d_write.specs.Check.{clean}
+use Rattle.b3d_sound.specs.Check.{clean}
 use Rattle.b3d_check_rows.proofs.Loops.{AllFrom, all-laws}
 use Rattle.b3d_check_rows.proofs.Rows.{row-room, row-fits}
 use Rattle.b3d_check_rows.proofs.CleanLaws.{clean-row}

@@ -1,6 +1,6 @@
 -- `textures_here` looks at each row. The loop has passed those before i; its measure is how many are left.
 use Prim.Native.Nat.{_-_}
-use Rattle.b3d_write.specs.Check.{nameHere}
+use Rattle.b3d_sound.specs.Check.{nameHere}
 use Rattle.b3d_check_rows.proofs.Loops.{AllFrom, all-laws}
 use Rattle.b3d_check_rows.proofs.RowLaws.{name-row}
 use borrow.Author.Needs.{needs}

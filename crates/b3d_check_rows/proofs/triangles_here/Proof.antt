@@ -1,7 +1,7 @@
 -- `triangles_here` looks at each row. The loop has passed those before i; its measure is how many are left.
 use Prim.Native.Nat.{_-_}
 use Rattle.b3d_scene.specs.Rules.{triangleRow}
-use Rattle.b3d_write.specs.Check.{keeps}
+use Rattle.b3d_sound.specs.Check.{keeps}
 use Rattle.b3d_check_rows.proofs.Loops.{AllFrom, all-laws}
 use borrow.Author.Needs.{needs}
 use Rattle.b3d_check_rows.proofs.triangles_here.Statement.{statement}

@@ -1,0 +1,158 @@
+-- A law for each way through `clear_file` and `clear`.
+use mathlib.Core.Path.{_≡_, refl, ap, sym, _∙_}
+use Prim.Native.Nat.{ℕ, _+_, _-_, _<_, _≤_}
+use native.Mathlib.Omega.{arith}
+use mathlib.Core.List.{List, [], _++_}
+use lib.ListN.{length, take, drop}
+use borrow.Author.Tests.{le-leb, lt-leb}
+use Rattle.wire.specs.Bytes.{bytes, wordAt, AllBytes, over}
+use Rattle.wire.specs.Cursors.{Inside}
+use Rattle.layout.specs.Out.{Out, got, bad, check, _>>=_}
+use Rattle.layout.proofs.Outs.{by-check}
+use Rattle.emit.specs.Writing.{Wrote, Room, Put, head}
+use Rattle.b3d_scene.specs.Answers.{judge, roomFor, copy, clear, written, outputAfter, clearAnswer, clearOutput}
+use Rattle.b3d_scene.specs.Parse.{parse}
+use Rattle.b3d_scene.specs.Rules.{fileSize, mostBytes}
+use Rattle.b3d_scene.specs.Scene.{Scene}
+use Rattle.b3d_scene.specs.Tags.{code}
+use Rattle.b3d_scene.specs.declared.Tag.the-variants.{BB3D}
+use Rattle.b3d_scene.specs.declared.Written.{Written}
+use Rattle.b3d_scene.proofs.AnswerLaws.{judge-got, judge-first}
+use Rattle.b3d_scene.proofs.Files.FileLaws.{size-low, size-bound}
+use Rattle.b3d_scene.proofs.Files.NameLaws.{copy-short}
+use Rattle.b3d_bodies.specs.declared.Tally.{Tally}
+use Rattle.b3d_judge.specs.Answers.{tallyOf, verdictOf}
+use Rattle.b3d_judge.specs.declared.Summary.{Summary}
+use Rattle.b3d_judge.specs.declared.Verdict.{Verdict}
+use Rattle.b3d_judge.specs.declared.Verdict.the-variants as verdict
+use Rattle.b3d_copy.specs.Copies.{chunksAt, inFile, fileCopy}
+use Rattle.b3d_copy.proofs.Files.{file-copied}
+use Rattle.b3d_clear_parts.proofs.Chunking.{open-fits, open-room, open-asks, open-done}
+use Rattle.b3d_scene.proofs.Refusals.{judge-place}
+
+-- ---- the file
+
+pub file-inside : (s : List ℕ) → 12 ≤ length s → Inside (record { at = 12; end = length s }) (length s)
+file-inside s h = record { before = h; within = omega arith }
+
+pub file-number : (s : List ℕ) → 12 ≤ length s → 8 + 4 ≤ length s
+file-number s h = omega arith
+
+-- the version and the chunks of a file, by the number that was read
+pub file-done : (s out : List ℕ) → Room (fileCopy s) out → (ys : List ℕ) (n : ℕ) → Put (inFile (chunksAt s (record { at = 12; end = length s }))) (take (length out - 12) (drop 12 out)) ys n
+    → (v : ℕ) → v ≡ wordAt s 8 → (zs : List ℕ) → Wrote (take 12 out ++ (ys ++ drop (length out - 12) (drop 12 out))) (head (code BB3D) n (bytes v [])) zs → Put (fileCopy s) out zs (n + 12)
+file-done s out r ys n w v e zs h = open-done (code BB3D) (wordAt s 8) (inFile (chunksAt s (record { at = 12; end = length s }))) out r ys n w zs (rw e at h)
+
+pub ruleset file-laws = (file-inside, file-number, open-fits, open-room, open-asks, file-done)
+
+-- ---- what the judge says
+
+was-bad : (o : Out Scene) (n p : ℕ) → verdictOf o ≡ verdict.Bad n p → o ≡ bad n p
+was-bad (got t) n p e = let z : _≡_ {A = ℕ} 0 1 = cc in absurd (omega arith)
+was-bad (bad m q) n p e = cc
+
+-- a scene was read, and its copy has this size
+record Gave (o : Out Scene) (size : ℕ) : Type 0 where
+  scene : Scene
+  is : o ≡ got scene
+  long : size ≡ length (copy scene)
+
+was-good : (o : Out Scene) (x : Summary) → verdictOf o ≡ verdict.Good x → Gave o (x .tally .copy)
+was-good (got t) x e = let z : x .tally ≡ tallyOf t = cc in record { scene = t; is = refl; long = ap (λ (y : Tally). y .copy) z }
+was-good (bad m q) x e = let z : _≡_ {A = ℕ} 0 1 = cc in absurd (omega arith)
+
+size-within : (s : List ℕ) (t : Scene) → parse s ≡ got t → (12 ≤ length s) × (length s ≤ mostBytes)
+unfolding parse
+size-within s t e = by-check (fileSize (length s)) 1 0 _ e (λ z _. (size-low (length s) z, size-bound (length s) z))
+
+-- ---- answers
+
+of-size : (m n : ℕ) → m ≡ n → _≡_ {A = Written} (record { number = 0; place = 0; size = m }) (record { number = 0; place = 0; size = n })
+of-size m n e = rw e
+
+module _ (s out : List ℕ) where
+  answered : (o : Out (List ℕ)) → clear s (length out) ≡ o → (w : Written) → w ≡ written o → w ≡ clearAnswer s out
+  unfolding clearAnswer
+  answered o e w h = h ∙ ap written (sym e)
+
+  left-so : (o : Out (List ℕ)) → clear s (length out) ≡ o → (ys : List ℕ) → ys ≡ outputAfter o out → ys ≡ clearOutput s out
+  unfolding clearOutput
+  left-so o e ys h = h ∙ ap (λ (x : Out (List ℕ)). outputAfter x out) (sym e)
+
+  module _ (r : Verdict) (e : r ≡ verdictOf (judge s)) where
+    -- refused
+    module _ (n p : ℕ) (z : r ≡ verdict.Bad n p) where
+      refused : judge s ≡ bad n p
+      refused = was-bad (judge s) n p (sym e ∙ z)
+
+      pub clear-place : p < 0x100000000
+      clear-place = omega (arith, judge-place s n p refused)
+
+      stopped : clear s (length out) ≡ bad n p
+      stopped = judge-first s n p refused (λ k. k) (length out) .1
+
+      pub clear-refused : (q : ℕ) → q ≡ p → record { number = n; place = q; size = 0 } ≡ clearAnswer s out
+      unfolding written
+      clear-refused q h = answered (bad n p) stopped (record { number = n; place = q; size = 0 }) (rw h)
+
+      pub clear-untouched : out ≡ clearOutput s out
+      unfolding outputAfter
+      clear-untouched = left-so (bad n p) stopped out refl
+
+    -- accepted
+    module _ (x : Summary) (z : r ≡ verdict.Good x) (all : AllBytes s) where
+      gave : Gave (judge s) (x .tally .copy)
+      gave = was-good (judge s) x (sym e ∙ z)
+
+      parsed : parse s ≡ got (gave .scene)
+      parsed = judge-got s (gave .scene) (gave .is) .0
+
+      pub clear-low : 12 ≤ length s
+      clear-low = size-within s (gave .scene) parsed .0
+
+      pub clear-high : length s ≤ mostBytes
+      clear-high = size-within s (gave .scene) parsed .1
+
+      pub clear-size : x .tally .copy < 0x100000000
+      unfolding copy
+      clear-size = omega (arith, gave .long, copy-short s (gave .scene) all parsed, clear-high)
+
+      room-for : clear s (length out) ≡ roomFor (length out) (copy (gave .scene))
+      unfolding clear
+      room-for = ap (λ (o : Out Scene). o >>= λ t. roomFor (length out) (copy t)) (gave .is)
+
+      -- the output is too short
+      module _ (h : length out < x .tally .copy) where
+        short : clear s (length out) ≡ bad 11 (x .tally .copy)
+        unfolding roomFor check
+        short = room-for ∙ rw (lt-leb (length (copy (gave .scene))) (length out) (omega (arith, gave .long))) (ap (bad 11) (sym (gave .long)))
+
+        pub clear-short : (q : ℕ) → q ≡ x .tally .copy → record { number = 11; place = q; size = 0 } ≡ clearAnswer s out
+        unfolding written
+        clear-short q i = answered (bad 11 (x .tally .copy)) short (record { number = 11; place = q; size = 0 }) (rw i)
+
+        pub clear-kept : out ≡ clearOutput s out
+        unfolding outputAfter
+        clear-kept = left-so (bad 11 (x .tally .copy)) short out refl
+
+      -- it is long enough
+      module _ (h : x .tally .copy ≤ length out) where
+        fits : clear s (length out) ≡ got (copy (gave .scene))
+        unfolding roomFor check
+        fits = room-for ∙ rw (le-leb (length (copy (gave .scene))) (length out) (omega (arith, gave .long)))
+
+        same : fileCopy s ≡ copy (gave .scene)
+        same = file-copied s (gave .scene) all parsed
+
+        pub clear-room : Room (fileCopy s) out
+        clear-room = rw same (record { room = omega (arith, gave .long); small = omega (arith, gave .long, clear-size) })
+
+        pub clear-written : (q : ℕ) → q ≡ x .tally .copy → record { number = 0; place = 0; size = q } ≡ clearAnswer s out
+        unfolding written
+        clear-written q i = answered (got (copy (gave .scene))) fits (record { number = 0; place = 0; size = q }) (of-size q (length (copy (gave .scene))) (i ∙ gave .long))
+
+        pub clear-output : (ys : List ℕ) (n : ℕ) → Put (fileCopy s) out ys n → ys ≡ clearOutput s out
+        unfolding outputAfter
+        clear-output ys n w = left-so (got (copy (gave .scene))) fits ys (w .wrote .is ∙ ap (λ (b : List ℕ). over b out) same)
+
+pub ruleset clear-laws = (clear-place, clear-refused, clear-untouched, clear-low, clear-high, clear-size, clear-short, clear-kept, clear-room, clear-written, clear-output)

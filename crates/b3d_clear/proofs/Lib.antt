@@ -1,0 +1,2 @@
+-- The laws of the clearer.
+pub mod ClearLaws

@@ -1,0 +1,2 @@
+-- The laws of writing the nodes of the copy.
+pub mod NodeLaws

@@ -1,0 +1,70 @@
+-- The parts that bodies of chunks are written by, and rows of sets and of key lists as runs.
+use mathlib.Core.Path.{_≡_, refl, ap₂, _∙_}
+use Prim.Native.Nat.{ℕ, _+_, _/_, _≤_}
+use mathlib.Core.List.{List, [], _∷_, _++_, map}
+use lib.ListN.{length, take, drop, getD}
+use Rattle.wire.specs.Bytes.{bytes}
+use Rattle.layout.specs.Write.{writeWords, writeItems, writeChunks}
+use Rattle.emit.proofs.Joining.{Both, Begins, both-begins, chunk-is}
+use Rattle.emit.proofs.Appends.{words-append, chunks-cons}
+use Rattle.b3d_scene.specs.Encode.{writeTriangles, setChunks, writeKeys, keyChunks}
+use Rattle.b3d_scene.specs.Mask.{squeeze, vertexMask, keyMask}
+use Rattle.b3d_scene.specs.Rebuild.{setsFrom, keysFrom}
+use Rattle.b3d_scene.specs.Tags.{code}
+use Rattle.b3d_scene.specs.declared.Tag.the-variants.{TRIS, KEYS}
+use Rattle.b3d_sound.specs.CellCounts.{endOf}
+use Rattle.b3d_put.specs.Lent.{rowsIn}
+use Rattle.b3d_put.specs.Chunks.{setBytes, listBytes, setsBytes, listsBytes, verticesBody, verticesBytes, MeshThere, meshBody}
+use Rattle.b3d_put.proofs.RunByRun.{eachRun}
+
+-- ---- runs
+
+pub sets-runs : (xs ts : List (List ℕ)) → setsBytes xs ts ≡ eachRun setBytes xs ts
+unfolding setsFrom writeChunks eachRun writeTriangles
+sets-runs [] ts = refl
+sets-runs (x ∷ xs) ts =
+    let n = getD x 3 0 in
+    chunks-cons code (record { tag = TRIS; body = writeTriangles (record { brush = getD x 1 0; triangles = take n ts }) }) (setChunks (setsFrom xs (drop n ts)))
+    ∙ ap₂ _++_ (chunk-is code TRIS (bytes (getD x 1 0) []) (writeItems writeWords (take n ts))) (sets-runs xs (drop n ts))
+
+pub lists-runs : (xs ks : List (List ℕ)) → listsBytes xs ks ≡ eachRun listBytes xs ks
+unfolding keysFrom writeChunks eachRun writeKeys
+lists-runs [] ks = refl
+lists-runs (x ∷ xs) ks =
+    let n = getD x 3 0 in
+    let f = getD x 1 0 in
+    chunks-cons code (record { tag = KEYS; body = writeKeys (record { flags = f; items = map (squeeze (keyMask f)) (take n ks) }) }) (keyChunks (keysFrom xs (drop n ks)) [])
+    ∙ ap₂ _++_ (chunk-is code KEYS (bytes f []) (writeItems writeWords (map (squeeze (keyMask f)) (take n ks)))) (lists-runs xs (drop n ks))
+
+pub ruleset runs-are = (sets-runs, lists-runs)
+
+-- ---- bodies of two parts
+
+module _ (ms : List ℕ) (i : ℕ) (vs : List (List ℕ)) where
+  pub vertices-both : Both (verticesBody ms i vs) (writeWords (take 3 (drop i ms)) [])
+      (writeItems writeWords (map (squeeze (vertexMask (getD ms i 0) (getD ms (i + 1) 0) (getD ms (i + 2) 0))) vs))
+  unfolding verticesBody
+  vertices-both = record { is = words-append (take 3 (drop i ms)) _ }
+
+  pub vertices-begin : Begins (verticesBody ms i vs) (writeWords (take 3 (drop i ms)) [])
+  vertices-begin = both-begins vertices-both
+
+pub ruleset vertices-parts = (vertices-both, vertices-begin)
+
+-- the mesh row at word i, with so many vertices and sets
+module _ (ms : List ℕ) (i : ℕ) (vs : List ℕ) (v : ℕ) (ss : List ℕ) (s : ℕ) (ts : List ℕ) (t count : ℕ) (e : count ≡ getD ms (i + 6) 0) where
+  pub mesh-begin : Begins (meshBody ms i vs v ss s ts t) (verticesBytes ms (i + 2) (take count (drop v (rowsIn 42 vs))))
+  unfolding meshBody
+  mesh-begin = rw e (both-begins (record { is = refl }))
+
+  module _ (many : ℕ) (f : many ≡ getD ms (i + 8) 0) where
+    pub mesh-both : Both (meshBody ms i vs v ss s ts t) (verticesBytes ms (i + 2) (take count (drop v (rowsIn 42 vs))))
+        (setsBytes (take many (drop s (rowsIn 4 ss))) (drop t (rowsIn 3 ts)))
+    unfolding meshBody
+    mesh-both = rw (e, f) (record { is = refl })
+
+pub mesh-end : (ms : List ℕ) (i : ℕ) (vs : List ℕ) (v : ℕ) (ss : List ℕ) (s : ℕ) (ts : List ℕ) (t many : ℕ) → MeshThere ms i vs v ss s ts t → many ≡ getD ms (i + 8) 0
+    → endOf t (take many (drop s (rowsIn 4 ss))) ≤ length ts / 3
+mesh-end ms i vs v ss s ts t many h f = rw f (h .triangles)
+
+pub ruleset mesh-parts = (mesh-begin, mesh-both, mesh-end)

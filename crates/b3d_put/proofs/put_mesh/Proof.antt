@@ -1,0 +1,21 @@
+-- `put_mesh` writes a body and then the head of its chunk.
+use Rattle.emit.proofs.Joining.{chunk-laws}
+use borrow.Author.Needs.{needs}
+use Rattle.b3d_put.proofs.put_mesh.Statement.{statement}
+use Rattle.b3d_put.proofs.put_mesh.Tie as tie
+
+pub put-mesh-spec : {M : Type 1} → statement M
+put-mesh-spec =
+    tie.close
+    (tie.spec
+    (λ c. search (chunk-laws, needs))
+    (λ c. search (chunk-laws, needs))
+    (λ c. search (chunk-laws, needs))
+    (λ c. search (chunk-laws, needs))
+    (λ c. search (chunk-laws, needs))
+    (λ c. search (chunk-laws, needs))
+    (λ c κs. search (chunk-laws, needs))
+    (λ c κs. search (chunk-laws, needs))
+    (λ c. search (chunk-laws, needs))
+    (λ c. search (chunk-laws, needs))
+    (λ c. search (chunk-laws, needs)))

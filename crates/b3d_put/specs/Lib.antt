@@ -1,0 +1,3 @@
+-- What the writer's chunks are of.
+pub mod Lent
+pub mod Chunks

@@ -1,0 +1,230 @@
+// The chunks of the writer, from rows of lent tables. Each function is lent the output from where its chunks are to stand, answers how many
+// bytes it wrote, and leaves all that comes after as it was; a chunk's header is set when its body is written.
+pub mod masks;
+
+use masks::put_key_rows;
+use masks::put_vertex_rows;
+ghost use mathlib.Core.Path.{_≡_};
+ghost use Prim.Native.Nat.{_+_, _*_, _/_, _<_, _≤_};
+ghost use lib.ListN.{length, take, drop, getD};
+ghost use Rattle.emit.specs.Writing.{Room, Put};
+ghost use Rattle.b3d_put.specs.Lent.{rowsIn, rowsFrom};
+ghost use Rattle.b3d_put.specs.Chunks.{setBytes, boneBytes, listBytes, animBytes, verticesBody, verticesBytes, setsBytes, listsBytes, MeshThere, meshBody, meshBytes};
+ghost use Rattle.b3d_sound.specs.CellCounts.{endOf};
+
+const TRIS: u32 = 0x53495254;
+
+const BONE: u32 = 0x454E4F42;
+
+const KEYS: u32 = 0x5359454B;
+
+const ANIM: u32 = 0x4D494E41;
+
+const VRTS: u32 = 0x53545256;
+
+const MESH: u32 = 0x4853454D;
+
+// A word of a table as a size.
+pub fn number(table: &[u32], i: usize) -> usize
+    requires { ⌜ i < length (now table) ⌝ }
+    ensures { λ r. ⌜ (r ≡ getD (now (table .entry)) i 0) × (r < 4294967296) ⌝ }
+{
+    table[i] as usize
+}
+
+// A TRIS of a brush and `count` triangles from row `first` on.
+pub fn put_set(brush: u32, triangles: &[u32], first: usize, count: usize, out: &mut [u8]) -> usize
+    requires { ⌜ first + count ≤ length (now triangles) / 3 ⌝ }
+    requires { ⌜ Room (setBytes brush (rowsFrom 3 (now triangles) first count)) (now out) ⌝ }
+    ensures { λ r. ⌜ Put (setBytes brush (rowsFrom 3 (now (triangles .entry)) first count)) (now (out .entry)) (now (out .exit)) r ⌝ }
+{
+    let n = emit::put_words(triangles, 3 * first, 3 * count, &mut out[12..]);
+    emit::put_opening(out, TRIS, n, brush);
+    n + 12
+}
+
+// A BONE of `count` weights from row `first` on.
+pub fn put_weights(weights: &[u32], first: usize, count: usize, out: &mut [u8]) -> usize
+    requires { ⌜ first + count ≤ length (now weights) / 2 ⌝ }
+    requires { ⌜ Room (boneBytes (rowsFrom 2 (now weights) first count)) (now out) ⌝ }
+    ensures { λ r. ⌜ Put (boneBytes (rowsFrom 2 (now (weights .entry)) first count)) (now (out .entry)) (now (out .exit)) r ⌝ }
+{
+    let n = emit::put_words(weights, 2 * first, 2 * count, &mut out[8..]);
+    emit::put_header(out, BONE, n);
+    n + 8
+}
+
+// A KEYS of flags and `count` keys from row `first` on.
+pub fn put_list(flags: u32, keys: &[u32], first: usize, count: usize, out: &mut [u8]) -> usize
+    requires { ⌜ first + count ≤ length (now keys) / 11 ⌝ }
+    requires { ⌜ Room (listBytes flags (rowsFrom 11 (now keys) first count)) (now out) ⌝ }
+    ensures { λ r. ⌜ Put (listBytes flags (rowsFrom 11 (now (keys .entry)) first count)) (now (out .entry)) (now (out .exit)) r ⌝ }
+{
+    let n = put_key_rows(flags, keys, first, count, &mut out[12..]);
+    emit::put_opening(out, KEYS, n, flags);
+    n + 12
+}
+
+// An ANIM of the three words from word `first` of the nodes on.
+pub fn put_values(nodes: &[u32], first: usize, out: &mut [u8]) -> usize
+    requires { ⌜ first + 3 ≤ length (now nodes) ⌝ }
+    requires { ⌜ Room (animBytes (take 3 (drop first (now nodes)))) (now out) ⌝ }
+    ensures { λ r. ⌜ Put (animBytes (take 3 (drop first (now (nodes .entry))))) (now (out .entry)) (now (out .exit)) r ⌝ }
+{
+    let n = emit::put_words(nodes, first, 3, &mut out[8..]);
+    emit::put_header(out, ANIM, n);
+    n + 8
+}
+
+// The body of a VRTS: flags, sets and set size, the words of the meshes from word `says` on, and `count` vertices from row `first` on.
+fn put_vertices_body(
+    meshes: &[u32],
+    says: usize,
+    vertices: &[u32],
+    first: usize,
+    count: usize,
+    out: &mut [u8],
+) -> usize
+    requires { ⌜ says + 3 ≤ length (now meshes) ⌝ }
+    requires { ⌜ first + count ≤ length (now vertices) / 42 ⌝ }
+    requires { ⌜ Room (verticesBody (now meshes) says (rowsFrom 42 (now vertices) first count)) (now out) ⌝ }
+    ensures { λ r. ⌜ Put (verticesBody (now (meshes .entry)) says (rowsFrom 42 (now (vertices .entry)) first count)) (now (out .entry)) (now (out .exit)) r ⌝ }
+{
+    let flags = meshes[says];
+    let sets = meshes[says + 1];
+    let size = meshes[says + 2];
+    let n = emit::put_words(meshes, says, 3, out);
+    let m = put_vertex_rows(flags, sets, size, vertices, first, count, &mut out[n..]);
+    n + m
+}
+
+// A VRTS of that body.
+pub fn put_vertices(
+    meshes: &[u32],
+    says: usize,
+    vertices: &[u32],
+    first: usize,
+    count: usize,
+    out: &mut [u8],
+) -> usize
+    requires { ⌜ says + 3 ≤ length (now meshes) ⌝ }
+    requires { ⌜ first + count ≤ length (now vertices) / 42 ⌝ }
+    requires { ⌜ Room (verticesBytes (now meshes) says (rowsFrom 42 (now vertices) first count)) (now out) ⌝ }
+    ensures { λ r. ⌜ Put (verticesBytes (now (meshes .entry)) says (rowsFrom 42 (now (vertices .entry)) first count)) (now (out .entry)) (now (out .exit)) r ⌝ }
+{
+    let n = put_vertices_body(meshes, says, vertices, first, count, &mut out[8..]);
+    emit::put_header(out, VRTS, n);
+    n + 8
+}
+
+// The TRIS of `count` rows of sets from row `first` on, their triangles one run after the other from row `start` on.
+pub fn put_sets(
+    sets: &[u32],
+    first: usize,
+    count: usize,
+    triangles: &[u32],
+    start: usize,
+    out: &mut [u8],
+) -> usize
+    requires { ⌜ first + count ≤ length (now sets) / 4 ⌝ }
+    requires { ⌜ endOf start (rowsFrom 4 (now sets) first count) ≤ length (now triangles) / 3 ⌝ }
+    requires { ⌜ Room (setsBytes (rowsFrom 4 (now sets) first count) (drop start (rowsIn 3 (now triangles)))) (now out) ⌝ }
+    ensures { λ r. ⌜ Put (setsBytes (rowsFrom 4 (now (sets .entry)) first count) (drop start (rowsIn 3 (now (triangles .entry))))) (now (out .entry)) (now (out .exit)) r ⌝ }
+{
+    let mut at: usize = 0;
+    let mut next = start;
+    let mut i: usize = 0;
+    while i < count {
+        let row = 4 * (first + i);
+        let n = number(sets, row + 3);
+        let size = put_set(sets[row + 1], triangles, next, n, &mut out[at..]);
+        at += size;
+        next += n;
+        i += 1;
+    }
+    at
+}
+
+// The KEYS of `count` rows of key lists from row `first` on, their keys one run after the other from row `start` on.
+pub fn put_lists(
+    lists: &[u32],
+    first: usize,
+    count: usize,
+    keys: &[u32],
+    start: usize,
+    out: &mut [u8],
+) -> usize
+    requires { ⌜ first + count ≤ length (now lists) / 4 ⌝ }
+    requires { ⌜ endOf start (rowsFrom 4 (now lists) first count) ≤ length (now keys) / 11 ⌝ }
+    requires { ⌜ Room (listsBytes (rowsFrom 4 (now lists) first count) (drop start (rowsIn 11 (now keys)))) (now out) ⌝ }
+    ensures { λ r. ⌜ Put (listsBytes (rowsFrom 4 (now (lists .entry)) first count) (drop start (rowsIn 11 (now (keys .entry))))) (now (out .entry)) (now (out .exit)) r ⌝ }
+{
+    let mut at: usize = 0;
+    let mut next = start;
+    let mut i: usize = 0;
+    while i < count {
+        let row = 4 * (first + i);
+        let n = number(lists, row + 3);
+        let size = put_list(lists[row + 1], keys, next, n, &mut out[at..]);
+        at += size;
+        next += n;
+        i += 1;
+    }
+    at
+}
+
+// The body of a MESH behind its brush: the VRTS, the TRIS. The mesh's row begins at word `row`; its vertices, sets and triangles are those
+// from rows v, s and t on.
+fn put_mesh_body(
+    meshes: &[u32],
+    row: usize,
+    vertices: &[u32],
+    v: usize,
+    sets: &[u32],
+    s: usize,
+    triangles: &[u32],
+    t: usize,
+    out: &mut [u8],
+) -> usize
+    requires { ⌜ MeshThere (now meshes) row (now vertices) v (now sets) s (now triangles) t ⌝ }
+    requires { ⌜ Room (meshBody (now meshes) row (now vertices) v (now sets) s (now triangles) t) (now out) ⌝ }
+    ensures { λ r. ⌜ Put (meshBody (now (meshes .entry)) row (now (vertices .entry)) v (now (sets .entry)) s (now (triangles .entry)) t) (now (out .entry)) (now (out .exit)) r ⌝ }
+{
+    let count = number(meshes, row + 6);
+    let many = number(meshes, row + 8);
+    let n = put_vertices(meshes, row + 2, vertices, v, count, out);
+    let m = put_sets(sets, s, many, triangles, t, &mut out[n..]);
+    n + m
+}
+
+// The MESH of that body.
+pub fn put_mesh(
+    meshes: &[u32],
+    row: usize,
+    vertices: &[u32],
+    v: usize,
+    sets: &[u32],
+    s: usize,
+    triangles: &[u32],
+    t: usize,
+    out: &mut [u8],
+) -> usize
+    requires { ⌜ MeshThere (now meshes) row (now vertices) v (now sets) s (now triangles) t ⌝ }
+    requires { ⌜ Room (meshBytes (now meshes) row (now vertices) v (now sets) s (now triangles) t) (now out) ⌝ }
+    ensures { λ r. ⌜ Put (meshBytes (now (meshes .entry)) row (now (vertices .entry)) v (now (sets .entry)) s (now (triangles .entry)) t) (now (out .entry)) (now (out .exit)) r ⌝ }
+{
+    let brush = meshes[row + 1];
+    let n = put_mesh_body(
+        meshes,
+        row,
+        vertices,
+        v,
+        sets,
+        s,
+        triangles,
+        t,
+        &mut out[12..],
+    );
+    emit::put_opening(out, MESH, n, brush);
+    n + 12
+}

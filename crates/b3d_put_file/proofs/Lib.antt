@@ -1,0 +1,3 @@
+-- The laws of writing a file.
+pub mod RootLaws
+pub mod FileLaws

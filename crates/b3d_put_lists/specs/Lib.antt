@@ -1,0 +1,3 @@
+-- What the chunks of rows with names are of.
+pub mod Named
+pub mod Lists

@@ -1,0 +1,27 @@
+-- The TEXS and the BRUS of rows; ns are the bytes that hold the names.
+use Prim.Native.Nat.{ℕ, _+_}
+use mathlib.Core.List.{List, [], map}
+use Rattle.wire.specs.Bytes.{bytes}
+use Rattle.emit.specs.Writing.{chunk}
+use Rattle.b3d_scene.specs.Encode.{textureChunks, brushChunks}
+use Rattle.b3d_scene.specs.Rebuild.{textureFrom, brushFrom}
+use Rattle.b3d_scene.specs.Tags.{code, writeChunks}
+use Rattle.b3d_scene.specs.declared.Tag.the-variants.{TEXS, BRUS}
+use Rattle.b3d_put.specs.Lent.{eachRow}
+use Rattle.b3d_put_lists.specs.Named.{rowBytes}
+
+-- a TEXS, of each row its name and seven words
+abbrev pub texsBytes : List ℕ → List (List ℕ) → List ℕ
+texsBytes ns rs = chunk (code TEXS) [] (eachRow (rowBytes ns 7) rs)
+
+-- a BRUS, of each row its name, seven words and the slots that are used
+abbrev pub brusBytes : List ℕ → ℕ → List (List ℕ) → List ℕ
+brusBytes ns slots rs = chunk (code BRUS) (bytes slots []) (eachRow (rowBytes ns (7 + slots)) rs)
+
+-- what a file has of the rows of table 1
+unfoldable pub texturesBytes : List ℕ → List (List ℕ) → List ℕ
+texturesBytes ns rs = writeChunks (textureChunks (map (textureFrom ns) rs) [])
+
+-- and of the rows of table 2
+unfoldable pub brushesBytes : List ℕ → ℕ → List (List ℕ) → List ℕ
+brushesBytes ns slots rs = writeChunks (brushChunks slots (map (brushFrom ns slots) rs) [])

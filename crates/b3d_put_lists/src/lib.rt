@@ -1,0 +1,73 @@
+// The TEXS and the BRUS of a file, of all rows of their tables; nothing where a table has no row.
+pub mod named;
+
+use named::put_rows;
+ghost use Prim.Native.Nat.{_+_, _*_, _/_, _≤_};
+ghost use lib.ListN.{length};
+ghost use Rattle.emit.specs.Writing.{Room, Put};
+ghost use Rattle.b3d_scene.specs.Rebuild.{cut};
+ghost use Rattle.b3d_put.specs.Lent.{rowsIn};
+ghost use Rattle.b3d_put_lists.specs.Named.{NamesThere};
+ghost use Rattle.b3d_put_lists.specs.Lists.{texsBytes, brusBytes, texturesBytes, brushesBytes};
+
+const TEXS: u32 = 0x53584554;
+
+const BRUS: u32 = 0x53555242;
+
+// A TEXS of `count` textures.
+fn put_texs(names: &[u8], textures: &[u32], count: usize, out: &mut [u8]) -> usize
+    requires { ⌜ count * 9 ≤ length (now textures) ⌝ }
+    requires { ⌜ NamesThere (now names) (cut 9 count (now textures)) ⌝ }
+    requires { ⌜ Room (texsBytes (now names) (cut 9 count (now textures))) (now out) ⌝ }
+    ensures { λ r. ⌜ Put (texsBytes (now (names .entry)) (cut 9 count (now (textures .entry)))) (now (out .entry)) (now (out .exit)) r ⌝ }
+{
+    let n = put_rows(names, textures, 9, 7, count, &mut out[8..]);
+    emit::put_header(out, TEXS, n);
+    n + 8
+}
+
+// The textures.
+pub fn put_textures(names: &[u8], textures: &[u32], out: &mut [u8]) -> usize
+    requires { ⌜ NamesThere (now names) (rowsIn 9 (now textures)) ⌝ }
+    requires { ⌜ Room (texturesBytes (now names) (rowsIn 9 (now textures))) (now out) ⌝ }
+    ensures { λ r. ⌜ Put (texturesBytes (now (names .entry)) (rowsIn 9 (now (textures .entry)))) (now (out .entry)) (now (out .exit)) r ⌝ }
+{
+    let count = textures.len() / 9;
+    if count == 0 {
+        return 0;
+    }
+    put_texs(names, textures, count, out)
+}
+
+// A BRUS of `count` brushes, each with `slots` texture ids.
+fn put_brus(names: &[u8], slots: u32, brushes: &[u32], count: usize, out: &mut [u8]) -> usize
+    requires { ⌜ (slots ≤ 8) × (count * 17 ≤ length (now brushes)) ⌝ }
+    requires { ⌜ NamesThere (now names) (cut 17 count (now brushes)) ⌝ }
+    requires { ⌜ Room (brusBytes (now names) slots (cut 17 count (now brushes))) (now out) ⌝ }
+    ensures { λ r. ⌜ Put (brusBytes (now (names .entry)) slots (cut 17 count (now (brushes .entry)))) (now (out .entry)) (now (out .exit)) r ⌝ }
+{
+    let n = put_rows(
+        names,
+        brushes,
+        17,
+        7 + slots as usize,
+        count,
+        &mut out[12..],
+    );
+    emit::put_opening(out, BRUS, n, slots);
+    n + 12
+}
+
+// The brushes.
+pub fn put_brushes(names: &[u8], slots: u32, brushes: &[u32], out: &mut [u8]) -> usize
+    requires { ⌜ slots ≤ 8 ⌝ }
+    requires { ⌜ NamesThere (now names) (rowsIn 17 (now brushes)) ⌝ }
+    requires { ⌜ Room (brushesBytes (now names) slots (rowsIn 17 (now brushes))) (now out) ⌝ }
+    ensures { λ r. ⌜ Put (brushesBytes (now (names .entry)) slots (rowsIn 17 (now (brushes .entry)))) (now (out .entry)) (now (out .exit)) r ⌝ }
+{
+    let count = brushes.len() / 17;
+    if count == 0 {
+        return 0;
+    }
+    put_brus(names, slots, brushes, count, out)
+}

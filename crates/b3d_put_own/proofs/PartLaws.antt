@@ -1,0 +1,106 @@
+-- The parts of a node's own, in their order, and that the rest of its body comes after them.
+use mathlib.Core.Path.{_≡_, refl, ap, ap₂, sym, _∙_}
+use Prim.Native.Nat.{ℕ, _+_, _*_, _/_, _<_}
+use native.Mathlib.Nat.{add-zero}
+use native.Mathlib.Omega.{arith}
+use mathlib.Core.List.{List, [], _∷_, _++_, append-assoc}
+use lib.ListN.{length, take, drop, getD}
+use lib.Seq.{drop-drop, getD-drop}
+use Rattle.wire.specs.Test.{if}
+use Rattle.layout.specs.Write.{Chunk, writeWords, writeText, writeChunks}
+use Rattle.emit.proofs.Appends.{words-append, text-append, before-append, chunks-append}
+use Rattle.emit.proofs.Joining.{Both, Begins, both-begins}
+use Rattle.b3d_scene.specs.Encode.{writeKeys, kindChunks, keyChunks, animChunks, writeNode}
+use Rattle.b3d_scene.specs.Rebuild.{nameFrom, kindFrom, dataFrom}
+use Rattle.b3d_scene.specs.Scene.{Keys, Anim, still, anim, Data}
+use Rattle.b3d_scene.specs.Tags.{code}
+use Rattle.b3d_scene.specs.declared.Counts.{Counts}
+use Rattle.b3d_scene.specs.declared.Tag.{Tag}
+use Rattle.b3d_scene.specs.declared.Tag.the-variants.{KEYS}
+use Rattle.b3d_put.specs.Lent.{rowsIn}
+use Rattle.b3d_put_lists.specs.Named.{namedBytes}
+use Rattle.b3d_put.proofs.Cutting.{part-take, cell-take, row-end}
+use Rattle.b3d_put_own.specs.Own.{tableRows, kindBytes, moveChunks, movesBytes, partsBytes, ownBytes}
+use Rattle.b3d_put_own.proofs.Cells.{rows-row}
+use Rattle.b3d_put_own.proofs.KindLaws.{kind-append}
+
+-- ---- the kind, and what moves
+
+module _ (ds : List ℕ) (i : ℕ) (ms vs ss ts ws ls ks : List ℕ) (n : Counts) where
+  pub parts-both : Both (partsBytes ds i ms vs ss ts ws ls ks n) (kindBytes ms vs ss ts ws n (getD ds (i + 13) 0) (getD ds (i + 15) 0)) (movesBytes ds i ls ks n)
+  unfolding partsBytes kindBytes movesBytes
+  parts-both = record { is = kind-append (kindFrom (tableRows [] ms vs ss ts ws [] []) n (getD ds (i + 13) 0) (getD ds (i + 15) 0)) (moveChunks ds i ls ks n) }
+
+  pub parts-begin : Begins (partsBytes ds i ms vs ss ts ws ls ks n) (kindBytes ms vs ss ts ws n (getD ds (i + 13) 0) (getD ds (i + 15) 0))
+  parts-begin = both-begins parts-both
+
+pub ruleset parts-laws = (parts-both, parts-begin)
+
+-- ---- the name and the words, and the parts
+
+-- the body of a NODE: its name and words, then its chunks
+node-split : (d : Data) (below : List (Chunk Tag))
+    → writeNode d below ≡ writeText (d .name .bytes) (writeWords (d .words) []) ++ writeChunks code (kindChunks (d .kind) (keyChunks (d .keys) (animChunks (d .anim) below)))
+unfolding writeNode
+node-split d below =
+    before-append (writeText (d .name .bytes)) (writeWords (d .words)) (text-append (d .name .bytes)) (words-append (d .words))
+    (writeChunks code (kindChunks (d .kind) (keyChunks (d .keys) (animChunks (d .anim) below))))
+
+module _ (ns ds ms vs ss ts ws ls ks : List ℕ) (n : Counts) (h : n .nodes < length ds / 20) where
+  -- the row of the node
+  abbrev x : List ℕ
+  x = getD (rowsIn 20 ds) (n .nodes) []
+
+  abbrev row : List ℕ
+  row = drop (20 * n .nodes) ds
+
+  cell : (j : ℕ) → j < 20 → getD x j 0 ≡ getD ds (20 * n .nodes + j) 0
+  cell j k = rw (rows-row 20 ds (n .nodes) h) (cell-take 20 (20 * n .nodes) j ds k)
+
+  front : writeText (nameFrom ns x .bytes) (writeWords (take 10 (drop 3 x)) []) ≡ namedBytes ns ds (20 * n .nodes) (20 * n .nodes + 3) 10
+  unfolding nameFrom namedBytes
+  front =
+      let name : take (getD x 1 0) (drop (getD x 0 0) ns) ≡ take (getD ds (20 * n .nodes + 1) 0) (drop (getD ds (20 * n .nodes) 0) ns) =
+      rw (cell 0 (omega arith), cell 1 (omega arith), add-zero (20 * n .nodes)) in
+      let words : take 10 (drop 3 x) ≡ take 10 (drop (20 * n .nodes + 3) ds) =
+      rw (rows-row 20 ds (n .nodes) h, part-take 3 10 20 row (omega arith), drop-drop 3 (20 * n .nodes) ds) in
+      ap₂ (λ (a b : List ℕ). writeText a (writeWords b [])) name words
+
+  last : drop 3 (drop 13 x) ≡ take 4 (drop (20 * n .nodes + 16) ds)
+  last =
+      rw (drop-drop 3 13 x, rows-row 20 ds (n .nodes) h, row-end 20 16 row (omega arith), drop-drop 16 (20 * n .nodes) ds)
+
+  pub own-both : Both (ownBytes ns ds ms vs ss ts ws ls ks n) (namedBytes ns ds (20 * n .nodes) (20 * n .nodes + 3) 10) (partsBytes ds (20 * n .nodes) ms vs ss ts ws ls ks n)
+  unfolding ownBytes dataFrom partsBytes kindFrom tableRows if
+  own-both =
+      let k : getD (drop 13 x) 0 0 ≡ getD ds (20 * n .nodes + 13) 0 = getD-drop 13 x 0 0 ∙ cell 13 (omega arith) in
+      let c : getD (drop 13 x) 2 0 ≡ getD ds (20 * n .nodes + 15) 0 = getD-drop 13 x 2 0 ∙ cell 15 (omega arith) in
+      record { is = node-split (dataFrom ns (tableRows ds ms vs ss ts ws ls ks) x n) [] ∙ rw (front, k, c, last) }
+
+  pub own-begin : Begins (ownBytes ns ds ms vs ss ts ws ls ks n) (namedBytes ns ds (20 * n .nodes) (20 * n .nodes + 3) 10)
+  own-begin = both-begins own-both
+
+pub ruleset own-laws = (own-both, own-begin)
+
+-- ---- what comes after a node's own
+
+moves-append : (l : List Keys) (a : Anim) (r : List (Chunk Tag)) → keyChunks l (animChunks a r) ≡ keyChunks l (animChunks a []) ++ r
+moves-append [] still r = refl
+moves-append [] (anim ws) r = refl
+moves-append (k ∷ l) a r = ap (λ (c : List (Chunk Tag)). record { tag = KEYS; body = writeKeys k } ∷ c) (moves-append l a r)
+
+-- the body of a NODE is its own and then the chunks of the nodes below
+pub node-append : (d : Data) (below : List (Chunk Tag)) → writeNode d below ≡ writeNode d [] ++ writeChunks code below
+node-append d below =
+    let named : List ℕ = writeText (d .name .bytes) (writeWords (d .words) []) in
+    let moves : List (Chunk Tag) = keyChunks (d .keys) (animChunks (d .anim) []) in
+    let kind : List ℕ = writeChunks code (kindChunks (d .kind) []) in
+    let rest : List ℕ = writeChunks code below in
+    let chunks : writeChunks code (kindChunks (d .kind) (keyChunks (d .keys) (animChunks (d .anim) below))) ≡ writeChunks code (kindChunks (d .kind) moves) ++ rest =
+    kind-append (d .kind) (keyChunks (d .keys) (animChunks (d .anim) below))
+    ∙ ap (λ (c : List (Chunk Tag)). kind ++ writeChunks code c) (moves-append (d .keys) (d .anim) below)
+    ∙ ap (λ (c : List ℕ). kind ++ c) (chunks-append code moves below)
+    ∙ sym (append-assoc kind (writeChunks code moves) rest)
+    ∙ ap (λ (c : List ℕ). c ++ rest) (sym (kind-append (d .kind) moves)) in
+    node-split d below ∙ ap (λ (c : List ℕ). named ++ c) chunks ∙ sym (append-assoc named (writeChunks code (kindChunks (d .kind) moves)) rest)
+    ∙ ap (λ (c : List ℕ). c ++ rest) (sym (node-split d []))

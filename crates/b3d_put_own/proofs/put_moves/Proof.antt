@@ -1,0 +1,21 @@
+-- `put_moves` writes the key lists and then the ANIM.
+use Rattle.emit.proofs.Joining.{both-laws}
+use Rattle.b3d_put_own.proofs.MoveLaws.{moves-laws}
+use borrow.Author.Needs.{needs}
+use Rattle.b3d_put_own.proofs.put_moves.Statement.{statement}
+use Rattle.b3d_put_own.proofs.put_moves.Tie as tie
+
+pub put-moves-spec : {M : Type 1} → statement M
+put-moves-spec =
+    tie.close
+    (tie.spec
+    (λ c κs. search (both-laws, moves-laws, needs))
+    (λ c κs. search (both-laws, moves-laws, needs))
+    (λ c. search (both-laws, moves-laws, needs))
+    (λ c. search (both-laws, moves-laws, needs))
+    (λ c. search (both-laws, moves-laws, needs))
+    (λ c. search (both-laws, moves-laws, needs))
+    (λ c κs. search (both-laws, moves-laws, needs))
+    (λ c. search (both-laws, moves-laws, needs))
+    (λ c. search (both-laws, moves-laws, needs))
+    (λ c. search (both-laws, moves-laws, needs)))

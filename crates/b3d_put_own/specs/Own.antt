@@ -1,0 +1,83 @@
+-- What the body of a NODE holds before the nodes below it, of rows of lent tables, and what must be there for it.
+use mathlib.Core.Path.{_≡_}
+use Prim.Native.Nat.{ℕ, _+_, _*_, _/_, _<_, _≤_}
+use mathlib.Core.List.{List, []}
+use lib.ListN.{length, take, drop, getD}
+use lib.Dec.{eqb}
+use Rattle.wire.specs.Test.{if}
+use Rattle.b3d_scene.specs.Encode.{kindChunks, keyChunks, animChunks, writeNode}
+use Rattle.b3d_scene.specs.Rebuild.{Rows, mine, keysFrom, animFrom, kindFrom, dataFrom}
+use Rattle.b3d_scene.specs.Tags.{Chunk, writeChunks}
+use Rattle.b3d_scene.specs.declared.Counts.{Counts}
+use Rattle.b3d_sound.specs.CellCounts.{endOf}
+use Rattle.b3d_put.specs.Lent.{rowsIn}
+use Rattle.b3d_put_lists.specs.Named.{NameThere}
+use Rattle.b3d_put.specs.Chunks.{MeshThere}
+
+-- the rows of tables 3 to 10, each by its words
+unfoldable pub tableRows : List ℕ → List ℕ → List ℕ → List ℕ → List ℕ → List ℕ → List ℕ → List ℕ → Rows
+tableRows ds ms vs ss ts ws ls ks k =
+    if (eqb k 3) (rowsIn 20 ds)
+    (if (eqb k 4) (rowsIn 9 ms)
+    (if (eqb k 5) (rowsIn 42 vs)
+    (if (eqb k 6) (rowsIn 4 ss)
+    (if (eqb k 7) (rowsIn 3 ts)
+    (if (eqb k 8) (rowsIn 2 ws)
+    (if (eqb k 9) (rowsIn 4 ls)
+    (if (eqb k 10) (rowsIn 11 ks) [])))))))
+
+-- ---- the parts
+
+-- the chunk of a kind and a count, when n rows came before
+unfoldable pub kindBytes : List ℕ → List ℕ → List ℕ → List ℕ → List ℕ → Counts → ℕ → ℕ → List ℕ
+kindBytes ms vs ss ts ws n k c = writeChunks (kindChunks (kindFrom (tableRows [] ms vs ss ts ws [] []) n k c) [])
+
+-- the ANIM that the four words of ds from word i on say
+unfoldable pub animPart : List ℕ → ℕ → List ℕ
+animPart ds i = writeChunks (animChunks (animFrom (take 4 (drop i ds))) [])
+
+-- the KEYS and the ANIM of the node whose row begins at word i of ds, when n rows came before
+abbrev pub moveChunks : List ℕ → ℕ → List ℕ → List ℕ → Counts → List Chunk
+moveChunks ds i ls ks n =
+    let ls′ = mine (n .nodes) (drop (n .lists) (rowsIn 4 ls)) in
+    keyChunks (keysFrom ls′ (drop (n .keys) (rowsIn 11 ks))) (animChunks (animFrom (take 4 (drop (i + 16) ds))) [])
+
+unfoldable pub movesBytes : List ℕ → ℕ → List ℕ → List ℕ → Counts → List ℕ
+movesBytes ds i ls ks n = writeChunks (moveChunks ds i ls ks n)
+
+-- its kind, its KEYS and its ANIM
+unfoldable pub partsBytes : List ℕ → ℕ → List ℕ → List ℕ → List ℕ → List ℕ → List ℕ → List ℕ → List ℕ → Counts → List ℕ
+partsBytes ds i ms vs ss ts ws ls ks n =
+    writeChunks (kindChunks (kindFrom (tableRows [] ms vs ss ts ws [] []) n (getD ds (i + 13) 0) (getD ds (i + 15) 0)) (moveChunks ds i ls ks n))
+
+-- all that the body of the node after n rows holds before the nodes below it
+unfoldable pub ownBytes : List ℕ → List ℕ → List ℕ → List ℕ → List ℕ → List ℕ → List ℕ → List ℕ → List ℕ → Counts → List ℕ
+ownBytes ns ds ms vs ss ts ws ls ks n = writeNode (dataFrom ns (tableRows ds ms vs ss ts ws ls ks) (getD (rowsIn 20 ds) (n .nodes) []) n) []
+
+-- ---- what must be there
+
+-- the rows that a kind and a count name
+pub record KindThere (ms vs ss ts ws : List ℕ) (n : Counts) (k c : ℕ) : Type 0 where
+  pub mesh : k ≡ 1 → MeshThere ms (9 * n .meshes) vs (n .vertices) ss (n .sets) ts (n .triangles)
+  pub bone : k ≡ 2 → n .weights + c ≤ length ws / 2
+
+-- the keys that the key lists of the node name
+pub record MovesThere (ls ks : List ℕ) (n : Counts) : Type 0 where
+  pub lists : n .lists ≤ length ls / 4
+  pub keys : endOf (n .keys) (mine (n .nodes) (drop (n .lists) (rowsIn 4 ls))) ≤ length ks / 11
+
+-- the row of the node and all that it names
+pub record OwnThere (ns ds ms vs ss ts ws ls ks : List ℕ) (n : Counts) : Type 0 where
+  pub row : n .nodes < length ds / 20
+  pub name : NameThere ns ds (20 * n .nodes)
+  pub kind : KindThere ms vs ss ts ws n (getD ds (20 * n .nodes + 13) 0) (getD ds (20 * n .nodes + 15) 0)
+  pub moves : MovesThere ls ks n
+
+-- no count of n is past the rows of its table
+pub record Counted (vs ss ts ws ls ks : List ℕ) (n : Counts) : Type 0 where
+  pub vertices : n .vertices ≤ length vs / 42
+  pub sets : n .sets ≤ length ss / 4
+  pub triangles : n .triangles ≤ length ts / 3
+  pub weights : n .weights ≤ length ws / 2
+  pub lists : n .lists ≤ length ls / 4
+  pub keys : n .keys ≤ length ks / 11

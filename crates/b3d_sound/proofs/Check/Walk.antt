@@ -1,0 +1,100 @@
+-- What the tests on all node rows say: the rows are those of the nodes that come from them, each fits, and none is left.
+use mathlib.Core.Path.{_≡_, ap, sym, _∙_, subst}
+use Prim.Native.Nat.{ℕ, _+_}
+use native.Mathlib.Omega.{arith}
+use mathlib.Core.Logic.{_↔_}
+use mathlib.Core.List.{List, [], _∷_, _++_}
+use lib.ListN.{length, drop, getD, length-drop, drop-of-length-le}
+use lib.Seq.{drop-drop}
+use lib.Dec.{leb}
+use Rattle.wire.specs.Bytes.{AllBytes}
+use Rattle.wire.specs.Test.{if}
+use Rattle.layout.proofs.Lists.{All, all-map, all-zip}
+use Rattle.layout.proofs.Testing.{Tests, via, le-is, all-is}
+use Rattle.b3d_scene.specs.Rebuild.{Rows, dataFrom, Placed, walk}
+use Rattle.b3d_scene.specs.Scene.{Data}
+use Rattle.b3d_scene.specs.Tables.{start, reached, nodeRow, ownRows, withNode, partTables, nodeTables}
+use Rattle.b3d_scene.specs.declared.Counts.{Counts}
+use Rattle.b3d_scene.proofs.Fitting.{FitData}
+use Rattle.b3d_scene.proofs.Rows.Nodes.{Step, steps, nodes-step, From}
+use Rattle.b3d_scene.proofs.Rows.RowParts.{Stands}
+use Rattle.b3d_scene.proofs.Rows.Trees.{flatRows, from-after}
+use Rattle.b3d_sound.specs.Check.{spent, nodesHere}
+use Rattle.b3d_sound.proofs.Check.Testing.{then}
+use Rattle.b3d_sound.proofs.Check.Rows.{Begins, begins-is, is-begins, Full}
+use Rattle.b3d_sound.proofs.Check.Kinds.{Whole}
+use Rattle.b3d_sound.proofs.Check.Nodes.{OwnBegins, NodeIs, node-is}
+use Rattle.b3d_sound.proofs.Check.Counts.{cell-counts}
+
+-- ---- before any row, and when no row is left
+
+pub at-start : (R S : Rows) → All (From R start S) nodeTables ↔ All (λ k. R k ≡ S k) nodeTables
+unfolding nodeTables reached start if
+at-start R S = (λ h. h, λ h. h)
+
+spent-is : (R : Rows) (n : Counts) → Tests (spent R n) (All (λ k. drop (reached k n) (R k) ≡ []) partTables)
+unfolding spent
+spent-is R n = all-is (λ k. none-left (R k) (reached k n)) partTables
+  where
+    none-left : (l : List (List ℕ)) (m : ℕ) → Tests (leb (length l) m) (drop m l ≡ [])
+    none-left l m = via (λ h. drop-of-length-le l h) (λ e. let z : length (drop m l) ≡ 0 = ap length e in omega (arith, length-drop m l)) (le-is (length l) m)
+
+-- ---- a node and then others
+
+-- a node that fits, its weights naming at most c vertices, with its name in ns
+abbrev pub FitsIn : List ℕ → ℕ → ℕ → Data → Type 0
+FitsIn ns b c d = FitData b c d × Stands ns (d .name)
+
+module _ (R : Rows) (n : Counts) (d : Data) (p : ℕ) (S : Rows) where
+  walk-to : All (OwnBegins R n d p) nodeTables → All (From R (withNode d n) S) nodeTables → All (From R n (λ k. ownRows k d p n ++ S k)) nodeTables
+  walk-to b f =
+      all-zip (OwnBegins R n d p) (λ k. Step d p n k × From R (withNode d n) S k) (From R n (λ k. ownRows k d p n ++ S k))
+      (λ k a g.
+      let own = ownRows k d p n in
+      begins-is own (drop (reached k n) (R k)) a
+      ∙ ap (λ (l : List (List ℕ)). own ++ l) (drop-drop (length own) (reached k n) (R k) ∙ ap (λ (j : ℕ). drop j (R k)) (sym (g .0)) ∙ g .1))
+      nodeTables b (all-zip (Step d p n) (From R (withNode d n) S) _ (λ k x y. (x, y)) nodeTables (steps d p n) f)
+
+  walk-from : All (From R n (λ k. ownRows k d p n ++ S k)) nodeTables → All (OwnBegins R n d p) nodeTables
+  walk-from f = all-map (From R n (λ k. ownRows k d p n ++ S k)) (OwnBegins R n d p) (λ k e. subst (Begins (ownRows k d p n)) (sym e) (is-begins (ownRows k d p n) (S k))) nodeTables f
+
+-- the node's row is the next of the node rows
+module _ (ns : List ℕ) (b c : ℕ) (R : Rows) (x : List ℕ) (xs : List (List ℕ)) (n : Counts) (d : Data) (next : drop (n .nodes) (R 3) ≡ x ∷ xs) where
+  pub after : drop ((withNode d n) .nodes) (R 3) ≡ xs
+  after =
+      let s : (withNode d n) .nodes ≡ n .nodes + 1 = omega (arith, nodes-step d n) in
+      ap (λ (k : ℕ). drop k (R 3)) s ∙ sym (drop-drop 1 (n .nodes) (R 3)) ∙ ap (λ (l : List (List ℕ)). drop 1 l) next
+
+  module _ (S : Rows) where
+    -- with the rows after it, table by table
+    abbrev pub NextIs : Type 0
+    NextIs = FitsIn ns b c d × All (From R n (λ k. ownRows k d (getD x 2 0) n ++ S k)) nodeTables
+
+    pub next-to : NodeIs ns b c R x n d → All (From R (withNode d n) S) nodeTables → NextIs
+    unfolding nodeTables reached ownRows if
+    next-to h f = ((h .1, h .2), walk-to R n d (getD x 2 0) S (subst (Begins (nodeRow d (getD x 2 0) n ∷ [])) (sym next) (h .0, tt), h .3) f)
+
+    pub next-from : NextIs → NodeIs ns b c R x n d × All (From R (withNode d n) S) nodeTables
+    unfolding nodeTables reached ownRows if
+    next-from h =
+        let o = walk-from R n d (getD x 2 0) S (h .1) in
+        ((subst (Begins (nodeRow d (getD x 2 0) n ∷ [])) next (o .0) .0, h .0 .0, h .0 .1, o .1), from-after R n d (getD x 2 0) S (h .1))
+
+-- ---- all nodes
+
+abbrev pub WalkIs : List ℕ → ℕ → ℕ → Rows → Counts → List Placed → Type 0
+WalkIs ns b c R n fs = All (λ x. FitsIn ns b c (x .item)) fs × All (From R n (flatRows fs n)) nodeTables
+
+module _ (ns : List ℕ) (b c : ℕ) (R : Rows) (bytes : AllBytes ns) (whole : Whole R) where
+  pub walk-is : (xs : List (List ℕ)) (n : Counts) → All (Full 20) xs → drop (n .nodes) (R 3) ≡ xs → Tests (nodesHere ns b c R xs n) (WalkIs ns b c R n (walk ns R xs n))
+  unfolding nodesHere walk flatRows nodeTables reached if
+  walk-is [] n w e = via (λ h. (tt, (e, h))) (λ h. h .1 .1) (spent-is R n)
+  walk-is (x ∷ xs) n w e =
+      let d = dataFrom ns R x n in
+      let m = withNode d n in
+      let fs = walk ns R xs m in
+      via
+      (λ h. let k = next-to ns b c R x xs n d e (flatRows fs m) (h .0) (h .1 .1) in ((k .0, h .1 .0), k .1))
+      (λ h. let k = next-from ns b c R x xs n d e (flatRows fs m) (h .0 .0, h .1) in (k .0, (h .0 .1, k .1)))
+      (then (node-is ns b c R x n (w .0) bytes whole)
+      (λ h. subst (λ (q : Counts). Tests (nodesHere ns b c R xs q) (WalkIs ns b c R m fs)) (cell-counts ns b c R x n h) (walk-is xs m (w .1) (after ns b c R x xs n d e))))

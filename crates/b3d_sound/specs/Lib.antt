@@ -1,0 +1,3 @@
+-- The verdict on lent tables as code finds it.
+pub mod CellCounts
+pub mod Check

@@ -1,0 +1,46 @@
+-- What `write` answers, and what it leaves in the output.
+use mathlib.Core.Path.{_≡_}
+use Prim.Native.Nat.{ℕ, _*_, _≤_}
+use mathlib.Core.List.{List}
+use lib.ListN.{length}
+use Rattle.layout.specs.Out.{Out, got, bad}
+use Rattle.b3d_scene.specs.declared.Counts.{Counts}
+use Rattle.b3d_scene.specs.declared.Written.{Written}
+use Rattle.b3d_scene.specs.Answers.{writeAnswer, writeOutput}
+use Rattle.b3d_scene.specs.Rebuild.{Lent}
+
+-- the answer for lent tables with names in ns, and the output afterwards
+pub record Writes (T : Lent) (ns out put : List ℕ) (r : Written) : Type 0 where
+  pub answer : r ≡ writeAnswer T ns out
+  pub output : put ≡ writeOutput T ns out
+
+-- how long the file is that is to be written; 0 where there is none
+unfoldable pub sizeNeeded : Out (List ℕ) → ℕ
+sizeNeeded (got b) = length b
+sizeNeeded (bad n p) = 0
+
+-- the rows of the tables 6 to 10 are in tables of so many words, and no more than the limit
+pub record HighRooms (a : Counts) (l₆ l₇ l₈ l₉ l₁₀ : ℕ) : Type 0 where
+  pub sets : 4 * a .sets ≤ l₆
+  pub triangles : 3 * a .triangles ≤ l₇
+  pub weights : 2 * a .weights ≤ l₈
+  pub lists : 4 * a .lists ≤ l₉
+  pub keys : 11 * a .keys ≤ l₁₀
+  pub few-sets : a .sets ≤ 16383
+  pub few-triangles : a .triangles ≤ 16383
+  pub few-weights : a .weights ≤ 16383
+  pub few-lists : a .lists ≤ 16383
+  pub few-keys : a .keys ≤ 16383
+
+-- and those of the tables 1 to 5
+pub record LowRooms (c₁ c₂ : ℕ) (a : Counts) (l₁ l₂ l₃ l₄ l₅ : ℕ) : Type 0 where
+  pub textures : 9 * c₁ ≤ l₁
+  pub brushes : 17 * c₂ ≤ l₂
+  pub nodes : 20 * a .nodes ≤ l₃
+  pub meshes : 9 * a .meshes ≤ l₄
+  pub vertices : 42 * a .vertices ≤ l₅
+  pub few-textures : c₁ ≤ 16383
+  pub few-brushes : c₂ ≤ 16383
+  pub few-nodes : a .nodes ≤ 16383
+  pub few-meshes : a .meshes ≤ 16383
+  pub few-vertices : a .vertices ≤ 16383

@@ -1,0 +1,2 @@
+-- What writing into a lent output means.
+pub mod Writing
