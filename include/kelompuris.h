@@ -1,7 +1,7 @@
 /* Kelompuris: B3D scene files for showroom terminals.
  *
  * The functions are in libkelompuris_c.a, for x86-64 Linux (`rt staticlib kelompuris_c`). They keep nothing between calls and use no heap.
- * Each takes every file: bytes that are no B3D file are answered by a refusal.
+ * Each takes every file and all tables: bytes that are no B3D file, and tables of no such file, are answered by a refusal.
  *
  * A lent array is a pointer and its number of elements. The caller sees to this:
  *   - the pointer holds for that many elements, and is aligned as its type asks; with 0 elements it may be null;
@@ -17,7 +17,7 @@
 extern "C" {
 #endif
 
-/* What a file is answered.
+/* What judge and read answer.
  *
  * number 0: accepted. place is 0; version, n_texs (texture slots of a brush, 0 without a brush) and counts (rows of tables 1 to 10) are
  * the file's. Any other number is a refusal, and version, n_texs and counts are 0:
@@ -73,6 +73,49 @@ kelompuris_answer kelompuris_b3d_read(
     uint32_t *t5, size_t t5_len, uint32_t *t6, size_t t6_len,
     uint32_t *t7, size_t t7_len, uint32_t *t8, size_t t8_len,
     uint32_t *t9, size_t t9_len, uint32_t *t10, size_t t10_len);
+
+/* What write and clear answer.
+ *
+ * number 0: written. place is 0; size is the number of bytes written, from the start of the output. Any other number is a refusal, and size
+ * is 0. Numbers 1 to 10 are those above, with their places; then:
+ *
+ *    number                                                              place
+ *   11  the output is too short                                          the size needed
+ *   12  no accepted file has these tables, name places aside             0
+ */
+typedef struct {
+    uint32_t number, place, size;
+} kelompuris_written;
+
+/* Writes ten tables as the shortest file that has them: answers 0, 11 or 12; 12 comes before 11.
+ *
+ * The tables and their lengths in words are as for kelompuris_b3d_read; counts points to ten words, the rows of tables 1 to 10, and words
+ * behind those rows are not looked at. Name places are byte places in names; these bytes may be the file that was read.
+ * 12 is also the answer to a count of more rows than its table has or than 16,383, to a name that passes the end of names (a place past
+ * the end too, with length 0) or has a zero byte, to a version or n_texs that no file with these rows has, and to a file of more than
+ * 16,777,216 bytes.
+ *
+ * Written: the output's bytes behind the size stay as they were. Refused, also by 11: the whole output stays as it was.
+ * Tables, counts and names are not written.
+ */
+kelompuris_written kelompuris_b3d_write(
+    const uint32_t *t1, size_t t1_len, const uint32_t *t2, size_t t2_len,
+    const uint32_t *t3, size_t t3_len, const uint32_t *t4, size_t t4_len,
+    const uint32_t *t5, size_t t5_len, const uint32_t *t6, size_t t6_len,
+    const uint32_t *t7, size_t t7_len, const uint32_t *t8, size_t t8_len,
+    const uint32_t *t9, size_t t9_len, const uint32_t *t10, size_t t10_len,
+    const uint32_t counts[10], uint32_t version, uint32_t n_texs,
+    const uint8_t *names, size_t names_len, uint8_t *out, size_t out_len);
+
+/* Copies a file without what is private: answers 0 or 1 to 11; 1 to 10 as kelompuris_b3d_judge does.
+ *
+ * The copy is what kelompuris_b3d_write makes of the file's tables with every name empty. So files that differ only in names, passed-over
+ * chunks, where ANIM stands among KEYS, and TEXS or BRUS without items have the same copy. The copy is no longer than the file.
+ *
+ * Written: the output's bytes behind the size stay as they were. Refused, also by 11: the whole output stays as it was.
+ * The file is not written.
+ */
+kelompuris_written kelompuris_b3d_clear(const uint8_t *file, size_t file_len, uint8_t *out, size_t out_len);
 
 #ifdef __cplusplus
 }

@@ -1,16 +1,11 @@
 /* Reads file H of paper 01 through the C interface: a scene of version 1 with one node, "Hall". Prints the answer and the node's row.
  * The test rust/kelompuris/tests/c_program.rs builds and runs it, as C and as C++. */
+#include "hall.h"
 #include "kelompuris.h"
 #include <assert.h>
 #include <stdio.h>
 
 static_assert(sizeof(kelompuris_answer) == 14 * 4, "fourteen words, no gap");
-
-static const uint8_t hall[65] = {
-    'B', 'B', '3', 'D', 57, 0, 0, 0, 1, 0, 0, 0,
-    'N', 'O', 'D', 'E', 45, 0, 0, 0, 'H', 'a', 'l', 'l', 0
-    /* forty zero bytes: ten floats */
-};
 
 static void print(const char *about, kelompuris_answer answer) {
     int i;

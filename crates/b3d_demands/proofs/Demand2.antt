@@ -15,7 +15,7 @@ use Rattle.layout.specs.Out.{Out, got, bad, check, _>>=_}
 use Rattle.layout.proofs.Lists.{All, all-map, all-zip}
 use Rattle.layout.proofs.Outs.{by-test, by-check, bad-got, got-inj}
 use Rattle.layout.proofs.PlaceLaws.{NameIn}
-use Rattle.b3d_scene.specs.Answers.{shortest, roomFor, write}
+use Rattle.b3d_scene.specs.Answers.{shortest, roomFor, read, write}
 use Rattle.b3d_scene.specs.Encode.{encode}
 use Rattle.b3d_scene.specs.Parse.{parse}
 use Rattle.b3d_scene.specs.Names.{named, unplaced}
@@ -23,12 +23,13 @@ use Rattle.b3d_scene.specs.Rebuild.{Lent, lentRows, names, rebuild}
 use Rattle.b3d_scene.specs.Rules.{fileSize, mostBytes, rowLimit}
 use Rattle.b3d_scene.specs.Scene.{Scene}
 use Rattle.b3d_scene.specs.Tables.{width, rows, tables}
-use Rattle.b3d_scene.proofs.AnswerLaws.{judge-got, judge-yes, write-got}
+use Rattle.b3d_scene.proofs.AnswerLaws.{judge-got, judge-yes, read-yes, write-got}
 use Rattle.b3d_scene.proofs.Files.PlaceLaws.{parse-names}
 use Rattle.b3d_scene.proofs.Join.{stand, all-in, bare-version, bare-slots}
 use Rattle.b3d_scene.proofs.Laws.{back, least, file-bytes}
 use Rattle.b3d_scene.proofs.Rows.RebuildLaws.{Holds, rebuild-fine, held-rows}
 use Rattle.b3d_scene.proofs.Rows.Rename.{bare-same}
+use Rattle.b3d_scene.proofs.Rows.RowLists.{cut-length}
 use Rattle.b3d_scene.proofs.Rows.RowParts.{Stands}
 use Rattle.b3d_demands.specs.Having.{namesOf, Has}
 use Rattle.b3d_demands.specs.Demands.{Writing}
@@ -90,6 +91,9 @@ module _ (L : Lent) (ns : List ℕ) where
     no-longer : length (encode theirs) ≤ length s
     no-longer = least s theirs (h .scene) b parsed (sym (placed-bare s b L ns h))
 
+    pub has-written : (room : ℕ) → write L ns room ≡ roomFor room (encode theirs)
+    has-written = let a = accepted-short s (h .scene) parsed in let l = no-longer in sound-room theirs (has-rebuild s b L ns h) (omega arith)
+
     has-room : (room : ℕ) → length (encode theirs) ≤ room → write L ns room ≡ got (encode theirs)
     has-room = let a = accepted-short s (h .scene) parsed in let l = no-longer in sound-enough theirs (has-rebuild s b L ns h) (omega arith)
 
@@ -114,11 +118,23 @@ module _ (L : Lent) (ns : List ℕ) where
           by-test (leb (length (encode t)) mostBytes) (λ h. inr (t, e, leb→le (length (encode t)) mostBytes h))
           (λ h. inl (rw (lt-leb (length (encode t)) mostBytes (nleb→lt (length (encode t)) mostBytes h))))
 
+got-has : (L : Lent) (ns : List ℕ) (room : ℕ) (b : List ℕ) → write L ns room ≡ got b → Has b L ns
+got-has L ns room b e = let x = write-got L ns room b e in subst (λ (c : List ℕ). Has c L ns) (x .2) (written-has L ns (x .0) (x .1) (rw (x .2) (x .3)))
+
+-- a file that has the tables is read into tables of the counted rows
+has-read : (s : List ℕ) (L : Lent) (ns : List ℕ) (h : Has s L ns) (rooms : ℕ → ℕ) → All (λ k. width k * L .count k ≤ rooms k) tables → read rooms s ≡ got (h .scene)
+unfolding lentRows
+has-read s L ns h rooms fits =
+    read-yes rooms s (h .scene) (h .accepted)
+    (all-zip (λ k. named unplaced k (rows k (h .scene)) ≡ named unplaced k (lentRows L k)) (λ k. width k * L .count k ≤ rooms k) _
+    (λ k a r. subst (λ (n : ℕ). width k * n ≤ rooms k) (sym (same-many k (rows k (h .scene)) (lentRows L k) a ∙ cut-length (width k) (L .count k) (L .words k))) r) tables (h .cells) fits)
+
 pub demand-2 : (L : Lent) (ns : List ℕ) → Writing L ns
 demand-2 L ns = record {
   unsound = λ room e s b h. not-unsound L ns s b h room e;
   no-file = λ no room. elim (sound-or-not L ns room) [ inl e ↦ e | inr x ↦ absurd (no (encode (x .0)) (file-bytes (x .0) (rebuild-fine ns L (x .0) (x .1) .0)) (written-has L ns (x .0) (x .1) (x .2))) ];
-  reads-back = λ room b e. let x = write-got L ns room b e in subst (λ (c : List ℕ). Has c L ns) (x .2) (written-has L ns (x .0) (x .1) (rw (x .2) (x .3)));
+  reads-back = got-has L ns;
+  read-back = λ room b e. has-read b L ns (got-has L ns room b e);
   bytes = λ room b e. let x = write-got L ns room b e in subst AllBytes (x .2) (file-bytes (x .0) (rebuild-fine ns L (x .0) (x .1) .0));
   least = λ room b e s c h.
       let x = write-got L ns room b e in

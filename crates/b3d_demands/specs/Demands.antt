@@ -38,6 +38,7 @@ pub record Writing (T : Lent) (ns : List ℕ) : Type 0 where
   pub no-file : ((s : List ℕ) → AllBytes s → Has s T ns → ⊥) → (room : ℕ) → write T ns room ≡ bad 12 0
   -- the file written is accepted and reads back as just those names and words
   pub reads-back : (room : ℕ) (b : List ℕ) → write T ns room ≡ got b → Has b T ns
+  pub read-back : (room : ℕ) (b : List ℕ) (e : write T ns room ≡ got b) (rooms : ℕ → ℕ) → All (λ k. width k * T .count k ≤ rooms k) tables → read rooms b ≡ got (reads-back room b e .scene)
   pub bytes : (room : ℕ) (b : List ℕ) → write T ns room ≡ got b → AllBytes b
   -- no file with those tables is shorter
   pub least : (room : ℕ) (b : List ℕ) → write T ns room ≡ got b → (s : List ℕ) → AllBytes s → Has s T ns → length b ≤ length s
@@ -65,6 +66,8 @@ pub record Clearing (s : List ℕ) : Type 0 where
   -- an accepted file is refused exactly when the output is shorter than its copy
   pub enough : (t : Scene) → judge s ≡ got t → (room : ℕ) → length (copy t) ≤ room → clear s room ≡ got (copy t)
   pub short : (t : Scene) → judge s ≡ got t → (room : ℕ) → room < length (copy t) → clear s room ≡ bad 11 (length (copy t))
+  -- the copy is what the writer makes of the copy's words: those of the file with each name empty, wherever the names stand
+  pub as-written : (t : Scene) → judge s ≡ got t → (T : Lent) (ns : List ℕ) → Has (copy t) T ns → (room : ℕ) → write T ns room ≡ clear s room
   -- another file is refused as the reader refuses it
   pub first : (n p : ℕ) → judge s ≡ bad n p → (room : ℕ) → clear s room ≡ bad n p
   -- the copy is accepted, and reads back with all those words unchanged and each name empty
@@ -73,6 +76,8 @@ pub record Clearing (s : List ℕ) : Type 0 where
   pub version : (t : Scene) (e : judge s ≡ got t) → (scene t e) .version ≡ t .version
   pub slots : (t : Scene) (e : judge s ≡ got t) → (scene t e) .slots ≡ t .slots
   pub cells : (t : Scene) (e : judge s ≡ got t) → All (λ k. named unplaced k (rows k (scene t e)) ≡ named unnamed k (rows k t)) tables
+  -- by the reader too, lent tables as long as for the file
+  pub read-back : (t : Scene) (e : judge s ≡ got t) (rooms : ℕ → ℕ) → All (λ k. width k * length (rows k t) ≤ rooms k) tables → read rooms (copy t) ≡ got (scene t e)
   pub bytes : (t : Scene) → judge s ≡ got t → AllBytes (copy t)
   -- cleared again, with any room, it gets the answer that the file gets, and gives its own bytes
   pub again : (t : Scene) → judge s ≡ got t → (room : ℕ) → clear (copy t) room ≡ clear s room

@@ -1,5 +1,16 @@
 //! Holds the proved functions to the independent reference: the same answers,
-//! the same words in all ten tables, and no other word changed.
+//! the same words in all ten tables and bytes in the output, and nothing else
+//! changed.
+//!
+//! - here: judging and reading.
+//! - `output`: writing and clearing.
+//! - `run`: runs groups of comparisons and prints what was compared.
+
+mod output;
+mod run;
+
+pub use output::{sheet_of, Call};
+pub use run::{run, Group};
 
 use reference::Answer;
 use scenes::sheet::ROW_WORDS;
@@ -14,14 +25,19 @@ pub struct Compared {
     pub reads: usize,
     /// Words of tables, those around the rows too.
     pub words: usize,
+    /// Calls of writer and clearer.
+    pub outputs: usize,
+    /// Bytes of outputs, those around them too.
+    pub bytes: usize,
     /// How often each number was answered.
-    pub numbers: [usize; 12],
+    pub numbers: [usize; 13],
 }
 
-/// Where the two differ.
+/// Where the two differ, or both from what is known.
 #[derive(Debug)]
 pub struct Disagreement {
     pub about: String,
+    /// The file, or the bytes of the names.
     pub file: Vec<u8>,
 }
 
@@ -31,7 +47,7 @@ const SHOWN: usize = 4096;
 impl fmt::Display for Disagreement {
     fn fmt(&self, f: &mut fmt::Formatter) -> fmt::Result {
         writeln!(f, "{}", self.about)?;
-        write!(f, "file of {} bytes, the first {SHOWN}:", self.file.len())?;
+        write!(f, "lent {} bytes, the first {SHOWN}:", self.file.len())?;
         for byte in self.file.iter().take(SHOWN) {
             write!(f, " {byte:02x}")?;
         }
@@ -95,6 +111,10 @@ impl Compared {
         }
     }
 
+    fn count(&mut self, number: u32) {
+        self.numbers[number.min(12) as usize] += 1;
+    }
+
     fn same(
         &mut self,
         about: &str,
@@ -102,7 +122,7 @@ impl Compared {
         answer: Answer,
         expected: Answer,
     ) -> Result<(), Disagreement> {
-        self.numbers[answer.number.min(11) as usize] += 1;
+        self.count(answer.number);
         if answer == expected {
             return Ok(());
         }
@@ -111,8 +131,9 @@ impl Compared {
     }
 }
 
-fn disagree<T>(about: String, file: &[u8]) -> Result<T, Disagreement> {
-    let file = file.to_vec();
+/// A disagreement about this file, or these bytes of names.
+pub fn disagree<T>(about: impl Into<String>, file: &[u8]) -> Result<T, Disagreement> {
+    let (about, file) = (about.into(), file.to_vec());
     Err(Disagreement { about, file })
 }
 

@@ -2,14 +2,13 @@
 //! on generated files and on damaged ones, and prints how often each number
 //! was met. Fails at the first disagreement, and if a number was never met.
 
-use compare::{Compared, Disagreement};
+use compare::{run, Compared, Disagreement, Group};
 use scenes::change::changed;
 use scenes::damage::{aimed, node_of};
 use scenes::rows::keys;
 use scenes::worked::{self, with};
 use scenes::{scene, Profile, Rng};
 use std::process::ExitCode;
-use std::time::Instant;
 
 const SCENES: usize = 2000;
 const CHANGES: usize = 20;
@@ -99,8 +98,6 @@ fn too_many_rows(compared: &mut Compared, rng: &mut Rng) -> Result<(), Disagreem
     Ok(())
 }
 
-type Group = fn(&mut Compared, &mut Rng) -> Result<(), Disagreement>;
-
 const GROUPS: [(&str, Group); 4] = [
     ("cases of paper 01", worked_files),
     ("every byte of small files", every_byte),
@@ -109,35 +106,5 @@ const GROUPS: [(&str, Group); 4] = [
 ];
 
 fn main() -> ExitCode {
-    let mut numbers = [0; 12];
-    for (name, group) in GROUPS {
-        let start = Instant::now();
-        let mut compared = Compared::default();
-        if let Err(disagreement) = group(&mut compared, &mut Rng::new(2026)) {
-            eprintln!("{name}: {disagreement}");
-            return ExitCode::FAILURE;
-        }
-        let Compared {
-            files,
-            reads,
-            words,
-            ..
-        } = compared;
-        let seconds = start.elapsed().as_secs_f32();
-        println!("{name}: {files} files, {reads} reads, {words} words, {seconds:.1} s");
-        for (sum, count) in numbers.iter_mut().zip(compared.numbers) {
-            *sum += count;
-        }
-    }
-    println!("How often each number was answered:");
-    for (number, count) in numbers.iter().enumerate() {
-        println!("{number:2}: {count}");
-    }
-    match numbers.iter().position(|&count| count == 0) {
-        None => ExitCode::SUCCESS,
-        Some(number) => {
-            eprintln!("no file was answered {number}");
-            ExitCode::FAILURE
-        }
-    }
+    run(&GROUPS, &[0, 1, 2, 3, 4, 5, 6, 7, 8, 9, 10, 11])
 }

@@ -12,33 +12,41 @@ pub struct Answer {
     pub counts: [u32; 10],
 }
 
+/// What writer and clearer answer. The size is 0 on refusal.
+#[repr(C)]
+#[derive(Clone, Copy, Debug, Default, PartialEq, Eq)]
+pub struct Written {
+    pub number: u32,
+    pub place: u32,
+    pub size: u32,
+}
+
+#[rustfmt::skip]
 extern "C" {
     fn kelompuris_b3d_judge(file: *const u8, file_len: usize) -> Answer;
 
     fn kelompuris_b3d_read(
-        file: *const u8,
-        file_len: usize,
-        t1: *mut u32,
-        t1_len: usize,
-        t2: *mut u32,
-        t2_len: usize,
-        t3: *mut u32,
-        t3_len: usize,
-        t4: *mut u32,
-        t4_len: usize,
-        t5: *mut u32,
-        t5_len: usize,
-        t6: *mut u32,
-        t6_len: usize,
-        t7: *mut u32,
-        t7_len: usize,
-        t8: *mut u32,
-        t8_len: usize,
-        t9: *mut u32,
-        t9_len: usize,
-        t10: *mut u32,
-        t10_len: usize,
+        file: *const u8, file_len: usize,
+        t1: *mut u32, t1_len: usize, t2: *mut u32, t2_len: usize,
+        t3: *mut u32, t3_len: usize, t4: *mut u32, t4_len: usize,
+        t5: *mut u32, t5_len: usize, t6: *mut u32, t6_len: usize,
+        t7: *mut u32, t7_len: usize, t8: *mut u32, t8_len: usize,
+        t9: *mut u32, t9_len: usize, t10: *mut u32, t10_len: usize,
     ) -> Answer;
+
+    fn kelompuris_b3d_write(
+        t1: *const u32, t1_len: usize, t2: *const u32, t2_len: usize,
+        t3: *const u32, t3_len: usize, t4: *const u32, t4_len: usize,
+        t5: *const u32, t5_len: usize, t6: *const u32, t6_len: usize,
+        t7: *const u32, t7_len: usize, t8: *const u32, t8_len: usize,
+        t9: *const u32, t9_len: usize, t10: *const u32, t10_len: usize,
+        counts: *const u32, version: u32, n_texs: u32,
+        names: *const u8, names_len: usize, out: *mut u8, out_len: usize,
+    ) -> Written;
+
+    fn kelompuris_b3d_clear(
+        file: *const u8, file_len: usize, out: *mut u8, out_len: usize,
+    ) -> Written;
 }
 
 /// Judges a file without tables: refusals 1 to 10.
@@ -49,33 +57,52 @@ pub fn judge(file: &[u8]) -> Answer {
 
 /// Reads a file into lent tables: refusals 1 to 11. A refused call changes no
 /// word, and words past the last row stay as they were.
+#[rustfmt::skip]
 pub fn read(file: &[u8], tables: &mut [&mut [u32]; 10]) -> Answer {
     let [t1, t2, t3, t4, t5, t6, t7, t8, t9, t10] = tables;
     // SAFETY: each pointer holds for its length, and the borrows are apart.
     unsafe {
         kelompuris_b3d_read(
-            file.as_ptr(),
-            file.len(),
-            t1.as_mut_ptr(),
-            t1.len(),
-            t2.as_mut_ptr(),
-            t2.len(),
-            t3.as_mut_ptr(),
-            t3.len(),
-            t4.as_mut_ptr(),
-            t4.len(),
-            t5.as_mut_ptr(),
-            t5.len(),
-            t6.as_mut_ptr(),
-            t6.len(),
-            t7.as_mut_ptr(),
-            t7.len(),
-            t8.as_mut_ptr(),
-            t8.len(),
-            t9.as_mut_ptr(),
-            t9.len(),
-            t10.as_mut_ptr(),
-            t10.len(),
+            file.as_ptr(), file.len(),
+            t1.as_mut_ptr(), t1.len(), t2.as_mut_ptr(), t2.len(),
+            t3.as_mut_ptr(), t3.len(), t4.as_mut_ptr(), t4.len(),
+            t5.as_mut_ptr(), t5.len(), t6.as_mut_ptr(), t6.len(),
+            t7.as_mut_ptr(), t7.len(), t8.as_mut_ptr(), t8.len(),
+            t9.as_mut_ptr(), t9.len(), t10.as_mut_ptr(), t10.len(),
         )
     }
+}
+
+/// Writes tables as the shortest file: refusals 12, then 11. A refused call
+/// changes no byte, and bytes past the size stay as they were.
+#[rustfmt::skip]
+pub fn write(
+    tables: &[&[u32]; 10],
+    counts: &[u32; 10],
+    version: u32,
+    n_texs: u32,
+    names: &[u8],
+    out: &mut [u8],
+) -> Written {
+    let [t1, t2, t3, t4, t5, t6, t7, t8, t9, t10] = tables;
+    // SAFETY: each pointer holds for its length, ten for the counts; only the
+    // output is written, and its borrow is apart from the others.
+    unsafe {
+        kelompuris_b3d_write(
+            t1.as_ptr(), t1.len(), t2.as_ptr(), t2.len(),
+            t3.as_ptr(), t3.len(), t4.as_ptr(), t4.len(),
+            t5.as_ptr(), t5.len(), t6.as_ptr(), t6.len(),
+            t7.as_ptr(), t7.len(), t8.as_ptr(), t8.len(),
+            t9.as_ptr(), t9.len(), t10.as_ptr(), t10.len(),
+            counts.as_ptr(), version, n_texs,
+            names.as_ptr(), names.len(), out.as_mut_ptr(), out.len(),
+        )
+    }
+}
+
+/// Copies a file without names: refusals 1 to 10, then 11. A refused call
+/// changes no byte, and bytes past the size stay as they were.
+pub fn clear(file: &[u8], out: &mut [u8]) -> Written {
+    // SAFETY: each pointer holds for its length, and the borrows are apart.
+    unsafe { kelompuris_b3d_clear(file.as_ptr(), file.len(), out.as_mut_ptr(), out.len()) }
 }

@@ -1,10 +1,14 @@
-//! The header as C11 and as C++17: builds `tests/c/read_sample.c` with it and
-//! the archive, runs it and holds what it prints to the answers of paper 01.
+//! The header as C11 and as C++17: builds the programs of `tests/c` with it and
+//! the archive, runs them and holds what they print to the answers of paper 01.
 
 use std::path::Path;
 use std::process::Command;
 
-const PRINTED: &str = "\
+/// Each program and what it prints.
+const SAMPLES: [(&str, &str); 2] = [
+    (
+        "read_sample",
+        "\
 judge: 0 0, 1 0, 0 0 1 0 0 0 0 0 0 0
 cut: 1 0, 0 0, 0 0 0 0 0 0 0 0 0 0
 short: 11 3, 0 0, 0 0 0 0 0 0 0 0 0 0
@@ -12,29 +16,47 @@ untouched: 77
 read: 0 0, 1 0, 0 0 1 0 0 0 0 0 0 0
 row: 20 4 4294967295 0 0 0 0 0 0 0 0 0 0 0 0 0 0 0 0 0 77
 name: Hall
-";
+",
+    ),
+    (
+        "write_sample",
+        "\
+short: 11 65 0, 70 bytes left
+version 100: 12 0 0, 70 bytes left
+same as H: 1
+write: 0 0 65, 5 bytes left
+cut: 1 0 0, 70 bytes left
+no output: 11 61 0, 70 bytes left
+lengths: 53 41, name: 0
+clear: 0 0 61, 9 bytes left
+",
+    ),
+];
 
-/// Compiles with this compiler, language and standard, and runs.
+/// Compiles each with this compiler, language and standard, and runs it.
 fn run(compiler: &str, language: &str, standard: &str) {
     let root = Path::new(env!("CARGO_MANIFEST_DIR")).join("../..");
-    let program = Path::new(env!("CARGO_TARGET_TMPDIR")).join(format!("sample_{standard}"));
-    let built = Command::new(compiler)
-        .args(["-Wall", "-Wextra", "-Werror", "-pedantic"])
-        .arg(format!("-std={standard}"))
-        .arg("-I")
-        .arg(root.join("include"))
-        .args(["-x", language])
-        .arg(root.join("tests/c/read_sample.c"))
-        .args(["-x", "none"])
-        .arg(env!("KELOMPURIS_ARCHIVE"))
-        .arg("-o")
-        .arg(&program)
-        .status();
-    let built = built.unwrap_or_else(|error| panic!("{compiler} does not run: {error}"));
-    assert!(built.success(), "{compiler} refuses the sample");
-    let output = Command::new(&program).output().expect("the sample runs");
-    assert!(output.status.success());
-    assert_eq!(String::from_utf8_lossy(&output.stdout), PRINTED);
+    let folder = Path::new(env!("CARGO_TARGET_TMPDIR"));
+    for (sample, printed) in SAMPLES {
+        let program = folder.join(format!("{sample}_{standard}"));
+        let built = Command::new(compiler)
+            .args(["-Wall", "-Wextra", "-Werror", "-pedantic"])
+            .arg(format!("-std={standard}"))
+            .arg("-I")
+            .arg(root.join("include"))
+            .args(["-x", language])
+            .arg(root.join(format!("tests/c/{sample}.c")))
+            .args(["-x", "none"])
+            .arg(env!("KELOMPURIS_ARCHIVE"))
+            .arg("-o")
+            .arg(&program)
+            .status();
+        let built = built.unwrap_or_else(|error| panic!("{compiler} does not run: {error}"));
+        assert!(built.success(), "{compiler} refuses {sample}");
+        let output = Command::new(&program).output().expect("the sample runs");
+        assert!(output.status.success());
+        assert_eq!(String::from_utf8_lossy(&output.stdout), printed);
+    }
 }
 
 #[test]

@@ -50,10 +50,11 @@ pub fn each_header_word(sheet: &Sheet, rng: &mut Rng, mut visit: impl FnMut(&She
 }
 
 /// Words in place of this one.
-fn other_words(old: u32, rng: &mut Rng) -> [u32; 7] {
+fn other_words(old: u32, rng: &mut Rng) -> [u32; 8] {
     [
         0,
         1,
+        !old,
         old.wrapping_add(1),
         old.wrapping_sub(1),
         0xFFFF_FFFF,
@@ -63,13 +64,16 @@ fn other_words(old: u32, rng: &mut Rng) -> [u32; 7] {
 }
 
 /// Shows `visit` the tables with other bytes for the names: each byte made zero
-/// in turn, and the bytes cut or lengthened.
+/// and one more in turn, and the bytes cut or lengthened.
 pub fn each_name_byte(sheet: &Sheet, mut visit: impl FnMut(&Sheet)) {
     let mut changed = sheet.clone();
     for place in 0..sheet.names.len() {
-        changed.names[place] = 0;
-        visit(&changed);
-        changed.names[place] = sheet.names[place];
+        let old = sheet.names[place];
+        for new in [0, old.wrapping_add(1)] {
+            changed.names[place] = new;
+            visit(&changed);
+        }
+        changed.names[place] = old;
     }
     if let Some(last) = changed.names.pop() {
         visit(&changed);
@@ -78,6 +82,20 @@ pub fn each_name_byte(sheet: &Sheet, mut visit: impl FnMut(&Sheet)) {
     visit(&changed);
     changed.names.clear();
     visit(&changed);
+}
+
+/// Shows `visit` the tables with each slice one word shorter and one longer in
+/// turn.
+pub fn each_slice_length(sheet: &Sheet, mut visit: impl FnMut(&Sheet)) {
+    for table in 0..10 {
+        let mut changed = sheet.clone();
+        changed.tables[table].push(0xFFFF_FFFF);
+        visit(&changed);
+        changed.tables[table].pop();
+        if changed.tables[table].pop().is_some() {
+            visit(&changed);
+        }
+    }
 }
 
 /// The tables with some change of more than one word, or none if they have no

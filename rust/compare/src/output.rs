@@ -1,0 +1,168 @@
+use crate::{disagree, Compared, Disagreement};
+use reference::Written;
+use scenes::sheet::ROW_WORDS;
+use scenes::{Rng, Sheet};
+
+/// A call of the writer or of the clearer, the output aside.
+#[derive(Clone, Copy)]
+pub enum Call<'a> {
+    Write(&'a Sheet),
+    Clear(&'a [u8]),
+}
+
+impl Call<'_> {
+    fn proved(&self, out: &mut [u8]) -> Written {
+        let answer = match self {
+            Call::Write(sheet) => kelompuris::write(
+                &sheet.slices(),
+                &sheet.counts,
+                sheet.version,
+                sheet.n_texs,
+                &sheet.names,
+                out,
+            ),
+            Call::Clear(file) => kelompuris::clear(file, out),
+        };
+        Written {
+            number: answer.number,
+            place: answer.place,
+            size: answer.size,
+        }
+    }
+
+    fn plain(&self, out: &mut [u8]) -> Written {
+        match self {
+            Call::Write(sheet) => reference::write(
+                &sheet.slices(),
+                &sheet.counts,
+                sheet.version,
+                sheet.n_texs,
+                &sheet.names,
+                out,
+            ),
+            Call::Clear(file) => reference::clear(file, out),
+        }
+    }
+
+    fn disagree<T>(&self, about: String) -> Result<T, Disagreement> {
+        match self {
+            Call::Write(sheet) => {
+                disagree(format!("write: {about}: {}", shown(sheet)), &sheet.names)
+            }
+            Call::Clear(file) => disagree(format!("clear: {about}"), file),
+        }
+    }
+}
+
+/// Tables to be printed, where they are small.
+fn shown(sheet: &Sheet) -> String {
+    let (counts, version, n_texs) = (&sheet.counts, sheet.version, sheet.n_texs);
+    let words: usize = sheet.tables.iter().map(Vec::len).sum();
+    match words < 2000 {
+        true => format!("{counts:?}, {version}, {n_texs}, {:?}", sheet.tables),
+        false => format!("{counts:?}, {version}, {n_texs}"),
+    }
+}
+
+/// Bytes before and behind each lent output.
+const AROUND: usize = 3;
+
+/// Bytes of an output that would do for small files.
+const ENOUGH: usize = 4000;
+
+impl Compared {
+    /// Calls with outputs of several sizes: empty; then, unless that is refused
+    /// by another number than 11, shorter, one byte short, just enough and
+    /// longer. The bytes written, or the refusal.
+    pub fn call(
+        &mut self,
+        call: Call,
+        rng: &mut Rng,
+    ) -> Result<Result<Vec<u8>, Written>, Disagreement> {
+        let (asked, _) = self.output(call, 0)?;
+        if asked.number != 11 {
+            let (again, _) = self.output(call, ENOUGH)?;
+            return match again == asked && asked.number != 0 && asked.size == 0 {
+                true => Ok(Err(asked)),
+                false => call.disagree(format!("{asked:?} to an empty output, then {again:?}")),
+            };
+        }
+        let size = asked.place as usize;
+        for short in [rng.below(size.max(1)), size.saturating_sub(1)] {
+            let (answer, _) = self.output(call, short)?;
+            if answer != asked {
+                return call.disagree(format!("both answer {answer:?} to {short} of {size} bytes"));
+            }
+        }
+        let (exact, bytes) = self.output(call, size)?;
+        let (longer, same) = self.output(call, size + rng.between(1, 50))?;
+        let written = Written {
+            number: 0,
+            place: 0,
+            size: asked.place,
+        };
+        match (exact, longer) == (written, written) && bytes == same {
+            true => Ok(Ok(bytes)),
+            false => call.disagree(format!("{asked:?}, then {exact:?}, {longer:?}")),
+        }
+    }
+
+    /// The bytes that a call must write.
+    pub fn written(&mut self, call: Call, rng: &mut Rng) -> Result<Vec<u8>, Disagreement> {
+        match self.call(call, rng)? {
+            Ok(bytes) => Ok(bytes),
+            Err(refusal) => call.disagree(format!("both answer {refusal:?}")),
+        }
+    }
+
+    /// Calls both with an output of this size among other bytes; their answer
+    /// and the bytes written.
+    fn output(&mut self, call: Call, size: usize) -> Result<(Written, Vec<u8>), Disagreement> {
+        self.outputs += 1;
+        let fill: Vec<u8> = (0..size + 2 * AROUND).map(pattern).collect();
+        let (mut proved, mut plain) = (fill.clone(), fill);
+        let answer = call.proved(&mut proved[AROUND..AROUND + size]);
+        let expected = call.plain(&mut plain[AROUND..AROUND + size]);
+        self.count(answer.number);
+        self.bytes += proved.len();
+        let about = format!("output of {size} bytes");
+        if answer != expected {
+            let values = format!("proved {answer:?}, reference {expected:?}");
+            return call.disagree(format!("{about}: {values}"));
+        }
+        if let Some(at) = (0..proved.len()).find(|&at| proved[at] != plain[at]) {
+            let values = format!("proved {:#x}, reference {:#x}", proved[at], plain[at]);
+            let at = at as isize - AROUND as isize;
+            return call.disagree(format!("{about}: byte {at}: {values}"));
+        }
+        let end = AROUND + answer.size as usize;
+        let mut outside = (0..AROUND).chain(end..proved.len());
+        match outside.all(|at| proved[at] == pattern(at)) {
+            true => Ok((answer, proved[AROUND..end].to_vec())),
+            false => call.disagree(format!("{about}: changed outside the bytes written")),
+        }
+    }
+}
+
+/// The byte that stands there before a call.
+fn pattern(at: usize) -> u8 {
+    (at as u32).wrapping_mul(0x9E37_79B1).to_be_bytes()[0] ^ 0xB7
+}
+
+/// The words of a file that the proved reader accepts; the names are the file.
+pub fn sheet_of(file: &[u8]) -> Result<Sheet, Disagreement> {
+    let counts = kelompuris::judge(file).counts;
+    let rows = |table| counts[table] as usize * ROW_WORDS[table];
+    let mut tables: [Vec<u32>; 10] = std::array::from_fn(|table| vec![0; rows(table)]);
+    let answer = kelompuris::read(file, &mut tables.each_mut().map(|table| &mut table[..]));
+    if answer.number != 0 {
+        return disagree(format!("read: {answer:?}"), file);
+    }
+    Ok(Sheet {
+        tables,
+        counts: answer.counts,
+        version: answer.version,
+        n_texs: answer.n_texs,
+        names: file.to_vec(),
+    })
+}
