@@ -1,0 +1,17 @@
+# `make demo` lists a sample and clears it of names; `make test` is the gate.
+CLI = rust/target/release/kelompuris
+
+.PHONY: demo cli test
+
+demo: cli
+	$(CLI) check samples/*.b3d
+	$(CLI) list samples/kitchen.b3d
+	$(CLI) clear samples/kitchen.b3d target/kitchen_cleared.b3d
+	$(CLI) list target/kitchen_cleared.b3d
+
+cli:
+	rust/build-lib
+	cd rust && cargo build --offline --release -p kelompuris-cli --target-dir target
+
+test:
+	bash .ci/run

@@ -1,0 +1,109 @@
+//! Times the proved functions beside the independent ones and a plain copy of
+//! the bytes: one run, the same file in memory, medians. The tables and the
+//! output are made once for a file and lent again and again, so they are warm
+//! and hold what the call before left there.
+//!
+//! A line is a file: its size, then nanoseconds a byte for each function. The
+//! last columns are ratios of medians.
+
+use std::hint::black_box;
+use std::time::{Duration, Instant};
+
+/// Words of a row of tables 1 to 10.
+const WIDTHS: [usize; 10] = [9, 17, 20, 9, 42, 4, 3, 2, 4, 11];
+const NAMES: [&str; 10] = [
+    "textures",
+    "brushes",
+    "nodes",
+    "meshes",
+    "vertices",
+    "sets",
+    "triangles",
+    "weights",
+    "lists",
+    "keys",
+];
+/// How long one function is timed for, and at least how often it runs.
+const TIME: Duration = Duration::from_millis(150);
+const LEAST_RUNS: usize = 11;
+
+fn main() {
+    println!(
+        "{:<10} {:>6} {:>9} | {:>7} {:>7} {:>7} {:>7} {:>8} {:>7} | {:>10} {:>9}",
+        "table",
+        "rows",
+        "bytes",
+        "judge",
+        "read",
+        "write",
+        "clear",
+        "ind.read",
+        "copy",
+        "read/ind.",
+        "read/copy"
+    );
+    for table in 1..=10 {
+        for rows in [64, 1024, 16383] {
+            line(table, rows);
+        }
+    }
+}
+
+fn line(table: usize, rows: usize) {
+    let file = scenes::rows::file_with_rows(table, rows);
+    let answer = kelompuris::judge(&file);
+    assert_eq!(answer.number, 0, "table {table}, {rows} rows");
+    let mut tables: Vec<Vec<u32>> = (0..10)
+        .map(|k| vec![0; WIDTHS[k] * answer.counts[k] as usize])
+        .collect();
+    let mut out = vec![0; file.len()];
+    let judge = median(|| kelompuris::judge(black_box(&file)).number);
+    let read = median(|| kelompuris::read(black_box(&file), &mut lent(&mut tables)).number);
+    let independent = median(|| reference::read(black_box(&file), &mut lent(&mut tables)).number);
+    let filled: Vec<&[u32]> = tables.iter().map(Vec::as_slice).collect();
+    let filled: [&[u32]; 10] = filled.try_into().expect("ten tables");
+    let write = median(|| {
+        let (version, slots) = (answer.version, answer.n_texs);
+        let names = black_box(&file);
+        kelompuris::write(&filled, &answer.counts, version, slots, names, &mut out).number
+    });
+    let clear = median(|| kelompuris::clear(black_box(&file), &mut out).number);
+    let copy = median(|| {
+        out.copy_from_slice(black_box(&file));
+        u32::from(out[out.len() - 1] & 0)
+    });
+    let a_byte = |t: Duration| t.as_nanos() as f64 / file.len() as f64;
+    println!(
+        "{:<10} {:>6} {:>9} | {:>7.2} {:>7.2} {:>7.2} {:>7.2} {:>8.2} {:>7.2} | {:>10.2} {:>9.0}",
+        NAMES[table - 1],
+        rows,
+        file.len(),
+        a_byte(judge),
+        a_byte(read),
+        a_byte(write),
+        a_byte(clear),
+        a_byte(independent),
+        a_byte(copy),
+        read.as_secs_f64() / independent.as_secs_f64(),
+        read.as_secs_f64() / copy.as_secs_f64(),
+    );
+}
+
+fn lent(tables: &mut [Vec<u32>]) -> [&mut [u32]; 10] {
+    let slices: Vec<&mut [u32]> = tables.iter_mut().map(Vec::as_mut_slice).collect();
+    slices.try_into().expect("ten tables")
+}
+
+/// The median time of a call that answers 0.
+fn median(mut call: impl FnMut() -> u32) -> Duration {
+    let begun = Instant::now();
+    let mut times = Vec::new();
+    while times.len() < LEAST_RUNS || begun.elapsed() < TIME {
+        let start = Instant::now();
+        let number = black_box(call());
+        times.push(start.elapsed());
+        assert_eq!(number, 0);
+    }
+    times.sort();
+    times[times.len() / 2]
+}

@@ -1,0 +1,130 @@
+//! The five commands. What goes to standard output is added to `out`, by the two
+//! that print; the others say nothing unless they stop.
+
+use crate::answer::{about, in_words, Stop};
+use crate::columns::{Table, HEAD, NODES, TABLES};
+use crate::output::{put_file, put_folder};
+use crate::scene::{self, load, name, Scene};
+use crate::text;
+use kelompuris::{judge, Answer};
+use std::fs;
+use std::path::Path;
+
+/// A line for each file: its answer in words.
+pub fn check(paths: &[&Path], out: &mut Vec<u8>) -> Result<(), Stop> {
+    let (mut refused, mut failed) = (0, 0);
+    for path in paths {
+        let line = match load(path) {
+            Ok(file) => {
+                let answer = judge(&file);
+                refused += usize::from(answer.number != 0);
+                about(path, in_words(&answer))
+            }
+            Err(Stop::Failed(line) | Stop::Refused(line)) => {
+                failed += 1;
+                line
+            }
+        };
+        add_line(out, line);
+    }
+    let of = paths.len();
+    match (refused, failed) {
+        (0, 0) => Ok(()),
+        (_, 0) => Err(Stop::Refused(format!("{refused} of {of} refused"))),
+        _ => Err(Stop::Failed(format!("{failed} of {of} cannot be read"))),
+    }
+}
+
+/// Number and place; if accepted version and n_texs, ten counts, node names.
+pub fn list(path: &Path, out: &mut Vec<u8>) -> Result<(), Stop> {
+    let file = load(path)?;
+    let answer = judge(&file);
+    add_numbers(out, &[answer.number, answer.place]);
+    let scene = accepted(path, file, &answer)?;
+    add_numbers(out, &[answer.version, answer.n_texs]);
+    add_numbers(out, &answer.counts);
+    for node in scene.tables[NODES].chunks(TABLES[NODES].words()) {
+        add_line(out, shown(name(&scene.names, node)));
+    }
+    Ok(())
+}
+
+/// The tables of a file as a folder of texts.
+pub fn tables(path: &Path, folder: &Path) -> Result<(), Stop> {
+    let file = load(path)?;
+    let answer = judge(&file);
+    let scene = accepted(path, file, &answer)?;
+    let as_text =
+        |table: &Table, words: &[u32]| (table.file_name(), text::print(table, words, &scene.names));
+    let mut files = vec![as_text(&HEAD, &[scene.version, scene.n_texs])];
+    for (table, words) in TABLES.iter().zip(&scene.tables) {
+        files.push(as_text(table, words));
+    }
+    put_folder(folder, &files)
+}
+
+/// A file from such a folder.
+pub fn build(folder: &Path, target: &Path) -> Result<(), Stop> {
+    let mut names = Vec::new();
+    let mut read = |table: &Table| {
+        let path = folder.join(table.file_name());
+        let text = fs::read(&path).map_err(|error| Stop::failed(&path, error))?;
+        text::parse(table, &text, &mut names).map_err(|why| Stop::failed(&path, why))
+    };
+    let [version, n_texs] = read(&HEAD)?[..] else {
+        let path = folder.join(HEAD.file_name());
+        return Err(Stop::failed(&path, "not just one row"));
+    };
+    let mut tables = <[Vec<u32>; 10]>::default();
+    for (words, table) in tables.iter_mut().zip(&TABLES) {
+        *words = read(table)?;
+    }
+    let scene = Scene {
+        version,
+        n_texs,
+        tables,
+        names,
+    };
+    let bytes = scene.write();
+    let bytes = bytes.map_err(|written| Stop::not_written(folder, written))?;
+    put_file(target, &bytes)
+}
+
+/// The copy of a file without names.
+pub fn clear(path: &Path, target: &Path) -> Result<(), Stop> {
+    let file = load(path)?;
+    let bytes = scene::clear(&file);
+    let bytes = bytes.map_err(|written| Stop::not_written(path, written))?;
+    put_file(target, &bytes)
+}
+
+/// The scene of a file, unless it is refused.
+fn accepted(path: &Path, file: Vec<u8>, answer: &Answer) -> Result<Scene, Stop> {
+    let scene = match answer.number {
+        0 => Scene::read(file, answer),
+        _ => Err(*answer),
+    };
+    scene.map_err(|answer| Stop::refused(path, answer.number, answer.place))
+}
+
+/// `unnamed` if empty, bytes outside 32 to 126 as `?`.
+fn shown(name: &[u8]) -> String {
+    let shown = |&byte: &u8| match byte {
+        32..=126 => byte as char,
+        _ => '?',
+    };
+    match name {
+        [] => "unnamed".to_string(),
+        _ => name.iter().map(shown).collect(),
+    }
+}
+
+fn add_numbers(out: &mut Vec<u8>, numbers: &[u32]) {
+    let texts: Vec<String> = numbers.iter().map(u32::to_string).collect();
+    add_line(out, texts.join(" "));
+}
+
+fn add_line(out: &mut Vec<u8>, line: String) {
+    out.extend_from_slice(line.as_bytes());
+    out.push(b'\n');
+}

@@ -1,0 +1,81 @@
+//! `kelompuris`: B3D scene files checked, listed, taken apart, put together and
+//! cleared of names, all by the proved functions.
+
+mod answer;
+mod columns;
+mod commands;
+mod output;
+mod scene;
+mod text;
+
+use answer::Stop;
+use std::env;
+use std::ffi::OsString;
+use std::io::{self, Write};
+use std::path::Path;
+use std::process::ExitCode;
+
+const USAGE: &str = "\
+usage: kelompuris check FILE..
+       kelompuris list FILE
+       kelompuris tables FILE DIR
+       kelompuris build DIR OUT
+       kelompuris clear FILE OUT
+       kelompuris --help
+";
+
+const HELP: &str = "
+check   one line for each file: accepted and what it holds, or the refusal's
+        number, its place and what that means
+list    number and place; if accepted version and n_texs, the ten row counts
+        and the name of each node
+tables  the ten tables of a file and scene.tsv (version, n_texs) as texts in
+        DIR, which must be new or empty
+build   the shortest file with the tables in such a DIR
+clear   a copy without names and without chunks of other tags
+
+In the texts of `tables` the first line has the column names, and a tab stands
+between cells. Whole numbers are signed decimals, so NONE is -1. A float is its
+32-bit word as 8 hex digits (3f800000 is 1.0), so it comes back exactly. In a
+name the backslash and bytes outside 33 to 126 are \\xNN, so a space is \\x20.
+
+A command that is refused or fails writes no file. Exit status: 0 accepted,
+1 refused, 2 wrong usage or a file that cannot be read or written.
+";
+
+fn main() -> ExitCode {
+    let args: Vec<OsString> = env::args_os().skip(1).collect();
+    let mut out = Vec::new();
+    let done = run(&args, &mut out);
+    let printed = io::stdout().write_all(&out);
+    let printed = printed.map_err(|error| Stop::Failed(format!("standard output: {error}")));
+    let (why, status) = match printed.and(done) {
+        Ok(()) => return ExitCode::SUCCESS,
+        Err(Stop::Refused(why)) => (why, 1),
+        Err(Stop::Failed(why)) => (why, 2),
+    };
+    // Nothing is left to tell if this cannot be written either.
+    let _ = writeln!(io::stderr(), "kelompuris: {}", why.trim_end());
+    ExitCode::from(status)
+}
+
+fn run(args: &[OsString], out: &mut Vec<u8>) -> Result<(), Stop> {
+    let usage = || Err(Stop::Failed(USAGE.to_string()));
+    let Some((command, paths)) = args.split_first() else {
+        return usage();
+    };
+    let paths: Vec<&Path> = paths.iter().map(Path::new).collect();
+    match (command.to_str(), &paths[..]) {
+        (Some("check"), [_, ..]) => commands::check(&paths, out),
+        (Some("list"), [file]) => commands::list(file, out),
+        (Some("tables"), [file, folder]) => commands::tables(file, folder),
+        (Some("build"), [folder, target]) => commands::build(folder, target),
+        (Some("clear"), [file, target]) => commands::clear(file, target),
+        (Some("--help"), []) => {
+            out.extend_from_slice(USAGE.as_bytes());
+            out.extend_from_slice(HELP.as_bytes());
+            Ok(())
+        }
+        _ => usage(),
+    }
+}

@@ -1,0 +1,52 @@
+//! Files and folders that stand either whole or not at all: made under another
+//! name beside their own, then renamed.
+
+use crate::answer::Stop;
+use std::fs::{self, File};
+use std::io::{self, Error, ErrorKind, Write};
+use std::path::{Path, PathBuf};
+use std::process;
+
+/// Puts a file there; one of that name is replaced.
+pub fn put_file(path: &Path, bytes: &[u8]) -> Result<(), Stop> {
+    let put = || {
+        let taken = fs::symlink_metadata(path).is_ok_and(|found| !found.is_file());
+        if taken {
+            return Err(Error::new(ErrorKind::AlreadyExists, "not a plain file"));
+        }
+        let part = beside(path)?;
+        let file = File::create_new(&part)?;
+        let done = fill(file, bytes).and_then(|()| fs::rename(&part, path));
+        done.inspect_err(|_| drop(fs::remove_file(&part)))
+    };
+    put().map_err(|error| Stop::failed(path, error))
+}
+
+/// Puts a folder of these names and texts there. An empty one may stand there
+/// already.
+pub fn put_folder(path: &Path, files: &[(String, String)]) -> Result<(), Stop> {
+    let put = || {
+        let part = beside(path)?;
+        fs::create_dir(&part)?;
+        let mut each = files.iter();
+        let done = each
+            .try_for_each(|(name, text)| fill(File::create_new(part.join(name))?, text.as_bytes()))
+            .and_then(|()| fs::rename(&part, path));
+        done.inspect_err(|_| drop(fs::remove_dir_all(&part)))
+    };
+    put().map_err(|error| Stop::failed(path, error))
+}
+
+fn fill(mut file: File, bytes: &[u8]) -> io::Result<()> {
+    file.write_all(bytes)?;
+    file.sync_all()
+}
+
+/// A name in the same folder for what is being made.
+fn beside(path: &Path) -> io::Result<PathBuf> {
+    if path.file_name().is_none() {
+        return Err(Error::new(ErrorKind::InvalidInput, "no name to write to"));
+    }
+    let part = format!(".kelompuris.{}.part", process::id());
+    Ok(path.with_file_name(part))
+}

@@ -1,0 +1,150 @@
+//! `check` and `list`.
+
+mod common;
+
+use common::{fresh, run};
+use scenes::worked::{self, with};
+use scenes::{scene, Profile, Rng};
+use std::fs::{self, File};
+
+const KITCHEN: &str = "\
+0 0
+1 2
+3 3 6 2 12 3 6 6 3 4
+cupboard
+hinge
+handle
+worktop
+lamp over the worktop
+unnamed
+";
+
+#[test]
+fn check_says_what_samples_hold() {
+    let folder = fresh("check_samples");
+    let expected = "\
+hall.b3d: accepted, version 1, 1 node
+table.b3d: accepted, version 1, 1 node, 1 mesh, 3 vertices, 1 triangle set, 1 triangle
+kitchen.b3d: accepted, version 1, n_texs 2, 3 textures, 3 brushes, 6 nodes, 2 meshes, \
+12 vertices, 3 triangle sets, 6 triangles, 6 weights, 3 key lists, 4 keys
+";
+    let all = ["check", "hall.b3d", "table.b3d", "kitchen.b3d"];
+    run(&folder, &all).is(0, expected);
+}
+
+#[test]
+fn check_answers_every_file_and_ends_with_the_worst() {
+    let folder = fresh("check_worst");
+    fs::write(folder.join("bad.b3d"), with(worked::t(), 149, 3)).unwrap();
+    let bad = "bad.b3d: 7 at 149: an id that names nothing\n";
+    let hall = "hall.b3d: accepted, version 1, 1 node\n";
+    run(&folder, &["check", "bad.b3d", "hall.b3d"]).is(1, &format!("{bad}{hall}"));
+    let some = run(&folder, &["check", "none.b3d", "bad.b3d", "hall.b3d"]);
+    assert_eq!(some.status, 2);
+    assert!(some.out.starts_with("none.b3d: "), "{some:?}");
+    assert!(some.out.ends_with(&format!("{bad}{hall}")), "{some:?}");
+}
+
+#[test]
+fn worked_cases_have_their_answers() {
+    let folder = fresh("worked_cases");
+    let path = folder.join("case.b3d");
+    let cases = worked::cases();
+    // Each number that a file can bring, and the largest file.
+    for number in 1..=10 {
+        let some = cases.iter().any(|case| case.number == number);
+        assert!(some || [2, 4].contains(&number), "no case of {number}");
+    }
+    for case in cases {
+        fs::write(&path, &case.file).unwrap();
+        let listed = run(&folder, &["list", "case.b3d"]);
+        let first = format!("{} {}\n", case.number, case.place);
+        match case.number {
+            0 => assert!(
+                listed.status == 0 && listed.out.starts_with(&first),
+                "{}",
+                case.about
+            ),
+            _ => listed.is(1, &first),
+        }
+        let checked = run(&folder, &["check", "case.b3d"]);
+        assert_eq!(
+            checked.status,
+            i32::from(case.number != 0),
+            "{}",
+            case.about
+        );
+        let start = match case.number {
+            0 => "case.b3d: accepted, version ".to_string(),
+            number => format!("case.b3d: {number} at {}: ", case.place),
+        };
+        assert!(
+            checked.out.starts_with(&start),
+            "{}: {checked:?}",
+            case.about
+        );
+    }
+}
+
+#[test]
+fn refusals_two_and_four_in_words() {
+    let folder = fresh("two_and_four");
+    let says = |file: Vec<u8>, words: &str| {
+        fs::write(folder.join("f"), file).unwrap();
+        run(&folder, &["check", "f"]).is(1, &format!("f: {words}\n"));
+    };
+    says(
+        with(worked::h(), 0, 0),
+        "2 at 0: a first tag that is not BB3D",
+    );
+    let length = "2 at 4: a BB3D length that is not the file size minus 8";
+    says(with(worked::h(), 4, 58), length);
+    let mesh = u32::from_le_bytes(*b"MESH");
+    let tag = "4 at 12: a known tag not allowed here, or once too often, or out of order";
+    says(with(worked::h(), 12, mesh), tag);
+}
+
+/// A file far too large to be read whole.
+#[test]
+fn a_file_past_the_limit_is_not_read_whole() {
+    let folder = fresh("past_the_limit");
+    let file = File::create(folder.join("huge.b3d")).unwrap();
+    file.set_len(1 << 40).unwrap();
+    let huge = run(&folder, &["list", "huge.b3d"]);
+    huge.is(1, "1 0\n");
+    let words = "huge.b3d: 1 at 0: a file size outside 12 to 16,777,216 bytes\n";
+    run(&folder, &["check", "huge.b3d"]).is(1, words);
+}
+
+#[test]
+fn list_prints_the_samples() {
+    let folder = fresh("list_samples");
+    let hall = "0 0\n1 0\n0 0 1 0 0 0 0 0 0 0\nHall\n";
+    run(&folder, &["list", "hall.b3d"]).is(0, hall);
+    let table = "0 0\n1 0\n0 0 1 1 3 1 1 0 0 0\nunnamed\n";
+    run(&folder, &["list", "table.b3d"]).is(0, table);
+    run(&folder, &["list", "kitchen.b3d"]).is(0, KITCHEN);
+}
+
+#[test]
+fn list_prints_what_the_independent_lister_prints() {
+    let folder = fresh("list_random");
+    let mut rng = Rng::new(20);
+    for _ in 0..30 {
+        let file = scene(&mut rng, Profile::WIDE).file;
+        fs::write(folder.join("f"), &file).unwrap();
+        let expected = String::from_utf8(reference::list(&file)).unwrap();
+        run(&folder, &["list", "f"]).is(0, &expected);
+    }
+}
+
+/// The lister of paper 01 stops at 65,536 bytes; this one does not.
+#[test]
+fn list_takes_large_files() {
+    let folder = fresh("list_large");
+    let file = scenes::rows::file_with_rows(3, 16_383);
+    assert!(file.len() > 65_536);
+    fs::write(folder.join("f"), file).unwrap();
+    let listed = run(&folder, &["list", "f"]);
+    assert_eq!((listed.status, listed.out.lines().count()), (0, 3 + 16_383));
+}

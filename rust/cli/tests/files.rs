@@ -1,0 +1,129 @@
+//! `tables`, `build` and `clear`.
+
+mod common;
+
+use common::{fresh, names_in, run, sheet_of};
+use scenes::worked::{self, with};
+use scenes::{scene, Profile, Rng};
+use std::fs;
+use std::path::Path;
+
+const SAMPLES: [&str; 3] = ["hall.b3d", "table.b3d", "kitchen.b3d"];
+
+/// Takes a file apart and puts it together again.
+fn rebuilt(folder: &Path, file: &str) -> Vec<u8> {
+    let parts = folder.join("parts");
+    if parts.exists() {
+        fs::remove_dir_all(&parts).unwrap();
+    }
+    run(folder, &["tables", file, "parts"]).is(0, "");
+    run(folder, &["build", "parts", "built"]).is(0, "");
+    fs::read(folder.join("built")).unwrap()
+}
+
+/// What the independent clearer makes of a file.
+fn cleared(file: &[u8]) -> Vec<u8> {
+    let mut copy = vec![0; file.len()];
+    let written = reference::clear(file, &mut copy);
+    copy.truncate(written.size as usize);
+    copy
+}
+
+#[test]
+fn tables_of_the_hall() {
+    let folder = fresh("tables_hall");
+    run(&folder, &["tables", "hall.b3d", "parts"]).is(0, "");
+    let files = [
+        "brushes.tsv",
+        "key_lists.tsv",
+        "keys.tsv",
+        "meshes.tsv",
+        "nodes.tsv",
+        "scene.tsv",
+        "textures.tsv",
+        "triangle_sets.tsv",
+        "triangles.tsv",
+        "vertices.tsv",
+        "weights.tsv",
+    ];
+    assert_eq!(names_in(&folder.join("parts")), files);
+    let text = |name| fs::read_to_string(folder.join("parts").join(name)).unwrap();
+    assert_eq!(text("scene.tsv"), "version\tn_texs\n1\t0\n");
+    assert_eq!(text("weights.tsv"), "vertex\tweight\n");
+    let nodes = "\
+name parent position_x position_y position_z scale_x scale_y scale_z rotation_0 rotation_1 \
+rotation_2 rotation_3 kind first count anim anim_flags anim_frames anim_fps
+Hall -1 00000001 00000002 00000003 00000004 00000005 00000006 00000007 00000008 00000009 \
+0000000a 0 0 0 0 0 0 00000000
+";
+    assert_eq!(text("nodes.tsv"), nodes.replace(' ', "\t"));
+}
+
+#[test]
+fn names_are_escaped() {
+    let folder = fresh("names_escaped");
+    fs::write(
+        folder.join("f"),
+        with(worked::h(), 20, u32::from_le_bytes(*b"\x01 \\\xfe")),
+    )
+    .unwrap();
+    run(&folder, &["tables", "f", "parts"]).is(0, "");
+    let nodes = fs::read_to_string(folder.join("parts/nodes.tsv")).unwrap();
+    assert!(nodes.contains("\n\\x01\\x20\\x5c\\xfe\t-1\t"), "{nodes}");
+}
+
+#[test]
+fn built_samples_have_the_same_tables() {
+    let folder = fresh("built_samples");
+    for name in SAMPLES {
+        let file = fs::read(folder.join(name)).unwrap();
+        let built = rebuilt(&folder, name);
+        assert!(
+            sheet_of(&built).same_but_name_places(&sheet_of(&file)),
+            "{name}"
+        );
+        assert_eq!(built == file, name != "kitchen.b3d", "{name}");
+    }
+}
+
+#[test]
+fn built_random_files_have_the_same_tables() {
+    let folder = fresh("built_random");
+    let mut rng = Rng::new(21);
+    for _ in 0..20 {
+        let made = scene(&mut rng, Profile::WIDE);
+        fs::write(folder.join("f"), &made.file).unwrap();
+        let built = rebuilt(&folder, "f");
+        assert!(sheet_of(&built).same_but_name_places(&made.sheet));
+        assert!(built.len() <= made.file.len());
+    }
+}
+
+#[test]
+fn cleared_files_are_those_of_the_independent_clearer() {
+    let folder = fresh("cleared");
+    let mut rng = Rng::new(22);
+    let mut files: Vec<Vec<u8>> = (0..20)
+        .map(|_| scene(&mut rng, Profile::WIDE).file)
+        .collect();
+    files.extend(SAMPLES.map(|name| fs::read(folder.join(name)).unwrap()));
+    for file in files {
+        fs::write(folder.join("f"), &file).unwrap();
+        let copy = cleared(&file);
+        run(&folder, &["clear", "f", "once"]).is(0, "");
+        run(&folder, &["clear", "once", "twice"]).is(0, "");
+        assert!(fs::read(folder.join("once")).unwrap() == copy);
+        assert!(fs::read(folder.join("twice")).unwrap() == copy);
+    }
+}
+
+#[test]
+fn a_file_can_be_cleared_in_place() {
+    let folder = fresh("in_place");
+    run(&folder, &["clear", "hall.b3d", "hall.b3d"]).is(0, "");
+    assert_eq!(
+        fs::read(folder.join("hall.b3d")).unwrap(),
+        worked::cleared_h()
+    );
+    assert_eq!(names_in(&folder), ["hall.b3d", "kitchen.b3d", "table.b3d"]);
+}

@@ -1,0 +1,89 @@
+//! Wrong use, and files that cannot be read or written: status 2.
+
+mod common;
+
+use common::{fresh, names_in, run, run_on_full_disk};
+use std::fs;
+
+#[test]
+fn wrong_use() {
+    let folder = fresh("wrong_use");
+    let wrong: [&[&str]; 11] = [
+        &[],
+        &["check"],
+        &["list"],
+        &["list", "hall.b3d", "table.b3d"],
+        &["tables", "hall.b3d"],
+        &["build", "hall.b3d"],
+        &["clear", "hall.b3d"],
+        &["clear", "hall.b3d", "a", "b"],
+        &["Check", "hall.b3d"],
+        &["--help", "hall.b3d"],
+        &["hall.b3d"],
+    ];
+    let before = names_in(&folder);
+    for args in wrong {
+        run(&folder, args).stops(2, "usage: kelompuris check FILE..");
+    }
+    assert_eq!(names_in(&folder), before);
+}
+
+#[test]
+fn help_names_all_commands() {
+    let help = run(&fresh("help"), &["--help"]);
+    assert_eq!((help.status, help.err.as_str()), (0, ""));
+    for command in ["check", "list", "tables", "build", "clear"] {
+        let line = |line: &str| line.starts_with(&format!("{command} "));
+        assert!(help.out.lines().any(line), "{command}");
+    }
+}
+
+#[test]
+fn files_that_cannot_be_read() {
+    let folder = fresh("unreadable");
+    fs::create_dir(folder.join("dir")).unwrap();
+    let before = names_in(&folder);
+    for missing in ["none", "dir"] {
+        run(&folder, &["list", missing]).stops(2, missing);
+        run(&folder, &["tables", missing, "out"]).stops(2, missing);
+        run(&folder, &["build", missing, "out"]).stops(2, missing);
+        run(&folder, &["clear", missing, "out"]).stops(2, missing);
+    }
+    assert_eq!(names_in(&folder), before);
+}
+
+#[test]
+fn places_that_cannot_be_written() {
+    let folder = fresh("unwritable");
+    fs::create_dir(folder.join("full")).unwrap();
+    fs::write(folder.join("full/kept"), "kept").unwrap();
+    run(&folder, &["tables", "hall.b3d", "t"]).is(0, "");
+    let before = names_in(&folder);
+    for target in ["none/out", "full", ".."] {
+        run(&folder, &["clear", "hall.b3d", target]).stops(2, target);
+        run(&folder, &["build", "t", target]).stops(2, target);
+        run(&folder, &["tables", "hall.b3d", target]).stops(2, target);
+    }
+    run(&folder, &["tables", "hall.b3d", "table.b3d"]).stops(2, "table.b3d");
+    // A name that stands for something else is not replaced.
+    std::os::unix::fs::symlink("hall.b3d", folder.join("link")).unwrap();
+    run(&folder, &["clear", "hall.b3d", "link"]).stops(2, "not a plain file");
+    fs::remove_file(folder.join("link")).unwrap();
+    assert_eq!(names_in(&folder), before);
+    assert_eq!(names_in(&folder.join("full")), ["kept"]);
+}
+
+#[test]
+fn a_failing_write_leaves_nothing() {
+    let folder = fresh("full_disk");
+    run(&folder, &["tables", "kitchen.b3d", "parts"]).is(0, "");
+    fs::write(folder.join("old"), "old").unwrap();
+    let before = names_in(&folder);
+    for target in ["new", "old"] {
+        run_on_full_disk(&folder, &["clear", "kitchen.b3d", target]).stops(2, target);
+        run_on_full_disk(&folder, &["build", "parts", target]).stops(2, target);
+        run_on_full_disk(&folder, &["tables", "kitchen.b3d", target]).stops(2, target);
+    }
+    assert_eq!(names_in(&folder), before);
+    assert_eq!(fs::read(folder.join("old")).unwrap(), b"old");
+}
