@@ -1,18 +1,18 @@
 -- A law for each way through `judge`, `answer_for` and `read`.
 use mathlib.Core.Path.{_≡_, refl, ap, sym, _∙_}
-use Prim.Native.Nat.{ℕ, _*_, _<_, _≤_}
+use Prim.Native.Nat.{ℕ, _-_, _*_, _<_, _≤_}
 use native.Mathlib.Omega.{arith}
 use mathlib.Core.List.{List, [], _∷_}
-use lib.ListN.{length}
+use lib.ListN.{length, getD}
 use lib.Dec.{leb}
-use Rattle.wire.specs.Bytes.{AllBytes}
+use Rattle.wire.specs.Bytes.{AllBytes, over}
 use Rattle.layout.specs.Out.{Out, got, bad, _>>=_}
 use Rattle.layout.proofs.Lists.{All, all-zip}
 use Rattle.b3d_scene.specs.declared.Answer.{Answer}
 use Rattle.b3d_scene.specs.Answers.{eachTable, firstNot, judge, read, answer, readAnswer, readTable, tableAfter}
 use Rattle.b3d_scene.specs.Rules.{rowLimit}
 use Rattle.b3d_scene.specs.Scene.{Scene}
-use Rattle.b3d_scene.specs.Tables.{width, rows, table, tables, nodeTables, counts}
+use Rattle.b3d_scene.specs.Tables.{width, rows, words, table, tables, nodeTables, counts}
 use Rattle.b3d_scene.proofs.Refusals.{judge-place, read-number}
 use Rattle.b3d_scene.proofs.Rows.Numbers.{each-table, table-each, ten-tables}
 use Rattle.b3d_scene.proofs.AnswerLaws.{first-none, first-some, judge-got, judge-first, read-got}
@@ -24,7 +24,7 @@ use Rattle.b3d_judge.specs.declared.Summary.{Summary}
 use Rattle.b3d_judge.specs.declared.Verdict.{Verdict}
 use Rattle.b3d_judge.specs.declared.Verdict.the-variants as verdict
 use Rattle.b3d_read.specs.Rooms.{numberOf, countsIn, firstShort, Limited}
-use Rattle.b3d_read.specs.Reads.{tableIn, roomIn, Reads, acceptedAs, Fits, Fills}
+use Rattle.b3d_read.specs.Reads.{tableIn, roomIn, Reads, acceptedAs, CountsOf, Fits, Fills}
 use Rattle.b3d_read.proofs.RoomLaws.{short-first, short-at-most}
 
 -- ---- what a verdict says of what was read
@@ -146,6 +146,25 @@ accepts room s = go (read room s) refl
     go (got t) e z = record { scene = t; is = e }
     go (bad n p) e z = absurd (omega (arith, read-number room s n p e))
 
+-- a table without rows stays
+no-words : (t : Scene) (k : ℕ) → length (rows k t) ≡ 0 → table k t ≡ []
+unfolding table words
+no-words t k = go (rows k t)
+  where
+    go : (rs : List (List ℕ)) → length rs ≡ 0 → words rs ≡ []
+    go [] z = refl
+    go (r ∷ rs) z = absurd (omega (arith, z))
+
+count-at : (t : Scene) (k : ℕ) → 1 ≤ k → k ≤ 10 → getD (counts t) (k - 1) 0 ≡ length (rows k t)
+unfolding counts tables nodeTables
+count-at t =
+    table-each (λ (k : ℕ). getD (counts t) (k - 1) 0 ≡ length (rows k t)) (ten-tables (λ (k : ℕ). getD (counts t) (k - 1) 0 ≡ length (rows k t)) refl refl refl refl refl refl refl refl refl refl)
+
+pub empty-stays : (o : Out Scene) (cs : List ℕ) → CountsOf o cs → (k : ℕ) → 1 ≤ k → k ≤ 10 → (n : ℕ) → n ≡ k → getD cs (n - 1) 0 ≡ 0 → (xs : List ℕ) → xs ≡ tableAfter k o xs
+unfolding tableAfter over
+empty-stays (bad e p) cs h k a b n i z xs = refl
+empty-stays (got t) cs h k a b n i z xs = ap (λ (w : List ℕ). over w xs) (sym (no-words t k (sym (count-at t k a b) ∙ ap (λ (c : List ℕ). getD c (k - 1) 0) (sym (h t refl)) ∙ ap (λ (m : ℕ). getD cs (m - 1) 0) (sym i) ∙ z)))
+
 -- where it is refused, a table stays
 stays : (room : ℕ → ℕ) (s : List ℕ) (k : ℕ) (xs : List ℕ) → (readAnswer room s .number ≡ 0 → ⊥) → xs ≡ readTable k room s xs
 unfolding readAnswer readTable answer tableAfter
@@ -157,7 +176,7 @@ stays room s k xs = go (read room s)
 
 -- where `read` accepts, it has read what the judge has, and each table has room
 fits : (s : List ℕ) (room : ℕ → ℕ) (t : Scene) → AllBytes s → read room s ≡ got t → All (λ k. Ready (rows k) (judge s) 0 (room k)) tables
-unfolding table
+unfolding table words
 fits s room t b e =
     let g = read-got room s t e in
     all-zip (λ k. length (table k t) ≡ width k * length (rows k t)) (λ k. width k * length (rows k t) ≤ room k) _
@@ -179,6 +198,13 @@ module _ (s : List ℕ) (t1 t2 t3 t4 t5 t6 t7 t8 t9 t10 : List ℕ) (y : Answer)
   module _ (z : y .number ≡ 0) where
     accepted : Accepted (roomIn lent) s
     accepted = accepts (roomIn lent) s (sym (ap (λ (a : Answer). a .number) answer-is) ∙ z)
+
+    -- the answer has the counts of what was read
+    pub read-counts : CountsOf (judge s) (y .counts)
+    unfolding readAnswer answer
+    read-counts t e =
+        let g = read-got (roomIn lent) s (accepted .scene) (accepted .is) .0 in
+        ap (λ (a : Answer). a .counts) answer-is ∙ ap (λ (o : Out Scene). answer o .counts) (accepted .is ∙ sym g ∙ e)
 
     pub first-fits : AllBytes s → Fits (judge s) 1 (length t1) (length t2) (length t3) (length t4) (length t5)
     unfolding tables nodeTables
@@ -212,4 +238,4 @@ module _ (s : List ℕ) (t1 t2 t3 t4 t5 t6 t7 t8 t9 t10 : List ℕ) (y : Answer)
                 (same 6 t6 u6 (g .first)) (same 7 t7 u7 (g .second)) (same 8 t8 u8 (g .third)) (same 9 t9 u9 (g .fourth)) (same 10 t10 u10 (g .fifth)));
           }
 
-pub ruleset read-laws = (read-refused, first-fits, last-fits, read-filled)
+pub ruleset read-laws = (read-refused, read-counts, first-fits, last-fits, read-filled)

@@ -3,11 +3,11 @@ use mathlib.Core.Path.{_≡_}
 use Prim.Native.Nat.{ℕ, _+_, _-_, _≤_}
 use mathlib.Core.List.{List, []}
 use lib.ListN.{length, getD}
-use Rattle.layout.specs.Out.{Out}
+use Rattle.layout.specs.Out.{Out, got}
 use Rattle.b3d_scene.specs.declared.Answer.{Answer}
 use Rattle.b3d_scene.specs.Answers.{tableAfter, readAnswer, readTable}
 use Rattle.b3d_scene.specs.Scene.{Scene}
-use Rattle.b3d_scene.specs.Tables.{rows}
+use Rattle.b3d_scene.specs.Tables.{rows, counts}
 use Rattle.b3d_rows.specs.Puts.{Ready}
 use Rattle.b3d_judge.specs.declared.Summary.{Summary}
 use Rattle.b3d_read.specs.Rooms.{countsIn}
@@ -30,6 +30,10 @@ pub record Reads (s : List ℕ) (before after : List (List ℕ)) (r : Answer) : 
 -- what is answered for a file that was accepted
 unfoldable pub acceptedAs : Summary → Answer
 acceptedAs x = record { number = 0; place = 0; version = x .version; «n_texs» = x .«n_texs»; counts = countsIn (x .tally) }
+
+-- the counts of what was read
+abbrev pub CountsOf : Out Scene → List ℕ → Type 0
+CountsOf o cs = (t : Scene) → o ≡ got t → cs ≡ counts t
 
 -- the tables from k on have room, of these many words, for what was read
 pub record Fits (o : Out Scene) (k a b c d e : ℕ) : Type 0 where

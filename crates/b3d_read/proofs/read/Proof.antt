@@ -9,23 +9,23 @@ stays c = search (read-laws, needs)
 
 fill-first : tie.Need-fill-five-requires
 fill-first c κs =
-    let tested = c .before .before .before .before .before .before in
+    let tested = c .before .before .before .before .before .before .before in
     let answered = tested .before .before .answer-for .ensures in
     let accepted = tested .if1 .left in
-    let bytes = c .before .before .before .before .before .are-bytes .ensures in
-    ((search needs, search needs, bytes), search read-laws)
+    let bytes = c .before .before .before .before .before .before .are-bytes .ensures in
+    ((search needs, search needs, bytes), (search read-laws, search read-laws))
 
 fill-last : tie.Need-fill-five-requires-2
 fill-last c κs =
-    let tested = c .before .before .before .before .before .before .before .before .before .before .before .before .before .before .before .before .before .before .before .before .before .before in
+    let tested = c .before .before .before .before .before .before .before .before .before .before .before .before .before .before .before .before .before .before .before .before .before .before .before in
     let answered = tested .before .before .answer-for .ensures in
     let accepted = tested .if1 .left in
-    let bytes = c .before .before .before .before .before .before .before .before .before .before .before .before .before .before .before .before .before .before .before .before .before .are-bytes .ensures in
-    ((search needs, search needs, bytes), search read-laws)
+    let bytes = c .before .before .before .before .before .before .before .before .before .before .before .before .before .before .before .before .before .before .before .before .before .before .are-bytes .ensures in
+    ((search needs, search needs, bytes), (search read-laws, search read-laws))
 
 filled : tie.Need-returns-2
 filled c =
-    let tested = c .before .before .before .before .before .before .before .before .before .before .before .before .before .before .before .before .before .before .before .before .before .before .before .before .before .before .before .before .before .before .before .before .before in
+    let tested = c .before .before .before .before .before .before .before .before .before .before .before .before .before .before .before .before .before .before .before .before .before .before .before .before .before .before .before .before .before .before .before .before .before .before in
     let answered = tested .before .before .answer-for .ensures in
     let accepted = tested .if1 .left in
     let first = c .before .before .before .before .before .before .before .before .before .before .before .before .before .before .before .before .before .before .before .before .before .before .before .before .before .before .fill-five .ensures in
