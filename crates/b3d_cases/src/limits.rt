@@ -1,147 +1,89 @@
-// The cases of 01's "Worked files" without a star: n_texs, depth and rows.
-use crate::Score;
-use crate::answers;
-use crate::build;
+// The cases of 01's "Worked files" without a star: n_texs and depth. Those of rows are run by the Rust comparison, which builds their files.
+use crate::case;
 
-// BRUS without a brush. Its n_texs stands behind the header of BB3D, the version and its own header: 12 + 8. Without a brush n_texs counts
+// BRUS without a brush: its n_texs stands behind the header of BB3D, the version and its own header, at 12 + 8. Without a brush n_texs counts
 // as 0, and the copy has no BRUS: 12 bytes.
-fn no_brush(out: &mut [u8], n_texs: u32) -> usize {
-    let brus = build::file(out);
-    let p = build::open(out, brus, b"BRUS");
-    let q = build::number(out, p, n_texs);
-    let end = build::close(out, brus, q);
-    build::close(out, 0, end)
-}
-
-fn no_brush_cases(score: Score, out: &mut [u8]) -> Score {
-    let mut n = no_brush(out, 8);
-    let a = answers::case(
-        score,
+fn no_brush() {
+    case(
         b"n_texs 8, no brush",
-        out,
-        n,
-        answers::accepted(0, answers::nodes(0, 12)),
+        b"BB3D\x10\0\0\0\x01\0\0\0\
+          BRUS\x04\0\0\0\x08\0\0\0",
     );
-    n = no_brush(out, 9);
-    answers::case(a, b"n_texs 9, no brush", out, n, answers::refused(6, 20))
+    case(
+        b"n_texs 9, no brush",
+        b"BB3D\x10\0\0\0\x01\0\0\0\
+          BRUS\x04\0\0\0\x09\0\0\0",
+    );
 }
 
-// One texture, and one brush with so many slots. TEXS has 8 + 29 bytes, so BRUS stands at 49 and its n_texs at 57; the brush has
+// One texture, and one brush with as many slots as n_texs says. TEXS has 8 + 29 bytes, so BRUS stands at 49 and its n_texs at 57; the brush has
 // 29 + 4 n_texs bytes from 61 on.
-fn one_brush(out: &mut [u8], n_texs: u32) -> usize {
-    let p = build::file(out);
-    let q = build::texs(out, p);
-    let end = build::brus(out, q, n_texs);
-    build::close(out, 0, end)
-}
-
-fn one_brush_cases(score: Score, out: &mut [u8]) -> Score {
-    let mut n = one_brush(out, 8);
-    let mut t = answers::nodes(0, 122);
-    t.textures = 1;
-    t.brushes = 1;
-    let a = answers::case(
-        score,
+fn one_brush() {
+    case(
         b"n_texs 8, one brush",
-        out,
-        n,
-        answers::accepted(8, t),
+        b"BB3D\x72\0\0\0\x01\0\0\0\
+          TEXS\x1d\0\0\0\0\0\0\0\0\0\0\0\0\0\0\0\0\0\0\0\0\0\0\0\0\0\0\0\0\0\0\0\0\
+          BRUS\x41\0\0\0\x08\0\0\0\
+          \0\0\0\0\0\0\0\0\0\0\0\0\0\0\0\0\0\0\0\0\0\0\0\0\0\0\0\0\0\
+          \0\0\0\0\0\0\0\0\0\0\0\0\0\0\0\0\0\0\0\0\0\0\0\0\0\0\0\0\0\0\0\0",
     );
-    n = one_brush(out, 9);
-    answers::case(a, b"n_texs 9, one brush", out, n, answers::refused(6, 57))
+    case(
+        b"n_texs 9, one brush",
+        b"BB3D\x76\0\0\0\x01\0\0\0\
+          TEXS\x1d\0\0\0\0\0\0\0\0\0\0\0\0\0\0\0\0\0\0\0\0\0\0\0\0\0\0\0\0\0\0\0\0\
+          BRUS\x45\0\0\0\x09\0\0\0\
+          \0\0\0\0\0\0\0\0\0\0\0\0\0\0\0\0\0\0\0\0\0\0\0\0\0\0\0\0\0\
+          \0\0\0\0\0\0\0\0\0\0\0\0\0\0\0\0\0\0\0\0\0\0\0\0\0\0\0\0\0\0\0\0\0\0\0\0",
+    );
 }
 
-// Nodes, each the only child of the one before, from a place to the end of the file. They end together.
-fn nest(out: &mut [u8], at: usize, levels: u32) -> usize {
-    if levels == 0 {
-        return at;
-    }
-    let p = build::node(out, at);
-    let end = nest(out, p, levels - 1);
-    build::close(out, at, end)
-}
-
-fn nested(out: &mut [u8], levels: u32) -> usize {
-    let p = build::file(out);
-    let end = nest(out, p, levels);
-    build::close(out, 0, end)
-}
-
-// The node at level k stands at 12 + 49 (k - 1), that at 17 at 796.
-fn depth_cases(score: Score, out: &mut [u8]) -> Score {
-    let mut n = nested(out, 16);
-    let a = answers::case(
-        score,
+// Nodes, each the only child of the one before; they end together. The node at level k stands at 12 + 49 (k - 1), that at 17 at 796.
+fn depth() {
+    case(
         b"depth 16",
-        out,
-        n,
-        answers::accepted(0, answers::nodes(16, 796)),
+        b"BB3D\x14\x03\0\0\x01\0\0\0\
+          NODE\x08\x03\0\0\0\0\0\0\0\0\0\0\0\0\0\0\0\0\0\0\0\0\0\0\0\0\0\0\0\0\0\0\0\0\0\0\0\0\0\0\0\0\0\0\0\
+          NODE\xd7\x02\0\0\0\0\0\0\0\0\0\0\0\0\0\0\0\0\0\0\0\0\0\0\0\0\0\0\0\0\0\0\0\0\0\0\0\0\0\0\0\0\0\0\0\
+          NODE\xa6\x02\0\0\0\0\0\0\0\0\0\0\0\0\0\0\0\0\0\0\0\0\0\0\0\0\0\0\0\0\0\0\0\0\0\0\0\0\0\0\0\0\0\0\0\
+          NODE\x75\x02\0\0\0\0\0\0\0\0\0\0\0\0\0\0\0\0\0\0\0\0\0\0\0\0\0\0\0\0\0\0\0\0\0\0\0\0\0\0\0\0\0\0\0\
+          NODE\x44\x02\0\0\0\0\0\0\0\0\0\0\0\0\0\0\0\0\0\0\0\0\0\0\0\0\0\0\0\0\0\0\0\0\0\0\0\0\0\0\0\0\0\0\0\
+          NODE\x13\x02\0\0\0\0\0\0\0\0\0\0\0\0\0\0\0\0\0\0\0\0\0\0\0\0\0\0\0\0\0\0\0\0\0\0\0\0\0\0\0\0\0\0\0\
+          NODE\xe2\x01\0\0\0\0\0\0\0\0\0\0\0\0\0\0\0\0\0\0\0\0\0\0\0\0\0\0\0\0\0\0\0\0\0\0\0\0\0\0\0\0\0\0\0\
+          NODE\xb1\x01\0\0\0\0\0\0\0\0\0\0\0\0\0\0\0\0\0\0\0\0\0\0\0\0\0\0\0\0\0\0\0\0\0\0\0\0\0\0\0\0\0\0\0\
+          NODE\x80\x01\0\0\0\0\0\0\0\0\0\0\0\0\0\0\0\0\0\0\0\0\0\0\0\0\0\0\0\0\0\0\0\0\0\0\0\0\0\0\0\0\0\0\0\
+          NODE\x4f\x01\0\0\0\0\0\0\0\0\0\0\0\0\0\0\0\0\0\0\0\0\0\0\0\0\0\0\0\0\0\0\0\0\0\0\0\0\0\0\0\0\0\0\0\
+          NODE\x1e\x01\0\0\0\0\0\0\0\0\0\0\0\0\0\0\0\0\0\0\0\0\0\0\0\0\0\0\0\0\0\0\0\0\0\0\0\0\0\0\0\0\0\0\0\
+          NODE\xed\0\0\0\0\0\0\0\0\0\0\0\0\0\0\0\0\0\0\0\0\0\0\0\0\0\0\0\0\0\0\0\0\0\0\0\0\0\0\0\0\0\0\0\0\
+          NODE\xbc\0\0\0\0\0\0\0\0\0\0\0\0\0\0\0\0\0\0\0\0\0\0\0\0\0\0\0\0\0\0\0\0\0\0\0\0\0\0\0\0\0\0\0\0\
+          NODE\x8b\0\0\0\0\0\0\0\0\0\0\0\0\0\0\0\0\0\0\0\0\0\0\0\0\0\0\0\0\0\0\0\0\0\0\0\0\0\0\0\0\0\0\0\0\
+          NODE\x5a\0\0\0\0\0\0\0\0\0\0\0\0\0\0\0\0\0\0\0\0\0\0\0\0\0\0\0\0\0\0\0\0\0\0\0\0\0\0\0\0\0\0\0\0\
+          NODE\x29\0\0\0\0\0\0\0\0\0\0\0\0\0\0\0\0\0\0\0\0\0\0\0\0\0\0\0\0\0\0\0\0\0\0\0\0\0\0\0\0\0\0\0\0",
     );
-    n = nested(out, 17);
-    answers::case(a, b"depth 17", out, n, answers::refused(9, 796))
-}
-
-// A root with so many keys, table 10: no table takes fewer bytes. KEYS stands at 12 + 49 = 61, its keys of 4 bytes from 73 on.
-fn keyed(out: &mut [u8], count: u32) -> usize {
-    let root = build::file(out);
-    let p = build::node(out, root);
-    let end = build::keys(out, p, count);
-    build::finish(out, root, end)
-}
-
-fn key_cases(score: Score, out: &mut [u8]) -> Score {
-    let mut n = keyed(out, 16383);
-    let mut t = answers::nodes(1, 73 + 16383 * 4);
-    t.lists = 1;
-    t.keys = 16383;
-    let a = answers::case(score, b"16383 keys", out, n, answers::accepted(0, t));
-    n = keyed(out, 16384);
-    answers::case(a, b"16384 keys", out, n, answers::refused(10, 10))
-}
-
-// A root whose mesh has one vertex: 49 + 44 + 12 = 105 bytes from 12 on. A child at 117 has so many weights, table 8, of 8 bytes from
-// 117 + 49 + 8 = 174 on, and as many keys of 4 bytes: of the two tables the lower counts.
-fn weighted(out: &mut [u8], count: u32) -> usize {
-    let root = build::file(out);
-    let p = build::node(out, root);
-    let child = build::empty_mesh(out, p, 1);
-    let q = build::node(out, child);
-    let r = build::bone(out, q, count);
-    let t = build::keys(out, r, count);
-    let end = build::close(out, child, t);
-    build::finish(out, root, end)
-}
-
-fn weight_cases(score: Score, out: &mut [u8]) -> Score {
-    let mut n = weighted(out, 16383);
-    let mut t = answers::nodes(2, 174 + 16383 * 8 + 12 + 16383 * 4);
-    t.meshes = 1;
-    t.vertices = 1;
-    t.sets = 1;
-    t.weights = 16383;
-    t.lists = 1;
-    t.keys = 16383;
-    let a = answers::case(
-        score,
-        b"16383 weights and keys",
-        out,
-        n,
-        answers::accepted(0, t),
+    case(
+        b"depth 17",
+        b"BB3D\x45\x03\0\0\x01\0\0\0\
+          NODE\x39\x03\0\0\0\0\0\0\0\0\0\0\0\0\0\0\0\0\0\0\0\0\0\0\0\0\0\0\0\0\0\0\0\0\0\0\0\0\0\0\0\0\0\0\0\
+          NODE\x08\x03\0\0\0\0\0\0\0\0\0\0\0\0\0\0\0\0\0\0\0\0\0\0\0\0\0\0\0\0\0\0\0\0\0\0\0\0\0\0\0\0\0\0\0\
+          NODE\xd7\x02\0\0\0\0\0\0\0\0\0\0\0\0\0\0\0\0\0\0\0\0\0\0\0\0\0\0\0\0\0\0\0\0\0\0\0\0\0\0\0\0\0\0\0\
+          NODE\xa6\x02\0\0\0\0\0\0\0\0\0\0\0\0\0\0\0\0\0\0\0\0\0\0\0\0\0\0\0\0\0\0\0\0\0\0\0\0\0\0\0\0\0\0\0\
+          NODE\x75\x02\0\0\0\0\0\0\0\0\0\0\0\0\0\0\0\0\0\0\0\0\0\0\0\0\0\0\0\0\0\0\0\0\0\0\0\0\0\0\0\0\0\0\0\
+          NODE\x44\x02\0\0\0\0\0\0\0\0\0\0\0\0\0\0\0\0\0\0\0\0\0\0\0\0\0\0\0\0\0\0\0\0\0\0\0\0\0\0\0\0\0\0\0\
+          NODE\x13\x02\0\0\0\0\0\0\0\0\0\0\0\0\0\0\0\0\0\0\0\0\0\0\0\0\0\0\0\0\0\0\0\0\0\0\0\0\0\0\0\0\0\0\0\
+          NODE\xe2\x01\0\0\0\0\0\0\0\0\0\0\0\0\0\0\0\0\0\0\0\0\0\0\0\0\0\0\0\0\0\0\0\0\0\0\0\0\0\0\0\0\0\0\0\
+          NODE\xb1\x01\0\0\0\0\0\0\0\0\0\0\0\0\0\0\0\0\0\0\0\0\0\0\0\0\0\0\0\0\0\0\0\0\0\0\0\0\0\0\0\0\0\0\0\
+          NODE\x80\x01\0\0\0\0\0\0\0\0\0\0\0\0\0\0\0\0\0\0\0\0\0\0\0\0\0\0\0\0\0\0\0\0\0\0\0\0\0\0\0\0\0\0\0\
+          NODE\x4f\x01\0\0\0\0\0\0\0\0\0\0\0\0\0\0\0\0\0\0\0\0\0\0\0\0\0\0\0\0\0\0\0\0\0\0\0\0\0\0\0\0\0\0\0\
+          NODE\x1e\x01\0\0\0\0\0\0\0\0\0\0\0\0\0\0\0\0\0\0\0\0\0\0\0\0\0\0\0\0\0\0\0\0\0\0\0\0\0\0\0\0\0\0\0\
+          NODE\xed\0\0\0\0\0\0\0\0\0\0\0\0\0\0\0\0\0\0\0\0\0\0\0\0\0\0\0\0\0\0\0\0\0\0\0\0\0\0\0\0\0\0\0\0\
+          NODE\xbc\0\0\0\0\0\0\0\0\0\0\0\0\0\0\0\0\0\0\0\0\0\0\0\0\0\0\0\0\0\0\0\0\0\0\0\0\0\0\0\0\0\0\0\0\
+          NODE\x8b\0\0\0\0\0\0\0\0\0\0\0\0\0\0\0\0\0\0\0\0\0\0\0\0\0\0\0\0\0\0\0\0\0\0\0\0\0\0\0\0\0\0\0\0\
+          NODE\x5a\0\0\0\0\0\0\0\0\0\0\0\0\0\0\0\0\0\0\0\0\0\0\0\0\0\0\0\0\0\0\0\0\0\0\0\0\0\0\0\0\0\0\0\0\
+          NODE\x29\0\0\0\0\0\0\0\0\0\0\0\0\0\0\0\0\0\0\0\0\0\0\0\0\0\0\0\0\0\0\0\0\0\0\0\0\0\0\0\0\0\0\0\0",
     );
-    n = weighted(out, 16384);
-    answers::case(
-        a,
-        b"16384 weights and keys",
-        out,
-        n,
-        answers::refused(10, 8),
-    )
 }
 
-pub fn cases(score: Score, out: &mut [u8]) -> Score {
-    let a = no_brush_cases(score, out);
-    let b = one_brush_cases(a, out);
-    let c = depth_cases(b, out);
-    let d = key_cases(c, out);
-    weight_cases(d, out)
+pub fn cases() {
+    no_brush();
+    one_brush();
+    depth();
 }

@@ -2,7 +2,7 @@
 //! on generated files and on damaged ones, and prints how often each number
 //! was met. Fails at the first disagreement, and if a number was never met.
 
-use compare::{run, Compared, Disagreement, Group};
+use compare::{disagree, run, Compared, Disagreement, Group};
 use scenes::change::changed;
 use scenes::damage::{aimed, node_of};
 use scenes::rows::keys;
@@ -17,6 +17,15 @@ const CHANGES: usize = 20;
 fn worked_files(compared: &mut Compared, rng: &mut Rng) -> Result<(), Disagreement> {
     for case in worked::cases() {
         compared.known(&case.about, &case.file, (case.number, case.place), rng)?;
+    }
+    for case in worked::counted() {
+        let answer = compared.file(&case.file, rng)?;
+        if (answer.number, answer.counts) != (0, case.counts) {
+            return disagree(
+                format!("{}: both answer {answer:?}", case.about),
+                &case.file,
+            );
+        }
     }
     Ok(())
 }

@@ -64,6 +64,13 @@ fn worked_files(compared: &mut Compared, rng: &mut Rng) -> Result<(), Disagreeme
             rng,
         )?;
     }
+    for case in worked::counted() {
+        let copy = compared.written(Call::Clear(&case.file), rng)?;
+        if copy.len() != case.copy {
+            let about = format!("{}: a copy of {} bytes", case.about, copy.len());
+            return disagree(about, &case.file);
+        }
+    }
     for file in [worked::h(), worked::h_and_unknown()] {
         if compared.written(Call::Clear(&file), rng)? != worked::cleared_h() {
             return disagree("not H cleared", &file);

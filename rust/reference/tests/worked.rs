@@ -30,6 +30,14 @@ fn counts_at_the_row_limit() {
 }
 
 #[test]
+fn counts_and_copies_by_hand() {
+    for case in counted() {
+        assert_eq!(judge(&case.file).counts, case.counts, "{}", case.about);
+        assert_eq!(cleared(&case.file).len(), case.copy, "{}", case.about);
+    }
+}
+
+#[test]
 fn sizes_of_the_files() {
     assert_eq!((p().len(), h().len(), t().len()), (12, 65, 153));
 }

@@ -3,7 +3,7 @@
 
 use crate::chunk::Chunk;
 use crate::damage::{file_of, node_of, too_large};
-use crate::rows::{file_with_rows, file_with_rows_and_keys};
+use crate::rows::{file_with_rows, file_with_rows_and_keys, keys};
 
 const NONE: u32 = 0xFFFF_FFFF;
 
@@ -16,6 +16,15 @@ pub struct Case {
     pub file: Vec<u8>,
     pub number: u32,
     pub place: u32,
+}
+
+/// An accepted file of version 1 without a brush, its ten counts and the size
+/// of its copy.
+pub struct Counted {
+    pub about: &'static str,
+    pub file: Vec<u8>,
+    pub counts: [u32; 10],
+    pub copy: usize,
 }
 
 /// Bytes of tags, texts and numbers.
@@ -162,6 +171,32 @@ fn spare_bytes() -> Vec<u8> {
     with(file, 4, 58)
 }
 
+/// More keys than the limit, then a child without any data. The keys stand
+/// from 73 on, the child behind them.
+fn keys_then_cut_node() -> Vec<u8> {
+    file_of(vec![node_of(vec![keys(16_384), Chunk::new(b"NODE")])]).bytes()
+}
+
+/// Files at the row limit, counts and sizes made by hand. The first: a root of
+/// 49 bytes behind 12, and its KEYS of 12 + 4 for each key. The second: beside
+/// them a mesh of one vertex (44 + 12 bytes) and a child of 49 whose BONE has
+/// 8 + 8 for each weight.
+pub fn counted() -> Vec<Counted> {
+    let keys = Counted {
+        about: "16,383 keys",
+        file: file_with_rows(10, 16_383),
+        counts: [0, 0, 1, 0, 0, 0, 0, 0, 1, 16_383],
+        copy: 73 + 16_383 * 4,
+    };
+    let weights = Counted {
+        about: "16,383 weights and keys",
+        file: file_with_rows_and_keys(8, 16_383),
+        counts: [0, 0, 2, 1, 1, 1, 0, 16_383, 1, 16_383],
+        copy: 12 + 49 + 56 + 12 + 16_383 * 4 + 49 + 8 + 16_383 * 8,
+    };
+    vec![keys, weights]
+}
+
 /// All cases, starred or not.
 pub fn cases() -> Vec<Case> {
     let mut cases = Vec::new();
@@ -206,6 +241,8 @@ pub fn cases() -> Vec<Case> {
         let two = file_with_rows_and_keys(table, 16_384);
         add(&about, two, 10, lowest);
     }
+    let cut = keys_then_cut_node();
+    add("16,384 keys, then a cut node", cut, 5, 73 + 65_536 + 8);
     add("id of its own mesh", two_meshes(0), 0, 0);
     add("id of another mesh", two_meshes(1), 7, 202 + 64);
     add("cut item", cut_item(), 5, 153);
