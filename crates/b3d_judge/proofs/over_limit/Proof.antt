@@ -1,12 +1,8 @@
 -- `over_limit` finds the first table over the limit.
 use borrow.Author.Needs.{needs}
-use Rattle.b3d_judge.specs.Answers.{overLimit}
+use Rattle.b3d_judge.proofs.SmallLaws.{over-ten}
 use Rattle.b3d_judge.proofs.over_limit.Statement.{statement}
 use Rattle.b3d_judge.proofs.over_limit.Tie as tie
-
-returns : tie.Need-returns
-unfolding overLimit
-returns c = cc
 
 pub over-limit-spec : {M : Type 1} → statement M
 over-limit-spec =
@@ -22,4 +18,4 @@ over-limit-spec =
     (λ c κs. search needs)
     (λ c κs. search needs)
     (λ c κs. search needs)
-    returns)
+    (λ c. search over-ten))
