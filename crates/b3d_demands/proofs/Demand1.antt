@@ -1,10 +1,25 @@
 -- Demands 1 and 2 on the reader hold.
-use mathlib.Core.Path.{_≡_, refl}
-use Prim.Native.Nat.{ℕ}
+use mathlib.Core.Path.{_≡_}
+use Prim.Native.Nat.{ℕ, _*_, _≤_}
 use mathlib.Core.List.{List}
-use Rattle.b3d_scene.specs.Answers.{answer, tableAfter, readAnswer, readTable}
+use lib.ListN.{length}
+use Rattle.layout.specs.Out.{got, bad}
+use Rattle.b3d_scene.specs.Answers.{judge, read, answer, tableAfter, readAnswer, readTable}
+use Rattle.b3d_scene.specs.Rules.{rowLimit}
+use Rattle.b3d_scene.specs.Scene.{Scene}
+use Rattle.b3d_scene.specs.Parse.{parse}
+use Rattle.b3d_scene.specs.Tables.{width, rows}
 use Rattle.b3d_scene.proofs.AnswerLaws.{judge-got, judge-yes, judge-first, read-got, read-yes}
-use Rattle.b3d_demands.specs.Demands.{Reading}
+use Rattle.b3d_demands.specs.Demands.{Lowest, Reading}
+use Rattle.b3d_demands.proofs.Lowest.{is-lowest, names-at}
+
+too-many : (s : List ℕ) (t : Scene) → parse s ≡ got t → (p : ℕ) → Lowest (λ k. length (rows k t) ≤ rowLimit) p → judge s ≡ bad 10 p
+unfolding judge
+too-many s t e p h = rw (e, is-lowest 10 (λ k. length (rows k t)) (λ k. rowLimit) p h)
+
+too-short : (room : ℕ → ℕ) (s : List ℕ) (t : Scene) → judge s ≡ got t → (p : ℕ) → Lowest (λ k. width k * length (rows k t) ≤ room k) p → read room s ≡ bad 11 p
+unfolding read
+too-short room s t e p h = rw (e, is-lowest 11 (λ k. width k * length (rows k t)) room p h)
 
 pub demand-1 : (room : ℕ → ℕ) (s : List ℕ) → Reading room s
 unfolding readTable tableAfter readAnswer answer
@@ -15,7 +30,10 @@ demand-1 room s = record {
   accepted = λ t e few fits. read-yes room s t (judge-yes s t e few) fits;
   holds = λ t e k xs. rw e;
   says = λ t e. rw e;
+  names = λ b t e. names-at s t b (judge-got s t (read-got room s t e .0) .0);
   untouched = λ n p e k xs. rw e;
   refuses = λ n p e. rw e;
   first = λ n p e. judge-first s n p e room 0 .0;
+  limit = λ t e p h. judge-first s 10 p (too-many s t e p h) room 0 .0;
+  short = too-short room s;
 }

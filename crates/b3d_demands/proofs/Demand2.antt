@@ -1,29 +1,28 @@
 -- Demand 2 on the writer holds.
 use mathlib.Core.Logic.{_⊎_, inl, inr}
 use mathlib.Core.Path.{_≡_, refl, ap, sym, _∙_, subst}
-use Prim.Native.Nat.{ℕ, _+_, _*_, _≤_, _<_}
+use Prim.Native.Nat.{ℕ, _*_, _≤_, _<_}
 use native.Mathlib.Omega.{arith}
-use mathlib.Core.Bool.{_&&_}
 use mathlib.Core.Option.{Option, none, some}
 use mathlib.Core.List.{List}
 use lib.ListN.{length}
-use lib.Dec.{T, leb, leb→le, nleb→lt}
-use mir.Facts.{and-yes}
+use lib.Dec.{leb, leb→le, nleb→lt}
 use borrow.Author.Tests.{lt-leb, le-leb}
 use Rattle.wire.specs.Bytes.{AllBytes}
-use Rattle.layout.specs.Out.{Out, got, bad, check, _>>=_}
+use Rattle.layout.specs.Out.{got, bad, check, _>>=_}
 use Rattle.layout.proofs.Lists.{All, all-map, all-zip}
-use Rattle.layout.proofs.Outs.{by-test, by-check, bad-got, got-inj}
+use Rattle.layout.proofs.Outs.{by-test, bad-got}
 use Rattle.layout.proofs.PlaceLaws.{NameIn}
 use Rattle.b3d_scene.specs.Answers.{shortest, roomFor, read, write}
 use Rattle.b3d_scene.specs.Encode.{encode}
 use Rattle.b3d_scene.specs.Parse.{parse}
 use Rattle.b3d_scene.specs.Names.{named, unplaced}
 use Rattle.b3d_scene.specs.Rebuild.{Lent, lentRows, names, rebuild}
-use Rattle.b3d_scene.specs.Rules.{fileSize, mostBytes, rowLimit}
+use Rattle.b3d_scene.specs.Rules.{mostBytes}
 use Rattle.b3d_scene.specs.Scene.{Scene}
 use Rattle.b3d_scene.specs.Tables.{width, rows, tables}
 use Rattle.b3d_scene.proofs.AnswerLaws.{judge-got, judge-yes, read-yes, write-got}
+use Rattle.b3d_scene.proofs.Files.FileLaws.{parse-size}
 use Rattle.b3d_scene.proofs.Files.PlaceLaws.{parse-names}
 use Rattle.b3d_scene.proofs.Join.{stand, all-in, bare-version, bare-slots}
 use Rattle.b3d_scene.proofs.Laws.{back, least, file-bytes}
@@ -36,11 +35,6 @@ use Rattle.b3d_demands.specs.Demands.{Writing}
 use Rattle.b3d_demands.proofs.Having.{placed, placed-bare, has-rebuild, same-many}
 use Rattle.b3d_demands.proofs.Placing.{some-inj}
 use Rattle.b3d_demands.proofs.Names.{same-names}
-
--- a file that is accepted is not too long
-accepted-short : (s : List ℕ) (t : Scene) → parse s ≡ got t → length s ≤ mostBytes
-unfolding parse
-accepted-short s t e = by-check (fileSize (length s)) 1 0 _ e (λ h e₁. leb→le (length s) 16777216 (and-yes (leb 12 (length s)) (leb (length s) 16777216) h .1))
 
 module _ (L : Lent) (ns : List ℕ) where
   -- ---- a scene's tables are had by its file
@@ -92,13 +86,13 @@ module _ (L : Lent) (ns : List ℕ) where
     no-longer = least s theirs (h .scene) b parsed (sym (placed-bare s b L ns h))
 
     pub has-written : (room : ℕ) → write L ns room ≡ roomFor room (encode theirs)
-    has-written = let a = accepted-short s (h .scene) parsed in let l = no-longer in sound-room theirs (has-rebuild s b L ns h) (omega arith)
+    has-written = let a = parse-size s (h .scene) parsed in let l = no-longer in sound-room theirs (has-rebuild s b L ns h) (omega arith)
 
     has-room : (room : ℕ) → length (encode theirs) ≤ room → write L ns room ≡ got (encode theirs)
-    has-room = let a = accepted-short s (h .scene) parsed in let l = no-longer in sound-enough theirs (has-rebuild s b L ns h) (omega arith)
+    has-room = let a = parse-size s (h .scene) parsed in let l = no-longer in sound-enough theirs (has-rebuild s b L ns h) (omega arith)
 
     has-short : (room : ℕ) → room < length (encode theirs) → write L ns room ≡ bad 11 (length (encode theirs))
-    has-short = let a = accepted-short s (h .scene) parsed in let l = no-longer in sound-short theirs (has-rebuild s b L ns h) (omega arith)
+    has-short = let a = parse-size s (h .scene) parsed in let l = no-longer in sound-short theirs (has-rebuild s b L ns h) (omega arith)
 
     not-unsound : (room : ℕ) → write L ns room ≡ bad 12 0 → ⊥
     not-unsound room e =
@@ -118,11 +112,15 @@ module _ (L : Lent) (ns : List ℕ) where
           by-test (leb (length (encode t)) mostBytes) (λ h. inr (t, e, leb→le (length (encode t)) mostBytes h))
           (λ h. inl (rw (lt-leb (length (encode t)) mostBytes (nleb→lt (length (encode t)) mostBytes h))))
 
+  -- unsound, or a file that has them is written where it has room
+  pub verdict : (room : ℕ) → (write L ns room ≡ bad 12 0) ⊎ ((b : List ℕ) × AllBytes b × Has b L ns × ((r : ℕ) → write L ns r ≡ roomFor r b))
+  verdict room = elim (sound-or-not room) [ inl e ↦ inl e | inr x ↦ inr (encode (x .0), file-bytes (x .0) (rebuild-fine ns L (x .0) (x .1) .0), written-has (x .0) (x .1) (x .2), sound-room (x .0) (x .1) (x .2)) ]
+
 got-has : (L : Lent) (ns : List ℕ) (room : ℕ) (b : List ℕ) → write L ns room ≡ got b → Has b L ns
 got-has L ns room b e = let x = write-got L ns room b e in subst (λ (c : List ℕ). Has c L ns) (x .2) (written-has L ns (x .0) (x .1) (rw (x .2) (x .3)))
 
 -- a file that has the tables is read into tables of the counted rows
-has-read : (s : List ℕ) (L : Lent) (ns : List ℕ) (h : Has s L ns) (rooms : ℕ → ℕ) → All (λ k. width k * L .count k ≤ rooms k) tables → read rooms s ≡ got (h .scene)
+pub has-read : (s : List ℕ) (L : Lent) (ns : List ℕ) (h : Has s L ns) (rooms : ℕ → ℕ) → All (λ k. width k * L .count k ≤ rooms k) tables → read rooms s ≡ got (h .scene)
 unfolding lentRows
 has-read s L ns h rooms fits =
     read-yes rooms s (h .scene) (h .accepted)

@@ -1,29 +1,38 @@
 -- Demand 3 on the clearer holds.
-use mathlib.Core.Path.{_≡_, ap, sym, _∙_, subst}
+use mathlib.Core.Path.{_≡_, refl, ap, ap₂, sym, _∙_, subst}
 use Prim.Native.Nat.{ℕ, _*_, _≤_, _<_}
 use native.Mathlib.Omega.{arith}
-use mathlib.Core.List.{List}
-use lib.ListN.{length}
+use mathlib.Core.Bool.{Bool, true, false}
+use mathlib.Core.List.{List, [], _∷_, map, append-nil}
+use lib.ListN.{length, drop}
+use lib.Dec.{leb}
 use borrow.Author.Tests.{lt-leb, le-leb}
 use Rattle.wire.specs.Bytes.{AllBytes}
-use Rattle.layout.specs.Out.{Out, got, bad, check, _>>=_}
+use Rattle.wire.specs.Test.{if}
+use Rattle.layout.specs.Out.{got, bad, check}
 use Rattle.layout.proofs.Lists.{All, all-map, all-zip}
 use Rattle.layout.proofs.Outs.{got-inj}
 use Rattle.b3d_scene.specs.Answers.{judge, read, roomFor, write, copy, clear}
 use Rattle.b3d_scene.specs.Encode.{encode}
-use Rattle.b3d_scene.specs.Names.{rename, cleared, bare, named, unplaced, unnamed}
-use Rattle.b3d_scene.specs.Rebuild.{Lent}
+use Rattle.b3d_scene.specs.Names.{rename, cleared, bare, named, unplaced, unnamed, nameOff}
+use Rattle.b3d_scene.specs.Rebuild.{Lent, cut, lentRows, names}
 use Rattle.b3d_scene.specs.Rules.{rowLimit}
 use Rattle.b3d_scene.specs.Scene.{Scene}
-use Rattle.b3d_scene.specs.Tables.{width, rows, tables}
+use Rattle.b3d_scene.specs.Tables.{width, rows, words, tables}
 use Rattle.b3d_scene.proofs.AnswerLaws.{judge-got, judge-yes, judge-first, read-yes}
 use Rattle.b3d_scene.proofs.Files.NameLaws.{Copied, cleared-fits, bare-cleared}
-use Rattle.b3d_scene.proofs.Join.{cells-copy, bare-version, bare-slots}
+use Rattle.b3d_scene.proofs.Files.PlaceLaws.{parse-names}
+use Rattle.b3d_scene.proofs.Join.{cells-copy, bare-version, bare-slots, stand, all-in}
 use Rattle.b3d_scene.proofs.Laws.{copy as copied, fine, file-bytes, file-bare}
-use Rattle.b3d_scene.proofs.Rows.Rename.{bare-rows, cleared-rows}
-use Rattle.b3d_demands.specs.Having.{Has}
+use Rattle.b3d_scene.proofs.Rows.RebuildLaws.{rows-wide}
+use Rattle.b3d_scene.proofs.Rows.Rename.{bare-rows, cleared-rows, bare-same, cleared-stands}
+use Rattle.b3d_scene.proofs.Rows.RowLists.{cut-words, words-length}
+use Rattle.b3d_scene.proofs.Rows.RowParts.{Wide, Stands}
+use Rattle.layout.proofs.PlaceLaws.{NameIn}
+use Rattle.b3d_demands.specs.Having.{namesOf, Has, emptied}
 use Rattle.b3d_demands.specs.Demands.{Alike, Clearing}
 use Rattle.b3d_demands.proofs.Having.{named-length, placed, placed-bare}
+use Rattle.b3d_demands.proofs.Names.{same-names}
 use Rattle.b3d_demands.proofs.Demand2.{has-written}
 
 module _ (s : List ℕ) (t : Scene) (e : judge s ≡ got t) where
@@ -99,10 +108,88 @@ module _ (s : List ℕ) (t : Scene) (e : judge s ≡ got t) where
       copy-written : (room : ℕ) → write L ns room ≡ clear s room
       copy-written room = has-written L ns (copy t) copy-bytes h room ∙ ap (roomFor room) written-copy ∙ sym (clear-is room)
 
+    -- the file's tables with each name empty: the copy has them
+    emptied-rows : All (λ k. lentRows (emptied t) k ≡ rows k (cleared t)) tables
+    unfolding lentRows emptied
+    emptied-rows =
+        all-zip (λ k. All (Wide (width k)) (rows k (cleared t))) (λ k. rows k (cleared t) ≡ named unnamed k (rows k t)) _
+        (λ k w c. ap₂ (λ (n : ℕ) (l : List (List ℕ)). cut (width k) n (words l)) (sym (named-length unnamed k (rows k t)) ∙ ap length (sym c)) (sym c)
+        ∙ ap (cut (width k) (length (rows k (cleared t)))) (sym (append-nil (words (rows k (cleared t))))) ∙ cut-words (width k) (rows k (cleared t)) [] w) tables
+        (rows-wide (cleared t) (cleared-fits t (fine s t b (judge-got s t e .0) .0))) (cleared-rows t)
+
+    emptied-lent : All (λ k. width k * (emptied t) .count k ≤ length ((emptied t) .words k)) tables
+    unfolding emptied
+    emptied-lent =
+        all-zip (λ k. All (Wide (width k)) (rows k (cleared t))) (λ k. rows k (cleared t) ≡ named unnamed k (rows k t)) _
+        (λ k w c. let l = words-length (width k) (rows k (cleared t)) w in
+        let n : length (rows k (cleared t)) ≡ length (rows k t) = ap length c ∙ named-length unnamed k (rows k t) in
+        let z : length (words (named unnamed k (rows k t))) ≡ width k * length (rows k t) = ap (λ (x : List (List ℕ)). length (words x)) (sym c) ∙ l ∙ ap (λ (i : ℕ). width k * i) n in
+        omega arith) tables
+        (rows-wide (cleared t) (cleared-fits t (fine s t b (judge-got s t e .0) .0))) (cleared-rows t)
+
+    own-version : t .version ≡ (emptied t) .version
+    unfolding emptied
+    own-version = refl
+
+    own-slots : t .slots ≡ (emptied t) .slots
+    unfolding emptied
+    own-slots = refl
+
+    emptied-has : (ns : List ℕ) → Has (copy t) (emptied t) ns
+    emptied-has ns =
+        let u = copy-read .scene in
+        let stands = all-map (NameIn (copy t)) (Stands (copy t)) (stand (copy t)) (names u) (all-in (copy t) u (parse-names (copy t) u (judge-got (copy t) u copy-accepted .0))) in
+        record {
+          scene = u;
+          accepted = copy-accepted;
+          lent = emptied-lent;
+          version = copy-version ∙ own-version;
+          slots = copy-slots ∙ own-slots;
+          cells = all-zip (λ k. named unplaced k (rows k u) ≡ named unplaced k (rows k (cleared t))) (λ k. lentRows (emptied t) k ≡ rows k (cleared t)) _
+              (λ k x y. x ∙ ap (named unplaced k) (sym y)) tables (bare-same u (cleared t) copy-bare) emptied-rows;
+          names = all-zip (λ k. namesOf (copy t) k (rows k u) ≡ namesOf ns k (rows k (cleared t))) (λ k. lentRows (emptied t) k ≡ rows k (cleared t)) _
+              (λ k x y. x ∙ ap (namesOf ns k) (sym y)) tables (same-names (copy t) ns u (cleared t) copy-bare stands (cleared-stands ns t)) emptied-rows;
+        }
+
 -- files alike have one copy
-same-copy : (s v : List ℕ) → AllBytes s → AllBytes v → (a : Alike s v) → copy (a .one) ≡ copy (a .other)
+pub same-copy : (s v : List ℕ) → AllBytes s → AllBytes v → (a : Alike s v) → copy (a .one) ≡ copy (a .other)
 unfolding copy
 same-copy s v b c a = cells-copy s v (a .one) (a .other) b c (judge-got s (a .one) (a .one-is) .0) (judge-got v (a .other) (a .other-is) .0) (a .version) (a .slots) (a .cells)
+
+-- ---- what two accepted files have that are the same without names
+
+off-unnamed : (k : ℕ) (a b : List (List ℕ)) → named unnamed k a ≡ named unnamed k b → named nameOff k a ≡ named nameOff k b
+unfolding named nameOff unnamed if
+off-unnamed k a b e = go (leb k 3) e
+  where
+    again : (l : List (List ℕ)) → map (λ (r : List ℕ). drop 2 r) (map (λ (r : List ℕ). 0 ∷ 0 ∷ drop 2 r) l) ≡ map (λ (r : List ℕ). drop 2 r) l
+    again [] = refl
+    again (x ∷ l) = ap (λ (z : List (List ℕ)). drop 2 x ∷ z) (again l)
+
+    go : (c : Bool) → if c (map (λ (r : List ℕ). 0 ∷ 0 ∷ drop 2 r) a) a ≡ if c (map (λ (r : List ℕ). 0 ∷ 0 ∷ drop 2 r) b) b → if c (map (λ (r : List ℕ). drop 2 r) a) a ≡ if c (map (λ (r : List ℕ). drop 2 r) b) b
+    go true h = sym (again a) ∙ ap (map (λ (r : List ℕ). drop 2 r)) h ∙ again b
+    go false h = h
+
+the-version : (t u : Scene) → cleared t ≡ cleared u → t .version ≡ u .version
+unfolding cleared rename
+the-version t u e = ap (λ (x : Scene). x .version) e
+
+the-slots : (t u : Scene) → cleared t ≡ cleared u → t .slots ≡ u .slots
+unfolding cleared rename
+the-slots t u e = ap (λ (x : Scene). x .slots) e
+
+module _ (s v : List ℕ) (t u : Scene) (et : judge s ≡ got t) (eu : judge v ≡ got u) where
+  pub cleared-alike : cleared t ≡ cleared u → Alike s v
+  cleared-alike e = record {
+    one = t;
+    other = u;
+    one-is = et;
+    other-is = eu;
+    version = the-version t u e;
+    slots = the-slots t u e;
+    cells = all-zip (λ k. rows k (cleared t) ≡ named unnamed k (rows k t)) (λ k. rows k (cleared u) ≡ named unnamed k (rows k u)) _
+        (λ k a b. off-unnamed k (rows k t) (rows k u) (sym a ∙ ap (rows k) e ∙ b)) tables (cleared-rows t) (cleared-rows u);
+  }
 
 pub demand-3 : (s : List ℕ) → AllBytes s → Clearing s
 demand-3 s b = record {
@@ -110,6 +197,8 @@ demand-3 s b = record {
   enough = clear-enough s;
   short = clear-short s;
   as-written = λ t e L ns h room. copy-written s t e b L ns h room;
+  emptied-has = λ t e ns. emptied-has s t e b ns;
+  emptied-written = λ t e ns room. copy-written s t e b (emptied t) ns (emptied-has s t e b ns) room;
   first = λ n p e room. judge-first s n p e (λ k. 0) room .1;
   scene = λ t e. copy-read s t e b .scene;
   accepted = λ t e. copy-accepted s t e b;

@@ -1,9 +1,8 @@
 -- A scene with its names at other places: where lent rows have the cells of a scene, name places aside, and its names, there is a scene
 -- with just those rows.
 use mathlib.Core.Path.{_≡_, refl, ap, ap₂, sym, _∙_, subst}
-use Prim.Native.Nat.{ℕ, zero, suc, _+_, _≤_}
+use Prim.Native.Nat.{ℕ, zero, suc, _+_}
 use native.Mathlib.Omega.{arith}
-use mathlib.Core.Bool.{Bool, true, false}
 use mathlib.Core.Option.{Option, none, some}
 use mathlib.Core.List.{List, [], _∷_, _++_, map, append-assoc}
 use lib.ListN.{length, take, drop, getD}
@@ -18,7 +17,7 @@ use Rattle.b3d_scene.specs.Rebuild.{nodeNames}
 use Rattle.b3d_scene.specs.Rules.{bonesBelow, boneVertices}
 use Rattle.b3d_scene.specs.Scene.{Data, Forest, leaf, node}
 use Rattle.b3d_scene.specs.Tables.{nameCells, nodeRow, ownRows, withNode, withForest, forestRows}
-use Rattle.b3d_scene.proofs.Fitting.{FitData, FitNodes, OneRoot}
+use Rattle.b3d_scene.proofs.Fitting.{FitData, FitNodes}
 use Rattle.b3d_scene.proofs.Rows.RebuildLaws.{names-rest}
 use Rattle.b3d_scene.proofs.Rows.RowParts.{Stands}
 use Rattle.b3d_demands.specs.Having.{nameOf}

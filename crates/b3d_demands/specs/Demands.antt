@@ -1,11 +1,11 @@
 -- The demands, in the paper's words.
 use mathlib.Core.Path.{_≡_}
 use Prim.Native.Nat.{ℕ, _*_, _≤_, _<_}
-use mathlib.Core.List.{List}
+use mathlib.Core.List.{List, [], _∷_}
 use lib.ListN.{length, replicate}
 use Rattle.wire.specs.Bytes.{AllBytes, over}
 use Rattle.layout.specs.Out.{got, bad}
-use Rattle.layout.proofs.Lists.{All}
+use Rattle.layout.specs.Lists.{All}
 use Rattle.b3d_scene.specs.Answers.{judge, read, readAnswer, readTable, write, copy, clear}
 use Rattle.b3d_scene.specs.Names.{named, unplaced, unnamed, nameOff}
 use Rattle.b3d_scene.specs.Parse.{parse}
@@ -13,23 +13,42 @@ use Rattle.b3d_scene.specs.Rebuild.{Lent}
 use Rattle.b3d_scene.specs.Rules.{rowLimit}
 use Rattle.b3d_scene.specs.Scene.{Scene}
 use Rattle.b3d_scene.specs.Tables.{width, rows, table, tables, counts}
-use Rattle.b3d_demands.specs.Having.{Has}
+use Rattle.b3d_demands.specs.Having.{NameAt, Has, emptied}
+
+-- table k has no more rows than the limit; so many lent words have room for them
+abbrev pub FewRows : Scene → ℕ → Type 0
+FewRows t k = length (rows k t) ≤ rowLimit
+
+abbrev pub HasRoom : (ℕ → ℕ) → Scene → ℕ → Type 0
+HasRoom room t k = width k * length (rows k t) ≤ room k
+
+-- table p is the lowest of the ten of which P does not hold
+pub record Lowest (P : ℕ → Type 0) (p : ℕ) : Type 0 where
+  pub from : 1 ≤ p
+  pub to : p ≤ 10
+  pub fails : P p → ⊥
+  pub before : (k : ℕ) → 1 ≤ k → k < p → P k
 
 -- Demands 1 and 2 on the reader, for a file s and lent tables of `room` words.
 pub record Reading (room : ℕ → ℕ) (s : List ℕ) : Type 0 where
   -- accepted exactly when the file keeps the layout rules, and fits limits and tables
   pub keeps : (t : Scene) → read room s ≡ got t → parse s ≡ got t
-  pub few : (t : Scene) → read room s ≡ got t → All (λ k. length (rows k t) ≤ rowLimit) tables
-  pub fits : (t : Scene) → read room s ≡ got t → All (λ k. width k * length (rows k t) ≤ room k) tables
-  pub accepted : (t : Scene) → parse s ≡ got t → All (λ k. length (rows k t) ≤ rowLimit) tables → All (λ k. width k * length (rows k t) ≤ room k) tables → read room s ≡ got t
+  pub few : (t : Scene) → read room s ≡ got t → All (FewRows t) tables
+  pub fits : (t : Scene) → read room s ≡ got t → All (HasRoom room t) tables
+  pub accepted : (t : Scene) → parse s ≡ got t → All (FewRows t) tables → All (HasRoom room t) tables → read room s ≡ got t
   -- the tables then hold its own numbers, and the answer says how many rows
   pub holds : (t : Scene) → read room s ≡ got t → (k : ℕ) (xs : List ℕ) → readTable k room s xs ≡ over (table k t) xs
   pub says : (t : Scene) → read room s ≡ got t → readAnswer room s ≡ record { number = 0; place = 0; version = t .version; «n_texs» = t .slots; counts = counts t }
+  -- each of its names stands where the first two words of its row say
+  pub names : AllBytes s → (t : Scene) → read room s ≡ got t → All (λ k. All (NameAt s) (rows k t)) (1 ∷ 2 ∷ 3 ∷ [])
   -- a refusal has its number and place and changes no lent word
   pub untouched : (n p : ℕ) → read room s ≡ bad n p → (k : ℕ) (xs : List ℕ) → readTable k room s xs ≡ xs
   pub refuses : (n p : ℕ) → read room s ≡ bad n p → readAnswer room s ≡ record { number = n; place = p; version = 0; «n_texs» = 0; counts = replicate 10 0 }
   -- 1 to 10 come first, whatever is lent
   pub first : (n p : ℕ) → judge s ≡ bad n p → read room s ≡ bad n p
+  -- 10 and 11 name the lowest table
+  pub limit : (t : Scene) → parse s ≡ got t → (p : ℕ) → Lowest (FewRows t) p → read room s ≡ bad 10 p
+  pub short : (t : Scene) → judge s ≡ got t → (p : ℕ) → Lowest (HasRoom room t) p → read room s ≡ bad 11 p
 
 -- Demand 2 on the writer, for lent tables T with names in ns.
 pub record Writing (T : Lent) (ns : List ℕ) : Type 0 where
@@ -48,7 +67,8 @@ pub record Writing (T : Lent) (ns : List ℕ) : Type 0 where
   -- given room for a file that has them, they are written
   pub given-room : (s : List ℕ) → AllBytes s → Has s T ns → (b : List ℕ) × (write T ns (length s) ≡ got b)
 
--- two accepted files alike in version, texture slots, row counts and every table word but the places and lengths of names
+-- Two accepted files alike in what 01 calls a file's words: version, texture slots, row counts and every table word but the places and lengths
+-- of names. The rows are compared as lists, so the counts with them.
 pub record Alike (s v : List ℕ) : Type 0 where
   pub one : Scene
   pub other : Scene
@@ -68,6 +88,9 @@ pub record Clearing (s : List ℕ) : Type 0 where
   pub short : (t : Scene) → judge s ≡ got t → (room : ℕ) → room < length (copy t) → clear s room ≡ bad 11 (length (copy t))
   -- the copy is what the writer makes of the copy's words: those of the file with each name empty, wherever the names stand
   pub as-written : (t : Scene) → judge s ≡ got t → (T : Lent) (ns : List ℕ) → Has (copy t) T ns → (room : ℕ) → write T ns room ≡ clear s room
+  -- so of the file's own tables with each name empty, whatever bytes are lent for names
+  pub emptied-has : (t : Scene) → judge s ≡ got t → (ns : List ℕ) → Has (copy t) (emptied t) ns
+  pub emptied-written : (t : Scene) → judge s ≡ got t → (ns : List ℕ) (room : ℕ) → write (emptied t) ns room ≡ clear s room
   -- another file is refused as the reader refuses it
   pub first : (n p : ℕ) → judge s ≡ bad n p → (room : ℕ) → clear s room ≡ bad n p
   -- the copy is accepted, and reads back with all those words unchanged and each name empty
@@ -77,7 +100,7 @@ pub record Clearing (s : List ℕ) : Type 0 where
   pub slots : (t : Scene) (e : judge s ≡ got t) → (scene t e) .slots ≡ t .slots
   pub cells : (t : Scene) (e : judge s ≡ got t) → All (λ k. named unplaced k (rows k (scene t e)) ≡ named unnamed k (rows k t)) tables
   -- by the reader too, lent tables as long as for the file
-  pub read-back : (t : Scene) (e : judge s ≡ got t) (rooms : ℕ → ℕ) → All (λ k. width k * length (rows k t) ≤ rooms k) tables → read rooms (copy t) ≡ got (scene t e)
+  pub read-back : (t : Scene) (e : judge s ≡ got t) (rooms : ℕ → ℕ) → All (HasRoom rooms t) tables → read rooms (copy t) ≡ got (scene t e)
   pub bytes : (t : Scene) → judge s ≡ got t → AllBytes (copy t)
   -- cleared again, with any room, it gets the answer that the file gets, and gives its own bytes
   pub again : (t : Scene) → judge s ≡ got t → (room : ℕ) → clear (copy t) room ≡ clear s room

@@ -1,18 +1,18 @@
 -- Which file has which tables: the same words, name places aside, and the same names, compared by their bytes.
 use mathlib.Core.Path.{_≡_}
-use Prim.Native.Nat.{ℕ, _+_, _*_, _≤_}
+use Prim.Native.Nat.{ℕ, _+_, _-_, _*_, _≤_, _<_}
 use mathlib.Core.Option.{Option, none, some}
 use mathlib.Core.List.{List, [], map}
 use lib.ListN.{length, take, drop, getD}
 use lib.Dec.{leb}
 use Rattle.wire.specs.Test.{if}
 use Rattle.layout.specs.Out.{got}
-use Rattle.layout.proofs.Lists.{All}
-use Rattle.b3d_scene.specs.Answers.{judge}
+use Rattle.layout.specs.Lists.{All}
+use Rattle.b3d_scene.specs.Answers.{judge, readAnswer, readTable}
 use Rattle.b3d_scene.specs.Rebuild.{Lent, lentRows}
 use Rattle.b3d_scene.specs.Scene.{Scene}
-use Rattle.b3d_scene.specs.Tables.{width, rows, tables}
-use Rattle.b3d_scene.specs.Names.{named, unplaced}
+use Rattle.b3d_scene.specs.Tables.{width, rows, words, tables}
+use Rattle.b3d_scene.specs.Names.{named, unplaced, unnamed}
 
 -- the name of a row that begins with a place and a length, if it lies in the bytes that hold the names
 unfoldable pub nameOf : List ℕ → List ℕ → Option (List ℕ)
@@ -21,6 +21,12 @@ nameOf ns r = if (leb (getD r 0 0 + getD r 1 0) (length ns)) (some (take (getD r
 -- the names of the rows of table k: those of tables 1 to 3 have one
 unfoldable pub namesOf : List ℕ → ℕ → List (List ℕ) → List (Option (List ℕ))
 namesOf ns k rs = if (leb k 3) (map (nameOf ns) rs) []
+
+-- row r begins with the place and the length of a name in s: bytes without a zero, a zero behind them
+pub record NameAt (s r : List ℕ) : Type 0 where
+  pub inside : getD r 0 0 + getD r 1 0 < length s
+  pub no-zero : All (λ c. 0 < c) (take (getD r 1 0) (drop (getD r 0 0) s))
+  pub zero-behind : getD s (getD r 0 0 + getD r 1 0) 0 ≡ 0
 
 -- the file s is accepted, and has the lent tables with names in ns
 pub record Has (s : List ℕ) (T : Lent) (ns : List ℕ) : Type 0 where
@@ -32,3 +38,28 @@ pub record Has (s : List ℕ) (T : Lent) (ns : List ℕ) : Type 0 where
   pub slots : scene .slots ≡ T .slots
   pub cells : All (λ k. named unplaced k (rows k scene) ≡ named unplaced k (lentRows T k)) tables
   pub names : All (λ k. namesOf s k (rows k scene) ≡ namesOf ns k (lentRows T k)) tables
+
+-- what the reader leaves of the file s in tables that held xs, with its answer
+unfoldable pub filled : (ℕ → List ℕ) → List ℕ → Lent
+filled xs s =
+    let room : ℕ → ℕ = λ k. length (xs k) in
+    record {
+      version = (readAnswer room s) .version;
+      slots = (readAnswer room s) .«n_texs»;
+      count = λ k. getD ((readAnswer room s) .counts) (k - 1) 0;
+      words = λ k. readTable k room s (xs k);
+    }
+
+-- What 01 calls read back: by the reader, lent xs, at least the counted rows. The file b is accepted and fills just the tables T: the same
+-- words, name places aside, and the same names, by their bytes.
+pub record ReadBack (b : List ℕ) (T : Lent) (ns : List ℕ) (xs : ℕ → List ℕ) : Type 0 where
+  pub accepted : (readAnswer (λ k. length (xs k)) b) .number ≡ 0
+  pub version : (filled xs b) .version ≡ T .version
+  pub slots : (filled xs b) .slots ≡ T .slots
+  pub counts : All (λ k. (filled xs b) .count k ≡ T .count k) tables
+  pub cells : All (λ k. named unplaced k (lentRows (filled xs b) k) ≡ named unplaced k (lentRows T k)) tables
+  pub names : All (λ k. namesOf b k (lentRows (filled xs b) k) ≡ namesOf ns k (lentRows T k)) tables
+
+-- the tables of a scene with each name empty
+unfoldable pub emptied : Scene → Lent
+emptied t = record { version = t .version; slots = t .slots; count = λ k. length (rows k t); words = λ k. words (named unnamed k (rows k t)) }

@@ -1,3 +1,5 @@
 -- What the demands speak of.
 pub mod Having
 pub mod Demands
+pub mod Calls
+pub mod Private

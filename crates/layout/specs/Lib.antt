@@ -1,4 +1,5 @@
 -- The parts that formats are described with. A part is given a place and the bytes left there, and gives a value or a refusal.
+pub mod Lists
 pub mod Out
 pub mod Rules
 pub mod Parts

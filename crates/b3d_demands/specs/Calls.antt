@@ -1,0 +1,102 @@
+-- The demands in what a caller sees: number, place and size, and the lent words and bytes afterwards.
+use mathlib.Core.Logic.{_⊎_}
+use mathlib.Core.Path.{_≡_}
+use Prim.Native.Nat.{ℕ, _*_, _≤_, _<_}
+use mathlib.Core.List.{List}
+use lib.ListN.{length, take, drop}
+use Rattle.wire.specs.Bytes.{AllBytes}
+use Rattle.layout.specs.Lists.{All}
+use Rattle.layout.specs.Out.{got, bad}
+use Rattle.b3d_scene.specs.Answers.{judge, read, readTable, writeAnswer, copy, clearAnswer, clearOutput}
+use Rattle.b3d_scene.specs.Parse.{parse}
+use Rattle.b3d_scene.specs.Rebuild.{Lent}
+use Rattle.b3d_scene.specs.Scene.{Scene}
+use Rattle.b3d_scene.specs.Tables.{width, tables, counts}
+use Rattle.b3d_scene.specs.declared.Answer.{Answer}
+use Rattle.b3d_scene.specs.declared.Written.{Written}
+use Rattle.b3d_demands.specs.Having.{Has, ReadBack, filled, emptied}
+use Rattle.b3d_demands.specs.Demands.{FewRows, HasRoom, Lowest, Alike}
+
+-- ---- reader, for a file s and lent tables of `room` words
+
+pub record ReaderSays (room : ℕ → ℕ) (s : List ℕ) (a : Answer) : Type 0 where
+  -- 0 exactly when accepted, else 1 to 11
+  pub accepted : a .number ≡ 0 → (t : Scene) × (read room s ≡ got t)
+  pub zero : (t : Scene) → read room s ≡ got t → a .number ≡ 0
+  pub most : a .number ≤ 11
+  -- a refused call changes no lent word
+  pub untouched : (a .number ≡ 0 → ⊥) → (k : ℕ) (xs : List ℕ) → readTable k room s xs ≡ xs
+  -- 10: the file keeps the layout rules, and the place is the lowest table with more rows than the limit
+  pub ten : a .number ≡ 10 → (t : Scene) × (parse s ≡ got t) × Lowest (FewRows t) (a .place)
+  -- 11: no table has, and the place is the lowest that is lent too short
+  pub eleven : a .number ≡ 11 → (t : Scene) × (judge s ≡ got t) × Lowest (HasRoom room t) (a .place)
+
+-- ---- an answer, and the output afterwards
+
+pub record Leaves (out : List ℕ) (a : Written) (after : List ℕ) : Type 0 where
+  pub long : length after ≡ length out
+  -- a refused call changes no byte, and its size is 0
+  pub untouched : (a .number ≡ 0 → ⊥) → (after ≡ out) × (a .size ≡ 0)
+  -- else the bytes past the size stay as found
+  pub stay : a .number ≡ 0 → (a .size ≤ length out) × (drop (a .size) after ≡ drop (a .size) out)
+
+-- ---- writer, for tables T, names in ns, and an output
+
+pub record WriterSays (T : Lent) (ns out : List ℕ) (a : Written) (after : List ℕ) : Type 0 where
+  pub numbers : (a .number ≡ 0) ⊎ ((a .number ≡ 11) ⊎ (a .number ≡ 12))
+  pub leaves : Leaves out a after
+  -- 12 exactly when no accepted file has the tables
+  pub twelve : a .number ≡ 12 → (a .place ≡ 0) × ((s : List ℕ) → AllBytes s → Has s T ns → ⊥)
+  pub no-file : ((s : List ℕ) → AllBytes s → Has s T ns → ⊥) → a .number ≡ 12
+  -- 0: the output begins with a file that has the tables, and that reads back as them
+  pub zero : a .number ≡ 0 → (a .place ≡ 0) × AllBytes (take (a .size) after) × Has (take (a .size) after) T ns
+  pub read-back : a .number ≡ 0 → (xs : ℕ → List ℕ) → All (λ k. width k * T .count k ≤ length (xs k)) tables → ReadBack (take (a .size) after) T ns xs
+  -- 11: the place is the size of such a file, which the output has no room for
+  pub eleven : a .number ≡ 11 → (length out < a .place) × ((b : List ℕ) × (length b ≡ a .place) × AllBytes b × Has b T ns)
+  -- no file with those tables is shorter; given room for one, they are written
+  pub least : (s : List ℕ) → AllBytes s → Has s T ns → (a .size ≤ length s) × (a .place ≤ length s)
+  pub given-room : (s : List ℕ) → AllBytes s → Has s T ns → length s ≤ length out → a .number ≡ 0
+
+-- ---- clearer, for a file s and an output
+
+pub record ClearerSays (s out : List ℕ) (a : Written) (after : List ℕ) : Type 0 where
+  pub most : a .number ≤ 11
+  pub leaves : Leaves out a after
+  -- 0: the output begins with the copy of an accepted file, and it reads back with the file's words and each name empty
+  pub zero : a .number ≡ 0 → (a .place ≡ 0) × ((t : Scene) × (judge s ≡ got t) × (take (a .size) after ≡ copy t))
+  pub read-back : (t : Scene) → judge s ≡ got t → a .number ≡ 0 → (ns : List ℕ) (xs : ℕ → List ℕ) → All (HasRoom (λ k. length (xs k)) t) tables → ReadBack (take (a .size) after) (emptied t) ns xs
+  -- 11 exactly when the output is shorter than the copy; the place is the copy's length
+  pub eleven : a .number ≡ 11 → (t : Scene) × (judge s ≡ got t) × (length out < length (copy t)) × (a .place ≡ length (copy t))
+  pub short : (t : Scene) → judge s ≡ got t → length out < length (copy t) → a .number ≡ 11
+  pub enough : (t : Scene) → judge s ≡ got t → length (copy t) ≤ length out → a .number ≡ 0
+  -- another file gets its refusal, 1 to 10; 10 names the lowest table with more rows than the limit
+  pub first : (n p : ℕ) → judge s ≡ bad n p → a ≡ record { number = n; place = p; size = 0 }
+  pub ten : a .number ≡ 10 → (t : Scene) × (parse s ≡ got t) × Lowest (FewRows t) (a .place)
+  -- what 01 calls cleared again: the copy's bytes alone as the file, into another output as long. It gets the same answer, and where it is
+  -- not refused gives its own bytes
+  pub again : (t : Scene) → judge s ≡ got t → (out′ : List ℕ) → length out ≡ length out′ → clearAnswer (copy t) out′ ≡ a
+  pub again-bytes : (t : Scene) → judge s ≡ got t → (out′ : List ℕ) → length out ≡ length out′ → a .number ≡ 0 → take (a .size) (clearOutput (copy t) out′) ≡ copy t
+
+-- being alike, of accepted files: the row counts agree too, and it goes on from file to file
+pub record IsAlike (s v : List ℕ) (a : Alike s v) : Type 0 where
+  pub row-counts : counts (a .one) ≡ counts (a .other)
+  pub turned : Alike v s
+  pub goes-on : (w : List ℕ) → Alike v w → Alike s w
+
+-- the copy that clearing s has left in an output
+abbrev pub copyIn : List ℕ → List ℕ → List ℕ
+copyIn s out = take ((clearAnswer s out) .size) (clearOutput s out)
+
+-- Demand 3: two accepted files alike, each cleared into an output, the two of equal length, whatever stood in them. Both get the same number,
+-- place and size, and where they are not refused both outputs begin with the same copy.
+pub record OneCopy (s v out out′ : List ℕ) : Type 0 where
+  pub answer : clearAnswer s out ≡ clearAnswer v out′
+  pub bytes : (clearAnswer s out) .number ≡ 0 → copyIn s out ≡ copyIn v out′
+
+-- ---- read, then written
+
+-- what the reader fills of an accepted file s: s has it, with its own bytes for the names; so it is written, in no more bytes than s has
+pub record Rewritten (xs : ℕ → List ℕ) (s out : List ℕ) : Type 0 where
+  pub has : Has s (filled xs s) s
+  pub written : length s ≤ length out → (writeAnswer (filled xs s) s out) .number ≡ 0
+  pub smaller : (writeAnswer (filled xs s) s out) .size ≤ length s
