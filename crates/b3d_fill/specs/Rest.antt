@@ -9,7 +9,7 @@ use Rattle.layout.specs.Out.{Out}
 use Rattle.b3d_scene.specs.Rules.{levels}
 use Rattle.b3d_scene.specs.Scene.{Brush, Forest}
 use Rattle.b3d_scene.specs.Tables.{start, withForest}
-use Rattle.b3d_scene.proofs.Fitting.{FitNodes}
+use Rattle.b3d_scene.specs.Fitting.{FitNodes}
 use Rattle.b3d_rows.specs.Puts.{Ready}
 use Rattle.b3d_fill_own.specs.Own.{Small}
 use Rattle.b3d_fill.specs.Found.{brushRows, nodeRows}

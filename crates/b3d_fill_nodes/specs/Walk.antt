@@ -14,7 +14,7 @@ use Rattle.b3d_scene.specs.Scene.{Data, Forest, leaf, node}
 use Rattle.b3d_scene.specs.Rules.{bonesBelow}
 use Rattle.b3d_scene.specs.Parse.{Inner}
 use Rattle.b3d_scene.specs.Tables.{width, reached, ownRows, withNode, withForest, forestRows, words}
-use Rattle.b3d_scene.proofs.Fitting.{FitNodes}
+use Rattle.b3d_scene.specs.Fitting.{FitNodes}
 use Rattle.b3d_judge.specs.States.{reached as after, restIn}
 use Rattle.b3d_judge.specs.Answers.{Among, aboveOf}
 use Rattle.b3d_fill_own.specs.Own.{Small}

@@ -5,7 +5,7 @@ use mathlib.Core.Option.{none}
 use mathlib.Core.List.{List, [], map}
 use lib.ListN.{length}
 use Rattle.layout.specs.Rules.{NONE}
-use Rattle.layout.proofs.Lists.{All}
+use Rattle.layout.specs.Lists.{All}
 use Rattle.emit.specs.Writing.{Room, Put}
 use Rattle.b3d_scene.specs.Encode.{nodeChunks, textureChunks, brushChunks}
 use Rattle.b3d_scene.specs.Rebuild.{Rows, textureFrom, brushFrom, nodeNames}
@@ -13,8 +13,7 @@ use Rattle.b3d_scene.specs.Rules.{levels}
 use Rattle.b3d_scene.specs.Scene.{Forest, Scene}
 use Rattle.b3d_scene.specs.Tables.{start, forestRows, nodeTables}
 use Rattle.b3d_scene.specs.Tags.{writeChunks}
-use Rattle.b3d_scene.proofs.Fitting.{FitNodes, OneRoot}
-use Rattle.b3d_scene.proofs.Rows.RowParts.{Stands}
+use Rattle.b3d_scene.specs.Fitting.{FitNodes, OneRoot, Stands}
 use Rattle.b3d_put.specs.Lent.{rowsIn}
 use Rattle.b3d_put_lists.specs.Named.{NamesThere}
 

@@ -4,7 +4,7 @@ use Prim.Native.Nat.{ℕ, _*_, _<_, _≤_}
 use mathlib.Core.Option.{Option}
 use mathlib.Core.List.{List, [], _++_}
 use lib.ListN.{length}
-use Rattle.layout.proofs.Lists.{All}
+use Rattle.layout.specs.Lists.{All}
 use Rattle.emit.specs.Writing.{Room, Put}
 use Rattle.b3d_scene.specs.declared.Counts.{Counts}
 use Rattle.b3d_scene.specs.Encode.{nodeChunks, writeNode}
@@ -12,9 +12,8 @@ use Rattle.b3d_scene.specs.Rebuild.{Rows, nodeNames}
 use Rattle.b3d_scene.specs.Scene.{Data, Forest, leaf, node}
 use Rattle.b3d_scene.specs.Tables.{reached, withNode, withForest, forestRows, nodeTables}
 use Rattle.b3d_scene.specs.Tags.{writeChunks}
-use Rattle.b3d_scene.proofs.Fitting.{FitNodes}
-use Rattle.b3d_scene.proofs.Rows.RowParts.{Stands}
-use Rattle.b3d_sound.proofs.Below.{Here}
+use Rattle.b3d_scene.specs.Fitting.{FitNodes, Stands}
+use Rattle.b3d_sound.specs.Below.{Here}
 
 -- ---- bytes
 

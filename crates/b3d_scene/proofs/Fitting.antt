@@ -1,81 +1,14 @@
--- Which scenes a file can hold: the test of specs/Fit as statements, and that it says just that.
-use mathlib.Core.Path.{_≡_}
-use Prim.Native.Nat.{ℕ, zero, suc, _<_}
+-- The test of specs/Fit says what the statements of specs/Fitting say.
+use Prim.Native.Nat.{ℕ, zero, suc}
 use mathlib.Core.Option.{Option, none}
 use mathlib.Core.List.{List, [], _∷_}
 use lib.ListN.{length}
-use Rattle.layout.proofs.Fitting.{Fits, FitText, row-is, rows-is, text-is}
-use Rattle.layout.proofs.Lists.{All}
+use Rattle.layout.proofs.Fitting.{row-is, rows-is, text-is}
 use Rattle.b3d_scene.specs.Fit.{textureFits, brushFits, trianglesFit, meshFits, keysFit, kindFits, animFits, dataFits, nodesFit, oneRoot, slotsFit, fits}
+pub use Rattle.b3d_scene.specs.Fitting.{FitTexture, FitBrush, FitTriangles, FitMesh, FitKeys, FitKind, FitAnim, FitData, FitNodes, OneRoot, FitSlots, Fit}
 use Rattle.b3d_scene.specs.Rules.{textureRow, brushRow, brushIds, nodeRow, vertexRow, triangleRow, weightRow, keyRow, animRow, boneVertices, bonesBelow, levels, fileHead, brushesHead, meshHead, verticesHead, trianglesHead, keysHead}
 use Rattle.b3d_scene.specs.Scene.{Texture, Brush, TriangleSet, Mesh, Kind, pivot, mesh, bone, Keys, Anim, still, anim, Data, Forest, leaf, node, Scene}
 use Rattle.layout.proofs.Testing.{Tests, both, via, yes-is, no-is, eq-is, lt-is, all-is}
-
-abbrev pub FitTexture : Texture → Type 0
-FitTexture t = FitText (t .name .bytes) × Fits textureRow (t .words)
-
--- a brush of so many slots beside so many textures
-abbrev pub FitBrush : ℕ → ℕ → Brush → Type 0
-FitBrush slots textures b = FitText (b .name .bytes) × Fits brushRow (b .words) × Fits (brushIds slots textures) (b .ids)
-
-abbrev pub FitTriangles : ℕ → ℕ → TriangleSet → Type 0
-FitTriangles brushes vertices x = Fits (trianglesHead brushes) (x .brush ∷ []) × All (Fits (triangleRow vertices)) (x .triangles)
-
-pub record FitMesh (brushes : ℕ) (m : Mesh) : Type 0 where
-  pub brush : Fits (meshHead brushes) (m .brush ∷ [])
-  pub head : Fits verticesHead (m .flags ∷ m .sets ∷ m .size ∷ [])
-  pub vertices : All (Fits (vertexRow (m .flags) (m .sets) (m .size))) (m .vertices)
-  pub triangles : All (FitTriangles brushes (length (m .vertices))) (m .triangleSets)
-  pub some-set : 0 < length (m .triangleSets)
-
-abbrev pub FitKeys : Keys → Type 0
-FitKeys k = Fits keysHead (k .flags ∷ []) × All (Fits (keyRow (k .flags))) (k .items)
-
--- the kind of a node whose bones may name so many vertices
-abbrev pub FitKind : ℕ → ℕ → Kind → Type 0
-FitKind brushes vertices pivot = Unit {0}
-FitKind brushes vertices (mesh m) = FitMesh brushes m
-FitKind brushes vertices (bone ws) = All (Fits (weightRow vertices)) ws
-
-abbrev pub FitAnim : Anim → Type 0
-FitAnim still = Unit {0}
-FitAnim (anim ws) = Fits animRow ws
-
-pub record FitData (brushes vertices : ℕ) (d : Data) : Type 0 where
-  pub name : FitText (d .name .bytes)
-  pub words : Fits nodeRow (d .words)
-  pub kind : FitKind brushes vertices (d .kind)
-  pub keys : All FitKeys (d .keys)
-  pub anim : FitAnim (d .anim)
-
--- nodes with so many levels left
-abbrev pub FitNodes : ℕ → ℕ → Option ℕ → Forest → Type 0
-FitNodes zero brushes above leaf = Unit {0}
-FitNodes zero brushes above (node d f g) = ⊥
-FitNodes (suc l) brushes above leaf = Unit {0}
-FitNodes (suc l) brushes above (node d f g) =
-    FitData brushes (boneVertices above) d × FitNodes l brushes (bonesBelow above d) f × FitNodes (suc l) brushes above g
-
--- at most one root
-abbrev pub OneRoot : Forest → Type 0
-OneRoot leaf = Unit {0}
-OneRoot (node d f leaf) = Unit {0}
-OneRoot (node d f (node e g h)) = ⊥
-
--- no slots where there is no brush
-abbrev pub FitSlots : ℕ → List Brush → Type 0
-FitSlots n [] = n ≡ 0
-FitSlots n (b ∷ l) = Fits brushesHead (n ∷ [])
-
-pub record Fit (t : Scene) : Type 0 where
-  pub version : Fits fileHead (t .version ∷ [])
-  pub textures : All FitTexture (t .textures)
-  pub slots : FitSlots (t .slots) (t .brushes)
-  pub brushes : All (FitBrush (t .slots) (length (t .textures))) (t .brushes)
-  pub nodes : FitNodes levels (length (t .brushes)) none (t .nodes)
-  pub root : OneRoot (t .nodes)
-
--- ---- the test says what `Fit` says
 
 texture-is : (x : Texture) → Tests (textureFits x) (FitTexture x)
 texture-is x = both (text-is (x .name .bytes)) (row-is textureRow (x .words))

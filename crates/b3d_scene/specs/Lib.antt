@@ -6,6 +6,7 @@ pub mod Parse
 pub mod Encode
 pub mod Names
 pub mod Fit
+pub mod Fitting
 pub mod Mask
 pub mod Tables
 pub mod Rebuild

@@ -1,4 +1,5 @@
 -- Back from tables to the scene: put together without a look at what must agree, then held to the rules and to the tables it would have.
+use mathlib.Core.Path.{_≡_}
 use Prim.Native.Nat.{ℕ, zero, suc, _+_, _*_}
 use mathlib.Core.Bool.{Bool, true, false, _&&_}
 use mathlib.Core.Option.{Option, none, some}
@@ -12,7 +13,7 @@ use Rattle.b3d_scene.specs.Fit.{fits}
 use Rattle.b3d_scene.specs.Mask.{squeeze, vertexMask, keyMask}
 use Rattle.b3d_scene.specs.Rules.{rowLimit}
 use Rattle.b3d_scene.specs.Scene.{Texture, Brush, TriangleSet, Mesh, Kind, pivot, mesh, bone, Keys, Anim, still, anim, Data, Forest, leaf, node, Scene}
-use Rattle.b3d_scene.specs.Tables.{width, start, withNode, rows, tables}
+use Rattle.b3d_scene.specs.Tables.{width, start, reached, withNode, rows, tables}
 use Rattle.b3d_scene.specs.declared.Counts.{Counts}
 
 -- what the writer is lent: row counts and words by table number; the words may go on past the counted rows
@@ -79,6 +80,10 @@ animFrom x = if (eqb (getD x 0 0) 1) (anim (drop 1 x)) still
 -- the rows of each table, by its number
 abbrev pub Rows : Type 0
 Rows = ℕ → List (List ℕ)
+
+-- table k goes on, after n rows, with S k
+abbrev pub From : Rows → Counts → Rows → ℕ → Type 0
+From R n S k = drop (reached k n) (R k) ≡ S k
 
 -- kind and count as the node's row has them, when n rows came before
 unfoldable pub kindFrom : Rows → Counts → ℕ → ℕ → Kind

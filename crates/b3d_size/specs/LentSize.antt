@@ -5,7 +5,7 @@ use mathlib.Core.List.{List, [], _∷_}
 use lib.ListN.{length, getD}
 use lib.Dec.{eqb}
 use Rattle.wire.specs.Test.{if}
-use Rattle.layout.proofs.Lists.{All}
+use Rattle.layout.specs.Lists.{All}
 use Rattle.b3d_scene.specs.declared.Counts.{Counts}
 use Rattle.b3d_scene.specs.Rebuild.{Lent, cut, lentRows}
 use Rattle.b3d_scene.specs.Rules.{vertexWords, keyWords, rowLimit}

@@ -4,7 +4,7 @@ ghost use Prim.Native.Nat.{ℕ, _+_, _*_, _<_, _≤_};
 ghost use lib.ListN.{length, take, drop};
 ghost use lib.Dec.{eqb};
 ghost use Rattle.wire.specs.Test.{if};
-ghost use Rattle.layout.proofs.Lists.{All};
+ghost use Rattle.layout.specs.Lists.{All};
 ghost use Rattle.b3d_scene.specs.Rebuild.{cut};
 ghost use Rattle.b3d_scene.specs.Rules.{rowLimit, vertexWords, keyWords};
 ghost use Rattle.b3d_size.specs.LentSize.{around, listsBytes, nodesBytes, fileBytes, NodesSizable, Sums, nodeBytes, meshBytes, listBytes, rowBytes, rowsBytes, Sizable, Wide, Adds};

@@ -18,26 +18,11 @@ use Rattle.b3d_scene.proofs.Rows.CountLaws.{Rise, rises}
 use Rattle.b3d_scene.proofs.Rows.Nodes.{nodes-step, From, data-back}
 use Rattle.b3d_scene.proofs.Rows.RowParts.{Stands, Others, mine-back}
 use Rattle.b3d_scene.proofs.Rows.Trees.{nodes-rise, from-after}
+pub use Rattle.b3d_sound.specs.Below.{Above, Later, Here}
 use Rattle.b3d_sound.specs.CellCounts.{cellCounts}
 use Rattle.b3d_sound.proofs.Check.Nodes.{NodeIs}
 use Rattle.b3d_sound.proofs.Check.Counts.{cell-counts}
 use Rattle.b3d_sound.proofs.Check.Walk.{at-start, next-from}
-
--- the parent cell of the first of these node rows is not i or any later node
-abbrev pub Above : ℕ → List (List ℕ) → Type 0
-Above i [] = Unit {0}
-Above i (x ∷ xs) = (getD x 2 0 < i) ⊎ (getD x 2 0 ≡ NONE)
-
--- the first of these key lists is one of node i or of a later one
-abbrev pub Later : ℕ → List (List ℕ) → Type 0
-Later i [] = Unit {0}
-Later i (x ∷ xs) = i ≤ getD x 0 0
-
--- after n rows, table k goes on with the rows of t under p and then with S k; the first node there is not under p, the first key list not one of t
-pub record Here (R : Rows) (t : Forest) (p : ℕ) (n : Counts) (S : Rows) : Type 0 where
-  pub begins : All (From R n (λ k. forestRows k t p n ++ S k)) nodeTables
-  pub above : Above p (S 3)
-  pub later : Later ((withForest t n) .nodes) (S 9)
 
 -- what follows the own rows of a node
 abbrev pub afterOwn : Data → Forest → Forest → ℕ → Counts → Rows → Rows

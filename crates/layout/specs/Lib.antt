@@ -6,3 +6,4 @@ pub mod Parts
 pub mod Chunks
 pub mod Write
 pub mod Fit
+pub mod Fitting

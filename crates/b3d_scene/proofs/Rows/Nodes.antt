@@ -8,6 +8,7 @@ use lib.ListN.{length, drop, getD}
 use lib.Seq.{take-append-seam, take-at, drop-at}
 use Rattle.wire.specs.Test.{if}
 use Rattle.layout.proofs.Lists.{All, all-map}
+pub use Rattle.b3d_scene.specs.Rebuild.{From}
 use Rattle.b3d_scene.specs.Rebuild.{Rows, nameFrom, mine, keysFrom, animFrom, kindFrom, dataFrom}
 use Rattle.b3d_scene.specs.Scene.{Mesh, Kind, pivot, mesh, bone, Data}
 use Rattle.b3d_scene.specs.Tables.{width, reached, nodeTables, meshesOf, weightsOf, nameCells, kindCells, animCells, nodeRow, meshRow, listRows, keyRows, meshRows, ownRows, withMeshes, withNode}
@@ -92,10 +93,6 @@ unfolding withNode
 nodes-step d n = omega (arith, added (meshesOf (d .kind)) n .nodes)
 
 -- ---- back
-
--- table k goes on, after n rows, with S k
-abbrev pub From : Rows → Counts → Rows → ℕ → Type 0
-From R n S k = drop (reached k n) (R k) ≡ S k
 
 kind-back : (b c : ℕ) (R S : Rows) (n : Counts) (k : Kind) → FitKind b c k
     → drop (n .meshes) (R 4) ≡ meshRows 4 (meshesOf k) n ++ S 4 → drop (n .vertices) (R 5) ≡ meshRows 5 (meshesOf k) n ++ S 5

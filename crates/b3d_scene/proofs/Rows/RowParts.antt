@@ -9,10 +9,10 @@ use lib.Seq.{take-append-seam, drop-append-seam, take-at, drop-at}
 use lib.Dec.{eqb, eqb-refl}
 use mir.Facts.{no-eqb}
 use Rattle.wire.specs.Test.{if}
-use Rattle.layout.specs.Parts.{Name}
 use Rattle.layout.specs.Rules.{NONE}
 use Rattle.layout.proofs.Lists.{All, all-pure, all-map, all-append, all-of-map, map-back}
 use Rattle.layout.proofs.Outs.{if-yes, if-no}
+pub use Rattle.b3d_scene.specs.Fitting.{Stands}
 use Rattle.b3d_scene.specs.Mask.{mask, spread, squeeze, vertexMask, vertexHas, keyMask, keyHas}
 use Rattle.b3d_scene.specs.Rebuild.{nameFrom, textureFrom, brushFrom, setsFrom, meshFrom, mine, keysFrom, animFrom}
 use Rattle.b3d_scene.specs.Scene.{Texture, Brush, TriangleSet, Mesh, Kind, pivot, mesh, bone, Keys, Anim, still, anim, Data}
@@ -28,10 +28,6 @@ use Rattle.b3d_scene.specs.Rules.{vertexRow, keyRow, triangleRow as tria
 -- a row of w words
 abbrev pub Wide : ℕ → List ℕ → Type 0
 Wide w r = length r ≡ w
-
--- the name's bytes are in ns at its place
-abbrev pub Stands : List ℕ → Name → Type 0
-Stands ns x = (x .place + length (x .bytes) ≤ length ns) × (take (length (x .bytes)) (drop (x .place) ns) ≡ x .bytes)
 
 -- ---- textures and brushes
 
