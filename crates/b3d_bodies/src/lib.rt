@@ -32,6 +32,7 @@ pub struct Tally {
     pub copy: usize,
 }
 
+// What a body adds, or a refusal with its place.
 pub enum Judged {
     Good(Tally),
     Bad(u32, usize),
@@ -49,6 +50,7 @@ pub enum Slotted {
     Not(u32, usize),
 }
 
+// A KEYS: its flags, then keys to the end.
 pub fn judge_keys(s: &[u8], at: usize, body: Cursor) -> Judged
     requires { ⌜ Body at body (length (now s)) ⌝ }
     ensures { λ r. ⌜ Judges listTally (readKeys at (left body (now (s .entry)))) at (body .end) r ⌝ }
@@ -79,6 +81,7 @@ pub fn judge_bone(s: &[u8], at: usize, body: Cursor, vertices: usize) -> Judged
     }
 }
 
+// A VRTS: its flags, sets and set size, then vertices to the end.
 pub fn judge_vertices(s: &[u8], at: usize, body: Cursor) -> Shaped
     requires { ⌜ Body at body (length (now s)) ⌝ }
     ensures { λ r. ⌜ Shapes (readVertices at (left body (now (s .entry)))) body r ⌝ }
@@ -137,6 +140,7 @@ pub fn judge_triangles(s: &[u8], at: usize, body: Cursor, brushes: usize, vertic
     }
 }
 
+// A TEXS: textures to the end.
 pub fn judge_textures(s: &[u8], at: usize, body: Cursor) -> Judged
     requires { ⌜ Body at body (length (now s)) ⌝ }
     ensures { λ r. ⌜ Judges texsTally (readTextures at (left body (now (s .entry)))) at (body .end) r ⌝ }

@@ -5,6 +5,7 @@ ghost use Rattle.b3d_scene.specs.Rules.{mostBytes};
 ghost use Rattle.b3d_bodies.specs.Tally.{noTally, bytesTally, headTally, verticesTally, trianglesTally, weightsTally, keysTally, plus, Within, texsOf, brusOf};
 use crate::Tally;
 
+// Nothing.
 pub fn none() -> Tally
     ensures { λ r. ⌜ r ≡ noTally ⌝ }
 {
@@ -82,6 +83,7 @@ pub fn vertices(n: usize, words: usize) -> Tally
     t
 }
 
+// A TRIS of so many triangles.
 pub fn triangles(n: usize) -> Tally
     requires { ⌜ n ≤ mostBytes ⌝ }
     ensures { λ r. ⌜ r ≡ trianglesTally n ⌝ }
@@ -93,6 +95,7 @@ pub fn triangles(n: usize) -> Tally
     t
 }
 
+// A BONE of so many weights.
 pub fn weights(n: usize) -> Tally
     requires { ⌜ n ≤ mostBytes ⌝ }
     ensures { λ r. ⌜ r ≡ weightsTally n ⌝ }
@@ -103,6 +106,7 @@ pub fn weights(n: usize) -> Tally
     t
 }
 
+// A KEYS of so many keys, each of so many words.
 pub fn keys(n: usize, words: usize) -> Tally
     requires { ⌜ (n ≤ mostBytes) × (words ≤ 11) ⌝ }
     ensures { λ r. ⌜ r ≡ keysTally n words ⌝ }

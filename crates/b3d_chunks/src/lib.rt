@@ -13,6 +13,7 @@ use wire::Cursor;
 use wire::Header;
 use wire::Text;
 
+// A known tag, or another.
 pub enum Tagged {
     Known(Tag),
     Other,

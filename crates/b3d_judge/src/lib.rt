@@ -50,12 +50,14 @@ pub enum Brushed {
     Not(u32, usize),
 }
 
+// What is answered of a file that keeps the layout rules, and the size of its cleared copy.
 pub struct Summary {
     pub version: u32,
     pub n_texs: u32,
     pub tally: Tally,
 }
 
+// A file without the faults 1 to 10, or its refusal and the place.
 pub enum Verdict {
     Good(Summary),
     Bad(u32, usize),

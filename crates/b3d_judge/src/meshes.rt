@@ -107,6 +107,7 @@ fn judge_inside(s: &[u8], at: usize, from: Cursor, brushes: usize) -> Meshed
     }
 }
 
+// A MESH: its brush id, then the chunks inside it.
 pub fn judge_mesh(s: &[u8], at: usize, body: Cursor, brushes: usize) -> Meshed
     requires { ⌜ Body at body (length (now s)) ⌝ }
     ensures { λ r. ⌜ Meshes (readMesh brushes at (left body (now (s .entry)))) at (body .end) r ⌝ }

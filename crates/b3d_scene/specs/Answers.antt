@@ -70,7 +70,7 @@ roomFor room b = do
   _ ← check (leb (length b) room) 11 (length b)
   got b
 
--- the shortest file of the scene of sound tables, if it is not too long
+-- the shortest file of the scene of sound tables; 12, what 01 calls unsound, where there is none or it is too long
 unfoldable pub shortest : Option Scene → Out (List ℕ)
 shortest none = bad 12 0
 shortest (some t) = do

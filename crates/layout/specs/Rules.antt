@@ -3,7 +3,7 @@ use Prim.Native.Nat.{ℕ}
 use mathlib.Core.Bool.{Bool, true, _||_}
 use lib.Dec.{leb, ltb, eqb}
 
--- -1 by its bits
+-- -1 by its bits: what 01 calls NONE
 abbrev pub NONE : ℕ
 NONE = 0xFFFFFFFF
 
