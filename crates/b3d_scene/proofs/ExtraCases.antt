@@ -103,10 +103,10 @@ full-cleared = refl
 abbrev one : List ℕ
 one = aMesh (zeros 3) []
 
--- nodes one in the other
-deep : ℕ → List ℕ
-deep zero = []
-deep (suc n) = aNode [] (deep n)
+-- so many nodes one in the other, and this in the last
+deep : ℕ → List ℕ → List ℕ
+deep zero b = b
+deep (suc n) b = aNode [] (deep n b)
 
 pub refusals : List (List ℕ × Out Scene)
 refusals =
@@ -127,7 +127,17 @@ refusals =
     ∷ (file (aNode [] (one ++ aNode [] (part BONE (ws (1 ∷ 0 ∷ []))))), bad 7 174)
     ∷ (file (aNode [] (aMesh [] [] ++ aNode [] (one ++ aNode [] (part BONE (zeros 8))))), bad 7 267)
     -- the 17th level
-    ∷ (file (deep 17), bad 9 796)
+    ∷ (file (deep 17 []), bad 9 796)
+    -- at a header 3, 4, 9: a second TEXS whose length passes the end; a NODE in a MESH at the 16th level; a 17th level whose length passes the end
+    ∷ (file (part TEXS [] ++ ws (code TEXS ∷ 9 ∷ [])), bad 3 20)
+    ∷ (file (deep 16 (part MESH (ws (NONE ∷ []) ++ part NODE []))), bad 4 808)
+    ∷ (file (deep 16 (ws (code NODE ∷ 1 ∷ []))), bad 3 796)
+    -- in reading order: a brush id that names nothing, then a MESH without VRTS; a cut KEYS, then a flag out of range
+    ∷ (file (aNode [] (part MESH (ws (0 ∷ [])))), bad 7 69)
+    ∷ (file (aNode [] (part KEYS (1 ∷ []) ++ part KEYS (ws (8 ∷ [])))), bad 5 69)
+    -- 9 sets; a set size of 5
+    ∷ (file (aNode [] (part MESH (ws (NONE ∷ []) ++ part VRTS (ws (0 ∷ 9 ∷ 0 ∷ []))))), bad 6 85)
+    ∷ (file (aNode [] (part MESH (ws (NONE ∷ []) ++ part VRTS (ws (0 ∷ 0 ∷ 5 ∷ []))))), bad 6 89)
     ∷ []
 
 pub refused : map (λ (c : List ℕ × Out Scene). judge (c .0)) refusals ≡ map (λ (c : List ℕ × Out Scene). c .1) refusals
