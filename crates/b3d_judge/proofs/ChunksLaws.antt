@@ -1,28 +1,24 @@
 -- A law for each way through `judge_last`, `judge_rest`, `file_rows` and `judge_chunks`.
 use mathlib.Core.Path.{_≡_, refl, ap, ap₂, sym, subst, _∙_}
-use Prim.Native.Nat.{ℕ, zero, suc, _+_, _-_, _≤_}
+use Prim.Native.Nat.{ℕ, zero, suc, _-_, _≤_}
 use native.Mathlib.Omega.{arith}
 use mathlib.Core.Bool.{true}
 use mathlib.Core.Option.{none}
-use mathlib.Core.List.{List, [], _∷_}
+use mathlib.Core.List.{List, []}
 use lib.ListN.{length}
 use Rattle.wire.specs.Test.{if}
-use Rattle.wire.specs.Cursors.{Inside, left}
+use Rattle.wire.specs.Cursors.{Inside}
 use Rattle.wire.specs.declared.Cursor.{Cursor}
 use Rattle.layout.specs.Out.{Out, got, bad, _>>=_}
-use Rattle.layout.specs.Chunks.{done, stop, chunk, ended}
+use Rattle.layout.specs.Chunks.{ended}
 use Rattle.layout.proofs.Outs.{got-inj}
 use Rattle.b3d_scene.specs.declared.Tag.{Tag}
 use Rattle.b3d_scene.specs.declared.Tag.the-variants.{BB3D, TEXS, BRUS, NODE, MESH, VRTS, TRIS, BONE, KEYS, ANIM}
 use Rattle.b3d_scene.specs.Tags.{Chunks, Found}
 use Rattle.b3d_scene.specs.Scene.{Texture, Brush, Forest, leaf, Scene}
 use Rattle.b3d_scene.specs.Rules.{mostBytes}
-use Rattle.b3d_scene.specs.Nesting.{nesting, Reached, start, next as nextTurn, onward, order}
+use Rattle.b3d_scene.specs.Nesting.{nesting, start, next as nextTurn}
 use Rattle.b3d_scene.specs.Parse.{readOne, readTextures, readBrushes, readRoot, slotsOf}
-use Rattle.b3d_chunks.specs.Chunks.{NextIs}
-use Rattle.b3d_chunks.specs.declared.Next.{Next}
-use Rattle.b3d_chunks.specs.declared.Next.the-variants as next
-use Rattle.b3d_chunks.proofs.Nexts.{chunk-among, cut-before}
 use Rattle.b3d_bodies.specs.Tally.{bytesTally, texsOf, brusOf, noTally, texsTally, brusTally, forestTally, sceneTally, plus, Within}
 use Rattle.b3d_bodies.specs.Answers.{judged, JudgedIn, Judges, SlottedIn}
 use Rattle.b3d_bodies.specs.declared.Slotted.{Slotted}
@@ -31,18 +27,23 @@ use Rattle.b3d_bodies.specs.declared.Tally.{Tally}
 use Rattle.b3d_bodies.specs.declared.Judged.{Judged}
 use Rattle.b3d_bodies.specs.declared.Judged.the-variants as judge
 use Rattle.b3d_bodies.proofs.Tallies.{plus-assoc, within-more, within-plus, within-bytes}
+use Rattle.b3d_turns.specs.declared.Reached.{Reached as State}
+use Rattle.b3d_turns.specs.declared.Enclosed.{Enclosed}
+use Rattle.b3d_turns.specs.declared.Enclosed.the-variants as enclosed
+use Rattle.b3d_turns.specs.Steps.{EnclosedIs}
+use Rattle.b3d_turns.proofs.Stepping.{step-turn, stop-before}
 use Rattle.b3d_judge.specs.States.{reached, restIn, readLast, readRest, readChunks}
-use Rattle.b3d_judge.specs.Answers.{Among, Onward, tallied, PhasedIn, Phases, brushes, brushedBy, BrushedIn, Brushes, rested, Rests, walked, WalkedIn, Walks}
+use Rattle.b3d_judge.specs.Answers.{Among, Onward, PhasedIn, Phases, brushes, brushedBy, BrushedIn, Brushes, rested, Rests, walked, Walks}
 use Rattle.b3d_judge.specs.declared.Phase.{Phase}
 use Rattle.b3d_judge.specs.declared.Phase.the-variants as phase
 use Rattle.b3d_judge.specs.declared.Brushed.{Brushed}
 use Rattle.b3d_judge.specs.declared.Brushed.the-variants as brushed
-use Rattle.b3d_judge.specs.declared.Summary.{Summary}
 use Rattle.b3d_judge.specs.declared.Verdict.{Verdict}
 use Rattle.b3d_judge.specs.declared.Verdict.the-variants as verdict
-use Rattle.b3d_judge.proofs.Answered.{Gave, judged-bad, judged-good}
+use Rattle.b3d_judge.proofs.Answered.{judged-bad, judged-good}
 use Rattle.b3d_judge.proofs.OwnLaws.{tallied-bad, GaveFound, tallied-good, phases-at}
-use Rattle.b3d_judge.proofs.Rests.{rest-chunk, rest-cut, rest-done}
+use Rattle.b3d_judge.proofs.Rests.{rest-stop, rest-end}
+use Rattle.b3d_judge.proofs.TagTests.{never}
 
 -- ---- what the answers say
 
@@ -131,6 +132,9 @@ module _ (s : List ℕ) (from : Cursor) (g : Among 0 from (length s)) (count : �
     pub last-inside : Inside end (length s)
     last-inside = let o = on in record { before = o .room; within = omega (arith, g .within, o .same) }
 
+    pub last-head : 0 ≤ end .at
+    last-head = omega arith
+
     gave : GaveFound forestTally (readOne NODE leaf (readRoot count) (restIn s BB3D 0 (reached 2 true) from)) f (restIn s BB3D 0 (reached 3 true) end)
     gave = tallied-good forestTally (readOne NODE leaf (readRoot count) (restIn s BB3D 0 (reached 2 true) from)) f (restIn s BB3D 0 (reached 3 true) end) (phases-at forestTally (readOne NODE leaf (readRoot count) (restIn s BB3D 0 (reached 2 true) from)) (restIn s BB3D 0 (reached 3 true)) from i hi w)
 
@@ -138,28 +142,28 @@ module _ (s : List ℕ) (from : Cursor) (g : Among 0 from (length s)) (count : �
     unfolding readLast
     last-read = ap (λ (o : Out (Found Forest)). o >>= λ n. ended (n .rest) (n .value)) (gave .is)
 
-    module _ (r : Next) (x : NextIs s end r) where
-      pub last-cut : (p : ℕ) → r ≡ next.Cut p → Last (judge.Bad 3 p)
+    module _ (r : Enclosed) (x : EnclosedIs s BB3D 0 (record { turn = 3; spent = true }) end r) where
+      pub last-stop : (e p : ℕ) → r ≡ enclosed.Not e p → Last (judge.Bad e p)
       unfolding ended
-      last-cut p q = record { is = rw (last-read, rest-cut s end r x BB3D 0 (reached 3 true) p q); within = let le = cut-before s end r x p q in let o = on in omega (arith, o .same) }
-
-      pub last-more : (t : Tag) (p : ℕ) (b n : Cursor) → r ≡ next.Chunk t p b n → Last (judge.Bad 4 p)
-      unfolding ended onward
-      last-more t p b n q = record {
-        is = rw (last-read, rest-chunk s end r x BB3D 0 (reached 3 true) t p b n q, file-next t);
-        within = let h = chunk-among s end r x t p b n q in let o = on in omega (arith, o .same);
+      last-stop e p q = record {
+        is = rw (last-read, rest-stop s BB3D 0 (record { turn = 3; spent = true }) end r x e p q);
+        within = let le = stop-before s BB3D 0 (record { turn = 3; spent = true }) end r x e p q in let o = on in omega (arith, o .same);
       }
 
-      pub last-good : r ≡ next.Done → Last (judge.Good f)
-      unfolding ended order if
-      last-good q =
+      pub last-end : r ≡ enclosed.End → Last (judge.Good f)
+      unfolding ended
+      last-end q =
           let o = on in
           record {
-            is = ap judge.Good (gave .has) ∙ ap (judged forestTally) (sym (last-read ∙ ap (λ (cs : Chunks). ended cs (gave .value)) (rest-done s end r x BB3D 0 (reached 3 true) q)));
+            is = ap judge.Good (gave .has) ∙ ap (judged forestTally) (sym (last-read ∙ ap (λ (cs : Chunks). ended cs (gave .value)) (rest-end s BB3D 0 (record { turn = 3; spent = true }) end r x q)));
             within = within-more (end .at - from .at) (from .end - from .at) (o .within) (omega (arith, o .room, o .same));
           }
 
-pub ruleset last-laws = (last-bad, last-inside, last-cut, last-more, last-good)
+      -- nothing may stand there
+      pub last-more : (t : Tag) (p : ℕ) (b n : Cursor) (v : State) → r ≡ enclosed.Chunk t p b n v → (y : Judged) → Last y
+      last-more t p b n v q y = never (sym (file-next t) ∙ step-turn s BB3D 0 (record { turn = 3; spent = true }) end r x t p b n v q)
+
+pub ruleset last-laws = (last-bad, last-inside, last-head, last-stop, last-end, last-more)
 
 -- ---- the ways of `judge_rest`
 

@@ -1,48 +1,25 @@
 -- A law for each way through the loop of `judge_moves`.
-use mathlib.Core.Path.{_≡_, refl, ap, ap₂, sym, subst, _∙_}
-use Prim.Native.Nat.{ℕ, zero, suc, _+_, _-_, _*_, _<_, _≤_}
+use mathlib.Core.Path.{_≡_, refl, ap, sym, _∙_}
+use Prim.Native.Nat.{ℕ, _+_, _-_, _≤_}
 use native.Mathlib.Omega.{arith}
 use mathlib.Core.Bool.{Bool, true, false}
-use mathlib.Core.Option.{none, some}
 use mathlib.Core.List.{List, [], _∷_}
 use lib.ListN.{length, drop, length-drop}
-use lib.Dec.{T, ltb, ltb→lt, nltb→le}
-use types.Run.{OneOf}
-use denote.Enum.Declared.{tagOf}
+use lib.Dec.{ltb, ltb→lt, nltb→le}
 use Rattle.wire.specs.Test.{if}
-use Rattle.wire.specs.Cursors.{Inside, left}
-use Rattle.wire.specs.declared.Cursor.{Cursor}
-use Rattle.wire.proofs.Left.{left-length}
 use Rattle.layout.specs.Out.{Out, got, bad, _>>=_}
 use Rattle.layout.specs.Chunks.{done, stop, chunk}
 use Rattle.layout.specs.Parts.{wordsOf}
 use Rattle.layout.proofs.Outs.{by-test}
 use Rattle.layout.proofs.StepLaws.{row-any, any-short}
-use Rattle.b3d_scene.specs.declared.Tag.{Tag}
-use Rattle.b3d_scene.specs.declared.Tag.the-variants.{NODE, KEYS, ANIM}
+use Rattle.b3d_scene.specs.declared.Tag.the-variants.{KEYS, ANIM}
 use Rattle.b3d_scene.specs.Tags.{Chunks, Found, is}
-use Rattle.b3d_scene.specs.Scene.{Keys, Anim, still, anim}
-use Rattle.b3d_scene.specs.Rules.{mostBytes}
-use Rattle.b3d_scene.specs.Nesting.{nesting, Reached, next as nextTurn, onward, order}
+use Rattle.b3d_scene.specs.Scene.{Keys, anim}
 use Rattle.b3d_scene.specs.Parse.{Moves, withKeys, readKeys, filled, readAnim, readMoves}
-use Rattle.b3d_scene.proofs.Tag.{the-type}
-use Rattle.b3d_chunks.specs.Chunks.{NextIs}
-use Rattle.b3d_chunks.specs.declared.Next.{Next}
-use Rattle.b3d_chunks.specs.declared.Next.the-variants as next
-use Rattle.b3d_chunks.proofs.Nexts.{chunk-among, cut-before}
-use Rattle.b3d_bodies.specs.Tally.{noTally, bytesTally, listTally, listsTally, animTally, movesTally, plus, Within}
-use Rattle.b3d_bodies.specs.Answers.{Body, JudgedIn, Judges}
+use Rattle.b3d_bodies.specs.Tally.{noTally, listTally, listsTally, animTally, movesTally, plus}
 use Rattle.b3d_bodies.specs.declared.Tally.{Tally}
-use Rattle.b3d_bodies.specs.declared.Judged.{Judged}
-use Rattle.b3d_bodies.specs.declared.Judged.the-variants as judge
-use Rattle.b3d_bodies.proofs.Tallies.{none-plus, plus-assoc, within-none, within-more, within-plus}
-use Rattle.b3d_judge.specs.States.{reached, restIn, animOf}
-use Rattle.b3d_judge.specs.Answers.{Among, Onward, tallied, talliedFrom, phased, Phases}
-use Rattle.b3d_judge.specs.declared.Phase.{Phase}
-use Rattle.b3d_judge.specs.declared.Phase.the-variants as phase
-use Rattle.b3d_judge.proofs.Answered.{judged-bad, judged-good}
-use Rattle.b3d_judge.proofs.Rests.{rest-chunk, rest-cut, rest-done}
-use Rattle.b3d_judge.proofs.TagTests.{wrong, wrong-here}
+use Rattle.b3d_bodies.proofs.Tallies.{none-plus, plus-assoc}
+use Rattle.b3d_judge.specs.Answers.{tallied, talliedFrom}
 
 -- ---- an ANIM
 

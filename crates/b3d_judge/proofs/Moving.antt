@@ -2,11 +2,12 @@
 use mathlib.Core.Path.{_≡_, refl, ap, sym, subst, _∙_}
 use Prim.Native.Nat.{ℕ, _+_, _-_, _<_, _≤_}
 use native.Mathlib.Omega.{arith}
-use mathlib.Core.Bool.{Bool, true, false, _||_}
-use mathlib.Core.Option.{none}
+use mathlib.Core.Bool.{Bool, true, false, not, _||_}
+use mathlib.Core.Option.{some}
 use mathlib.Core.List.{List, [], _∷_}
 use lib.ListN.{length}
 use lib.Dec.{T}
+use mir.Val.{hasKey}
 use types.Run.{OneOf}
 use denote.Enum.Declared.{tagOf}
 use Rattle.wire.specs.Test.{if}
@@ -17,29 +18,34 @@ use Rattle.layout.specs.Out.{Out, got, bad, _>>=_}
 use Rattle.layout.specs.Parts.{wordsOf}
 use Rattle.b3d_scene.specs.declared.Tag.{Tag}
 use Rattle.b3d_scene.specs.declared.Tag.the-variants.{NODE, KEYS, ANIM}
-use Rattle.b3d_scene.specs.Tags.{Chunks, Found}
+use Rattle.b3d_scene.specs.Tags.{Chunks, Found, is}
 use Rattle.b3d_scene.specs.Scene.{Keys, still, anim}
 use Rattle.b3d_scene.specs.Rules.{mostBytes}
-use Rattle.b3d_scene.specs.Nesting.{nesting, next as nextTurn, onward, order}
+use Rattle.b3d_scene.specs.Nesting.{nesting, Reached, next as nextTurn, onward, order}
 use Rattle.b3d_scene.specs.Parse.{Moves, readKeys, readAnim, readMoves, withKeys}
 use Rattle.b3d_scene.proofs.Tag.{the-type}
-use Rattle.b3d_chunks.specs.Chunks.{NextIs}
-use Rattle.b3d_chunks.specs.declared.Next.{Next}
+use Rattle.b3d_scene.proofs.Files.TagCodes.{by-tag}
+use Rattle.b3d_chunks.specs.Chunks.{Among as Chunked}
 use Rattle.b3d_chunks.specs.declared.Next.the-variants as next
-use Rattle.b3d_chunks.proofs.Nexts.{chunk-among, cut-before}
 use Rattle.b3d_bodies.specs.Tally.{noTally, bytesTally, listTally, listsTally, animTally, movesTally, plus, Within}
 use Rattle.b3d_bodies.specs.Answers.{Body, JudgedIn, Judges}
 use Rattle.b3d_bodies.specs.declared.Tally.{Tally}
 use Rattle.b3d_bodies.specs.declared.Judged.{Judged}
 use Rattle.b3d_bodies.specs.declared.Judged.the-variants as judge
 use Rattle.b3d_bodies.proofs.Tallies.{none-plus, within-none, within-more, within-plus}
+use Rattle.b3d_turns.specs.declared.Reached.{Reached as State}
+use Rattle.b3d_turns.specs.declared.Enclosed.{Enclosed}
+use Rattle.b3d_turns.specs.declared.Enclosed.the-variants as enclosed
+use Rattle.b3d_turns.specs.Turns.{reachedOf}
+use Rattle.b3d_turns.specs.Steps.{EnclosedIs}
+use Rattle.b3d_turns.proofs.Stepping.{step-next, step-among, step-turn, stop-before, end-next}
 use Rattle.b3d_judge.specs.States.{reached, restIn, animOf}
 use Rattle.b3d_judge.specs.Answers.{Among, tallied, talliedFrom, Phases}
 use Rattle.b3d_judge.specs.declared.Phase.{Phase}
 use Rattle.b3d_judge.specs.declared.Phase.the-variants as phase
 use Rattle.b3d_judge.proofs.Answered.{Gave, judged-bad, judged-good}
-use Rattle.b3d_judge.proofs.Rests.{rest-chunk, rest-cut, rest-done}
-use Rattle.b3d_judge.proofs.TagTests.{wrong, wrong-here, not-move, not-move-after}
+use Rattle.b3d_judge.proofs.Rests.{rest-chunk, rest-done, rest-step, rest-stop, rest-end, step-body}
+use Rattle.b3d_judge.proofs.TagTests.{ten, one-of, never, some-inj}
 use Rattle.b3d_judge.proofs.MoveLaws.{anim-whole, anim-other, keys-first, anim-same, tallied-start}
 
 -- what the moves of a node come to
@@ -50,13 +56,14 @@ whole s at from = tallied movesTally (readMoves still (restIn s NODE at (reached
 abbrev Right : List ℕ → ℕ → Cursor → Phase → Type 0
 Right s at from r = Phases movesTally (readMoves still (restIn s NODE at (reached 2 false) from)) (restIn s NODE at (reached 3 false)) from r
 
--- at c, with the tally m of keys, and an ANIM seen or not
-pub record Moving (s : List ℕ) (at : ℕ) (from c : Cursor) (m : Tally) (seen : Bool) : Type 0 where
+-- at c, after q, which is at the turn of KEYS and ANIM and is spent where an ANIM was seen, with the tally m of keys
+pub record Moving (s : List ℕ) (at : ℕ) (from c : Cursor) (q : State) (m : Tally) : Type 0 where
+  pub turn : q .turn ≡ 2
   pub among : Among at c (length s)
   pub from-at : from .at ≤ c .at
   pub same : c .end ≡ from .end
-  pub within : Within (plus m (animTally (animOf seen))) (c .at - from .at)
-  pub so-far : whole s at from ≡ talliedFrom m movesTally (readMoves (animOf seen) (restIn s NODE at (reached 2 seen) c))
+  pub within : Within (plus m (animTally (animOf (q .spent)))) (c .at - from .at)
+  pub so-far : whole s at from ≡ talliedFrom m movesTally (readMoves (animOf (q .spent)) (restIn s NODE at (reachedOf q) c))
 
 within-left : (a b : Tally) (n : ℕ) → Within (plus a b) n → Within a n
 unfolding plus
@@ -76,10 +83,43 @@ twenty : (m : Tally) (i n : ℕ) → Within (plus m noTally) i → i + 20 ≤ n 
 unfolding plus noTally bytesTally
 twenty m i n h le = record { rows = omega arith; copy = omega arith }
 
+-- ---- how far a chunk brings the moves
+
+keys-turn : (b : Bool) (z : State) → nextTurn (nesting NODE) (nesting NODE) (reached 2 b) KEYS ≡ some (reachedOf z) → (z .turn ≡ 2) × (z .spent ≡ b)
+unfolding nextTurn if
+keys-turn true z h = let e = some-inj h in (ap (λ (y : Reached). y .turn) e, ap (λ (y : Reached). y .spent) e)
+keys-turn false z h = let e = some-inj h in (ap (λ (y : Reached). y .turn) e, ap (λ (y : Reached). y .spent) e)
+
+anim-turn : (b : Bool) (z : State) → nextTurn (nesting NODE) (nesting NODE) (reached 2 b) ANIM ≡ some (reachedOf z) → (b ≡ false) × (z .turn ≡ 2) × (z .spent ≡ true)
+unfolding nextTurn if
+anim-turn true z h = never h
+anim-turn false z h = let e = some-inj h in (refl, ap (λ (y : Reached). y .turn) e, ap (λ (y : Reached). y .spent) e)
+
+-- a chunk that may stand there and is neither KEYS nor ANIM is a NODE
+node-turn : (b : Bool) (y : Reached) (t : Tag) → nextTurn (nesting NODE) (nesting NODE) (reached 2 b) t ≡ some y → T (not (is t KEYS || is t ANIM)) → (t ≡ NODE) × (y ≡ reached 3 false)
+unfolding nextTurn if
+node-turn true y t =
+    by-tag (λ t. nextTurn (nesting NODE) (nesting NODE) (reached 2 true) t ≡ some y → T (not (is t KEYS || is t ANIM)) → (t ≡ NODE) × (y ≡ reached 3 false))
+    (never, never, never, (λ e n. (refl, some-inj e)), never, never, never, never, (λ e n. absurd n), (λ e n. absurd n)) t
+node-turn false y t =
+    by-tag (λ t. nextTurn (nesting NODE) (nesting NODE) (reached 2 false) t ≡ some y → T (not (is t KEYS || is t ANIM)) → (t ≡ NODE) × (y ≡ reached 3 false))
+    (never, never, never, (λ e n. (refl, some-inj e)), never, never, never, never, (λ e n. absurd n), (λ e n. absurd n)) t
+
+-- none of those numbered ks is KEYS or ANIM
+unfoldable pub unmoved : List ℕ → Bool
+unmoved ks = ten (λ t. not (hasKey ks (tagOf the-type t)) || not (is t KEYS || is t ANIM))
+
+pub not-moves : T (unmoved (0 ∷ 1 ∷ 2 ∷ 3 ∷ 4 ∷ 5 ∷ 6 ∷ 7 ∷ []))
+unfolding unmoved
+not-moves = tt
+
+-- ---- the ways on
+
 module _ (s : List ℕ) (at : ℕ) (from : Cursor) where
-  pub moving-start : Among at from (length s) → (m : Tally) → m ≡ noTally → Moving s at from from m false
+  pub moving-start : Among at from (length s) → (m : Tally) → m ≡ noTally → Moving s at from from (record { turn = 2; spent = false }) m
   unfolding animTally
   moving-start g m e = record {
+    turn = refl;
     among = g;
     from-at = omega arith;
     same = refl;
@@ -87,18 +127,23 @@ module _ (s : List ℕ) (at : ℕ) (from : Cursor) where
     so-far = rw e (tallied-start movesTally (readMoves still (restIn s NODE at (reached 2 false) from)));
   }
 
-  module _ (c : Cursor) (m : Tally) (seen : Bool) (v : Moving s at from c m seen) where
+  module _ (c : Cursor) (q : State) (m : Tally) (v : Moving s at from c q m) where
     pub moving-inside : Inside c (length s)
     moving-inside = record { before = v .among .room; within = v .among .within }
 
+    pub moving-head : at ≤ c .at
+    moving-head = omega (arith, v .among .head)
+
     pub moving-small : Within m mostBytes
-    moving-small = within-more (c .at - from .at) mostBytes (within-left m (animTally (animOf seen)) (c .at - from .at) (v .within)) (omega (arith, v .among .room, v .among .within, v .among .small))
+    moving-small =
+        within-more (c .at - from .at) mostBytes (within-left m (animTally (animOf (q .spent))) (c .at - from .at) (v .within))
+        (omega (arith, v .among .room, v .among .within, v .among .small))
 
-    refuse : (e q : ℕ) → talliedFrom m movesTally (readMoves (animOf seen) (restIn s NODE at (reached 2 seen) c)) ≡ bad e q → q ≤ c .end → Right s at from (phase.Not e q)
-    refuse e q h le = record { is = sym (v .so-far ∙ h); within = omega (arith, v .same) }
+    refuse : (e i : ℕ) → talliedFrom m movesTally (readMoves (animOf (q .spent)) (restIn s NODE at (reachedOf q) c)) ≡ bad e i → i ≤ c .end → Right s at from (phase.Not e i)
+    refuse e i h le = record { is = sym (v .so-far ∙ h); within = omega (arith, v .same) }
 
-    finish : (t : Tally) → t ≡ plus m (animTally (animOf seen))
-        → readMoves (animOf seen) (restIn s NODE at (reached 2 seen) c) ≡ got (record { value = record { keys = []; anim = animOf seen }; rest = restIn s NODE at (reached 3 false) c })
+    finish : (t : Tally) → t ≡ plus m (animTally (animOf (q .spent)))
+        → readMoves (animOf (q .spent)) (restIn s NODE at (reachedOf q) c) ≡ got (record { value = record { keys = []; anim = animOf (q .spent) }; rest = restIn s NODE at (reached 3 false) c })
         → Right s at from (phase.To t c)
     unfolding movesTally listsTally
     finish t e h = record {
@@ -106,113 +151,112 @@ module _ (s : List ℕ) (at : ℕ) (from : Cursor) where
       within = record { from-at = v .from-at; room = v .among .room; same = v .same; within = rw e (v .within) };
     }
 
-    module _ (r : Next) (x : NextIs s c r) where
-      pub moving-cut : (p : ℕ) → r ≡ next.Cut p → Right s at from (phase.Not 3 p)
+    module _ (r : Enclosed) (x : EnclosedIs s NODE at q c r) where
+      pub moving-stop : (e p : ℕ) → r ≡ enclosed.Not e p → Right s at from (phase.Not e p)
       unfolding readMoves
-      moving-cut p w = refuse 3 p (rw (rest-cut s c r x NODE at (reached 2 seen) p w)) (cut-before s c r x p w)
+      moving-stop e p w = refuse e p (rw (rest-stop s NODE at q c r x e p w)) (stop-before s NODE at q c r x e p w)
 
-      pub moving-done : r ≡ next.Done → (t : Tally) → t ≡ plus m (animTally (animOf seen)) → Right s at from (phase.To t c)
+      pub moving-end : r ≡ enclosed.End → (t : Tally) → t ≡ plus m (animTally (animOf (q .spent))) → Right s at from (phase.To t c)
       unfolding readMoves order if
-      moving-done w t e = finish t e (rw (rest-done s c r x NODE at (reached 2 seen) w, rest-done s c r x NODE at (reached 3 false) w))
+      moving-end w t e = finish t e (rw (rest-end s NODE at q c r x w, rest-done s c next.Done (end-next s NODE at q c r x w) NODE at (reached 3 false) refl))
 
-      module _ (t : Tag) (p : ℕ) (b n : Cursor) (w : r ≡ next.Chunk t p b n) where
+      module _ (t : Tag) (p : ℕ) (b n : Cursor) (z : State) (w : r ≡ enclosed.Chunk t p b n z) where
+        among : Chunked c p b n
+        among = step-among s NODE at q c r x t p b n z w
+
+        -- how far the moves come with this chunk
+        goes : nextTurn (nesting NODE) (nesting NODE) (reached 2 (q .spent)) t ≡ some (reachedOf z)
+        goes = subst (λ (i : ℕ). nextTurn (nesting NODE) (nesting NODE) (reached i (q .spent)) t ≡ some (reachedOf z)) (v .turn) (step-turn s NODE at q c r x t p b n z w)
+
         pub moving-body : Body p b (length s)
-        moving-body = let f = chunk-among s c r x t p b n w in record { head = f .body; room = f .room; within = omega (arith, v .among .within); small = v .among .small }
+        moving-body = step-body s NODE at q c r x at (v .among) t p b n z w
 
         pub moving-room : b .at ≤ b .end
-        moving-room = chunk-among s c r x t p b n w .room
+        moving-room = among .room
 
         pub moving-less : n .end - n .at < c .end - c .at
-        moving-less = let f = chunk-among s c r x t p b n w in omega arith
+        moving-less = let f = among in omega arith
 
         among-next : Among at n (length s)
-        among-next = let f = chunk-among s c r x t p b n w in record { head = omega (arith, v .among .head); room = f .to; within = omega (arith, v .among .within); small = v .among .small }
+        among-next = let f = among in record { head = omega (arith, v .among .head); room = f .to; within = omega (arith, v .among .within); small = v .among .small }
 
-        pub moving-node : t ≡ NODE → (z : Tally) → z ≡ plus m (animTally (animOf seen)) → Right s at from (phase.To z c)
-        unfolding readMoves nextTurn onward if
-        moving-node q z e =
-            let turn : restIn s NODE at (reached 2 seen) c ≡ restIn s NODE at (reached 3 false) c =
-            rw (rest-chunk s c r x NODE at (reached 2 seen) t p b n w, rest-chunk s c r x NODE at (reached 3 false) t p b n w, q) in
-            finish z e (rw (turn, rest-chunk s c r x NODE at (reached 3 false) t p b n w, q))
-
-        pub moving-wrong : (ks : List ℕ) → OneOf ks (tagOf the-type t) → T (wrong NODE (reached 2 true) ks) → T (wrong NODE (reached 2 false) ks) → Right s at from (phase.Not 4 p)
-        unfolding readMoves onward
-        moving-wrong ks o ht hf =
-            let f = chunk-among s c r x t p b n w in
-            refuse 4 p (rw (rest-chunk s c r x NODE at (reached 2 seen) t p b n w, none-at seen)) (omega arith)
-          where
-            none-at : (z : Bool) → nextTurn (nesting NODE) (nesting NODE) (reached 2 z) t ≡ none
-            none-at true = wrong-here NODE (reached 2 true) ks ht t o
-            none-at false = wrong-here NODE (reached 2 false) ks hf t o
+        pub moving-node : (ks : List ℕ) → OneOf ks (tagOf the-type t) → T (unmoved ks) → (u : Tally) → u ≡ plus m (animTally (animOf (q .spent))) → Right s at from (phase.To u c)
+        unfolding unmoved readMoves nextTurn onward if
+        moving-node ks o h u e =
+            let (k, y) = node-turn (q .spent) (reachedOf z) t goes (one-of (λ t. not (is t KEYS || is t ANIM)) ks h t o) in
+            finish u e (rw (rest-step s NODE at q c r x t p b n z w, rest-chunk s c (next.Chunk t p b n) (step-next s NODE at q c r x t p b n z w) NODE at (reached 3 false) t p b n refl, k, y))
 
         -- KEYS
 
-        module _ (q : t ≡ KEYS) (j : Judged) (h : Judges listTally (readKeys p (left b s)) p (b .end) j) where
-          keys-read : readMoves (animOf seen) (restIn s NODE at (reached 2 seen) c)
-              ≡ (readKeys p (left b s) >>= λ k. readMoves (animOf seen) (restIn s NODE at (reached 2 seen) n) >>= λ y. got (withKeys k y))
-          unfolding readMoves nextTurn onward if
-          keys-read = rw (rest-chunk s c r x NODE at (reached 2 seen) t p b n w, q, alike seen)
-            where
-              alike : (z : Bool) → (z || false) ≡ z
-              alike true = refl
-              alike false = refl
+        module _ (k : t ≡ KEYS) (j : Judged) (h : Judges listTally (readKeys p (left b s)) p (b .end) j) where
+          keys-read : readMoves (animOf (q .spent)) (restIn s NODE at (reachedOf q) c)
+              ≡ (readKeys p (left b s) >>= λ l. readMoves (animOf (q .spent)) (restIn s NODE at (reachedOf z) n) >>= λ y. got (withKeys l y))
+          unfolding readMoves if
+          keys-read = rw (rest-step s NODE at q c r x t p b n z w, k)
 
           pub moving-keys-bad : (e i : ℕ) → j ≡ judge.Bad e i → Right s at from (phase.Not e i)
-          moving-keys-bad e i z =
-              let f = chunk-among s c r x t p b n w in
-              let le : i ≤ b .end = subst (JudgedIn p (b .end)) z (h .within) in
-              refuse e i (rw (keys-read, judged-bad listTally (readKeys p (left b s)) e i (sym (h .is) ∙ z))) (omega arith)
+          moving-keys-bad e i y =
+              let f = among in
+              let le : i ≤ b .end = subst (JudgedIn p (b .end)) y (h .within) in
+              refuse e i (rw (keys-read, judged-bad listTally (readKeys p (left b s)) e i (sym (h .is) ∙ y))) (omega arith)
 
-          pub moving-keys-small : (k : Tally) → j ≡ judge.Good k → Within k mostBytes
-          moving-keys-small k z =
-              let i : Within k (b .end - p) = subst (JudgedIn p (b .end)) z (h .within) in
+          pub moving-keys-small : (u : Tally) → j ≡ judge.Good u → Within u mostBytes
+          moving-keys-small u y =
+              let i : Within u (b .end - p) = subst (JudgedIn p (b .end)) y (h .within) in
               within-more (b .end - p) mostBytes i (let f = moving-body in omega (arith, f .within, f .small))
 
-          pub moving-keys : (k y : Tally) → j ≡ judge.Good k → y ≡ plus m k → Moving s at from n y seen
-          moving-keys k y z e =
-              let f = chunk-among s c r x t p b n w in
-              let g = judged-good listTally (readKeys p (left b s)) k (sym (h .is) ∙ z) in
-              let i : Within k (b .end - p) = subst (JudgedIn p (b .end)) z (h .within) in
+          pub moving-keys : (u a : Tally) → j ≡ judge.Good u → a ≡ plus m u → Moving s at from n z a
+          moving-keys u a y e =
+              let f = among in
+              let g = judged-good listTally (readKeys p (left b s)) u (sym (h .is) ∙ y) in
+              let i : Within u (b .end - p) = subst (JudgedIn p (b .end)) y (h .within) in
+              let l = keys-turn (q .spent) z (subst (λ (t : Tag). nextTurn (nesting NODE) (nesting NODE) (reached 2 (q .spent)) t ≡ some (reachedOf z)) k goes) in
               record {
+                turn = l .0;
                 among = among-next;
                 from-at = omega (arith, v .from-at);
                 same = f .same ∙ v .same;
-                within = rw e (swapped m k (animTally (animOf seen)) (c .at - from .at) (b .end - p) (n .at - from .at) (v .within) i (omega (arith, v .from-at)));
-                so-far = v .so-far ∙ ap (talliedFrom m movesTally) keys-read ∙ keys-on (readKeys p (left b s)) k g m y e (readMoves (animOf seen) (restIn s NODE at (reached 2 seen) n));
+                within = rw (e, l .1) (swapped m u (animTally (animOf (q .spent))) (c .at - from .at) (b .end - p) (n .at - from .at) (v .within) i (omega (arith, v .from-at)));
+                so-far =
+                    v .so-far ∙ ap (talliedFrom m movesTally) keys-read
+                    ∙ keys-on (readKeys p (left b s)) u g m a e (readMoves (animOf (q .spent)) (restIn s NODE at (reachedOf z) n))
+                    ∙ ap (λ (d : Bool). talliedFrom a movesTally (readMoves (animOf d) (restIn s NODE at (reachedOf z) n))) (sym (l .1));
               }
 
         -- ANIM
 
-        module _ (q : t ≡ ANIM) where
-          pub moving-anim-again : seen ≡ true → Right s at from (phase.Not 4 p)
-          unfolding readMoves nextTurn onward if
-          moving-anim-again y =
-              let f = chunk-among s c r x t p b n w in
-              refuse 4 p (rw (rest-chunk s c r x NODE at (reached 2 seen) t p b n w, q, y)) (omega arith)
+        module _ (k : t ≡ ANIM) where
+          once : (q .spent ≡ false) × (z .turn ≡ 2) × (z .spent ≡ true)
+          once = anim-turn (q .spent) z (subst (λ (t : Tag). nextTurn (nesting NODE) (nesting NODE) (reached 2 (q .spent)) t ≡ some (reachedOf z)) k goes)
 
-          module _ (y : seen ≡ false) where
-            anim-read : readMoves (animOf seen) (restIn s NODE at (reached 2 seen) c) ≡ (readAnim p (left b s) >>= λ ws. readMoves (anim ws) (restIn s NODE at (reached 2 true) n))
-            unfolding readMoves nextTurn onward if
-            anim-read = rw (rest-chunk s c r x NODE at (reached 2 seen) t p b n w, q, y)
+          anim-read : readMoves (animOf (q .spent)) (restIn s NODE at (reachedOf q) c) ≡ (readAnim p (left b s) >>= λ ws. readMoves (anim ws) (restIn s NODE at (reachedOf z) n))
+          unfolding readMoves if
+          anim-read = rw (rest-step s NODE at q c r x t p b n z w, k)
 
-            size : length (left b s) ≡ b .end - b .at
-            size = let f = moving-body in left-length s b (record { before = f .room; within = f .within })
+          size : length (left b s) ≡ b .end - b .at
+          size = let f = moving-body in left-length s b (record { before = f .room; within = f .within })
 
-            pub moving-anim-short : (b .end - b .at ≡ 12 → ⊥) → Right s at from (phase.Not 5 (b .at))
-            moving-anim-short d =
-                let f = chunk-among s c r x t p b n w in
-                refuse 5 (b .at) (rw (anim-read, anim-other p (left b s) (λ e. d (sym size ∙ e)), f .body)) (omega arith)
+          pub moving-anim-short : (b .end - b .at ≡ 12 → ⊥) → Right s at from (phase.Not 5 (b .at))
+          moving-anim-short d =
+              let f = among in
+              refuse 5 (b .at) (rw (anim-read, anim-other p (left b s) (λ e. d (sym size ∙ e)), f .body)) (omega arith)
 
-            pub moving-anim : b .end - b .at ≡ 12 → Moving s at from n m true
-            unfolding animTally
-            moving-anim d =
-                let f = chunk-among s c r x t p b n w in
-                record {
-                  among = among-next;
-                  from-at = omega (arith, v .from-at);
-                  same = f .same ∙ v .same;
-                  within = twenty m (c .at - from .at) (n .at - from .at) (subst (λ (z : Bool). Within (plus m (animTally (animOf z))) (c .at - from .at)) y (v .within)) (omega (arith, v .from-at, f .body, f .from));
-                  so-far = v .so-far ∙ rw (anim-read, anim-whole p (left b s) (size ∙ d)) (anim-same (restIn s NODE at (reached 2 true) n) m (wordsOf 3 (left b s)) []);
-                }
+          pub moving-anim : b .end - b .at ≡ 12 → Moving s at from n z m
+          unfolding animTally
+          moving-anim d =
+              let f = among in
+              let (first, turn, spent) = once in
+              record {
+                turn = turn;
+                among = among-next;
+                from-at = omega (arith, v .from-at);
+                same = f .same ∙ v .same;
+                within =
+                    subst (λ (d : Bool). Within (plus m (animTally (animOf d))) (n .at - from .at)) (sym spent)
+                    (twenty m (c .at - from .at) (n .at - from .at) (subst (λ (d : Bool). Within (plus m (animTally (animOf d))) (c .at - from .at)) first (v .within)) (omega (arith, v .from-at, f .body, f .from)));
+                so-far =
+                    v .so-far ∙ rw (anim-read, anim-whole p (left b s) (size ∙ d)) (anim-same (restIn s NODE at (reachedOf z) n) m (wordsOf 3 (left b s)) [])
+                    ∙ ap (λ (d : Bool). talliedFrom m movesTally (readMoves (animOf d) (restIn s NODE at (reachedOf z) n))) (sym spent);
+              }
 
-pub ruleset moving = (not-move, not-move-after, moving-start, moving-inside, moving-small, moving-cut, moving-done, moving-body, moving-room, moving-less, moving-node, moving-wrong, moving-keys-bad, moving-keys-small, moving-keys, moving-anim-again, moving-anim-short, moving-anim)
+pub ruleset moving-laws = (not-moves, moving-start, moving-inside, moving-head, moving-small, moving-stop, moving-end, moving-body, moving-room, moving-less, moving-node, moving-keys-bad, moving-keys-small, moving-keys, moving-anim-short, moving-anim)

@@ -2,14 +2,10 @@
 use mathlib.Core.Path.{_≡_, refl, ap, ap₂, sym, subst, _∙_}
 use Prim.Native.Nat.{ℕ, zero, suc, _+_, _-_, _<_, _≤_}
 use native.Mathlib.Omega.{arith}
-use mathlib.Core.Bool.{true, false}
-use mathlib.Core.Option.{Option, none, some}
-use mathlib.Core.List.{List, [], _∷_}
+use mathlib.Core.Bool.{false}
+use mathlib.Core.Option.{Option}
+use mathlib.Core.List.{List}
 use lib.ListN.{length}
-use lib.Dec.{T}
-use types.Run.{OneOf}
-use denote.Enum.Declared.{tagOf}
-use Rattle.wire.specs.Test.{if}
 use Rattle.wire.specs.Cursors.{Inside, left}
 use Rattle.wire.specs.declared.Cursor.{Cursor}
 use Rattle.layout.specs.Out.{Out, got, bad, _>>=_}
@@ -20,28 +16,28 @@ use Rattle.b3d_scene.specs.declared.Tag.the-variants.{NODE}
 use Rattle.b3d_scene.specs.Tags.{Chunks, Found}
 use Rattle.b3d_scene.specs.Scene.{Data, Forest, leaf, node, still}
 use Rattle.b3d_scene.specs.Rules.{nodeRow, boneVertices, bonesBelow, mostBytes}
-use Rattle.b3d_scene.specs.Nesting.{nesting, next as nextTurn, onward, order, inside}
+use Rattle.b3d_scene.specs.Nesting.{inside}
 use Rattle.b3d_scene.specs.Parse.{Inner, readKind, readMoves, readNodes, readBelow, readNode}
-use Rattle.b3d_scene.proofs.Tag.{the-type}
-use Rattle.b3d_chunks.specs.Chunks.{NextIs}
-use Rattle.b3d_chunks.specs.declared.Next.{Next}
-use Rattle.b3d_chunks.specs.declared.Next.the-variants as next
-use Rattle.b3d_chunks.proofs.Nexts.{chunk-among, cut-before}
 use Rattle.b3d_bodies.specs.Tally.{noTally, dataTally, forestTally, innerTally, plus, Within}
 use Rattle.b3d_bodies.specs.Answers.{Body, judged, JudgedIn, Judges}
 use Rattle.b3d_bodies.specs.declared.Tally.{Tally}
 use Rattle.b3d_bodies.specs.declared.Judged.{Judged}
 use Rattle.b3d_bodies.specs.declared.Judged.the-variants as judge
 use Rattle.b3d_bodies.proofs.Tallies.{within-none, within-more, within-plus}
+use Rattle.b3d_turns.specs.declared.Reached.{Reached as State}
+use Rattle.b3d_turns.specs.declared.Enclosed.{Enclosed}
+use Rattle.b3d_turns.specs.declared.Enclosed.the-variants as enclosed
+use Rattle.b3d_turns.specs.Turns.{reachedOf}
+use Rattle.b3d_turns.specs.Steps.{EnclosedIs}
+use Rattle.b3d_turns.proofs.Stepping.{step-among, stop-before}
 use Rattle.b3d_judge.specs.States.{reached, restIn, readOwn}
 use Rattle.b3d_judge.specs.Answers.{Among, Onward, judgedFrom, aboveOf, owned, ownedBy, OwnedIn, Owns}
 use Rattle.b3d_judge.specs.declared.Above.{Above}
 use Rattle.b3d_judge.specs.declared.Owned.{Owned}
 use Rattle.b3d_judge.specs.declared.Owned.the-variants as own
-use Rattle.b3d_judge.proofs.Answered.{Gave, judged-bad, judged-good}
+use Rattle.b3d_judge.proofs.Answered.{judged-bad, judged-good}
 use Rattle.b3d_judge.proofs.Chains.{judged-start, judged-end, judged-more}
-use Rattle.b3d_judge.proofs.Rests.{rest-chunk, rest-cut, rest-done}
-use Rattle.b3d_judge.proofs.TagTests.{wrong, wrong-here, not-node}
+use Rattle.b3d_judge.proofs.Rests.{rest-step, rest-stop, rest-end, step-body}
 
 -- ---- a node: its own, then the nodes below
 
@@ -156,13 +152,13 @@ pub ruleset node-laws = (node-deep, node-own-bad, node-among, node-own-small, no
 
 -- ---- the loop over nodes
 
--- at c, with the tally m of the nodes before
-pub record Noding (s : List ℕ) (at : ℕ) (one : ℕ → List ℕ → Out Inner) (from c : Cursor) (m : Tally) : Type 0 where
+-- at c, after q, with the tally m of the nodes before
+pub record Noding (s : List ℕ) (at : ℕ) (one : ℕ → List ℕ → Out Inner) (from c : Cursor) (q : State) (m : Tally) : Type 0 where
   pub among : Among at c (length s)
   pub from-at : from .at ≤ c .at
   pub same : c .end ≡ from .end
   pub within : Within m (c .at - from .at)
-  pub so-far : judged forestTally (readNodes one (restIn s NODE at (reached 3 false) from)) ≡ judgedFrom m forestTally (readNodes one (restIn s NODE at (reached 3 false) c))
+  pub so-far : judged forestTally (readNodes one (restIn s NODE at (reached 3 false) from)) ≡ judgedFrom m forestTally (readNodes one (restIn s NODE at (reachedOf q) c))
 
 forest-more : (x : Inner) (f : Forest) → forestTally (node (x .self) (x .below) f) ≡ plus (innerTally x) (forestTally f)
 unfolding forestTally innerTally
@@ -172,7 +168,7 @@ module _ (s : List ℕ) (at l brushes : ℕ) (a : Option ℕ) (from : Cursor) wh
   abbrev Nodes : Judged → Type 0
   Nodes x = Judges forestTally (readNodes (readNode l brushes a) (restIn s NODE at (reached 3 false) from)) (from .at) (from .end) x
 
-  pub noding-start : Among at from (length s) → (m : Tally) → m ≡ noTally → Noding s at (readNode l brushes a) from from m
+  pub noding-start : Among at from (length s) → (m : Tally) → m ≡ noTally → Noding s at (readNode l brushes a) from from (record { turn = 3; spent = false }) m
   noding-start g m e = record {
     among = g;
     from-at = omega arith;
@@ -181,63 +177,60 @@ module _ (s : List ℕ) (at l brushes : ℕ) (a : Option ℕ) (from : Cursor) wh
     so-far = rw e (judged-start forestTally (readNodes (readNode l brushes a) (restIn s NODE at (reached 3 false) from)));
   }
 
-  module _ (c : Cursor) (m : Tally) (v : Noding s at (readNode l brushes a) from c m) where
+  module _ (c : Cursor) (q : State) (m : Tally) (v : Noding s at (readNode l brushes a) from c q m) where
     pub noding-inside : Inside c (length s)
     noding-inside = record { before = v .among .room; within = v .among .within }
+
+    pub noding-head : at ≤ c .at
+    noding-head = omega (arith, v .among .head)
 
     pub noding-small : Within m mostBytes
     noding-small = within-more (c .at - from .at) mostBytes (v .within) (omega (arith, v .among .room, v .among .within, v .among .small))
 
-    refuse : (e q : ℕ) → readNodes (readNode l brushes a) (restIn s NODE at (reached 3 false) c) ≡ bad e q → q ≤ c .end → Nodes (judge.Bad e q)
-    refuse e q h le = record { is = sym (v .so-far ∙ rw h); within = omega (arith, v .same) }
+    refuse : (e i : ℕ) → readNodes (readNode l brushes a) (restIn s NODE at (reachedOf q) c) ≡ bad e i → i ≤ c .end → Nodes (judge.Bad e i)
+    refuse e i h le = record { is = sym (v .so-far ∙ rw h); within = omega (arith, v .same) }
 
-    module _ (r : Next) (x : NextIs s c r) where
-      pub noding-cut : (p : ℕ) → r ≡ next.Cut p → Nodes (judge.Bad 3 p)
+    module _ (r : Enclosed) (x : EnclosedIs s NODE at q c r) where
+      pub noding-stop : (e p : ℕ) → r ≡ enclosed.Not e p → Nodes (judge.Bad e p)
       unfolding readNodes
-      noding-cut p w = refuse 3 p (rw (rest-cut s c r x NODE at (reached 3 false) p w)) (cut-before s c r x p w)
+      noding-stop e p w = refuse e p (rw (rest-stop s NODE at q c r x e p w)) (stop-before s NODE at q c r x e p w)
 
-      pub noding-done : r ≡ next.Done → Nodes (judge.Good m)
-      unfolding readNodes order if forestTally
-      noding-done w = record {
-        is = sym (v .so-far ∙ rw (rest-done s c r x NODE at (reached 3 false) w) (judged-end forestTally m leaf refl));
+      pub noding-end : r ≡ enclosed.End → Nodes (judge.Good m)
+      unfolding readNodes forestTally
+      noding-end w = record {
+        is = sym (v .so-far ∙ rw (rest-end s NODE at q c r x w) (judged-end forestTally m leaf refl));
         within = within-more (c .at - from .at) (from .end - from .at) (v .within) (omega (arith, v .among .room, v .same));
       }
 
-      module _ (t : Tag) (p : ℕ) (b n : Cursor) (w : r ≡ next.Chunk t p b n) where
+      module _ (t : Tag) (p : ℕ) (b n : Cursor) (z : State) (w : r ≡ enclosed.Chunk t p b n z) where
         pub noding-body : Body p b (length s)
-        noding-body = let f = chunk-among s c r x t p b n w in record { head = f .body; room = f .room; within = omega (arith, v .among .within); small = v .among .small }
+        noding-body = step-body s NODE at q c r x at (v .among) t p b n z w
 
         pub noding-less : n .end - n .at < c .end - c .at
-        noding-less = let f = chunk-among s c r x t p b n w in omega arith
+        noding-less = let f = step-among s NODE at q c r x t p b n z w in omega arith
 
-        pub noding-wrong : (ks : List ℕ) → OneOf ks (tagOf the-type t) → T (wrong NODE (reached 3 false) ks) → Nodes (judge.Bad 4 p)
-        unfolding readNodes onward
-        noding-wrong ks o h =
-            let f = chunk-among s c r x t p b n w in
-            refuse 4 p (rw (rest-chunk s c r x NODE at (reached 3 false) t p b n w, wrong-here NODE (reached 3 false) ks h t o)) (omega arith)
-
-        module _ (q : t ≡ NODE) (j : Judged) (h : Judges innerTally (readNode l brushes a p (left b s)) p (b .end) j) where
-          more : readNodes (readNode l brushes a) (restIn s NODE at (reached 3 false) c)
-              ≡ (readNode l brushes a p (left b s) >>= λ i. readNodes (readNode l brushes a) (restIn s NODE at (reached 3 false) n) >>= λ f. got (node (i .self) (i .below) f))
-          unfolding readNodes nextTurn onward if
-          more = rw (rest-chunk s c r x NODE at (reached 3 false) t p b n w, q)
+        module _ (j : Judged) (h : Judges innerTally (readNode l brushes a p (left b s)) p (b .end) j) where
+          more : readNodes (readNode l brushes a) (restIn s NODE at (reachedOf q) c)
+              ≡ (readNode l brushes a p (left b s) >>= λ i. readNodes (readNode l brushes a) (restIn s NODE at (reachedOf z) n) >>= λ f. got (node (i .self) (i .below) f))
+          unfolding readNodes
+          more = rw (rest-step s NODE at q c r x t p b n z w)
 
           pub noding-bad : (e i : ℕ) → j ≡ judge.Bad e i → Nodes (judge.Bad e i)
-          noding-bad e i z =
-              let f = chunk-among s c r x t p b n w in
-              let le : i ≤ b .end = subst (JudgedIn p (b .end)) z (h .within) in
-              refuse e i (rw (more, judged-bad innerTally (readNode l brushes a p (left b s)) e i (sym (h .is) ∙ z))) (omega arith)
+          noding-bad e i y =
+              let f = step-among s NODE at q c r x t p b n z w in
+              let le : i ≤ b .end = subst (JudgedIn p (b .end)) y (h .within) in
+              refuse e i (rw (more, judged-bad innerTally (readNode l brushes a p (left b s)) e i (sym (h .is) ∙ y))) (omega arith)
 
           pub noding-one-small : (k : Tally) → j ≡ judge.Good k → Within k mostBytes
-          noding-one-small k z =
-              let i : Within k (b .end - p) = subst (JudgedIn p (b .end)) z (h .within) in
+          noding-one-small k y =
+              let i : Within k (b .end - p) = subst (JudgedIn p (b .end)) y (h .within) in
               within-more (b .end - p) mostBytes i (let f = noding-body in omega (arith, f .within, f .small))
 
-          pub noding-more : (k y : Tally) → j ≡ judge.Good k → y ≡ plus m k → Noding s at (readNode l brushes a) from n y
-          noding-more k y z e =
-              let f = chunk-among s c r x t p b n w in
-              let g = judged-good innerTally (readNode l brushes a p (left b s)) k (sym (h .is) ∙ z) in
-              let i : Within k (b .end - p) = subst (JudgedIn p (b .end)) z (h .within) in
+          pub noding-more : (k u : Tally) → j ≡ judge.Good k → u ≡ plus m k → Noding s at (readNode l brushes a) from n z u
+          noding-more k u y e =
+              let f = step-among s NODE at q c r x t p b n z w in
+              let g = judged-good innerTally (readNode l brushes a p (left b s)) k (sym (h .is) ∙ y) in
+              let i : Within k (b .end - p) = subst (JudgedIn p (b .end)) y (h .within) in
               record {
                 among = record { head = omega (arith, v .among .head); room = f .to; within = omega (arith, v .among .within); small = v .among .small };
                 from-at = omega (arith, v .from-at);
@@ -245,7 +238,7 @@ module _ (s : List ℕ) (at l brushes : ℕ) (a : Option ℕ) (from : Cursor) wh
                 within = rw e (within-plus m k (c .at - from .at) (b .end - p) (n .at - from .at) (v .within) i (omega (arith, v .from-at)));
                 so-far =
                     v .so-far ∙ ap (judgedFrom m forestTally) more
-                    ∙ judged-more innerTally forestTally (λ i f. node (i .self) (i .below) f) forest-more (readNode l brushes a p (left b s)) k g m y e (readNodes (readNode l brushes a) (restIn s NODE at (reached 3 false) n));
+                    ∙ judged-more innerTally forestTally (λ i f. node (i .self) (i .below) f) forest-more (readNode l brushes a p (left b s)) k g m u e (readNodes (readNode l brushes a) (restIn s NODE at (reachedOf z) n));
               }
 
-pub ruleset noding = (not-node, noding-start, noding-inside, noding-small, noding-cut, noding-done, noding-body, noding-less, noding-wrong, noding-bad, noding-one-small, noding-more)
+pub ruleset noding = (noding-start, noding-inside, noding-head, noding-small, noding-stop, noding-end, noding-body, noding-less, noding-bad, noding-one-small, noding-more)

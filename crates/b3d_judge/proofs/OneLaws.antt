@@ -1,8 +1,7 @@
 -- One chunk of a kind, if it comes first: what `readOne` gives, by what `next_chunk` finds.
-use mathlib.Core.Path.{_≡_, refl, ap, sym, _∙_}
+use mathlib.Core.Path.{_≡_, refl, ap, _∙_}
 use Prim.Native.Nat.{ℕ}
-use mathlib.Core.Bool.{Bool, true, false, not}
-use mathlib.Core.Option.{none, some}
+use mathlib.Core.Option.{some}
 use mathlib.Core.List.{List}
 use lib.Dec.{T}
 use types.Run.{OneOf}
@@ -11,12 +10,12 @@ use Rattle.wire.specs.Test.{if}
 use Rattle.wire.specs.Cursors.{left}
 use Rattle.wire.specs.declared.Cursor.{Cursor}
 use Rattle.layout.specs.Out.{Out, got, bad, _>>=_}
-use Rattle.layout.specs.Chunks.{done, stop, chunk}
+use Rattle.layout.specs.Chunks.{done, chunk}
 use Rattle.layout.proofs.Outs.{if-yes, if-no}
 use Rattle.b3d_scene.specs.declared.Tag.{Tag}
 use Rattle.b3d_scene.specs.declared.Tag.the-variants.{BB3D}
-use Rattle.b3d_scene.specs.Tags.{Chunks, Found, is}
-use Rattle.b3d_scene.specs.Nesting.{nesting, Reached, owed, next as nextTurn, onward, order}
+use Rattle.b3d_scene.specs.Tags.{is}
+use Rattle.b3d_scene.specs.Nesting.{nesting, Reached, next as nextTurn, onward, order}
 use Rattle.b3d_scene.specs.Parse.{readOne}
 use Rattle.b3d_scene.proofs.Tag.{the-type}
 use Rattle.b3d_chunks.specs.Chunks.{NextIs}
@@ -24,7 +23,7 @@ use Rattle.b3d_chunks.specs.declared.Next.{Next}
 use Rattle.b3d_chunks.specs.declared.Next.the-variants as next
 use Rattle.b3d_judge.specs.States.{restIn}
 use Rattle.b3d_judge.proofs.Rests.{rest-chunk, rest-cut, rest-done}
-use Rattle.b3d_judge.proofs.TagTests.{wrong, wrong-here, plain, plain-here}
+use Rattle.b3d_judge.proofs.TagTests.{plain, plain-here}
 
 -- nothing is owed at the end of a BB3D
 file-done : (q : Reached) → order BB3D 0 q done ≡ done
@@ -42,15 +41,11 @@ module _ (s : List ℕ) (from : Cursor) (r : Next) (x : NextIs s from r) {A : Ty
   one-cut p w = rw (rest-cut s from r x BB3D 0 q p w)
 
   module _ (t : Tag) (p : ℕ) (b n : Cursor) (w : r ≡ next.Chunk t p b n) where
-    pub one-wrong : (ks : List ℕ) → OneOf ks (tagOf the-type t) → T (wrong BB3D q ks) → readOne k a one (restIn s BB3D 0 q from) ≡ bad 4 p
-    unfolding readOne onward
-    one-wrong ks o h = rw (rest-chunk s from r x BB3D 0 q t p b n w, wrong-here BB3D q ks h t o)
-
-    pub one-plain : (ks : List ℕ) → OneOf ks (tagOf the-type t) → T (plain BB3D (λ u. is u k) q z ks)
+    pub one-plain : (ks : List ℕ) → OneOf ks (tagOf the-type t) → T (plain BB3D (λ u. is u k) q z ks) → (y : Reached) → nextTurn (nesting BB3D) (nesting BB3D) q t ≡ some y
         → readOne k a one (restIn s BB3D 0 q from) ≡ got (record { value = a; rest = restIn s BB3D 0 z from })
     unfolding readOne onward
-    one-plain ks o h =
-        let f = plain-here BB3D (λ u. is u k) q z ks h t o in
+    one-plain ks o h y g =
+        let f = plain-here BB3D (λ u. is u k) q z ks h t o y g in
         let e₁ = rest-chunk s from r x BB3D 0 q t p b n w ∙ ap (λ g. onward g p (λ y. chunk t p (left b s) (restIn s BB3D 0 y n))) (f .1 .first) in
         let e₂ = rest-chunk s from r x BB3D 0 z t p b n w ∙ ap (λ g. onward g p (λ y. chunk t p (left b s) (restIn s BB3D 0 y n))) (f .1 .second) in
         rw (e₁, e₂) (if-no (is t k) _ _ (f .0))

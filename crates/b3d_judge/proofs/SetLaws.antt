@@ -4,30 +4,24 @@ use Prim.Native.Nat.{ℕ, _+_, _-_, _*_, _<_, _≤_}
 use native.Mathlib.Nat.{mul-le-mul-left}
 use native.Mathlib.Omega.{arith}
 use mathlib.Core.Bool.{Bool, true, false}
-use mathlib.Core.Option.{none}
+use mathlib.Core.Option.{some}
 use mathlib.Core.List.{List, [], _∷_}
 use lib.ListN.{length}
-use lib.Dec.{T}
-use types.Run.{OneOf}
-use denote.Enum.Declared.{tagOf}
 use Rattle.wire.specs.Test.{if}
 use Rattle.wire.specs.Cursors.{Inside, left}
 use Rattle.wire.specs.declared.Cursor.{Cursor}
 use Rattle.layout.specs.Out.{Out, got, bad, _>>=_}
-use Rattle.layout.specs.Chunks.{chunk}
+use Rattle.layout.specs.Chunks.{done, stop}
 use Rattle.layout.proofs.Outs.{bind-bind}
 use Rattle.b3d_scene.specs.declared.Tag.{Tag}
-use Rattle.b3d_scene.specs.declared.Tag.the-variants.{MESH, VRTS, TRIS}
-use Rattle.b3d_scene.specs.Tags.{Chunks, Found}
+use Rattle.b3d_scene.specs.declared.Tag.the-variants.{MESH, VRTS}
 use Rattle.b3d_scene.specs.Scene.{TriangleSet, Mesh}
 use Rattle.b3d_scene.specs.Rules.{vertexWords, mostBytes}
-use Rattle.b3d_scene.specs.Nesting.{nesting, Reached, start, owed, next as nextTurn, onward, order}
-use Rattle.b3d_scene.specs.Parse.{readOne, Vertices, noVertices, readVertices, readTriangles, readSets}
-use Rattle.b3d_scene.proofs.Tag.{the-type}
-use Rattle.b3d_chunks.specs.Chunks.{NextIs}
-use Rattle.b3d_chunks.specs.declared.Next.{Next}
+use Rattle.b3d_scene.specs.Nesting.{nesting, Reached, start, next as nextTurn, order}
+use Rattle.b3d_scene.specs.Parse.{readOne, Vertices, readVertices, readTriangles, readSets}
+use Rattle.b3d_scene.proofs.Files.TagCodes.{by-tag}
+use Rattle.b3d_chunks.specs.Chunks.{Among as Chunked}
 use Rattle.b3d_chunks.specs.declared.Next.the-variants as next
-use Rattle.b3d_chunks.proofs.Nexts.{chunk-among, cut-before}
 use Rattle.b3d_bodies.specs.Tally.{noTally, verticesTally, setTally, setsTally, meshTally, plus, Within}
 use Rattle.b3d_bodies.specs.Answers.{Body, judged, JudgedIn, Judges, shaped, ShapedIn, Shapes}
 use Rattle.b3d_bodies.specs.declared.Tally.{Tally}
@@ -36,14 +30,20 @@ use Rattle.b3d_bodies.specs.declared.Judged.the-variants as judge
 use Rattle.b3d_bodies.specs.declared.Shaped.{Shaped}
 use Rattle.b3d_bodies.specs.declared.Shaped.the-variants as shape
 use Rattle.b3d_bodies.proofs.Tallies.{within-none, within-more, within-plus, within-vertices}
+use Rattle.b3d_turns.specs.declared.Reached.{Reached as State}
+use Rattle.b3d_turns.specs.declared.Enclosed.{Enclosed}
+use Rattle.b3d_turns.specs.declared.Enclosed.the-variants as enclosed
+use Rattle.b3d_turns.specs.Turns.{reachedOf}
+use Rattle.b3d_turns.specs.Steps.{EnclosedIs}
+use Rattle.b3d_turns.proofs.Stepping.{step-among, step-turn, stop-before, end-next}
 use Rattle.b3d_judge.specs.States.{reached, restIn, readAfter, readInside}
 use Rattle.b3d_judge.specs.Answers.{Among, judgedFrom, meshed, MeshedIn, Meshes}
 use Rattle.b3d_judge.specs.declared.Meshed.{Meshed}
 use Rattle.b3d_judge.specs.declared.Meshed.the-variants as meshes
 use Rattle.b3d_judge.proofs.Answered.{judged-bad, judged-good}
 use Rattle.b3d_judge.proofs.Chains.{judged-start, judged-end, judged-more}
-use Rattle.b3d_judge.proofs.Rests.{rest-chunk, rest-cut, rest-done}
-use Rattle.b3d_judge.proofs.TagTests.{wrong, wrong-here, not-set, not-set-after, not-vertices}
+use Rattle.b3d_judge.proofs.Rests.{rest-done, rest-step, rest-stop, rest-end, step-body, among-inside, among-head}
+use Rattle.b3d_judge.proofs.TagTests.{never, some-inj}
 
 -- ---- TRIS after TRIS
 
@@ -52,13 +52,13 @@ abbrev pub come : Bool → Reached
 come true = reached 2 false
 come false = reached 1 true
 
--- at c, with the tally m of the sets before
-pub record Setting (s : List ℕ) (at brushes vertices : ℕ) (from c : Cursor) (m : Tally) (some : Bool) : Type 0 where
+-- at c, after q, with the tally m of the sets before
+pub record Setting (s : List ℕ) (at brushes vertices : ℕ) (from c : Cursor) (q : State) (m : Tally) : Type 0 where
   pub among : Among at c (length s)
   pub from-at : from .at ≤ c .at
   pub same : c .end ≡ from .end
   pub within : Within m (c .at - from .at)
-  pub so-far : judged setsTally (readSets brushes vertices (restIn s MESH at (reached 1 true) from)) ≡ judgedFrom m setsTally (readSets brushes vertices (restIn s MESH at (come some) c))
+  pub so-far : judged setsTally (readSets brushes vertices (restIn s MESH at (reached 1 true) from)) ≡ judgedFrom m setsTally (readSets brushes vertices (restIn s MESH at (reachedOf q) c))
 
 sets-more : (x : TriangleSet) (l : List TriangleSet) → setsTally (x ∷ l) ≡ plus (setTally x) (setsTally l)
 unfolding setsTally
@@ -68,7 +68,7 @@ module _ (s : List ℕ) (at brushes vertices : ℕ) (from : Cursor) where
   abbrev Sets : Judged → Type 0
   Sets x = Judges setsTally (readSets brushes vertices (restIn s MESH at (reached 1 true) from)) (from .at) (from .end) x
 
-  pub setting-start : Among at from (length s) → (m : Tally) → m ≡ noTally → Setting s at brushes vertices from from m false
+  pub setting-start : Among at from (length s) → (m : Tally) → m ≡ noTally → Setting s at brushes vertices from from (record { turn = 1; spent = true }) m
   setting-start g m e = record {
     among = g;
     from-at = omega arith;
@@ -77,76 +77,60 @@ module _ (s : List ℕ) (at brushes vertices : ℕ) (from : Cursor) where
     so-far = rw e (judged-start setsTally (readSets brushes vertices (restIn s MESH at (reached 1 true) from)));
   }
 
-  module _ (c : Cursor) (m : Tally) (some : Bool) (v : Setting s at brushes vertices from c m some) where
+  module _ (c : Cursor) (q : State) (m : Tally) (v : Setting s at brushes vertices from c q m) where
     pub setting-inside : Inside c (length s)
     setting-inside = record { before = v .among .room; within = v .among .within }
+
+    pub setting-head : at ≤ c .at
+    setting-head = omega (arith, v .among .head)
 
     pub setting-small : Within m mostBytes
     setting-small = within-more (c .at - from .at) mostBytes (v .within) (omega (arith, v .among .room, v .among .within, v .among .small))
 
-    refuse : (e q : ℕ) → readSets brushes vertices (restIn s MESH at (come some) c) ≡ bad e q → q ≤ c .end → Sets (judge.Bad e q)
-    refuse e q h le = record { is = sym (v .so-far ∙ rw h); within = omega (arith, v .same) }
+    refuse : (e i : ℕ) → readSets brushes vertices (restIn s MESH at (reachedOf q) c) ≡ bad e i → i ≤ c .end → Sets (judge.Bad e i)
+    refuse e i h le = record { is = sym (v .so-far ∙ rw h); within = omega (arith, v .same) }
 
-    module _ (r : Next) (x : NextIs s c r) where
-      pub setting-cut : (p : ℕ) → r ≡ next.Cut p → Sets (judge.Bad 3 p)
+    module _ (r : Enclosed) (x : EnclosedIs s MESH at q c r) where
+      pub setting-stop : (e p : ℕ) → r ≡ enclosed.Not e p → Sets (judge.Bad e p)
       unfolding readSets
-      setting-cut p w = refuse 3 p (rw (rest-cut s c r x MESH at (come some) p w)) (cut-before s c r x p w)
+      setting-stop e p w = refuse e p (rw (rest-stop s MESH at q c r x e p w)) (stop-before s MESH at q c r x e p w)
 
-      pub setting-none : r ≡ next.Done → some ≡ false → Sets (judge.Bad 8 at)
-      unfolding readSets order if
-      setting-none w e = refuse 8 at (rw (rest-done s c r x MESH at (come some) w, e)) (omega (arith, v .among .head, v .among .room))
-
-      pub setting-done : r ≡ next.Done → some ≡ true → Sets (judge.Good m)
-      unfolding readSets order if setsTally
-      setting-done w e = record {
-        is = sym (v .so-far ∙ rw (rest-done s c r x MESH at (come some) w, e) (judged-end setsTally m [] refl));
+      pub setting-end : r ≡ enclosed.End → Sets (judge.Good m)
+      unfolding readSets setsTally
+      setting-end w = record {
+        is = sym (v .so-far ∙ rw (rest-end s MESH at q c r x w) (judged-end setsTally m [] refl));
         within = within-more (c .at - from .at) (from .end - from .at) (v .within) (omega (arith, v .among .room, v .same));
       }
 
-      module _ (t : Tag) (p : ℕ) (b n : Cursor) (w : r ≡ next.Chunk t p b n) where
+      module _ (t : Tag) (p : ℕ) (b n : Cursor) (z : State) (w : r ≡ enclosed.Chunk t p b n z) where
         pub setting-body : Body p b (length s)
-        setting-body = let f = chunk-among s c r x t p b n w in record { head = f .body; room = f .room; within = omega (arith, v .among .within); small = v .among .small }
+        setting-body = step-body s MESH at q c r x at (v .among) t p b n z w
 
         pub setting-less : n .end - n .at < c .end - c .at
-        setting-less = let f = chunk-among s c r x t p b n w in omega arith
+        setting-less = let f = step-among s MESH at q c r x t p b n z w in omega arith
 
-        pub setting-wrong : (ks : List ℕ) → OneOf ks (tagOf the-type t) → T (wrong MESH (reached 2 false) ks) → T (wrong MESH (reached 1 true) ks) → Sets (judge.Bad 4 p)
-        unfolding readSets onward
-        setting-wrong ks o ht hf =
-            let f = chunk-among s c r x t p b n w in
-            refuse 4 p (rw (rest-chunk s c r x MESH at (come some) t p b n w, none-at some)) (omega arith)
-          where
-            none-at : (z : Bool) → nextTurn (nesting MESH) (nesting MESH) (come z) t ≡ none
-            none-at true = wrong-here MESH (reached 2 false) ks ht t o
-            none-at false = wrong-here MESH (reached 1 true) ks hf t o
-
-        module _ (q : t ≡ TRIS) (j : Judged) (h : Judges setTally (readTriangles brushes vertices p (left b s)) p (b .end) j) where
-          turn : (z : Bool) → restIn s MESH at (come z) c ≡ chunk TRIS p (left b s) (restIn s MESH at (reached 2 false) n)
-          unfolding nextTurn onward if
-          turn true = rw (rest-chunk s c r x MESH at (reached 2 false) t p b n w, q)
-          turn false = rw (rest-chunk s c r x MESH at (reached 1 true) t p b n w, q)
-
-          more : readSets brushes vertices (restIn s MESH at (come some) c)
-              ≡ (readTriangles brushes vertices p (left b s) >>= λ i. readSets brushes vertices (restIn s MESH at (reached 2 false) n) >>= λ l. got (i ∷ l))
+        module _ (j : Judged) (h : Judges setTally (readTriangles brushes vertices p (left b s)) p (b .end) j) where
+          more : readSets brushes vertices (restIn s MESH at (reachedOf q) c)
+              ≡ (readTriangles brushes vertices p (left b s) >>= λ i. readSets brushes vertices (restIn s MESH at (reachedOf z) n) >>= λ l. got (i ∷ l))
           unfolding readSets
-          more = rw (turn some)
+          more = rw (rest-step s MESH at q c r x t p b n z w)
 
           pub setting-bad : (e i : ℕ) → j ≡ judge.Bad e i → Sets (judge.Bad e i)
-          setting-bad e i z =
-              let f = chunk-among s c r x t p b n w in
-              let le : i ≤ b .end = subst (JudgedIn p (b .end)) z (h .within) in
-              refuse e i (rw (more, judged-bad setTally (readTriangles brushes vertices p (left b s)) e i (sym (h .is) ∙ z))) (omega arith)
+          setting-bad e i y =
+              let f = step-among s MESH at q c r x t p b n z w in
+              let le : i ≤ b .end = subst (JudgedIn p (b .end)) y (h .within) in
+              refuse e i (rw (more, judged-bad setTally (readTriangles brushes vertices p (left b s)) e i (sym (h .is) ∙ y))) (omega arith)
 
           pub setting-one-small : (k : Tally) → j ≡ judge.Good k → Within k mostBytes
-          setting-one-small k z =
-              let i : Within k (b .end - p) = subst (JudgedIn p (b .end)) z (h .within) in
+          setting-one-small k y =
+              let i : Within k (b .end - p) = subst (JudgedIn p (b .end)) y (h .within) in
               within-more (b .end - p) mostBytes i (let f = setting-body in omega (arith, f .within, f .small))
 
-          pub setting-more : (k y : Tally) → j ≡ judge.Good k → y ≡ plus m k → Setting s at brushes vertices from n y true
-          setting-more k y z e =
-              let f = chunk-among s c r x t p b n w in
-              let g = judged-good setTally (readTriangles brushes vertices p (left b s)) k (sym (h .is) ∙ z) in
-              let i : Within k (b .end - p) = subst (JudgedIn p (b .end)) z (h .within) in
+          pub setting-more : (k u : Tally) → j ≡ judge.Good k → u ≡ plus m k → Setting s at brushes vertices from n z u
+          setting-more k u y e =
+              let f = step-among s MESH at q c r x t p b n z w in
+              let g = judged-good setTally (readTriangles brushes vertices p (left b s)) k (sym (h .is) ∙ y) in
+              let i : Within k (b .end - p) = subst (JudgedIn p (b .end)) y (h .within) in
               record {
                 among = record { head = omega (arith, v .among .head); room = f .to; within = omega (arith, v .among .within); small = v .among .small };
                 from-at = omega (arith, v .from-at);
@@ -154,10 +138,10 @@ module _ (s : List ℕ) (at brushes vertices : ℕ) (from : Cursor) where
                 within = rw e (within-plus m k (c .at - from .at) (b .end - p) (n .at - from .at) (v .within) i (omega (arith, v .from-at)));
                 so-far =
                     v .so-far ∙ ap (judgedFrom m setsTally) more
-                    ∙ judged-more setTally setsTally (λ i l. i ∷ l) sets-more (readTriangles brushes vertices p (left b s)) k g m y e (readSets brushes vertices (restIn s MESH at (reached 2 false) n));
+                    ∙ judged-more setTally setsTally (λ i l. i ∷ l) sets-more (readTriangles brushes vertices p (left b s)) k g m u e (readSets brushes vertices (restIn s MESH at (reachedOf z) n));
               }
 
-pub ruleset setting = (not-set, not-set-after, setting-start, setting-inside, setting-small, setting-cut, setting-none, setting-done, setting-body, setting-less, setting-wrong, setting-bad, setting-one-small, setting-more)
+pub ruleset setting = (setting-start, setting-inside, setting-head, setting-small, setting-stop, setting-end, setting-body, setting-less, setting-bad, setting-one-small, setting-more)
 
 -- ---- the chunks inside a mesh
 
@@ -260,47 +244,58 @@ pub ruleset rows-laws = (rows-small, rows-are)
 
 pub ruleset shape-laws = (shape-bad, shape-few, shape-wide, shape-sets-bad, shape-sets-small, shape-vertices-small, shape-good)
 
-module _ (s : List ℕ) (at brushes : ℕ) (from : Cursor) (g : Among at from (length s)) (far : at + 12 ≤ from .at) (r : Next) (x : NextIs s from r) where
+-- the first chunk of a mesh is its VRTS
+first-turn : (t : Tag) (z : State) → nextTurn (nesting MESH) (nesting MESH) start t ≡ some (reachedOf z) → (t ≡ VRTS) × (reachedOf z ≡ reached 1 true)
+unfolding nextTurn if
+first-turn t z =
+    by-tag (λ t. nextTurn (nesting MESH) (nesting MESH) start t ≡ some (reachedOf z) → (t ≡ VRTS) × (reachedOf z ≡ reached 1 true))
+    (never, never, never, never, never, (λ h. (refl, some-inj h)), never, never, never, never) t
+
+module _ (s : List ℕ) (at brushes : ℕ) (from : Cursor) (g : Among at from (length s)) (far : at + 12 ≤ from .at) (r : Enclosed) (x : EnclosedIs s MESH at (record { turn = 0; spent = false }) from r) where
   abbrev Inside-mesh : Meshed → Type 0
   Inside-mesh y = Meshes (readInside brushes 0 (restIn s MESH at start from)) at (from .end) y
 
-  pub inside-cut : (p : ℕ) → r ≡ next.Cut p → Inside-mesh (meshes.Not 3 p)
+  pub inside-stop : (e p : ℕ) → r ≡ enclosed.Not e p → Inside-mesh (meshes.Not e p)
   unfolding readInside readOne
-  inside-cut p w = record { is = rw (rest-cut s from r x MESH at start p w); within = cut-before s from r x p w }
+  inside-stop e p w = record {
+    is = rw (rest-stop s MESH at (record { turn = 0; spent = false }) from r x e p w);
+    within = stop-before s MESH at (record { turn = 0; spent = false }) from r x e p w;
+  }
 
-  pub inside-none : r ≡ next.Done → Inside-mesh (meshes.Not 8 at)
-  unfolding readInside readOne order if
-  inside-none w = record { is = rw (rest-done s from r x MESH at start w); within = omega (arith, g .head, g .room) }
+  -- it owes its VRTS
+  pub inside-end : r ≡ enclosed.End → (y : Meshed) → Inside-mesh y
+  unfolding order if
+  inside-end w y =
+      let n = end-next s MESH at (record { turn = 0; spent = false }) from r x w in
+      let e : stop 8 at ≡ done = sym (rest-done s from next.Done n MESH at start refl) ∙ rest-end s MESH at (record { turn = 0; spent = false }) from r x w in
+      let z : _≡_ {A = ℕ} 0 1 = cc in absurd (omega arith)
 
-  module _ (t : Tag) (p : ℕ) (b n : Cursor) (w : r ≡ next.Chunk t p b n) where
-    pub inside-wrong : (ks : List ℕ) → OneOf ks (tagOf the-type t) → T (wrong MESH start ks) → Inside-mesh (meshes.Not 4 p)
-    unfolding readInside readOne onward
-    inside-wrong ks o h = record {
-      is = rw (rest-chunk s from r x MESH at start t p b n w, wrong-here MESH start ks h t o);
-      within = let f = chunk-among s from r x t p b n w in omega arith;
-    }
+  module _ (t : Tag) (p : ℕ) (b n : Cursor) (z : State) (w : r ≡ enclosed.Chunk t p b n z) where
+    among : Chunked from p b n
+    among = step-among s MESH at (record { turn = 0; spent = false }) from r x t p b n z w
 
     pub inside-body : Body p b (length s)
-    inside-body = let f = chunk-among s from r x t p b n w in record { head = f .body; room = f .room; within = omega (arith, g .within); small = g .small }
+    inside-body = step-body s MESH at (record { turn = 0; spent = false }) from r x at g t p b n z w
 
     pub inside-among : Among at n (length s)
-    inside-among = let f = chunk-among s from r x t p b n w in record { head = omega (arith, g .head); room = f .to; within = omega (arith, g .within); small = g .small }
+    inside-among = let f = among in record { head = omega (arith, g .head); room = f .to; within = omega (arith, g .within); small = g .small }
 
     pub inside-far : at + 12 ≤ p
-    inside-far = let f = chunk-among s from r x t p b n w in omega arith
+    inside-far = let f = among in omega arith
 
     pub inside-join : b .end ≡ n .at
-    inside-join = sym (chunk-among s from r x t p b n w .after)
+    inside-join = sym (among .after)
 
-    pub inside-shape : t ≡ VRTS → (y : Meshed) → Meshes (readAfter brushes 0 (readVertices p (left b s)) (restIn s MESH at (reached 1 true) n)) at (n .end) y → Inside-mesh y
-    unfolding readInside readAfter readOne nextTurn onward if
-    inside-shape q y m =
-        let f = chunk-among s from r x t p b n w in
+    pub inside-shape : (y : Meshed) → Meshes (readAfter brushes 0 (readVertices p (left b s)) (restIn s MESH at (reached 1 true) n)) at (n .end) y → Inside-mesh y
+    unfolding readInside readAfter readOne if
+    inside-shape y m =
+        let f = among in
+        let u = first-turn t z (step-turn s MESH at (record { turn = 0; spent = false }) from r x t p b n z w) in
         let opened : readInside brushes 0 (restIn s MESH at start from) ≡ readAfter brushes 0 (readVertices p (left b s)) (restIn s MESH at (reached 1 true) n) =
-        rw (rest-chunk s from r x MESH at start t p b n w, q) (bind-bind (readVertices p (left b s)) _ _) in
+        rw (rest-step s MESH at (record { turn = 0; spent = false }) from r x t p b n z w, u .0, u .1) (bind-bind (readVertices p (left b s)) _ _) in
         record {
           is = m .is ∙ ap meshed (sym opened);
           within = subst (λ (e : ℕ). MeshedIn at e y) (f .same) (m .within);
         }
 
-pub ruleset inside-laws = (not-vertices, inside-cut, inside-none, inside-wrong, inside-body, inside-among, inside-far, inside-join, inside-shape)
+pub ruleset inside-laws = (among-head, among-inside, inside-stop, inside-end, inside-body, inside-among, inside-far, inside-join, inside-shape)

@@ -4,19 +4,17 @@ use Prim.Native.Nat.{ℕ}
 use native.Mathlib.Omega.{arith}
 use mathlib.Core.Bool.{Bool, true, false, not, _&&_, _||_}
 use mathlib.Core.Option.{Option, none, some}
-use mathlib.Core.List.{List, [], _∷_}
+use mathlib.Core.List.{List}
 use lib.Dec.{T, eqb, eqb→eq}
 use mir.Facts.{and-yes}
 use mir.Val.{hasKey}
 use types.Run.{OneOf, miss}
 use denote.Enum.Declared.{tagOf}
-use Rattle.wire.specs.Test.{if}
 use Rattle.layout.proofs.Outs.{by-test}
 use Rattle.b3d_scene.specs.declared.Tag.{Tag}
 use Rattle.b3d_scene.specs.declared.Tag.the-variants.{BB3D, TEXS, BRUS, NODE, MESH, VRTS, TRIS, BONE, KEYS, ANIM}
-use Rattle.b3d_scene.specs.Nesting.{nesting, Reached, start, next}
+use Rattle.b3d_scene.specs.Nesting.{nesting, Reached, next}
 use Rattle.b3d_scene.proofs.Tag.{the-type}
-use Rattle.b3d_judge.specs.States.{reached}
 
 -- the test holds of all ten
 abbrev pub ten : (Tag → Bool) → Bool
@@ -44,23 +42,16 @@ one-of f ks h t o =
     or-right true b h y = h
     or-right false b h y = absurd y
 
-isNone : Option Reached → Bool
+unfoldable pub isNone : Option Reached → Bool
 isNone none = true
 isNone (some q) = false
 
-none-is : (o : Option Reached) → T (isNone o) → o ≡ none
-unfolding isNone
-none-is none h = refl
-none-is (some q) h = absurd h
+-- a tag that may not stand does not
+pub never : {q : Reached} {A : Type 0} → none ≡ some q → A
+never h = let z : _≡_ {A = ℕ} 0 1 = cc in absurd (omega arith)
 
--- none of those numbered ks may stand inside k after q
-pub wrong : Tag → Reached → List ℕ → Bool
-unfolding isNone
-wrong k q ks = ten (λ t. not (hasKey ks (tagOf the-type t)) || isNone (next (nesting k) (nesting k) q t))
-
-pub wrong-here : (k : Tag) (q : Reached) (ks : List ℕ) → T (wrong k q ks) → (t : Tag) → OneOf ks (tagOf the-type t) → next (nesting k) (nesting k) q t ≡ none
-unfolding wrong isNone
-wrong-here k q ks h t o = none-is (next (nesting k) (nesting k) q t) (one-of (λ u. isNone (next (nesting k) (nesting k) q u)) ks h t o)
+pub some-inj : {p q : Reached} → some p ≡ some q → q ≡ p
+some-inj h = cc
 
 -- ---- chunks that may stand here, and are left for what follows
 
@@ -97,56 +88,23 @@ alike (some a) (some b) h =
 alike (some a) none h = absurd h
 alike none y h = absurd h
 
--- each of those numbered ks may stand inside k after q, and just so after z; and is none of the tags that the test takes
+-- those numbered ks that may stand inside k after q may stand just so after z; and none is one of the tags that the test takes
 unfoldable pub plain : Tag → (Tag → Bool) → Reached → Reached → List ℕ → Bool
-unfolding sameTurn boolSame
-plain k takes q z ks = ten (λ t. not (hasKey ks (tagOf the-type t)) || (not (takes t) && sameTurn (next (nesting k) (nesting k) q t) (next (nesting k) (nesting k) z t)))
+unfolding isNone sameTurn boolSame
+plain k takes q z ks =
+    ten
+    (λ t. not (hasKey ks (tagOf the-type t))
+    || (not (takes t) && (isNone (next (nesting k) (nesting k) q t) || sameTurn (next (nesting k) (nesting k) q t) (next (nesting k) (nesting k) z t))))
+
+some-here : (o x : Option Reached) (y : Reached) → o ≡ some y → T (isNone o || sameTurn o x) → T (sameTurn o x)
+unfolding isNone sameTurn boolSame
+some-here none x y e h = never e
+some-here (some a) x y e h = h
 
 pub plain-here : (k : Tag) (takes : Tag → Bool) (q z : Reached) (ks : List ℕ) → T (plain k takes q z ks) → (t : Tag) → OneOf ks (tagOf the-type t)
-    → T (not (takes t)) × Alike (next (nesting k) (nesting k) q t) (next (nesting k) (nesting k) z t)
-unfolding plain sameTurn boolSame
-plain-here k takes q z ks h t o =
-    let (a, b) = and-yes (not (takes t)) _ (one-of (λ u. not (takes u) && sameTurn (next (nesting k) (nesting k) q u) (next (nesting k) (nesting k) z u)) ks h t o) in
-    (a, alike (next (nesting k) (nesting k) q t) (next (nesting k) (nesting k) z t) b)
-
--- ---- what stands wrong at each place of the walk, computed
-
-pub not-kind : T (wrong NODE start (0 ∷ 1 ∷ 2 ∷ 5 ∷ 6 ∷ []))
-unfolding wrong isNone next if
-not-kind = tt
-
-pub not-move-after : T (wrong NODE (reached 2 true) (0 ∷ 1 ∷ 2 ∷ 4 ∷ 5 ∷ 6 ∷ 7 ∷ []))
-unfolding wrong isNone next if
-not-move-after = tt
-
-pub not-move : T (wrong NODE (reached 2 false) (0 ∷ 1 ∷ 2 ∷ 4 ∷ 5 ∷ 6 ∷ 7 ∷ []))
-unfolding wrong isNone next if
-not-move = tt
-
-pub not-node : T (wrong NODE (reached 3 false) (0 ∷ 1 ∷ 2 ∷ 4 ∷ 5 ∷ 6 ∷ 7 ∷ 8 ∷ 9 ∷ []))
-unfolding wrong isNone next if
-not-node = tt
-
-pub not-set-after : T (wrong MESH (reached 2 false) (0 ∷ 1 ∷ 2 ∷ 3 ∷ 4 ∷ 5 ∷ 7 ∷ 8 ∷ 9 ∷ []))
-unfolding wrong isNone next if
-not-set-after = tt
-
-pub not-set : T (wrong MESH (reached 1 true) (0 ∷ 1 ∷ 2 ∷ 3 ∷ 4 ∷ 5 ∷ 7 ∷ 8 ∷ 9 ∷ []))
-unfolding wrong isNone next if
-not-set = tt
-
-pub not-vertices : T (wrong MESH start (0 ∷ 1 ∷ 2 ∷ 3 ∷ 4 ∷ 6 ∷ 7 ∷ 8 ∷ 9 ∷ []))
-unfolding wrong isNone next if
-not-vertices = tt
-
-pub not-texs : T (wrong BB3D start (0 ∷ 4 ∷ 5 ∷ 6 ∷ 7 ∷ 8 ∷ 9 ∷ []))
-unfolding wrong isNone next if
-not-texs = tt
-
-pub not-brus : T (wrong BB3D (reached 1 true) (0 ∷ 1 ∷ 4 ∷ 5 ∷ 6 ∷ 7 ∷ 8 ∷ 9 ∷ []))
-unfolding wrong isNone next if
-not-brus = tt
-
-pub not-root : T (wrong BB3D (reached 2 true) (0 ∷ 1 ∷ 2 ∷ 4 ∷ 5 ∷ 6 ∷ 7 ∷ 8 ∷ 9 ∷ []))
-unfolding wrong isNone next if
-not-root = tt
+    → (y : Reached) → next (nesting k) (nesting k) q t ≡ some y → T (not (takes t)) × Alike (next (nesting k) (nesting k) q t) (next (nesting k) (nesting k) z t)
+unfolding plain isNone sameTurn boolSame
+plain-here k takes q z ks h t o y e =
+    let f : Tag → Bool = λ u. not (takes u) && (isNone (next (nesting k) (nesting k) q u) || sameTurn (next (nesting k) (nesting k) q u) (next (nesting k) (nesting k) z u)) in
+    let (a, b) = and-yes (not (takes t)) _ (one-of f ks h t o) in
+    (a, alike (next (nesting k) (nesting k) q t) (next (nesting k) (nesting k) z t) (some-here (next (nesting k) (nesting k) q t) (next (nesting k) (nesting k) z t) y e b))

@@ -23,31 +23,49 @@ use b3d_bodies::Judged;
 use b3d_bodies::Slotted;
 use b3d_bodies::Tally;
 use b3d_bodies::rows;
-use b3d_chunks::Next;
 use b3d_scene::Tag;
+use b3d_turns::Enclosed;
+use b3d_turns::Reached;
 use wire::Cursor;
 use wire::Number;
+
+// How far the chunks of a file have come after its textures, its brushes and its root, with them or without.
+const TEXS_READ: Reached = Reached {
+    turn: 1,
+    spent: true,
+};
+
+const BRUS_READ: Reached = Reached {
+    turn: 2,
+    spent: true,
+};
+
+const ROOT_READ: Reached = Reached {
+    turn: 3,
+    spent: true,
+};
 
 // The textures, if TEXS comes first.
 pub fn judge_texs(s: &[u8], from: Cursor) -> Phase
     requires { ⌜ Among 0 from (length (now s)) ⌝ }
     ensures { λ r. ⌜ Phases texsTally (readOne TEXS [] readTextures (restIn (now (s .entry)) BB3D 0 start from)) (restIn (now (s .entry)) BB3D 0 (reached 1 true)) from r ⌝ }
 {
-    match b3d_chunks::next_chunk(s, from) {
-        Next::Done => Phase::To(rows::none(), from),
-        Next::Cut(p) => Phase::Not(3, p),
-        Next::Chunk {
+    let found = b3d_chunks::next_chunk(s, from);
+    match b3d_turns::first_inside(s, from, found, Tag::BB3D, 0) {
+        Enclosed::End => Phase::To(rows::none(), from),
+        Enclosed::Not(e, p) => Phase::Not(e, p),
+        Enclosed::Chunk {
             tag,
             at,
             body,
             next,
+            reached: _,
         } => match tag {
             Tag::TEXS => match b3d_bodies::judge_textures(s, at, body) {
                 Judged::Bad(e, p) => Phase::Not(e, p),
                 Judged::Good(t) => Phase::To(t, next),
             },
-            Tag::BRUS | Tag::NODE => Phase::To(rows::none(), from),
-            _ => Phase::Not(4, at),
+            _ => Phase::To(rows::none(), from),
         },
     }
 }
@@ -57,21 +75,22 @@ pub fn judge_brus(s: &[u8], from: Cursor, textures: usize) -> Brushed
     requires { ⌜ Among 0 from (length (now s)) ⌝ }
     ensures { λ r. ⌜ Brushes (readOne BRUS (0, []) (readBrushes textures) (restIn (now (s .entry)) BB3D 0 (reached 1 true) from)) (restIn (now (s .entry)) BB3D 0 (reached 2 true)) from r ⌝ }
 {
-    match b3d_chunks::next_chunk(s, from) {
-        Next::Done => Brushed::To(0, rows::none(), from),
-        Next::Cut(p) => Brushed::Not(3, p),
-        Next::Chunk {
+    let found = b3d_chunks::next_chunk(s, from);
+    match b3d_turns::next_inside(s, from, found, Tag::BB3D, 0, TEXS_READ) {
+        Enclosed::End => Brushed::To(0, rows::none(), from),
+        Enclosed::Not(e, p) => Brushed::Not(e, p),
+        Enclosed::Chunk {
             tag,
             at,
             body,
             next,
+            reached: _,
         } => match tag {
             Tag::BRUS => match b3d_bodies::judge_brushes(s, at, body, textures) {
                 Slotted::Not(e, p) => Brushed::Not(e, p),
                 Slotted::Is(slots, t) => Brushed::To(slots, t, next),
             },
-            Tag::NODE => Brushed::To(0, rows::none(), from),
-            _ => Brushed::Not(4, at),
+            _ => Brushed::To(0, rows::none(), from),
         },
     }
 }
@@ -81,20 +100,19 @@ fn judge_root(s: &[u8], from: Cursor, brushes: usize) -> Phase
     requires { ⌜ Among 0 from (length (now s)) ⌝ }
     ensures { λ r. ⌜ Phases forestTally (readOne NODE leaf (readRoot brushes) (restIn (now (s .entry)) BB3D 0 (reached 2 true) from)) (restIn (now (s .entry)) BB3D 0 (reached 3 true)) from r ⌝ }
 {
-    match b3d_chunks::next_chunk(s, from) {
-        Next::Done => Phase::To(rows::none(), from),
-        Next::Cut(p) => Phase::Not(3, p),
-        Next::Chunk {
-            tag,
+    let found = b3d_chunks::next_chunk(s, from);
+    match b3d_turns::next_inside(s, from, found, Tag::BB3D, 0, BRUS_READ) {
+        Enclosed::End => Phase::To(rows::none(), from),
+        Enclosed::Not(e, p) => Phase::Not(e, p),
+        Enclosed::Chunk {
+            tag: _,
             at,
             body,
             next,
-        } => match tag {
-            Tag::NODE => match nodes::judge_node(s, at, body, 16, brushes, Above::Root) {
-                Judged::Bad(e, p) => Phase::Not(e, p),
-                Judged::Good(t) => Phase::To(t, next),
-            },
-            _ => Phase::Not(4, at),
+            reached: _,
+        } => match nodes::judge_node(s, at, body, 16, brushes, Above::Root) {
+            Judged::Bad(e, p) => Phase::Not(e, p),
+            Judged::Good(t) => Phase::To(t, next),
         },
     }
 }
@@ -106,16 +124,21 @@ fn judge_last(s: &[u8], from: Cursor, brushes: usize) -> Judged
 {
     match judge_root(s, from, brushes) {
         Phase::Not(e, p) => Judged::Bad(e, p),
-        Phase::To(t, end) => match b3d_chunks::next_chunk(s, end) {
-            Next::Done => Judged::Good(t),
-            Next::Cut(p) => Judged::Bad(3, p),
-            Next::Chunk {
-                tag: _,
-                at,
-                body: _,
-                next: _,
-            } => Judged::Bad(4, at),
-        },
+        Phase::To(t, end) => {
+            let found = b3d_chunks::next_chunk(s, end);
+            match b3d_turns::next_inside(s, end, found, Tag::BB3D, 0, ROOT_READ) {
+                Enclosed::End => Judged::Good(t),
+                Enclosed::Not(e, p) => Judged::Bad(e, p),
+                // Nothing may stand here.
+                Enclosed::Chunk {
+                    tag: _,
+                    at: _,
+                    body: _,
+                    next: _,
+                    reached: _,
+                } => Judged::Good(t),
+            }
+        }
     }
 }
 

@@ -17,10 +17,17 @@ use b3d_bodies::Judged;
 use b3d_bodies::Shaped;
 use b3d_bodies::Tally;
 use b3d_bodies::rows;
-use b3d_chunks::Next;
 use b3d_scene::Tag;
+use b3d_turns::Enclosed;
+use b3d_turns::Reached;
 use wire::Cursor;
 use wire::Number;
+
+// How far the chunks of a mesh have come after its VRTS.
+const VRTS_READ: Reached = Reached {
+    turn: 1,
+    spent: true,
+};
 
 // The TRIS chunks of a mesh whose header is at `at`, with so many vertices: one or more.
 pub fn judge_sets(s: &[u8], at: usize, from: Cursor, brushes: usize, vertices: usize) -> Judged
@@ -28,37 +35,31 @@ pub fn judge_sets(s: &[u8], at: usize, from: Cursor, brushes: usize, vertices: u
     ensures { λ r. ⌜ Judges setsTally (readSets brushes vertices (restIn (now (s .entry)) MESH at (reached 1 true) from)) (from .at) (from .end) r ⌝ }
 {
     let mut c = from;
+    let mut q = VRTS_READ;
     let mut m = rows::none();
-    let mut some = false;
     loop {
-        match b3d_chunks::next_chunk(s, c) {
-            Next::Done => {
-                if some {
-                    return Judged::Good(m);
-                }
-                return Judged::Bad(8, at);
+        let found = b3d_chunks::next_chunk(s, c);
+        match b3d_turns::next_inside(s, c, found, Tag::MESH, at, q) {
+            Enclosed::End => {
+                return Judged::Good(m);
             }
-            Next::Cut(p) => {
-                return Judged::Bad(3, p);
+            Enclosed::Not(e, p) => {
+                return Judged::Bad(e, p);
             }
-            Next::Chunk {
-                tag,
+            Enclosed::Chunk {
+                tag: _,
                 at: p,
                 body,
                 next,
-            } => match tag {
-                Tag::TRIS => match b3d_bodies::judge_triangles(s, p, body, brushes, vertices) {
-                    Judged::Bad(e, q) => {
-                        return Judged::Bad(e, q);
-                    }
-                    Judged::Good(t) => {
-                        m = rows::plus(m, t);
-                        some = true;
-                        c = next;
-                    }
-                },
-                _ => {
-                    return Judged::Bad(4, p);
+                reached,
+            } => match b3d_bodies::judge_triangles(s, p, body, brushes, vertices) {
+                Judged::Bad(e, i) => {
+                    return Judged::Bad(e, i);
+                }
+                Judged::Good(t) => {
+                    m = rows::plus(m, t);
+                    q = reached;
+                    c = next;
                 }
             },
         }
@@ -92,18 +93,18 @@ fn judge_inside(s: &[u8], at: usize, from: Cursor, brushes: usize) -> Meshed
     requires { ⌜ Among at from (length (now s)) × (at + 12 ≤ from .at) ⌝ }
     ensures { λ r. ⌜ Meshes (readInside brushes 0 (restIn (now (s .entry)) MESH at start from)) at (from .end) r ⌝ }
 {
-    match b3d_chunks::next_chunk(s, from) {
-        Next::Done => Meshed::Not(8, at),
-        Next::Cut(p) => Meshed::Not(3, p),
-        Next::Chunk {
-            tag,
+    let found = b3d_chunks::next_chunk(s, from);
+    match b3d_turns::first_inside(s, from, found, Tag::MESH, at) {
+        // No mesh ends here: it owes its VRTS.
+        Enclosed::End => Meshed::Is(0, rows::none()),
+        Enclosed::Not(e, p) => Meshed::Not(e, p),
+        Enclosed::Chunk {
+            tag: _,
             at: p,
             body,
             next,
-        } => match tag {
-            Tag::VRTS => judge_shape(s, at, p, body, next, brushes),
-            _ => Meshed::Not(4, p),
-        },
+            reached: _,
+        } => judge_shape(s, at, p, body, next, brushes),
     }
 }
 

@@ -23,9 +23,21 @@ use b3d_bodies::Judged;
 use b3d_bodies::Tally;
 use b3d_bodies::rows;
 use b3d_chunks::Named;
-use b3d_chunks::Next;
 use b3d_scene::Tag;
+use b3d_turns::Enclosed;
+use b3d_turns::Reached;
 use wire::Cursor;
+
+// How far the chunks of a node have come after its kind, with one or without; after its KEYS and ANIM.
+const KIND_READ: Reached = Reached {
+    turn: 2,
+    spent: false,
+};
+
+const MOVES_READ: Reached = Reached {
+    turn: 3,
+    spent: false,
+};
 
 // How many vertices a bone of this node may name.
 pub fn bone_vertices(a: Above) -> usize
@@ -52,14 +64,16 @@ pub fn judge_kind(s: &[u8], at: usize, from: Cursor, brushes: usize, bones: usiz
     requires { ⌜ Among at from (length (now s)) ⌝ }
     ensures { λ r. ⌜ Kinds (readKind brushes bones (restIn (now (s .entry)) NODE at start from)) (restIn (now (s .entry)) NODE at (reached 2 false)) from r ⌝ }
 {
-    match b3d_chunks::next_chunk(s, from) {
-        Next::Done => Kinded::To(0, rows::none(), from),
-        Next::Cut(p) => Kinded::Not(3, p),
-        Next::Chunk {
+    let found = b3d_chunks::next_chunk(s, from);
+    match b3d_turns::first_inside(s, from, found, Tag::NODE, at) {
+        Enclosed::End => Kinded::To(0, rows::none(), from),
+        Enclosed::Not(e, p) => Kinded::Not(e, p),
+        Enclosed::Chunk {
             tag,
             at: p,
             body,
             next,
+            reached: _,
         } => match tag {
             Tag::MESH => match meshes::judge_mesh(s, p, body, brushes) {
                 Meshed::Not(e, q) => Kinded::Not(e, q),
@@ -69,8 +83,7 @@ pub fn judge_kind(s: &[u8], at: usize, from: Cursor, brushes: usize, bones: usiz
                 Judged::Bad(e, q) => Kinded::Not(e, q),
                 Judged::Good(t) => Kinded::To(0, t, next),
             },
-            Tag::NODE | Tag::KEYS | Tag::ANIM => Kinded::To(0, rows::none(), from),
-            _ => Kinded::Not(4, p),
+            _ => Kinded::To(0, rows::none(), from),
         },
     }
 }
@@ -92,46 +105,43 @@ pub fn judge_moves(s: &[u8], at: usize, from: Cursor) -> Phase
     ensures { λ r. ⌜ Phases movesTally (readMoves still (restIn (now (s .entry)) NODE at (reached 2 false) from)) (restIn (now (s .entry)) NODE at (reached 3 false)) from r ⌝ }
 {
     let mut c = from;
+    let mut q = KIND_READ;
     let mut m = rows::none();
-    let mut seen = false;
     loop {
-        match b3d_chunks::next_chunk(s, c) {
-            Next::Done => {
-                return Phase::To(with_anim(m, seen), c);
+        let found = b3d_chunks::next_chunk(s, c);
+        match b3d_turns::next_inside(s, c, found, Tag::NODE, at, q) {
+            Enclosed::End => {
+                return Phase::To(with_anim(m, q.spent), c);
             }
-            Next::Cut(p) => {
-                return Phase::Not(3, p);
+            Enclosed::Not(e, p) => {
+                return Phase::Not(e, p);
             }
-            Next::Chunk {
+            Enclosed::Chunk {
                 tag,
                 at: p,
                 body,
                 next,
+                reached,
             } => match tag {
-                Tag::NODE => {
-                    return Phase::To(with_anim(m, seen), c);
-                }
                 Tag::KEYS => match b3d_bodies::judge_keys(s, p, body) {
-                    Judged::Bad(e, q) => {
-                        return Phase::Not(e, q);
+                    Judged::Bad(e, i) => {
+                        return Phase::Not(e, i);
                     }
                     Judged::Good(t) => {
                         m = rows::plus(m, t);
+                        q = reached;
                         c = next;
                     }
                 },
                 Tag::ANIM => {
-                    if seen {
-                        return Phase::Not(4, p);
-                    }
                     if body.end - body.at != 12 {
                         return Phase::Not(5, body.at);
                     }
-                    seen = true;
+                    q = reached;
                     c = next;
                 }
                 _ => {
-                    return Phase::Not(4, p);
+                    return Phase::To(with_anim(m, q.spent), c);
                 }
             },
         }
@@ -215,32 +225,31 @@ pub fn judge_nodes(
     ensures { λ r. ⌜ Judges forestTally (readNodes (readNode levels brushes (aboveOf above)) (restIn (now (s .entry)) NODE at (reached 3 false) from)) (from .at) (from .end) r ⌝ }
 {
     let mut c = from;
+    let mut q = MOVES_READ;
     let mut m = rows::none();
     loop {
-        match b3d_chunks::next_chunk(s, c) {
-            Next::Done => {
+        let found = b3d_chunks::next_chunk(s, c);
+        match b3d_turns::next_inside(s, c, found, Tag::NODE, at, q) {
+            Enclosed::End => {
                 return Judged::Good(m);
             }
-            Next::Cut(p) => {
-                return Judged::Bad(3, p);
+            Enclosed::Not(e, p) => {
+                return Judged::Bad(e, p);
             }
-            Next::Chunk {
-                tag,
+            Enclosed::Chunk {
+                tag: _,
                 at: p,
                 body,
                 next,
-            } => match tag {
-                Tag::NODE => match judge_node(s, p, body, levels, brushes, above) {
-                    Judged::Bad(e, q) => {
-                        return Judged::Bad(e, q);
-                    }
-                    Judged::Good(t) => {
-                        m = rows::plus(m, t);
-                        c = next;
-                    }
-                },
-                _ => {
-                    return Judged::Bad(4, p);
+                reached,
+            } => match judge_node(s, p, body, levels, brushes, above) {
+                Judged::Bad(e, i) => {
+                    return Judged::Bad(e, i);
+                }
+                Judged::Good(t) => {
+                    m = rows::plus(m, t);
+                    q = reached;
+                    c = next;
                 }
             },
         }

@@ -5,6 +5,7 @@
 use compare::{disagree, run, Compared, Disagreement, Group};
 use scenes::change::changed;
 use scenes::damage::{aimed, node_of};
+use scenes::nesting::orders;
 use scenes::rows::keys;
 use scenes::worked::{self, with};
 use scenes::{scene, Profile, Rng};
@@ -107,9 +108,18 @@ fn too_many_rows(compared: &mut Compared, rng: &mut Rng) -> Result<(), Disagreem
     Ok(())
 }
 
-const GROUPS: [(&str, Group); 4] = [
+/// Every order of up to three chunks inside a BB3D, a NODE and a MESH.
+fn nesting(compared: &mut Compared, rng: &mut Rng) -> Result<(), Disagreement> {
+    for order in orders(3) {
+        compared.file(&order.file, rng)?;
+    }
+    Ok(())
+}
+
+const GROUPS: [(&str, Group); 5] = [
     ("cases of paper 01", worked_files),
     ("every byte of small files", every_byte),
+    ("every order of a few chunks", nesting),
     ("generated and damaged files", generated),
     ("too many rows", too_many_rows),
 ];

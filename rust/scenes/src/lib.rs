@@ -5,6 +5,7 @@
 //! - `damage`: files with one fault, and the refusal that it must bring.
 //! - `change`: files changed without regard to the outcome.
 //! - `rows`: files with a given number of rows in one table.
+//! - `nesting`: known chunks in any order inside one chunk.
 //! - `private`: files that differ only in what a clearer drops.
 //! - `words`: damaged tables for a writer.
 //! - `worked`: the worked files and cases of paper 01.
@@ -14,6 +15,7 @@ pub mod change;
 pub mod chunk;
 pub mod damage;
 pub mod make;
+pub mod nesting;
 pub mod private;
 pub mod rebuild;
 pub mod rng;

@@ -9,6 +9,7 @@ judge-brus-spec =
     tie.close
     (tie.spec
     (λ c κs. search (brus-laws, needs))
+    (λ c κs. search (brus-laws, needs))
     (λ c. search (brus-laws, needs))
     (λ c κs. search (brus-laws, needs))
     (λ c. search (brus-laws, needs))
@@ -17,9 +18,7 @@ judge-brus-spec =
     (λ c κs. search (brus-laws, needs))
     (λ c. search (brus-laws, needs))
     (λ c. search (brus-laws, needs))
-    (λ c. search (brus-laws, needs))
     (λ c κs. search (brus-laws, needs))
-    (λ c. search (brus-laws, needs))
     (λ c. search (brus-laws, needs))
     (λ c. search (brus-laws, needs))
     (λ c. search (brus-laws, needs))

@@ -1,4 +1,4 @@
--- `judge_last` judges the nodes, and that nothing known follows.
+-- `judge_last` judges the nodes, and that nothing known comes after them.
 use Rattle.b3d_judge.proofs.ChunksLaws.{last-laws}
 use borrow.Author.Needs.{needs}
 use Rattle.b3d_judge.proofs.file.judge_last.Statement.{statement}
@@ -11,6 +11,7 @@ judge-last-spec =
     (λ c κs. search (last-laws, needs))
     (λ c. search (last-laws, needs))
     (λ c. search (last-laws, needs))
+    (λ c κs. search (last-laws, needs))
     (λ c κs. search (last-laws, needs))
     (λ c. search (last-laws, needs))
     (λ c. search (last-laws, needs))

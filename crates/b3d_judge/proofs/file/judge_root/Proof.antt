@@ -9,13 +9,12 @@ judge-root-spec =
     tie.close
     (tie.spec
     (λ c κs. search (root-laws, needs))
+    (λ c κs. search (root-laws, needs))
     (λ c. search (root-laws, needs))
     (λ c κs. search (root-laws, needs))
     (λ c. search (root-laws, needs))
     (λ c. search (root-laws, needs))
-    (λ c. search (root-laws, needs))
     (λ c κs. search (root-laws, needs))
-    (λ c. search (root-laws, needs))
     (λ c. search (root-laws, needs))
     (λ c. search (root-laws, needs))
     (λ c. search (root-laws, needs))

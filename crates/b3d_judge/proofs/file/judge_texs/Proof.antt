@@ -9,6 +9,7 @@ judge-texs-spec =
     tie.close
     (tie.spec
     (λ c κs. search (texs-laws, needs))
+    (λ c κs. search (texs-laws, needs))
     (λ c. search (texs-laws, needs))
     (λ c κs. search (texs-laws, needs))
     (λ c. search (texs-laws, needs))
@@ -18,7 +19,6 @@ judge-texs-spec =
     (λ c. search (texs-laws, needs))
     (λ c. search (texs-laws, needs))
     (λ c κs. search (texs-laws, needs))
-    (λ c. search (texs-laws, needs))
     (λ c. search (texs-laws, needs))
     (λ c. search (texs-laws, needs))
     (λ c. search (texs-laws, needs))

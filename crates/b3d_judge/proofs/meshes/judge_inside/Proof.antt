@@ -9,12 +9,12 @@ judge-inside-spec =
     tie.close
     (tie.spec
     (λ c κs. search (inside-laws, needs))
-    (λ c. search (inside-laws, needs))
-    (λ c. search (inside-laws, needs))
-    (λ c. search (inside-laws, needs))
+    (λ c κs. search (inside-laws, needs))
     (λ c. search (inside-laws, needs))
     (λ c κs. search (inside-laws, needs))
     (λ c. search (inside-laws, needs))
+    (λ c. search (inside-laws, needs))
+    (λ c κs. search (inside-laws, needs))
     (λ c. search (inside-laws, needs))
     (λ c. search (inside-laws, needs))
     (λ c. search (inside-laws, needs)))

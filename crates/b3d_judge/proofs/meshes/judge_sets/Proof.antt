@@ -1,4 +1,4 @@
--- `judge_sets` judges the TRIS of a mesh. The loop is at a cursor, with the tally of the sets before; its measure is what is left.
+-- `judge_sets` judges the TRIS of a mesh. The loop is at a cursor, with how far the chunks have come and the tally of the sets before; its measure is what is left.
 use Prim.Native.Nat.{_-_}
 use Rattle.b3d_judge.proofs.SetLaws.{Setting, setting}
 use borrow.Author.Needs.{needs}
@@ -6,10 +6,10 @@ use Rattle.b3d_judge.proofs.meshes.judge_sets.Statement.{statement}
 use Rattle.b3d_judge.proofs.meshes.judge_sets.Tie as tie
 
 abbrev Inv-loop : tie.InvT-loop
-Inv-loop s at brushes vertices c₀ m₀ some₀ c m some = Setting s at brushes vertices c₀ c m some
+Inv-loop s at brushes vertices c₀ q₀ m₀ c q m = Setting s at brushes vertices c₀ c q m
 
 abbrev μ-loop : tie.MeasureT-loop
-μ-loop s at brushes vertices c₀ m₀ some₀ c m some = c .end - c .at
+μ-loop s at brushes vertices c₀ q₀ m₀ c q m = c .end - c .at
 
 pub judge-sets-spec : {M : Type 1} → statement M
 judge-sets-spec =
@@ -20,8 +20,7 @@ judge-sets-spec =
     (λ c κs. search (setting, needs))
     (λ c. search (setting, needs))
     (λ c κs. search (setting, needs))
-    (λ c. search (setting, needs))
-    (λ c. search (setting, needs))
+    (λ c κs. search (setting, needs))
     (λ c. search (setting, needs))
     (λ c. search (setting, needs))
     (λ c. search (setting, needs))
@@ -32,6 +31,5 @@ judge-sets-spec =
     (λ c. search (setting, needs))
     (λ c. search (setting, needs))
     (λ c κs. search (setting, needs))
-    (λ c. search (setting, needs))
     (λ c. search (setting, needs))
     (λ c. search (setting, needs)))

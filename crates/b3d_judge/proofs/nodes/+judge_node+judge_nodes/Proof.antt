@@ -11,6 +11,7 @@ use Rattle.b3d_judge.proofs.nodes.+judge_node+judge_nodes.Lts-judge_nod
 use Rattle.b3d_bodies.proofs.rows.none.Reads as none-reads
 use Rattle.b3d_bodies.proofs.rows.plus.Reads as plus-reads
 use Rattle.b3d_chunks.proofs.next_chunk.Reads as next-chunk-reads
+use Rattle.b3d_turns.proofs.next_inside.Reads as next-inside-reads
 use Rattle.b3d_judge.proofs.nodes.judge_own.Reads as judge-own-reads
 use Rattle.b3d_judge.proofs.nodes.+judge_node+judge_nodes.{statement}
 use Rattle.b3d_judge.proofs.nodes.+judge_node+judge_nodes.Tie.{close}
@@ -43,10 +44,10 @@ judge-nodes-below t =
     and 1 judge-nodes-kinds.ps (falls 1 judge-nodes-kinds.ps _<_ μ-judge-nodes t) judge-nodes.Pre
 
 abbrev judge-nodes-Inv-loop : judge-nodes-lts.InvT-loop
-judge-nodes-Inv-loop s at levels brushes above c₀ m₀ c m = Noding s at (readNode levels brushes (aboveOf above)) c₀ c m
+judge-nodes-Inv-loop s at levels brushes above c₀ q₀ m₀ c q m = Noding s at (readNode levels brushes (aboveOf above)) c₀ c q m
 
 abbrev judge-nodes-μ-loop : judge-nodes-lts.MeasureT-loop
-judge-nodes-μ-loop s at levels brushes above c₀ m₀ c m = c .end - c .at
+judge-nodes-μ-loop s at levels brushes above c₀ q₀ m₀ c q m = c .end - c .at
 
 pub +judge-node+judge-nodes-spec : {M : Type 1} → statement M
 +judge-node+judge-nodes-spec = close μ-judge-node μ-judge-nodes (λ t. judge-node-lts.spec (
@@ -76,6 +77,8 @@ pub +judge-node+judge-nodes-spec : {M : Type 1} → statement M
       none-reads.Learnt,
       next-chunk-reads.Asked,
       next-chunk-reads.Learnt,
+      next-inside-reads.Asked,
+      next-inside-reads.Learnt,
       judge-node-below t,
       judge-node.Post,
       plus-reads.Asked,
@@ -88,7 +91,7 @@ pub +judge-node+judge-nodes-spec : {M : Type 1} → statement M
     (λ c κs. search (noding, needs))
     (λ c. search (noding, needs))
     (λ c κs. search (noding, needs))
-    (λ c. search (noding, needs))
+    (λ c κs. search (noding, needs))
     (λ c. search (noding, needs))
     (λ c. search (noding, needs))
     (λ c. search (noding, needs))
@@ -99,6 +102,5 @@ pub +judge-node+judge-nodes-spec : {M : Type 1} → statement M
     (λ c. search (noding, needs))
     (λ c. search (noding, needs))
     (λ c κs. search (noding, needs))
-    (λ c. search (noding, needs))
     (λ c. search (noding, needs))
     (λ c. search (noding, needs))

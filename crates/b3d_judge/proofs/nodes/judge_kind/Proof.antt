@@ -9,6 +9,7 @@ judge-kind-spec =
     tie.close
     (tie.spec
     (λ c κs. search (kind-laws, needs))
+    (λ c κs. search (kind-laws, needs))
     (λ c. search (kind-laws, needs))
     (λ c κs. search (kind-laws, needs))
     (λ c. search (kind-laws, needs))
@@ -22,7 +23,6 @@ judge-kind-spec =
     (λ c. search (kind-laws, needs))
     (λ c. search (kind-laws, needs))
     (λ c κs. search (kind-laws, needs))
-    (λ c. search (kind-laws, needs))
     (λ c. search (kind-laws, needs))
     (λ c. search (kind-laws, needs))
     (λ c. search (kind-laws, needs))

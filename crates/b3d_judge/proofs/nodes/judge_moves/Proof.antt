@@ -1,15 +1,15 @@
--- `judge_moves` judges KEYS and ANIM. The loop is at a cursor, with the tally of the keys before; its measure is what is left.
+-- `judge_moves` judges KEYS and ANIM. The loop is at a cursor, with how far the chunks have come and the tally of the keys before; its measure is what is left.
 use Prim.Native.Nat.{_-_}
-use Rattle.b3d_judge.proofs.Moving.{Moving, moving}
+use Rattle.b3d_judge.proofs.Moving.{Moving, moving-laws}
 use borrow.Author.Needs.{needs}
 use Rattle.b3d_judge.proofs.nodes.judge_moves.Statement.{statement}
 use Rattle.b3d_judge.proofs.nodes.judge_moves.Tie as tie
 
 abbrev Inv-loop : tie.InvT-loop
-Inv-loop s at c₀ m₀ seen₀ c m seen = Moving s at c₀ c m seen
+Inv-loop s at c₀ q₀ m₀ c q m = Moving s at c₀ c q m
 
 abbrev μ-loop : tie.MeasureT-loop
-μ-loop s at c₀ m₀ seen₀ c m seen = c .end - c .at
+μ-loop s at c₀ q₀ m₀ c q m = c .end - c .at
 
 pub judge-moves-spec : {M : Type 1} → statement M
 judge-moves-spec =
@@ -17,30 +17,28 @@ judge-moves-spec =
     (tie.spec
     Inv-loop
     μ-loop
-    (λ c κs. search (moving, needs))
-    (λ c. search (moving, needs))
-    (λ c κs. search (moving, needs))
-    (λ c. search (moving, needs))
-    (λ c κs. search (moving, needs))
-    (λ c. search (moving, needs))
-    (λ c. search (moving, needs))
-    (λ c. search (moving, needs))
-    (λ c. search (moving, needs))
-    (λ c. search (moving, needs))
-    (λ c κs. search (moving, needs))
-    (λ c. search (moving, needs))
-    (λ c. search (moving, needs))
-    (λ c κs. search (moving, needs))
-    (λ c. search (moving, needs))
-    (λ c. search (moving, needs))
-    (λ c. search (moving, needs))
-    (λ c κs. search (moving, needs))
-    (λ c. search (moving, needs))
-    (λ c. search (moving, needs))
-    (λ c. search (moving, needs))
-    (λ c. search (moving, needs))
-    (λ c. search (moving, needs))
-    (λ c. search (moving, needs))
-    (λ c. search (moving, needs))
-    (λ c. search (moving, needs))
-    (λ c. search (moving, needs)))
+    (λ c κs. search (moving-laws, needs))
+    (λ c. search (moving-laws, needs))
+    (λ c κs. search (moving-laws, needs))
+    (λ c κs. search (moving-laws, needs))
+    (λ c. search (moving-laws, needs))
+    (λ c κs. search (moving-laws, needs))
+    (λ c. search (moving-laws, needs))
+    (λ c. search (moving-laws, needs))
+    (λ c. search (moving-laws, needs))
+    (λ c. search (moving-laws, needs))
+    (λ c. search (moving-laws, needs))
+    (λ c κs. search (moving-laws, needs))
+    (λ c. search (moving-laws, needs))
+    (λ c. search (moving-laws, needs))
+    (λ c. search (moving-laws, needs))
+    (λ c κs. search (moving-laws, needs))
+    (λ c. search (moving-laws, needs))
+    (λ c. search (moving-laws, needs))
+    (λ c. search (moving-laws, needs))
+    (λ c. search (moving-laws, needs))
+    (λ c. search (moving-laws, needs))
+    (λ c. search (moving-laws, needs))
+    (λ c. search (moving-laws, needs))
+    (λ c κs. search (moving-laws, needs))
+    (λ c. search (moving-laws, needs)))

@@ -1,0 +1,49 @@
+-- What the table alone says of a chunk and of the end of the chunks inside one, and the statement that 4 and 8 are given just there.
+use mathlib.Core.Path.{_≡_}
+use Prim.Native.Nat.{ℕ}
+use mathlib.Core.Bool.{Bool, false, not, _&&_, _||_}
+use mathlib.Core.List.{List, [], _∷_}
+use lib.Dec.{eqb, ltb}
+use lib.ListN.{getD}
+use Rattle.wire.specs.Test.{if}
+use Rattle.layout.specs.Chunks.{done, stop, chunk}
+use Rattle.b3d_scene.specs.declared.Tag.{Tag}
+use Rattle.b3d_scene.specs.Tags.{Chunks}
+use Rattle.b3d_scene.specs.Nesting.{Reached, end, order}
+use Rattle.b3d_nesting.specs.declared.Entry.{Entry}
+use Rattle.b3d_nesting.specs.Table.{nestingTable, entryAt}
+use Rattle.b3d_turns.specs.Turns.{indexOf, between}
+
+abbrev pub rowAt : ℕ → List Entry
+rowAt row = getD nestingTable row []
+
+-- one of the entries must stand, at a turn after lo and before hi
+abbrev pub owedIn : List Entry → ℕ → ℕ → Bool
+owedIn [] lo hi = false
+owedIn (e ∷ l) lo hi = between e lo hi || owedIn l lo hi
+
+-- a chunk of entry e may stand after q: it is allowed, and its turn is later and nothing before it is owed, or is the same and allows one more
+abbrev pub standsBy : Bool → Reached → Entry → Bool
+standsBy owed q e = e .allowed && ((ltb (q .turn) (e .turn) && not owed) || (eqb (q .turn) (e .turn) && (e .again || not (q .spent))))
+
+-- how far the chunks come with it
+abbrev pub afterBy : Reached → Entry → Reached
+afterBy q e = record { turn = e .turn; spent = (eqb (q .turn) (e .turn) && q .spent) || not (e .again) }
+
+-- inside a chunk of tag k, after q: its row of the table owes a tag before this turn
+abbrev pub owesBefore : Tag → Reached → ℕ → Bool
+owesBefore k q turn = owedIn (rowAt (indexOf k)) (q .turn) turn
+
+-- inside a chunk of tag k: the entry for a tag
+abbrev pub entryOf : Tag → Tag → Entry
+entryOf k t = entryAt (indexOf k) (indexOf t)
+
+-- `order` is what `parse` reads the chunks inside a chunk of tag k by, whose header is at `head`: q is how far they have come
+pub record ByTable : Type 0 where
+  -- a chunk stands there, or is refused with 4 at its header
+  pub four : (k : Tag) (head : ℕ) (q : Reached) (t : Tag) (p : ℕ) (b : List ℕ) (l : Chunks)
+      → order k head q (chunk t p b l) ≡ if (standsBy (owesBefore k q ((entryOf k t) .turn)) q (entryOf k t)) (chunk t p b (order k head (afterBy q (entryOf k t)) l)) (stop 4 p)
+  -- the chunks end there, or 8 is given at the header of what encloses them
+  pub eight : (k : Tag) (head : ℕ) (q : Reached) → order k head q done ≡ if (owesBefore k q end) (stop 8 head) done
+  -- 3 comes before both: where the splitting into chunks was stopped, it stays so
+  pub stopped : (k : Tag) (head : ℕ) (q : Reached) (n p : ℕ) → order k head q (stop n p) ≡ stop n p

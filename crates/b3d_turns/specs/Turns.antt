@@ -1,0 +1,51 @@
+-- How far the chunks inside a chunk have come, as the nesting rule has it; a tag's place in the table; what an entry owes.
+use Prim.Native.Nat.{ℕ}
+use mathlib.Core.Bool.{Bool, false, _&&_}
+use mathlib.Core.Option.{Option, none, some}
+use lib.Dec.{ltb}
+use Rattle.wire.specs.Test.{if}
+use Rattle.b3d_scene.specs.declared.Tag.{Tag}
+use Rattle.b3d_scene.specs.declared.Tag.the-variants.{BB3D, TEXS, BRUS, NODE, MESH, VRTS, TRIS, BONE, KEYS, ANIM}
+use Rattle.b3d_scene.specs.Nesting as nest
+use Rattle.b3d_chunks.specs.declared.Next.{Next}
+use Rattle.b3d_chunks.specs.declared.Next.the-variants as next
+use Rattle.b3d_nesting.specs.declared.Entry.{Entry}
+use Rattle.b3d_turns.specs.declared.Reached.{Reached}
+use Rattle.b3d_turns.specs.declared.Permit.{Permit}
+use Rattle.b3d_turns.specs.declared.Permit.the-variants as permit
+
+-- how far the chunks have come, as the rule has it
+abbrev pub reachedOf : Reached → nest.Reached
+reachedOf r = record { turn = r .turn; spent = r .spent }
+
+-- how far the chunks come with one more, or that it may not stand, as an answer
+abbrev pub permitOf : Option nest.Reached → Permit
+permitOf none = permit.No
+permitOf (some r) = permit.Yes (record { turn = r .turn; spent = r .spent })
+
+-- what the rule permits of what was found next inside a chunk of tag k, after q: a chunk, or the end of the chunks
+abbrev pub permitFor : Tag → Reached → Next → Permit
+permitFor k q (next.Cut p) = permit.No
+permitFor k q next.Done = if (nest.owed (nest.nesting k) (q .turn) nest.end) permit.No (permit.Yes q)
+permitFor k q (next.Chunk t p b n) = permitOf (nest.next (nest.nesting k) (nest.nesting k) (reachedOf q) t)
+
+-- no chunk was read yet
+abbrev pub first : Reached
+first = record { turn = 0; spent = false }
+
+-- a tag's row and column
+abbrev pub indexOf : Tag → ℕ
+indexOf BB3D = 0
+indexOf TEXS = 1
+indexOf BRUS = 2
+indexOf NODE = 3
+indexOf MESH = 4
+indexOf VRTS = 5
+indexOf TRIS = 6
+indexOf BONE = 7
+indexOf KEYS = 8
+indexOf ANIM = 9
+
+-- it must stand, at a turn after lo and before hi
+abbrev pub between : Entry → ℕ → ℕ → Bool
+between e lo hi = e .must && (ltb lo (e .turn) && ltb (e .turn) hi)
