@@ -29,7 +29,7 @@ extern "C" {
  *    4  a known tag not allowed there, once too often or out of order    byte of the header
  *    5  fixed data or an item runs past its chunk; ANIM not 12 bytes     byte where that data or item starts
  *    6  a number outside its range                                       byte of the number
- *    7  an id that names nothing                                         byte of the number
+ *    7  an id that names nothing (-1 is allowed for brush and texture)   byte of the number
  *    8  a MESH without VRTS or TRIS                                      byte of the MESH header
  *    9  a node nested 17 deep                                            byte of the header
  *   10  a table would have more than 16,383 rows                         lowest such table, 1 to 10
@@ -65,6 +65,8 @@ enum {
  *
  *   t1 textures   t2 brushes         t3 nodes       t4 meshes   t5 vertices
  *   t6 triangle sets   t7 triangles   t8 weights   t9 key lists   t10 keys
+ *
+ * A brush's eight texture slots hold 0xFFFFFFFF where its layer is empty (texture id -1), and from n_texs on.
  */
 kelompuris_answer kelompuris_b3d_read(
     const uint8_t *file, size_t file_len,
@@ -92,8 +94,8 @@ typedef struct {
  * The tables and their lengths in words are as for kelompuris_b3d_read; counts points to ten words, the rows of tables 1 to 10, and words
  * behind those rows are not looked at. Name places are byte places in names; these bytes may be the file that was read.
  * 12 is also the answer to a count of more rows than its table has or than 16,383, to a name that passes the end of names (a place past
- * the end too, with length 0) or has a zero byte, to a version or n_texs that no file with these rows has, and to a file of more than
- * 16,777,216 bytes.
+ * the end too, with length 0) or has a zero byte, to a version or n_texs that no file with these rows has, to a texture slot from n_texs
+ * on that is not 0xFFFFFFFF (one below n_texs may be), and to a file of more than 16,777,216 bytes.
  *
  * Written: the output's bytes behind the size stay as they were. Refused, also by 11: the whole output stays as it was.
  * Tables, counts and names are not written.

@@ -20,7 +20,7 @@ use Rattle.layout.specs.Parts.{Name, words, wordsOf, judged, row, items}
 use Rattle.layout.specs.Rules.{Rule, holds, refusal}
 use Rattle.layout.proofs.StepLaws.{row-short}
 use Rattle.b3d_scene.specs.Scene.{Brush}
-use Rattle.b3d_scene.specs.Rules.{slots, brushRow, brushIds, mostBytes}
+use Rattle.b3d_scene.specs.Rules.{slots, brushRow, textureId, brushIds, mostBytes}
 use Rattle.b3d_scene.specs.Parse.{readBrush, readBrushes, slotsOf}
 use Rattle.b3d_chunks.specs.Chunks.{namedAt, NamedIn}
 use Rattle.b3d_chunks.specs.Items.{firstBad}
@@ -96,20 +96,20 @@ module _ (slots textures : ℕ) (s : List ℕ) (from : Cursor) where
         pub id-before : (g : ℕ) → g < slots → ids .at + 4 * g ≤ from .end
         id-before g z = let f = named-among c (7 + slots) r b len w n q in omega arith
 
-        module _ (g : ℕ) (f : g ≡ firstBad textures (wordsOf slots (left ids s))) where
+        module _ (g : ℕ) (f : g ≡ firstBad (textureId textures) (wordsOf slots (left ids s))) where
           pub brushes-bad : g < slots → counts.Not 7 (ids .at + 4 * g) ≡ countedBrushes all
           unfolding readBrush brush
           brushes-bad z =
               let m = ids-room in
               let i : Inside w (length s) = omega (arith, ids-inside) in
-              from-none all _ (count-bad brush rules k h long e q (λ a. after-bad s w ids textures 7 slots a i (omega arith) refl refl g f z))
+              from-none all _ (count-bad brush rules k h long e q (λ a. after-bad s w ids (textureId textures) 7 slots a i (omega arith) refl refl g f z))
 
           pub brushes-one : slots ≤ g → g ≤ slots → Brushes slots textures s from n (count + 1)
           unfolding readBrush brush
           brushes-one y z =
               let m = ids-room in
               let i : Inside w (length s) = omega (arith, ids-inside) in
-              count-one brush rules k h long e q b (omega arith) (λ a. after-good s w ids textures 7 slots a i (omega arith) refl refl g f y z)
+              count-one brush rules k h long e q b (omega arith) (λ a. after-good s w ids (textureId textures) 7 slots a i (omega arith) refl refl g f y z)
 
 pub ruleset brushes = (brushes-none, brushes-done, brushes-room, brushes-cut, ids-room, ids-inside, ids-fit, id-fits, id-before, brushes-bad, brushes-one)
 

@@ -6,9 +6,7 @@ ghost use mathlib.Core.Path.{_≡_};
 ghost use Prim.Native.Nat.{ℕ, _≤_};
 ghost use lib.ListN.{length};
 ghost use Rattle.wire.specs.Cursors.{Inside, left};
-ghost use Rattle.layout.specs.Rules.{holds};
 ghost use Rattle.layout.specs.Parts.{items};
-ghost use Rattle.b3d_scene.specs.Rules.{brushId};
 ghost use Rattle.b3d_scene.specs.Parse.{readTextures, readBrush, readBrushes, readVertices, readTriangles, readBone, readKeys};
 ghost use Rattle.b3d_bodies.specs.Tally.{listTally, boneTally, setTally, texsTally};
 ghost use Rattle.b3d_bodies.specs.Answers.{Body, Judges, Shapes, SlotsAre, countedBrushes, BrushesIn};
@@ -114,13 +112,6 @@ pub fn judge_vertices(s: &[u8], at: usize, body: Cursor) -> Shaped
     }
 }
 
-// No brush, or one of so many.
-pub fn brush_named(id: u32, brushes: usize) -> bool
-    ensures { λ r. ⌜ r ≡ holds (brushId brushes) id ⌝ }
-{
-    id == 0xFFFFFFFF || wire::size(id) < brushes
-}
-
 // A set of triangles of a mesh with so many vertices, beside so many brushes.
 pub fn judge_triangles(s: &[u8], at: usize, body: Cursor, brushes: usize, vertices: usize) -> Judged
     requires { ⌜ Body at body (length (now s)) ⌝ }
@@ -129,7 +120,7 @@ pub fn judge_triangles(s: &[u8], at: usize, body: Cursor, brushes: usize, vertic
     match body.number(s) {
         Number::Cut => Judged::Bad(5, body.at),
         Number::Is(brush, items) => {
-            if !brush_named(brush, brushes) {
+            if !b3d_chunks::id_named(brush, brushes, true) {
                 return Judged::Bad(7, body.at);
             }
             match b3d_chunks::id_items(s, items, 3, 3, vertices) {
@@ -165,7 +156,7 @@ pub fn judge_textures(s: &[u8], at: usize, body: Cursor) -> Judged
     Judged::Good(rows::texs(count))
 }
 
-// How many brushes of so many slots, each naming textures below a limit.
+// How many brushes of so many slots, each empty or naming one of so many textures.
 fn brush_items(s: &[u8], from: Cursor, slots: usize, textures: usize) -> Counted
     requires { ⌜ Inside from (length (now s)) × (slots ≤ 8) ⌝ }
     ensures { λ r. ⌜ (r ≡ countedBrushes (items (readBrush slots textures) (from .at) (left from (now (s .entry))))) × BrushesIn from slots r ⌝ }
@@ -186,7 +177,7 @@ fn brush_items(s: &[u8], from: Cursor, slots: usize, textures: usize) -> Counted
                     at: row.at + 28,
                     end: row.end,
                 };
-                let good = b3d_chunks::first_bad(s, ids, slots, textures);
+                let good = b3d_chunks::first_bad(s, ids, slots, textures, true);
                 if good < slots {
                     return Counted::Not(7, ids.at + 4 * good);
                 }

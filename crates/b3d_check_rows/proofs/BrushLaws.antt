@@ -6,7 +6,7 @@ use mathlib.Core.Bool.{Bool, _&&_}
 use mathlib.Core.List.{List, [], _∷_}
 use lib.ListN.{take, drop, getD, replicate}
 use lib.Seq.{drop-drop, take-take}
-use lib.Dec.{leb, ltb, eqb}
+use lib.Dec.{leb, eqb}
 use borrow.Author.Tests.{eq-eqb, ne-eqb}
 use Rattle.wire.specs.Test.{if}
 use Rattle.layout.specs.Fit.{all}
@@ -51,12 +51,12 @@ module _ (ns : List ℕ) (slots many textures i : ℕ) (ws : List ℕ) (few : sl
 
   pub brush-parts : (r : Bool)
       → r ≡ (nameHere ns (getD ws (17 * i) 0 ∷ getD ws (17 * i + 1) 0 ∷ [])
-      && (all (λ w. ltb w textures) (take many (drop (17 * i + 9) ws)) && all (λ w. eqb w NONE) (take (8 - many) (drop (17 * i + 9 + many) ws))))
+      && (all (holds (textureId textures)) (take many (drop (17 * i + 9) ws)) && all (λ w. eqb w NONE) (take (8 - many) (drop (17 * i + 9 + many) ws))))
       → r ≡ brushHere ns slots textures (rowAt 17 i ws)
   unfolding brushHere
   brush-parts r h =
       rw (← e) (h ∙ ap₂ _&&_ (name-cells ns 17 i ws (omega arith))
-      (ap₂ _&&_ (ap (all (λ w. ltb w textures)) (sym used) ∙ sym (keeps-all (textureId textures) many (drop 9 (rowAt 17 i ws)))) (ap (all (λ w. eqb w NONE)) (sym unused))))
+      (ap₂ _&&_ (ap (all (holds (textureId textures))) (sym used) ∙ sym (keeps-all (textureId textures) many (drop 9 (rowAt 17 i ws)))) (ap (all (λ w. eqb w NONE)) (sym unused))))
 
 -- ---- how many slots
 

@@ -6,9 +6,9 @@ ghost use Prim.Native.Nat.{_+_, _*_, _<_, _≤_};
 ghost use lib.ListN.{length, getD, take, drop};
 ghost use lib.Dec.{ltb, eqb};
 ghost use Rattle.layout.specs.Fit.{all};
-ghost use Rattle.layout.specs.Rules.{NONE};
+ghost use Rattle.layout.specs.Rules.{NONE, holds};
 ghost use Rattle.b3d_scene.specs.Mask.{vertexMask, keyMask};
-ghost use Rattle.b3d_scene.specs.Rules.{triangleRow, weightRow};
+ghost use Rattle.b3d_scene.specs.Rules.{textureId, triangleRow, weightRow};
 ghost use Rattle.b3d_sound.specs.Check.{keeps, clean, nameHere, brushHere, slotsHere};
 ghost use Rattle.b3d_check_rows.specs.Rows.{rowAt, rowsAt};
 
@@ -69,16 +69,16 @@ pub fn textures_here(names: &[u8], t: &[u32], count: usize) -> bool
 
 // ---- brushes
 
-// So many cells from a place on name textures.
+// So many cells from a place on each name a texture or none.
 fn ids_here(t: &[u32], textures: u32, place: usize, count: usize) -> bool
     requires { ⌜ place + count ≤ length (now t) ⌝ }
-    ensures { λ r. ⌜ r ≡ all (λ w. ltb w textures) (take count (drop place (now (t .entry)))) ⌝ }
+    ensures { λ r. ⌜ r ≡ all (holds (textureId textures)) (take count (drop place (now (t .entry)))) ⌝ }
 {
     let end = place + count;
     let mut i = place;
     while i < end {
         let one = t[i];
-        if !(one < textures) {
+        if !((one == 0xFFFFFFFF) | (one < textures)) {
             return false;
         }
         i += 1;

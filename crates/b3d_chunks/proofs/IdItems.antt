@@ -10,6 +10,7 @@ use Rattle.wire.specs.declared.Cursor.{Cursor}
 use Rattle.wire.proofs.Left.{span, left-length, left-nil, left-drop}
 use Rattle.layout.specs.Out.{Out, got, bad, _>>=_}
 use Rattle.layout.specs.Parts.{wordsOf, judged, row}
+use Rattle.layout.specs.Rules.{names}
 use Rattle.layout.proofs.StepLaws.{row-enough, row-short, row-shrinks, items-none, items-step, Shrinks}
 use Rattle.b3d_chunks.specs.Items.{firstBad, idRow, idItems, counted}
 use Rattle.b3d_chunks.specs.declared.Counted.{Counted}
@@ -80,7 +81,7 @@ module _ (s : List ℕ) (words ids limit : ℕ) (from : Cursor) (x : Counted) wh
       count-cut k =
           sym (c .rest ∙ rw (step, row-short (idRow ids (words - ids) limit) at (left (span at (from .end)) s) (omega (arith, left-here, long words ids limit pos le))))
 
-      module _ (k : 4 * words ≤ from .end - at) (g : ℕ) (e : g ≡ firstBad limit (wordsOf ids (left (record { at = at; end = from .end }) s))) where
+      module _ (k : 4 * words ≤ from .end - at) (g : ℕ) (e : g ≡ firstBad (names limit) (wordsOf ids (left (record { at = at; end = from .end }) s))) where
         pub count-bad : g < ids → counts.Not 7 (at + 4 * g) ≡ x
         count-bad q =
             let l = left (span at (from .end)) s in

@@ -1,13 +1,14 @@
--- Ids below a limit: the answers of `first_bad`, and what they say of a row's rules.
+-- Ids: the answers of `id_named` and `first_bad`, and what they say of a row's rules.
 use Prim.Native.Nat.{ℕ, zero, suc, _+_, _*_, _<_, _≤_}
 use native.Mathlib.Omega.{arith}
-use mathlib.Core.Path.{_≡_, refl, ap, _∙_}
+use mathlib.Core.Bool.{Bool, true, false, not, _||_}
+use mathlib.Core.Path.{_≡_, refl, sym, ap, _∙_}
 use mathlib.Core.List.{List, [], _∷_, _++_, append-nil}
 use lib.ListN.{length, drop, getD, replicate}
 use lib.Seq.{getD-drop, getD-take}
-use lib.Dec.{ltb, ltb→lt, nltb→le}
+use lib.Dec.{ltb, eqb}
 use borrow.Author.Count.{below-none, below-more}
-use borrow.Author.Tests.{lt-ltb, le-ltb}
+use borrow.Author.Tests.{lt-ltb, le-ltb, not-true, not-false}
 use Rattle.wire.specs.Test.{if}
 use Rattle.wire.specs.Bytes.{wordAt}
 use Rattle.wire.specs.Cursors.{Inside, left}
@@ -15,30 +16,59 @@ use Rattle.wire.specs.declared.Cursor.{Cursor}
 use Rattle.wire.proofs.Found.{left-length, left-drop}
 use Rattle.layout.specs.Out.{got, bad, check}
 use Rattle.layout.specs.Parts.{wordsOf, judged}
-use Rattle.layout.specs.Rules.{Rule, any, names}
-use Rattle.layout.proofs.Outs.{by-test}
+use Rattle.layout.specs.Rules.{NONE, Rule, any, names, holds, refusal}
 use Rattle.layout.proofs.StepLaws.{word-of, length-words-of, judged-any}
-use Rattle.b3d_chunks.specs.Items.{firstBad, idRow}
+use Rattle.b3d_chunks.specs.Items.{idRule, firstBad, idRow}
 
--- ---- the first word of a list that is not below a limit
+or-true : (a b : Bool) → b ≡ true → (a || b) ≡ true
+or-true true b e = refl
+or-true false b e = e
 
-module _ (limit : ℕ) where
-  bad-at : (ws : List ℕ) (i : ℕ) → i < length ws → ((k : ℕ) → k < i → getD ws k 0 < limit) → limit ≤ getD ws i 0 → i ≡ firstBad limit ws
+or-false : (a b : Bool) → b ≡ false → (a || b) ≡ a
+or-false true b e = refl
+or-false false b e = e
+
+by-true : (b : Bool) {P : Type 0} → (b ≡ true → P) → (b ≡ false → P) → P
+by-true true f g = f refl
+by-true false f g = g refl
+
+-- ---- an id by its number
+
+module _ (limit id y : ℕ) (e : y ≡ id) where
+  pub id-below : y < limit → (absent : Bool) → true ≡ holds (idRule absent limit) id
+  id-below h true = sym (or-true (eqb id NONE) (ltb id limit) (lt-ltb id limit (rw e at h)))
+  id-below h false = sym (lt-ltb id limit (rw e at h))
+
+  module _ (h : limit ≤ y) where
+    pub id-absent : (absent : Bool) → absent ≡ true → (r : Bool) → r ≡ eqb id NONE → r ≡ holds (idRule absent limit) id
+    id-absent true a r q = q ∙ sym (or-false (eqb id NONE) (ltb id limit) (le-ltb id limit (rw e at h)))
+    id-absent false a r q = let z : _≡_ {A = ℕ} 0 1 = cc in absurd (omega arith)
+
+    pub id-past : (absent : Bool) → absent ≡ false → false ≡ holds (idRule absent limit) id
+    id-past true a = let z : _≡_ {A = ℕ} 0 1 = cc in absurd (omega arith)
+    id-past false a = sym (le-ltb id limit (rw e at h))
+
+pub ruleset id-laws = (id-below, id-absent, id-past)
+
+-- ---- the first word of a list that does not keep a rule
+
+module _ (r : Rule) where
+  bad-at : (ws : List ℕ) (i : ℕ) → i < length ws → ((k : ℕ) → k < i → holds r (getD ws k 0) ≡ true) → holds r (getD ws i 0) ≡ false → i ≡ firstBad r ws
   unfolding firstBad if
   bad-at [] i h b l = absurd (omega arith)
-  bad-at (w ∷ ws) zero h b l = rw (le-ltb _ _ l)
-  bad-at (w ∷ ws) (suc i) h b l = rw (lt-ltb w limit (b 0 (omega arith))) (ap suc (bad-at ws i (omega arith) (λ k q. b (suc k) (omega arith)) l))
+  bad-at (w ∷ ws) zero h b l = rw l
+  bad-at (w ∷ ws) (suc i) h b l = rw (b 0 (omega arith)) (ap suc (bad-at ws i (omega arith) (λ k q. b (suc k) (omega arith)) l))
 
-  no-bad : (ws : List ℕ) → ((k : ℕ) → k < length ws → getD ws k 0 < limit) → length ws ≡ firstBad limit ws
+  no-bad : (ws : List ℕ) → ((k : ℕ) → k < length ws → holds r (getD ws k 0) ≡ true) → length ws ≡ firstBad r ws
   unfolding firstBad if
   no-bad [] b = refl
-  no-bad (w ∷ ws) b = rw (lt-ltb w limit (b 0 (omega arith))) (ap suc (no-bad ws (λ k q. b (suc k) (omega arith))))
+  no-bad (w ∷ ws) b = rw (b 0 (omega arith)) (ap suc (no-bad ws (λ k q. b (suc k) (omega arith))))
 
 -- ---- the loop
 
--- the words before i stand below the limit
-pub record Below (s : List ℕ) (start limit i : ℕ) : Type 0 where
-  pub below : (k : ℕ) → k < i → wordAt s (start + 4 * k) < limit
+-- the words before i keep the rule
+pub record Before (s : List ℕ) (start : ℕ) (r : Rule) (i : ℕ) : Type 0 where
+  pub kept : (k : ℕ) → k < i → holds r (wordAt s (start + 4 * k)) ≡ true
 
 module _ (s : List ℕ) (c : Cursor) where
   byte-at : (j p : ℕ) → p ≡ c .at + j → p < c .end → getD (left c s) j 0 ≡ getD s p 0
@@ -57,29 +87,29 @@ module _ (s : List ℕ) (c : Cursor) where
         byte-at (4 * i + 3) (c .at + 4 * i + 3) (omega arith) (omega arith),
       )
 
-module _ (s : List ℕ) (limit : ℕ) where
-  pub below-start : (start : ℕ) → Below s start limit 0
-  below-start start = record { below = below-none _ }
+module _ (s : List ℕ) (r : Rule) where
+  pub before-start : (start : ℕ) → Before s start r 0
+  before-start start = record { kept = below-none _ }
 
-  module _ (start i : ℕ) (b : Below s start limit i) (x y : ℕ) (e : x ≡ y) (f : y ≡ wordAt s (start + 4 * i)) where
-    pub below-next : x < limit → Below s start limit (i + 1)
-    below-next h = record { below = below-more _ i (b .below) (rw (e, f) at h) }
+  module _ (start i : ℕ) (b : Before s start r i) (ok : Bool) (y : ℕ) (e : ok ≡ holds r y) (f : y ≡ wordAt s (start + 4 * i)) where
+    pub before-next : not ok ≡ false → Before s start r (i + 1)
+    before-next h = record { kept = below-more _ i (b .kept) (ap (holds r) (sym f) ∙ sym e ∙ not-false ok h) }
 
-  module _ (c : Cursor) (n i : ℕ) (inside : Inside c (length s)) (room : c .at + 4 * n ≤ c .end) (b : Below s (c .at) limit i) where
+  module _ (c : Cursor) (n i : ℕ) (inside : Inside c (length s)) (room : c .at + 4 * n ≤ c .end) (b : Before s (c .at) r i) where
     long : length (wordsOf n (left c s)) ≡ n
     long = length-words-of n (left c s) (omega (arith, left-length s c inside))
 
-    pub bad-here : i < n → (x y : ℕ) → limit ≤ x → x ≡ y → y ≡ wordAt s (c .at + 4 * i) → i ≡ firstBad limit (wordsOf n (left c s))
-    bad-here h x y l e f =
-        bad-at limit (wordsOf n (left c s)) i (omega (arith, long)) (λ k q. rw (word-at s c n k inside room (omega arith)) (b .below k q))
-        (rw (word-at s c n i inside room h, ← f, ← e) l)
+    pub bad-here : i < n → (ok : Bool) (y : ℕ) → ok ≡ holds r y → y ≡ wordAt s (c .at + 4 * i) → not ok ≡ true → i ≡ firstBad r (wordsOf n (left c s))
+    bad-here h ok y e f l =
+        bad-at r (wordsOf n (left c s)) i (omega (arith, long)) (λ k q. rw (word-at s c n k inside room (omega arith)) (b .kept k q))
+        (rw (word-at s c n i inside room h, ← f, ← e) (not-true ok l))
 
-    pub bad-nowhere : n ≤ i → i ≤ n → i ≡ firstBad limit (wordsOf n (left c s))
+    pub bad-nowhere : n ≤ i → i ≤ n → i ≡ firstBad r (wordsOf n (left c s))
     bad-nowhere h k =
         let e : i ≡ length (wordsOf n (left c s)) = omega (arith, long) in
-        e ∙ no-bad limit (wordsOf n (left c s)) (λ j q. rw (word-at s c n j inside room (omega (arith, long))) (b .below j (omega arith)))
+        e ∙ no-bad r (wordsOf n (left c s)) (λ j q. rw (word-at s c n j inside room (omega (arith, long))) (b .kept j (omega arith)))
 
-pub ruleset limits = (below-start, below-next, bad-here, bad-nowhere)
+pub ruleset firsts = (before-start, before-next, bad-here, bad-nowhere)
 
 -- ---- rows of ids
 
@@ -93,44 +123,41 @@ any-pass (suc k) p (v ∷ vs) ws rs a l =
     let q : p + 4 + 4 * k ≡ p + 4 * suc k = omega arith in
     rw (← q) (any-pass k (p + 4) vs ws rs a (omega arith))
 
-module _ {A : Type 0} (m : ℕ) where
-  -- ids before other rules: all of them stand below the limit
-  pub ids-pass : (n p : ℕ) (ws vs : List ℕ) (rs : List Rule) (a : A) → length ws ≡ n → firstBad m ws ≡ n
-      → judged (replicate n (names m) ++ rs) p (ws ++ vs) a ≡ judged rs (p + 4 * n) vs a
+module _ {A : Type 0} (r : Rule) where
+  -- words of one rule before others: all of them keep it
+  pub ids-pass : (n p : ℕ) (ws vs : List ℕ) (rs : List Rule) (a : A) → length ws ≡ n → firstBad r ws ≡ n
+      → judged (replicate n r ++ rs) p (ws ++ vs) a ≡ judged rs (p + 4 * n) vs a
   unfolding judged check firstBad if
   ids-pass zero p [] vs rs a l e = let q : p ≡ p + 4 * 0 = omega arith in ap (λ (z : ℕ). judged rs z vs a) q
   ids-pass zero p (w ∷ ws) vs rs a l e = absurd (omega arith)
   ids-pass (suc n) p [] vs rs a l e = absurd (omega arith)
   ids-pass (suc n) p (w ∷ ws) vs rs a l e =
-      by-test (ltb w m)
-      (λ t. let h = lt-ltb w m (ltb→lt w m t) in
-      let f = rw h at e in
+      by-true (holds r w)
+      (λ h. let f = rw h at e in
       let q : p + 4 + 4 * n ≡ p + 4 * suc n = omega arith in
       rw (h, ← q) (ids-pass n (p + 4) ws vs rs a (omega arith) (omega arith)))
-      (λ t. let f = rw (le-ltb w m (nltb→le w m t)) at e in absurd (omega arith))
+      (λ h. let f = rw h at e in absurd (omega arith))
 
   -- one of them does not
-  pub ids-stop : (n p : ℕ) (ws vs : List ℕ) (rs : List Rule) (a : A) → length ws ≡ n → firstBad m ws < n
-      → judged (replicate n (names m) ++ rs) p (ws ++ vs) a ≡ bad 7 (p + 4 * firstBad m ws)
+  pub ids-stop : (n p : ℕ) (ws vs : List ℕ) (rs : List Rule) (a : A) → length ws ≡ n → firstBad r ws < n
+      → judged (replicate n r ++ rs) p (ws ++ vs) a ≡ bad (refusal r) (p + 4 * firstBad r ws)
   unfolding judged check firstBad if
   ids-stop zero p ws vs rs a l e = absurd (omega arith)
   ids-stop (suc n) p [] vs rs a l e = absurd (omega arith)
   ids-stop (suc n) p (w ∷ ws) vs rs a l e =
-      by-test (ltb w m)
-      (λ t. let h = lt-ltb w m (ltb→lt w m t) in
-      let f = rw h at e in
-      let q : p + 4 + 4 * firstBad m ws ≡ p + 4 * suc (firstBad m ws) = omega arith in
+      by-true (holds r w)
+      (λ h. let f = rw h at e in
+      let q : p + 4 + 4 * firstBad r ws ≡ p + 4 * suc (firstBad r ws) = omega arith in
       rw (h, ← q) (ids-stop n (p + 4) ws vs rs a (omega arith) (omega arith)))
-      (λ t. let h = le-ltb w m (nltb→le w m t) in
-      let q : p ≡ p + 4 * 0 = omega arith in
-      rw h (ap (λ (z : ℕ). bad 7 z) q))
+      (λ h. let q : p ≡ p + 4 * 0 = omega arith in
+      rw h (ap (bad (refusal r)) q))
 
   module _ (n p : ℕ) (ws : List ℕ) (a : A) (l : length ws ≡ n) where
-    pub ids-good : firstBad m ws ≡ n → judged (replicate n (names m)) p ws a ≡ got a
+    pub ids-good : firstBad r ws ≡ n → judged (replicate n r) p ws a ≡ got a
     unfolding judged
     ids-good e = simp append-nil at (ids-pass n p ws [] [] a l e)
 
-    pub ids-bad : firstBad m ws < n → judged (replicate n (names m)) p ws a ≡ bad 7 (p + 4 * firstBad m ws)
+    pub ids-bad : firstBad r ws < n → judged (replicate n r) p ws a ≡ bad (refusal r) (p + 4 * firstBad r ws)
     ids-bad e = simp append-nil at (ids-stop n p ws [] [] a l e)
 
 words-add : (k n : ℕ) (l : List ℕ) → 4 * k ≤ length l → wordsOf (k + n) l ≡ wordsOf k l ++ wordsOf n (drop (4 * k) l)
@@ -146,28 +173,28 @@ words-add (suc k) n (a ∷ b ∷ c ∷ d ∷ l) h =
 
 -- ids, and then words that are not looked at
 module _ {A : Type 0} (m n k p : ℕ) (l : List ℕ) (a : A) (h : 4 * n ≤ length l) where
-  pub row-good : firstBad m (wordsOf n l) ≡ n → judged (idRow n k m) p (wordsOf (n + k) l) a ≡ got a
-  row-good e = rw (words-add n k l h, ids-pass m n p (wordsOf n l) (wordsOf k (drop (4 * n) l)) (replicate k any) a (length-words-of n l h) e) (judged-any k (p + 4 * n) (wordsOf k (drop (4 * n) l)) a)
+  pub row-good : firstBad (names m) (wordsOf n l) ≡ n → judged (idRow n k m) p (wordsOf (n + k) l) a ≡ got a
+  row-good e = rw (words-add n k l h, ids-pass (names m) n p (wordsOf n l) (wordsOf k (drop (4 * n) l)) (replicate k any) a (length-words-of n l h) e) (judged-any k (p + 4 * n) (wordsOf k (drop (4 * n) l)) a)
 
-  pub row-bad : firstBad m (wordsOf n l) < n → judged (idRow n k m) p (wordsOf (n + k) l) a ≡ bad 7 (p + 4 * firstBad m (wordsOf n l))
-  row-bad e = rw (words-add n k l h) (ids-stop m n p (wordsOf n l) (wordsOf k (drop (4 * n) l)) (replicate k any) a (length-words-of n l h) e)
+  pub row-bad : firstBad (names m) (wordsOf n l) < n → judged (idRow n k m) p (wordsOf (n + k) l) a ≡ bad 7 (p + 4 * firstBad (names m) (wordsOf n l))
+  row-bad e = rw (words-add n k l h) (ids-stop (names m) n p (wordsOf n l) (wordsOf k (drop (4 * n) l)) (replicate k any) a (length-words-of n l h) e)
 
 -- words at w that are not looked at, and then ids, at d; g is the answer of `first_bad` there
 module _
-    {A : Type 0} (s : List ℕ) (w d : Cursor) (m k n : ℕ) (a : A) (i : Inside w (length s)) (room : w .at + 4 * (k + n) ≤ w .end)
-    (to : d .at ≡ w .at + 4 * k) (same : d .end ≡ w .end) (g : ℕ) (e : g ≡ firstBad m (wordsOf n (left d s))) where
-  after : judged (replicate k any ++ replicate n (names m)) (w .at) (wordsOf (k + n) (left w s)) a ≡ judged (replicate n (names m)) (d .at) (wordsOf n (left d s)) a
+    {A : Type 0} (s : List ℕ) (w d : Cursor) (r : Rule) (k n : ℕ) (a : A) (i : Inside w (length s)) (room : w .at + 4 * (k + n) ≤ w .end)
+    (to : d .at ≡ w .at + 4 * k) (same : d .end ≡ w .end) (g : ℕ) (e : g ≡ firstBad r (wordsOf n (left d s))) where
+  after : judged (replicate k any ++ replicate n r) (w .at) (wordsOf (k + n) (left w s)) a ≡ judged (replicate n r) (d .at) (wordsOf n (left d s)) a
   after =
       let h : 4 * k ≤ length (left w s) = omega (arith, left-length s w i) in
-      rw (left-drop s w (4 * k) d to same, to, words-add k n (left w s) h) (any-pass k (w .at) (wordsOf k (left w s)) (wordsOf n (drop (4 * k) (left w s))) (replicate n (names m)) a (length-words-of k (left w s) h))
+      rw (left-drop s w (4 * k) d to same, to, words-add k n (left w s) h) (any-pass k (w .at) (wordsOf k (left w s)) (wordsOf n (drop (4 * k) (left w s))) (replicate n r) a (length-words-of k (left w s) h))
 
   long-ids : length (wordsOf n (left d s)) ≡ n
   long-ids = length-words-of n (left d s) (omega (arith, left-length s d (omega arith)))
 
-  pub after-good : n ≤ g → g ≤ n → judged (replicate k any ++ replicate n (names m)) (w .at) (wordsOf (k + n) (left w s)) a ≡ got a
-  after-good h q = after ∙ ids-good m n (d .at) (wordsOf n (left d s)) a long-ids (omega arith)
+  pub after-good : n ≤ g → g ≤ n → judged (replicate k any ++ replicate n r) (w .at) (wordsOf (k + n) (left w s)) a ≡ got a
+  after-good h q = after ∙ ids-good r n (d .at) (wordsOf n (left d s)) a long-ids (omega arith)
 
-  pub after-bad : g < n → judged (replicate k any ++ replicate n (names m)) (w .at) (wordsOf (k + n) (left w s)) a ≡ bad 7 (d .at + 4 * g)
-  after-bad h = rw e (after ∙ ids-bad m n (d .at) (wordsOf n (left d s)) a long-ids (omega arith))
+  pub after-bad : g < n → judged (replicate k any ++ replicate n r) (w .at) (wordsOf (k + n) (left w s)) a ≡ bad (refusal r) (d .at + 4 * g)
+  after-bad h = rw e (after ∙ ids-bad r n (d .at) (wordsOf n (left d s)) a long-ids (omega arith))
 
 pub ruleset ids = (ids-good, ids-bad, row-good, row-bad, after-good, after-bad)

@@ -1,22 +1,28 @@
--- Ids below a limit, and items to the end of a chunk.
+-- Ids, and items to the end of a chunk.
 use Prim.Native.Nat.{ℕ, zero, suc, _+_, _-_, _*_, _/_, _%_, _≤_}
+use mathlib.Core.Bool.{Bool, true, false}
 use mathlib.Core.List.{List, [], _∷_, _++_}
 use lib.ListN.{length, replicate}
-use lib.Dec.{ltb, eqb}
+use lib.Dec.{eqb}
 use Rattle.wire.specs.Test.{if}
 use Rattle.wire.specs.declared.Cursor.{Cursor}
 use Rattle.layout.specs.Out.{Out, got, bad}
-use Rattle.layout.specs.Rules.{Rule, any, names}
+use Rattle.layout.specs.Rules.{Rule, any, names, namesOrNone, holds}
 use Rattle.layout.specs.Parts.{row, items}
 use Rattle.b3d_chunks.specs.declared.Counted.{Counted}
 use Rattle.b3d_chunks.specs.declared.Counted.the-variants as counts
 
--- how many words stand below the limit before one that does not
-unfoldable pub firstBad : ℕ → List ℕ → ℕ
-firstBad limit [] = 0
-firstBad limit (w ∷ ws) = if (ltb w limit) (suc (firstBad limit ws)) 0
+-- an id of so many things; where it may be absent, -1 too
+abbrev pub idRule : Bool → ℕ → Rule
+idRule false limit = names limit
+idRule true limit = namesOrNone limit
 
--- so many ids of things below a limit, then so many words that are not looked at
+-- how many words keep the rule before one that does not
+unfoldable pub firstBad : Rule → List ℕ → ℕ
+firstBad r [] = 0
+firstBad r (w ∷ ws) = if (holds r w) (suc (firstBad r ws)) 0
+
+-- so many ids of so many things, none absent, then so many words that are not looked at
 abbrev pub idRow : ℕ → ℕ → ℕ → List Rule
 idRow ids others limit = replicate ids (names limit) ++ replicate others any
 

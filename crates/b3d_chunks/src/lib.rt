@@ -1,13 +1,14 @@
-// Steps that every walk over a B3D file takes: the next known chunk, a text with its row, ids below a limit, items by one division.
+// Steps that every walk over a B3D file takes: the next known chunk, a text with its row, ids, items by one division.
 ghost use mathlib.Core.Path.{_≡_};
 ghost use Prim.Native.Nat.{ℕ, _+_, _-_, _*_, _<_, _≤_};
 ghost use lib.ListN.{length};
 ghost use Rattle.wire.specs.Cursors.{Inside, left};
 ghost use Rattle.layout.specs.Parts.{wordsOf};
+ghost use Rattle.layout.specs.Rules.{holds};
 ghost use Rattle.b3d_scene.specs.Tags.{tagOf};
 ghost use Rattle.b3d_scene.specs.Rules.{vertexWords, keyWords};
 ghost use Rattle.b3d_chunks.specs.Chunks.{tagged, NextIs, namedAt, NamedIn};
-ghost use Rattle.b3d_chunks.specs.Items.{firstBad, dividedAt, CountedIn, idItems, counted};
+ghost use Rattle.b3d_chunks.specs.Items.{idRule, firstBad, dividedAt, CountedIn, idItems, counted};
 use b3d_scene::Tag;
 use wire::Cursor;
 use wire::Header;
@@ -116,15 +117,29 @@ pub fn named_row(s: &[u8], c: Cursor, words: usize) -> Named
     }
 }
 
-// How many of the first n words stand below the limit before one that does not.
-pub fn first_bad(s: &[u8], c: Cursor, n: usize, limit: usize) -> usize
+// An id names one of so many things, from 0 on; where it may be absent, -1 holds too.
+pub fn id_named(id: u32, limit: usize, absent: bool) -> bool
+    ensures { λ r. ⌜ r ≡ holds (idRule absent limit) id ⌝ }
+{
+    if wire::size(id) < limit {
+        return true;
+    }
+    if absent {
+        return id == 0xFFFFFFFF;
+    }
+    false
+}
+
+// How many of the first n words are ids of so many things before one that is not; -1 is one where an id may be absent.
+pub fn first_bad(s: &[u8], c: Cursor, n: usize, limit: usize, absent: bool) -> usize
     requires { ⌜ Inside c (length (now s)) × (c .at + 4 * n ≤ c .end) × (n ≤ 64) ⌝ }
-    ensures { λ r. ⌜ (r ≡ firstBad limit (wordsOf n (left c (now (s .entry))))) × (r ≤ n) ⌝ }
+    ensures { λ r. ⌜ (r ≡ firstBad (idRule absent limit) (wordsOf n (left c (now (s .entry))))) × (r ≤ n) ⌝ }
 {
     let start = c.at;
     let mut i: usize = 0;
     while i < n {
-        if limit <= wire::size(wire::number_at(s, start + 4 * i)) {
+        let id = wire::number_at(s, start + 4 * i);
+        if !id_named(id, limit, absent) {
             return i;
         }
         i += 1;
@@ -153,7 +168,7 @@ pub fn whole_items(c: Cursor, words: usize) -> Counted
     Counted::Not(5, at + count * size)
 }
 
-// Items of so many words, the first of them ids below a limit: 5 at a cut item, 7 at an id that names nothing.
+// Items of so many words, the first of them ids of so many things, none absent: 5 at a cut item, 7 at an id that names nothing.
 pub fn id_items(s: &[u8], from: Cursor, words: usize, ids: usize, limit: usize) -> Counted
     requires { ⌜ Inside from (length (now s)) × (0 < words) × (words ≤ 64) × (ids ≤ words) ⌝ }
     ensures { λ r. ⌜ (r ≡ counted (idItems ids (words - ids) limit (from .at) (left from (now (s .entry))))) × CountedIn from words r ⌝ }
@@ -166,7 +181,7 @@ pub fn id_items(s: &[u8], from: Cursor, words: usize, ids: usize, limit: usize) 
         if end - at < size {
             return Counted::Not(5, at);
         }
-        let good = first_bad(s, Cursor { at, end }, ids, limit);
+        let good = first_bad(s, Cursor { at, end }, ids, limit, false);
         if good < ids {
             return Counted::Not(7, at + 4 * good);
         }

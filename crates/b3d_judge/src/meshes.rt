@@ -116,7 +116,7 @@ pub fn judge_mesh(s: &[u8], at: usize, body: Cursor, brushes: usize) -> Meshed
     match body.number(s) {
         Number::Cut => Meshed::Not(5, body.at),
         Number::Is(brush, c) => {
-            if !b3d_bodies::brush_named(brush, brushes) {
+            if !b3d_chunks::id_named(brush, brushes, true) {
                 return Meshed::Not(7, body.at);
             }
             judge_inside(s, at, c, brushes)

@@ -3,8 +3,8 @@
 use mathlib.Core.Path.{_≡_, refl}
 use Prim.Native.Nat.{ℕ, zero, suc}
 use mathlib.Core.List.{List, [], _∷_, _++_, map}
-use lib.ListN.{length, replicate}
-use Rattle.layout.specs.Out.{Out, bad}
+use lib.ListN.{length, replicate, take, drop, getD}
+use Rattle.layout.specs.Out.{Out, got, bad}
 use Rattle.layout.specs.Rules.{NONE}
 use Rattle.layout.specs.Write.{writeWords}
 use Rattle.b3d_scene.specs.declared.Tag.{Tag}
@@ -12,7 +12,9 @@ use Rattle.b3d_scene.specs.declared.Tag.the-variants.{BB3D, TEXS, BRUS, 
 use Rattle.b3d_scene.specs.Tags.{code}
 use Rattle.b3d_scene.specs.Tables.{tables}
 use Rattle.b3d_scene.specs.Scene.{Scene}
-use Rattle.b3d_scene.specs.Answers.{judge, readAnswer, readTable, clearOutput}
+use Rattle.b3d_scene.specs.Fit.{fits}
+use Rattle.b3d_scene.specs.Rebuild.{Lent, cut, lentRows, roomy, nameFrom, textureFrom, brushFrom, walk, tree, together, same, sameRows, nodeNames, names, stands, sound, rebuild}
+use Rattle.b3d_scene.specs.Answers.{judge, readAnswer, readTable, shortest, write, clearOutput}
 use Rattle.b3d_scene.proofs.Computing.{computing}
 use Rattle.b3d_scene.proofs.Cases.{zeros}
 
@@ -97,6 +99,47 @@ pub full-cleared : clearOutput full (zeros (length full-copy)) ≡ full-copy
 unfolding computing full full-copy
 full-cleared = refl
 
+-- ---- brushes with an empty layer
+
+-- one brush without a name: n_texs, and then its texture ids
+abbrev aBrush : List ℕ → List ℕ
+aBrush slots = part BRUS (ws (take 1 slots) ++ zeros 29 ++ ws (drop 1 slots))
+
+-- the first of two layers is empty
+pub layers : List ℕ
+layers = file (textures [] ++ aBrush (2 ∷ NONE ∷ 0 ∷ []))
+
+abbrev brushWords : List ℕ → List ℕ
+brushWords slots = (61 ∷ 0 ∷ zeros 7) ++ slots
+
+pub layers-read : readTable 2 (λ j. 80) layers [] ≡ brushWords (NONE ∷ 0 ∷ replicate 6 NONE)
+unfolding computing layers
+layers-read = refl
+
+pub layers-cleared : clearOutput layers (zeros (length layers)) ≡ layers
+unfolding computing layers
+layers-cleared = refl
+
+-- the tables of such a file, with these slots
+abbrev lent : List ℕ → Lent
+lent slots = record {
+  version = 1;
+  slots = 2;
+  count = λ k. getD (0 ∷ 1 ∷ 1 ∷ []) k 0;
+  words = λ k. getD ([] ∷ (20 ∷ 0 ∷ 1 ∷ 2 ∷ 3 ∷ 4 ∷ 5 ∷ 6 ∷ 7 ∷ []) ∷ brushWords slots ∷ []) k [];
+}
+
+-- the writer: a slot below n_texs may be NONE or name a texture, those from n_texs on must be NONE
+pub layers-written : map (λ slots. write (lent slots) (zeros 61) 200) (
+    (NONE ∷ 0 ∷ replicate 6 NONE)
+    ∷ (NONE ∷ 1 ∷ replicate 6 NONE)
+    ∷ (NONE ∷ 0xFFFFFFFE ∷ replicate 6 NONE)
+    ∷ (NONE ∷ 0 ∷ 0 ∷ replicate 5 NONE)
+    ∷ [])
+    ≡ got layers ∷ bad 12 0 ∷ bad 12 0 ∷ bad 12 0 ∷ []
+unfolding computing write shortest rebuild cut lentRows roomy nameFrom textureFrom brushFrom walk tree together same sameRows nodeNames names stands sound fits layers
+layers-written = refl
+
 -- ---- refusals
 
 -- a mesh of one vertex
@@ -118,8 +161,12 @@ refusals =
     ∷ (file (aNode [] (part ANIM (zeros 13))), bad 5 69)
     -- a triangle that is cut and whose ids name nothing
     ∷ (file (aNode [] (aMesh [] (9 ∷ 9 ∷ []))), bad 5 105)
-    -- a texture id of -1
-    ∷ (file (part BRUS (ws (1 ∷ []) ++ zeros 29 ++ ws (NONE ∷ []))), bad 7 53)
+    -- a texture id: past the textures; -2, behind a layer left empty
+    ∷ (file (textures [] ++ aBrush (1 ∷ 1 ∷ [])), bad 7 90)
+    ∷ (file (textures [] ++ aBrush (2 ∷ NONE ∷ 0xFFFFFFFE ∷ [])), bad 7 94)
+    -- a vertex id of -1, of a triangle and of a weight
+    ∷ (file (aNode [] (aMesh (zeros 3) (0 ∷ 0 ∷ NONE ∷ []))), bad 7 125)
+    ∷ (file (aNode [] (one ++ aNode [] (part BONE (ws (NONE ∷ 0 ∷ []))))), bad 7 174)
     -- the id is one of another mesh
     ∷ (file (aNode [] (one ++ aNode [] (aMesh [] (zeros 3)))), bad 7 210)
     -- a bone: of the root; past the root's mesh; of another mesh than the root's

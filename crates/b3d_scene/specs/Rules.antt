@@ -31,7 +31,7 @@ keyFlags = upTo 7
 -- ---- ids
 
 abbrev pub textureId : ℕ → Rule
-textureId textures = names textures
+textureId textures = namesOrNone textures
 
 abbrev pub brushId : ℕ → Rule
 brushId brushes = namesOrNone brushes

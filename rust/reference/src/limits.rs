@@ -24,7 +24,7 @@ pub const LARGEST_SET: u32 = 4;
 /// Highest KEYS flags.
 pub const HIGHEST_KEY_FLAGS: u32 = 7;
 
-/// The word that stands for no row: also the bits of the brush id -1.
+/// The word that stands for no row: also the bits of the brush or texture id -1.
 pub const NONE: u32 = 0xFFFF_FFFF;
 
 /// Places of the tables in the array of ten; the table number is one more.

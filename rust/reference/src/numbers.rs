@@ -37,12 +37,13 @@ pub fn id(file: &[u8], place: usize, count: usize) -> Result<u32, Refusal> {
     Ok(number as u32)
 }
 
-/// A brush id: -1, or an id that names one of the brushes.
-pub fn brush_id(file: &[u8], place: usize, brushes: usize) -> Result<u32, Refusal> {
+/// An id that may be absent, as those of brushes and textures may: -1, or an
+/// id from 0 to `count` minus 1.
+pub fn id_or_none(file: &[u8], place: usize, count: usize) -> Result<u32, Refusal> {
     if word(file, place) as i32 == -1 {
         return Ok(NONE);
     }
-    id(file, place, brushes)
+    id(file, place, count)
 }
 
 /// 5 at `start` unless `size` bytes from `start` on end by `end`.

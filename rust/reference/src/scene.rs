@@ -43,7 +43,7 @@ pub struct Brush {
     pub name: Name,
     /// 5 floats, blend and fx.
     pub numbers: [u32; 7],
-    /// The texture ids, then NONE for each unused slot.
+    /// The texture ids, NONE for -1, then NONE for each unused slot.
     pub slots: [u32; 8],
 }
 

@@ -39,12 +39,13 @@ fn header_numbers(lent: &Lent) -> bool {
     lent.version <= HIGHEST_VERSION && lent.n_texs <= highest_n_texs
 }
 
-/// The first n_texs slots name textures, the unused hold NONE.
+/// The first n_texs slots name textures or hold NONE, the unused hold NONE.
 fn brush_slots(lent: &Lent) -> bool {
     let used = lent.n_texs as usize;
     lent.rows(BRUSHES).all(|row| {
         let (ids, unused) = row[9..17].split_at(used);
-        ids.iter().all(|&id| names_row(id, lent.count(TEXTURES)))
+        ids.iter()
+            .all(|&id| names_row_or_none(id, lent.count(TEXTURES)))
             && unused.iter().all(|&slot| slot == NONE)
     })
 }
@@ -251,9 +252,14 @@ fn names_row(id: u32, rows: usize) -> bool {
     (id as usize) < rows
 }
 
+/// Such an id, or -1.
+fn names_row_or_none(id: u32, rows: usize) -> bool {
+    id == NONE || names_row(id, rows)
+}
+
 /// A brush id: -1, or the number of a brush.
 fn brush(id: u32, lent: &Lent) -> bool {
-    id == NONE || names_row(id, lent.count(BRUSHES))
+    names_row_or_none(id, lent.count(BRUSHES))
 }
 
 /// All words of the row but those at the `present` places are 0.

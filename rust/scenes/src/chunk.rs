@@ -112,8 +112,8 @@ impl Chunk {
         self.word(word);
     }
 
-    /// Adds a brush id, of which there are `count`, or -1.
-    pub fn brush(&mut self, word: u32, count: u32) {
+    /// Adds an id of one of `count` rows, or -1.
+    pub fn id_or_none(&mut self, word: u32, count: u32) {
         let at = self.data.len();
         let minus_one = true;
         self.ids.push(Id {

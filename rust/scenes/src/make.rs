@@ -247,15 +247,8 @@ impl Maker<'_> {
 
     fn brus(&mut self) -> Chunk {
         let textures = self.rows(0);
-        let mut brushes = self.rng.between(0, self.profile.brushes);
-        let mut n_texs = self.rng.between(0, 8);
-        // Ids need textures: without any, either no ids or no brushes.
-        if textures == 0 && n_texs > 0 {
-            match self.rng.percent(50) {
-                true => n_texs = 0,
-                false => brushes = 0,
-            }
-        }
+        let brushes = self.rng.between(0, self.profile.brushes);
+        let n_texs = self.rng.between(0, 8);
         let mut chunk = Chunk::new(b"BRUS");
         chunk.begin_fixed();
         chunk.ranged(n_texs as u32, 8);
@@ -278,8 +271,8 @@ impl Maker<'_> {
         row.extend(floats);
         row.extend([blend, fx]);
         for _ in 0..n_texs {
-            let id = self.rng.below(textures as usize) as u32;
-            chunk.id(id, textures);
+            let id = self.id_or_none(textures);
+            chunk.id_or_none(id, textures);
             row.push(id);
         }
         row.resize(17, 0xFFFF_FFFF);
@@ -336,21 +329,21 @@ impl Maker<'_> {
         row[13..16].copy_from_slice(&[choice, first, count]);
     }
 
-    /// A brush id of the scene, or -1.
-    fn brush_id(&mut self) -> u32 {
-        match self.rows(1) {
+    /// An id of one of `count` rows, or -1.
+    fn id_or_none(&mut self, count: u32) -> u32 {
+        match count {
             0 => 0xFFFF_FFFF,
-            brushes if self.rng.percent(70) => self.rng.below(brushes as usize) as u32,
+            _ if self.rng.percent(70) => self.rng.below(count as usize) as u32,
             _ => 0xFFFF_FFFF,
         }
     }
 
     fn mesh(&mut self, node: u32, depth: usize) -> Chunk {
         let number = self.rows(3);
-        let brush = self.brush_id();
+        let brush = self.id_or_none(self.rows(1));
         let mut chunk = Chunk::new(b"MESH");
         chunk.begin_fixed();
-        chunk.brush(brush, self.rows(1));
+        chunk.id_or_none(brush, self.rows(1));
         let flags = self.rng.below(4) as u32;
         let sets = self.rng.between(0, 8) as u32;
         let set_size = self.rng.between(0, 4) as u32;
@@ -418,10 +411,10 @@ impl Maker<'_> {
     }
 
     fn tris(&mut self, mesh: u32, vertices: usize) -> Chunk {
-        let brush = self.brush_id();
+        let brush = self.id_or_none(self.rows(1));
         let mut chunk = Chunk::new(b"TRIS");
         chunk.begin_fixed();
-        chunk.brush(brush, self.rows(1));
+        chunk.id_or_none(brush, self.rows(1));
         let first = self.rows(6);
         let count = match vertices {
             0 => 0,

@@ -97,14 +97,19 @@ pub fn chain(levels: usize) -> Vec<u8> {
 
 /// A texture and a brush that uses it `n_texs` times.
 pub fn brush(n_texs: u32) -> Vec<u8> {
+    layers(&vec![0; n_texs as usize])
+}
+
+/// A texture and a brush with these texture ids, the first at 92.
+fn layers(ids: &[u32]) -> Vec<u8> {
     let mut texs = Chunk::new(b"TEXS");
     texs.name(b"t");
     texs.words(&[0; 7]);
     let mut brus = Chunk::new(b"BRUS");
-    brus.word(n_texs);
+    brus.word(ids.len() as u32);
     brus.name(b"b");
     brus.words(&[0; 7]);
-    brus.words(&vec![0; n_texs as usize]);
+    brus.words(ids);
     file_of(vec![texs, brus]).bytes()
 }
 
@@ -230,6 +235,10 @@ pub fn cases() -> Vec<Case> {
     add("17 levels", chain(17), 9, 12 + 16 * 49);
     add("n_texs 8", brush(8), 0, 0);
     add("n_texs 9", brush(9), 6, 12 + 8 + 30 + 8);
+    add("empty layers", layers(&[NONE, 0, NONE]), 0, 0);
+    add("texture id 1 of 1", layers(&[NONE, 1]), 7, 96);
+    add("texture id -2", layers(&[0xFFFF_FFFE, NONE]), 7, 92);
+    add("vertex id -1", with(t(), 145, NONE), 7, 145);
     add("largest file", largest(), 0, 0);
     add("one byte too many", too_large().file, 1, 0);
     for table in 1..=10 {

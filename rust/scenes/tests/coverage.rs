@@ -104,7 +104,12 @@ fn empty_lists_and_names() {
         match &chunk.tag {
             b"TEXS" => met.insert(("TEXS items", !chunk.pieces.is_empty())),
             b"BRUS" if chunk.pieces.len() == 1 => met.insert(("bare n_texs", word(chunk, 0) > 0)),
-            b"BRUS" => met.insert(("n_texs", word(chunk, 0) == 8)),
+            b"BRUS" => {
+                for id in &chunk.ids {
+                    met.insert(("layer", word(chunk, id.at) != 0xFFFF_FFFF));
+                }
+                met.insert(("n_texs", word(chunk, 0) == 8))
+            }
             b"VRTS" => met.insert(("VRTS items", chunk.pieces.len() > 1)),
             b"TRIS" => met.insert(("TRIS items", chunk.pieces.len() > 1)),
             b"KEYS" => met.insert(("KEYS items", chunk.pieces.len() > 1)),
@@ -115,5 +120,5 @@ fn empty_lists_and_names() {
             _ => false,
         };
     });
-    assert_eq!(met.len(), 2 * 9, "{met:?}");
+    assert_eq!(met.len(), 2 * 10, "{met:?}");
 }

@@ -1,6 +1,7 @@
 -- `ids_here` looks at each cell. The loop has passed those before i; its measure is how many are left.
 use Prim.Native.Nat.{_-_}
-use lib.Dec.{ltb}
+use Rattle.layout.specs.Rules.{holds}
+use Rattle.b3d_scene.specs.Rules.{textureId}
 use Rattle.b3d_check_rows.specs.Cells.{ofCell}
 use Rattle.b3d_check_rows.proofs.Loops.{AllFrom}
 use Rattle.b3d_check_rows.proofs.CellLaws.{cell-laws}
@@ -9,7 +10,7 @@ use Rattle.b3d_check_rows.proofs.ids_here.Statement.{statement}
 use Rattle.b3d_check_rows.proofs.ids_here.Tie as tie
 
 abbrev Inv-loop : tie.InvT-loop
-Inv-loop t textures place count end i₀ i = AllFrom (ofCell (λ w. ltb w textures)) 1 place count t end i
+Inv-loop t textures place count end i₀ i = AllFrom (ofCell (holds (textureId textures))) 1 place count t end i
 
 abbrev μ-loop : tie.MeasureT-loop
 μ-loop t textures place count end i₀ i = end - i

@@ -2,7 +2,7 @@
 
 use crate::chunks::Chunk;
 use crate::limits::{MOST_SLOTS, NONE};
-use crate::numbers::{fits, id, ranged, text_then, words};
+use crate::numbers::{fits, id_or_none, ranged, text_then, words};
 use crate::refusal::Refusal;
 use crate::scene::{Brush, Texture};
 
@@ -41,12 +41,12 @@ pub fn brus(file: &[u8], chunk: &Chunk, textures: usize) -> Result<(u32, Vec<Bru
     Ok((n_texs, brushes))
 }
 
-/// The `n_texs` texture ids from `place` on, each naming a texture; the unused
-/// slots hold NONE.
+/// The `n_texs` texture ids from `place` on, each -1 or naming a texture; the
+/// unused slots hold NONE too.
 fn slots(file: &[u8], place: usize, n_texs: u32, textures: usize) -> Result<[u32; 8], Refusal> {
     let mut slots = [NONE; 8];
     for (i, slot) in slots.iter_mut().take(n_texs as usize).enumerate() {
-        *slot = id(file, place + 4 * i, textures)?;
+        *slot = id_or_none(file, place + 4 * i, textures)?;
     }
     Ok(slots)
 }

@@ -3,7 +3,7 @@
 use crate::chunks::{chunk_at, Chunk};
 use crate::layout::vertex_cells;
 use crate::limits::{HIGHEST_VERTEX_FLAGS, LARGEST_SET, MOST_SETS};
-use crate::numbers::{any_numbers, brush_id, fits, id, items, ranged};
+use crate::numbers::{any_numbers, fits, id, id_or_none, items, ranged};
 use crate::refusal::{refuse, Refusal, NO_MESH_DATA, TAG};
 use crate::scene::{Mesh, TriangleSet, Vertices};
 
@@ -11,7 +11,7 @@ use crate::scene::{Mesh, TriangleSet, Vertices};
 /// ends without either.
 pub fn mesh(file: &[u8], chunk: &Chunk, brushes: usize) -> Result<Mesh, Refusal> {
     fits(chunk.body, 4, chunk.end)?;
-    let brush = brush_id(file, chunk.body, brushes)?;
+    let brush = id_or_none(file, chunk.body, brushes)?;
     let mut vertices: Option<Vertices> = None;
     let mut triangle_sets = Vec::new();
     let mut at = chunk.body + 4;
@@ -60,7 +60,7 @@ fn tris(
     vertices: usize,
 ) -> Result<TriangleSet, Refusal> {
     fits(chunk.body, 4, chunk.end)?;
-    let brush = brush_id(file, chunk.body, brushes)?;
+    let brush = id_or_none(file, chunk.body, brushes)?;
     let items = items(chunk.body + 4, chunk.end, 12, |item| {
         for corner in 0..3 {
             id(file, item + 4 * corner, vertices)?;
