@@ -67,6 +67,7 @@ enum {
  *   t6 triangle sets   t7 triangles   t8 weights   t9 key lists   t10 keys
  *
  * A brush's eight texture slots hold 0xFFFFFFFF where its layer is empty (texture id -1), and from n_texs on.
+ * A weight's vertex id is of the mesh of the nearest node above its bone with an ANIM; if no node above has one, of the root's mesh.
  */
 kelompuris_answer kelompuris_b3d_read(
     const uint8_t *file, size_t file_len,

@@ -3,17 +3,16 @@ use mathlib.Core.Path.{_≡_, ap, ap₂, _∙_}
 use Prim.Native.Nat.{ℕ}
 use mathlib.Core.Bool.{Bool, _&&_}
 use mathlib.Core.Option.{none}
-use mathlib.Core.List.{List, [], _∷_, map}
-use lib.ListN.{getD}
-use lib.Dec.{eqb}
+use mathlib.Core.List.{List, [], _∷_}
+use lib.ListN.{length, getD}
+use lib.Dec.{ltb, eqb}
 use Rattle.layout.specs.Rules.{NONE}
-use Rattle.b3d_scene.specs.Rebuild.{Rows, kindFrom, dataFrom}
-use Rattle.b3d_scene.specs.Rules.{boneVertices, bonesBelow}
-use Rattle.b3d_scene.specs.Scene.{Data}
+use Rattle.b3d_scene.specs.Rebuild.{Rows}
+use Rattle.b3d_scene.specs.Rules.{boneVertices, levels}
 use Rattle.b3d_scene.specs.Tables.{start}
 use Rattle.b3d_scene.specs.declared.Counts.{Counts}
-use Rattle.b3d_sound.specs.CellCounts.{kindCounts, cellCounts}
-use Rattle.b3d_sound.specs.Check.{kindHere, nodeHere, spent, nodesHere, parentsHere, treeHere}
+use Rattle.b3d_sound.specs.CellCounts.{kindCounts, cellCounts, cellBones}
+use Rattle.b3d_sound.specs.Check.{kindHere, nodeHere, spent, Level, upTo, toldBy, nodesHere, treeHere}
 
 pub record Agree (R S : Rows) : Type 0 where
   pub meshes : R 4 ≡ S 4
@@ -33,24 +32,28 @@ module _ (R S : Rows) (e : Agree R S) (ns : List ℕ) where
   unfolding cellCounts kindCounts
   same-counts x n = rw (e .meshes, e .sets, e .lists)
 
-  same-data : (x : List ℕ) (n : Counts) → dataFrom ns R x n ≡ dataFrom ns S x n
-  unfolding dataFrom kindFrom
-  same-data x n = rw (e .meshes, e .vertices, e .sets, e .triangles, e .weights, e .lists, e .keys)
+  same-bones : (told : ℕ) (x : List ℕ) (n : Counts) → cellBones told R x n ≡ cellBones told S x n
+  unfolding cellBones
+  same-bones told x n = rw (same-counts x n)
 
   same-spent : (n : Counts) → spent R n ≡ spent S n
   unfolding spent
   same-spent n = rw (e .meshes, e .vertices, e .sets, e .triangles, e .weights, e .lists, e .keys)
 
-  same-nodes : (brushes bones : ℕ) (xs : List (List ℕ)) (n : Counts) → nodesHere ns brushes bones R xs n ≡ nodesHere ns brushes bones S xs n
+  same-nodes : (brushes : ℕ) (path : List Level) (xs : List (List ℕ)) (n : Counts) → nodesHere ns brushes R path xs n ≡ nodesHere ns brushes S path xs n
   unfolding nodesHere
-  same-nodes brushes bones [] n = same-spent n
-  same-nodes brushes bones (x ∷ xs) n = ap₂ _&&_ (same-node brushes bones x n) (ap (nodesHere ns brushes bones R xs) (same-counts x n) ∙ same-nodes brushes bones xs (cellCounts S x n))
+  same-nodes brushes path [] n = same-spent n
+  same-nodes brushes path (x ∷ xs) n =
+      let q = upTo (getD x 2 0) path in
+      let told = toldBy q in
+      let level : ℕ → Level = λ v. record { node = n .nodes; bones = v } in
+      ap₂ (λ (a b : Bool). ltb 0 (length q) && (ltb (length q) levels && (a && b))) (same-node brushes told x n)
+      (ap₂ (λ (v : ℕ) (m : Counts). nodesHere ns brushes R (level v ∷ q) xs m) (same-bones told x n) (same-counts x n) ∙ same-nodes brushes (level (cellBones told S x n) ∷ q) xs (cellCounts S x n))
 
   pub same-tree : (brushes : ℕ) (xs : List (List ℕ)) → treeHere ns brushes R xs ≡ treeHere ns brushes S xs
   unfolding treeHere
   same-tree brushes [] = same-spent start
   same-tree brushes (x ∷ xs) =
-      let bones : Data → ℕ = λ d. boneVertices (bonesBelow none d) in
-      let nodes =
-      ap₂ (λ (d : Data) (c : Counts). nodesHere ns brushes (bones d) R xs c) (same-data x start) (same-counts x start) ∙ same-nodes brushes (bones (dataFrom ns S x start)) xs (cellCounts S x start) in
-      ap₂ (λ (a b : Bool). eqb (getD x 2 0) NONE && (a && (b && parentsHere (0 ∷ []) 1 (map (λ (y : List ℕ). getD y 2 0) xs)))) (same-node brushes (boneVertices none) x start) nodes
+      let path : Counts → List Level = λ m. record { node = 0; bones = m .vertices } ∷ [] in
+      ap₂ (λ (a b : Bool). eqb (getD x 2 0) NONE && (a && b)) (same-node brushes (boneVertices none) x start)
+      (ap (λ (m : Counts). nodesHere ns brushes R (path m) xs m) (same-counts x start) ∙ same-nodes brushes (path (cellCounts S x start)) xs (cellCounts S x start))

@@ -1,10 +1,12 @@
-// The nodes of lent tables: each with what is its own, their parents, and that no row is left over.
+// The nodes of lent tables: each with what is its own, its parent and what the nodes above say of bones, and that no row is left over.
 ghost use mathlib.Core.Path.{_≡_};
-ghost use mathlib.Core.List.{List, [], _∷_, map};
-ghost use Prim.Native.Nat.{ℕ, _+_, _-_, _*_, _<_, _≤_};
+ghost use mathlib.Core.List.{[], _∷_};
+ghost use Prim.Native.Nat.{_+_, _-_, _*_, _<_, _≤_};
 ghost use lib.ListN.{length, getD};
+ghost use lib.Dec.{eqb};
+ghost use Rattle.wire.specs.Test.{if};
 ghost use Rattle.b3d_scene.specs.Rebuild.{cut};
-ghost use Rattle.b3d_sound.specs.Check.{parentsHere, nodesHere, treeHere};
+ghost use Rattle.b3d_sound.specs.Check.{nodesHere, treeHere};
 ghost use Rattle.b3d_check_rows.specs.Rows.{rowsAt};
 ghost use Rattle.b3d_check_node.specs.Parts.{partRows, Below, Limited, KindRoom, ListRoom};
 ghost use Rattle.b3d_check_tree.specs.Ended.{ended};
@@ -24,7 +26,7 @@ const START: Counts = Counts {
     keys: 0,
 };
 
-// ---- parents
+// ---- the path
 
 // How much of the path is left when it ends in p; 0 where p is not on it.
 fn up_to(path: &[usize], depth: usize, p: usize) -> usize
@@ -43,30 +45,6 @@ fn up_to(path: &[usize], depth: usize, p: usize) -> usize
     0
 }
 
-// Each node but the root has the node before it, or one above that, for its parent, and is at most 16 deep.
-fn parents_here(t: &[u32], count: usize) -> bool
-    requires { ⌜ (1 ≤ count) × (20 * count ≤ length (now t)) ⌝ }
-    ensures { λ r. ⌜ r ≡ parentsHere (0 ∷ []) 1 (map (λ (y : List ℕ). getD y 2 0) (rowsAt 20 1 (count - 1) (now (t .entry)))) ⌝ }
-{
-    let mut path: [usize; 16] = [0; 16];
-    let mut depth: usize = 1;
-    let mut i: usize = 1;
-    while i < count {
-        let p = b3d_check_rows::cell(t, 20 * i + 2);
-        let d = up_to(&path, depth, p);
-        if d <= 0 {
-            return false;
-        }
-        if 16 <= d {
-            return false;
-        }
-        path[d] = i;
-        depth = d + 1;
-        i += 1;
-    }
-    true
-}
-
 // ---- nodes
 
 // No row that `all` counts is left over after n rows.
@@ -78,12 +56,23 @@ fn ended(n: Counts, all: Counts) -> bool
     (all.meshes <= n.meshes) & ((all.vertices <= n.vertices) & rest)
 }
 
-// The nodes after the rows `from`, of those that `all` counts, in the tables 3 to 10. The names are in `text`; a weight may name so many
-// vertices at most.
+// What a node says of bones to those below, where it was told so many vertices: rows are counted before it and after it.
+fn bones_below(told: u32, before: Counts, after: Counts, t3: &[u32]) -> u32
+    requires { ⌜ (20 * before .nodes + 16 < length (now t3)) × (before .vertices ≤ after .vertices) × (after .vertices < 0x100000000) ⌝ }
+    ensures { λ r. ⌜ r ≡ if (eqb (getD (now (t3 .entry)) (20 * before .nodes + 16) 0) 1) (after .vertices - before .vertices) told ⌝ }
+{
+    if t3[20 * before.nodes + 16] == 1 {
+        return b3d_rows::cell(after.vertices - before.vertices);
+    }
+    told
+}
+
+// The nodes after the rows `from`, of those that `all` counts, in the tables 3 to 10. The names are in `text`; the root says to those
+// below it that a weight may name so many vertices. The path has 16 levels: each its node, and what that says of bones.
 fn nodes_here(
     text: &[u8],
     brushes: u32,
-    most: u32,
+    root: u32,
     from: Counts,
     all: Counts,
     t3: &[u32],
@@ -97,15 +86,32 @@ fn nodes_here(
 ) -> bool
     requires { ⌜ Below from all × KindRoom all (length (now t4)) (length (now t5)) (length (now t6)) (length (now t7)) (length (now t8)) ⌝ }
     requires { ⌜ Limited all × (20 * all .nodes ≤ length (now t3)) × ListRoom all (length (now t9)) (length (now t10)) ⌝ }
-    ensures { λ r. ⌜ r ≡ nodesHere (now (text .entry)) brushes most (partRows all (now (t4 .entry)) (now (t5 .entry)) (now (t6 .entry)) (now (t7 .entry)) (now (t8 .entry)) (now (t9 .entry)) (now (t10 .entry)))
-        (rowsAt 20 (from .nodes) (all .nodes - from .nodes) (now (t3 .entry))) from ⌝ }
+    ensures { λ r. ⌜ r ≡ nodesHere (now (text .entry)) brushes (partRows all (now (t4 .entry)) (now (t5 .entry)) (now (t6 .entry)) (now (t7 .entry)) (now (t8 .entry)) (now (t9 .entry)) (now (t10 .entry)))
+        (record { node = 0; bones = root } ∷ []) (rowsAt 20 (from .nodes) (all .nodes - from .nodes) (now (t3 .entry))) from ⌝ }
 {
+    let mut path: [usize; 16] = [0; 16];
+    let mut bones: [u32; 16] = [0; 16];
+    bones[0] = root;
+    let mut depth: usize = 1;
     let mut n = from;
     while n.nodes < all.nodes {
-        if !node_here(text, brushes, most, n, all, t3, t4, t5, t6, t7, t8, t9, t10) {
+        let p = b3d_check_rows::cell(t3, 20 * n.nodes + 2);
+        let d = up_to(&path, depth, p);
+        if d <= 0 {
             return false;
         }
-        n = b3d_check_node::node_counts(n, all, t3, t4, t6, t9);
+        if 16 <= d {
+            return false;
+        }
+        let told = bones[d - 1];
+        if !node_here(text, brushes, told, n, all, t3, t4, t5, t6, t7, t8, t9, t10) {
+            return false;
+        }
+        let m = b3d_check_node::node_counts(n, all, t3, t4, t6, t9);
+        path[d] = n.nodes;
+        bones[d] = bones_below(told, n, m, t3);
+        depth = d + 1;
+        n = m;
     }
     ended(n, all)
 }
@@ -140,9 +146,6 @@ pub fn tree_here(
         return false;
     }
     let m = b3d_check_node::node_counts(n, all, t3, t4, t6, t9);
-    let most = b3d_rows::cell(m.vertices);
-    if !nodes_here(text, brushes, most, m, all, t3, t4, t5, t6, t7, t8, t9, t10) {
-        return false;
-    }
-    parents_here(t3, all.nodes)
+    let root = b3d_rows::cell(m.vertices);
+    nodes_here(text, brushes, root, m, all, t3, t4, t5, t6, t7, t8, t9, t10)
 }

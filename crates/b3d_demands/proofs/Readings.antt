@@ -190,8 +190,7 @@ node-head {b} same p q = named-twice (Without (chunksIn NODE)) nodeRow p q b (λ
 node-head (node-body {r = r} {q = k} n m w hn hm le l z) p q = named-two (Without (chunksIn NODE)) nodeRow p q n m w r k hn hm l z
 
 same-bones : (above : Option ℕ) (d e : Data) → renameData noName d ≡ renameData noName e → bonesBelow above d ≡ bonesBelow above e
-same-bones none d e h = ap (λ (x : Data). bonesBelow none x) h
-same-bones (some n) d e h = refl
+same-bones above d e h = ap (λ (x : Data). bonesBelow above x) h
 
 pub node-follow : (l br : ℕ) (above : Option ℕ) (b c : List ℕ) → Without (bodyOf NODE) b c → Short b → (p q : ℕ) → Follows Bodies (readNode l br above p b) (readNode l br above q c)
 unfolding readNode readBelow inside

@@ -15,11 +15,12 @@ use Rattle.layout.proofs.StepLaws.{row-any, any-short}
 use Rattle.b3d_scene.specs.declared.Tag.the-variants.{KEYS, ANIM}
 use Rattle.b3d_scene.specs.Tags.{Chunks, Found, is}
 use Rattle.b3d_scene.specs.Scene.{Keys, anim}
+use Rattle.b3d_scene.specs.Rules.{animated}
 use Rattle.b3d_scene.specs.Parse.{Moves, withKeys, readKeys, filled, readAnim, readMoves}
 use Rattle.b3d_bodies.specs.Tally.{noTally, listTally, listsTally, animTally, movesTally, plus}
 use Rattle.b3d_bodies.specs.declared.Tally.{Tally}
 use Rattle.b3d_bodies.proofs.Tallies.{none-plus, plus-assoc}
-use Rattle.b3d_judge.specs.Answers.{tallied, talliedFrom}
+use Rattle.b3d_judge.specs.Answers.{moved, movedFrom}
 
 -- ---- an ANIM
 
@@ -46,16 +47,16 @@ anim-other p b h =
 
 -- a key list before others
 pub keys-first : (m : Tally) (k : Keys) (o : Out (Found Moves))
-    → talliedFrom m movesTally (o >>= λ x. got (withKeys k x)) ≡ talliedFrom (plus m (listTally k)) movesTally o
+    → movedFrom m (o >>= λ x. got (withKeys k x)) ≡ movedFrom (plus m (listTally k)) o
 unfolding movesTally listsTally withKeys
 keys-first m k (bad n p) = refl
 keys-first m k (got x) =
-    ap (λ (t : Tally). got (t, x .rest))
+    ap (λ (t : Tally). got (animated (x .value .anim), t, x .rest))
     (ap (plus m) (plus-assoc (listTally k) (listsTally (x .value .keys)) (animTally (x .value .anim)))
     ∙ sym (plus-assoc m (listTally k) (plus (listsTally (x .value .keys)) (animTally (x .value .anim)))))
 
--- what an ANIM says is not counted
-pub anim-same : (cs : Chunks) (m : Tally) (ws vs : List ℕ) → talliedFrom m movesTally (readMoves (anim ws) cs) ≡ talliedFrom m movesTally (readMoves (anim vs) cs)
+-- that there is an ANIM counts, not what it says
+pub anim-same : (cs : Chunks) (m : Tally) (ws vs : List ℕ) → movedFrom m (readMoves (anim ws) cs) ≡ movedFrom m (readMoves (anim vs) cs)
 unfolding readMoves movesTally animTally if
 anim-same done m ws vs = refl
 anim-same (stop n p) m ws vs = refl
@@ -64,14 +65,14 @@ anim-same (chunk t p b r) m ws vs = go (λ k. anim-same r k ws vs) (is t KEYS) (
     keyed : (us : List ℕ) → Out Keys → Out (Found Moves)
     keyed us o = o >>= λ k. readMoves (anim us) r >>= λ l. got (withKeys k l)
 
-    go : ((k : Tally) → talliedFrom k movesTally (readMoves (anim ws) r) ≡ talliedFrom k movesTally (readMoves (anim vs) r)) → (a c : Bool) (o : Out Keys)
-        → talliedFrom m movesTally (if a (keyed ws o) (if c (readAnim p b >>= λ us. readMoves (anim us) r) (got (record { value = record { keys = []; anim = anim ws }; rest = chunk t p b r }))))
-        ≡ talliedFrom m movesTally (if a (keyed vs o) (if c (readAnim p b >>= λ us. readMoves (anim us) r) (got (record { value = record { keys = []; anim = anim vs }; rest = chunk t p b r }))))
+    go : ((k : Tally) → movedFrom k (readMoves (anim ws) r) ≡ movedFrom k (readMoves (anim vs) r)) → (a c : Bool) (o : Out Keys)
+        → movedFrom m (if a (keyed ws o) (if c (readAnim p b >>= λ us. readMoves (anim us) r) (got (record { value = record { keys = []; anim = anim ws }; rest = chunk t p b r }))))
+        ≡ movedFrom m (if a (keyed vs o) (if c (readAnim p b >>= λ us. readMoves (anim us) r) (got (record { value = record { keys = []; anim = anim vs }; rest = chunk t p b r }))))
     go ih true c (bad n q) = refl
     go ih true c (got k) = keys-first m k (readMoves (anim ws) r) ∙ ih (plus m (listTally k)) ∙ sym (keys-first m k (readMoves (anim vs) r))
     go ih false true o = refl
     go ih false false o = refl
 
-pub tallied-start : {A : Type 0} (f : A → Tally) (o : Out (Found A)) → tallied f o ≡ talliedFrom noTally f o
-tallied-start f (got x) = ap (λ (t : Tally). got (t, x .rest)) (sym (none-plus (f (x .value))))
-tallied-start f (bad n p) = refl
+pub moved-first : (o : Out (Found Moves)) → moved o ≡ movedFrom noTally o
+moved-first (got x) = ap (λ (t : Tally). got (animated (x .value .anim), t, x .rest)) (sym (none-plus (movesTally (x .value))))
+moved-first (bad n p) = refl

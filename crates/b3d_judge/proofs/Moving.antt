@@ -20,7 +20,7 @@ use Rattle.b3d_scene.specs.declared.Tag.{Tag}
 use Rattle.b3d_scene.specs.declared.Tag.the-variants.{NODE, KEYS, ANIM}
 use Rattle.b3d_scene.specs.Tags.{Chunks, Found, is}
 use Rattle.b3d_scene.specs.Scene.{Keys, still, anim}
-use Rattle.b3d_scene.specs.Rules.{mostBytes}
+use Rattle.b3d_scene.specs.Rules.{animated, mostBytes}
 use Rattle.b3d_scene.specs.Nesting.{nesting, Reached, next as nextTurn, onward, order}
 use Rattle.b3d_scene.specs.Parse.{Moves, readKeys, readAnim, readMoves, withKeys}
 use Rattle.b3d_scene.proofs.Tag.{the-type}
@@ -40,21 +40,21 @@ use Rattle.b3d_turns.specs.Turns.{reachedOf}
 use Rattle.b3d_turns.specs.Steps.{EnclosedIs}
 use Rattle.b3d_turns.proofs.Stepping.{step-next, step-among, step-turn, stop-before, end-next}
 use Rattle.b3d_judge.specs.States.{reached, restIn, animOf}
-use Rattle.b3d_judge.specs.Answers.{Among, tallied, talliedFrom, Phases}
-use Rattle.b3d_judge.specs.declared.Phase.{Phase}
-use Rattle.b3d_judge.specs.declared.Phase.the-variants as phase
+use Rattle.b3d_judge.specs.Answers.{Among, moved, movedFrom, Motions}
+use Rattle.b3d_judge.specs.declared.Motion.{Motion}
+use Rattle.b3d_judge.specs.declared.Motion.the-variants as motion
 use Rattle.b3d_judge.proofs.Answered.{Gave, judged-bad, judged-good}
 use Rattle.b3d_judge.proofs.Rests.{rest-chunk, rest-done, rest-step, rest-stop, rest-end, step-body}
 use Rattle.b3d_judge.proofs.TagTests.{ten, one-of, never, some-inj}
-use Rattle.b3d_judge.proofs.MoveLaws.{anim-whole, anim-other, keys-first, anim-same, tallied-start}
+use Rattle.b3d_judge.proofs.MoveLaws.{anim-whole, anim-other, keys-first, anim-same, moved-first}
 
 -- what the moves of a node come to
-abbrev whole : List ℕ → ℕ → Cursor → Out (Tally × Chunks)
-whole s at from = tallied movesTally (readMoves still (restIn s NODE at (reached 2 false) from))
+abbrev whole : List ℕ → ℕ → Cursor → Out (Bool × Tally × Chunks)
+whole s at from = moved (readMoves still (restIn s NODE at (reached 2 false) from))
 
 -- the answers that are right
-abbrev Right : List ℕ → ℕ → Cursor → Phase → Type 0
-Right s at from r = Phases movesTally (readMoves still (restIn s NODE at (reached 2 false) from)) (restIn s NODE at (reached 3 false)) from r
+abbrev Right : List ℕ → ℕ → Cursor → Motion → Type 0
+Right s at from r = Motions (readMoves still (restIn s NODE at (reached 2 false) from)) (restIn s NODE at (reached 3 false)) from r
 
 -- at c, after q, which is at the turn of KEYS and ANIM and is spent where an ANIM was seen, with the tally m of keys
 pub record Moving (s : List ℕ) (at : ℕ) (from c : Cursor) (q : State) (m : Tally) : Type 0 where
@@ -63,17 +63,21 @@ pub record Moving (s : List ℕ) (at : ℕ) (from c : Cursor) (q : State) (m : T
   pub from-at : from .at ≤ c .at
   pub same : c .end ≡ from .end
   pub within : Within (plus m (animTally (animOf (q .spent)))) (c .at - from .at)
-  pub so-far : whole s at from ≡ talliedFrom m movesTally (readMoves (animOf (q .spent)) (restIn s NODE at (reachedOf q) c))
+  pub so-far : whole s at from ≡ movedFrom m (readMoves (animOf (q .spent)) (restIn s NODE at (reachedOf q) c))
 
 within-left : (a b : Tally) (n : ℕ) → Within (plus a b) n → Within a n
 unfolding plus
 within-left a b n h = record { rows = omega arith; copy = omega arith }
 
+seen-anim : (b : Bool) → animated (animOf b) ≡ b
+seen-anim true = refl
+seen-anim false = refl
+
 keys-on : (o : Out Keys) (k : Tally) → Gave listTally o k → (m y : Tally) → y ≡ plus m k → (rest : Out (Found Moves))
-    → talliedFrom m movesTally (o >>= λ a. rest >>= λ z. got (withKeys a z)) ≡ talliedFrom y movesTally rest
+    → movedFrom m (o >>= λ a. rest >>= λ z. got (withKeys a z)) ≡ movedFrom y rest
 keys-on o k g m y e rest =
-    ap (λ (i : Out Keys). talliedFrom m movesTally (i >>= λ a. rest >>= λ z. got (withKeys a z))) (g .is)
-    ∙ keys-first m (g .value) rest ∙ ap (λ (t : Tally). talliedFrom t movesTally rest) (ap (plus m) (sym (g .has)) ∙ sym e)
+    ap (λ (i : Out Keys). movedFrom m (i >>= λ a. rest >>= λ z. got (withKeys a z))) (g .is)
+    ∙ keys-first m (g .value) rest ∙ ap (λ (t : Tally). movedFrom t rest) (ap (plus m) (sym (g .has)) ∙ sym e)
 
 swapped : (a k d : Tally) (i j n : ℕ) → Within (plus a d) i → Within k j → i + j ≤ n → Within (plus (plus a k) d) n
 unfolding plus
@@ -124,7 +128,7 @@ module _ (s : List ℕ) (at : ℕ) (from : Cursor) where
     from-at = omega arith;
     same = refl;
     within = rw e (within-plus noTally noTally 0 0 (from .at - from .at) (within-none 0) (within-none 0) (omega arith));
-    so-far = rw e (tallied-start movesTally (readMoves still (restIn s NODE at (reached 2 false) from)));
+    so-far = rw e (moved-first (readMoves still (restIn s NODE at (reached 2 false) from)));
   }
 
   module _ (c : Cursor) (q : State) (m : Tally) (v : Moving s at from c q m) where
@@ -139,24 +143,24 @@ module _ (s : List ℕ) (at : ℕ) (from : Cursor) where
         within-more (c .at - from .at) mostBytes (within-left m (animTally (animOf (q .spent))) (c .at - from .at) (v .within))
         (omega (arith, v .among .room, v .among .within, v .among .small))
 
-    refuse : (e i : ℕ) → talliedFrom m movesTally (readMoves (animOf (q .spent)) (restIn s NODE at (reachedOf q) c)) ≡ bad e i → i ≤ c .end → Right s at from (phase.Not e i)
+    refuse : (e i : ℕ) → movedFrom m (readMoves (animOf (q .spent)) (restIn s NODE at (reachedOf q) c)) ≡ bad e i → i ≤ c .end → Right s at from (motion.Not e i)
     refuse e i h le = record { is = sym (v .so-far ∙ h); within = omega (arith, v .same) }
 
     finish : (t : Tally) → t ≡ plus m (animTally (animOf (q .spent)))
         → readMoves (animOf (q .spent)) (restIn s NODE at (reachedOf q) c) ≡ got (record { value = record { keys = []; anim = animOf (q .spent) }; rest = restIn s NODE at (reached 3 false) c })
-        → Right s at from (phase.To t c)
+        → Right s at from (motion.To (q .spent) t c)
     unfolding movesTally listsTally
     finish t e h = record {
-      is = sym (v .so-far ∙ rw (h, none-plus, e));
+      is = sym (v .so-far ∙ rw (h, none-plus, e, seen-anim (q .spent)));
       within = record { from-at = v .from-at; room = v .among .room; same = v .same; within = rw e (v .within) };
     }
 
     module _ (r : Enclosed) (x : EnclosedIs s NODE at q c r) where
-      pub moving-stop : (e p : ℕ) → r ≡ enclosed.Not e p → Right s at from (phase.Not e p)
+      pub moving-stop : (e p : ℕ) → r ≡ enclosed.Not e p → Right s at from (motion.Not e p)
       unfolding readMoves
       moving-stop e p w = refuse e p (rw (rest-stop s NODE at q c r x e p w)) (stop-before s NODE at q c r x e p w)
 
-      pub moving-end : r ≡ enclosed.End → (t : Tally) → t ≡ plus m (animTally (animOf (q .spent))) → Right s at from (phase.To t c)
+      pub moving-end : r ≡ enclosed.End → (t : Tally) → t ≡ plus m (animTally (animOf (q .spent))) → Right s at from (motion.To (q .spent) t c)
       unfolding readMoves order if
       moving-end w t e = finish t e (rw (rest-end s NODE at q c r x w, rest-done s c next.Done (end-next s NODE at q c r x w) NODE at (reached 3 false) refl))
 
@@ -180,7 +184,7 @@ module _ (s : List ℕ) (at : ℕ) (from : Cursor) where
         among-next : Among at n (length s)
         among-next = let f = among in record { head = omega (arith, v .among .head); room = f .to; within = omega (arith, v .among .within); small = v .among .small }
 
-        pub moving-node : (ks : List ℕ) → OneOf ks (tagOf the-type t) → T (unmoved ks) → (u : Tally) → u ≡ plus m (animTally (animOf (q .spent))) → Right s at from (phase.To u c)
+        pub moving-node : (ks : List ℕ) → OneOf ks (tagOf the-type t) → T (unmoved ks) → (u : Tally) → u ≡ plus m (animTally (animOf (q .spent))) → Right s at from (motion.To (q .spent) u c)
         unfolding unmoved readMoves nextTurn onward if
         moving-node ks o h u e =
             let (k, y) = node-turn (q .spent) (reachedOf z) t goes (one-of (λ t. not (is t KEYS || is t ANIM)) ks h t o) in
@@ -194,7 +198,7 @@ module _ (s : List ℕ) (at : ℕ) (from : Cursor) where
           unfolding readMoves if
           keys-read = rw (rest-step s NODE at q c r x t p b n z w, k)
 
-          pub moving-keys-bad : (e i : ℕ) → j ≡ judge.Bad e i → Right s at from (phase.Not e i)
+          pub moving-keys-bad : (e i : ℕ) → j ≡ judge.Bad e i → Right s at from (motion.Not e i)
           moving-keys-bad e i y =
               let f = among in
               let le : i ≤ b .end = subst (JudgedIn p (b .end)) y (h .within) in
@@ -218,9 +222,9 @@ module _ (s : List ℕ) (at : ℕ) (from : Cursor) where
                 same = f .same ∙ v .same;
                 within = rw (e, l .1) (swapped m u (animTally (animOf (q .spent))) (c .at - from .at) (b .end - p) (n .at - from .at) (v .within) i (omega (arith, v .from-at)));
                 so-far =
-                    v .so-far ∙ ap (talliedFrom m movesTally) keys-read
+                    v .so-far ∙ ap (movedFrom m) keys-read
                     ∙ keys-on (readKeys p (left b s)) u g m a e (readMoves (animOf (q .spent)) (restIn s NODE at (reachedOf z) n))
-                    ∙ ap (λ (d : Bool). talliedFrom a movesTally (readMoves (animOf d) (restIn s NODE at (reachedOf z) n))) (sym (l .1));
+                    ∙ ap (λ (d : Bool). movedFrom a (readMoves (animOf d) (restIn s NODE at (reachedOf z) n))) (sym (l .1));
               }
 
         -- ANIM
@@ -236,7 +240,7 @@ module _ (s : List ℕ) (at : ℕ) (from : Cursor) where
           size : length (left b s) ≡ b .end - b .at
           size = let f = moving-body in left-length s b (record { before = f .room; within = f .within })
 
-          pub moving-anim-short : (b .end - b .at ≡ 12 → ⊥) → Right s at from (phase.Not 5 (b .at))
+          pub moving-anim-short : (b .end - b .at ≡ 12 → ⊥) → Right s at from (motion.Not 5 (b .at))
           moving-anim-short d =
               let f = among in
               refuse 5 (b .at) (rw (anim-read, anim-other p (left b s) (λ e. d (sym size ∙ e)), f .body)) (omega arith)
@@ -256,7 +260,7 @@ module _ (s : List ℕ) (at : ℕ) (from : Cursor) where
                     (twenty m (c .at - from .at) (n .at - from .at) (subst (λ (d : Bool). Within (plus m (animTally (animOf d))) (c .at - from .at)) first (v .within)) (omega (arith, v .from-at, f .body, f .from)));
                 so-far =
                     v .so-far ∙ rw (anim-read, anim-whole p (left b s) (size ∙ d)) (anim-same (restIn s NODE at (reachedOf z) n) m (wordsOf 3 (left b s)) [])
-                    ∙ ap (λ (d : Bool). talliedFrom m movesTally (readMoves (animOf d) (restIn s NODE at (reachedOf z) n))) (sym spent);
+                    ∙ ap (λ (d : Bool). movedFrom m (readMoves (animOf d) (restIn s NODE at (reachedOf z) n))) (sym spent);
               }
 
 pub ruleset moving-laws = (not-moves, moving-start, moving-inside, moving-head, moving-small, moving-stop, moving-end, moving-body, moving-room, moving-less, moving-node, moving-keys-bad, moving-keys-small, moving-keys, moving-anim-short, moving-anim)

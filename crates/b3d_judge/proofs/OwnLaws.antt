@@ -1,9 +1,9 @@
 -- A law for each way through `own_rows`, `judge_parts` and `judge_own`.
-use mathlib.Core.Path.{_≡_, refl, ap, sym, subst, _∙_}
+use mathlib.Core.Path.{_≡_, refl, ap, ap₂, sym, subst, _∙_}
 use Prim.Native.Nat.{ℕ, _+_, _-_, _*_, _<_, _≤_}
 use native.Mathlib.Omega.{arith}
-use mathlib.Core.Bool.{true, false}
-use mathlib.Core.Option.{Option, none, some}
+use mathlib.Core.Bool.{Bool, false}
+use mathlib.Core.Option.{Option}
 use mathlib.Core.List.{List, [], _∷_}
 use lib.ListN.{length, take, replicate}
 use Rattle.wire.specs.Cursors.{Inside, left}
@@ -15,7 +15,7 @@ use Rattle.layout.specs.Parts.{Step, Name, wordsOf, named as namedOf}
 use Rattle.b3d_scene.specs.declared.Tag.the-variants.{NODE}
 use Rattle.b3d_scene.specs.Tags.{Chunks, Found}
 use Rattle.b3d_scene.specs.Scene.{Kind, still, Data}
-use Rattle.b3d_scene.specs.Rules.{nodeRow, ownVertices, boneVertices, bonesBelow, mostBytes}
+use Rattle.b3d_scene.specs.Rules.{nodeRow, ownVertices, boneVertices, animated, bonesFrom, mostBytes}
 use Rattle.b3d_scene.specs.Nesting.{start, inside}
 use Rattle.b3d_scene.specs.Parse.{Moves, readKind, readMoves}
 use Rattle.b3d_chunks.specs.Chunks.{namedAt, NamedIn}
@@ -26,13 +26,14 @@ use Rattle.b3d_bodies.specs.Tally.{headTally, listsTally, animTally, kindTally,
 use Rattle.b3d_bodies.specs.Answers.{Body}
 use Rattle.b3d_bodies.specs.declared.Tally.{Tally}
 use Rattle.b3d_bodies.proofs.Tallies.{within-more, within-plus, within-head}
-use Rattle.b3d_judge.specs.States.{reached, restIn, readParts, readOwn, belowBy}
-use Rattle.b3d_judge.specs.Answers.{Among, Onward, tallied, phased, PhasedIn, Phases, kinded, kindedBy, KindedIn, Kinds, parted, PartedIn, Parted, aboveOf, owned, ownedBy, Owns}
+use Rattle.b3d_judge.specs.States.{reached, restIn, readParts, readOwn}
+use Rattle.b3d_judge.specs.Answers.{Among, Onward, tallied, phased, Phases, kinded, kindedBy, KindedIn, Kinds, moved, movedBy, MovedIn, Motions, aboveOf, owned, OwnedIn, parted, Parted, Owns}
 use Rattle.b3d_judge.specs.declared.Above.{Above}
 use Rattle.b3d_judge.specs.declared.Kinded.{Kinded}
 use Rattle.b3d_judge.specs.declared.Kinded.the-variants as kind
 use Rattle.b3d_judge.specs.declared.Phase.{Phase}
-use Rattle.b3d_judge.specs.declared.Phase.the-variants as phase
+use Rattle.b3d_judge.specs.declared.Motion.{Motion}
+use Rattle.b3d_judge.specs.declared.Motion.the-variants as motion
 use Rattle.b3d_judge.specs.declared.Owned.{Owned}
 use Rattle.b3d_judge.specs.declared.Owned.the-variants as own
 
@@ -53,22 +54,6 @@ kinded-good (got x) k t rest h =
     let e : _≡_ {A = ℕ × Tally × Chunks} (k, t, rest) (ownVertices (x .value), kindTally (x .value), x .rest) = got-inj h in
     record { value = x .value; is = λ i. got (record { value = x .value; rest = sym e i .2 }); vertices = ap (λ (z : ℕ × Tally × Chunks). z .0) e; has = ap (λ (z : ℕ × Tally × Chunks). z .1) e }
 kinded-good (bad n p) k t rest h = let z : _≡_ {A = ℕ} 0 1 = cc in absurd (omega arith)
-
-parted-bad : (o : Out (Found (Kind × Moves))) (e q : ℕ) → bad e q ≡ parted o → o ≡ bad e q
-parted-bad (got x) e q h = let z : _≡_ {A = ℕ} 0 1 = cc in absurd (omega arith)
-parted-bad (bad n p) e q h = cc
-
-record GaveParts (o : Out (Found (Kind × Moves))) (k : ℕ) (t : Tally) (rest : Chunks) : Type 0 where
-  value : Kind × Moves
-  is : o ≡ got (record { value = value; rest = rest })
-  vertices : k ≡ ownVertices (value .0)
-  has : t ≡ plus (plus headTally (kindTally (value .0))) (movesTally (value .1))
-
-parted-good : (o : Out (Found (Kind × Moves))) (k : ℕ) (t : Tally) (rest : Chunks) → got (k, t, rest) ≡ parted o → GaveParts o k t rest
-parted-good (got x) k t rest h =
-    let e : _≡_ {A = ℕ × Tally × Chunks} (k, t, rest) (ownVertices (x .value .0), plus (plus headTally (kindTally (x .value .0))) (movesTally (x .value .1)), x .rest) = got-inj h in
-    record { value = x .value; is = λ i. got (record { value = x .value; rest = sym e i .2 }); vertices = ap (λ (z : ℕ × Tally × Chunks). z .0) e; has = ap (λ (z : ℕ × Tally × Chunks). z .1) e }
-parted-good (bad n p) k t rest h = let z : _≡_ {A = ℕ} 0 1 = cc in absurd (omega arith)
 
 pub tallied-bad : {A : Type 0} (f : A → Tally) (o : Out (Found A)) (e q : ℕ) → bad e q ≡ tallied f o → o ≡ bad e q
 tallied-bad f (got x) e q h = let z : _≡_ {A = ℕ} 0 1 = cc in absurd (omega arith)
@@ -91,9 +76,24 @@ kinds-at o rest from k h z = subst (λ (x : Kinded). kindedBy rest x ≡ kinded 
 pub phases-at : {A : Type 0} (f : A → Tally) (o : Out (Found A)) (rest : Cursor → Chunks) (from : Cursor) (k : Phase) → Phases f o rest from k → {x : Phase} → k ≡ x → phased rest x ≡ tallied f o
 phases-at f o rest from k h z = subst (λ (x : Phase). phased rest x ≡ tallied f o) z (h .is)
 
-below-is : (a : Option ℕ) (d : Data) → belowBy a (ownVertices (d .kind)) ≡ bonesBelow a d
-below-is none d = refl
-below-is (some n) d = refl
+moved-bad : (o : Out (Found Moves)) (e q : ℕ) → bad e q ≡ moved o → o ≡ bad e q
+moved-bad (got x) e q h = let z : _≡_ {A = ℕ} 0 1 = cc in absurd (omega arith)
+moved-bad (bad n p) e q h = cc
+
+record GaveMoves (o : Out (Found Moves)) (b : Bool) (t : Tally) (rest : Chunks) : Type 0 where
+  value : Moves
+  is : o ≡ got (record { value = value; rest = rest })
+  seen : b ≡ animated (value .anim)
+  has : t ≡ movesTally value
+
+moved-good : (o : Out (Found Moves)) (b : Bool) (t : Tally) (rest : Chunks) → got (b, t, rest) ≡ moved o → GaveMoves o b t rest
+moved-good (got x) b t rest h =
+    let e : _≡_ {A = Bool × Tally × Chunks} (b, t, rest) (animated (x .value .anim), movesTally (x .value), x .rest) = got-inj h in
+    record { value = x .value; is = λ i. got (record { value = x .value; rest = sym e i .2 }); seen = ap (λ (z : Bool × Tally × Chunks). z .0) e; has = ap (λ (z : Bool × Tally × Chunks). z .1) e }
+moved-good (bad n p) b t rest h = let z : _≡_ {A = ℕ} 0 1 = cc in absurd (omega arith)
+
+motions-at : (o : Out (Found Moves)) (rest : Cursor → Chunks) (from : Cursor) (k : Motion) → Motions o rest from k → {x : Motion} → k ≡ x → movedBy rest x ≡ moved o
+motions-at o rest from k h z = subst (λ (x : Motion). movedBy rest x ≡ moved o) z (h .is)
 
 -- ---- the ways of `own_rows`
 
@@ -111,10 +111,10 @@ pub ruleset own-rows-laws = (own-head-small, own-rows-small, own-rows-are)
 
 -- ---- the ways of `judge_parts`
 
-module _ (s : List ℕ) (at : ℕ) (from : Cursor) (g : Among at from (length s)) (far : at + 49 ≤ from .at) (brushes bones : ℕ)
+module _ (s : List ℕ) (at : ℕ) (from : Cursor) (g : Among at from (length s)) (far : at + 49 ≤ from .at) (brushes : ℕ) (a : Option ℕ) (bones : ℕ) (eb : bones ≡ boneVertices a)
     (k : Kinded) (hk : Kinds (readKind brushes bones (restIn s NODE at start from)) (restIn s NODE at (reached 2 false)) from k) where
-  abbrev Right-parts : Kinded → Type 0
-  Right-parts x = Parted (readParts brushes bones (restIn s NODE at start from)) (restIn s NODE at (reached 3 false)) at from x
+  abbrev Right-parts : Owned → Type 0
+  Right-parts x = Parted a (readParts brushes (boneVertices a) (restIn s NODE at start from)) (restIn s NODE at (reached 3 false)) at from x
 
   -- the moves after a kind
   abbrev made : Kind → Out (Found Moves) → Out (Found (Kind × Moves))
@@ -123,11 +123,11 @@ module _ (s : List ℕ) (at : ℕ) (from : Cursor) (g : Among at from (length s)
   abbrev go : Out (Found Kind) → Out (Found (Kind × Moves))
   go o = o >>= λ v. made (v .value) (readMoves still (v .rest))
 
-  pub parts-kind-bad : (e q : ℕ) → k ≡ kind.Not e q → Right-parts (kind.Not e q)
+  pub parts-kind-bad : (e q : ℕ) → k ≡ kind.Not e q → Right-parts (own.Not e q)
   unfolding readParts
   parts-kind-bad e q z =
       let b = kinded-bad (readKind brushes bones (restIn s NODE at start from)) e q (kinds-at (readKind brushes bones (restIn s NODE at start from)) (restIn s NODE at (reached 2 false)) from k hk z) in
-      record { is = rw b; within = subst (KindedIn from) z (hk .within) }
+      record { is = rw (← eb, b); within = subst (KindedIn from) z (hk .within) }
 
   module _ (have : ℕ) (t : Tally) (c : Cursor) (z : k ≡ kind.To have t c) where
     on : Onward from c t
@@ -150,36 +150,36 @@ module _ (s : List ℕ) (at : ℕ) (from : Cursor) (g : Among at from (length s)
     pub parts-first-small : Within (plus headTally t) mostBytes
     parts-first-small = let q = parts-among in within-more (c .at - at) mostBytes first-within (omega (arith, q .room, q .within, g .small))
 
-    module _ (j : Phase) (hj : Phases movesTally (readMoves still (restIn s NODE at (reached 2 false) c)) (restIn s NODE at (reached 3 false)) c j) where
-      pub parts-moves-bad : (e q : ℕ) → j ≡ phase.Not e q → Right-parts (kind.Not e q)
+    module _ (j : Motion) (hj : Motions (readMoves still (restIn s NODE at (reached 2 false) c)) (restIn s NODE at (reached 3 false)) c j) where
+      pub parts-moves-bad : (e q : ℕ) → j ≡ motion.Not e q → Right-parts (own.Not e q)
       unfolding readParts
       parts-moves-bad e q y =
           let o = on in
           let v = gave in
-          let b = tallied-bad movesTally (readMoves still (restIn s NODE at (reached 2 false) c)) e q (phases-at movesTally (readMoves still (restIn s NODE at (reached 2 false) c)) (restIn s NODE at (reached 3 false)) c j hj y) in
-          let le : q ≤ c .end = subst (PhasedIn c) y (hj .within) in
-          record { is = rw (v .is, b); within = omega (arith, o .same) }
+          let b = moved-bad (readMoves still (restIn s NODE at (reached 2 false) c)) e q (motions-at (readMoves still (restIn s NODE at (reached 2 false) c)) (restIn s NODE at (reached 3 false)) c j hj y) in
+          let le : q ≤ c .end = subst (MovedIn c) y (hj .within) in
+          record { is = rw (← eb, v .is, b); within = omega (arith, o .same) }
 
-      module _ (u : Tally) (d : Cursor) (y : j ≡ phase.To u d) where
-        moved : Onward c d u
-        moved = subst (PhasedIn c) y (hj .within)
+      module _ (seen : Bool) (u : Tally) (d : Cursor) (y : j ≡ motion.To seen u d) where
+        after-moves : Onward c d u
+        after-moves = subst (MovedIn c) y (hj .within)
 
         pub parts-moves-small : Within u mostBytes
-        parts-moves-small = let q = parts-among in let m = moved in within-more (d .at - c .at) mostBytes (m .within) (omega (arith, m .room, m .same, q .within, g .small))
+        parts-moves-small = let q = parts-among in let m = after-moves in within-more (d .at - c .at) mostBytes (m .within) (omega (arith, m .room, m .same, q .within, g .small))
 
-        pub parts-good : (x : Tally) → x ≡ plus (plus headTally t) u → Right-parts (kind.To have x d)
+        pub parts-good : (x : Tally) → x ≡ plus (plus headTally t) u → (below : Above) → aboveOf below ≡ bonesFrom a seen have → Right-parts (own.To below x d)
         unfolding readParts
-        parts-good x ex =
+        parts-good x ex below e-below =
             let o = on in
-            let m = moved in
+            let m = after-moves in
             let kd = gave in
-            let mv = tallied-good movesTally (readMoves still (restIn s NODE at (reached 2 false) c)) u (restIn s NODE at (reached 3 false) d) (phases-at movesTally (readMoves still (restIn s NODE at (reached 2 false) c)) (restIn s NODE at (reached 3 false)) c j hj y) in
+            let mv = moved-good (readMoves still (restIn s NODE at (reached 2 false) c)) seen u (restIn s NODE at (reached 3 false) d) (motions-at (readMoves still (restIn s NODE at (reached 2 false) c)) (restIn s NODE at (reached 3 false)) c j hj y) in
             let to : readParts brushes bones (restIn s NODE at start from) ≡ got (record { value = (kd .value, mv .value); rest = restIn s NODE at (reached 3 false) d }) =
             ap go (kd .is) ∙ ap (made (kd .value)) (mv .is) in
-            let eq-own : have ≡ ownVertices (kd .value) = kd .vertices in
+            let eq-below : aboveOf below ≡ bonesFrom a (animated (mv .value .anim)) (ownVertices (kd .value)) = e-below ∙ ap₂ (bonesFrom a) (mv .seen) (kd .vertices) in
             let eq-tally : x ≡ plus (plus headTally (kindTally (kd .value))) (movesTally (mv .value)) = ex ∙ ap (λ (q : Tally). plus q u) (ap (plus headTally) (kd .has)) ∙ ap (plus (plus headTally (kindTally (kd .value)))) (mv .has) in
             record {
-              is = rw to (λ i. got (eq-own i, eq-tally i, restIn s NODE at (reached 3 false) d));
+              is = rw (← eb, to) (λ i. got (eq-below i, eq-tally i, restIn s NODE at (reached 3 false) d));
               within = (
                 record {
                   from-at = omega (arith, far, o .from-at, m .from-at);
@@ -194,6 +194,10 @@ module _ (s : List ℕ) (at : ℕ) (from : Cursor) (g : Among at from (length s)
 pub ruleset parts-laws = (parts-kind-bad, parts-among, parts-kind-small, parts-first-small, parts-moves-bad, parts-moves-small, parts-good)
 
 -- ---- the ways of `judge_own`
+
+owned-in : (at : ℕ) (n body : Cursor) → n .end ≡ body .end → (k : Owned) → OwnedIn at n k → OwnedIn at body k
+owned-in at n body e (own.To b t c) h = subst (λ (z : ℕ). Onward (record { at = at; end = z }) c t × (at + 8 ≤ c .at)) e h
+owned-in at n body e (own.Not i p) h = rw (← e) h
 
 module _ (s : List ℕ) (at : ℕ) (body : Cursor) (g : Body at body (length s)) (r : Named) (ir : NamedIn body 10 r) (len : ℕ) (v n : Cursor) (w : r ≡ named.Is len v n) where
   pub own-among : Among at n (length s)
@@ -238,34 +242,17 @@ module _ (s : List ℕ) (at : ℕ) (body : Cursor) (g : Body at body (length s))
         kinds (got k) = moves (k .value) (readMoves still (k .rest))
         kinds (bad n p) = refl
 
-    module _ (bones : ℕ) (eb : bones ≡ boneVertices a) (k : Kinded) (hk : Parted (readParts brushes bones (restIn s NODE at start n)) (restIn s NODE at (reached 3 false)) at n k) where
-      parted-at : {x : Kinded} → k ≡ x → kindedBy (restIn s NODE at (reached 3 false)) x ≡ parted (readParts brushes bones (restIn s NODE at start n))
-      parted-at z = subst (λ (x : Kinded). kindedBy (restIn s NODE at (reached 3 false)) x ≡ parted (readParts brushes bones (restIn s NODE at start n))) z (hk .is)
+    owned-parted : (o : Out (Found (Kind × Moves))) → owned a (within-name o) ≡ parted a o
+    unfolding dataTally movesTally
+    owned-parted (got x) = refl
+    owned-parted (bad e q) = refl
 
-      pub own-parts-bad : (e q : ℕ) → k ≡ kind.Not e q → Right (own.Not e q)
-      own-parts-bad e q z =
-          let f = named-among body 10 r ir len v n w in
-          let b = parted-bad (readParts brushes bones (restIn s NODE at start n)) e q (parted-at z) in
-          let le : q ≤ n .end = subst (PartedIn at n) z (hk .within) in
-          record { is = rw (opened, ← eb, b); within = omega (arith, f .same) }
+    pub own-parts : (k : Owned) → Parted a (readParts brushes (boneVertices a) (restIn s NODE at start n)) (restIn s NODE at (reached 3 false)) at n k → Right k
+    own-parts k h =
+        let f = named-among body 10 r ir len v n w in
+        record {
+          is = h .is ∙ sym (ap (owned a) opened ∙ owned-parted (readParts brushes (boneVertices a) (restIn s NODE at start n)));
+          within = owned-in at n body (f .same) k (h .within);
+        }
 
-      pub own-good : (have : ℕ) (t : Tally) (c : Cursor) → k ≡ kind.To have t c → (below a₀ : Above) → aboveOf a₀ ≡ a → aboveOf below ≡ belowBy (aboveOf a₀) have → Right (own.To below t c)
-      unfolding dataTally movesTally
-      own-good have t c z below a₀ ea eb₂ =
-          let f = named-among body 10 r ir len v n w in
-          let on = subst (PartedIn at n) z (hk .within) in
-          let p = parted-good (readParts brushes bones (restIn s NODE at start n)) have t (restIn s NODE at (reached 3 false) c) (parted-at z) in
-          let D : Data = dataOf (p .value) in
-          let to : readOwn brushes a at (left body s) ≡ got (record { value = D; rest = restIn s NODE at (reached 3 false) c }) =
-          opened ∙ ap (λ (b : ℕ). within-name (readParts brushes b (restIn s NODE at start n))) (sym eb) ∙ ap within-name (p .is) in
-          let eq-below : aboveOf below ≡ bonesBelow a D = eb₂ ∙ ap (λ (q : Option ℕ). belowBy q have) ea ∙ ap (belowBy a) (p .vertices) ∙ below-is a D in
-          let eq-tally : t ≡ dataTally D = p .has in
-          record {
-            is = rw to (λ i. got (eq-below i, eq-tally i, restIn s NODE at (reached 3 false) c));
-            within = (
-              record { from-at = on .0 .from-at; room = on .0 .room; same = on .0 .same ∙ f .same; within = on .0 .within },
-              on .1,
-            );
-          }
-
-pub ruleset own-laws = (own-cut, own-among, own-far, own-parts-bad, own-good)
+pub ruleset own-laws = (own-cut, own-among, own-far, own-parts)

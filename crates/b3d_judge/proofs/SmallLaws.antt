@@ -9,11 +9,11 @@ use lib.Dec.{ltb}
 use borrow.Author.Tests.{lt-ltb, le-ltb}
 use Rattle.wire.specs.Test.{if}
 use Rattle.wire.specs.Bytes.{AllBytes}
-use Rattle.b3d_scene.specs.Rules.{mostBytes, rowLimit}
+use Rattle.b3d_scene.specs.Rules.{bonesFrom, mostBytes, rowLimit}
 use Rattle.b3d_bodies.specs.Tally.{noTally, bytesTally, animTally, plus, Within}
 use Rattle.b3d_bodies.specs.declared.Tally.{Tally}
 use Rattle.b3d_bodies.proofs.Tallies.{within-none, within-bytes}
-use Rattle.b3d_judge.specs.States.{animOf, belowBy}
+use Rattle.b3d_judge.specs.States.{animOf}
 use Rattle.b3d_judge.specs.Answers.{aboveOf, overLimit}
 use Rattle.b3d_judge.specs.declared.Above.{Above}
 use Rattle.b3d_judge.specs.declared.Above.the-variants as above
@@ -36,11 +36,18 @@ module _ (m b : Tally) where
 
 pub ruleset anim-laws = (bytes-small, none-small, anim-seen, anim-unseen)
 
-pub below-root : (a : Above) (own : ℕ) → a ≡ above.Root → aboveOf (above.Of own) ≡ belowBy (aboveOf a) own
-below-root a own e = rw e
+module _ (a : Above) (own : ℕ) where
+  pub below-root : a ≡ above.Root → (seen : Bool) → aboveOf (above.Of own) ≡ bonesFrom (aboveOf a) seen own
+  below-root e seen = rw e
 
-pub below-of : (a : Above) (own n : ℕ) → a ≡ above.Of n → aboveOf (above.Of n) ≡ belowBy (aboveOf a) own
-below-of a own n e = rw e
+  module _ (n : ℕ) (e : a ≡ above.Of n) (seen : Bool) where
+    pub below-own : seen ≡ true → aboveOf (above.Of own) ≡ bonesFrom (aboveOf a) seen own
+    below-own q = rw (e, q)
+
+    pub below-told : seen ≡ false → aboveOf (above.Of n) ≡ bonesFrom (aboveOf a) seen own
+    below-told q = rw (e, q)
+
+pub ruleset below-laws = (below-root, below-own, below-told)
 
 pub over-yes : (k rows later : ℕ) → 16383 < rows → k ≡ if (ltb rowLimit rows) k later
 unfolding rowLimit if

@@ -13,7 +13,7 @@ use Rattle.b3d_scene.specs.declared.Tag.{Tag}
 use Rattle.b3d_scene.specs.declared.Tag.the-variants.{BB3D, NODE}
 use Rattle.b3d_scene.specs.Tags.{Chunks, Found}
 use Rattle.b3d_scene.specs.Scene.{Brush, Mesh, Kind, Data, Forest, Scene}
-use Rattle.b3d_scene.specs.Rules.{ownVertices, bonesBelow, mostBytes, rowLimit}
+use Rattle.b3d_scene.specs.Rules.{ownVertices, animated, bonesFrom, bonesBelow, mostBytes, rowLimit}
 use Rattle.b3d_scene.specs.Nesting.{Reached}
 use Rattle.b3d_scene.specs.Parse.{Moves, slotsOf}
 use Rattle.b3d_scene.specs.Tables.{rows}
@@ -28,6 +28,8 @@ use Rattle.b3d_bodies.specs.declared.Slotted.the-variants as slots
 use Rattle.b3d_judge.specs.States.{reached, restIn}
 use Rattle.b3d_judge.specs.declared.Meshed.{Meshed}
 use Rattle.b3d_judge.specs.declared.Meshed.the-variants as mesh
+use Rattle.b3d_judge.specs.declared.Motion.{Motion}
+use Rattle.b3d_judge.specs.declared.Motion.the-variants as motion
 use Rattle.b3d_judge.specs.declared.Phase.{Phase}
 use Rattle.b3d_judge.specs.declared.Phase.the-variants as phase
 use Rattle.b3d_judge.specs.declared.Kinded.{Kinded}
@@ -82,11 +84,6 @@ abbrev pub tallied : {A : Type 0} → (A → Tally) → Out (Found A) → Out (T
 tallied f (got x) = got (f (x .value), x .rest)
 tallied f (bad n p) = bad n p
 
--- the same after a tally that was made before
-abbrev pub talliedFrom : {A : Type 0} → Tally → (A → Tally) → Out (Found A) → Out (Tally × Chunks)
-talliedFrom m f (got x) = got (plus m (f (x .value)), x .rest)
-talliedFrom m f (bad n p) = bad n p
-
 abbrev pub phased : (Cursor → Chunks) → Phase → Out (Tally × Chunks)
 phased rest (phase.To t c) = got (t, rest c)
 phased rest (phase.Not n p) = bad n p
@@ -116,19 +113,27 @@ pub record Kinds (o : Out (Found Kind)) (rest : Cursor → Chunks) (from : Curso
   pub is : kindedBy rest r ≡ kinded o
   pub within : KindedIn from r
 
--- a node's kind with its KEYS and ANIM: the vertices of its mesh beside the tally of the node
-abbrev pub parted : Out (Found (Kind × Moves)) → Out (ℕ × Tally × Chunks)
-parted (got x) = got (ownVertices (x .value .0), plus (plus headTally (kindTally (x .value .0))) (movesTally (x .value .1)), x .rest)
-parted (bad n p) = bad n p
+-- KEYS and ANIM: whether there is an ANIM, beside their tally
+abbrev pub moved : Out (Found Moves) → Out (Bool × Tally × Chunks)
+moved (got x) = got (animated (x .value .anim), movesTally (x .value), x .rest)
+moved (bad n p) = bad n p
 
--- from the node's header on
-abbrev pub PartedIn : ℕ → Cursor → Kinded → Type 0
-PartedIn at from (kind.To k t c) = Onward (record { at = at; end = from .end }) c t × (at + 8 ≤ c .at)
-PartedIn at from (kind.Not n p) = p ≤ from .end
+-- the same after a tally that was made before
+abbrev pub movedFrom : Tally → Out (Found Moves) → Out (Bool × Tally × Chunks)
+movedFrom m (got x) = got (animated (x .value .anim), plus m (movesTally (x .value)), x .rest)
+movedFrom m (bad n p) = bad n p
 
-pub record Parted (o : Out (Found (Kind × Moves))) (rest : Cursor → Chunks) (at : ℕ) (from : Cursor) (r : Kinded) : Type 0 where
-  pub is : kindedBy rest r ≡ parted o
-  pub within : PartedIn at from r
+abbrev pub movedBy : (Cursor → Chunks) → Motion → Out (Bool × Tally × Chunks)
+movedBy rest (motion.To a t c) = got (a, t, rest c)
+movedBy rest (motion.Not n p) = bad n p
+
+abbrev pub MovedIn : Cursor → Motion → Type 0
+MovedIn from (motion.To a t c) = Onward from c t
+MovedIn from (motion.Not n p) = p ≤ from .end
+
+pub record Motions (o : Out (Found Moves)) (rest : Cursor → Chunks) (from : Cursor) (r : Motion) : Type 0 where
+  pub is : movedBy rest r ≡ moved o
+  pub within : MovedIn from r
 
 -- a node's own: what it says of bones to those below, beside its tally
 abbrev pub aboveOf : Above → Option ℕ
@@ -147,6 +152,16 @@ ownedBy rest (own.Not n p) = bad n p
 abbrev pub OwnedIn : ℕ → Cursor → Owned → Type 0
 OwnedIn at body (own.To a t c) = Onward (record { at = at; end = body .end }) c t × (at + 8 ≤ c .at)
 OwnedIn at body (own.Not n p) = p ≤ body .end
+
+-- a node's kind with its KEYS and ANIM: the same, from those alone
+abbrev pub parted : Option ℕ → Out (Found (Kind × Moves)) → Out (Option ℕ × Tally × Chunks)
+parted a (got x) =
+    got (bonesFrom a (animated (x .value .1 .anim)) (ownVertices (x .value .0)), plus (plus headTally (kindTally (x .value .0))) (movesTally (x .value .1)), x .rest)
+parted a (bad n p) = bad n p
+
+pub record Parted (a : Option ℕ) (o : Out (Found (Kind × Moves))) (rest : Cursor → Chunks) (at : ℕ) (from : Cursor) (r : Owned) : Type 0 where
+  pub is : ownedBy rest r ≡ parted a o
+  pub within : OwnedIn at from r
 
 pub record Owns (a : Option ℕ) (o : Out (Found Data)) (rest : Cursor → Chunks) (at : ℕ) (body : Cursor) (r : Owned) : Type 0 where
   pub is : ownedBy rest r ≡ owned a o

@@ -49,11 +49,6 @@ readOwn brushes above p b = do
         rest = m .rest;
       })
 
--- what a node says of bones to those below, from what it was told and its own vertices
-abbrev pub belowBy : Option ℕ → ℕ → Option ℕ
-belowBy none own = some own
-belowBy (some n) own = some n
-
 -- the nodes, if NODE comes first, and nothing known after it
 unfoldable pub readLast : ℕ → Chunks → Out Forest
 readLast brushes cs = do

@@ -32,7 +32,13 @@ pub enum Kinded {
     Not(u32, usize),
 }
 
-// Which vertices the bones of a node may name: those of the nodes above; the root's own none.
+// Whether a node has an ANIM, the tally of its KEYS and ANIM, and the cursor after them.
+pub enum Motion {
+    To(bool, Tally, Cursor),
+    Not(u32, usize),
+}
+
+// Which vertices the bones of a node may name: so many, by what the nodes above say; the root's own none.
 pub enum Above {
     Root,
     Of(usize),

@@ -6,18 +6,18 @@ ghost use lib.ListN.{length};
 ghost use Rattle.wire.specs.Cursors.{left};
 ghost use Rattle.b3d_scene.specs.declared.Tag.the-variants.{NODE};
 ghost use Rattle.b3d_scene.specs.Scene.{still};
-ghost use Rattle.b3d_scene.specs.Rules.{boneVertices, mostBytes};
+ghost use Rattle.b3d_scene.specs.Rules.{boneVertices, bonesFrom, mostBytes};
 ghost use Rattle.b3d_scene.specs.Nesting.{start};
 ghost use Rattle.b3d_scene.specs.Parse.{readKind, readMoves, readNodes, readNode};
-ghost use Rattle.b3d_bodies.specs.Tally.{plus, headTally, animTally, movesTally, forestTally, innerTally, Within};
+ghost use Rattle.b3d_bodies.specs.Tally.{plus, headTally, animTally, forestTally, innerTally, Within};
 ghost use Rattle.b3d_bodies.specs.Answers.{Body, Judges};
-ghost use Rattle.b3d_judge.specs.States.{reached, restIn, animOf, readParts, readOwn, belowBy};
-ghost use Rattle.b3d_judge.specs.Answers.{Among, Kinds, Parted, Phases, Owns, aboveOf};
+ghost use Rattle.b3d_judge.specs.States.{reached, restIn, animOf, readParts, readOwn};
+ghost use Rattle.b3d_judge.specs.Answers.{Among, Kinds, Motions, Parted, Owns, aboveOf};
 use crate::Above;
 use crate::Kinded;
 use crate::Meshed;
+use crate::Motion;
 use crate::Owned;
-use crate::Phase;
 use crate::meshes;
 use b3d_bodies::Judged;
 use b3d_bodies::Tally;
@@ -49,13 +49,18 @@ pub fn bone_vertices(a: Above) -> usize
     }
 }
 
-// What a node with so many vertices of its own says to those below.
-pub fn bones_below(a: Above, own: usize) -> Above
-    ensures { λ r. ⌜ aboveOf r ≡ belowBy (aboveOf a) own ⌝ }
+// What a node with so many vertices of its own, and with an ANIM or without, says to those below.
+fn bones_below(a: Above, anim: bool, own: usize) -> Above
+    ensures { λ r. ⌜ aboveOf r ≡ bonesFrom (aboveOf a) anim own ⌝ }
 {
     match a {
         Above::Root => Above::Of(own),
-        Above::Of(n) => Above::Of(n),
+        Above::Of(n) => {
+            if anim {
+                return Above::Of(own);
+            }
+            Above::Of(n)
+        }
     }
 }
 
@@ -100,9 +105,9 @@ fn with_anim(m: Tally, seen: bool) -> Tally
 }
 
 // KEYS and ANIM, in any mix, up to the first NODE.
-pub fn judge_moves(s: &[u8], at: usize, from: Cursor) -> Phase
+pub fn judge_moves(s: &[u8], at: usize, from: Cursor) -> Motion
     requires { ⌜ Among at from (length (now s)) ⌝ }
-    ensures { λ r. ⌜ Phases movesTally (readMoves still (restIn (now (s .entry)) NODE at (reached 2 false) from)) (restIn (now (s .entry)) NODE at (reached 3 false)) from r ⌝ }
+    ensures { λ r. ⌜ Motions (readMoves still (restIn (now (s .entry)) NODE at (reached 2 false) from)) (restIn (now (s .entry)) NODE at (reached 3 false)) from r ⌝ }
 {
     let mut c = from;
     let mut q = KIND_READ;
@@ -111,10 +116,10 @@ pub fn judge_moves(s: &[u8], at: usize, from: Cursor) -> Phase
         let found = b3d_chunks::next_chunk(s, c);
         match b3d_turns::next_inside(s, c, found, Tag::NODE, at, q) {
             Enclosed::End => {
-                return Phase::To(with_anim(m, q.spent), c);
+                return Motion::To(q.spent, with_anim(m, q.spent), c);
             }
             Enclosed::Not(e, p) => {
-                return Phase::Not(e, p);
+                return Motion::Not(e, p);
             }
             Enclosed::Chunk {
                 tag,
@@ -125,7 +130,7 @@ pub fn judge_moves(s: &[u8], at: usize, from: Cursor) -> Phase
             } => match tag {
                 Tag::KEYS => match b3d_bodies::judge_keys(s, p, body) {
                     Judged::Bad(e, i) => {
-                        return Phase::Not(e, i);
+                        return Motion::Not(e, i);
                     }
                     Judged::Good(t) => {
                         m = rows::plus(m, t);
@@ -135,13 +140,13 @@ pub fn judge_moves(s: &[u8], at: usize, from: Cursor) -> Phase
                 },
                 Tag::ANIM => {
                     if body.end - body.at != 12 {
-                        return Phase::Not(5, body.at);
+                        return Motion::Not(5, body.at);
                     }
                     q = reached;
                     c = next;
                 }
                 _ => {
-                    return Phase::To(with_anim(m, q.spent), c);
+                    return Motion::To(q.spent, with_anim(m, q.spent), c);
                 }
             },
         }
@@ -157,15 +162,15 @@ fn own_rows(kind: Tally, moves: Tally) -> Tally
 }
 
 // The chunks inside a NODE up to the nodes below it.
-pub fn judge_parts(s: &[u8], at: usize, from: Cursor, brushes: usize, bones: usize) -> Kinded
+fn judge_parts(s: &[u8], at: usize, from: Cursor, brushes: usize, above: Above) -> Owned
     requires { ⌜ Among at from (length (now s)) × (at + 49 ≤ from .at) ⌝ }
-    ensures { λ r. ⌜ Parted (readParts brushes bones (restIn (now (s .entry)) NODE at start from)) (restIn (now (s .entry)) NODE at (reached 3 false)) at from r ⌝ }
+    ensures { λ r. ⌜ Parted (aboveOf above) (readParts brushes (boneVertices (aboveOf above)) (restIn (now (s .entry)) NODE at start from)) (restIn (now (s .entry)) NODE at (reached 3 false)) at from r ⌝ }
 {
-    match judge_kind(s, at, from, brushes, bones) {
-        Kinded::Not(e, q) => Kinded::Not(e, q),
+    match judge_kind(s, at, from, brushes, bone_vertices(above)) {
+        Kinded::Not(e, q) => Owned::Not(e, q),
         Kinded::To(own, k, c) => match judge_moves(s, at, c) {
-            Phase::Not(e, q) => Kinded::Not(e, q),
-            Phase::To(m, d) => Kinded::To(own, own_rows(k, m), d),
+            Motion::Not(e, q) => Owned::Not(e, q),
+            Motion::To(anim, m, d) => Owned::To(bones_below(above, anim, own), own_rows(k, m), d),
         },
     }
 }
@@ -181,10 +186,7 @@ pub fn judge_own(s: &[u8], at: usize, body: Cursor, brushes: usize, above: Above
             length: _,
             row: _,
             next,
-        } => match judge_parts(s, at, next, brushes, bone_vertices(above)) {
-            Kinded::Not(e, q) => Owned::Not(e, q),
-            Kinded::To(own, t, c) => Owned::To(bones_below(above, own), t, c),
-        },
+        } => judge_parts(s, at, next, brushes, above),
     }
 }
 

@@ -1,7 +1,7 @@
 -- Worked files beside the starred ones, for what no law says and no starred file shows: a file with rows in all ten tables, and
 -- refusals. Their lengths are counted here, so that only the contents are written out.
 use mathlib.Core.Path.{_≡_, refl}
-use Prim.Native.Nat.{ℕ, zero, suc}
+use Prim.Native.Nat.{ℕ, zero, suc, _*_}
 use mathlib.Core.List.{List, [], _∷_, _++_, map}
 use lib.ListN.{length, replicate, take, drop, getD}
 use Rattle.layout.specs.Out.{Out, got, bad}
@@ -190,3 +190,53 @@ refusals =
 pub refused : map (λ (c : List ℕ × Out Scene). judge (c .0)) refusals ≡ map (λ (c : List ℕ × Out Scene). c .1) refusals
 unfolding computing refusals deep
 refused = refl
+
+-- ---- bones
+
+-- a mesh of so many vertices
+abbrev meshOf : ℕ → List ℕ
+meshOf n = aMesh (zeros (3 * n)) []
+
+-- a node with a bone that names this vertex
+abbrev aBone : ℕ → List ℕ
+aBone id = aNode [] (part BONE (ws (id ∷ 0 ∷ [])))
+
+-- a room with a mesh of one vertex and an ANIM; in it a door with a mesh of two, these chunks, and what is below it; and what is beside it
+abbrev room : List ℕ → List ℕ → List ℕ → List ℕ
+room moves below beside = file (aNode [] (meshOf 1 ++ anim ++ aNode [] (meshOf 2 ++ moves ++ below) ++ beside))
+
+-- a root with this mesh and without an ANIM, and what is below it
+abbrev still-root : ℕ → List ℕ → List ℕ
+still-root n below = file (aNode [] (meshOf n ++ below))
+
+-- each file, and the number and place of its answer
+pub bones : List (List ℕ × (ℕ × ℕ))
+bones =
+    -- below the door its mesh counts, beside it the room's
+    (room anim (aBone 1) (aBone 0), (0, 0))
+    ∷ (room anim (aBone 2) [], (7, 331))
+    ∷ (room anim [] (aBone 1), (7, 331))
+    -- ANIM after KEYS, and before
+    ∷ (room (part KEYS (zeros 4) ++ anim) (aBone 1) [], (0, 0))
+    ∷ (room (anim ++ part KEYS (zeros 4)) (aBone 1) [], (0, 0))
+    -- an ANIM of a pivot: no vertex is right, and no weight names one
+    ∷ (still-root 1 (aNode [] (anim ++ aBone 0)), (7, 243))
+    ∷ (still-root 1 (aNode [] (anim ++ aNode [] (part BONE []))), (0, 0))
+    -- an ANIM two levels up, and a mesh without one between
+    ∷ (still-root 1 (aNode [] (meshOf 2 ++ anim ++ aNode [] (meshOf 3 ++ aBone 1))), (0, 0))
+    ∷ (still-root 1 (aNode [] (meshOf 2 ++ anim ++ aNode [] (meshOf 3 ++ aBone 2))), (7, 440))
+    -- no ANIM: the root's mesh, not that of a node between
+    ∷ (still-root 2 (aNode [] (meshOf 1 ++ aBone 1)), (0, 0))
+    ∷ (still-root 1 (aNode [] (meshOf 2 ++ aBone 1)), (7, 291))
+    -- a bone's own ANIM is not for itself, but for the bones below it
+    ∷ (still-root 1 (aNode [] (part BONE (zeros 8) ++ anim)), (0, 0))
+    ∷ (still-root 1 (aNode [] (part BONE (zeros 8) ++ anim ++ aBone 0)), (7, 259))
+    ∷ []
+
+abbrev numbered : Out Scene → ℕ × ℕ
+numbered (got t) = (0, 0)
+numbered (bad n p) = (n, p)
+
+pub bones-judged : map (λ (c : List ℕ × (ℕ × ℕ)). numbered (judge (c .0))) bones ≡ map (λ (c : List ℕ × (ℕ × ℕ)). c .1) bones
+unfolding computing bones
+bones-judged = refl

@@ -1,12 +1,12 @@
 -- The rules of the format, each said once: ranges, ids, how many words an item has, which vertices a bone may name, limits.
 use Prim.Native.Nat.{ℕ, _+_, _*_, _/_, _%_}
-use mathlib.Core.Bool.{Bool, _&&_}
+use mathlib.Core.Bool.{Bool, true, false, _&&_}
 use mathlib.Core.Option.{Option, none, some}
 use mathlib.Core.List.{List, [], _∷_}
 use lib.ListN.{length, replicate}
 use lib.Dec.{leb}
 use Rattle.layout.specs.Rules.{Rule, any, upTo, names, namesOrNone}
-use Rattle.b3d_scene.specs.Scene.{Kind, pivot, mesh, bone, Data}
+use Rattle.b3d_scene.specs.Scene.{Kind, pivot, mesh, bone, Anim, still, anim, Data}
 
 -- ---- ranges
 
@@ -127,10 +127,19 @@ abbrev pub boneVertices : Option ℕ → ℕ
 boneVertices none = 0
 boneVertices (some n) = n
 
--- what a node says to those below: the root its own mesh, another what it was told
+abbrev pub animated : Anim → Bool
+animated still = false
+animated (anim ws) = true
+
+-- what a node says to those below, from what it was told, whether it has an ANIM, and the vertices of its own mesh: the root and a node
+-- with an ANIM its own, another what it was told. So a bone is of the nearest node above it with an ANIM, and of the root without one
+abbrev pub bonesFrom : Option ℕ → Bool → ℕ → Option ℕ
+bonesFrom none a own = some own
+bonesFrom (some n) true own = some own
+bonesFrom (some n) false own = some n
+
 abbrev pub bonesBelow : Option ℕ → Data → Option ℕ
-bonesBelow none d = some (ownVertices (d .kind))
-bonesBelow (some n) d = some n
+bonesBelow above d = bonesFrom above (animated (d .anim)) (ownVertices (d .kind))
 
 -- ---- limits
 

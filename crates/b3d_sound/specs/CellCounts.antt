@@ -1,5 +1,5 @@
--- The running counts after a node, from cells alone, as code has them.
-use Prim.Native.Nat.{ℕ, _+_}
+-- The running counts after a node, and what it says of bones, from cells alone, as code has them.
+use Prim.Native.Nat.{ℕ, _+_, _-_}
 use mathlib.Core.List.{List, [], _∷_}
 use lib.ListN.{length, take, drop, getD}
 use lib.Dec.{eqb}
@@ -46,10 +46,6 @@ kindCounts R n y =
     if (eqb (getD y 0 0) 1) (meshCounts (getD (drop (n .meshes) (R 4)) 0 []) (drop (n .sets) (R 6)) n)
     (if (eqb (getD y 0 0) 2) (weightCounts (getD y 2 0) n) n)
 
--- the vertices of the mesh that kind, first and count in y say; 0 where there is none
-unfoldable pub cellVertices : Rows → Counts → List ℕ → ℕ
-cellVertices R n y = if (eqb (getD y 0 0) 1) (getD (getD (drop (n .meshes) (R 4)) 0 []) 6 0) 0
-
 -- one node more, its key lists and keys being counted to l and k
 unfoldable pub nodeCounts : ℕ → ℕ → Counts → Counts
 nodeCounts l k n =
@@ -69,3 +65,7 @@ unfoldable pub cellCounts : Rows → List ℕ → Counts → Counts
 cellCounts R x n =
     let ls = mine (n .nodes) (drop (n .lists) (R 9)) in
     nodeCounts (n .lists + length ls) (endOf (n .keys) ls) (kindCounts R n (drop 13 x))
+
+-- what node row x says of bones to those below, where it was told so many vertices: with an ANIM those of its own mesh
+unfoldable pub cellBones : ℕ → Rows → List ℕ → Counts → ℕ
+cellBones told R x n = if (eqb (getD x 16 0) 1) ((cellCounts R x n) .vertices - n .vertices) told

@@ -1,20 +1,20 @@
 -- Which lent tables are sound, as code finds it: row by row with running counts, each cell against what it must be. What sound means
 -- is said by `rebuild`; proofs/Check has that the verdict is the same.
-use Prim.Native.Nat.{ℕ, suc, _+_}
+use Prim.Native.Nat.{ℕ, _+_}
 use mathlib.Core.Bool.{Bool, true, false, _&&_}
 use mathlib.Core.Option.{none}
-use mathlib.Core.List.{List, [], _∷_, map}
+use mathlib.Core.List.{List, [], _∷_}
 use lib.ListN.{length, take, drop, getD}
 use lib.Dec.{leb, ltb, eqb}
 use Rattle.wire.specs.Test.{if}
 use Rattle.layout.specs.Fit.{all}
 use Rattle.layout.specs.Rules.{NONE, Rule, holds}
 use Rattle.b3d_scene.specs.Mask.{vertexMask, keyMask}
-use Rattle.b3d_scene.specs.Rebuild.{Lent, lentRows, roomy, mine, Rows, dataFrom}
-use Rattle.b3d_scene.specs.Rules.{version, slots, vertexFlags, sets, setSize, keyFlags, brushId, brushIds, triangleRow, weightRow, boneVertices, bonesBelow, levels}
+use Rattle.b3d_scene.specs.Rebuild.{Lent, lentRows, roomy, mine, Rows}
+use Rattle.b3d_scene.specs.Rules.{version, slots, vertexFlags, sets, setSize, keyFlags, brushId, brushIds, triangleRow, weightRow, boneVertices, levels}
 use Rattle.b3d_scene.specs.Tables.{start, reached, partTables, tables}
 use Rattle.b3d_scene.specs.declared.Counts.{Counts}
-use Rattle.b3d_sound.specs.CellCounts.{cellCounts}
+use Rattle.b3d_sound.specs.CellCounts.{cellCounts, cellBones}
 
 -- ---- rows
 
@@ -111,32 +111,38 @@ nodeHere ns brushes bones R x n =
 unfoldable pub spent : Rows → Counts → Bool
 spent R n = all (λ (k : ℕ). leb (length (R k)) (reached k n)) partTables
 
-unfoldable pub nodesHere : List ℕ → ℕ → ℕ → Rows → List (List ℕ) → Counts → Bool
-nodesHere ns brushes bones R [] n = spent R n
-nodesHere ns brushes bones R (x ∷ xs) n = nodeHere ns brushes bones R x n && nodesHere ns brushes bones R xs (cellCounts R x n)
+-- ---- all nodes
 
--- ---- parents
+-- a node on the way up to the root, and how many vertices a weight below it may name
+pub record Level : Type 0 where
+  pub node : ℕ
+  pub bones : ℕ
 
--- the path from p on
-unfoldable pub upTo : ℕ → List ℕ → List ℕ
+-- the path from node p on
+unfoldable pub upTo : ℕ → List Level → List Level
 upTo p [] = []
-upTo p (q ∷ qs) = if (eqb p q) (q ∷ qs) (upTo p qs)
+upTo p (q ∷ qs) = if (eqb p (q .node)) (q ∷ qs) (upTo p qs)
 
--- the parents of nodes from number i on: each is the node before or one above that; path: that node and those above it
-unfoldable pub parentsHere : List ℕ → ℕ → List ℕ → Bool
-parentsHere path i [] = true
-parentsHere path i (p ∷ ps) =
-    let q = upTo p path in
-    ltb 0 (length q) && (ltb (length q) levels && parentsHere (i ∷ q) (suc i) ps)
+-- what the first of a path says of bones
+unfoldable pub toldBy : List Level → ℕ
+toldBy [] = 0
+toldBy (q ∷ qs) = q .bones
 
--- the root first; what it says to those below holds for all of them
+-- node rows, each with what is its own; its parent is the node before or one above that, which the path has: that node and those above it
+unfoldable pub nodesHere : List ℕ → ℕ → Rows → List Level → List (List ℕ) → Counts → Bool
+nodesHere ns brushes R path [] n = spent R n
+nodesHere ns brushes R path (x ∷ xs) n =
+    let q = upTo (getD x 2 0) path in
+    ltb 0 (length q)
+    && (ltb (length q) levels
+    && (nodeHere ns brushes (toldBy q) R x n && nodesHere ns brushes R (record { node = n .nodes; bones = cellBones (toldBy q) R x n } ∷ q) xs (cellCounts R x n)))
+
+-- the root first: it says its own vertices to those below
 unfoldable pub treeHere : List ℕ → ℕ → Rows → List (List ℕ) → Bool
 treeHere ns brushes R [] = spent R start
 treeHere ns brushes R (x ∷ xs) =
     eqb (getD x 2 0) NONE
-    && (nodeHere ns brushes (boneVertices none) R x start
-    && (nodesHere ns brushes (boneVertices (bonesBelow none (dataFrom ns R x start))) R xs (cellCounts R x start)
-    && parentsHere (0 ∷ []) 1 (map (λ (y : List ℕ). getD y 2 0) xs)))
+    && (nodeHere ns brushes (boneVertices none) R x start && nodesHere ns brushes R (record { node = 0; bones = (cellCounts R x start) .vertices } ∷ []) xs (cellCounts R x start))
 
 -- ---- the verdict
 

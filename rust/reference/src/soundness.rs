@@ -190,14 +190,36 @@ fn triangle_ids(lent: &Lent, first: usize, count: u32, vertices: u32) -> bool {
     })
 }
 
-/// Each weight names a vertex of the root's mesh. Called once `meshes` holds.
+/// Each weight names a vertex of its bone's mesh. Called once `node_order`,
+/// `node_kinds` and `meshes` hold.
 fn weights(lent: &Lent) -> bool {
-    let root_is_mesh = lent.count(NODES) > 0 && lent.node(0).kind == MESH;
-    let vertices = match root_is_mesh {
-        true => lent.mesh(0).vertices as usize,
-        false => 0,
-    };
-    lent.rows(WEIGHTS).all(|row| names_row(row[0], vertices))
+    (0..lent.count(NODES)).all(|number| {
+        let node = lent.node(number);
+        if node.kind != BONE {
+            return true;
+        }
+        let vertices = bone_vertices(lent, node.parent);
+        let first = node.first as usize;
+        (first..first + node.count as usize)
+            .all(|weight| names_row(lent.row(WEIGHTS, weight)[0], vertices))
+    })
+}
+
+/// The vertices that a bone with this parent may name: those of the mesh of the
+/// nearest node from the parent up that has an ANIM, else of the root's. The
+/// root's own bone has no parent and names none.
+fn bone_vertices(lent: &Lent, parent: u32) -> usize {
+    if parent == NONE {
+        return 0;
+    }
+    let node = lent.node(parent as usize);
+    if node.anim != 1 && node.parent != NONE {
+        return bone_vertices(lent, node.parent);
+    }
+    match node.kind {
+        MESH => lent.mesh(node.first as usize).vertices as usize,
+        _ => 0,
+    }
 }
 
 /// Each key list row, in the order of the nodes, and its keys; each key

@@ -343,23 +343,40 @@ fn negative_id(tree: &mut Chunk, rng: &mut Rng) -> Option<(u32, usize)> {
     Some((7, spot.place + 8 + id.at))
 }
 
-/// Vertices of the root's MESH.
-fn root_vertices(tree: &Chunk) -> usize {
-    let inside = |chunk: &Chunk, tag: &[u8; 4]| {
-        let found = chunk.chunks.iter().find(|inner| &inner.tag == tag);
-        found.cloned()
-    };
-    inside(tree, b"NODE")
-        .and_then(|root| inside(&root, b"MESH"))
-        .and_then(|mesh| inside(&mesh, b"VRTS"))
+/// The chunk of this tag inside another.
+fn inside<'a>(chunk: &'a Chunk, tag: &[u8; 4]) -> Option<&'a Chunk> {
+    chunk.chunks.iter().find(|inner| &inner.tag == tag)
+}
+
+/// The node whose mesh the BONE at this path is of, by how many steps of the
+/// path lead to it: from the bone's parent up the nearest with an ANIM, else
+/// the root. The root's own BONE has none.
+pub fn bone_owner(tree: &Chunk, path: &[usize]) -> Option<usize> {
+    // The last two steps are the bone's own node and its BONE.
+    let above = 1..path.len().checked_sub(1)?;
+    let has_anim = |steps: &usize| inside(tree.at(&path[..*steps]), b"ANIM").is_some();
+    above.clone().rev().find(has_anim).or(above.clone().next())
+}
+
+/// Vertices of a node's MESH.
+pub fn node_vertices(node: &Chunk) -> usize {
+    inside(node, b"MESH")
+        .and_then(|mesh| inside(mesh, b"VRTS"))
         .map_or(0, |vrts| vrts.pieces.len().saturating_sub(1))
 }
 
-fn bone_of_nothing(tree: &mut Chunk, rng: &mut Rng) -> Option<(u32, usize)> {
-    if root_vertices(tree) > 0 {
-        return None;
+/// Whether the BONE at this path may name no vertex.
+fn names_nothing(tree: &Chunk, path: &[usize]) -> bool {
+    match bone_owner(tree, path) {
+        Some(steps) => node_vertices(tree.at(&path[..steps])) == 0,
+        None => true,
     }
-    let spot = spot_of(tree, rng, &[b"BONE"])?;
+}
+
+fn bone_of_nothing(tree: &mut Chunk, rng: &mut Rng) -> Option<(u32, usize)> {
+    let spot = spot_where(tree, rng, |spot, _| {
+        &spot.tag == b"BONE" && names_nothing(tree, &spot.path)
+    })?;
     let chunk = tree.at_mut(&spot.path);
     chunk.words(&[rng.pick(&[0, 0, 1, 0xFFFF_FFFF]), 0x3F80_0000]);
     Some((7, spot.place + 8))

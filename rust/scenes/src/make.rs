@@ -106,7 +106,7 @@ pub fn scene(rng: &mut Rng, profile: Profile) -> Scene {
         profile,
         sheet: Sheet::default(),
         nodes_left: 0,
-        root_vertices: 0,
+        above: Vec::new(),
     };
     let tree = maker.bb3d();
     let mut sheet = maker.sheet;
@@ -172,7 +172,15 @@ struct Maker<'a> {
     profile: Profile,
     sheet: Sheet,
     nodes_left: usize,
-    root_vertices: usize,
+    /// The nodes around the one that is made, the root first.
+    above: Vec<Level>,
+}
+
+/// A node around others: whether it has an ANIM, and the vertices of its mesh.
+#[derive(Clone, Copy, Default)]
+struct Level {
+    anim: bool,
+    vertices: usize,
 }
 
 impl Maker<'_> {
@@ -221,7 +229,7 @@ impl Maker<'_> {
         }
         if self.rng.percent(95) {
             self.nodes_left = self.rng.between(1, self.profile.nodes);
-            known.push(self.node(0xFFFF_FFFF, 1));
+            known.push(self.node(0xFFFF_FFFF));
         }
         chunk.chunks = self.mixed(known);
         chunk
@@ -280,7 +288,7 @@ impl Maker<'_> {
     }
 
     /// A node and all inside it.
-    fn node(&mut self, parent: u32, depth: usize) -> Chunk {
+    fn node(&mut self, parent: u32) -> Chunk {
         self.nodes_left -= 1;
         let number = self.rows(2);
         let name = name(self.rng);
@@ -294,28 +302,32 @@ impl Maker<'_> {
         row.resize(20, 0);
         self.push(2, &row);
         let mut known = Vec::new();
-        self.kind(&mut known, number, depth);
-        self.keys_and_anim(&mut known, number);
+        let vertices = self.kind(&mut known, number);
+        let anim = self.keys_and_anim(&mut known, number);
+        self.above.push(Level { anim, vertices });
         while self.nodes_left > 0
-            && depth < self.profile.depth
+            && self.above.len() < self.profile.depth
             && self.rng.percent(self.profile.child_percent)
         {
-            known.push(self.node(number, depth + 1));
+            known.push(self.node(number));
         }
+        self.above.pop();
         chunk.chunks = self.mixed(known);
         chunk
     }
 
-    /// Perhaps a MESH or BONE. Roots are meshes more often, for the bones.
-    fn kind(&mut self, known: &mut Vec<Chunk>, node: u32, depth: usize) {
-        let choice = match depth {
-            1 => self.rng.pick(&[0, 1, 1, 1, 1, 2]),
+    /// Perhaps a MESH or BONE; gives the vertices of the MESH. Roots are meshes
+    /// more often, for the bones.
+    fn kind(&mut self, known: &mut Vec<Chunk>, node: u32) -> usize {
+        let choice = match self.above.len() {
+            0 => self.rng.pick(&[0, 1, 1, 1, 1, 2]),
             _ => self.rng.pick(&[0, 1, 2, 2]),
         };
+        let before = self.rows(4);
         let (first, count) = match choice {
             1 => {
                 let number = self.rows(3);
-                known.push(self.mesh(node, depth));
+                known.push(self.mesh(node));
                 (number, 1)
             }
             2 => {
@@ -327,6 +339,7 @@ impl Maker<'_> {
         };
         let row = self.sheet.row_mut(2, node as usize);
         row[13..16].copy_from_slice(&[choice, first, count]);
+        (self.rows(4) - before) as usize
     }
 
     /// An id of one of `count` rows, or -1.
@@ -338,7 +351,7 @@ impl Maker<'_> {
         }
     }
 
-    fn mesh(&mut self, node: u32, depth: usize) -> Chunk {
+    fn mesh(&mut self, node: u32) -> Chunk {
         let number = self.rows(3);
         let brush = self.id_or_none(self.rows(1));
         let mut chunk = Chunk::new(b"MESH");
@@ -350,9 +363,6 @@ impl Maker<'_> {
         let (first_vertex, first_set) = (self.rows(4), self.rows(5));
         let mut known = vec![self.vrts(flags, sets, set_size)];
         let vertices = self.rows(4) - first_vertex;
-        if depth == 1 {
-            self.root_vertices = vertices as usize;
-        }
         for _ in 0..self.rng.between(1, self.profile.triangle_sets) {
             known.push(self.tris(number, vertices as usize));
         }
@@ -432,9 +442,13 @@ impl Maker<'_> {
         chunk
     }
 
+    /// A BONE of the nearest node above with an ANIM, of the root if none has
+    /// one.
     fn bone(&mut self) -> Chunk {
         let mut chunk = Chunk::new(b"BONE");
-        let vertices = self.root_vertices;
+        let nearest = self.above.iter().rev().find(|level| level.anim);
+        let chosen = nearest.or(self.above.first()).copied();
+        let vertices = chosen.unwrap_or_default().vertices;
         let count = match vertices {
             0 => 0,
             _ => self.rng.between(0, self.profile.items),
@@ -449,8 +463,9 @@ impl Maker<'_> {
         chunk
     }
 
-    /// KEYS chunks, with perhaps an ANIM before, between or after them.
-    fn keys_and_anim(&mut self, known: &mut Vec<Chunk>, node: u32) {
+    /// KEYS chunks, with perhaps an ANIM before, between or after them; tells
+    /// whether there is one.
+    fn keys_and_anim(&mut self, known: &mut Vec<Chunk>, node: u32) -> bool {
         let lists = self.rng.between(0, self.profile.key_lists);
         let anim_at = match self.rng.percent(40) {
             true => Some(self.rng.between(0, lists)),
@@ -464,6 +479,7 @@ impl Maker<'_> {
                 known.push(self.keys(node));
             }
         }
+        anim_at.is_some()
     }
 
     fn anim(&mut self, node: u32) -> Chunk {

@@ -190,13 +190,18 @@ fn add_chain(sheet: &mut Sheet, rng: &mut Rng) -> Option<()> {
     Some(())
 }
 
-/// Adds a bone of one weight inside the root. Sound if the root is a mesh with
-/// such a vertex.
+/// Adds a bone of one weight inside the last node or one around it. Sound if
+/// the mesh that it is of has such a vertex.
 fn add_bone(sheet: &mut Sheet, rng: &mut Rng) -> Option<()> {
-    if sheet.counts[2] == 0 {
-        return None;
+    let mut parent = sheet.counts[2].checked_sub(1)?;
+    while rng.percent(60) {
+        match sheet.row(2, parent as usize)[2] {
+            above if above < parent => parent = above,
+            _ => break,
+        }
     }
     let mut row = vec![0; ROW_WORDS[2]];
+    row[2] = parent;
     row[13..16].copy_from_slice(&[2, sheet.counts[7], 1]);
     sheet.tables[2].extend(row);
     sheet.tables[7].extend([rng.below(3) as u32, 0]);

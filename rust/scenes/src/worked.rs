@@ -140,6 +140,40 @@ fn mesh(vertices: usize, ids: &[u32]) -> Chunk {
     mesh
 }
 
+fn anim() -> Chunk {
+    Chunk::of_bytes(*b"ANIM", vec![0; 12])
+}
+
+/// A node with a bone that names this vertex.
+fn bone(id: u32) -> Chunk {
+    let mut bone = Chunk::new(b"BONE");
+    bone.words(&[id, 0]);
+    node_of(vec![bone])
+}
+
+/// A room with a mesh of one vertex and an ANIM; in it a door with a mesh of
+/// two, these chunks and a bone; beside the door another bone.
+fn door(moves: Vec<Chunk>, below: u32, beside: Option<u32>) -> Vec<u8> {
+    let mut inside = vec![mesh(2, &[])];
+    inside.extend(moves);
+    inside.push(bone(below));
+    let mut room = vec![mesh(1, &[]), anim(), node_of(inside)];
+    room.extend(beside.map(bone));
+    file_of(vec![node_of(room)]).bytes()
+}
+
+/// A root with a mesh of so many vertices and no ANIM, in it a node with these
+/// chunks.
+fn below_still_root(vertices: usize, chunks: Vec<Chunk>) -> Vec<u8> {
+    file_of(vec![node_of(vec![mesh(vertices, &[]), node_of(chunks)])]).bytes()
+}
+
+/// A bone below a mesh of three vertices, below one of two with an ANIM.
+fn two_levels_up(id: u32) -> Vec<u8> {
+    let between = node_of(vec![mesh(3, &[]), bone(id)]);
+    below_still_root(1, vec![mesh(2, &[]), anim(), between])
+}
+
 /// T with one more id in its TRIS.
 fn cut_item() -> Vec<u8> {
     let mut file = t();
@@ -254,6 +288,28 @@ pub fn cases() -> Vec<Case> {
     add("16,384 keys, then a cut node", cut, 5, 73 + 65_536 + 8);
     add("id of its own mesh", two_meshes(0), 0, 0);
     add("id of another mesh", two_meshes(1), 7, 202 + 64);
+    let keys = || Chunk::of_bytes(*b"KEYS", vec![0; 4]);
+    add("door", door(vec![anim()], 1, Some(0)), 0, 0);
+    add("door's last id", door(vec![anim()], 2, None), 7, 331);
+    add("beside it", door(vec![anim()], 1, Some(1)), 7, 396);
+    add("ANIM last", door(vec![keys(), anim()], 1, None), 0, 0);
+    add("ANIM first", door(vec![anim(), keys()], 1, None), 0, 0);
+    add("no ANIM", door(vec![keys()], 1, None), 7, 323);
+    let pivot = below_still_root(1, vec![anim(), bone(0)]);
+    add("ANIM of a pivot", pivot, 7, 243);
+    let empty = node_of(vec![Chunk::new(b"BONE")]);
+    let pivot = below_still_root(1, vec![anim(), empty]);
+    add("no weight below it", pivot, 0, 0);
+    add("ANIM two levels up", two_levels_up(1), 0, 0);
+    add("mesh between", two_levels_up(2), 7, 440);
+    let root = below_still_root(2, vec![mesh(1, &[]), bone(1)]);
+    add("root without ANIM", root, 0, 0);
+    let nearest = below_still_root(1, vec![mesh(2, &[]), bone(1)]);
+    add("nearest mesh", nearest, 7, 291);
+    let own = || Chunk::of_bytes(*b"BONE", vec![0; 8]);
+    add("own ANIM", below_still_root(1, vec![own(), anim()]), 0, 0);
+    let below = below_still_root(1, vec![own(), anim(), bone(0)]);
+    add("below it", below, 7, 259);
     add("cut item", cut_item(), 5, 153);
     add("odd length", odd_length(), 0, 0);
     add("wrapped length", wrapped_length(), 3, 12);

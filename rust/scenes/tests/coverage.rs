@@ -1,6 +1,7 @@
 //! The generator meets all shapes that a valid file can have.
 
 use scenes::chunk::{Chunk, KNOWN};
+use scenes::damage::{bone_owner, node_vertices};
 use scenes::{scene, Profile, Rng};
 use std::collections::BTreeSet;
 
@@ -74,6 +75,33 @@ fn all_places_of_anim_and_all_kinds() {
     // The root's own BONE can name no vertex, so it is always empty.
     assert!(!met.contains(&("empty bone", true, false)));
     assert_eq!(met.len(), 4 + 4 + 4 + 3 + 2, "{met:?}");
+}
+
+#[test]
+fn bones_of_each_kind_of_node() {
+    let mut met = BTreeSet::new();
+    let mut rng = Rng::new(42);
+    for _ in 0..1500 {
+        let profile = Profile::any(&mut rng);
+        let scene = scene(&mut rng, profile);
+        for spot in scene.tree.spots() {
+            let chunk = scene.tree.at(&spot.path);
+            if &chunk.tag != b"BONE" || spot.path.len() < 3 {
+                continue;
+            }
+            let steps = bone_owner(&scene.tree, &spot.path).expect("a node above");
+            let owner = scene.tree.at(&spot.path[..steps]);
+            let anim = owner.chunks.iter().any(|inner| &inner.tag == b"ANIM");
+            let vertices = node_vertices(owner) > 0;
+            let weights = !chunk.pieces.is_empty();
+            let parent = steps == spot.path.len() - 2;
+            met.insert((steps == 1, anim, vertices, weights, parent));
+        }
+    }
+    // The owner: the root with an ANIM, without one, or another node, which
+    // has one; with vertices, and so with weights or none, or without; the
+    // bone's parent or farther up.
+    assert_eq!(met.len(), 3 * 3 * 2, "{met:?}");
 }
 
 #[test]

@@ -1,6 +1,5 @@
--- `tree_here` looks at the root, then at the nodes below it, then at their parents.
-use native.Mathlib.Omega.{arith}
-use Rattle.b3d_check_tree.proofs.TreeLaws.{tree-laws, tree-empty, tree-wrong, tree-node, root-after, root-below, root-small, tree-nodes, tree-parents}
+-- `tree_here` looks at the root, then at the nodes below it.
+use Rattle.b3d_check_tree.proofs.TreeLaws.{tree-empty, tree-wrong, tree-node, root-after, root-below, root-small, tree-nodes}
 use borrow.Author.Needs.{needs}
 use Rattle.b3d_check_tree.proofs.tree_here.Statement.{statement}
 use Rattle.b3d_check_tree.proofs.tree_here.Tie as tie
@@ -25,6 +24,4 @@ tree-here-spec =
     (λ c κs. root-small _ _ _ _ _ _ _ _ _ _ _ (search needs) _ (c .before .before .node-here .ensures) (search needs) _ (c .node-counts .ensures) (c .before .before .before .before .before .before .before .before .before .before .before .before .before .before .before .before .pre .0 .0))
     (λ c κs. let h = c .before .before .before .before .before .before .before .before .before .before .before .before .before .before .before .before .before .pre in
     ((root-below _ _ _ _ _ _ _ _ _ _ _ (search needs) _ (c .before .before .before .node-here .ensures) (search needs) _ (c .before .node-counts .ensures), h .0 .1), (h .0 .0, h .1 .0, h .1 .1)))
-    (λ c. search (tree-nodes, needs))
-    (λ c κs. let h = c .before .before .before .before .before .before .before .before .before .before .before .before .before .before .before .before .before .before .before .pre in (search needs, h .1 .0))
-    (λ c. search (tree-parents, needs)))
+    (λ c. search (tree-nodes, needs)))

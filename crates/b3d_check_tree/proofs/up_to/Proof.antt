@@ -1,5 +1,5 @@
--- `up_to` is `upTo` on the path that the array holds. The loop has passed the nodes from d on; its measure is d.
-use Rattle.b3d_check_tree.proofs.ParentLaws.{CutFrom, cut-laws}
+-- `up_to` is `upTo` on the path that the array holds, whatever its nodes say of bones. The loop has passed the nodes from d on; its measure is d.
+use Rattle.b3d_check_tree.proofs.PathLaws.{CutFrom, cut-laws}
 use borrow.Author.Needs.{needs}
 use Rattle.b3d_check_tree.proofs.up_to.Statement.{statement}
 use Rattle.b3d_check_tree.proofs.up_to.Tie as tie

@@ -1,21 +1,23 @@
--- The counts after a node, from its cells, are those of the node where its rows are sound.
+-- The counts after a node, from its cells, are those of the node where its rows are sound; and so is what it says of bones.
 use mathlib.Core.Path.{_≡_, refl, ap, ap₂, sym, _∙_}
-use Prim.Native.Nat.{ℕ, _+_}
+use Prim.Native.Nat.{ℕ, _+_, _-_}
 use native.Mathlib.Nat.{add-zero}
 use native.Mathlib.Omega.{arith}
-use mathlib.Core.Option.{none}
+use mathlib.Core.Bool.{Bool, true, false}
+use mathlib.Core.Option.{none, some}
 use mathlib.Core.List.{List, []}
 use lib.ListN.{length, take, drop, getD}
+use lib.Seq.{getD-drop}
 use lib.Dec.{eqb}
 use Rattle.wire.specs.Test.{if}
-use Rattle.b3d_scene.specs.Rebuild.{setsFrom, meshFrom, mine, keysFrom, Rows, kindFrom, dataFrom}
-use Rattle.b3d_scene.specs.Rules.{ownVertices, boneVertices, bonesBelow}
-use Rattle.b3d_scene.specs.Scene.{Kind, pivot, mesh, bone}
-use Rattle.b3d_scene.specs.Tables.{meshesOf, weightsOf, kindCells, meshRow, setRows, keyRows, meshRows, withMeshes, withNode}
+use Rattle.b3d_scene.specs.Rebuild.{setsFrom, meshFrom, mine, keysFrom, animFrom, Rows, kindFrom, dataFrom}
+use Rattle.b3d_scene.specs.Rules.{ownVertices, animated, bonesFrom, bonesBelow}
+use Rattle.b3d_scene.specs.Scene.{Kind, pivot, mesh, bone, still, anim}
+use Rattle.b3d_scene.specs.Tables.{start, meshesOf, weightsOf, kindCells, meshRow, setRows, keyRows, meshRows, withMeshes, withNode}
 use Rattle.b3d_scene.specs.declared.Counts.{Counts}
 use Rattle.b3d_scene.proofs.Rows.RowParts.{sets-length}
-use Rattle.b3d_sound.specs.CellCounts.{endOf, meshCounts, weightCounts, kindCounts, cellVertices, nodeCounts, cellCounts}
-use Rattle.b3d_sound.proofs.Check.Testing.{if-case, if-both}
+use Rattle.b3d_sound.specs.CellCounts.{endOf, meshCounts, weightCounts, kindCounts, nodeCounts, cellCounts, cellBones}
+use Rattle.b3d_sound.proofs.Check.Testing.{if-both}
 use Rattle.b3d_sound.proofs.Check.Rows.{begins-take}
 use Rattle.b3d_sound.proofs.Check.Runs.{runs-length, runs-end, setsRun, sets-law, listsRun, lists-law}
 use Rattle.b3d_sound.proofs.Check.Kinds.{KindIs, three-from, first-from}
@@ -67,12 +69,24 @@ module _ (b c : ℕ) (R : Rows) (n : Counts) (y : List ℕ) where
       if-both is (eqb (getD y 0 0) 1) _ _ _ _ (λ t h. mesh-counts _ _ h)
       (λ t. if-both is (eqb (getD y 0 0) 2) _ _ _ _ (λ u h. ap (λ (k : ℕ). weightCounts k n) (sym (three-from _ y (h .0) 2 (omega arith)))) (λ u h. zero-weights n))
 
-  kind-vertices : KindIs b c R n y (kindFrom R n (getD y 0 0) (getD y 2 0)) → ownVertices (kindFrom R n (getD y 0 0) (getD y 2 0)) ≡ cellVertices R n y
-  unfolding kindFrom cellVertices meshRow
-  kind-vertices =
-      let is : Kind → ℕ → Type 0 = λ k a. KindIs b c R n y k → ownVertices k ≡ a in
-      if-both is (eqb (getD y 0 0) 1) _ _ _ _ (λ t h. ap (λ (z : List ℕ). getD z 6 0) (mesh-row _ _ h))
-      (λ t h. if-case (λ k. ownVertices k ≡ 0) (eqb (getD y 0 0) 2) _ _ (λ u. refl) (λ u. refl))
+-- ---- bones
+
+-- the vertices of a node's own mesh are those that it adds
+own-more : (k : Kind) (n : Counts) → (withMeshes (meshesOf k) n) .vertices ≡ n .vertices + ownVertices k
+unfolding withMeshes meshesOf
+own-more pivot n = omega arith
+own-more (mesh m) n = refl
+own-more (bone ws) n = omega arith
+
+anim-there : (c : Bool) (ws : List ℕ) → animated (if c (anim ws) still) ≡ c
+unfolding if
+anim-there true ws = refl
+anim-there false ws = refl
+
+bones-if : (told own : ℕ) (c : Bool) → bonesFrom (some told) c own ≡ some (if c own told)
+unfolding if
+bones-if told own true = refl
+bones-if told own false = refl
 
 -- where node row x and all that is its own are sound
 module _ (ns : List ℕ) (b c : ℕ) (R : Rows) (x : List ℕ) (n : Counts) (here : NodeIs ns b c R x n (dataFrom ns R x n)) where
@@ -91,7 +105,21 @@ module _ (ns : List ℕ) (b c : ℕ) (R : Rows) (x : List ℕ) (n : Counts) (her
       ap (λ (j : ℕ). j + length (keyRows (keysFrom ls ks))) (s .1) ∙ runs-end listsRun lists-law (n .nodes) (n .keys) ls ks (p .1 .1 .0 .0) in
       λ i. nodeCounts (el i) (ek i) (e i)
 
-  -- what the root, being this node, says to those below
-  pub root-bones : boneVertices (bonesBelow none (dataFrom ns R x n)) ≡ cellVertices R n (drop 13 x)
-  unfolding dataFrom
-  root-bones = kind-vertices b c R n (drop 13 x) (node-from ns b c R x n here .1 .0)
+  own-cells : ownVertices ((dataFrom ns R x n) .kind) ≡ (cellCounts R x n) .vertices - n .vertices
+  unfolding withNode
+  own-cells =
+      let e : (withNode (dataFrom ns R x n) n) .vertices ≡ (cellCounts R x n) .vertices = ap (λ (m : Counts). m .vertices) cell-counts in
+      omega (arith, own-more ((dataFrom ns R x n) .kind) n)
+
+  -- what this node says of bones, where it was told so many vertices
+  pub cell-bones : (told : ℕ) → bonesBelow (some told) (dataFrom ns R x n) ≡ some (cellBones told R x n)
+  unfolding dataFrom animFrom cellBones
+  cell-bones told =
+      let c : animated ((dataFrom ns R x n) .anim) ≡ eqb (getD x 16 0) 1 =
+      anim-there (eqb (getD (drop 3 (drop 13 x)) 0 0) 1) _ ∙ ap (λ (z : ℕ). eqb z 1) (getD-drop 3 (drop 13 x) 0 0 ∙ getD-drop 13 x 3 0) in
+      ap₂ (bonesFrom (some told)) c own-cells ∙ bones-if told ((cellCounts R x n) .vertices - n .vertices) (eqb (getD x 16 0) 1)
+
+-- what the root says
+pub root-bones : (ns : List ℕ) (b c : ℕ) (R : Rows) (x : List ℕ) → NodeIs ns b c R x start (dataFrom ns R x start) → bonesBelow none (dataFrom ns R x start) ≡ some ((cellCounts R x start) .vertices)
+unfolding start
+root-bones ns b c R x h = let e : (cellCounts R x start) .vertices - 0 ≡ (cellCounts R x start) .vertices = omega arith in ap some (own-cells ns b c R x start h ∙ e)

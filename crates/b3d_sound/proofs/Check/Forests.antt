@@ -1,8 +1,8 @@
 -- What the tests on all nodes say: the tree that is put together fits, and its rows are all the rows.
 use mathlib.Core.Path.{_≡_, refl, ap, ap₂, sym, _∙_, subst}
-use Prim.Native.Nat.{ℕ, zero, suc, _-_}
-use mathlib.Core.Option.{Option, none}
-use mathlib.Core.List.{List, [], _∷_, map, append-nil}
+use Prim.Native.Nat.{ℕ}
+use mathlib.Core.Option.{none}
+use mathlib.Core.List.{List, [], _∷_, append-nil}
 use lib.ListN.{drop, getD}
 use Rattle.wire.specs.Bytes.{AllBytes}
 use Rattle.layout.specs.Parts.{Name}
@@ -19,60 +19,42 @@ use Rattle.b3d_scene.proofs.Rows.Nodes.{nodes-step, From}
 use Rattle.b3d_scene.proofs.Rows.RebuildLaws.{names-rest, flat-known}
 use Rattle.b3d_scene.proofs.Rows.RowParts.{Stands}
 use Rattle.b3d_scene.proofs.Rows.Trees.{flat, flatRows, flat-rows, none-over, walk-back}
-use Rattle.b3d_sound.specs.Check.{nodesHere, parentsHere, treeHere}
+use Rattle.b3d_sound.specs.CellCounts.{cellCounts}
+use Rattle.b3d_sound.specs.Check.{Level, nodesHere, treeHere}
 use Rattle.b3d_sound.proofs.Check.Testing.{then}
 use Rattle.b3d_sound.proofs.Check.Rows.{Full}
 use Rattle.b3d_sound.proofs.Check.Kinds.{Whole}
 use Rattle.b3d_sound.proofs.Check.Nodes.{NodeIs, node-is}
-use Rattle.b3d_sound.proofs.Check.Counts.{cell-counts}
-use Rattle.b3d_sound.proofs.Check.Walk.{at-start, FitsIn, next-to, next-from, after, WalkIs, walk-is}
-use Rattle.b3d_sound.proofs.Check.Parents.{Deep, children-flat, ChildrenIs, parents-is}
+use Rattle.b3d_sound.proofs.Check.Counts.{cell-counts, root-bones}
+use Rattle.b3d_sound.proofs.Check.Walk.{at-start, next-to, next-from, after, Told, NamedIn, WalkIs, walk-is}
+use Rattle.b3d_sound.proofs.Check.Parents.{children-flat, children-to, children-from}
 
--- ---- a forest, and its nodes one by one
+-- ---- the names of a forest, and of its nodes one by one
 
--- below a node that says to all below it what it was told: the weights of all name the same vertices
-module _ (ns : List ℕ) (b : ℕ) (above : Option ℕ) (steady : (d : Data) → bonesBelow above d ≡ above) where
-  abbrev Fine : List Placed → Type 0
-  Fine fs = All (λ (x : Placed). FitsIn ns b (boneVertices above) (x .item)) fs
-
-  flat-fits : (l : ℕ) (t : Forest) (p : ℕ) (n : Counts) (r : List Name) (fs : List Placed) → Deep l t → Fine (flat p n t fs)
-      → FitNodes l b above t × (All (Stands ns) r → All (Stands ns) (nodeNames t r)) × Fine fs
+module _ (ns : List ℕ) where
+  flat-names : (t : Forest) (p : ℕ) (n : Counts) (r : List Name) (fs : List Placed) → NamedIn ns (flat p n t fs)
+      → (All (Stands ns) r → All (Stands ns) (nodeNames t r)) × NamedIn ns fs
   unfolding flat nodeNames
-  flat-fits zero leaf p n r fs g h = (tt, λ s. s, h)
-  flat-fits (suc l) leaf p n r fs g h = (tt, λ s. s, h)
-  flat-fits zero (node d ch sib) p n r fs g h = absurd g
-  flat-fits (suc l) (node d ch sib) p n r fs g h =
+  flat-names leaf p n r fs h = (λ s. s, h)
+  flat-names (node d ch sib) p n r fs h =
       let m = withNode d n in
       let q = withForest ch m in
-      let x = flat-fits l ch (n .nodes) m (nodeNames sib r) (flat p q sib fs) (g .0) (h .1) in
-      let y = flat-fits (suc l) sib p q r fs (g .1) (x .2) in
-      ((h .0 .0, subst (λ (o : Option ℕ). FitNodes l b o ch) (sym (steady d)) (x .0), y .0), λ s. (h .0 .1, x .1 (y .1 s)), y .2)
+      let x = flat-names ch (n .nodes) m (nodeNames sib r) (flat p q sib fs) (h .1) in
+      let y = flat-names sib p q r fs (x .1) in
+      (λ s. (h .0, x .0 (y .0 s)), y .1)
 
-  fits-flat : (l : ℕ) (t : Forest) (p : ℕ) (n : Counts) (r : List Name) (fs : List Placed) → FitNodes l b above t → All (Stands ns) (nodeNames t r) → Fine fs
-      → Deep l t × Fine (flat p n t fs)
+  names-flat : (t : Forest) (p : ℕ) (n : Counts) (r : List Name) (fs : List Placed) → All (Stands ns) (nodeNames t r) → NamedIn ns fs → NamedIn ns (flat p n t fs)
   unfolding flat nodeNames
-  fits-flat l leaf p n r fs f s h = (tt, h)
-  fits-flat zero (node d ch sib) p n r fs f s h = absurd f
-  fits-flat (suc l) (node d ch sib) p n r fs f s h =
+  names-flat leaf p n r fs s h = h
+  names-flat (node d ch sib) p n r fs s h =
       let m = withNode d n in
       let q = withForest ch m in
-      let y = fits-flat (suc l) sib p q r fs (f .2) (names-rest (Stands ns) ch (nodeNames sib r) (s .1)) h in
-      let x = fits-flat l ch (n .nodes) m (nodeNames sib r) (flat p q sib fs) (subst (λ (o : Option ℕ). FitNodes l b o ch) (steady d) (f .1)) (s .1) (y .1) in
-      ((x .0, y .0), ((f .0, s .0), x .1))
-
--- what the root says to those below, they say too
-steady : (d e : Data) → bonesBelow (bonesBelow none d) e ≡ bonesBelow none d
-steady d e = refl
+      (s .0, names-flat ch (n .nodes) m (nodeNames sib r) (flat p q sib fs) (s .1) (names-flat sib p q r fs (names-rest (Stands ns) ch (nodeNames sib r) (s .1)) h))
 
 -- ---- the tree
 
 abbrev pub TreeIs : List ℕ → ℕ → Rows → Forest → Type 0
 TreeIs ns b R t = FitNodes levels b none t × OneRoot t × All (Stands ns) (nodeNames t []) × All (λ k. forestRows k t NONE start ≡ R k) nodeTables
-
-walk-parents : (ns : List ℕ) (R : Rows) (xs : List (List ℕ)) (n : Counts) → map (λ (x : Placed). x .parent) (walk ns R xs n) ≡ map (λ (y : List ℕ). getD y 2 0) xs
-unfolding walk
-walk-parents ns R [] n = refl
-walk-parents ns R (x ∷ xs) n = ap (λ (l : List ℕ). getD x 2 0 ∷ l) (walk-parents ns R xs (withNode (dataFrom ns R x n) n))
 
 -- the rows of the tree are those of its nodes one by one
 flat-all : (k : ℕ) (t : Forest) → flatRows (flat NONE start t []) start k ≡ forestRows k t NONE start
@@ -97,14 +79,15 @@ module _ (ns : List ℕ) (b : ℕ) (R : Rows) (x : List ℕ) (xs : List (List �
   abbrev p : ℕ
   p = getD x 2 0
 
-  abbrev below : Option ℕ
-  below = bonesBelow none d
+  -- what the root says of bones
+  abbrev below : ℕ
+  below = boneVertices (bonesBelow none d)
 
   abbrev ch : Forest
   ch = (off 0 (groups 1 fs)) .took
 
   abbrev Root : Type 0
-  Root = (p ≡ NONE) × (NodeIs ns b (boneVertices none) R x start d × (WalkIs ns b (boneVertices below) R (withNode d start) fs × ChildrenIs fs))
+  Root = (p ≡ NONE) × (NodeIs ns b (boneVertices none) R x start d × WalkIs ns b R (record { node = 0; bones = below } ∷ []) (withNode d start) fs)
 
   one-node : (withNode d start) .nodes ≡ 1
   unfolding start
@@ -123,12 +106,13 @@ module _ (ns : List ℕ) (b : ℕ) (R : Rows) (x : List ℕ) (xs : List (List �
   unfolding nodeNames flatRows
   root-to h =
       let m = withNode d start in
-      let wk = h .1 .1 .0 in
-      let fl : flat 0 m ch [] ≡ fs = children-flat fs m one-node (h .1 .1 .1 .1) in
-      let fit = flat-fits ns b below (steady d) (levels - 1) ch 0 m [] [] (h .1 .1 .1 .0) (subst (λ (l : List Placed). Fine ns b below (steady d) l) (sym fl) (wk .0)) in
-      let nx = next-to ns b (boneVertices none) R x xs start d (first-rows R (x ∷ xs) next) (flatRows fs m) (h .1 .0) (wk .1) in
+      let wk = h .1 .1 in
+      let kids = children-to b below fs (subst (λ (i : ℕ). Told b (record { node = 0; bones = below } ∷ []) i fs) one-node (wk .0)) in
+      let fl : flat 0 m ch [] ≡ fs = children-flat fs m one-node (kids .1) in
+      let names = flat-names ns ch 0 m [] [] (subst (NamedIn ns) (sym fl) (wk .1 .0)) in
+      let nx = next-to ns b (boneVertices none) R x xs start d (first-rows R (x ∷ xs) next) (flatRows fs m) (h .1 .0) (wk .1 .1) in
       let parts = subst (λ (l : List Placed). All (From R start (flatRows l start)) nodeTables) (flat-to (h .0) (sym fl)) (nx .1) in
-      ((nx .0 .0, fit .0, tt), tt, (nx .0 .1, fit .1 tt), start-to R (node d ch leaf) parts)
+      ((nx .0 .0, kids .0, tt), tt, (nx .0 .1, names .0 tt), start-to R (node d ch leaf) parts)
 
   root-from : walk ns R (x ∷ xs) start ≡ record { parent = p; item = d } ∷ fs → TreeIs ns b R (node d ch leaf) → Root
   unfolding nodeNames flatRows
@@ -139,24 +123,24 @@ module _ (ns : List ℕ) (b : ℕ) (R : Rows) (x : List ℕ) (xs : List (List �
       let back = walk-back ns b R (flat NONE start t []) start (flat-known ns levels b none t NONE start [] [] (h .0) (h .2) tt) fr in
       let e = sym w ∙ ap (λ (l : List (List ℕ)). walk ns R l start) (sym next ∙ node-rows R _ (at-start R _ .0 fr)) ∙ back in
       let (ep, ef) = flat-from e in
-      let fine = fits-flat ns b below (steady d) (levels - 1) ch 0 m [] [] (h .0 .1) (h .2 .1) tt in
       let parts = subst (λ (l : List Placed). All (From R start (flatRows l start)) nodeTables) (sym e) fr in
       let nx = next-from ns b (boneVertices none) R x xs start d (first-rows R (x ∷ xs) next) (flatRows fs m) ((h .0 .0, h .2 .0), parts) in
-      let fits = subst (λ (l : List Placed). Fine ns b below (steady d) l) (sym ef) (fine .1) in
+      let names = subst (NamedIn ns) (sym ef) (names-flat ns ch 0 m [] [] (h .2 .1) tt) in
       let over = ap (λ (l : List Placed). (off 0 (groups 1 l)) .left) ef ∙ none-over m ch one-node in
-      (ep, (nx .0, ((fits, nx .1), (fine .0, over))))
+      let told = children-from b below fs (h .0 .1, over) in
+      (ep, (nx .0, (subst (λ (i : ℕ). Told b (record { node = 0; bones = below } ∷ []) i fs) (sym one-node) told, (names, nx .1))))
 
 pub tree-is : (ns : List ℕ) (b : ℕ) (R : Rows) (xs : List (List ℕ)) → AllBytes ns → Whole R → All (Full 20) xs → R 3 ≡ xs → Tests (treeHere ns b R xs) (TreeIs ns b R (tree (walk ns R xs start)))
 unfolding treeHere nodesHere tree walk nodeNames flat flatRows
-tree-is ns b R [] bytes whole w e = via (λ h. (tt, tt, tt, start-to R leaf (h .1))) (λ h. (tt, start-from R leaf (h .3))) (walk-is ns b 0 R bytes whole [] start tt (first-rows R [] e))
+tree-is ns b R [] bytes whole w e = via (λ h. (tt, tt, tt, start-to R leaf (h .1 .1))) (λ h. (tt, (tt, start-from R leaf (h .3)))) (walk-is ns b R bytes whole [] [] start tt (first-rows R [] e))
 tree-is ns b R (x ∷ xs) bytes whole w e =
     let d = dataFrom ns R x start in
     let m = withNode d start in
     let v = boneVertices (bonesBelow none d) in
     let fs = walk ns R xs m in
+    let path : ℕ → List Level = λ k. record { node = 0; bones = k } ∷ [] in
     via (root-to ns b R x xs d fs e) (root-from ns b R x xs d fs e refl)
     (both (eq-is (getD x 2 0) NONE) (then (node-is ns b (boneVertices none) R x start (w .0) bytes whole) (λ h.
-    both
-    (subst (λ (q : Counts). Tests (nodesHere ns b v R xs q) (WalkIs ns b v R m fs)) (cell-counts ns b (boneVertices none) R x start h)
-    (walk-is ns b v R bytes whole xs m (w .1) (after ns b v R x xs start d (first-rows R (x ∷ xs) e))))
-    (subst (λ (l : List ℕ). Tests (parentsHere (0 ∷ []) 1 l) (ChildrenIs fs)) (walk-parents ns R xs m) (parents-is fs)))))
+    subst (λ (k : ℕ). Tests (nodesHere ns b R (path k) xs (cellCounts R x start)) (WalkIs ns b R (path v) m fs)) (ap boneVertices (root-bones ns b (boneVertices none) R x h))
+    (subst (λ (q : Counts). Tests (nodesHere ns b R (path v) xs q) (WalkIs ns b R (path v) m fs)) (cell-counts ns b (boneVertices none) R x start h)
+    (walk-is ns b R bytes whole xs (path v) m (w .1) (after ns b (boneVertices none) R x xs start d (first-rows R (x ∷ xs) e)))))))

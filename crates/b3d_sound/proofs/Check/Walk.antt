@@ -1,17 +1,20 @@
 -- What the tests on all node rows say: the rows are those of the nodes that come from them, each fits, and none is left.
 use mathlib.Core.Path.{_≡_, ap, sym, _∙_, subst}
-use Prim.Native.Nat.{ℕ, _+_}
+use Prim.Native.Nat.{ℕ, suc, _+_, _<_}
 use native.Mathlib.Omega.{arith}
+use mathlib.Core.Bool.{_&&_}
 use mathlib.Core.Logic.{_↔_}
+use mathlib.Core.Option.{some}
 use mathlib.Core.List.{List, [], _∷_, _++_}
 use lib.ListN.{length, drop, getD, length-drop, drop-of-length-le}
 use lib.Seq.{drop-drop}
-use lib.Dec.{leb}
+use lib.Dec.{leb, ltb}
 use Rattle.wire.specs.Bytes.{AllBytes}
 use Rattle.wire.specs.Test.{if}
 use Rattle.layout.proofs.Lists.{All, all-map, all-zip}
-use Rattle.layout.proofs.Testing.{Tests, via, le-is, all-is}
+use Rattle.layout.proofs.Testing.{Tests, both, via, no-is, le-is, lt-is, all-is}
 use Rattle.b3d_scene.specs.Rebuild.{Rows, dataFrom, Placed, walk}
+use Rattle.b3d_scene.specs.Rules.{boneVertices, bonesBelow, levels}
 use Rattle.b3d_scene.specs.Scene.{Data}
 use Rattle.b3d_scene.specs.Tables.{start, reached, nodeRow, ownRows, withNode, partTables, nodeTables}
 use Rattle.b3d_scene.specs.declared.Counts.{Counts}
@@ -19,12 +22,13 @@ use Rattle.b3d_scene.proofs.Fitting.{FitData}
 use Rattle.b3d_scene.proofs.Rows.Nodes.{Step, steps, nodes-step, From}
 use Rattle.b3d_scene.proofs.Rows.RowParts.{Stands}
 use Rattle.b3d_scene.proofs.Rows.Trees.{flatRows, from-after}
-use Rattle.b3d_sound.specs.Check.{spent, nodesHere}
+use Rattle.b3d_sound.specs.CellCounts.{cellCounts, cellBones}
+use Rattle.b3d_sound.specs.Check.{nodeHere, spent, Level, upTo, toldBy, nodesHere}
 use Rattle.b3d_sound.proofs.Check.Testing.{then}
 use Rattle.b3d_sound.proofs.Check.Rows.{Begins, begins-is, is-begins, Full}
 use Rattle.b3d_sound.proofs.Check.Kinds.{Whole}
 use Rattle.b3d_sound.proofs.Check.Nodes.{OwnBegins, NodeIs, node-is}
-use Rattle.b3d_sound.proofs.Check.Counts.{cell-counts}
+use Rattle.b3d_sound.proofs.Check.Counts.{cell-counts, cell-bones}
 
 -- ---- before any row, and when no row is left
 
@@ -82,19 +86,60 @@ module _ (ns : List ℕ) (b c : ℕ) (R : Rows) (x : List ℕ) (xs : List (List 
 
 -- ---- all nodes
 
-abbrev pub WalkIs : List ℕ → ℕ → ℕ → Rows → Counts → List Placed → Type 0
-WalkIs ns b c R n fs = All (λ x. FitsIn ns b c (x .item)) fs × All (From R n (flatRows fs n)) nodeTables
+-- what a node says of bones to those below, where it was told so many vertices
+abbrev pub said : ℕ → Data → ℕ
+said told d = boneVertices (bonesBelow (some told) d)
 
-module _ (ns : List ℕ) (b c : ℕ) (R : Rows) (bytes : AllBytes ns) (whole : Whole R) where
-  pub walk-is : (xs : List (List ℕ)) (n : Counts) → All (Full 20) xs → drop (n .nodes) (R 3) ≡ xs → Tests (nodesHere ns b c R xs n) (WalkIs ns b c R n (walk ns R xs n))
-  unfolding nodesHere walk flatRows nodeTables reached if
-  walk-is [] n w e = via (λ h. (tt, (e, h))) (λ h. h .1 .1) (spent-is R n)
-  walk-is (x ∷ xs) n w e =
+-- node d, number i, below the first of a path: it is not too deep, it fits what is said there of bones, and so do the nodes after it
+abbrev pub ToldAt : ℕ → Data → ℕ → (List Level → Type 0) → List Level → Type 0
+ToldAt b d i rest [] = ⊥
+ToldAt b d i rest (q ∷ qs) = (suc (length qs) < levels) × (FitData b (q .bones) d × rest (record { node = i; bones = said (q .bones) d } ∷ q ∷ qs))
+
+-- nodes from number i on: each has its parent on the path
+abbrev pub Told : ℕ → List Level → ℕ → List Placed → Type 0
+Told b path i [] = Unit {0}
+Told b path i (x ∷ fs) = ToldAt b (x .item) i (λ p. Told b p (suc i) fs) (upTo (x .parent) path)
+
+-- the name of each is in ns
+abbrev pub NamedIn : List ℕ → List Placed → Type 0
+NamedIn ns fs = All (λ (x : Placed). Stands ns (x .item .name)) fs
+
+abbrev pub WalkIs : List ℕ → ℕ → Rows → List Level → Counts → List Placed → Type 0
+WalkIs ns b R path n fs = Told b path (n .nodes) fs × (NamedIn ns fs × All (From R n (flatRows fs n)) nodeTables)
+
+module _ (ns : List ℕ) (b : ℕ) (R : Rows) (bytes : AllBytes ns) (whole : Whole R) where
+  -- a node below the first of q, and those after it
+  walk-step : (x : List ℕ) (xs : List (List ℕ)) (n : Counts) → Full 20 x → drop (n .nodes) (R 3) ≡ x ∷ xs
+      → ((path : List Level) (m : Counts) → drop (m .nodes) (R 3) ≡ xs → Tests (nodesHere ns b R path xs m) (WalkIs ns b R path m (walk ns R xs m)))
+      → (q : List Level)
+      → Tests (ltb 0 (length q) && (ltb (length q) levels && (nodeHere ns b (toldBy q) R x n
+      && nodesHere ns b R (record { node = n .nodes; bones = cellBones (toldBy q) R x n } ∷ q) xs (cellCounts R x n))))
+      (ToldAt b (dataFrom ns R x n) (n .nodes) (λ p. Told b p (suc (n .nodes)) (walk ns R xs (withNode (dataFrom ns R x n) n))) q
+      × (NamedIn ns (record { parent = getD x 2 0; item = dataFrom ns R x n } ∷ walk ns R xs (withNode (dataFrom ns R x n) n))
+      × All (From R n (flatRows (record { parent = getD x 2 0; item = dataFrom ns R x n } ∷ walk ns R xs (withNode (dataFrom ns R x n) n)) n)) nodeTables))
+  unfolding flatRows toldBy
+  walk-step x xs n w e rest [] = via (λ h. absurd h) (λ h. absurd (h .0)) no-is
+  walk-step x xs n w e rest (r ∷ rs) =
+      let c = r .bones in
       let d = dataFrom ns R x n in
       let m = withNode d n in
       let fs = walk ns R xs m in
+      let k = suc (length rs) in
+      let path : ℕ → List Level = λ v. record { node = n .nodes; bones = v } ∷ r ∷ rs in
       via
-      (λ h. let k = next-to ns b c R x xs n d e (flatRows fs m) (h .0) (h .1 .1) in ((k .0, h .1 .0), k .1))
-      (λ h. let k = next-from ns b c R x xs n d e (flatRows fs m) (h .0 .0, h .1) in (k .0, (h .0 .1, k .1)))
-      (then (node-is ns b c R x n (w .0) bytes whole)
-      (λ h. subst (λ (q : Counts). Tests (nodesHere ns b c R xs q) (WalkIs ns b c R m fs)) (cell-counts ns b c R x n h) (walk-is xs m (w .1) (after ns b c R x xs n d e))))
+      (λ h.
+      let t = h .1 .1 in
+      let z = next-to ns b c R x xs n d e (flatRows fs m) (t .0) (t .1 .1 .1) in
+      ((h .1 .0, (z .0 .0, subst (λ (i : ℕ). Told b (path (said c d)) i fs) (nodes-step d n) (t .1 .0))), ((z .0 .1, t .1 .1 .0), z .1)))
+      (λ h.
+      let z = next-from ns b c R x xs n d e (flatRows fs m) ((h .0 .1 .0, h .1 .0 .0), h .1 .1) in
+      (omega arith, (h .0 .0, (z .0, (subst (λ (i : ℕ). Told b (path (said c d)) i fs) (sym (nodes-step d n)) (h .0 .1 .1), (h .1 .0 .1, z .1))))))
+      (both (lt-is 0 k) (both (lt-is k levels) (then (node-is ns b c R x n w bytes whole) (λ h.
+      subst (λ (v : ℕ). Tests (nodesHere ns b R (path v) xs (cellCounts R x n)) (WalkIs ns b R (path (said c d)) m fs)) (ap boneVertices (cell-bones ns b c R x n h c))
+      (subst (λ (j : Counts). Tests (nodesHere ns b R (path (said c d)) xs j) (WalkIs ns b R (path (said c d)) m fs)) (cell-counts ns b c R x n h)
+      (rest (path (said c d)) m (after ns b c R x xs n d e)))))))
+
+  pub walk-is : (xs : List (List ℕ)) (path : List Level) (n : Counts) → All (Full 20) xs → drop (n .nodes) (R 3) ≡ xs → Tests (nodesHere ns b R path xs n) (WalkIs ns b R path n (walk ns R xs n))
+  unfolding nodesHere walk flatRows nodeTables reached if
+  walk-is [] path n w e = via (λ h. (tt, (tt, (e, h)))) (λ h. h .1 .1 .1) (spent-is R n)
+  walk-is (x ∷ xs) path n w e = walk-step x xs n (w .0) e (λ p m g. walk-is xs p m (w .1) g) (upTo (getD x 2 0) path)

@@ -12,8 +12,15 @@ use crate::scene::{Items, KeyList, Kind, Node};
 struct Nodes<'a> {
     file: &'a [u8],
     brushes: usize,
-    /// Vertices of the root's MESH: 0 if it has none or it is not read yet.
-    root_vertices: usize,
+    /// The nodes around the one that is read, the root first.
+    above: Vec<Level>,
+}
+
+/// A node around others, whose kind, KEYS and ANIM are read.
+struct Level {
+    has_anim: bool,
+    /// Vertices of its MESH: 0 if it has none.
+    vertices: usize,
 }
 
 /// The root node, at depth 1.
@@ -21,16 +28,16 @@ pub fn root(file: &[u8], chunk: &Chunk, brushes: usize) -> Result<Node, Refusal>
     let mut nodes = Nodes {
         file,
         brushes,
-        root_vertices: 0,
+        above: Vec::new(),
     };
-    nodes.node(chunk, 1)
+    nodes.node(chunk)
 }
 
 impl Nodes<'_> {
-    /// NODE at this depth: 9 at the header if too deep, then the fixed data,
-    /// then the chunks inside.
-    fn node(&mut self, chunk: &Chunk, depth: usize) -> Result<Node, Refusal> {
-        if depth > DEEPEST_NODE {
+    /// NODE inside those above: 9 at the header if too deep, then the fixed
+    /// data, then the chunks inside.
+    fn node(&mut self, chunk: &Chunk) -> Result<Node, Refusal> {
+        if self.above.len() >= DEEPEST_NODE {
             return refuse(DEPTH, chunk.header);
         }
         let (name, floats) = text_then(self.file, chunk.body, 40, chunk.end)?;
@@ -42,19 +49,13 @@ impl Nodes<'_> {
             anim: None,
             children: Vec::new(),
         };
-        self.inside(&mut node, floats + 40, chunk.end, depth)?;
+        self.inside(&mut node, floats + 40, chunk.end)?;
         Ok(node)
     }
 
     /// The chunks of a node: at most one MESH or BONE, first; then KEYS, any
     /// number, and at most one ANIM, in any order; then NODE, any number.
-    fn inside(
-        &mut self,
-        node: &mut Node,
-        start: usize,
-        end: usize,
-        depth: usize,
-    ) -> Result<(), Refusal> {
+    fn inside(&mut self, node: &mut Node, start: usize, end: usize) -> Result<(), Refusal> {
         let mut at = start;
         // No known chunk has stood here yet.
         let mut first = true;
@@ -62,13 +63,15 @@ impl Nodes<'_> {
             at = inner.end;
             let no_child = node.children.is_empty();
             match &inner.tag {
-                b"MESH" if first => node.kind = self.mesh(&inner, depth)?,
+                b"MESH" if first => {
+                    node.kind = Kind::Mesh(mesh(self.file, &inner, self.brushes)?);
+                }
                 b"BONE" if first => node.kind = Kind::Bone(self.bone(&inner)?),
                 b"KEYS" if no_child => node.key_lists.push(keys(self.file, &inner)?),
                 b"ANIM" if no_child && node.anim.is_none() => {
                     node.anim = Some(anim(self.file, &inner)?);
                 }
-                b"NODE" => node.children.push(self.node(&inner, depth + 1)?),
+                b"NODE" => node.children.push(self.child(node, &inner)?),
                 _ if inner.is_known() => return refuse(TAG, inner.header),
                 _ => continue,
             }
@@ -77,20 +80,29 @@ impl Nodes<'_> {
         Ok(())
     }
 
-    /// MESH; the root's own gives the vertices that BONE ids name.
-    fn mesh(&mut self, chunk: &Chunk, depth: usize) -> Result<Kind, Refusal> {
-        let mesh = mesh(self.file, chunk, self.brushes)?;
-        if depth == 1 {
-            self.root_vertices = mesh.vertices.items.count;
-        }
-        Ok(Kind::Mesh(mesh))
+    /// A node inside this one.
+    fn child(&mut self, node: &Node, chunk: &Chunk) -> Result<Node, Refusal> {
+        self.above.push(Level {
+            has_anim: node.anim.is_some(),
+            vertices: match &node.kind {
+                Kind::Mesh(mesh) => mesh.vertices.items.count,
+                _ => 0,
+            },
+        });
+        let child = self.node(chunk)?;
+        self.above.pop();
+        Ok(child)
     }
 
-    /// BONE: items of a vertex id, naming a vertex of the root's MESH, and a
-    /// weight.
+    /// BONE: items of a vertex id, naming a vertex of the MESH of the nearest
+    /// node above with an ANIM, of the root if none has one, and a weight.
     fn bone(&self, chunk: &Chunk) -> Result<Items, Refusal> {
+        let nearest = self.above.iter().rev().find(|level| level.has_anim);
+        let vertices = nearest
+            .or(self.above.first())
+            .map_or(0, |level| level.vertices);
         items(chunk.body, chunk.end, 8, |item| {
-            id(self.file, item, self.root_vertices)?;
+            id(self.file, item, vertices)?;
             Ok(())
         })
     }

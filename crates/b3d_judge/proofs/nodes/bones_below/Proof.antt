@@ -1,5 +1,5 @@
 -- `bones_below` tells those below what the definition tells them.
-use Rattle.b3d_judge.proofs.SmallLaws.{below-root, below-of}
+use Rattle.b3d_judge.proofs.SmallLaws.{below-laws}
 use borrow.Author.Needs.{needs}
 use Rattle.b3d_judge.proofs.nodes.bones_below.Statement.{statement}
 use Rattle.b3d_judge.proofs.nodes.bones_below.Tie as tie
@@ -8,7 +8,8 @@ pub bones-below-spec : {M : Type 1} → statement M
 bones-below-spec =
     tie.close
     (tie.spec
-    (λ c. search (below-root, below-of, needs))
-    (λ c. search (below-root, below-of, needs))
-    (λ c. search (below-root, below-of, needs))
-    (λ c. search (below-root, below-of, needs)))
+    (λ c. search (below-laws, needs))
+    (λ c. search (below-laws, needs))
+    (λ c. search (below-laws, needs))
+    (λ c. search (below-laws, needs))
+    (λ c. search (below-laws, needs)))
