@@ -17,6 +17,14 @@
 extern "C" {
 #endif
 
+/* The mode of judge, read and write. The strict one refuses a red, green, blue or alpha, of a brush or a vertex, that is not a number or lies
+ * outside 0 to 1; minus zero passes. As bits, 0 to 0x3F800000 and 0x80000000 pass and nothing else does. The lenient one takes any.
+ * Any other number given as a mode means strict. */
+enum {
+    KELOMPURIS_STRICT = 0,
+    KELOMPURIS_LENIENT = 1
+};
+
 /* What judge and read answer.
  *
  * number 0: accepted. place is 0; version, n_texs (texture slots of a brush, 0 without a brush) and counts (rows of tables 1 to 10) are
@@ -28,7 +36,7 @@ extern "C" {
  *    3  a chunk's header is cut, or its length passes what encloses it   byte of the header
  *    4  a known tag not allowed there, once too often or out of order    byte of the header
  *    5  fixed data or an item runs past its chunk; ANIM not 12 bytes     byte where that data or item starts
- *    6  a number outside its range                                       byte of the number
+ *    6  a number outside its range, in strict mode a colour too          byte of the number
  *    7  an id that names nothing (-1 is allowed for brush and texture)   byte of the number
  *    8  a MESH without VRTS or TRIS                                      byte of the MESH header
  *    9  a node nested 17 deep                                            byte of the header
@@ -39,9 +47,9 @@ typedef struct {
     uint32_t number, place, version, n_texs, counts[10];
 } kelompuris_answer;
 
-/* Judges a file without tables: answers 0 or 1 to 10. Writes nothing. The counts say how long the tables must be for
+/* Judges a file in a mode without tables: answers 0 or 1 to 10. Writes nothing. The counts say how long the tables must be for
  * kelompuris_b3d_read. */
-kelompuris_answer kelompuris_b3d_judge(const uint8_t *file, size_t file_len);
+kelompuris_answer kelompuris_b3d_judge(uint32_t mode, const uint8_t *file, size_t file_len);
 
 /* Words of a row of tables 1 to 10. */
 enum {
@@ -57,7 +65,7 @@ enum {
     KELOMPURIS_KEY_WORDS = 11
 };
 
-/* Reads a file into ten lent tables of 32-bit words: answers 0 or 1 to 11.
+/* Reads a file in a mode into ten lent tables of 32-bit words: answers 0 or 1 to 11.
  *
  * Accepted: each table begins with its rows, as many as its count says; the words behind them stay as they were.
  * Refused, also by 11: all ten tables stay as they were.
@@ -70,7 +78,7 @@ enum {
  * A weight's vertex id is of the mesh of the nearest node above its bone with an ANIM; if no node above has one, of the root's mesh.
  */
 kelompuris_answer kelompuris_b3d_read(
-    const uint8_t *file, size_t file_len,
+    uint32_t mode, const uint8_t *file, size_t file_len,
     uint32_t *t1, size_t t1_len, uint32_t *t2, size_t t2_len,
     uint32_t *t3, size_t t3_len, uint32_t *t4, size_t t4_len,
     uint32_t *t5, size_t t5_len, uint32_t *t6, size_t t6_len,
@@ -84,13 +92,14 @@ kelompuris_answer kelompuris_b3d_read(
  *
  *    number                                                              place
  *   11  the output is too short                                          the size needed
- *   12  no accepted file has these tables, name places aside             0
+ *   12  no file that the mode accepts has these tables,                  0
+ *       name places aside
  */
 typedef struct {
     uint32_t number, place, size;
 } kelompuris_written;
 
-/* Writes ten tables as the shortest file that has them: answers 0, 11 or 12; 12 comes before 11.
+/* Writes ten tables as the shortest file that has them: answers 0, 11 or 12; 12 comes before 11. In strict mode a colour outside 0 to 1 is 12.
  *
  * The tables and their lengths in words are as for kelompuris_b3d_read; counts points to ten words, the rows of tables 1 to 10, and words
  * behind those rows are not looked at. Name places are byte places in names; these bytes may be the file that was read.
@@ -102,6 +111,7 @@ typedef struct {
  * Tables, counts and names are not written.
  */
 kelompuris_written kelompuris_b3d_write(
+    uint32_t mode,
     const uint32_t *t1, size_t t1_len, const uint32_t *t2, size_t t2_len,
     const uint32_t *t3, size_t t3_len, const uint32_t *t4, size_t t4_len,
     const uint32_t *t5, size_t t5_len, const uint32_t *t6, size_t t6_len,
@@ -110,9 +120,9 @@ kelompuris_written kelompuris_b3d_write(
     const uint32_t counts[10], uint32_t version, uint32_t n_texs,
     const uint8_t *names, size_t names_len, uint8_t *out, size_t out_len);
 
-/* Copies a file without what is private: answers 0 or 1 to 11; 1 to 10 as kelompuris_b3d_judge does.
+/* Copies a file without what is private: answers 0 or 1 to 11; 1 to 10 as kelompuris_b3d_judge does in lenient mode.
  *
- * The copy is what kelompuris_b3d_write makes of the file's tables with every name empty. So files that differ only in names, passed-over
+ * The copy is what kelompuris_b3d_write makes of the file's tables, in lenient mode, with every name empty. So files that differ only in names, passed-over
  * chunks, where ANIM stands among KEYS, and TEXS or BRUS without items have the same copy. The copy is no longer than the file.
  *
  * Written: the output's bytes behind the size stay as they were. Refused, also by 11: the whole output stays as it was.

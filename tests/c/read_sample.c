@@ -1,4 +1,5 @@
-/* Reads file H of paper 01 through the C interface: a scene of version 1 with one node, "Hall". Prints the answer and the node's row.
+/* Reads file H of paper 01 through the C interface: a scene of version 1 with one node, "Hall". Prints the answer and the node's row. Then judges
+ * a file with a brush whose alpha is not a number, in both modes and in one that is none.
  * The test rust/kelompuris/tests/c_program.rs builds and runs it, as C and as C++. */
 #include "hall.h"
 #include "kelompuris.h"
@@ -6,6 +7,11 @@
 #include <stdio.h>
 
 static_assert(sizeof(kelompuris_answer) == 14 * 4, "fourteen words, no gap");
+
+/* One brush without a name: red, green and blue 1, alpha 0x7FC00000. */
+static const uint8_t brush[53] = {
+    'B', 'B', '3', 'D', 45, 0, 0, 0, 1, 0, 0, 0, 'B', 'R', 'U', 'S', 33, 0, 0, 0, 0, 0, 0, 0, 0,
+    0, 0, 0x80, 0x3F, 0, 0, 0x80, 0x3F, 0, 0, 0x80, 0x3F, 0, 0, 0xC0, 0x7F};
 
 static void print(const char *about, kelompuris_answer answer) {
     int i;
@@ -19,7 +25,7 @@ static void print(const char *about, kelompuris_answer answer) {
 
 /* Reads into a table of nodes of this many words; the other tables have none. */
 static kelompuris_answer read_nodes(const uint8_t *file, size_t len, uint32_t *nodes, size_t words) {
-    return kelompuris_b3d_read(file, len, NULL, 0, NULL, 0, nodes, words, NULL, 0, NULL, 0, NULL, 0, NULL, 0, NULL, 0, NULL, 0, NULL, 0);
+    return kelompuris_b3d_read(KELOMPURIS_STRICT, file, len, NULL, 0, NULL, 0, nodes, words, NULL, 0, NULL, 0, NULL, 0, NULL, 0, NULL, 0, NULL, 0, NULL, 0);
 }
 
 int main(void) {
@@ -28,8 +34,8 @@ int main(void) {
     for (i = 0; i <= KELOMPURIS_NODE_WORDS; i++) {
         nodes[i] = 77;
     }
-    print("judge", kelompuris_b3d_judge(hall, sizeof hall));
-    print("cut", kelompuris_b3d_judge(hall, 11));
+    print("judge", kelompuris_b3d_judge(KELOMPURIS_STRICT, hall, sizeof hall));
+    print("cut", kelompuris_b3d_judge(KELOMPURIS_STRICT, hall, 11));
     print("short", read_nodes(hall, sizeof hall, nodes, KELOMPURIS_NODE_WORDS - 1));
     printf("untouched: %u\n", (unsigned)nodes[0]);
     print("read", read_nodes(hall, sizeof hall, nodes, KELOMPURIS_NODE_WORDS + 1));
@@ -38,5 +44,8 @@ int main(void) {
         printf(" %u", (unsigned)nodes[i]);
     }
     printf("\nname: %.*s\n", (int)nodes[1], (const char *)(hall + nodes[0]));
+    print("strict", kelompuris_b3d_judge(KELOMPURIS_STRICT, brush, sizeof brush));
+    print("lenient", kelompuris_b3d_judge(KELOMPURIS_LENIENT, brush, sizeof brush));
+    print("mode 2", kelompuris_b3d_judge(2, brush, sizeof brush));
     return 0;
 }

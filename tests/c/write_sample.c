@@ -27,7 +27,7 @@ static kelompuris_written write_hall(uint32_t version, size_t out_len) {
     static const uint8_t names[] = {'H', 'a', 'l', 'l'};
     static const uint32_t counts[10] = {0, 0, 1};
     uint32_t node[KELOMPURIS_NODE_WORDS] = {0, 4, 0xFFFFFFFF};
-    return kelompuris_b3d_write(NULL, 0, NULL, 0, node, KELOMPURIS_NODE_WORDS, NULL, 0, NULL, 0,
+    return kelompuris_b3d_write(KELOMPURIS_STRICT, NULL, 0, NULL, 0, node, KELOMPURIS_NODE_WORDS, NULL, 0, NULL, 0,
                                 NULL, 0, NULL, 0, NULL, 0, NULL, 0, NULL, 0,
                                 counts, version, 0, names, sizeof names, out, out_len);
 }

@@ -1,3 +1,4 @@
 -- What the judge of a body answers, in the terms of b3d_scene's definitions.
 pub mod Tally
 pub mod Answers
+pub mod Colours

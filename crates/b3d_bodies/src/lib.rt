@@ -3,15 +3,18 @@
 pub mod rows;
 
 ghost use mathlib.Core.Path.{_≡_};
-ghost use Prim.Native.Nat.{ℕ, _≤_};
+ghost use Prim.Native.Nat.{ℕ, _≤_, _+_, _-_, _<_};
 ghost use lib.ListN.{length};
 ghost use Rattle.wire.specs.Cursors.{Inside, left};
 ghost use Rattle.layout.specs.Parts.{items};
 ghost use Rattle.b3d_scene.specs.Parse.{readTextures, readBrush, readBrushes, readVertices, readTriangles, readBone, readKeys};
+ghost use Rattle.b3d_chunks.specs.Items.{colourItems, counted, CountedIn};
+ghost use Rattle.b3d_bodies.specs.Colours.{brushColours, beforeColour, coloursOf};
 ghost use Rattle.b3d_bodies.specs.Tally.{listTally, boneTally, setTally, texsTally};
 ghost use Rattle.b3d_bodies.specs.Answers.{Body, Judges, Shapes, SlotsAre, countedBrushes, BrushesIn};
 use b3d_chunks::Counted;
 use b3d_chunks::Named;
+use b3d_scene::Mode;
 use wire::Cursor;
 use wire::Number;
 
@@ -79,10 +82,34 @@ pub fn judge_bone(s: &[u8], at: usize, body: Cursor, vertices: usize) -> Judged
     }
 }
 
+// The colours of a vertex with these flags that the mode looks at.
+fn colours_of(mode: Mode, flags: u32) -> usize
+    requires { ⌜ flags ≤ 3 ⌝ }
+    ensures { λ r. ⌜ r ≡ coloursOf mode flags ⌝ }
+{
+    match mode {
+        Mode::Strict => wire::size(flags / 2 % 2 * 4),
+        Mode::Lenient => 0,
+    }
+}
+
+// Vertices of so many words, by one division where no colour is looked at.
+fn vertex_items(s: &[u8], items: Cursor, words: usize, flags: u32, mode: Mode) -> Counted
+    requires { ⌜ Inside items (length (now s)) × (flags ≤ 3) × (0 < words) × (words ≤ 64) × (beforeColour flags + coloursOf mode flags ≤ words) ⌝ }
+    ensures { λ r. ⌜ (r ≡ counted (colourItems (beforeColour flags) (coloursOf mode flags) (words - (beforeColour flags + coloursOf mode flags)) (items .at) (left items (now (s .entry))))) × CountedIn items words r ⌝ }
+{
+    let n = colours_of(mode, flags);
+    if n == 0 {
+        return b3d_chunks::whole_items(items, words);
+    }
+    let before = wire::size(3 + flags / 1 % 2 * 3);
+    b3d_chunks::colour_items(s, items, words, before, n)
+}
+
 // A VRTS: its flags, sets and set size, then vertices to the end.
-pub fn judge_vertices(s: &[u8], at: usize, body: Cursor) -> Shaped
+pub fn judge_vertices(s: &[u8], at: usize, body: Cursor, mode: Mode) -> Shaped
     requires { ⌜ Body at body (length (now s)) ⌝ }
-    ensures { λ r. ⌜ Shapes (readVertices at (left body (now (s .entry)))) body r ⌝ }
+    ensures { λ r. ⌜ Shapes (readVertices mode at (left body (now (s .entry)))) body r ⌝ }
 {
     let start = body.at;
     let end = body.end;
@@ -106,7 +133,7 @@ pub fn judge_vertices(s: &[u8], at: usize, body: Cursor) -> Shaped
         at: start + 12,
         end,
     };
-    match b3d_chunks::whole_items(items, words) {
+    match vertex_items(s, items, words, flags, mode) {
         Counted::Not(n, p) => Shaped::Not(n, p),
         Counted::Is(count) => Shaped::Is(count, words),
     }
@@ -156,10 +183,20 @@ pub fn judge_textures(s: &[u8], at: usize, body: Cursor) -> Judged
     Judged::Good(rows::texs(count))
 }
 
+// The colours of a brush that the mode looks at.
+fn brush_colours(mode: Mode) -> usize
+    ensures { λ r. ⌜ (r ≡ brushColours mode) × (r ≤ 4) ⌝ }
+{
+    match mode {
+        Mode::Strict => 4,
+        Mode::Lenient => 0,
+    }
+}
+
 // How many brushes of so many slots, each empty or naming one of so many textures.
-fn brush_items(s: &[u8], from: Cursor, slots: usize, textures: usize) -> Counted
+fn brush_items(s: &[u8], from: Cursor, slots: usize, textures: usize, mode: Mode) -> Counted
     requires { ⌜ Inside from (length (now s)) × (slots ≤ 8) ⌝ }
-    ensures { λ r. ⌜ (r ≡ countedBrushes (items (readBrush slots textures) (from .at) (left from (now (s .entry))))) × BrushesIn from slots r ⌝ }
+    ensures { λ r. ⌜ (r ≡ countedBrushes (items (readBrush mode slots textures) (from .at) (left from (now (s .entry))))) × BrushesIn from slots r ⌝ }
 {
     let mut c = from;
     let mut count: usize = 0;
@@ -173,6 +210,11 @@ fn brush_items(s: &[u8], from: Cursor, slots: usize, textures: usize) -> Counted
                 row,
                 next,
             } => {
+                let colours = brush_colours(mode);
+                let passed = b3d_chunks::first_bad_colour(s, row, colours);
+                if passed < colours {
+                    return Counted::Not(6, row.at + 4 * passed);
+                }
                 let ids = Cursor {
                     at: row.at + 28,
                     end: row.end,
@@ -190,9 +232,9 @@ fn brush_items(s: &[u8], from: Cursor, slots: usize, textures: usize) -> Counted
 }
 
 // Brushes beside so many textures.
-pub fn judge_brushes(s: &[u8], at: usize, body: Cursor, textures: usize) -> Slotted
+pub fn judge_brushes(s: &[u8], at: usize, body: Cursor, textures: usize, mode: Mode) -> Slotted
     requires { ⌜ Body at body (length (now s)) ⌝ }
-    ensures { λ r. ⌜ SlotsAre (readBrushes textures at (left body (now (s .entry)))) at (body .end) r ⌝ }
+    ensures { λ r. ⌜ SlotsAre (readBrushes mode textures at (left body (now (s .entry)))) at (body .end) r ⌝ }
 {
     match body.number(s) {
         Number::Cut => Slotted::Not(5, body.at),
@@ -201,7 +243,7 @@ pub fn judge_brushes(s: &[u8], at: usize, body: Cursor, textures: usize) -> Slot
                 return Slotted::Not(6, body.at);
             }
             let n = wire::size(slots);
-            match brush_items(s, items, n, textures) {
+            match brush_items(s, items, n, textures, mode) {
                 Counted::Not(e, p) => Slotted::Not(e, p),
                 Counted::Is(count) => {
                     if count == 0 {

@@ -7,6 +7,7 @@ mod slips;
 
 use b3d_bodies::Tally;
 use b3d_judge::Verdict;
+use b3d_scene::Mode;
 
 fn print(n: usize) {
     io::write_all(1, b" ");
@@ -32,7 +33,7 @@ fn print_tally(t: Tally) {
 fn case(name: &[u8], file: &[u8]) {
     io::write_all(1, name);
     io::write_all(1, b":");
-    match b3d_judge::judge(file) {
+    match b3d_judge::judge(Mode::Strict, file) {
         Verdict::Bad(number, place) => {
             print(wire::size(number));
             print(place);

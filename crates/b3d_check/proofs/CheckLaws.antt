@@ -13,18 +13,21 @@ use mir.Syntax.{w64}
 use mir.Val.{Fits}
 use Rattle.wire.specs.Test.{if}
 use Rattle.layout.specs.Fit.{all}
+use Rattle.b3d_scene.specs.Colours.{coloured, passes}
 use Rattle.b3d_scene.specs.Rebuild.{lentRows, roomy, cut}
 use Rattle.b3d_scene.specs.Rules.{rowLimit}
 use Rattle.b3d_scene.specs.Tables.{width, tables, nodeTables}
 use Rattle.b3d_scene.specs.declared.Counts.{Counts}
-use Rattle.b3d_sound.specs.Check.{nameHere, brushHere, slotsHere, treeHere, check}
+use Rattle.b3d_scene.specs.declared.Mode.{Mode}
+use Rattle.b3d_scene.specs.declared.Mode.the-variants.{Strict, Lenient}
+use Rattle.b3d_sound.specs.Check.{nameHere, brushHere, slotsHere, treeHere, check, checkIn}
 use Rattle.b3d_sound.proofs.Check.Testing.{if-case}
 use Rattle.b3d_check_rows.specs.Rows.{rowsAt}
-use Rattle.b3d_check_rows.proofs.Ands.{and-stop, and-go}
+use Rattle.b3d_check_rows.proofs.Ands.{and-stop, and-go, and-assoc}
 use Rattle.b3d_check_rows.proofs.RowLaws.{and-true}
 use Rattle.b3d_check_rows.proofs.Rows.{rows-whole}
 use Rattle.b3d_check_node.specs.Parts.{partRows, Limited, KindRoom, ListRoom}
-use Rattle.b3d_check.specs.Lent.{lentOf, partCounts, fitsIn, rooms, Rooms, rowsPart}
+use Rattle.b3d_check.specs.Lent.{lentOf, partCounts, fitsIn, rooms, Rooms, rowsPart, coloursPart}
 use Rattle.b3d_check.proofs.SameRows.{Agree, same-tree}
 
 -- ---- rooms
@@ -173,6 +176,26 @@ module _ (ns : List ℕ) (v slots : ℕ) (counts : List ℕ) (t₁ t₂ t₃ t�
         rows-tree h a ea r e = on r (and-go c names (brushes && tree) r names-are g (and-go d brushes tree r brushes-are h
             (e ∙ ap (λ (x : Counts). treeHere ns (getD counts 1 0) (partRows x t₄ t₅ t₆ t₇ t₈ t₉ t₁₀) (cut 20 (x .nodes) t₃)) ea)))
 
+-- ---- a law for each way through `colours_here`
+
+module _ (mode : Mode) (counts t₂ t₅ : List ℕ) where
+  pub colours-lenient : mode ≡ Lenient → true ≡ coloursPart mode counts t₂ t₅
+  unfolding coloursPart passes
+  colours-lenient e = rw e
+
+  module _ (e : mode ≡ Strict) (n : ℕ) (en : n ≡ getD counts 1 0) (b : Bool) (eb : b ≡ all (coloured 2) (rowsAt 17 0 n t₂)) where
+    strict : coloursPart mode counts t₂ t₅ ≡ (all (coloured 2) (rowsAt 17 0 n t₂) && all (coloured 6) (rowsAt 42 0 (getD counts 4 0) t₅))
+    unfolding coloursPart passes if
+    strict = rw (e, en, rows-whole 17 (getD counts 1 0) t₂, rows-whole 42 (getD counts 4 0) t₅)
+
+    pub colours-brushes : not b ≡ true → false ≡ coloursPart mode counts t₂ t₅
+    colours-brushes h = and-stop b _ _ eb h ∙ sym strict
+
+    pub colours-vertices : not b ≡ false → (m : ℕ) → m ≡ getD counts 4 0 → (r : Bool) → r ≡ all (coloured 6) (rowsAt 42 0 m t₅) → r ≡ coloursPart mode counts t₂ t₅
+    colours-vertices h m em r er = and-go b _ _ r eb h (er ∙ ap (λ (k : ℕ). all (coloured 6) (rowsAt 42 0 k t₅)) em) ∙ sym strict
+
+pub ruleset colours-laws = (colours-lenient, colours-brushes, colours-vertices)
+
 -- ---- the whole
 
 module _ (ns : List ℕ) (v slots : ℕ) (counts : List ℕ) (t₁ t₂ t₃ t₄ t₅ t₆ t₇ t₈ t₉ t₁₀ : List ℕ) where
@@ -184,6 +207,18 @@ module _ (ns : List ℕ) (v slots : ℕ) (counts : List ℕ) (t₁ t₂ t₃ t�
   unfolding rooms fitsIn roomy lentOf width tables nodeTables if
   roomy-all = rw and-true
 
-  pub check-parts : (r : Bool) → r ≡ (rooms counts (length t₁) (length t₂) (length t₃) (length t₄) (length t₅) (length t₆) (length t₇) (length t₈) (length t₉) (length t₁₀) && rowsPart ns v slots counts t₁ t₂ t₃ t₄ t₅ t₆ t₇ t₈ t₉ t₁₀) → r ≡ check (lentOf v slots counts t₁ t₂ t₃ t₄ t₅ t₆ t₇ t₈ t₉ t₁₀) ns
+  check-parts : (rooms counts (length t₁) (length t₂) (length t₃) (length t₄) (length t₅) (length t₆) (length t₇) (length t₈) (length t₉) (length t₁₀) && rowsPart ns v slots counts t₁ t₂ t₃ t₄ t₅ t₆ t₇ t₈ t₉ t₁₀) ≡ check (lentOf v slots counts t₁ t₂ t₃ t₄ t₅ t₆ t₇ t₈ t₉ t₁₀) ns
   unfolding check rowsPart lentOf lentRows width if
-  check-parts r e = e ∙ rw (roomy-all, ← same-tree _ _ agree ns (getD counts 1 0) (cut 20 (getD counts 2 0) t₃))
+  check-parts = rw (roomy-all, ← same-tree _ _ agree ns (getD counts 1 0) (cut 20 (getD counts 2 0) t₃))
+
+  colours-part : (mode : Mode) → coloursPart mode counts t₂ t₅ ≡ passes mode (lentRows (lentOf v slots counts t₁ t₂ t₃ t₄ t₅ t₆ t₇ t₈ t₉ t₁₀))
+  unfolding coloursPart passes lentOf lentRows width if
+  colours-part Strict = refl
+  colours-part Lenient = refl
+
+  pub check-in : (mode : Mode) (r : Bool) → r ≡ (rooms counts (length t₁) (length t₂) (length t₃) (length t₄) (length t₅) (length t₆) (length t₇) (length t₈) (length t₉) (length t₁₀) && (rowsPart ns v slots counts t₁ t₂ t₃ t₄ t₅ t₆ t₇ t₈ t₉ t₁₀ && coloursPart mode counts t₂ t₅)) → r ≡ checkIn mode (lentOf v slots counts t₁ t₂ t₃ t₄ t₅ t₆ t₇ t₈ t₉ t₁₀) ns
+  unfolding checkIn
+  check-in mode r e =
+      e
+      ∙ sym (and-assoc (rooms counts (length t₁) (length t₂) (length t₃) (length t₄) (length t₅) (length t₆) (length t₇) (length t₈) (length t₉) (length t₁₀)) (rowsPart ns v slots counts t₁ t₂ t₃ t₄ t₅ t₆ t₇ t₈ t₉ t₁₀) (coloursPart mode counts t₂ t₅))
+      ∙ rw (check-parts, colours-part mode)

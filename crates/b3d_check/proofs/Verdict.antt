@@ -10,8 +10,9 @@ use Rattle.wire.specs.Test.{if}
 use Rattle.layout.proofs.Lists.{All}
 use Rattle.b3d_scene.specs.Rebuild.{together, rebuild}
 use Rattle.b3d_scene.specs.Tables.{tables, nodeTables}
-use Rattle.b3d_sound.specs.Check.{check}
-use Rattle.b3d_sound.proofs.Check.Verdict.{Typed, rebuild-check}
+use Rattle.b3d_scene.specs.declared.Mode.{Mode}
+use Rattle.b3d_sound.specs.Check.{checkIn}
+use Rattle.b3d_sound.proofs.Check.Verdict.{Typed, rebuild-check-in}
 use Rattle.b3d_check.specs.Lent.{lentOf}
 
 pub all-words : (l : List ℕ) → ((i : ℕ) → getD l i 0 < 4294967296) → All IsWord l
@@ -38,8 +39,8 @@ unfolding lentOf tables nodeTables if
 lent-typed ns v slots counts t₁ t₂ t₃ t₄ t₅ t₆ t₇ t₈ t₉ t₁₀ hv hs h₁ h₂ h₃ h₄ h₅ h₆ h₇ h₈ h₉ h₁₀ hn =
     record { version = hv; slots = hs; cells = (h₁, (h₂, (h₃, (h₄, (h₅, (h₆, (h₇, (h₈, (h₉, (h₁₀, tt)))))))))); bytes = hn }
 
-pub verdict : (ns : List ℕ) (v slots : ℕ) (counts t₁ t₂ t₃ t₄ t₅ t₆ t₇ t₈ t₉ t₁₀ : List ℕ) → Typed (lentOf v slots counts t₁ t₂ t₃ t₄ t₅ t₆ t₇ t₈ t₉ t₁₀) ns → (r : Bool) → r ≡ check (lentOf v slots counts t₁ t₂ t₃ t₄ t₅ t₆ t₇ t₈ t₉ t₁₀) ns
-    → rebuild (lentOf v slots counts t₁ t₂ t₃ t₄ t₅ t₆ t₇ t₈ t₉ t₁₀) ns ≡ if r (some (together ns (lentOf v slots counts t₁ t₂ t₃ t₄ t₅ t₆ t₇ t₈ t₉ t₁₀))) none
-verdict ns v slots counts t₁ t₂ t₃ t₄ t₅ t₆ t₇ t₈ t₉ t₁₀ h r e =
+pub verdict : (mode : Mode) (ns : List ℕ) (v slots : ℕ) (counts t₁ t₂ t₃ t₄ t₅ t₆ t₇ t₈ t₉ t₁₀ : List ℕ) → Typed (lentOf v slots counts t₁ t₂ t₃ t₄ t₅ t₆ t₇ t₈ t₉ t₁₀) ns → (r : Bool) → r ≡ checkIn mode (lentOf v slots counts t₁ t₂ t₃ t₄ t₅ t₆ t₇ t₈ t₉ t₁₀) ns
+    → rebuild mode (lentOf v slots counts t₁ t₂ t₃ t₄ t₅ t₆ t₇ t₈ t₉ t₁₀) ns ≡ if r (some (together ns (lentOf v slots counts t₁ t₂ t₃ t₄ t₅ t₆ t₇ t₈ t₉ t₁₀))) none
+verdict mode ns v slots counts t₁ t₂ t₃ t₄ t₅ t₆ t₇ t₈ t₉ t₁₀ h r e =
     let T = lentOf v slots counts t₁ t₂ t₃ t₄ t₅ t₆ t₇ t₈ t₉ t₁₀ in
-    rebuild-check T ns h ∙ ap (λ (b : Bool). if b (some (together ns T)) none) (sym e)
+    rebuild-check-in T ns h mode ∙ ap (λ (b : Bool). if b (some (together ns T)) none) (sym e)

@@ -7,9 +7,11 @@ use lib.Dec.{leb, eqb}
 use Rattle.wire.specs.Test.{if}
 use Rattle.layout.specs.Fit.{all}
 use Rattle.layout.specs.Rules.{holds}
+use Rattle.b3d_scene.specs.Colours.{passes}
 use Rattle.b3d_scene.specs.Rebuild.{Lent, cut}
 use Rattle.b3d_scene.specs.Rules.{version, rowLimit}
 use Rattle.b3d_scene.specs.declared.Counts.{Counts}
+use Rattle.b3d_scene.specs.declared.Mode.{Mode}
 use Rattle.b3d_sound.specs.Check.{nameHere, brushHere, slotsHere, treeHere}
 use Rattle.b3d_check_node.specs.Parts.{partRows}
 
@@ -96,3 +98,7 @@ rowsPart ns v slots counts t₁ t₂ t₃ t₄ t₅ t₆ t₇ t₈ t₉ t₁₀ 
     && (all (nameHere ns) (cut 9 (getD counts 0 0) t₁)
     && (all (brushHere ns slots (getD counts 0 0)) (cut 17 (getD counts 1 0) t₂)
     && treeHere ns (getD counts 1 0) (partRows (partCounts counts) t₄ t₅ t₆ t₇ t₈ t₉ t₁₀) (cut 20 (getD counts 2 0) t₃))))
+
+-- what a mode asks of colours: the rows of brushes and of vertices
+unfoldable pub coloursPart : Mode → List ℕ → List ℕ → List ℕ → Bool
+coloursPart mode counts t₂ t₅ = passes mode (λ k. if (eqb k 2) (cut 17 (getD counts 1 0) t₂) (cut 42 (getD counts 4 0) t₅))

@@ -2,12 +2,13 @@
 ghost use mathlib.Core.Path.{_≡_};
 ghost use Prim.Native.Nat.{_*_, _≤_};
 ghost use mathlib.Core.Option.{none, some};
-ghost use lib.ListN.{length};
+ghost use lib.ListN.{length, getD};
 ghost use Rattle.wire.specs.Test.{if};
 ghost use Rattle.b3d_scene.specs.Rebuild.{together, rebuild};
-ghost use Rattle.b3d_sound.specs.Check.{check};
-ghost use Rattle.b3d_check.specs.Lent.{lentOf, partCounts, fitsIn, rooms, Rooms, rowsPart};
+ghost use Rattle.b3d_sound.specs.Check.{checkIn};
+ghost use Rattle.b3d_check.specs.Lent.{lentOf, partCounts, fitsIn, rooms, Rooms, rowsPart, coloursPart};
 use b3d_scene::Counts;
+use b3d_scene::Mode;
 
 // So many rows of a width are no more than the limit, and than so many words.
 fn fits_in(count: u32, width: usize, words: usize) -> bool
@@ -105,8 +106,27 @@ fn rows_here(
     b3d_check_tree::tree_here(names, brushes, all, t3, t4, t5, t6, t7, t8, t9, t10)
 }
 
-// The verdict: all that is lent, counts by table, and the bytes that hold the names.
+// The colours of brushes and of vertices, as far as a mode looks at them.
+fn colours_here(mode: Mode, counts: &[u32; 10], t2: &[u32], t5: &[u32]) -> bool
+    requires { ⌜ (17 * getD (now counts) 1 0 ≤ length (now t2)) × (42 * getD (now counts) 4 0 ≤ length (now t5)) ⌝ }
+    ensures { λ r. ⌜ r ≡ coloursPart mode (now (counts .entry)) (now (t2 .entry)) (now (t5 .entry)) ⌝ }
+{
+    match mode {
+        Mode::Lenient => true,
+        Mode::Strict => {
+            let brushes = wire::size(counts[1]);
+            let vertices = wire::size(counts[4]);
+            if !b3d_check_colours::rows_coloured(t2, 17, 2, brushes) {
+                return false;
+            }
+            b3d_check_colours::rows_coloured(t5, 42, 6, vertices)
+        }
+    }
+}
+
+// The verdict in a mode: all that is lent, counts by table, and the bytes that hold the names.
 pub fn check(
+    mode: Mode,
     version: u32,
     slots: u32,
     counts: &[u32; 10],
@@ -122,12 +142,12 @@ pub fn check(
     t10: &[u32],
     names: &[u8],
 ) -> bool
-    ensures { λ r. ⌜ r ≡ check (lentOf version slots (now (counts .entry)) (now (t1 .entry)) (now (t2 .entry)) (now (t3 .entry)) (now (t4 .entry)) (now (t5 .entry)) (now (t6 .entry)) (now (t7 .entry)) (now (t8 .entry)) (now (t9 .entry)) (now (t10 .entry))) (now (names .entry)) ⌝ }
+    ensures { λ r. ⌜ r ≡ checkIn mode (lentOf version slots (now (counts .entry)) (now (t1 .entry)) (now (t2 .entry)) (now (t3 .entry)) (now (t4 .entry)) (now (t5 .entry)) (now (t6 .entry)) (now (t7 .entry)) (now (t8 .entry)) (now (t9 .entry)) (now (t10 .entry))) (now (names .entry)) ⌝ }
 {
     if !rooms_here(counts, t1, t2, t3, t4, t5, t6, t7, t8, t9, t10) {
         return false;
     }
-    rows_here(
+    if !rows_here(
         version,
         slots,
         counts,
@@ -142,11 +162,16 @@ pub fn check(
         t9,
         t10,
         names,
-    )
+    ) {
+        return false;
+    }
+    colours_here(mode, counts, t2, t5)
 }
 
-// The same verdict by its meaning: true just where some scene has these tables, which is then the one that they are put together to.
+// The same verdict by its meaning: true just where some scene has these tables and their colours pass, which is then the one that they are
+// put together to.
 pub fn sound(
+    mode: Mode,
     version: u32,
     slots: u32,
     counts: &[u32; 10],
@@ -162,9 +187,10 @@ pub fn sound(
     t10: &[u32],
     names: &[u8],
 ) -> bool
-    ensures { λ r. ⌜ rebuild (lentOf version slots (now (counts .entry)) (now (t1 .entry)) (now (t2 .entry)) (now (t3 .entry)) (now (t4 .entry)) (now (t5 .entry)) (now (t6 .entry)) (now (t7 .entry)) (now (t8 .entry)) (now (t9 .entry)) (now (t10 .entry))) (now (names .entry)) ≡ if r (some (together (now (names .entry)) (lentOf version slots (now (counts .entry)) (now (t1 .entry)) (now (t2 .entry)) (now (t3 .entry)) (now (t4 .entry)) (now (t5 .entry)) (now (t6 .entry)) (now (t7 .entry)) (now (t8 .entry)) (now (t9 .entry)) (now (t10 .entry))))) none ⌝ }
+    ensures { λ r. ⌜ rebuild mode (lentOf version slots (now (counts .entry)) (now (t1 .entry)) (now (t2 .entry)) (now (t3 .entry)) (now (t4 .entry)) (now (t5 .entry)) (now (t6 .entry)) (now (t7 .entry)) (now (t8 .entry)) (now (t9 .entry)) (now (t10 .entry))) (now (names .entry)) ≡ if r (some (together (now (names .entry)) (lentOf version slots (now (counts .entry)) (now (t1 .entry)) (now (t2 .entry)) (now (t3 .entry)) (now (t4 .entry)) (now (t5 .entry)) (now (t6 .entry)) (now (t7 .entry)) (now (t8 .entry)) (now (t9 .entry)) (now (t10 .entry))))) none ⌝ }
 {
     check(
+        mode,
         version,
         slots,
         counts,

@@ -18,7 +18,7 @@ use Rattle.layout.specs.Out.{got, bad, check}
 use Rattle.layout.specs.Parts.{wordsOf, judged}
 use Rattle.layout.specs.Rules.{NONE, Rule, any, names, holds, refusal}
 use Rattle.layout.proofs.StepLaws.{word-of, length-words-of, judged-any}
-use Rattle.b3d_chunks.specs.Items.{idRule, firstBad, idRow}
+use Rattle.b3d_chunks.specs.Items.{idRule, firstBad}
 
 or-true : (a b : Bool) → b ≡ true → (a || b) ≡ true
 or-true true b e = refl
@@ -114,7 +114,7 @@ pub ruleset firsts = (before-start, before-next, bad-here, bad-nowhere)
 -- ---- rows of ids
 
 -- words that are not looked at, before other rules
-any-pass : {A : Type 0} (k p : ℕ) (vs ws : List ℕ) (rs : List Rule) (a : A) → length vs ≡ k → judged (replicate k any ++ rs) p (vs ++ ws) a ≡ judged rs (p + 4 * k) ws a
+pub any-pass : {A : Type 0} (k p : ℕ) (vs ws : List ℕ) (rs : List Rule) (a : A) → length vs ≡ k → judged (replicate k any ++ rs) p (vs ++ ws) a ≡ judged rs (p + 4 * k) ws a
 unfolding judged check
 any-pass zero p [] ws rs a l = let q : p ≡ p + 4 * 0 = omega arith in ap (λ (z : ℕ). judged rs z ws a) q
 any-pass zero p (v ∷ vs) ws rs a l = absurd (omega arith)
@@ -160,7 +160,7 @@ module _ {A : Type 0} (r : Rule) where
     pub ids-bad : firstBad r ws < n → judged (replicate n r) p ws a ≡ bad (refusal r) (p + 4 * firstBad r ws)
     ids-bad e = simp append-nil at (ids-stop n p ws [] [] a l e)
 
-words-add : (k n : ℕ) (l : List ℕ) → 4 * k ≤ length l → wordsOf (k + n) l ≡ wordsOf k l ++ wordsOf n (drop (4 * k) l)
+pub words-add : (k n : ℕ) (l : List ℕ) → 4 * k ≤ length l → wordsOf (k + n) l ≡ wordsOf k l ++ wordsOf n (drop (4 * k) l)
 words-add zero n l h = let e : zero + n ≡ n = omega arith in rw e
 words-add (suc k) n [] h = absurd (omega arith)
 words-add (suc k) n (a ∷ []) h = absurd (omega arith)
@@ -170,14 +170,6 @@ words-add (suc k) n (a ∷ b ∷ c ∷ d ∷ l) h =
     let e : suc k + n ≡ suc (k + n) = omega arith in
     let f : 4 * suc k ≡ suc (suc (suc (suc (4 * k)))) = omega arith in
     rw (e, f, words-add k n l (omega arith))
-
--- ids, and then words that are not looked at
-module _ {A : Type 0} (m n k p : ℕ) (l : List ℕ) (a : A) (h : 4 * n ≤ length l) where
-  pub row-good : firstBad (names m) (wordsOf n l) ≡ n → judged (idRow n k m) p (wordsOf (n + k) l) a ≡ got a
-  row-good e = rw (words-add n k l h, ids-pass (names m) n p (wordsOf n l) (wordsOf k (drop (4 * n) l)) (replicate k any) a (length-words-of n l h) e) (judged-any k (p + 4 * n) (wordsOf k (drop (4 * n) l)) a)
-
-  pub row-bad : firstBad (names m) (wordsOf n l) < n → judged (idRow n k m) p (wordsOf (n + k) l) a ≡ bad 7 (p + 4 * firstBad (names m) (wordsOf n l))
-  row-bad e = rw (words-add n k l h) (ids-stop (names m) n p (wordsOf n l) (wordsOf k (drop (4 * n) l)) (replicate k any) a (length-words-of n l h) e)
 
 -- words at w that are not looked at, and then ids, at d; g is the answer of `first_bad` there
 module _
@@ -197,4 +189,4 @@ module _
   pub after-bad : g < n → judged (replicate k any ++ replicate n r) (w .at) (wordsOf (k + n) (left w s)) a ≡ bad (refusal r) (d .at + 4 * g)
   after-bad h = rw e (after ∙ ids-bad r n (d .at) (wordsOf n (left d s)) a long-ids (omega arith))
 
-pub ruleset ids = (ids-good, ids-bad, row-good, row-bad, after-good, after-bad)
+pub ruleset ids = (ids-good, ids-bad, after-good, after-bad)

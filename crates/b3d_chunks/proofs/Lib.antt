@@ -5,4 +5,4 @@ pub mod Nexts
 pub mod Names
 pub mod Divided
 pub mod Ids
-pub mod IdItems
+pub mod ItemLaws

@@ -1,4 +1,4 @@
--- Ids, and items to the end of a chunk.
+-- Ids and colours, and items to the end of a chunk.
 use Prim.Native.Nat.{ℕ, zero, suc, _+_, _-_, _*_, _/_, _%_, _≤_}
 use mathlib.Core.Bool.{Bool, true, false}
 use mathlib.Core.List.{List, [], _∷_, _++_}
@@ -7,7 +7,7 @@ use lib.Dec.{eqb}
 use Rattle.wire.specs.Test.{if}
 use Rattle.wire.specs.declared.Cursor.{Cursor}
 use Rattle.layout.specs.Out.{Out, got, bad}
-use Rattle.layout.specs.Rules.{Rule, any, names, namesOrNone, holds}
+use Rattle.layout.specs.Rules.{Rule, any, names, namesOrNone, unit, holds}
 use Rattle.layout.specs.Parts.{row, items}
 use Rattle.b3d_chunks.specs.declared.Counted.{Counted}
 use Rattle.b3d_chunks.specs.declared.Counted.the-variants as counts
@@ -22,12 +22,20 @@ unfoldable pub firstBad : Rule → List ℕ → ℕ
 firstBad r [] = 0
 firstBad r (w ∷ ws) = if (holds r w) (suc (firstBad r ws)) 0
 
--- so many ids of so many things, none absent, then so many words that are not looked at
-abbrev pub idRow : ℕ → ℕ → ℕ → List Rule
-idRow ids others limit = replicate ids (names limit) ++ replicate others any
+-- so many words that are not looked at, so many under one rule, and words that are not looked at again
+abbrev pub partRow : Rule → ℕ → ℕ → ℕ → List Rule
+partRow r before n after = replicate before any ++ (replicate n r ++ replicate after any)
 
+abbrev pub partItems : Rule → ℕ → ℕ → ℕ → ℕ → List ℕ → Out (List (List ℕ))
+partItems r before n after p s = items (row (partRow r before n after)) p s
+
+-- so many ids of so many things, none absent, then words that are not looked at
 abbrev pub idItems : ℕ → ℕ → ℕ → ℕ → List ℕ → Out (List (List ℕ))
-idItems ids others limit p s = items (row (idRow ids others limit)) p s
+idItems ids others limit p s = partItems (names limit) 0 ids others p s
+
+-- colours among words that are not looked at
+abbrev pub colourItems : ℕ → ℕ → ℕ → ℕ → List ℕ → Out (List (List ℕ))
+colourItems before n after p s = partItems unit before n after p s
 
 -- how many items there are, or the refusal
 abbrev pub counted : Out (List (List ℕ)) → Counted

@@ -1,14 +1,14 @@
-// Steps that every walk over a B3D file takes: the next known chunk, a text with its row, ids, items by one division.
+// Steps that every walk over a B3D file takes: the next known chunk, a text with its row, ids, colours, items by one division.
 ghost use mathlib.Core.Path.{_≡_};
 ghost use Prim.Native.Nat.{ℕ, _+_, _-_, _*_, _<_, _≤_};
 ghost use lib.ListN.{length};
 ghost use Rattle.wire.specs.Cursors.{Inside, left};
 ghost use Rattle.layout.specs.Parts.{wordsOf};
-ghost use Rattle.layout.specs.Rules.{holds};
+ghost use Rattle.layout.specs.Rules.{unit, holds};
 ghost use Rattle.b3d_scene.specs.Tags.{tagOf};
 ghost use Rattle.b3d_scene.specs.Rules.{vertexWords, keyWords};
 ghost use Rattle.b3d_chunks.specs.Chunks.{tagged, NextIs, namedAt, NamedIn};
-ghost use Rattle.b3d_chunks.specs.Items.{idRule, firstBad, dividedAt, CountedIn, idItems, counted};
+ghost use Rattle.b3d_chunks.specs.Items.{idRule, firstBad, dividedAt, CountedIn, idItems, colourItems, counted};
 use b3d_scene::Tag;
 use wire::Cursor;
 use wire::Header;
@@ -147,6 +147,23 @@ pub fn first_bad(s: &[u8], c: Cursor, n: usize, limit: usize, absent: bool) -> u
     i
 }
 
+// How many of the first n words are colours before one that is not.
+pub fn first_bad_colour(s: &[u8], c: Cursor, n: usize) -> usize
+    requires { ⌜ Inside c (length (now s)) × (c .at + 4 * n ≤ c .end) × (n ≤ 64) ⌝ }
+    ensures { λ r. ⌜ (r ≡ firstBad unit (wordsOf n (left c (now (s .entry))))) × (r ≤ n) ⌝ }
+{
+    let start = c.at;
+    let mut i: usize = 0;
+    while i < n {
+        let bits = wire::number_at(s, start + 4 * i);
+        if !b3d_colour::colour_ok(bits) {
+            return i;
+        }
+        i += 1;
+    }
+    i
+}
+
 // So many items, or a refusal and its place.
 pub enum Counted {
     Is(usize),
@@ -186,6 +203,30 @@ pub fn id_items(s: &[u8], from: Cursor, words: usize, ids: usize, limit: usize) 
             return Counted::Not(7, at + 4 * good);
         }
         at += size;
+        count += 1;
+    }
+    Counted::Is(count)
+}
+
+// Items of so many words, of which n from word `before` on are colours: 5 at a cut item, 6 at a colour that is not from 0 to 1.
+pub fn colour_items(s: &[u8], from: Cursor, words: usize, before: usize, n: usize) -> Counted
+    requires { ⌜ Inside from (length (now s)) × (0 < words) × (words ≤ 64) × (before + n ≤ words) ⌝ }
+    ensures { λ r. ⌜ (r ≡ counted (colourItems before n (words - (before + n)) (from .at) (left from (now (s .entry))))) × CountedIn from words r ⌝ }
+{
+    let end = from.end;
+    let item = 4 * words;
+    let mut at = from.at;
+    let mut count: usize = 0;
+    while at < end {
+        if end - at < item {
+            return Counted::Not(5, at);
+        }
+        let first = at + 4 * before;
+        let good = first_bad_colour(s, Cursor { at: first, end }, n);
+        if good < n {
+            return Counted::Not(6, first + 4 * good);
+        }
+        at += item;
         count += 1;
     }
     Counted::Is(count)

@@ -10,6 +10,7 @@ use Rattle.wire.specs.Cursors.{Inside}
 use Rattle.layout.specs.Out.{Out, got, bad, check, _>>=_}
 use Rattle.layout.proofs.Outs.{by-check}
 use Rattle.emit.specs.Writing.{Wrote, Room, Put, head}
+use Rattle.b3d_scene.specs.declared.Mode.the-variants.{Lenient}
 use Rattle.b3d_scene.specs.Answers.{judge, roomFor, copy, clear, written, outputAfter, clearAnswer, clearOutput}
 use Rattle.b3d_scene.specs.Parse.{parse}
 use Rattle.b3d_scene.specs.Rules.{fileSize, mostBytes}
@@ -17,7 +18,7 @@ use Rattle.b3d_scene.specs.Scene.{Scene}
 use Rattle.b3d_scene.specs.Tags.{code}
 use Rattle.b3d_scene.specs.declared.Tag.the-variants.{BB3D}
 use Rattle.b3d_scene.specs.declared.Written.{Written}
-use Rattle.b3d_scene.proofs.AnswerLaws.{judge-got, judge-first}
+use Rattle.b3d_scene.proofs.AnswerLaws.{judge-got, clear-first}
 use Rattle.b3d_scene.proofs.Files.FileLaws.{size-low, size-bound}
 use Rattle.b3d_scene.proofs.Files.NameLaws.{copy-short}
 use Rattle.b3d_bodies.specs.declared.Tally.{Tally}
@@ -61,7 +62,7 @@ was-good : (o : Out Scene) (x : Summary) → verdictOf o ≡ verdict.Good x → 
 was-good (got t) x e = let z : x .tally ≡ tallyOf t = cc in record { scene = t; is = refl; long = ap (λ (y : Tally). y .copy) z }
 was-good (bad m q) x e = let z : _≡_ {A = ℕ} 0 1 = cc in absurd (omega arith)
 
-size-within : (s : List ℕ) (t : Scene) → parse s ≡ got t → (12 ≤ length s) × (length s ≤ mostBytes)
+size-within : (s : List ℕ) (t : Scene) → parse Lenient s ≡ got t → (12 ≤ length s) × (length s ≤ mostBytes)
 unfolding parse
 size-within s t e = by-check (fileSize (length s)) 1 0 _ e (λ z _. (size-low (length s) z, size-bound (length s) z))
 
@@ -79,17 +80,17 @@ module _ (s out : List ℕ) where
   unfolding clearOutput
   left-so o e ys h = h ∙ ap (λ (x : Out (List ℕ)). outputAfter x out) (sym e)
 
-  module _ (r : Verdict) (e : r ≡ verdictOf (judge s)) where
+  module _ (r : Verdict) (e : r ≡ verdictOf (judge Lenient s)) where
     -- refused
     module _ (n p : ℕ) (z : r ≡ verdict.Bad n p) where
-      refused : judge s ≡ bad n p
-      refused = was-bad (judge s) n p (sym e ∙ z)
+      refused : judge Lenient s ≡ bad n p
+      refused = was-bad (judge Lenient s) n p (sym e ∙ z)
 
       pub clear-place : p < 0x100000000
-      clear-place = omega (arith, judge-place s n p refused)
+      clear-place = omega (arith, judge-place Lenient s n p refused)
 
       stopped : clear s (length out) ≡ bad n p
-      stopped = judge-first s n p refused (λ k. k) (length out) .1
+      stopped = clear-first s n p refused (length out)
 
       pub clear-refused : (q : ℕ) → q ≡ p → record { number = n; place = q; size = 0 } ≡ clearAnswer s out
       unfolding written
@@ -101,11 +102,11 @@ module _ (s out : List ℕ) where
 
     -- accepted
     module _ (x : Summary) (z : r ≡ verdict.Good x) (all : AllBytes s) where
-      gave : Gave (judge s) (x .tally .copy)
-      gave = was-good (judge s) x (sym e ∙ z)
+      gave : Gave (judge Lenient s) (x .tally .copy)
+      gave = was-good (judge Lenient s) x (sym e ∙ z)
 
-      parsed : parse s ≡ got (gave .scene)
-      parsed = judge-got s (gave .scene) (gave .is) .0
+      parsed : parse Lenient s ≡ got (gave .scene)
+      parsed = judge-got Lenient s (gave .scene) (gave .is) .0
 
       pub clear-low : 12 ≤ length s
       clear-low = size-within s (gave .scene) parsed .0

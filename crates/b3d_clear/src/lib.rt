@@ -11,6 +11,7 @@ ghost use Rattle.b3d_scene.specs.Rules.{levels, mostBytes};
 ghost use Rattle.b3d_scene.specs.declared.Tag.the-variants.{BRUS, NODE};
 ghost use Rattle.b3d_copy.specs.Copies.{each, chunksAt, brusCopy, nodeCopy, inFile, fileCopy};
 use b3d_judge::Verdict;
+use b3d_scene::Mode;
 use b3d_scene::Tag;
 use b3d_scene::Written;
 use wire::Cursor;
@@ -59,7 +60,7 @@ pub fn clear(file: &[u8], out: &mut [u8]) -> Written
     ensures { λ r. ⌜ r ≡ clearAnswer (now (file .entry)) (now (out .entry)) ⌝ }
     ensures { λ _. ⌜ now (out .exit) ≡ clearOutput (now (file .entry)) (now (out .entry)) ⌝ }
 {
-    match b3d_judge::judge(file) {
+    match b3d_judge::judge(Mode::Lenient, file) {
         Verdict::Bad(number, place) => Written {
             number,
             place: b3d_rows::cell(place),

@@ -20,6 +20,7 @@ use Rattle.layout.specs.Write.{writeChunks as writeChunksOf}
 use Rattle.layout.proofs.ChunkLaws.{Of, split-fine, ended-fine}
 use Rattle.layout.proofs.Outs.{by-got, by-check, bad-got, got-inj}
 use Rattle.layout.proofs.StepLaws.{row-enough, judged-got}
+use Rattle.b3d_scene.specs.declared.Mode.the-variants.{Lenient}
 use Rattle.b3d_scene.specs.declared.Tag.the-variants.{BB3D, TEXS, BRUS, NODE, MESH, VRTS, TRIS, BONE, KEYS, ANIM}
 use Rattle.b3d_scene.specs.Answers.{copy}
 use Rattle.b3d_scene.specs.Encode.{nodeChunks, writeScene, encode}
@@ -72,10 +73,10 @@ module _ (t u : Scene) where
 
   -- ---- nodes
 
-  one-root : (brushes p : ℕ) (b : List ℕ) (r : Chunks) → AllBytes b → (f : Forest) → readRoot brushes p b ≡ got f → Has r [] 0 [] leaf → Has (chunk NODE p b r) [] 0 [] f
+  one-root : (brushes p : ℕ) (b : List ℕ) (r : Chunks) → AllBytes b → (f : Forest) → readRoot Lenient brushes p b ≡ got f → Has r [] 0 [] leaf → Has (chunk NODE p b r) [] 0 [] f
   unfolding readRoot each if
   one-root brushes p b r h f e rest =
-      by-got (readNode levels brushes none p b) _ e (λ x ex e₁.
+      by-got (readNode Lenient levels brushes none p b) _ e (λ x ex e₁.
       record {
         texs = rest .texs;
         brus = rest .brus;
@@ -83,7 +84,7 @@ module _ (t u : Scene) where
             ap₂ _++_ (node-copied levels brushes none p b x h ex) (rest .nodes) ∙ sym (node-written (x .self) (x .below) leaf) ∙ ap nodesBytes (got-inj e₁);
       })
 
-  root-read : (brushes : ℕ) (cs : Chunks) (n : ℕ) → Of n cs → (x : Found Forest) → readOne NODE leaf (readRoot brushes) (order BB3D 0 (reached 2 true) cs) ≡ got x → ended (x .rest) t ≡ got u
+  root-read : (brushes : ℕ) (cs : Chunks) (n : ℕ) → Of n cs → (x : Found Forest) → readOne NODE leaf (readRoot Lenient brushes) (order BB3D 0 (reached 2 true) cs) ≡ got x → ended (x .rest) t ≡ got u
       → Has cs [] 0 [] (x .value)
   unfolding readOne order onward next if
   root-read brushes done n h x e z = subst (λ (y : Found Forest). Has done [] 0 [] (y .value)) (got-inj e) nothing
@@ -92,7 +93,7 @@ module _ (t u : Scene) where
   root-read brushes (chunk TEXS p b r) n h x e z = bad-got e
   root-read brushes (chunk BRUS p b r) n h x e z = bad-got e
   root-read brushes (chunk NODE p b r) n h x e z =
-      by-got (readRoot brushes p b) _ e (λ f ef e₁.
+      by-got (readRoot Lenient brushes p b) _ e (λ f ef e₁.
       subst (λ (y : Found Forest). Has (chunk NODE p b r) [] 0 [] (y .value)) (got-inj e₁)
       (one-root brushes p b r (h .0) f ef (last-read r (ap (λ (y : Found Forest). ended (y .rest) t) (got-inj e₁) ∙ z))))
   root-read brushes (chunk MESH p b r) n h x e z = bad-got e
@@ -104,7 +105,7 @@ module _ (t u : Scene) where
 
   -- ---- brushes, then nodes
 
-  one-brus : (textures p : ℕ) (b : List ℕ) (r : Chunks) (f : Forest) → AllBytes b → (v : ℕ × List Brush) → readBrushes textures p b ≡ got v → Has r [] 0 [] f
+  one-brus : (textures p : ℕ) (b : List ℕ) (r : Chunks) (f : Forest) → AllBytes b → (v : ℕ × List Brush) → readBrushes Lenient textures p b ≡ got v → Has r [] 0 [] f
       → Has (chunk BRUS p b r) [] (slotsOf (v .0) (v .1)) (v .1) f
   unfolding each if brusBytes
   one-brus textures p b r f h v e rest =
@@ -112,26 +113,26 @@ module _ (t u : Scene) where
 
   -- no BRUS stands first
   no-brus : (cs rest : Chunks) (n : ℕ) → Of n cs → (v : Found (ℕ × List Brush)) → got (record { value = (0, []); rest = rest }) ≡ got v → order BB3D 0 (reached 2 true) cs ≡ rest
-      → (x : Found Forest) → readOne NODE leaf (readRoot (length (v .value .1))) (v .rest) ≡ got x → ended (x .rest) t ≡ got u → Has cs [] (slotsOf (v .value .0) (v .value .1)) (v .value .1) (x .value)
+      → (x : Found Forest) → readOne NODE leaf (readRoot Lenient (length (v .value .1))) (v .rest) ≡ got x → ended (x .rest) t ≡ got u → Has cs [] (slotsOf (v .value .0) (v .value .1)) (v .value .1) (x .value)
   unfolding slotsOf
   no-brus cs rest n h v e same x ex z =
       let g = got-inj e in
       subst (λ (y : Found (ℕ × List Brush)). Has cs [] (slotsOf (y .value .0) (y .value .1)) (y .value .1) (x .value)) g
-      (root-read 0 cs n h x (ap (readOne NODE leaf (readRoot 0)) same ∙ ap (λ (y : Found (ℕ × List Brush)). readOne NODE leaf (readRoot (length (y .value .1))) (y .rest)) g ∙ ex) z)
+      (root-read 0 cs n h x (ap (readOne NODE leaf (readRoot Lenient 0)) same ∙ ap (λ (y : Found (ℕ × List Brush)). readOne NODE leaf (readRoot Lenient (length (y .value .1))) (y .rest)) g ∙ ex) z)
 
-  brus-read : (textures : ℕ) (cs : Chunks) (n : ℕ) → Of n cs → (v : Found (ℕ × List Brush)) → readOne BRUS (0, []) (readBrushes textures) (order BB3D 0 (reached 1 true) cs) ≡ got v
-      → (x : Found Forest) → readOne NODE leaf (readRoot (length (v .value .1))) (v .rest) ≡ got x → ended (x .rest) t ≡ got u → Has cs [] (slotsOf (v .value .0) (v .value .1)) (v .value .1) (x .value)
+  brus-read : (textures : ℕ) (cs : Chunks) (n : ℕ) → Of n cs → (v : Found (ℕ × List Brush)) → readOne BRUS (0, []) (readBrushes Lenient textures) (order BB3D 0 (reached 1 true) cs) ≡ got v
+      → (x : Found Forest) → readOne NODE leaf (readRoot Lenient (length (v .value .1))) (v .rest) ≡ got x → ended (x .rest) t ≡ got u → Has cs [] (slotsOf (v .value .0) (v .value .1)) (v .value .1) (x .value)
   unfolding readOne order onward next if
   brus-read textures done n h v e x ex z = no-brus done done n h v e refl x ex z
   brus-read textures (stop i p) n h v e x ex z = bad-got e
   brus-read textures (chunk BB3D p b r) n h v e x ex z = bad-got e
   brus-read textures (chunk TEXS p b r) n h v e x ex z = bad-got e
   brus-read textures (chunk BRUS p b r) n h v e x ex z =
-      by-got (readBrushes textures p b) _ e (λ w ew e₁.
+      by-got (readBrushes Lenient textures p b) _ e (λ w ew e₁.
       let g = got-inj e₁ in
       subst (λ (y : Found (ℕ × List Brush)). Has (chunk BRUS p b r) [] (slotsOf (y .value .0) (y .value .1)) (y .value .1) (x .value)) g
       (one-brus textures p b r (x .value) (h .0) w ew
-      (root-read (length (w .1)) r (n - (8 + length b)) (h .2) x (ap (λ (y : Found (ℕ × List Brush)). readOne NODE leaf (readRoot (length (y .value .1))) (y .rest)) g ∙ ex) z)))
+      (root-read (length (w .1)) r (n - (8 + length b)) (h .2) x (ap (λ (y : Found (ℕ × List Brush)). readOne NODE leaf (readRoot Lenient (length (y .value .1))) (y .rest)) g ∙ ex) z)))
   brus-read textures (chunk NODE p b r) n h v e x ex z = no-brus (chunk NODE p b r) _ n h v e refl x ex z
   brus-read textures (chunk MESH p b r) n h v e x ex z = bad-got e
   brus-read textures (chunk VRTS p b r) n h v e x ex z = bad-got e
@@ -147,14 +148,14 @@ module _ (t u : Scene) where
   Rest cs l v x = Has cs l (slotsOf (v .value .0) (v .value .1)) (v .value .1) (x .value)
 
   abbrev Reads : Found (List Texture) → Found (ℕ × List Brush) → Found Forest → Type 0
-  Reads w v x = (readOne BRUS (0, []) (readBrushes (length (w .value))) (w .rest) ≡ got v) × (readOne NODE leaf (readRoot (length (v .value .1))) (v .rest) ≡ got x) × (ended (x .rest) t ≡ got u)
+  Reads w v x = (readOne BRUS (0, []) (readBrushes Lenient (length (w .value))) (w .rest) ≡ got v) × (readOne NODE leaf (readRoot Lenient (length (v .value .1))) (v .rest) ≡ got x) × (ended (x .rest) t ≡ got u)
 
   no-texs : (cs rest : Chunks) (n : ℕ) → Of n cs → (w : Found (List Texture)) → got (record { value = []; rest = rest }) ≡ got w → order BB3D 0 (reached 1 true) cs ≡ rest
       → (v : Found (ℕ × List Brush)) (x : Found Forest) → Reads w v x → Rest cs (w .value) v x
   no-texs cs rest n h w e same v x (ev, ex, z) =
       let g = got-inj e in
       subst (λ (y : Found (List Texture)). Rest cs (y .value) v x) g
-      (brus-read 0 cs n h v (ap (readOne BRUS (0, []) (readBrushes 0)) same ∙ ap (λ (y : Found (List Texture)). readOne BRUS (0, []) (readBrushes (length (y .value))) (y .rest)) g ∙ ev) x ex z)
+      (brus-read 0 cs n h v (ap (readOne BRUS (0, []) (readBrushes Lenient 0)) same ∙ ap (λ (y : Found (List Texture)). readOne BRUS (0, []) (readBrushes Lenient (length (y .value))) (y .rest)) g ∙ ev) x ex z)
 
   one-texs : (p : ℕ) (b : List ℕ) (r : Chunks) (slots : ℕ) (bs : List Brush) (f : Forest) → AllBytes b → (l : List Texture) → readTextures p b ≡ got l → Has r [] slots bs f → Has (chunk TEXS p b r) l slots bs f
   unfolding each if texsBytes
@@ -172,7 +173,7 @@ module _ (t u : Scene) where
       let g = got-inj e₁ in
       subst (λ (y : Found (List Texture)). Rest (chunk TEXS p b r) (y .value) v x) g
       (one-texs p b r _ _ (x .value) (h .0) l el
-      (brus-read (length l) r (n - (8 + length b)) (h .2) v (ap (λ (y : Found (List Texture)). readOne BRUS (0, []) (readBrushes (length (y .value))) (y .rest)) g ∙ z .0) x (z .1) (z .2))))
+      (brus-read (length l) r (n - (8 + length b)) (h .2) v (ap (λ (y : Found (List Texture)). readOne BRUS (0, []) (readBrushes Lenient (length (y .value))) (y .rest)) g ∙ z .0) x (z .1) (z .2))))
   texs-read (chunk BRUS p b r) n h w e v x z = no-texs (chunk BRUS p b r) _ n h w e refl v x z
   texs-read (chunk NODE p b r) n h w e v x z = no-texs (chunk NODE p b r) _ n h w e refl v x z
   texs-read (chunk MESH p b r) n h w e v x z = bad-got e
@@ -218,13 +219,13 @@ opened s lo h e =
       bytes = λ b. drop-bytes 4 (drop 8 s) (drop-bytes 8 s b);
     })
 
-body-copied : (s : List ℕ) (t : Scene) → AllBytes s → 12 ≤ length s → readBody 8 (drop 8 s) ≡ got t → fileCopy s ≡ copy t
+body-copied : (s : List ℕ) (t : Scene) → AllBytes s → 12 ≤ length s → readBody Lenient 8 (drop 8 s) ≡ got t → fileCopy s ≡ copy t
 unfolding readBody inside copy encode
 body-copied s t all lo e =
     by-got (row fileHead 8 (drop 8 s)) _ e (λ h eh e₁.
     by-got (readOne TEXS [] readTextures (inside BB3D 0 (h .place) (h .left))) _ e₁ (λ w ew e₂.
-    by-got (readOne BRUS (0, []) (readBrushes (length (w .value))) (w .rest)) _ e₂ (λ v ev e₃.
-    by-got (readOne NODE leaf (readRoot (length (v .value .1))) (v .rest)) _ e₃ (λ x ex e₄.
+    by-got (readOne BRUS (0, []) (readBrushes Lenient (length (w .value))) (w .rest)) _ e₂ (λ v ev e₃.
+    by-got (readOne NODE leaf (readRoot Lenient (length (v .value .1))) (v .rest)) _ e₃ (λ x ex e₄.
     let o = opened s lo h eh in
     let cs = split (h .place) (h .left) in
     let scene : Scene = record { version = number h 0; textures = w .value; slots = slotsOf (v .value .0) (v .value .1); brushes = v .value .1; nodes = x .value } in
@@ -235,7 +236,7 @@ body-copied s t all lo e =
     ∙ ap (chunkOf (code BB3D)) (sym (scene-written scene))
     ∙ ap (λ (y : Scene). chunkOf (code BB3D) (writeScene (cleared y))) (ended-fine (x .rest) scene t e₄)))))
 
-pub file-copied : (s : List ℕ) (t : Scene) → AllBytes s → parse s ≡ got t → fileCopy s ≡ copy t
+pub file-copied : (s : List ℕ) (t : Scene) → AllBytes s → parse Lenient s ≡ got t → fileCopy s ≡ copy t
 unfolding parse
 file-copied s t all e =
     by-check (fileSize (length s)) 1 0 _ e (λ z e₁.
@@ -244,4 +245,4 @@ file-copied s t all e =
     let q = got-inj (sym ex ∙ head-is s (omega arith)) in
     by-check (eqb (getD (x .value) 0 0) (code BB3D)) 2 0 _ e₂ (λ _ e₃.
     by-check (eqb (getD (x .value) 1 0) (length (x .left))) 2 4 _ e₃ (λ _ e₄.
-    body-copied s t all lo (subst (λ (y : Step (List ℕ)). readBody (y .place) (y .left) ≡ got t) q e₄)))))
+    body-copied s t all lo (subst (λ (y : Step (List ℕ)). readBody Lenient (y .place) (y .left) ≡ got t) q e₄)))))

@@ -8,6 +8,7 @@ use Rattle.layout.specs.Parts.{row, number, items}
 use Rattle.layout.specs.Write.{writeWords, writeItems}
 use Rattle.layout.proofs.Outs.{by-got, bad-got, got-inj}
 use Rattle.layout.proofs.PartLaws.{row-fine}
+use Rattle.b3d_scene.specs.declared.Mode.the-variants.{Lenient}
 use Rattle.b3d_scene.specs.Encode.{writeTriangles, writeKeys}
 use Rattle.b3d_scene.specs.Parse.{Vertices, readVertices, readTriangles, readBone, readKeys, filled, readAnim}
 use Rattle.b3d_scene.specs.Rules.{vertexFlags, sets, setSize, verticesHead, vertexRow, brushId, trianglesHead, triangleRow, weightRow, keyFlags, keysHead, keyRow, animRow}
@@ -19,14 +20,14 @@ abbrev pub writeShape : Vertices → List ℕ
 writeShape v = writeWords (v .flags ∷ v .sets ∷ v .size ∷ []) (writeItems writeWords (v .items))
 
 module _ (p : ℕ) (b : List ℕ) (all : AllBytes b) where
-  pub vertices-exact : (v : Vertices) → readVertices p b ≡ got v → writeShape v ≡ b
+  pub vertices-exact : (v : Vertices) → readVertices Lenient p b ≡ got v → writeShape v ≡ b
   unfolding readVertices
   vertices-exact v e =
       by-got (row verticesHead (p + 8) b) _ e (λ h eh e₁.
-      by-got (items (row (vertexRow (number h 0) (number h 1) (number h 2))) (h .place) (h .left)) _ e₁ (λ l el e₂.
+      by-got (items (row (vertexRow Lenient (number h 0) (number h 1) (number h 2))) (h .place) (h .left)) _ e₁ (λ l el e₂.
       let f = row-fine verticesHead (p + 8) b h all eh in
       ap writeShape (sym (got-inj e₂))
-      ∙ ap (writeWords (number h 0 ∷ number h 1 ∷ number h 2 ∷ [])) (items-exact (vertexRow (number h 0) (number h 1) (number h 2)) (h .place) (h .left) l (f .bytes) el)
+      ∙ ap (writeWords (number h 0 ∷ number h 1 ∷ number h 2 ∷ [])) (items-exact (vertexRow Lenient (number h 0) (number h 1) (number h 2)) (h .place) (h .left) l (f .bytes) el)
       ∙ three-exact (p + 8) b h all vertexFlags sets setSize eh))
 
   pub triangles-exact : (brushes vertices : ℕ) (x : TriangleSet) → readTriangles brushes vertices p b ≡ got x → writeTriangles x ≡ b

@@ -10,6 +10,7 @@ use Rattle.layout.specs.Parts.{Name, row, number, items}
 use Rattle.layout.specs.Write.{writeWords, writeItems}
 use Rattle.layout.proofs.Outs.{by-got, got-inj}
 use Rattle.layout.proofs.PartLaws.{row-fine}
+use Rattle.b3d_scene.specs.declared.Mode.the-variants.{Lenient}
 use Rattle.b3d_scene.specs.declared.Tag.the-variants.{TEXS, BRUS}
 use Rattle.b3d_scene.specs.Encode.{writeTexture, writeBrush}
 use Rattle.b3d_scene.specs.Names.{renameTexture, renameBrush, noName}
@@ -52,29 +53,29 @@ texs-copied p (c ∷ s) (t ∷ l) h e = ap (chunkOf (code TEXS)) (textures-items
 brush : Name × List ℕ → Brush
 brush x = record { name = x .0; words = take 7 (x .1); ids = drop 7 (x .1) }
 
-brushes-items : (slots textures p : ℕ) (s : List ℕ) (l : List Brush) → AllBytes s → items (readBrush slots textures) p s ≡ got l
+brushes-items : (slots textures p : ℕ) (s : List ℕ) (l : List Brush) → AllBytes s → items (readBrush Lenient slots textures) p s ≡ got l
     → unnamedItems (7 + slots) p s ≡ writeItems writeBrush (map (renameBrush noName) l)
 unfolding readBrush brush
 brushes-items slots textures p s l h e =
-    let rs = brushRow ++ brushIds slots textures in
-    let n : length rs ≡ 7 + slots = length-append brushRow (brushIds slots textures) ∙ ap (λ (k : ℕ). 7 + k) (length-replicate slots (textureId textures)) in
+    let rs = brushRow Lenient ++ brushIds slots textures in
+    let n : length rs ≡ 7 + slots = length-append (brushRow Lenient) (brushIds slots textures) ∙ ap (λ (k : ℕ). 7 + k) (length-replicate slots (textureId textures)) in
     ap (λ (k : ℕ). unnamedItems k p s) (sym n)
     ∙ items-read brush rs (λ b. writeBrush (renameBrush noName b))
     (λ x r m. ap (λ (y : List ℕ). 0 ∷ y) (words-then (take 7 (x .1)) (drop 7 (x .1)) r ∙ ap (λ (ws : List ℕ). writeWords ws r) (take-append-drop 7 (x .1)) ∙ words-append (x .1) r)) p s l h e
     ∙ items-map writeBrush (renameBrush noName) l
 
-brus-some : (slots textures p : ℕ) (s : List ℕ) (l : List Brush) → AllBytes s → items (readBrush slots textures) p s ≡ got l
+brus-some : (slots textures p : ℕ) (s : List ℕ) (l : List Brush) → AllBytes s → items (readBrush Lenient slots textures) p s ≡ got l
     → ifAny s (chunkOf (code BRUS) (bytes slots (unnamedItems (7 + slots) p s))) ≡ brusBytes (slotsOf slots l) l
 unfolding ifAny brusBytes slotsOf
-brus-some slots textures p [] l h e = ap (λ (x : List Brush). brusBytes (slotsOf slots x) x) (sym (none-read (readBrush slots textures) p l e))
-brus-some slots textures p (c ∷ s) [] h e = absurd (omega (arith, some-read (readBrush slots textures) p c s [] e))
+brus-some slots textures p [] l h e = ap (λ (x : List Brush). brusBytes (slotsOf slots x) x) (sym (none-read (readBrush Lenient slots textures) p l e))
+brus-some slots textures p (c ∷ s) [] h e = absurd (omega (arith, some-read (readBrush Lenient slots textures) p c s [] e))
 brus-some slots textures p (c ∷ s) (b ∷ l) h e = ap (λ (y : List ℕ). chunkOf (code BRUS) (bytes slots y)) (brushes-items slots textures p (c ∷ s) (b ∷ l) h e)
 
-pub brus-copied : (textures p : ℕ) (b : List ℕ) (x : ℕ × List Brush) → AllBytes b → readBrushes textures p b ≡ got x → brusCopy p b ≡ brusBytes (slotsOf (x .0) (x .1)) (x .1)
+pub brus-copied : (textures p : ℕ) (b : List ℕ) (x : ℕ × List Brush) → AllBytes b → readBrushes Lenient textures p b ≡ got x → brusCopy p b ≡ brusBytes (slotsOf (x .0) (x .1)) (x .1)
 unfolding readBrushes brusCopy brusOf
 brus-copied textures p b x all e =
     by-got (row brushesHead (p + 8) b) _ e (λ h eh e₁.
-    by-got (items (readBrush (number h 0) textures) (h .place) (h .left)) _ e₁ (λ l el e₂.
+    by-got (items (readBrush Lenient (number h 0) textures) (h .place) (h .left)) _ e₁ (λ l el e₂.
     ap brusOf eh
     ∙ brus-some (number h 0) textures (h .place) (h .left) l (row-fine brushesHead (p + 8) b h all eh .bytes) el
     ∙ ap (λ (u : ℕ × List Brush). brusBytes (slotsOf (u .0) (u .1)) (u .1)) (got-inj e₂)))

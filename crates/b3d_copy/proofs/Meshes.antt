@@ -15,6 +15,7 @@ use Rattle.layout.proofs.ChunkLaws.{Of, split-fine}
 use Rattle.layout.proofs.Outs.{by-got, bad-got, got-inj}
 use Rattle.layout.proofs.PartLaws.{row-fine}
 use Rattle.layout.proofs.StepLaws.{judged-any, judged-got}
+use Rattle.b3d_scene.specs.declared.Mode.the-variants.{Lenient}
 use Rattle.b3d_scene.specs.declared.Tag.the-variants.{BB3D, TEXS, BRUS, NODE, MESH, VRTS, TRIS, BONE, KEYS, ANIM}
 use Rattle.b3d_scene.specs.Encode.{writeVertices, writeMesh}
 use Rattle.b3d_scene.specs.Nesting.{Reached, start, next, onward, order, inside}
@@ -97,7 +98,7 @@ module _ (brushes vertices head : ℕ) where
 shape-then : (x y z w : List ℕ) → x ≡ y → z ≡ [] → (x ++ z) ++ w ≡ y ++ w
 shape-then x y z w e f = ap₂ (λ (k l : List ℕ). (k ++ l) ++ w) e f ∙ ap (λ (k : List ℕ). k ++ w) (append-nil y)
 
-inside-read : (brushes head : ℕ) (cs : Chunks) (n : ℕ) → Of n cs → (v : Found Vertices) → readOne VRTS noVertices readVertices (order MESH head start cs) ≡ got v
+inside-read : (brushes head : ℕ) (cs : Chunks) (n : ℕ) → Of n cs → (v : Found Vertices) → readOne VRTS noVertices (readVertices Lenient) (order MESH head start cs) ≡ got v
     → (l : List TriangleSet) → readSets brushes (length (v .value .items)) (v .rest) ≡ got l → inMesh cs ≡ chunkOf (code VRTS) (writeShape (v .value)) ++ setsBytes l
 unfolding readOne order onward next if each
 inside-read brushes head done n h v e l f = bad-got e
@@ -108,7 +109,7 @@ inside-read brushes head (chunk BRUS p b r) n h v e l f = bad-got e
 inside-read brushes head (chunk NODE p b r) n h v e l f = bad-got e
 inside-read brushes head (chunk MESH p b r) n h v e l f = bad-got e
 inside-read brushes head (chunk VRTS p b r) n h v e l f =
-    by-got (readVertices p b) _ e (λ x ex e₁.
+    by-got (readVertices Lenient p b) _ e (λ x ex e₁.
     let g = got-inj e₁ in
     let shape : b ≡ writeShape (v .value) = sym (vertices-exact p b (h .0) x ex) ∙ ap (λ (y : Found Vertices). writeShape (y .value)) g in
     let rest = sets-first brushes (length (v .value .items)) head r (n - (8 + length b)) (h .2) l (ap (λ (y : Found Vertices). readSets brushes (length (v .value .items)) (y .rest)) g ∙ f) in
@@ -119,11 +120,11 @@ inside-read brushes head (chunk BONE p b r) n h v e l f = bad-got e
 inside-read brushes head (chunk KEYS p b r) n h v e l f = bad-got e
 inside-read brushes head (chunk ANIM p b r) n h v e l f = bad-got e
 
-pub mesh-copied : (brushes p : ℕ) (b : List ℕ) (m : Mesh) → AllBytes b → readMesh brushes p b ≡ got m → meshCopy p b ≡ chunkOf (code MESH) (writeMesh m)
+pub mesh-copied : (brushes p : ℕ) (b : List ℕ) (m : Mesh) → AllBytes b → readMesh Lenient brushes p b ≡ got m → meshCopy p b ≡ chunkOf (code MESH) (writeMesh m)
 unfolding readMesh inside meshCopy meshOf writeMesh writeVertices writeChunksOf
 mesh-copied brushes p b m all e =
     by-got (row (meshHead brushes) (p + 8) b) _ e (λ h eh e₁.
-    by-got (readOne VRTS noVertices readVertices (inside MESH p (h .place) (h .left))) _ e₁ (λ v ev e₂.
+    by-got (readOne VRTS noVertices (readVertices Lenient) (inside MESH p (h .place) (h .left))) _ e₁ (λ v ev e₂.
     by-got (readSets brushes (length (v .value .items)) (v .rest)) _ e₂ (λ l el e₃.
     let fine = row-fine (meshHead brushes) (p + 8) b h all eh in
     let inner = inside-read brushes p (split (h .place) (h .left)) (length (h .left)) (split-fine tagOf (h .place) (h .left) (fine .bytes)) v ev l el in

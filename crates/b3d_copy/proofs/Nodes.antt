@@ -14,6 +14,7 @@ use Rattle.layout.specs.Write.{writeWords, writeChunks as writeChunksOf}
 use Rattle.layout.proofs.ChunkLaws.{Of, split-fine}
 use Rattle.layout.proofs.Outs.{by-got, bad-got, got-inj}
 use Rattle.layout.proofs.PartLaws.{named-fine}
+use Rattle.b3d_scene.specs.declared.Mode.the-variants.{Lenient}
 use Rattle.b3d_scene.specs.declared.Tag.the-variants.{BB3D, TEXS, BRUS, NODE, MESH, VRTS, TRIS, BONE, KEYS, ANIM}
 use Rattle.b3d_scene.specs.Encode.{nodeChunks}
 use Rattle.b3d_scene.specs.Nesting.{start, next, onward, order, inside}
@@ -182,11 +183,11 @@ module _ (one : ℕ → List ℕ → List ℕ) (read : ℕ → List ℕ → Out 
       subst (λ (u : Found Kind). Has one cs (u .value) (y .value .keys) (y .value .anim) f) (got-inj e)
       (moves-read cs n h y (ap (readMoves still) same-rest ∙ ap (λ (u : Found Kind). readMoves still (u .rest)) (got-inj e) ∙ ey) f ef)
 
-  kind-mesh : (brushes p : ℕ) (b : List ℕ) (r : Chunks) (n : ℕ) → Of n r → AllBytes b → (x : Found Kind) → aMesh brushes p b (order NODE head (reached 1 true) r) ≡ got x
+  kind-mesh : (brushes p : ℕ) (b : List ℕ) (r : Chunks) (n : ℕ) → Of n r → AllBytes b → (x : Found Kind) → aMesh Lenient brushes p b (order NODE head (reached 1 true) r) ≡ got x
       → (y : Found Moves) → readMoves still (x .rest) ≡ got y → (f : Forest) → readNodes read (y .rest) ≡ got f → Has one (chunk MESH p b r) (x .value) (y .value .keys) (y .value .anim) f
   unfolding aMesh each meshBytes boneBytes if
   kind-mesh brushes p b r n h hb x e y ey f ef =
-      by-got (readMesh brushes p b) _ e (λ m em e₁.
+      by-got (readMesh Lenient brushes p b) _ e (λ m em e₁.
       one-kind (mesh m) r n h x e₁ y ey f ef (chunk MESH p b r) (λ v. record {
         meshes = ap₂ _++_ (mesh-copied brushes p b m hb em) (v .meshes) ∙ append-nil _;
         bones = v .bones;
@@ -208,7 +209,7 @@ module _ (one : ℕ → List ℕ → List ℕ) (read : ℕ → List ℕ → Out 
         nodes = v .nodes;
       }))
 
-  kind-read : (brushes vertices : ℕ) (cs : Chunks) (n : ℕ) → Of n cs → (x : Found Kind) → readKind brushes vertices (order NODE head start cs) ≡ got x
+  kind-read : (brushes vertices : ℕ) (cs : Chunks) (n : ℕ) → Of n cs → (x : Found Kind) → readKind Lenient brushes vertices (order NODE head start cs) ≡ got x
       → (y : Found Moves) → readMoves still (x .rest) ≡ got y → (f : Forest) → readNodes read (y .rest) ≡ got f → Has one cs (x .value) (y .value .keys) (y .value .anim) f
   unfolding readKind order onward next if
   kind-read brushes vertices done n h x e y ey f ef = no-kind done done n h x e refl y ey f ef
@@ -241,18 +242,18 @@ own-written one cs d f h =
     (ap₂ _++_ (h .meshes) (ap₂ _++_ (h .bones) (ap₂ _++_ (h .keys) (h .anims)))) (h .nodes)
     ∙ joined (d .words) (meshBytes (d .kind)) (boneBytes (d .kind)) (keysBytes (d .keys)) (animBytes (d .anim)) (nodesBytes f))
 
-pub node-copied : (l brushes : ℕ) (above : Option ℕ) (p : ℕ) (b : List ℕ) (x : Inner) → AllBytes b → readNode l brushes above p b ≡ got x → nodeCopy l p b ≡ nodeBytes (x .self) (x .below)
+pub node-copied : (l brushes : ℕ) (above : Option ℕ) (p : ℕ) (b : List ℕ) (x : Inner) → AllBytes b → readNode Lenient l brushes above p b ≡ got x → nodeCopy l p b ≡ nodeBytes (x .self) (x .below)
 unfolding readNode readBelow inside nodeCopy nodeOf
 node-copied zero brushes above p b x all e = bad-got e
 node-copied (suc l) brushes above p b x all e =
     by-got (named nodeRow (p + 8) b) _ e (λ h eh e₁.
-    by-got (readKind brushes (boneVertices above) (inside NODE p (h .place) (h .left))) _ e₁ (λ k ek e₂.
+    by-got (readKind Lenient brushes (boneVertices above) (inside NODE p (h .place) (h .left))) _ e₁ (λ k ek e₂.
     by-got (readMoves still (k .rest)) _ e₂ (λ m em e₃.
     let d : Data = record { name = h .value .0; words = h .value .1; kind = k .value; keys = m .value .keys; anim = m .value .anim } in
-    by-got (readNodes (readNode l brushes (bonesBelow above d)) (m .rest)) _ e₃ (λ f ef e₄.
+    by-got (readNodes (readNode Lenient l brushes (bonesBelow above d)) (m .rest)) _ e₃ (λ f ef e₄.
     let cs = split (h .place) (h .left) in
     let fine = split-fine tagOf (h .place) (h .left) (named-fine nodeRow (p + 8) b h all eh .bytes) in
-    let has = kind-read (nodeCopy l) (readNode l brushes (bonesBelow above d)) (λ q c y. node-copied l brushes (bonesBelow above d) q c y) p brushes (boneVertices above) cs (length (h .left)) fine k ek m em f ef in
+    let has = kind-read (nodeCopy l) (readNode Lenient l brushes (bonesBelow above d)) (λ q c y. node-copied l brushes (bonesBelow above d) q c y) p brushes (boneVertices above) cs (length (h .left)) fine k ek m em f ef in
     ap (nodeOf (nodeCopy l)) eh
     ∙ own-written (nodeCopy l) cs d f has
     ∙ ap (λ (y : Inner). nodeBytes (y .self) (y .below)) (got-inj e₄)))))

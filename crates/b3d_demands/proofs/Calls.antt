@@ -12,6 +12,8 @@ use Rattle.wire.specs.Bytes.{AllBytes, over}
 use Rattle.layout.specs.Out.{Out, got, bad, check, _>>=_}
 use Rattle.layout.proofs.Lists.{All, all-map, all-zip}
 use Rattle.layout.proofs.Outs.{by-test, bad-got, got-inj}
+use Rattle.b3d_scene.specs.declared.Mode.{Mode}
+use Rattle.b3d_scene.specs.declared.Mode.the-variants.{Lenient}
 use Rattle.b3d_scene.specs.Answers.{eachTable, judge, read, answer, tableAfter, readAnswer, readTable, roomFor, write, written, outputAfter, writeAnswer, writeOutput, copy, clear, clearAnswer, clearOutput}
 use Rattle.b3d_scene.specs.Names.{named, unplaced, nameOff}
 use Rattle.b3d_scene.specs.Parse.{parse}
@@ -49,66 +51,66 @@ module _ (n : ℕ) (size : ℕ → Scene → ℕ) (most : ℕ → ℕ) where
         | inr x ↦ bad-got (sym (x .2))
       ]
 
-judge-bad : (s : List ℕ) (n p : ℕ) → judge s ≡ bad n p → (parse s ≡ bad n p) ⊎ ((t : Scene) × (parse s ≡ got t) × (n ≡ 10) × Lowest (λ k. length (rows k t) ≤ rowLimit) p)
+judge-bad : (mode : Mode) (s : List ℕ) (n p : ℕ) → judge mode s ≡ bad n p → (parse mode s ≡ bad n p) ⊎ ((t : Scene) × (parse mode s ≡ got t) × (n ≡ 10) × Lowest (λ k. length (rows k t) ≤ rowLimit) p)
 unfolding judge
-judge-bad s n p e =
-    elim (bind-bad (parse s) _ n p e) [
+judge-bad mode s n p e =
+    elim (bind-bad (parse mode s) _ n p e) [
       | inl f ↦ inl f
       | inr x ↦ (let h = held-bad 10 (λ k t. length (rows k t)) (λ k. rowLimit) (x .0) n p (x .2) in inr (x .0, x .1, h .0, h .1))
     ]
 
-read-bad : (room : ℕ → ℕ) (s : List ℕ) (n p : ℕ) → read room s ≡ bad n p → (judge s ≡ bad n p) ⊎ ((t : Scene) × (judge s ≡ got t) × (n ≡ 11) × Lowest (λ k. width k * length (rows k t) ≤ room k) p)
+read-bad : (mode : Mode) (room : ℕ → ℕ) (s : List ℕ) (n p : ℕ) → read mode room s ≡ bad n p → (judge mode s ≡ bad n p) ⊎ ((t : Scene) × (judge mode s ≡ got t) × (n ≡ 11) × Lowest (λ k. width k * length (rows k t) ≤ room k) p)
 unfolding read
-read-bad room s n p e =
-    elim (bind-bad (judge s) _ n p e) [
+read-bad mode room s n p e =
+    elim (bind-bad (judge mode s) _ n p e) [
       | inl f ↦ inl f
       | inr x ↦ (let h = held-bad 11 (λ k t. width k * length (rows k t)) room (x .0) n p (x .2) in inr (x .0, x .1, h .0, h .1))
     ]
 
 -- 1 to 10, then 1 to 11
-judge-number : (s : List ℕ) (n p : ℕ) → judge s ≡ bad n p → (1 ≤ n) × (n ≤ 10)
-judge-number s n p e =
-    elim (judge-bad s n p e) [
-      | inl f ↦ (let h = parse-refusal s n p f in (h .0, omega (arith, h .1)))
+judge-number : (mode : Mode) (s : List ℕ) (n p : ℕ) → judge mode s ≡ bad n p → (1 ≤ n) × (n ≤ 10)
+judge-number mode s n p e =
+    elim (judge-bad mode s n p e) [
+      | inl f ↦ (let h = parse-refusal mode s n p f in (h .0, omega (arith, h .1)))
       | inr x ↦ (omega (arith, x .2), omega (arith, x .2))
     ]
 
-read-number : (room : ℕ → ℕ) (s : List ℕ) (n p : ℕ) → read room s ≡ bad n p → (1 ≤ n) × (n ≤ 11)
-read-number room s n p e =
-    elim (read-bad room s n p e) [
-      | inl f ↦ (let h = judge-number s n p f in (h .0, omega (arith, h .1)))
+read-number : (mode : Mode) (room : ℕ → ℕ) (s : List ℕ) (n p : ℕ) → read mode room s ≡ bad n p → (1 ≤ n) × (n ≤ 11)
+read-number mode room s n p e =
+    elim (read-bad mode room s n p e) [
+      | inl f ↦ (let h = judge-number mode s n p f in (h .0, omega (arith, h .1)))
       | inr x ↦ (omega (arith, x .2), omega (arith, x .2))
     ]
 
-judge-ten : (s : List ℕ) (p : ℕ) → judge s ≡ bad 10 p → (t : Scene) × (parse s ≡ got t) × Lowest (λ k. length (rows k t) ≤ rowLimit) p
-judge-ten s p e =
-    elim (judge-bad s 10 p e) [
-      | inl g ↦ absurd (omega (arith, parse-refusal s 10 p g .1))
+judge-ten : (mode : Mode) (s : List ℕ) (p : ℕ) → judge mode s ≡ bad 10 p → (t : Scene) × (parse mode s ≡ got t) × Lowest (λ k. length (rows k t) ≤ rowLimit) p
+judge-ten mode s p e =
+    elim (judge-bad mode s 10 p e) [
+      | inl g ↦ absurd (omega (arith, parse-refusal mode s 10 p g .1))
       | inr x ↦ (x .0, x .1, x .3)
     ]
 
 -- ---- reader
 
-module _ (room : ℕ → ℕ) (s : List ℕ) where
-  reader-ten : (p : ℕ) → read room s ≡ bad 10 p → (t : Scene) × (parse s ≡ got t) × Lowest (λ k. length (rows k t) ≤ rowLimit) p
+module _ (mode : Mode) (room : ℕ → ℕ) (s : List ℕ) where
+  reader-ten : (p : ℕ) → read mode room s ≡ bad 10 p → (t : Scene) × (parse mode s ≡ got t) × Lowest (λ k. length (rows k t) ≤ rowLimit) p
   reader-ten p e =
-      elim (read-bad room s 10 p e) [
-        | inl f ↦ judge-ten s p f
+      elim (read-bad mode room s 10 p e) [
+        | inl f ↦ judge-ten mode s p f
         | inr x ↦ absurd (omega (arith, x .2))
       ]
 
-  reader-eleven : (p : ℕ) → read room s ≡ bad 11 p → (t : Scene) × (judge s ≡ got t) × Lowest (λ k. width k * length (rows k t) ≤ room k) p
+  reader-eleven : (p : ℕ) → read mode room s ≡ bad 11 p → (t : Scene) × (judge mode s ≡ got t) × Lowest (λ k. width k * length (rows k t) ≤ room k) p
   reader-eleven p e =
-      elim (read-bad room s 11 p e) [
-        | inl f ↦ absurd (omega (arith, judge-number s 11 p f .1))
+      elim (read-bad mode room s 11 p e) [
+        | inl f ↦ absurd (omega (arith, judge-number mode s 11 p f .1))
         | inr x ↦ (x .0, x .1, x .3)
       ]
 
-  pub reader-says : ReaderSays room s (readAnswer room s)
+  pub reader-says : ReaderSays mode room s (readAnswer mode room s)
   unfolding readAnswer answer readTable tableAfter
-  reader-says = by (read room s) refl
+  reader-says = by (read mode room s) refl
     where
-      by : (o : Out Scene) → read room s ≡ o → ReaderSays room s (answer o)
+      by : (o : Out Scene) → read mode room s ≡ o → ReaderSays mode room s (answer o)
       by (got t) e = record {
         accepted = λ z. (t, e);
         zero = λ u f. refl;
@@ -118,9 +120,9 @@ module _ (room : ℕ → ℕ) (s : List ℕ) where
         eleven = λ z. absurd (omega arith);
       }
       by (bad n p) e = record {
-        accepted = λ z. absurd (omega (arith, read-number room s n p e .0));
+        accepted = λ z. absurd (omega (arith, read-number mode room s n p e .0));
         zero = λ u f. bad-got (sym e ∙ f);
-        most = read-number room s n p e .1;
+        most = read-number mode room s n p e .1;
         untouched = λ d k xs. rw e;
         ten = λ z. reader-ten p (e ∙ ap (λ (i : ℕ). bad i p) z);
         eleven = λ z. reader-eleven p (e ∙ ap (λ (i : ℕ). bad i p) z);
@@ -158,9 +160,9 @@ room-no room b h = rw (lt-leb (length b) room h)
 
 -- ---- what the reader fills of an accepted file
 
-module _ (xs : ℕ → List ℕ) (s : List ℕ) (bytes : AllBytes s) (t : Scene) (e : read (λ k. length (xs k)) s ≡ got t) where
+module _ (mode : Mode) (xs : ℕ → List ℕ) (s : List ℕ) (bytes : AllBytes s) (t : Scene) (e : read mode (λ k. length (xs k)) s ≡ got t) where
   abbrev F : Lent
-  F = filled xs s
+  F = filled mode xs s
 
   filled-version : t .version ≡ F .version
   unfolding filled readAnswer answer
@@ -178,15 +180,15 @@ module _ (xs : ℕ → List ℕ) (s : List ℕ) (bytes : AllBytes s) (t : Scene)
   unfolding filled readTable tableAfter over table
   filled-words k = rw e
 
-  accepted : judge s ≡ got t
-  accepted = read-got (λ k. length (xs k)) s t e .0
+  accepted : judge mode s ≡ got t
+  accepted = read-got mode (λ k. length (xs k)) s t e .0
 
   filled-rows : All (λ k. lentRows F k ≡ rows k t) tables
   unfolding lentRows
   filled-rows =
       all-zip (λ k. All (Wide (width k)) (rows k t)) (λ k. F .count k ≡ length (rows k t)) _
       (λ k w c. ap₂ (cut (width k)) c (filled-words k) ∙ cut-words (width k) (rows k t) (drop (length (table k t)) (xs k)) w) tables
-      (rows-wide t (fine s t bytes (judge-got s t accepted .0) .0)) filled-counts
+      (rows-wide t (fine mode s t bytes (judge-got mode s t accepted .0) .0)) filled-counts
 
   filled-lent : All (λ k. width k * F .count k ≤ length (F .words k)) tables
   unfolding table
@@ -196,9 +198,9 @@ module _ (xs : ℕ → List ℕ) (s : List ℕ) (bytes : AllBytes s) (t : Scene)
       let m = length-append (words (rows k t)) (drop (length (words (rows k t))) (xs k)) in
       let z : width k * F .count k ≡ width k * length (rows k t) = ap (λ (i : ℕ). width k * i) c in
       omega arith) tables
-      (table-length t (fine s t bytes (judge-got s t accepted .0) .0)) filled-counts
+      (table-length t (fine mode s t bytes (judge-got mode s t accepted .0) .0)) filled-counts
 
-  filled-has : Has s F s
+  filled-has : Has mode s F s
   filled-has = record {
     scene = t;
     accepted = accepted;
@@ -210,18 +212,18 @@ module _ (xs : ℕ → List ℕ) (s : List ℕ) (bytes : AllBytes s) (t : Scene)
   }
 
   -- of a file that has the tables L
-  module _ (L : Lent) (ns : List ℕ) (h : Has s L ns) where
+  module _ (L : Lent) (ns : List ℕ) (h : Has mode s L ns) where
     same-scene : t ≡ h .scene
     same-scene = got-inj (sym accepted ∙ h .accepted)
 
     back-rows : All (λ k. lentRows F k ≡ rows k (h .scene)) tables
     back-rows = all-map (λ k. lentRows F k ≡ rows k t) _ (λ k r. r ∙ ap (rows k) same-scene) tables filled-rows
 
-    back-zero : (readAnswer (λ k. length (xs k)) s) .number ≡ 0
+    back-zero : (readAnswer mode (λ k. length (xs k)) s) .number ≡ 0
     unfolding readAnswer answer
     back-zero = rw e
 
-    filled-back : ReadBack s L ns xs
+    filled-back : ReadBack mode s L ns xs
     unfolding lentRows
     filled-back = record {
       accepted = back-zero;
@@ -235,16 +237,16 @@ module _ (xs : ℕ → List ℕ) (s : List ℕ) (bytes : AllBytes s) (t : Scene)
     }
 
 -- a file that has the tables reads back as them
-has-back : (b : List ℕ) → AllBytes b → (L : Lent) (ns : List ℕ) → Has b L ns → (xs : ℕ → List ℕ) → All (λ k. width k * L .count k ≤ length (xs k)) tables → ReadBack b L ns xs
-has-back b bytes L ns h xs fits = filled-back xs b bytes (h .scene) (has-read b L ns h (λ k. length (xs k)) fits) L ns h
+has-back : (mode : Mode) (b : List ℕ) → AllBytes b → (L : Lent) (ns : List ℕ) → Has mode b L ns → (xs : ℕ → List ℕ) → All (λ k. width k * L .count k ≤ length (xs k)) tables → ReadBack mode b L ns xs
+has-back mode b bytes L ns h xs fits = filled-back mode xs b bytes (h .scene) (has-read mode b L ns h (λ k. length (xs k)) fits) L ns h
 
 -- ---- writer
 
-module _ (T : Lent) (ns out : List ℕ) where
+module _ (mode : Mode) (T : Lent) (ns out : List ℕ) where
   abbrev WSays : Out (List ℕ) → Type 0
-  WSays o = WriterSays T ns out (written o) (outputAfter o out)
+  WSays o = WriterSays mode T ns out (written o) (outputAfter o out)
 
-  unsound-says : ((s : List ℕ) → AllBytes s → Has s T ns → ⊥) → WSays (bad 12 0)
+  unsound-says : ((s : List ℕ) → AllBytes s → Has mode s T ns → ⊥) → WSays (bad 12 0)
   unfolding written outputAfter
   unsound-says none-has = record {
     numbers = inr (inr refl);
@@ -258,9 +260,9 @@ module _ (T : Lent) (ns out : List ℕ) where
     given-room = λ s b h le. absurd (none-has s b h);
   }
 
-  module _ (b : List ℕ) (bytes : AllBytes b) (h : Has b T ns) (eb : write T ns (length b) ≡ got b) where
-    shortest : (s : List ℕ) → AllBytes s → Has s T ns → length b ≤ length s
-    shortest = demand-2 T ns .least (length b) b eb
+  module _ (b : List ℕ) (bytes : AllBytes b) (h : Has mode b T ns) (eb : write mode T ns (length b) ≡ got b) where
+    shortest : (s : List ℕ) → AllBytes s → Has mode s T ns → length b ≤ length s
+    shortest = demand-2 mode T ns .least (length b) b eb
 
     written-says : length b ≤ length out → WSays (got b)
     unfolding written outputAfter
@@ -271,8 +273,8 @@ module _ (T : Lent) (ns out : List ℕ) where
           leaves = leaves-got b out le;
           twelve = λ z. absurd (omega arith);
           no-file = λ no. absurd (no b bytes h);
-          zero = λ z. (refl, subst AllBytes f bytes, subst (λ (c : List ℕ). Has c T ns) f h);
-          read-back = λ z xs fits. subst (λ (c : List ℕ). ReadBack c T ns xs) f (has-back b bytes T ns h xs fits);
+          zero = λ z. (refl, subst AllBytes f bytes, subst (λ (c : List ℕ). Has mode c T ns) f h);
+          read-back = λ z xs fits. subst (λ (c : List ℕ). ReadBack mode c T ns xs) f (has-back mode b bytes T ns h xs fits);
           eleven = λ z. absurd (omega arith);
           least = λ s c k. (shortest s c k, omega arith);
           given-room = λ s c k l. refl;
@@ -293,17 +295,17 @@ module _ (T : Lent) (ns out : List ℕ) where
     }
 
     -- by the room
-    either-says : ((r : ℕ) → write T ns r ≡ roomFor r b) → WSays (write T ns (length out))
+    either-says : ((r : ℕ) → write mode T ns r ≡ roomFor r b) → WSays (write mode T ns (length out))
     either-says is =
         by-test (leb (length b) (length out))
         (λ t. let le = leb→le (length b) (length out) t in subst WSays (sym (is (length out) ∙ room-yes (length out) b le)) (written-says le))
         (λ t. let lt = nleb→lt (length b) (length out) t in subst WSays (sym (is (length out) ∙ room-no (length out) b lt)) (short-says lt))
 
-  pub writer-says : WriterSays T ns out (writeAnswer T ns out) (writeOutput T ns out)
+  pub writer-says : WriterSays mode T ns out (writeAnswer mode T ns out) (writeOutput mode T ns out)
   unfolding writeAnswer writeOutput
   writer-says =
-      elim (verdict T ns (length out)) [
-        | inl e ↦ subst WSays (sym e) (unsound-says (λ s b h. demand-2 T ns .unsound (length out) e s b h))
+      elim (verdict mode T ns (length out)) [
+        | inl e ↦ subst WSays (sym e) (unsound-says (λ s b h. demand-2 mode T ns .unsound (length out) e s b h))
         | inr x ↦ either-says (x .0) (x .1) (x .2) (x .3 (length (x .0)) ∙ room-yes (length (x .0)) (x .0) (omega arith)) (x .3)
       ]
 
@@ -314,28 +316,28 @@ module _ (s : List ℕ) (bytes : AllBytes s) (out : List ℕ) where
   CSays o = ClearerSays s out (written o) (outputAfter o out)
 
   module _ (o : Out (List ℕ)) (e : clear s (length out) ≡ o) where
-    cleared-again : (t : Scene) → judge s ≡ got t → (out′ : List ℕ) → length out ≡ length out′ → clear (copy t) (length out′) ≡ o
+    cleared-again : (t : Scene) → judge Lenient s ≡ got t → (out′ : List ℕ) → length out ≡ length out′ → clear (copy t) (length out′) ≡ o
     cleared-again t et out′ l = demand-3 s bytes .again t et (length out′) ∙ ap (clear s) (sym l) ∙ e
 
-    answer-again : (t : Scene) → judge s ≡ got t → (out′ : List ℕ) → length out ≡ length out′ → clearAnswer (copy t) out′ ≡ written o
+    answer-again : (t : Scene) → judge Lenient s ≡ got t → (out′ : List ℕ) → length out ≡ length out′ → clearAnswer (copy t) out′ ≡ written o
     unfolding clearAnswer
     answer-again t et out′ l = ap written (cleared-again t et out′ l)
 
-    output-again : (t : Scene) → judge s ≡ got t → (out′ : List ℕ) → length out ≡ length out′ → clearOutput (copy t) out′ ≡ outputAfter o out′
+    output-again : (t : Scene) → judge Lenient s ≡ got t → (out′ : List ℕ) → length out ≡ length out′ → clearOutput (copy t) out′ ≡ outputAfter o out′
     unfolding clearOutput
     output-again t et out′ l = ap (λ (x : Out (List ℕ)). outputAfter x out′) (cleared-again t et out′ l)
 
-  module _ (t : Scene) (et : judge s ≡ got t) where
-    same-length : (u : Scene) → judge s ≡ got u → length (copy t) ≡ length (copy u)
+  module _ (t : Scene) (et : judge Lenient s ≡ got t) where
+    same-length : (u : Scene) → judge Lenient s ≡ got u → length (copy t) ≡ length (copy u)
     same-length u eu = ap (λ (x : Scene). length (copy x)) (got-inj (sym et ∙ eu))
 
     emptied-count : (k : ℕ) → (emptied t) .count k ≡ length (rows k t)
     unfolding emptied
     emptied-count k = refl
 
-    copy-back : (ns : List ℕ) (xs : ℕ → List ℕ) → All (λ k. width k * length (rows k t) ≤ length (xs k)) tables → ReadBack (copy t) (emptied t) ns xs
+    copy-back : (ns : List ℕ) (xs : ℕ → List ℕ) → All (λ k. width k * length (rows k t) ≤ length (xs k)) tables → ReadBack Lenient (copy t) (emptied t) ns xs
     copy-back ns xs fits =
-        has-back (copy t) (demand-3 s bytes .bytes t et) (emptied t) ns (demand-3 s bytes .emptied-has t et ns) xs
+        has-back Lenient (copy t) (demand-3 s bytes .bytes t et) (emptied t) ns (demand-3 s bytes .emptied-has t et ns) xs
         (all-map (λ k. width k * length (rows k t) ≤ length (xs k)) _ (λ k f. subst (λ (n : ℕ). width k * n ≤ length (xs k)) (sym (emptied-count k)) f) tables fits)
 
     copy-says : length (copy t) ≤ length out → CSays (got (copy t))
@@ -347,8 +349,8 @@ module _ (s : List ℕ) (bytes : AllBytes s) (out : List ℕ) where
           leaves = leaves-got (copy t) out le;
           zero = λ z. (refl, (t, et, over-front (copy t) out));
           read-back = λ u eu z ns xs fits.
-              subst (λ (c : List ℕ). ReadBack c (emptied u) ns xs) (sym (over-front (copy t) out))
-              (subst (λ (x : Scene). All (λ k. width k * length (rows k x) ≤ length (xs k)) tables → ReadBack (copy t) (emptied x) ns xs) (got-inj (sym et ∙ eu)) (copy-back ns xs) fits);
+              subst (λ (c : List ℕ). ReadBack Lenient c (emptied u) ns xs) (sym (over-front (copy t) out))
+              (subst (λ (x : Scene). All (λ k. width k * length (rows k x) ≤ length (xs k)) tables → ReadBack Lenient (copy t) (emptied x) ns xs) (got-inj (sym et ∙ eu)) (copy-back ns xs) fits);
           eleven = λ z. absurd (omega arith);
           short = λ u eu lt. absurd (omega (arith, same-length u eu));
           enough = λ u eu l. refl;
@@ -376,10 +378,10 @@ module _ (s : List ℕ) (bytes : AllBytes s) (out : List ℕ) where
           again-bytes = λ u eu out′ l z. absurd (omega arith);
         }
 
-  refused-says : (n p : ℕ) → judge s ≡ bad n p → CSays (bad n p)
+  refused-says : (n p : ℕ) → judge Lenient s ≡ bad n p → CSays (bad n p)
   unfolding written outputAfter
   refused-says n p eb =
-      let h = judge-number s n p eb in
+      let h = judge-number Lenient s n p eb in
       record {
         most = omega (arith, h .1);
         leaves = leaves-bad n p out (h .0);
@@ -389,7 +391,7 @@ module _ (s : List ℕ) (bytes : AllBytes s) (out : List ℕ) where
         short = λ u eu l. bad-got (sym eb ∙ eu);
         enough = λ u eu l. bad-got (sym eb ∙ eu);
         first = λ m q em. let x : n ≡ m = bad-number (sym eb ∙ em) in let y : p ≡ q = bad-place (sym eb ∙ em) in ap₂ (λ (i j : ℕ). record { number = i; place = j; size = 0 }) x y;
-        ten = λ z. judge-ten s p (eb ∙ ap (λ (i : ℕ). bad i p) z);
+        ten = λ z. judge-ten Lenient s p (eb ∙ ap (λ (i : ℕ). bad i p) z);
         again = λ u eu. bad-got (sym eb ∙ eu);
         again-bytes = λ u eu. bad-got (sym eb ∙ eu);
       }
@@ -402,9 +404,9 @@ module _ (s : List ℕ) (bytes : AllBytes s) (out : List ℕ) where
 
   pub clearer-says : ClearerSays s out (clearAnswer s out) (clearOutput s out)
   unfolding clearAnswer clearOutput
-  clearer-says = by (judge s) refl
+  clearer-says = by (judge Lenient s) refl
     where
-      by : (o : Out Scene) → judge s ≡ o → ClearerSays s out (written (clear s (length out))) (outputAfter (clear s (length out)) out)
+      by : (o : Out Scene) → judge Lenient s ≡ o → ClearerSays s out (written (clear s (length out))) (outputAfter (clear s (length out)) out)
       by (got t) e =
           by-test (leb (length (copy t)) (length out))
           (λ h. let le = leb→le (length (copy t)) (length out) h in subst CSays (sym (demand-3 s bytes .enough t e (length out) le)) (copy-says t e le))
@@ -453,7 +455,7 @@ is-alike s v a = record {
 }
 
 -- what is left in the output is the copy
-copy-in : (s : List ℕ) → AllBytes s → (out : List ℕ) → (clearAnswer s out) .number ≡ 0 → (t : Scene) → judge s ≡ got t → copyIn s out ≡ copy t
+copy-in : (s : List ℕ) → AllBytes s → (out : List ℕ) → (clearAnswer s out) .number ≡ 0 → (t : Scene) → judge Lenient s ≡ got t → copyIn s out ≡ copy t
 copy-in s b out z t e = let c = clearer-says s b out .zero z .1 in c .2 ∙ ap copy (got-inj (sym (c .1) ∙ e))
 
 module _ (s v : List ℕ) (bs : AllBytes s) (bv : AllBytes v) (out out′ : List ℕ) where
@@ -472,9 +474,9 @@ module _ (s v : List ℕ) (bs : AllBytes s) (bv : AllBytes v) (out out′ : List
 
 -- ---- read, then written
 
-module _ (xs : ℕ → List ℕ) (s : List ℕ) (bytes : AllBytes s) (t : Scene) (e : read (λ k. length (xs k)) s ≡ got t) (out : List ℕ) where
-  rewrite-zero : length s ≤ length out → (writeAnswer (filled xs s) s out) .number ≡ 0
-  rewrite-zero = writer-says (filled xs s) s out .given-room s bytes (filled-has xs s bytes t e)
+module _ (mode : Mode) (xs : ℕ → List ℕ) (s : List ℕ) (bytes : AllBytes s) (t : Scene) (e : read mode (λ k. length (xs k)) s ≡ got t) (out : List ℕ) where
+  rewrite-zero : length s ≤ length out → (writeAnswer mode (filled mode xs s) s out) .number ≡ 0
+  rewrite-zero = writer-says mode (filled mode xs s) s out .given-room s bytes (filled-has mode xs s bytes t e)
 
-  pub rewritten : Rewritten xs s out
-  rewritten = record { has = filled-has xs s bytes t e; written = rewrite-zero; smaller = writer-says (filled xs s) s out .least s bytes (filled-has xs s bytes t e) .0 }
+  pub rewritten : Rewritten mode xs s out
+  rewritten = record { has = filled-has mode xs s bytes t e; written = rewrite-zero; smaller = writer-says mode (filled mode xs s) s out .least s bytes (filled-has mode xs s bytes t e) .0 }

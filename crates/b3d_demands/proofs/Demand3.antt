@@ -12,6 +12,7 @@ use Rattle.wire.specs.Test.{if}
 use Rattle.layout.specs.Out.{got, bad, check}
 use Rattle.layout.proofs.Lists.{All, all-map, all-zip}
 use Rattle.layout.proofs.Outs.{got-inj}
+use Rattle.b3d_scene.specs.declared.Mode.the-variants.{Lenient}
 use Rattle.b3d_scene.specs.Answers.{judge, read, roomFor, write, copy, clear}
 use Rattle.b3d_scene.specs.Encode.{encode}
 use Rattle.b3d_scene.specs.Names.{rename, cleared, bare, named, unplaced, unnamed, nameOff}
@@ -19,7 +20,7 @@ use Rattle.b3d_scene.specs.Rebuild.{Lent, cut, lentRows, names}
 use Rattle.b3d_scene.specs.Rules.{rowLimit}
 use Rattle.b3d_scene.specs.Scene.{Scene}
 use Rattle.b3d_scene.specs.Tables.{width, rows, words, tables}
-use Rattle.b3d_scene.proofs.AnswerLaws.{judge-got, judge-yes, judge-first, read-yes}
+use Rattle.b3d_scene.proofs.AnswerLaws.{judge-got, judge-yes, clear-first, read-yes}
 use Rattle.b3d_scene.proofs.Files.NameLaws.{Copied, cleared-fits, bare-cleared}
 use Rattle.b3d_scene.proofs.Files.PlaceLaws.{parse-names}
 use Rattle.b3d_scene.proofs.Join.{cells-copy, bare-version, bare-slots, stand, all-in}
@@ -35,7 +36,7 @@ use Rattle.b3d_demands.proofs.Having.{named-length, placed, placed-bare
 use Rattle.b3d_demands.proofs.Names.{same-names}
 use Rattle.b3d_demands.proofs.Demand2.{has-written}
 
-module _ (s : List ℕ) (t : Scene) (e : judge s ≡ got t) where
+module _ (s : List ℕ) (t : Scene) (e : judge Lenient s ≡ got t) where
   clear-is : (room : ℕ) → clear s room ≡ roomFor room (copy t)
   unfolding clear
   clear-is room = rw e
@@ -51,7 +52,7 @@ module _ (s : List ℕ) (t : Scene) (e : judge s ≡ got t) where
   -- the copy, read
   module _ (b : AllBytes s) where
     copy-read : Copied t
-    copy-read = copied s t b (judge-got s t e .0)
+    copy-read = copied s t b (judge-got Lenient s t e .0)
 
     copy-cells : All (λ k. named unplaced k (rows k (copy-read .scene)) ≡ named unnamed k (rows k t)) tables
     copy-cells =
@@ -63,15 +64,15 @@ module _ (s : List ℕ) (t : Scene) (e : judge s ≡ got t) where
         all-map (λ k. named unplaced k (rows k (copy-read .scene)) ≡ named unnamed k (rows k t)) _
         (λ k a. sym (named-length unplaced k (rows k (copy-read .scene))) ∙ ap length a ∙ named-length unnamed k (rows k t)) tables copy-cells
 
-    copy-accepted : judge (copy t) ≡ got (copy-read .scene)
+    copy-accepted : judge Lenient (copy t) ≡ got (copy-read .scene)
     unfolding copy
     copy-accepted =
-        judge-yes (encode (cleared t)) (copy-read .scene) (copy-read .accepted)
-        (all-zip (λ k. length (rows k (copy-read .scene)) ≡ length (rows k t)) (λ k. length (rows k t) ≤ rowLimit) _ (λ k a few. omega (arith, a, few)) tables copy-many (judge-got s t e .1))
+        judge-yes Lenient (encode (cleared t)) (copy-read .scene) (copy-read .accepted)
+        (all-zip (λ k. length (rows k (copy-read .scene)) ≡ length (rows k t)) (λ k. length (rows k t) ≤ rowLimit) _ (λ k a few. omega (arith, a, few)) tables copy-many (judge-got Lenient s t e .1))
 
-    copy-fits : (rooms : ℕ → ℕ) → All (λ k. width k * length (rows k t) ≤ rooms k) tables → read rooms (copy t) ≡ got (copy-read .scene)
+    copy-fits : (rooms : ℕ → ℕ) → All (λ k. width k * length (rows k t) ≤ rooms k) tables → read Lenient rooms (copy t) ≡ got (copy-read .scene)
     copy-fits rooms fits =
-        read-yes rooms (copy t) (copy-read .scene) copy-accepted
+        read-yes Lenient rooms (copy t) (copy-read .scene) copy-accepted
         (all-zip (λ k. length (rows k (copy-read .scene)) ≡ length (rows k t)) (λ k. width k * length (rows k t) ≤ rooms k) _ (λ k a r. subst (λ (n : ℕ). width k * n ≤ rooms k) (sym a) r) tables copy-many fits)
 
     -- the scene read from the copy is that of the file but for names
@@ -88,25 +89,25 @@ module _ (s : List ℕ) (t : Scene) (e : judge s ≡ got t) where
 
     copy-bytes : AllBytes (copy t)
     unfolding copy
-    copy-bytes = file-bytes (cleared t) (cleared-fits t (fine s t b (judge-got s t e .0) .0))
+    copy-bytes = file-bytes (cleared t) (cleared-fits t (fine Lenient s t b (judge-got Lenient s t e .0) .0))
 
     copy-again : copy (copy-read .scene) ≡ copy t
     unfolding copy
     copy-again = copy-read .again
 
     -- what the writer makes of tables that the copy has
-    module _ (L : Lent) (ns : List ℕ) (h : Has (copy t) L ns) where
+    module _ (L : Lent) (ns : List ℕ) (h : Has Lenient (copy t) L ns) where
       same-scene : h .scene ≡ copy-read .scene
       same-scene = got-inj (sym (h .accepted) ∙ copy-accepted)
 
-      written-copy : encode (placed (copy t) copy-bytes L ns h) ≡ copy t
+      written-copy : encode (placed Lenient (copy t) copy-bytes L ns h) ≡ copy t
       unfolding copy
       written-copy =
-          let u = placed (copy t) copy-bytes L ns h in
-          sym (file-bare u) ∙ ap encode (placed-bare (copy t) copy-bytes L ns h ∙ ap bare same-scene ∙ copy-read .is-cleared)
+          let u = placed Lenient (copy t) copy-bytes L ns h in
+          sym (file-bare u) ∙ ap encode (placed-bare Lenient (copy t) copy-bytes L ns h ∙ ap bare same-scene ∙ copy-read .is-cleared)
 
-      copy-written : (room : ℕ) → write L ns room ≡ clear s room
-      copy-written room = has-written L ns (copy t) copy-bytes h room ∙ ap (roomFor room) written-copy ∙ sym (clear-is room)
+      copy-written : (room : ℕ) → write Lenient L ns room ≡ clear s room
+      copy-written room = has-written Lenient L ns (copy t) copy-bytes h room ∙ ap (roomFor room) written-copy ∙ sym (clear-is room)
 
     -- the file's tables with each name empty: the copy has them
     emptied-rows : All (λ k. lentRows (emptied t) k ≡ rows k (cleared t)) tables
@@ -115,7 +116,7 @@ module _ (s : List ℕ) (t : Scene) (e : judge s ≡ got t) where
         all-zip (λ k. All (Wide (width k)) (rows k (cleared t))) (λ k. rows k (cleared t) ≡ named unnamed k (rows k t)) _
         (λ k w c. ap₂ (λ (n : ℕ) (l : List (List ℕ)). cut (width k) n (words l)) (sym (named-length unnamed k (rows k t)) ∙ ap length (sym c)) (sym c)
         ∙ ap (cut (width k) (length (rows k (cleared t)))) (sym (append-nil (words (rows k (cleared t))))) ∙ cut-words (width k) (rows k (cleared t)) [] w) tables
-        (rows-wide (cleared t) (cleared-fits t (fine s t b (judge-got s t e .0) .0))) (cleared-rows t)
+        (rows-wide (cleared t) (cleared-fits t (fine Lenient s t b (judge-got Lenient s t e .0) .0))) (cleared-rows t)
 
     emptied-lent : All (λ k. width k * (emptied t) .count k ≤ length ((emptied t) .words k)) tables
     unfolding emptied
@@ -125,7 +126,7 @@ module _ (s : List ℕ) (t : Scene) (e : judge s ≡ got t) where
         let n : length (rows k (cleared t)) ≡ length (rows k t) = ap length c ∙ named-length unnamed k (rows k t) in
         let z : length (words (named unnamed k (rows k t))) ≡ width k * length (rows k t) = ap (λ (x : List (List ℕ)). length (words x)) (sym c) ∙ l ∙ ap (λ (i : ℕ). width k * i) n in
         omega arith) tables
-        (rows-wide (cleared t) (cleared-fits t (fine s t b (judge-got s t e .0) .0))) (cleared-rows t)
+        (rows-wide (cleared t) (cleared-fits t (fine Lenient s t b (judge-got Lenient s t e .0) .0))) (cleared-rows t)
 
     own-version : t .version ≡ (emptied t) .version
     unfolding emptied
@@ -135,10 +136,10 @@ module _ (s : List ℕ) (t : Scene) (e : judge s ≡ got t) where
     unfolding emptied
     own-slots = refl
 
-    emptied-has : (ns : List ℕ) → Has (copy t) (emptied t) ns
+    emptied-has : (ns : List ℕ) → Has Lenient (copy t) (emptied t) ns
     emptied-has ns =
         let u = copy-read .scene in
-        let stands = all-map (NameIn (copy t)) (Stands (copy t)) (stand (copy t)) (names u) (all-in (copy t) u (parse-names (copy t) u (judge-got (copy t) u copy-accepted .0))) in
+        let stands = all-map (NameIn (copy t)) (Stands (copy t)) (stand (copy t)) (names u) (all-in (copy t) u (parse-names (copy t) u (judge-got Lenient (copy t) u copy-accepted .0))) in
         record {
           scene = u;
           accepted = copy-accepted;
@@ -154,7 +155,7 @@ module _ (s : List ℕ) (t : Scene) (e : judge s ≡ got t) where
 -- files alike have one copy
 pub same-copy : (s v : List ℕ) → AllBytes s → AllBytes v → (a : Alike s v) → copy (a .one) ≡ copy (a .other)
 unfolding copy
-same-copy s v b c a = cells-copy s v (a .one) (a .other) b c (judge-got s (a .one) (a .one-is) .0) (judge-got v (a .other) (a .other-is) .0) (a .version) (a .slots) (a .cells)
+same-copy s v b c a = cells-copy s v (a .one) (a .other) b c (judge-got Lenient s (a .one) (a .one-is) .0) (judge-got Lenient v (a .other) (a .other-is) .0) (a .version) (a .slots) (a .cells)
 
 -- ---- what two accepted files have that are the same without names
 
@@ -178,7 +179,7 @@ the-slots : (t u : Scene) → cleared t ≡ cleared u → t .slots ≡ u .slots
 unfolding cleared rename
 the-slots t u e = ap (λ (x : Scene). x .slots) e
 
-module _ (s v : List ℕ) (t u : Scene) (et : judge s ≡ got t) (eu : judge v ≡ got u) where
+module _ (s v : List ℕ) (t u : Scene) (et : judge Lenient s ≡ got t) (eu : judge Lenient v ≡ got u) where
   pub cleared-alike : cleared t ≡ cleared u → Alike s v
   cleared-alike e = record {
     one = t;
@@ -199,7 +200,7 @@ demand-3 s b = record {
   as-written = λ t e L ns h room. copy-written s t e b L ns h room;
   emptied-has = λ t e ns. emptied-has s t e b ns;
   emptied-written = λ t e ns room. copy-written s t e b (emptied t) ns (emptied-has s t e b ns) room;
-  first = λ n p e room. judge-first s n p e (λ k. 0) room .1;
+  first = λ n p e room. clear-first s n p e room;
   scene = λ t e. copy-read s t e b .scene;
   accepted = λ t e. copy-accepted s t e b;
   version = λ t e. copy-version s t e b;

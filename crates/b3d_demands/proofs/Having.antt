@@ -2,12 +2,13 @@
 use mathlib.Core.Path.{_≡_, refl, ap, ap₂, sym, _∙_, subst}
 use Prim.Native.Nat.{ℕ, zero, suc, _+_, _*_, _≤_, _<_}
 use native.Mathlib.Omega.{arith}
-use mathlib.Core.Bool.{Bool, true, false}
+use mathlib.Core.Bool.{Bool, true, false, _&&_}
 use mathlib.Core.Option.{none, some}
 use mathlib.Core.List.{List, [], _∷_, _++_, map, append-nil}
 use lib.ListN.{length, drop, getD, length-drop, length-map}
 use lib.Seq.{length-take-le}
-use lib.Dec.{leb}
+use lib.Dec.{T as True, leb}
+use mir.Facts.{yes-and}
 use Rattle.wire.specs.Bytes.{AllBytes}
 use Rattle.wire.specs.Test.{if}
 use Rattle.layout.specs.Fit.{all}
@@ -17,6 +18,9 @@ use Rattle.layout.proofs.Lists.{All, all-map, all-zip, all-append, all-left, al
 use Rattle.layout.proofs.Outs.{if-yes}
 use Rattle.layout.proofs.Testing.{all-is}
 use Rattle.b3d_scene.specs.Names.{renameTexture, renameBrush, renameForest, rename, bareName, bare, named, unplaced}
+use Rattle.b3d_scene.specs.Colours.{passes}
+use Rattle.b3d_scene.specs.declared.Mode.{Mode}
+use Rattle.b3d_scene.specs.declared.Mode.the-variants.{Lenient}
 use Rattle.b3d_scene.specs.Parse.{parse}
 use Rattle.b3d_scene.specs.Rebuild.{Lent, cut, lentRows, roomy, together, nodeNames, names, sound, rebuild}
 use Rattle.b3d_scene.specs.Rules.{rowLimit, levels}
@@ -26,6 +30,7 @@ use Rattle.b3d_scene.proofs.AnswerLaws.{judge-got}
 use Rattle.b3d_scene.proofs.Files.FileLaws.{parse-fine}
 use Rattle.b3d_scene.proofs.Files.PlaceLaws.{parse-names}
 use Rattle.b3d_scene.proofs.Fitting.{FitTexture, FitBrush, FitSlots, FitNodes, OneRoot, Fit}
+use Rattle.b3d_scene.proofs.Modes.{mode-got, passes-same}
 use Rattle.b3d_scene.proofs.Join.{stand, all-in}
 use Rattle.layout.proofs.PlaceLaws.{NameIn}
 use Rattle.b3d_scene.proofs.Rows.RebuildLaws.{together-back, roomy-is, sound-is}
@@ -118,12 +123,16 @@ same-row : {A : Type 0} (f g : A → List ℕ) → ((x : A) → f x ≡ g x) →
 same-row f g e [] = refl
 same-row f g e (x ∷ xs) = ap₂ _∷_ (e x) (same-row f g e xs)
 
-module _ (s : List ℕ) (bytes : AllBytes s) (T : Lent) (ns : List ℕ) (h : Has s T ns) where
+module _ (mode : Mode) (s : List ℕ) (bytes : AllBytes s) (T : Lent) (ns : List ℕ) (h : Has mode s T ns) where
   abbrev t : Scene
   t = h .scene
 
-  parsed : parse s ≡ got t
-  parsed = judge-got s t (h .accepted) .0
+  parsed : parse Lenient s ≡ got t
+  parsed = mode-got mode s t (judge-got mode s t (h .accepted) .0) .0
+
+  -- the mode takes the colours of the lent tables
+  lent-passes : True (passes mode (lentRows T))
+  lent-passes = subst True (passes-same mode (λ k. rows k t) (lentRows T) (h .cells)) (mode-got mode s t (judge-got mode s t (h .accepted) .0) .1)
 
   fit : Fit t
   fit = parse-fine s t bytes parsed .0
@@ -227,13 +236,14 @@ module _ (s : List ℕ) (bytes : AllBytes s) (T : Lent) (ns : List ℕ) (h : Has
   unfolding lentRows
   counted =
       all-zip (λ k. length (rows k t) ≤ rowLimit) (λ k. (named unplaced k (rows k t) ≡ named unplaced k (lentRows T k)) × (width k * T .count k ≤ length (T .words k))) _
-      (λ k few c. let e = same-many k (rows k t) (lentRows T k) (c .0) ∙ cut-length (width k) (T .count k) (T .words k) in (omega arith, c .1)) tables (judge-got s t (h .accepted) .1)
+      (λ k few c. let e = same-many k (rows k t) (lentRows T k) (c .0) ∙ cut-length (width k) (T .count k) (T .words k) in (omega arith, c .1)) tables (judge-got mode s t (h .accepted) .1)
       (all-zip (λ k. named unplaced k (rows k t) ≡ named unplaced k (lentRows T k)) (λ k. width k * T .count k ≤ length (T .words k)) _ (λ k a b. (a, b)) tables (h .cells) (h .lent))
 
   -- the tables are sound, and that is their scene
-  pub has-rebuild : rebuild T ns ≡ some placed
+  pub has-rebuild : rebuild mode T ns ≡ some placed
   unfolding rebuild placed
   has-rebuild =
       let et : together ns T ≡ placed = together-back ns T placed placed-fits (sym (h .version)) (sym (h .slots)) placed-stands placed-rows in
       let ok = sound-is ns T placed .holds (placed-fits, (placed-stands, all-map (λ k. lentRows T k ≡ rows k placed) _ (λ k e. sym e) tables placed-rows)) in
-      if-yes (all (roomy T) tables) _ none (all-is (roomy-is T) tables .holds counted) ∙ ap (λ (x : Scene). if (sound ns T x) (some x) none) et ∙ if-yes (sound ns T placed) (some placed) none ok
+      if-yes (all (roomy T) tables) _ none (all-is (roomy-is T) tables .holds counted) ∙ ap (λ (x : Scene). if (passes mode (lentRows T) && sound ns T x) (some x) none) et
+      ∙ if-yes (passes mode (lentRows T) && sound ns T placed) (some placed) none (yes-and (passes mode (lentRows T)) (sound ns T placed) lent-passes ok)

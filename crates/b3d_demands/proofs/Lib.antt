@@ -13,3 +13,4 @@ pub mod Demand3
 pub mod Calls
 pub mod Privacy
 pub mod Worked
+pub mod ModesHold

@@ -17,14 +17,16 @@ use Rattle.layout.proofs.Fitting.{FitText}
 use Rattle.layout.proofs.Lists.{All, all-map, all-zip, all-append, all-of-map}
 use Rattle.layout.proofs.Outs.{by-test, bad-got}
 use Rattle.layout.proofs.PlaceLaws.{NameIn}
+use Rattle.b3d_scene.specs.declared.Mode.{Mode}
 use Rattle.b3d_scene.specs.declared.Counts.{Counts}
 use Rattle.b3d_scene.specs.Answers.{eachTable}
 use Rattle.b3d_scene.specs.Parse.{parse}
 use Rattle.b3d_scene.specs.Rules.{bonesBelow, levels}
 use Rattle.b3d_scene.specs.Scene.{Texture, Brush, Forest, leaf, node, Scene}
 use Rattle.b3d_scene.specs.Tables.{start, nameCells, textureRow, brushRow, nodeRow, ownRows, withNode, withForest, forestRows, rows, tables, nodeTables}
-use Rattle.b3d_scene.proofs.Files.FileLaws.{parse-fine}
-use Rattle.b3d_scene.proofs.Files.PlaceLaws.{NodeNames, parse-names}
+use Rattle.b3d_scene.proofs.Laws.{fine}
+use Rattle.b3d_scene.proofs.Files.PlaceLaws.{NodeNames}
+use Rattle.b3d_scene.proofs.Laws.{names-stand}
 use Rattle.b3d_scene.proofs.Fitting.{FitTexture, FitBrush, FitNodes}
 use Rattle.b3d_demands.specs.Having.{NameAt}
 use Rattle.b3d_demands.specs.Demands.{Lowest}
@@ -134,11 +136,11 @@ nodes-at s (node d ch sib) (suc l) b above p n h k = (
       (nodes-at s sib (suc l) b above p (withForest ch (withNode d n)) (h .2) (k .2)),
 )
 
-pub names-at : (s : List ℕ) (t : Scene) → AllBytes s → parse s ≡ got t → All (λ k. All (NameAt s) (rows k t)) (1 ∷ 2 ∷ 3 ∷ [])
+pub names-at : (mode : Mode) (s : List ℕ) (t : Scene) → AllBytes s → parse mode s ≡ got t → All (λ k. All (NameAt s) (rows k t)) (1 ∷ 2 ∷ 3 ∷ [])
 unfolding rows if textureRow brushRow
-names-at s t b e =
-    let f = parse-fine s t b e .0 in
-    let h = parse-names s t e in (
+names-at mode s t b e =
+    let f = fine mode s t b e .0 in
+    let h = names-stand mode s t e in (
       all-of-map (NameAt s) textureRow (t .textures) (all-zip (λ (x : Texture). NameIn s (x .name)) FitTexture _ (λ x i j. name-at s (x .name) (x .words) i (j .0)) (t .textures) (h .textures) (f .textures)),
       (
         all-of-map (NameAt s) brushRow (t .brushes) (all-zip (λ (x : Brush). NameIn s (x .name)) (FitBrush (t .slots) (length (t .textures))) _ (λ x i j. name-at s (x .name) _ i (j .0)) (t .brushes) (h .brushes) (f .brushes)),

@@ -15,6 +15,7 @@ use Rattle.layout.proofs.Lists.{All, all-zip}
 use Rattle.layout.proofs.Outs.{by-got, by-check, check-yes, bad-got, bind-bind}
 use Rattle.layout.proofs.PartLaws.{row-back}
 use Rattle.layout.proofs.StepLaws.{row-shrinks}
+use Rattle.b3d_scene.specs.declared.Mode.the-variants.{Lenient}
 use Rattle.b3d_scene.specs.Answers.{judge}
 use Rattle.b3d_scene.specs.Names.{named, unnamed, renameBrush, rename, noName, cleared}
 use Rattle.b3d_scene.specs.Nesting.{inside}
@@ -45,10 +46,10 @@ Laid = ℕ × List Brush
 
 abbrev from-node : ℕ → List Texture → Laid → Chunks → Out Scene
 from-node v ts u cs =
-    readOne NODE leaf (readRoot (length (u .1))) cs >>= λ n. ended (n .rest) (record { version = v; textures = ts; slots = slotsOf (u .0) (u .1); brushes = u .1; nodes = n .value })
+    readOne NODE leaf (readRoot Lenient (length (u .1))) cs >>= λ n. ended (n .rest) (record { version = v; textures = ts; slots = slotsOf (u .0) (u .1); brushes = u .1; nodes = n .value })
 
 abbrev from-brus : ℕ → List Texture → Chunks → Out Scene
-from-brus v ts cs = readOne BRUS (0, []) (readBrushes (length ts)) cs >>= λ u. from-node v ts (u .value) (u .rest)
+from-brus v ts cs = readOne BRUS (0, []) (readBrushes Lenient (length ts)) cs >>= λ u. from-node v ts (u .value) (u .rest)
 
 abbrev from-texs : ℕ → Chunks → Out Scene
 from-texs v cs = readOne TEXS [] readTextures cs >>= λ t. from-brus v (t .value) (t .rest)
@@ -95,10 +96,10 @@ module _ (v : ℕ) where
   at-node over o ts u p b r h = absurd o
 
   at-brus : (i : Phase) → Early i → (ts : List Texture) (u : Laid) (p : ℕ) (b : List ℕ) (r : Chunks) → Sofar i ts u
-      → from i v ts u (chunk BRUS p b r) ≡ (readBrushes (length ts) p b >>= λ z. from-node v ts z r)
+      → from i v ts u (chunk BRUS p b r) ≡ (readBrushes Lenient (length ts) p b >>= λ z. from-node v ts z r)
   unfolding readOne if
-  at-brus fresh o ts u p b r h = rw (h .0) (bind-bind (readBrushes 0 p b) _ _)
-  at-brus textured o ts u p b r h = bind-bind (readBrushes (length ts) p b) _ _
+  at-brus fresh o ts u p b r h = rw (h .0) (bind-bind (readBrushes Lenient 0 p b) _ _)
+  at-brus textured o ts u p b r h = bind-bind (readBrushes Lenient (length ts) p b) _ _
   at-brus brushed o ts u p b r h = absurd o
   at-brus over o ts u p b r h = absurd o
 
@@ -120,10 +121,10 @@ slots-same n m [] (y ∷ k) e h = let z : _≡_ {A = ℕ} 0 1 = cc in absurd (om
 slots-same n m (x ∷ l) [] e h = let z : _≡_ {A = ℕ} 0 1 = cc in absurd (omega arith)
 slots-same n m (x ∷ l) (y ∷ k) e h = e
 
-root-follow : (n : ℕ) (b c : List ℕ) → Without (bodyOf NODE) b c → Short b → (p q : ℕ) → Follows Forests (readRoot n p b) (readRoot n q c)
+root-follow : (n : ℕ) (b c : List ℕ) → Without (bodyOf NODE) b c → Short b → (p q : ℕ) → Follows Forests (readRoot Lenient n p b) (readRoot Lenient n q c)
 unfolding readRoot
 root-follow n b c s hb p q =
-    follow-bind Bodies Forests (readNode levels n none p b) (readNode levels n none q c) _ _ (node-follow levels n none b c s hb p q) (λ x y k. follow-got Forests _ _ (λ i. node (k .0 i) (k .1 i) leaf))
+    follow-bind Bodies Forests (readNode Lenient levels n none p b) (readNode Lenient levels n none q c) _ _ (node-follow levels n none b c s hb p q) (λ x y k. follow-got Forests _ _ (λ i. node (k .0 i) (k .1 i) leaf))
 
 -- what follows the NODE
 ended-follow : {r s : Chunks} → Filed over over r s → (t u : Scene) → Cleared t u → Follows Cleared (ended r t) (ended s u)
@@ -150,9 +151,9 @@ module _ (v : ℕ) (ts us : List Texture) (x y : Laid) (et : Textures ts us) (ex
   node-phase : (p q : ℕ) (b c : List ℕ) (r s : Chunks) → Without (bodyOf NODE) b c → Short b → Filed over over r s → Follows Cleared (from-node v ts x (chunk NODE p b r)) (from-node v us y (chunk NODE q c s))
   unfolding readOne if
   node-phase p q b c r s h hb z =
-      follow-bind Found-Forests Cleared (readRoot (length (x .1)) p b >>= λ a. got (record { value = a; rest = r })) (readRoot (length (y .1)) q c >>= λ a. got (record { value = a; rest = s })) _ _
-      (follow-bind Forests Found-Forests (readRoot (length (x .1)) p b) (readRoot (length (y .1)) q c) _ _
-      (subst (λ (n : ℕ). Follows Forests (readRoot (length (x .1)) p b) (readRoot n q c)) (same-length _ (x .1) (y .1) (ex .1)) (root-follow (length (x .1)) b c h hb p q))
+      follow-bind Found-Forests Cleared (readRoot Lenient (length (x .1)) p b >>= λ a. got (record { value = a; rest = r })) (readRoot Lenient (length (y .1)) q c >>= λ a. got (record { value = a; rest = s })) _ _
+      (follow-bind Forests Found-Forests (readRoot Lenient (length (x .1)) p b) (readRoot Lenient (length (y .1)) q c) _ _
+      (subst (λ (n : ℕ). Follows Forests (readRoot Lenient (length (x .1)) p b) (readRoot Lenient n q c)) (same-length _ (x .1) (y .1) (ex .1)) (root-follow (length (x .1)) b c h hb p q))
       (λ a d k. follow-got Found-Forests _ _ (k, z)))
       (λ n m k. ended-follow (k .1) _ _ (scenes-same (n .value) (m .value) (k .0)))
 
@@ -176,11 +177,11 @@ file-follow (f-no-texs {p = p} z) v ts us x y oi oj si sj et ex =
     file-follow z v [] us (0, []) y tt oj refl sj (subst (λ (l : List Texture). Textures l us) (si .0) et) (subst (λ (l : Laid). Laids l y) (si .1) ex)
 file-follow {i} {j} (f-brus {p = p} {q = q} {b = b} {c = c} {r = r} {s = s} a d h z) v ts us x y oi oj si sj et ex =
     follow-same Cleared (at-brus v i a ts x p b r si) (at-brus v j d us y q c s sj)
-    (follow-bind (λ m n. (m .0 ≡ n .0) × Brushes (m .1) (n .1)) Cleared (readBrushes (length ts) p b) (readBrushes (length us) q c) _ _
-    (subst (λ (n : ℕ). Follows (λ m n. (m .0 ≡ n .0) × Brushes (m .1) (n .1)) (readBrushes (length ts) p b) (readBrushes n q c)) (same-length _ ts us et) (brushes-follow h (length ts) p q))
+    (follow-bind (λ m n. (m .0 ≡ n .0) × Brushes (m .1) (n .1)) Cleared (readBrushes Lenient (length ts) p b) (readBrushes Lenient (length us) q c) _ _
+    (subst (λ (n : ℕ). Follows (λ m n. (m .0 ≡ n .0) × Brushes (m .1) (n .1)) (readBrushes Lenient (length ts) p b) (readBrushes Lenient n q c)) (same-length _ ts us et) (brushes-follow h (length ts) p q))
     (λ m n k. file-follow z v ts us m n tt tt tt tt et (slots-same (m .0) (n .0) (m .1) (n .1) (k .0) (k .1), k .1)))
 file-follow {i} {j} (f-no-brus {p = p} {r = r} n a w z) v ts us x y oi oj si sj et ex = λ t e.
-    by-got (readBrushes (length ts) p (bytes n [])) _ (sym (at-brus v i a ts x p (bytes n []) r si) ∙ e) (λ m em e₁.
+    by-got (readBrushes Lenient (length ts) p (bytes n [])) _ (sym (at-brus v i a ts x p (bytes n []) r si) ∙ e) (λ m em e₁.
     file-follow z v ts us m y tt oj tt sj et (none-laid m x y (brushes-none n (length ts) p m w em) (sofar-none i a ts x si) ex) t e₁)
 file-follow {i} {j} (f-node {p = p} {q = q} {b = b} {c = c} {r = r} {s = s} a d h hb z) v ts us x y oi oj si sj et ex =
     follow-same Cleared (at-node v i oi ts x p b r si) (at-node v j oj us y q c s sj) (node-phase v ts us x y et ex p q b c r s h hb z)
@@ -194,7 +195,7 @@ file-head : {b c : List ℕ} → Without (bodyOf BB3D) b c → (p q : ℕ) → H
 file-head {b} same p q = head-twice (Without (chunksIn BB3D)) (λ z. same) fileHead p q b
 file-head (file {r = r} {q = k} w l z) p q = head-follow (Without (chunksIn BB3D)) fileHead p q w r k l z
 
-body-follow : (b c : List ℕ) → Without (bodyOf BB3D) b c → Short b → (p q : ℕ) → Follows Cleared (readBody p b) (readBody q c)
+body-follow : (b c : List ℕ) → Without (bodyOf BB3D) b c → Short b → (p q : ℕ) → Follows Cleared (readBody Lenient p b) (readBody Lenient q c)
 unfolding readBody inside
 body-follow b c s hb p q =
     follow-then (Beside (λ (w : List ℕ). w) (Without (chunksIn BB3D))) Cleared (row fileHead p b) (row fileHead q c) _ _ (file-head s p q) (λ h k eh i.
@@ -203,7 +204,7 @@ body-follow b c s hb p q =
     (file-follow (in-file (split-rel (i .1) (h .place) (k .place) (omega arith)) 0 0 fresh fresh refl) (number h 0) [] [] (0, []) (0, []) tt tt (refl, refl) (refl, refl) refl (refl, refl)))
 
 -- a BB3D of a size within the limits
-parse-written : (b : List ℕ) → 4 ≤ length b → 8 + length b ≤ mostBytes → (p : ℕ) × (parse (writeChunk BB3D b []) ≡ readBody p b)
+parse-written : (b : List ℕ) → 4 ≤ length b → 8 + length b ≤ mostBytes → (p : ℕ) × (parse Lenient (writeChunk BB3D b []) ≡ readBody Lenient p b)
 unfolding parse
 parse-written b lo hi =
     let n = length-append b [] in
@@ -218,7 +219,7 @@ parse-written b lo hi =
       ),
     )
 
-parse-size : (s : List ℕ) (t : Scene) → parse s ≡ got t → T (fileSize (length s))
+parse-size : (s : List ℕ) (t : Scene) → parse Lenient s ≡ got t → T (fileSize (length s))
 unfolding parse
 parse-size s t e = by-check (fileSize (length s)) 1 0 _ e (λ z e₁. z)
 
@@ -227,7 +228,7 @@ version-stays : {b c : List ℕ} → Without (bodyOf BB3D) b c → 4 ≤ length 
 version-stays same h = h
 version-stays (file {q = q} w l y) h = omega (arith, length-append w q)
 
-parse-follow : (b c : List ℕ) → Without (bodyOf BB3D) b c → Follows Cleared (parse (writeChunk BB3D b [])) (parse (writeChunk BB3D c []))
+parse-follow : (b c : List ℕ) → Without (bodyOf BB3D) b c → Follows Cleared (parse Lenient (writeChunk BB3D b [])) (parse Lenient (writeChunk BB3D c []))
 parse-follow b c x t e =
     let n = parse-size (writeChunk BB3D b []) t e in
     let lo = size-low (length (writeChunk BB3D b [])) n in
@@ -247,13 +248,13 @@ few-rows t u e few =
 pub taken-out : (s v : List ℕ) → FileWithout s v → TakenOut s v
 taken-out s v x = record {
   alike = λ t e.
-      let p = judge-got s t e in
-      let g = parse-follow (x .one) (x .other) (x .body) t (subst (λ (w : List ℕ). parse w ≡ got t) (x .one-is) (p .0)) in
-      cleared-alike s v t (g .value) e (judge-yes v (g .value) (ap parse (x .other-is) ∙ g .is) (few-rows t (g .value) (g .holds) (p .1))) (g .holds);
+      let p = judge-got Lenient s t e in
+      let g = parse-follow (x .one) (x .other) (x .body) t (subst (λ (w : List ℕ). parse Lenient w ≡ got t) (x .one-is) (p .0)) in
+      cleared-alike s v t (g .value) e (judge-yes Lenient v (g .value) (ap (parse Lenient) (x .other-is) ∙ g .is) (few-rows t (g .value) (g .holds) (p .1))) (g .holds);
 }
 
 module _ (s v : List ℕ) where
-  met : (w : List ℕ) → FileWithout s w → FileWithout v w → (t u : Scene) → judge s ≡ got t → judge v ≡ got u → Alike s v
+  met : (w : List ℕ) → FileWithout s w → FileWithout v w → (t u : Scene) → judge Lenient s ≡ got t → judge Lenient v ≡ got u → Alike s v
   met w x y t u et eu =
       let a = taken-out s w x .alike t et in
       let b = taken-out v w y .alike u eu in

@@ -13,6 +13,7 @@ use Rattle.layout.specs.Parts.{Name, Step, words, row, number, named, itemsIn, 
 use Rattle.layout.specs.Rules.{Rule}
 use Rattle.layout.proofs.Outs.{by-got, bad-got, got-inj}
 use Rattle.layout.proofs.StepLaws.{judged-got, Shrinks, row-shrinks, named-shrinks}
+use Rattle.b3d_scene.specs.declared.Mode.the-variants.{Lenient}
 use Rattle.b3d_scene.specs.Names.{renameTexture, renameBrush, renameData, renameForest, noName}
 use Rattle.b3d_scene.specs.Nesting.{inside}
 use Rattle.b3d_scene.specs.Parse.{readOne, readTexture, readTextures, readBrush, readBrushes, Vertices, noVertices, readVertices, readTriangles, readSets, readMesh, readBone, readKeys, filled, readAnim, aMesh, aBone, readKind, Moves as Moving, withKeys, readMoves, Inner, readNodes, readBelow, readNode}
@@ -50,10 +51,10 @@ module _ {A : Type 0} (rs : List Rule) (rows : List ℕ → List Rule) (build : 
       (follow-bind _≡_ _≡_ (items (row (rows (h .value))) (h .place) (h .left)) (items (row (rows (h .value))) (k .place) (h .left)) _ _ (rows-twice (rows (h .value)) (h .place) (k .place) (h .left))
       (λ l m el. follow-got _≡_ _ _ (ap (build (h .value)) el)))))
 
-vertices-twice : (p q : ℕ) (b : List ℕ) → Follows _≡_ (readVertices p b) (readVertices q b)
+vertices-twice : (p q : ℕ) (b : List ℕ) → Follows _≡_ (readVertices Lenient p b) (readVertices Lenient q b)
 unfolding readVertices
 vertices-twice p q b =
-    headed-twice verticesHead (λ v. vertexRow (getD v 0 0) (getD v 1 0) (getD v 2 0)) (λ v l. record { flags = getD v 0 0; sets = getD v 1 0; size = getD v 2 0; items = l }) (p + 8) (q + 8) b
+    headed-twice verticesHead (λ v. (vertexRow Lenient) (getD v 0 0) (getD v 1 0) (getD v 2 0)) (λ v l. record { flags = getD v 0 0; sets = getD v 1 0; size = getD v 2 0; items = l }) (p + 8) (q + 8) b
 
 triangles-twice : (b n p q : ℕ) (s : List ℕ) → Follows _≡_ (readTriangles b n p s) (readTriangles b n q s)
 unfolding readTriangles
@@ -91,22 +92,22 @@ sets-follow (s-one {p = p} {q = q} {b = b} {c = c} e y) br n =
 abbrev Verts : Found Vertices → Found Vertices → Type 0
 Verts x y = (x .value ≡ y .value) × Sets (x .rest) (y .rest)
 
-vertices-follow : {cs ds : Chunks} → Meshed cs ds → Follows Verts (readOne VRTS noVertices readVertices cs) (readOne VRTS noVertices readVertices ds)
+vertices-follow : {cs ds : Chunks} → Meshed cs ds → Follows Verts (readOne VRTS noVertices (readVertices Lenient) cs) (readOne VRTS noVertices (readVertices Lenient) ds)
 unfolding readOne if
 vertices-follow v-cut = λ x e. bad-got e
 vertices-follow (v-one {p = p} {q = q} {b = b} {c = c} e z) =
-    follow-bind _≡_ Verts (readVertices p b) (readVertices q c) _ _ (subst (λ (w : List ℕ). Follows _≡_ (readVertices p b) (readVertices q w)) e (vertices-twice p q b)) (λ x y k. follow-got Verts _ _ (k, z))
+    follow-bind _≡_ Verts (readVertices Lenient p b) (readVertices Lenient q c) _ _ (subst (λ (w : List ℕ). Follows _≡_ (readVertices Lenient p b) (readVertices Lenient q w)) e (vertices-twice p q b)) (λ x y k. follow-got Verts _ _ (k, z))
 
 mesh-head : {b c : List ℕ} → Without (bodyOf MESH) b c → (br p q : ℕ) → Follows (Beside itself (Without (chunksIn MESH))) (row (meshHead br) p b) (row (meshHead br) q c)
 mesh-head {b} same br p q = head-twice (Without (chunksIn MESH)) (λ z. same) (meshHead br) p q b
 mesh-head (mesh-body {r = r} {q = k} w l z) br p q = head-follow (Without (chunksIn MESH)) (meshHead br) p q w r k l z
 
-mesh-follow : {b c : List ℕ} → Without (bodyOf MESH) b c → Short b → (br p q : ℕ) → Follows _≡_ (readMesh br p b) (readMesh br q c)
+mesh-follow : {b c : List ℕ} → Without (bodyOf MESH) b c → Short b → (br p q : ℕ) → Follows _≡_ (readMesh Lenient br p b) (readMesh Lenient br q c)
 unfolding readMesh inside
 mesh-follow {b} {c} s hb br p q =
     follow-then (Beside itself (Without (chunksIn MESH))) _≡_ (row (meshHead br) (p + 8) b) (row (meshHead br) (q + 8) c) _ _ (mesh-head s br (p + 8) (q + 8)) (λ h k eh i.
     let lh = row-shrinks (meshHead br) (omega arith) (p + 8) b h eh in
-    follow-bind Verts _≡_ (readOne VRTS noVertices readVertices (inside MESH p (h .place) (h .left))) (readOne VRTS noVertices readVertices (inside MESH q (k .place) (k .left))) _ _
+    follow-bind Verts _≡_ (readOne VRTS noVertices (readVertices Lenient) (inside MESH p (h .place) (h .left))) (readOne VRTS noVertices (readVertices Lenient) (inside MESH q (k .place) (k .left))) _ _
     (vertices-follow (meshed (split-rel (i .1) (h .place) (k .place) (omega arith)) p q)) (λ v w j.
     follow-bind _≡_ _≡_ (readSets br (length (v .value .items)) (v .rest)) (readSets br (length (w .value .items)) (w .rest)) _ _
     (subst (λ (n : ℕ). Follows _≡_ (readSets br (length (v .value .items)) (v .rest)) (readSets br n (w .rest))) (ap (λ (z : Vertices). length (z .items)) (j .0)) (sets-follow (j .1) br (length (v .value .items)))) (λ l m o.
@@ -122,7 +123,7 @@ mesh-follow {b} {c} s hb br p q =
 abbrev Kinds : Found Kind → Found Kind → Type 0
 Kinds x y = (x .value ≡ y .value) × Moves (x .rest) (y .rest)
 
-pivot-follow : {cs ds : Chunks} → Moves cs ds → (br n : ℕ) → Follows Kinds (readKind br n cs) (readKind br n ds)
+pivot-follow : {cs ds : Chunks} → Moves cs ds → (br n : ℕ) → Follows Kinds (readKind Lenient br n cs) (readKind Lenient br n ds)
 unfolding readKind if
 pivot-follow (m-nodes n-end) br n = follow-got Kinds _ _ (refl, m-nodes n-end)
 pivot-follow (m-nodes n-cut) br n = λ x e. bad-got e
@@ -131,11 +132,11 @@ pivot-follow (m-keys e z) br n = follow-got Kinds _ _ (refl, m-keys e z)
 pivot-follow (m-anim e z) br n = follow-got Kinds _ _ (refl, m-anim e z)
 pivot-follow (m-after z) br n = follow-got Kinds _ _ (refl, m-after z)
 
-kind-follow : {cs ds : Chunks} → Inside cs ds → (br n : ℕ) → Follows Kinds (readKind br n cs) (readKind br n ds)
+kind-follow : {cs ds : Chunks} → Inside cs ds → (br n : ℕ) → Follows Kinds (readKind Lenient br n cs) (readKind Lenient br n ds)
 unfolding readKind if aMesh aBone
 kind-follow (i-moves z) br n = pivot-follow z br n
 kind-follow (i-mesh {p = p} {q = q} {b = b} {c = c} x i z) br n =
-    follow-bind _≡_ Kinds (readMesh br p b) (readMesh br q c) _ _ (mesh-follow x i br p q) (λ m o e. follow-got Kinds _ _ (ap mesh e, z))
+    follow-bind _≡_ Kinds (readMesh Lenient br p b) (readMesh Lenient br q c) _ _ (mesh-follow x i br p q) (λ m o e. follow-got Kinds _ _ (ap mesh e, z))
 kind-follow (i-bone {p = p} {q = q} {b = b} {c = c} e z) br n =
     follow-bind _≡_ Kinds (readBone n p b) (readBone n q c) _ _ (subst (λ (w : List ℕ). Follows _≡_ (readBone n p b) (readBone n q w)) e (bone-twice n p q b)) (λ m o k. follow-got Kinds _ _ (ap bone k, z))
 
@@ -192,21 +193,21 @@ node-head (node-body {r = r} {q = k} n m w hn hm le l z) p q = named-two (Withou
 same-bones : (above : Option ℕ) (d e : Data) → renameData noName d ≡ renameData noName e → bonesBelow above d ≡ bonesBelow above e
 same-bones above d e h = ap (λ (x : Data). bonesBelow above x) h
 
-pub node-follow : (l br : ℕ) (above : Option ℕ) (b c : List ℕ) → Without (bodyOf NODE) b c → Short b → (p q : ℕ) → Follows Bodies (readNode l br above p b) (readNode l br above q c)
+pub node-follow : (l br : ℕ) (above : Option ℕ) (b c : List ℕ) → Without (bodyOf NODE) b c → Short b → (p q : ℕ) → Follows Bodies (readNode Lenient l br above p b) (readNode Lenient l br above q c)
 unfolding readNode readBelow inside
 node-follow zero br above b c s hb p q = λ x e. bad-got e
 node-follow (suc l) br above b c s hb p q =
     follow-then (Named (Without (chunksIn NODE))) Bodies (named nodeRow (p + 8) b) (named nodeRow (q + 8) c) _ _ (node-head s (p + 8) (q + 8)) (λ h g eh i.
     let lh = named-shrinks nodeRow (p + 8) b h eh in
-    follow-bind Kinds Bodies (readKind br (boneVertices above) (inside NODE p (h .place) (h .left))) (readKind br (boneVertices above) (inside NODE q (g .place) (g .left))) _ _
+    follow-bind Kinds Bodies (readKind Lenient br (boneVertices above) (inside NODE p (h .place) (h .left))) (readKind Lenient br (boneVertices above) (inside NODE q (g .place) (g .left))) _ _
     (kind-follow (noded (split-rel (i .1) (h .place) (g .place) (omega arith)) p q) br (boneVertices above)) (λ k j o.
     follow-bind Moved Bodies (readMoves still (k .rest)) (readMoves still (j .rest)) _ _ (moves-follow (o .1) still) (λ m n u.
     let d : Data = record { name = h .value .0; words = h .value .1; kind = k .value; keys = m .value .keys; anim = m .value .anim } in
     let d′ : Data = record { name = g .value .0; words = g .value .1; kind = j .value; keys = n .value .keys; anim = n .value .anim } in
     let ed : renameData noName d ≡ renameData noName d′ = λ t. record { name = record { place = 0; bytes = [] }; words = i .0 t; kind = o .0 t; keys = (u .0 t) .keys; anim = (u .0 t) .anim } in
-    follow-bind Forests Bodies (readNodes (readNode l br (bonesBelow above d)) (m .rest)) (readNodes (readNode l br (bonesBelow above d′)) (n .rest)) _ _
-    (nodes-follow (readNode l br (bonesBelow above d)) (readNode l br (bonesBelow above d′))
-    (λ b₁ c₁ s₁ x₁ p₁ q₁. subst (λ (w : Option ℕ). Follows Bodies (readNode l br (bonesBelow above d) p₁ b₁) (readNode l br w q₁ c₁)) (same-bones above d d′ ed) (node-follow l br (bonesBelow above d) b₁ c₁ s₁ x₁ p₁ q₁)) (u .1))
+    follow-bind Forests Bodies (readNodes (readNode Lenient l br (bonesBelow above d)) (m .rest)) (readNodes (readNode Lenient l br (bonesBelow above d′)) (n .rest)) _ _
+    (nodes-follow (readNode Lenient l br (bonesBelow above d)) (readNode Lenient l br (bonesBelow above d′))
+    (λ b₁ c₁ s₁ x₁ p₁ q₁. subst (λ (w : Option ℕ). Follows Bodies (readNode Lenient l br (bonesBelow above d) p₁ b₁) (readNode Lenient l br w q₁ c₁)) (same-bones above d d′ ed) (node-follow l br (bonesBelow above d) b₁ c₁ s₁ x₁ p₁ q₁)) (u .1))
     (λ f₁ g₁ h₁. follow-got Bodies _ _ (ed, h₁)))))
 
 -- ---- TEXS and BRUS
@@ -243,11 +244,11 @@ abbrev pub Brushes : List Brush → List Brush → Type 0
 Brushes l m = map (renameBrush noName) l ≡ map (renameBrush noName) m
 
 -- brushes of n slots beside t textures
-brush-items : (n t : ℕ) {b c : List ℕ} → Without (itemsOf (28 + 4 * n)) b c → (p q : ℕ) → Follows Brushes (items (readBrush n t) p b) (items (readBrush n t) q c)
+brush-items : (n t : ℕ) {b c : List ℕ} → Without (itemsOf (28 + 4 * n)) b c → (p q : ℕ) → Follows Brushes (items (readBrush Lenient n t) p b) (items (readBrush Lenient n t) q c)
 unfolding readBrush
 brush-items n t {b} {c} y p q =
-    named-items (renameBrush noName) (brushRow ++ brushIds n t) (λ x. record { name = x .0; words = take 7 (x .1); ids = drop 7 (x .1) })
-    (λ x y e i. record { name = record { place = 0; bytes = [] }; words = take 7 (e i); ids = drop 7 (e i) }) y (omega (arith, length-append brushRow (brushIds n t), length-replicate n (textureId t))) p q
+    named-items (renameBrush noName) (brushRow Lenient ++ brushIds n t) (λ x. record { name = x .0; words = take 7 (x .1); ids = drop 7 (x .1) })
+    (λ x y e i. record { name = record { place = 0; bytes = [] }; words = take 7 (e i); ids = drop 7 (e i) }) y (omega (arith, length-append (brushRow Lenient) (brushIds n t), length-replicate n (textureId t))) p q
 
 abbrev pub Brushed : ℕ × List Brush → ℕ × List Brush → Type 0
 Brushed x y = (x .0 ≡ y .0) × Brushes (x .1) (y .1)
@@ -258,13 +259,13 @@ slots-is z p b x w e = let i = judged-got brushesHead p _ _ x e in (ap (λ (y : 
 
 -- with heads that say the same
 brushes-behind : (t : ℕ) (h k : Step (List ℕ)) → number h 0 ≡ number k 0 → Without (itemsOf (28 + 4 * number h 0)) (h .left) (k .left)
-    → Follows Brushed (items (readBrush (number h 0) t) (h .place) (h .left) >>= λ l. got (number h 0, l)) (items (readBrush (number k 0) t) (k .place) (k .left) >>= λ l. got (number k 0, l))
+    → Follows Brushed (items (readBrush Lenient (number h 0) t) (h .place) (h .left) >>= λ l. got (number h 0, l)) (items (readBrush Lenient (number k 0) t) (k .place) (k .left) >>= λ l. got (number k 0, l))
 brushes-behind t h k e y =
-    subst (λ (n : ℕ). Follows Brushed (items (readBrush (number h 0) t) (h .place) (h .left) >>= λ l. got (number h 0, l)) (items (readBrush n t) (k .place) (k .left) >>= λ l. got (n, l))) e
-    (follow-bind Brushes Brushed (items (readBrush (number h 0) t) (h .place) (h .left)) (items (readBrush (number h 0) t) (k .place) (k .left)) _ _ (brush-items (number h 0) t y (h .place) (k .place))
+    subst (λ (n : ℕ). Follows Brushed (items (readBrush Lenient (number h 0) t) (h .place) (h .left) >>= λ l. got (number h 0, l)) (items (readBrush Lenient n t) (k .place) (k .left) >>= λ l. got (n, l))) e
+    (follow-bind Brushes Brushed (items (readBrush Lenient (number h 0) t) (h .place) (h .left)) (items (readBrush Lenient (number h 0) t) (k .place) (k .left)) _ _ (brush-items (number h 0) t y (h .place) (k .place))
     (λ l m o. follow-got Brushed _ _ (refl, o)))
 
-pub brushes-follow : {b c : List ℕ} → Without (bodyOf BRUS) b c → (t p q : ℕ) → Follows Brushed (readBrushes t p b) (readBrushes t q c)
+pub brushes-follow : {b c : List ℕ} → Without (bodyOf BRUS) b c → (t p q : ℕ) → Follows Brushed (readBrushes Lenient t p b) (readBrushes Lenient t q c)
 unfolding readBrushes
 brushes-follow {b} same t p q =
     follow-bind (Beside itself _≡_) Brushed (row brushesHead (p + 8) b) (row brushesHead (q + 8) b) _ _ (row-twice brushesHead (p + 8) (q + 8) b) (λ h k e.
@@ -279,12 +280,12 @@ unfolding itemsIn
 none-of x read m i e = ap (λ (y : ℕ × List Brush). y .1) (sym (got-inj e))
 
 -- a BRUS without items
-pub brushes-none : (n t p : ℕ) (x : ℕ × List Brush) → IsWord n → readBrushes t p (bytes n []) ≡ got x → x .1 ≡ []
+pub brushes-none : (n t p : ℕ) (x : ℕ × List Brush) → IsWord n → readBrushes Lenient t p (bytes n []) ≡ got x → x .1 ≡ []
 unfolding readBrushes items
 brushes-none n t p x w e =
     by-got (row brushesHead (p + 8) (bytes n [])) _ e (λ h eh e₁.
     let i = slots-is n (p + 8) [] h w eh in
-    none-left (readBrush (number h 0) t) (number h 0) (h .place) (h .left) (i .1) e₁)
+    none-left (readBrush Lenient (number h 0) t) (number h 0) (h .place) (h .left) (i .1) e₁)
   where
     none-left : (read : ℕ → List ℕ → Out (Step Brush)) (m i : ℕ) (s : List ℕ) → s ≡ [] → (itemsIn (length s) read i s >>= λ l. got (m, l)) ≡ got x → x .1 ≡ []
     none-left read m i s es f = none-of x read m i (subst (λ (z : List ℕ). (itemsIn (length z) read i z >>= λ l. got (m, l)) ≡ got x) es f)

@@ -7,6 +7,8 @@ use lib.ListN.{length, take, drop}
 use Rattle.wire.specs.Bytes.{AllBytes}
 use Rattle.layout.specs.Lists.{All}
 use Rattle.layout.specs.Out.{got, bad}
+use Rattle.b3d_scene.specs.declared.Mode.{Mode}
+use Rattle.b3d_scene.specs.declared.Mode.the-variants.{Lenient}
 use Rattle.b3d_scene.specs.Answers.{judge, read, readTable, writeAnswer, copy, clearAnswer, clearOutput}
 use Rattle.b3d_scene.specs.Parse.{parse}
 use Rattle.b3d_scene.specs.Rebuild.{Lent}
@@ -17,19 +19,19 @@ use Rattle.b3d_scene.specs.declared.Written.{Written}
 use Rattle.b3d_demands.specs.Having.{Has, ReadBack, filled, emptied}
 use Rattle.b3d_demands.specs.Demands.{FewRows, HasRoom, Lowest, Alike}
 
--- ---- reader, for a file s and lent tables of `room` words
+-- ---- reader, for a mode, a file s and lent tables of `room` words
 
-pub record ReaderSays (room : ℕ → ℕ) (s : List ℕ) (a : Answer) : Type 0 where
+pub record ReaderSays (mode : Mode) (room : ℕ → ℕ) (s : List ℕ) (a : Answer) : Type 0 where
   -- 0 exactly when accepted, else 1 to 11
-  pub accepted : a .number ≡ 0 → (t : Scene) × (read room s ≡ got t)
-  pub zero : (t : Scene) → read room s ≡ got t → a .number ≡ 0
+  pub accepted : a .number ≡ 0 → (t : Scene) × (read mode room s ≡ got t)
+  pub zero : (t : Scene) → read mode room s ≡ got t → a .number ≡ 0
   pub most : a .number ≤ 11
   -- a refused call changes no lent word
-  pub untouched : (a .number ≡ 0 → ⊥) → (k : ℕ) (xs : List ℕ) → readTable k room s xs ≡ xs
+  pub untouched : (a .number ≡ 0 → ⊥) → (k : ℕ) (xs : List ℕ) → readTable mode k room s xs ≡ xs
   -- 10: the file keeps the layout rules, and the place is the lowest table with more rows than the limit
-  pub ten : a .number ≡ 10 → (t : Scene) × (parse s ≡ got t) × Lowest (FewRows t) (a .place)
+  pub ten : a .number ≡ 10 → (t : Scene) × (parse mode s ≡ got t) × Lowest (FewRows t) (a .place)
   -- 11: no table has, and the place is the lowest that is lent too short
-  pub eleven : a .number ≡ 11 → (t : Scene) × (judge s ≡ got t) × Lowest (HasRoom room t) (a .place)
+  pub eleven : a .number ≡ 11 → (t : Scene) × (judge mode s ≡ got t) × Lowest (HasRoom room t) (a .place)
 
 -- ---- an answer, and the output afterwards
 
@@ -40,42 +42,42 @@ pub record Leaves (out : List ℕ) (a : Written) (after : List ℕ) : Type 0 whe
   -- else the bytes past the size stay as found
   pub stay : a .number ≡ 0 → (a .size ≤ length out) × (drop (a .size) after ≡ drop (a .size) out)
 
--- ---- writer, for tables T, names in ns, and an output
+-- ---- writer, for a mode, tables T, names in ns, and an output
 
-pub record WriterSays (T : Lent) (ns out : List ℕ) (a : Written) (after : List ℕ) : Type 0 where
+pub record WriterSays (mode : Mode) (T : Lent) (ns out : List ℕ) (a : Written) (after : List ℕ) : Type 0 where
   pub numbers : (a .number ≡ 0) ⊎ ((a .number ≡ 11) ⊎ (a .number ≡ 12))
   pub leaves : Leaves out a after
   -- 12 exactly when no accepted file has the tables
-  pub twelve : a .number ≡ 12 → (a .place ≡ 0) × ((s : List ℕ) → AllBytes s → Has s T ns → ⊥)
-  pub no-file : ((s : List ℕ) → AllBytes s → Has s T ns → ⊥) → a .number ≡ 12
+  pub twelve : a .number ≡ 12 → (a .place ≡ 0) × ((s : List ℕ) → AllBytes s → Has mode s T ns → ⊥)
+  pub no-file : ((s : List ℕ) → AllBytes s → Has mode s T ns → ⊥) → a .number ≡ 12
   -- 0: the output begins with a file that has the tables, and that reads back as them
-  pub zero : a .number ≡ 0 → (a .place ≡ 0) × AllBytes (take (a .size) after) × Has (take (a .size) after) T ns
-  pub read-back : a .number ≡ 0 → (xs : ℕ → List ℕ) → All (λ k. width k * T .count k ≤ length (xs k)) tables → ReadBack (take (a .size) after) T ns xs
+  pub zero : a .number ≡ 0 → (a .place ≡ 0) × AllBytes (take (a .size) after) × Has mode (take (a .size) after) T ns
+  pub read-back : a .number ≡ 0 → (xs : ℕ → List ℕ) → All (λ k. width k * T .count k ≤ length (xs k)) tables → ReadBack mode (take (a .size) after) T ns xs
   -- 11: the place is the size of such a file, which the output has no room for
-  pub eleven : a .number ≡ 11 → (length out < a .place) × ((b : List ℕ) × (length b ≡ a .place) × AllBytes b × Has b T ns)
+  pub eleven : a .number ≡ 11 → (length out < a .place) × ((b : List ℕ) × (length b ≡ a .place) × AllBytes b × Has mode b T ns)
   -- no file with those tables is shorter; given room for one, they are written
-  pub least : (s : List ℕ) → AllBytes s → Has s T ns → (a .size ≤ length s) × (a .place ≤ length s)
-  pub given-room : (s : List ℕ) → AllBytes s → Has s T ns → length s ≤ length out → a .number ≡ 0
+  pub least : (s : List ℕ) → AllBytes s → Has mode s T ns → (a .size ≤ length s) × (a .place ≤ length s)
+  pub given-room : (s : List ℕ) → AllBytes s → Has mode s T ns → length s ≤ length out → a .number ≡ 0
 
--- ---- clearer, for a file s and an output
+-- ---- clearer, in lenient mode, for a file s and an output
 
 pub record ClearerSays (s out : List ℕ) (a : Written) (after : List ℕ) : Type 0 where
   pub most : a .number ≤ 11
   pub leaves : Leaves out a after
   -- 0: the output begins with the copy of an accepted file, and it reads back with the file's words and each name empty
-  pub zero : a .number ≡ 0 → (a .place ≡ 0) × ((t : Scene) × (judge s ≡ got t) × (take (a .size) after ≡ copy t))
-  pub read-back : (t : Scene) → judge s ≡ got t → a .number ≡ 0 → (ns : List ℕ) (xs : ℕ → List ℕ) → All (HasRoom (λ k. length (xs k)) t) tables → ReadBack (take (a .size) after) (emptied t) ns xs
+  pub zero : a .number ≡ 0 → (a .place ≡ 0) × ((t : Scene) × (judge Lenient s ≡ got t) × (take (a .size) after ≡ copy t))
+  pub read-back : (t : Scene) → judge Lenient s ≡ got t → a .number ≡ 0 → (ns : List ℕ) (xs : ℕ → List ℕ) → All (HasRoom (λ k. length (xs k)) t) tables → ReadBack Lenient (take (a .size) after) (emptied t) ns xs
   -- 11 exactly when the output is shorter than the copy; the place is the copy's length
-  pub eleven : a .number ≡ 11 → (t : Scene) × (judge s ≡ got t) × (length out < length (copy t)) × (a .place ≡ length (copy t))
-  pub short : (t : Scene) → judge s ≡ got t → length out < length (copy t) → a .number ≡ 11
-  pub enough : (t : Scene) → judge s ≡ got t → length (copy t) ≤ length out → a .number ≡ 0
+  pub eleven : a .number ≡ 11 → (t : Scene) × (judge Lenient s ≡ got t) × (length out < length (copy t)) × (a .place ≡ length (copy t))
+  pub short : (t : Scene) → judge Lenient s ≡ got t → length out < length (copy t) → a .number ≡ 11
+  pub enough : (t : Scene) → judge Lenient s ≡ got t → length (copy t) ≤ length out → a .number ≡ 0
   -- another file gets its refusal, 1 to 10; 10 names the lowest table with more rows than the limit
-  pub first : (n p : ℕ) → judge s ≡ bad n p → a ≡ record { number = n; place = p; size = 0 }
-  pub ten : a .number ≡ 10 → (t : Scene) × (parse s ≡ got t) × Lowest (FewRows t) (a .place)
+  pub first : (n p : ℕ) → judge Lenient s ≡ bad n p → a ≡ record { number = n; place = p; size = 0 }
+  pub ten : a .number ≡ 10 → (t : Scene) × (parse Lenient s ≡ got t) × Lowest (FewRows t) (a .place)
   -- what 01 calls cleared again: the copy's bytes alone as the file, into another output as long. It gets the same answer, and where it is
   -- not refused gives its own bytes
-  pub again : (t : Scene) → judge s ≡ got t → (out′ : List ℕ) → length out ≡ length out′ → clearAnswer (copy t) out′ ≡ a
-  pub again-bytes : (t : Scene) → judge s ≡ got t → (out′ : List ℕ) → length out ≡ length out′ → a .number ≡ 0 → take (a .size) (clearOutput (copy t) out′) ≡ copy t
+  pub again : (t : Scene) → judge Lenient s ≡ got t → (out′ : List ℕ) → length out ≡ length out′ → clearAnswer (copy t) out′ ≡ a
+  pub again-bytes : (t : Scene) → judge Lenient s ≡ got t → (out′ : List ℕ) → length out ≡ length out′ → a .number ≡ 0 → take (a .size) (clearOutput (copy t) out′) ≡ copy t
 
 -- being alike, of accepted files: the row counts agree too, and it goes on from file to file
 pub record IsAlike (s v : List ℕ) (a : Alike s v) : Type 0 where
@@ -95,8 +97,8 @@ pub record OneCopy (s v out out′ : List ℕ) : Type 0 where
 
 -- ---- read, then written
 
--- what the reader fills of an accepted file s: s has it, with its own bytes for the names; so it is written, in no more bytes than s has
-pub record Rewritten (xs : ℕ → List ℕ) (s out : List ℕ) : Type 0 where
-  pub has : Has s (filled xs s) s
-  pub written : length s ≤ length out → (writeAnswer (filled xs s) s out) .number ≡ 0
-  pub smaller : (writeAnswer (filled xs s) s out) .size ≤ length s
+-- what the reader fills of a file s that a mode accepts: s has it, with its own bytes for the names; so it is written, in no more bytes than s has
+pub record Rewritten (mode : Mode) (xs : ℕ → List ℕ) (s out : List ℕ) : Type 0 where
+  pub has : Has mode s (filled mode xs s) s
+  pub written : length s ≤ length out → (writeAnswer mode (filled mode xs s) s out) .number ≡ 0
+  pub smaller : (writeAnswer mode (filled mode xs s) s out) .size ≤ length s

@@ -8,6 +8,7 @@ use lib.Dec.{leb}
 use Rattle.wire.specs.Test.{if}
 use Rattle.layout.specs.Out.{got}
 use Rattle.layout.specs.Lists.{All}
+use Rattle.b3d_scene.specs.declared.Mode.{Mode}
 use Rattle.b3d_scene.specs.Answers.{judge, readAnswer, readTable}
 use Rattle.b3d_scene.specs.Rebuild.{Lent, lentRows}
 use Rattle.b3d_scene.specs.Scene.{Scene}
@@ -28,10 +29,10 @@ pub record NameAt (s r : List ℕ) : Type 0 where
   pub no-zero : All (λ c. 0 < c) (take (getD r 1 0) (drop (getD r 0 0) s))
   pub zero-behind : getD s (getD r 0 0 + getD r 1 0) 0 ≡ 0
 
--- the file s is accepted, and has the lent tables with names in ns
-pub record Has (s : List ℕ) (T : Lent) (ns : List ℕ) : Type 0 where
+-- the file s is accepted in a mode, and has the lent tables with names in ns
+pub record Has (mode : Mode) (s : List ℕ) (T : Lent) (ns : List ℕ) : Type 0 where
   pub scene : Scene
-  pub accepted : judge s ≡ got scene
+  pub accepted : judge mode s ≡ got scene
   -- the counted rows are lent
   pub lent : All (λ k. width k * T .count k ≤ length (T .words k)) tables
   pub version : scene .version ≡ T .version
@@ -39,26 +40,26 @@ pub record Has (s : List ℕ) (T : Lent) (ns : List ℕ) : Type 0 where
   pub cells : All (λ k. named unplaced k (rows k scene) ≡ named unplaced k (lentRows T k)) tables
   pub names : All (λ k. namesOf s k (rows k scene) ≡ namesOf ns k (lentRows T k)) tables
 
--- what the reader leaves of the file s in tables that held xs, with its answer
-unfoldable pub filled : (ℕ → List ℕ) → List ℕ → Lent
-filled xs s =
+-- what the reader leaves in a mode of the file s in tables that held xs, with its answer
+unfoldable pub filled : Mode → (ℕ → List ℕ) → List ℕ → Lent
+filled mode xs s =
     let room : ℕ → ℕ = λ k. length (xs k) in
     record {
-      version = (readAnswer room s) .version;
-      slots = (readAnswer room s) .«n_texs»;
-      count = λ k. getD ((readAnswer room s) .counts) (k - 1) 0;
-      words = λ k. readTable k room s (xs k);
+      version = (readAnswer mode room s) .version;
+      slots = (readAnswer mode room s) .«n_texs»;
+      count = λ k. getD ((readAnswer mode room s) .counts) (k - 1) 0;
+      words = λ k. readTable mode k room s (xs k);
     }
 
--- What 01 calls read back: by the reader, lent xs, at least the counted rows. The file b is accepted and fills just the tables T: the same
+-- What 01 calls read back: by the reader, lent xs, at least the counted rows. The file b is accepted in a mode and fills just the tables T: the same
 -- words, name places aside, and the same names, by their bytes.
-pub record ReadBack (b : List ℕ) (T : Lent) (ns : List ℕ) (xs : ℕ → List ℕ) : Type 0 where
-  pub accepted : (readAnswer (λ k. length (xs k)) b) .number ≡ 0
-  pub version : (filled xs b) .version ≡ T .version
-  pub slots : (filled xs b) .slots ≡ T .slots
-  pub counts : All (λ k. (filled xs b) .count k ≡ T .count k) tables
-  pub cells : All (λ k. named unplaced k (lentRows (filled xs b) k) ≡ named unplaced k (lentRows T k)) tables
-  pub names : All (λ k. namesOf b k (lentRows (filled xs b) k) ≡ namesOf ns k (lentRows T k)) tables
+pub record ReadBack (mode : Mode) (b : List ℕ) (T : Lent) (ns : List ℕ) (xs : ℕ → List ℕ) : Type 0 where
+  pub accepted : (readAnswer mode (λ k. length (xs k)) b) .number ≡ 0
+  pub version : (filled mode xs b) .version ≡ T .version
+  pub slots : (filled mode xs b) .slots ≡ T .slots
+  pub counts : All (λ k. (filled mode xs b) .count k ≡ T .count k) tables
+  pub cells : All (λ k. named unplaced k (lentRows (filled mode xs b) k) ≡ named unplaced k (lentRows T k)) tables
+  pub names : All (λ k. namesOf b k (lentRows (filled mode xs b) k) ≡ namesOf ns k (lentRows T k)) tables
 
 -- the tables of a scene with each name empty
 unfoldable pub emptied : Scene → Lent

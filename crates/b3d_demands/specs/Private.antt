@@ -9,6 +9,7 @@ use Rattle.wire.specs.Bytes.{bytes, IsWord}
 use Rattle.layout.specs.Lists.{All}
 use Rattle.layout.specs.Out.{got}
 use Rattle.layout.specs.Write.{writeText}
+use Rattle.b3d_scene.specs.declared.Mode.the-variants.{Lenient}
 use Rattle.b3d_scene.specs.declared.Tag.{Tag}
 use Rattle.b3d_scene.specs.declared.Tag.the-variants.{BB3D, TEXS, BRUS, NODE, MESH, KEYS, ANIM}
 use Rattle.b3d_scene.specs.Answers.{judge}
@@ -71,10 +72,10 @@ pub record FileWithout (s v : List ℕ) : Type 0 where
 
 -- Private things taken out of an accepted file leave it accepted, with the same words.
 pub record TakenOut (s v : List ℕ) : Type 0 where
-  pub alike : (t : Scene) → judge s ≡ got t → Alike s v
+  pub alike : (t : Scene) → judge Lenient s ≡ got t → Alike s v
 
 -- Demand 3: two accepted files that are one file w without what is private are alike, so they get one answer and one copy, whatever
 -- private things each holds.
 pub record KeptPrivate (s v : List ℕ) : Type 0 where
-  pub alike : (w : List ℕ) → FileWithout s w → FileWithout v w → (t u : Scene) → judge s ≡ got t → judge v ≡ got u → Alike s v
-  pub one-copy : (w : List ℕ) → FileWithout s w → FileWithout v w → (t u : Scene) → judge s ≡ got t → judge v ≡ got u → (out out′ : List ℕ) → length out ≡ length out′ → OneCopy s v out out′
+  pub alike : (w : List ℕ) → FileWithout s w → FileWithout v w → (t u : Scene) → judge Lenient s ≡ got t → judge Lenient v ≡ got u → Alike s v
+  pub one-copy : (w : List ℕ) → FileWithout s w → FileWithout v w → (t u : Scene) → judge Lenient s ≡ got t → judge Lenient v ≡ got u → (out out′ : List ℕ) → length out ≡ length out′ → OneCopy s v out out′

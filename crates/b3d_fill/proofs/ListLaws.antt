@@ -9,6 +9,7 @@ use denote.Enum.Declared.{tagOf}
 use Rattle.wire.specs.Test.{if}
 use Rattle.wire.specs.Cursors.{left}
 use Rattle.wire.specs.declared.Cursor.{Cursor}
+use Rattle.b3d_scene.specs.declared.Mode.the-variants.{Lenient}
 use Rattle.b3d_scene.specs.declared.Tag.{Tag}
 use Rattle.b3d_scene.specs.declared.Tag.the-variants.{BB3D, TEXS, BRUS}
 use Rattle.b3d_scene.specs.Nesting.{start, next as nextTurn}
@@ -63,26 +64,26 @@ unfolding without
 no-brus = tt
 
 module _ (s : List ℕ) (from : Cursor) (r : Next) (x : NextIs s from r) (textures l : ℕ)
-    (ready : Ready (foundRows brushRows) (readOne BRUS (0, []) (readBrushes textures) (restIn s BB3D 0 (reached 1 true) from)) 0 l) where
+    (ready : Ready (foundRows brushRows) (readOne BRUS (0, []) (readBrushes Lenient textures) (restIn s BB3D 0 (reached 1 true) from)) 0 l) where
   abbrev Brus : List ℕ → List ℕ
-  Brus out = putRows (foundRows brushRows) (readOne BRUS (0, []) (readBrushes textures) (restIn s BB3D 0 (reached 1 true) from)) 0 out
+  Brus out = putRows (foundRows brushRows) (readOne BRUS (0, []) (readBrushes Lenient textures) (restIn s BB3D 0 (reached 1 true) from)) 0 out
 
   pub brus-done : r ≡ next.Done → (out : List ℕ) → out ≡ Brus out
-  brus-done = first-done s from r x BRUS (0, []) (readBrushes textures) (reached 1 true) brushRows refl l ready
+  brus-done = first-done s from r x BRUS (0, []) (readBrushes Lenient textures) (reached 1 true) brushRows refl l ready
 
   pub brus-cut : (p : ℕ) → r ≡ next.Cut p → (out : List ℕ) → out ≡ Brus out
-  brus-cut = first-cut s from r x BRUS (0, []) (readBrushes textures) (reached 1 true) brushRows refl l ready
+  brus-cut = first-cut s from r x BRUS (0, []) (readBrushes Lenient textures) (reached 1 true) brushRows refl l ready
 
   module _ (t : Tag) (p : ℕ) (b n : Cursor) (w : r ≡ next.Chunk t p b n) where
     pub brus-other : (ks : List ℕ) → OneOf ks (tagOf the-type t) → T (without BRUS ks) → (out : List ℕ) → out ≡ Brus out
-    brus-other = first-other s from r x BRUS (0, []) (readBrushes textures) (reached 1 true) brushRows refl l ready t p b n w
+    brus-other = first-other s from r x BRUS (0, []) (readBrushes Lenient textures) (reached 1 true) brushRows refl l ready t p b n w
 
-    pub brus-ready : t ≡ BRUS → Ready brushRows (readBrushes textures p (left b s)) 0 l
+    pub brus-ready : t ≡ BRUS → Ready brushRows (readBrushes Lenient textures p (left b s)) 0 l
     unfolding nextTurn if
-    brus-ready e = first-ready s from r x BRUS (0, []) (readBrushes textures) (reached 1 true) brushRows refl l ready t p b n w e (reached 2 true) refl tt
+    brus-ready e = first-ready s from r x BRUS (0, []) (readBrushes Lenient textures) (reached 1 true) brushRows refl l ready t p b n w e (reached 2 true) refl tt
 
-    pub brus-put : t ≡ BRUS → (out put : List ℕ) → put ≡ putRows brushRows (readBrushes textures p (left b s)) 0 out → put ≡ Brus out
+    pub brus-put : t ≡ BRUS → (out put : List ℕ) → put ≡ putRows brushRows (readBrushes Lenient textures p (left b s)) 0 out → put ≡ Brus out
     unfolding nextTurn if
-    brus-put e = first-put s from r x BRUS (0, []) (readBrushes textures) (reached 1 true) brushRows refl l ready t p b n w e (reached 2 true) refl tt
+    brus-put e = first-put s from r x BRUS (0, []) (readBrushes Lenient textures) (reached 1 true) brushRows refl l ready t p b n w e (reached 2 true) refl tt
 
 pub ruleset brus-laws = (no-brus, kind-inside, chunk-body, brus-done, brus-cut, brus-other, brus-ready, brus-put)

@@ -17,6 +17,7 @@ use Rattle.layout.specs.Out.{got}
 use Rattle.layout.specs.Rules.{NONE}
 use Rattle.layout.proofs.Lists.{All}
 use Rattle.layout.proofs.Outs.{by-got, got-inj}
+use Rattle.b3d_scene.specs.declared.Mode.the-variants.{Lenient}
 use Rattle.b3d_scene.specs.declared.Tag.{Tag}
 use Rattle.b3d_scene.specs.declared.Tag.the-variants.{BB3D, NODE}
 use Rattle.b3d_scene.specs.declared.Counts.{Counts}
@@ -71,15 +72,15 @@ abbrev none-yet : Counts
 none-yet = record { nodes = 0; meshes = 0; vertices = 0; sets = 0; triangles = 0; weights = 0; lists = 0; keys = 0 }
 
 module _ (s : List ℕ) (from : Cursor) (r : Next) (x : NextIs s from r) (brushes which l : ℕ)
-    (ready : Fillable forestIn (readOne NODE leaf (readRoot brushes) (restIn s BB3D 0 (reached 2 true) from)) 16 brushes none which start l) where
+    (ready : Fillable forestIn (readOne NODE leaf (readRoot Lenient brushes) (restIn s BB3D 0 (reached 2 true) from)) 16 brushes none which start l) where
   abbrev Root : List ℕ → List ℕ
-  Root out = putRows (foundRows (nodeRows which)) (readOne NODE leaf (readRoot brushes) (restIn s BB3D 0 (reached 2 true) from)) 0 out
+  Root out = putRows (foundRows (nodeRows which)) (readOne NODE leaf (readRoot Lenient brushes) (restIn s BB3D 0 (reached 2 true) from)) 0 out
 
   leaf-empty : nodeRows which leaf ≡ []
   unfolding forestRows
   leaf-empty = refl
 
-  rows-ready : Ready (foundRows (nodeRows which)) (readOne NODE leaf (readRoot brushes) (restIn s BB3D 0 (reached 2 true) from)) 0 l
+  rows-ready : Ready (foundRows (nodeRows which)) (readOne NODE leaf (readRoot Lenient brushes) (restIn s BB3D 0 (reached 2 true) from)) 0 l
   unfolding foundRows
   rows-ready = record {
     value = ready .value;
@@ -88,30 +89,30 @@ module _ (s : List ℕ) (from : Cursor) (r : Next) (x : NextIs s from r) (brushe
   }
 
   pub root-done : r ≡ next.Done → (out : List ℕ) → out ≡ Root out
-  root-done = first-done s from r x NODE leaf (readRoot brushes) (reached 2 true) (nodeRows which) leaf-empty l rows-ready
+  root-done = first-done s from r x NODE leaf (readRoot Lenient brushes) (reached 2 true) (nodeRows which) leaf-empty l rows-ready
 
   pub root-cut : (p : ℕ) → r ≡ next.Cut p → (out : List ℕ) → out ≡ Root out
-  root-cut = first-cut s from r x NODE leaf (readRoot brushes) (reached 2 true) (nodeRows which) leaf-empty l rows-ready
+  root-cut = first-cut s from r x NODE leaf (readRoot Lenient brushes) (reached 2 true) (nodeRows which) leaf-empty l rows-ready
 
   module _ (t : Tag) (p : ℕ) (b n : Cursor) (w : r ≡ next.Chunk t p b n) where
     pub root-other : (ks : List ℕ) → OneOf ks (tagOf the-type t) → T (without NODE ks) → (out : List ℕ) → out ≡ Root out
-    root-other = first-other s from r x NODE leaf (readRoot brushes) (reached 2 true) (nodeRows which) leaf-empty l rows-ready t p b n w
+    root-other = first-other s from r x NODE leaf (readRoot Lenient brushes) (reached 2 true) (nodeRows which) leaf-empty l rows-ready t p b n w
 
     -- the node that was read
     record GaveNode : Type 0 where
       value : Inner
-      is : readNode 16 brushes none p (left b s) ≡ got value
+      is : readNode Lenient 16 brushes none p (left b s) ≡ got value
       same : ready .value .value ≡ alone value
 
     module _ (e : t ≡ NODE) where
       gave-node : GaveNode
       unfolding readRoot nextTurn if
       gave-node =
-          by-got (readRoot brushes p (left b s)) _ (sym (one-read s from r x NODE leaf (readRoot brushes) (reached 2 true) (reached 3 true) t p b n w e refl tt) ∙ ready .is) (λ f ef e₁.
-          by-got (readNode 16 brushes none p (left b s)) _ ef (λ y ey e₂.
+          by-got (readRoot Lenient brushes p (left b s)) _ (sym (one-read s from r x NODE leaf (readRoot Lenient brushes) (reached 2 true) (reached 3 true) t p b n w e refl tt) ∙ ready .is) (λ f ef e₁.
+          by-got (readNode Lenient 16 brushes none p (left b s)) _ ef (λ y ey e₂.
           record { value = y; is = ey; same = ap (λ (v : Found Forest). v .value) (sym (got-inj e₁)) ∙ sym (got-inj e₂) }))
 
-      pub root-fillable : Fillable alone (readNode 16 brushes none p (left b s)) 16 brushes none which none-yet l
+      pub root-fillable : Fillable alone (readNode Lenient 16 brushes none p (left b s)) 16 brushes none which none-yet l
       unfolding start
       root-fillable =
           let g = gave-node in
@@ -125,13 +126,13 @@ module _ (s : List ℕ) (from : Cursor) (r : Next) (x : NextIs s from r) (brushe
             small = subst (λ (f : Forest). Small (withForest f start)) (g .same) (ready .small);
           }
 
-      pub root-filled : (out put : List ℕ) (m : Counts) → Filled alone (readNode 16 brushes none p (left b s)) which NONE none-yet out put m → put ≡ Root out
+      pub root-filled : (out put : List ℕ) (m : Counts) → Filled alone (readNode Lenient 16 brushes none p (left b s)) which NONE none-yet out put m → put ≡ Root out
       unfolding start foundRows
       root-filled out put m h =
           let g = gave-node in
           let at : width which * rowsAt which start ≡ 0 = ap (λ (i : ℕ). width which * i) (none-before which (ready .lowest) (ready .highest)) ∙ omega arith in
           h .rows (g .value) (g .is) ∙ ap (λ (i : ℕ). sets out i (words (nodeRows which (alone (g .value))))) at
-          ∙ sym (put-is (foundRows (nodeRows which)) (readOne NODE leaf (readRoot brushes) (restIn s BB3D 0 (reached 2 true) from)) 0 (ready .value) (ready .is) out
+          ∙ sym (put-is (foundRows (nodeRows which)) (readOne NODE leaf (readRoot Lenient brushes) (restIn s BB3D 0 (reached 2 true) from)) 0 (ready .value) (ready .is) out
           ∙ ap (λ (f : Forest). sets out 0 (words (nodeRows which f))) (g .same))
 
 pub ruleset root-laws = (no-root, kind-inside, chunk-body, root-done, root-cut, root-other, root-fillable, root-filled)

@@ -6,6 +6,7 @@ ghost use mathlib.Core.List.{[], map};
 ghost use Prim.Native.Nat.{_≤_};
 ghost use lib.ListN.{length};
 ghost use Rattle.wire.specs.Bytes.{AllBytes};
+ghost use Rattle.b3d_scene.specs.declared.Mode.the-variants.{Lenient};
 ghost use Rattle.b3d_scene.specs.declared.Tag.the-variants.{BB3D, TEXS, BRUS, NODE};
 ghost use Rattle.b3d_scene.specs.Rules.{levels};
 ghost use Rattle.b3d_scene.specs.Scene.{leaf};
@@ -24,6 +25,7 @@ use b3d_judge::Above;
 use b3d_judge::Brushed;
 use b3d_judge::Phase;
 use b3d_scene::Counts;
+use b3d_scene::Mode;
 use b3d_scene::Tag;
 use wire::Cursor;
 
@@ -54,8 +56,8 @@ fn fill_texs(file: &[u8], from: Cursor, out: &mut [u32])
 // Table 2: the brushes, if BRUS comes first.
 fn fill_brus(file: &[u8], from: Cursor, textures: usize, out: &mut [u32])
     requires { ⌜ Among 0 from (length (now file)) ⌝ }
-    requires { ⌜ Ready (foundRows brushRows) (readOne BRUS (0, []) (readBrushes textures) (restIn (now file) BB3D 0 (reached 1 true) from)) 0 (length (now out)) ⌝ }
-    ensures { λ _. ⌜ now (out .exit) ≡ putRows (foundRows brushRows) (readOne BRUS (0, []) (readBrushes textures) (restIn (now (file .entry)) BB3D 0 (reached 1 true) from)) 0 (now (out .entry)) ⌝ }
+    requires { ⌜ Ready (foundRows brushRows) (readOne BRUS (0, []) (readBrushes Lenient textures) (restIn (now file) BB3D 0 (reached 1 true) from)) 0 (length (now out)) ⌝ }
+    ensures { λ _. ⌜ now (out .exit) ≡ putRows (foundRows brushRows) (readOne BRUS (0, []) (readBrushes Lenient textures) (restIn (now (file .entry)) BB3D 0 (reached 1 true) from)) 0 (now (out .entry)) ⌝ }
 {
     match b3d_chunks::next_chunk(file, from) {
         Next::Done => {}
@@ -78,8 +80,8 @@ fn fill_brus(file: &[u8], from: Cursor, textures: usize, out: &mut [u32])
 // Tables 3 to 10 by their number: the nodes, if NODE comes first.
 fn fill_root(file: &[u8], from: Cursor, brushes: usize, which: u32, out: &mut [u32])
     requires { ⌜ Among 0 from (length (now file)) ⌝ }
-    requires { ⌜ Fillable forestIn (readOne NODE leaf (readRoot brushes) (restIn (now file) BB3D 0 (reached 2 true) from)) levels brushes none which noRows (length (now out)) ⌝ }
-    ensures { λ _. ⌜ now (out .exit) ≡ putRows (foundRows (nodeRows which)) (readOne NODE leaf (readRoot brushes) (restIn (now (file .entry)) BB3D 0 (reached 2 true) from)) 0 (now (out .entry)) ⌝ }
+    requires { ⌜ Fillable forestIn (readOne NODE leaf (readRoot Lenient brushes) (restIn (now file) BB3D 0 (reached 2 true) from)) levels brushes none which noRows (length (now out)) ⌝ }
+    ensures { λ _. ⌜ now (out .exit) ≡ putRows (foundRows (nodeRows which)) (readOne NODE leaf (readRoot Lenient brushes) (restIn (now (file .entry)) BB3D 0 (reached 2 true) from)) 0 (now (out .entry)) ⌝ }
 {
     match b3d_chunks::next_chunk(file, from) {
         Next::Done => {}
@@ -123,14 +125,14 @@ fn fill_root(file: &[u8], from: Cursor, brushes: usize, which: u32, out: &mut [u
 // Tables 2 to 10 by their number: the brushes and the nodes.
 fn fill_rest(file: &[u8], from: Cursor, textures: usize, which: u32, out: &mut [u32])
     requires { ⌜ Among 0 from (length (now file)) × (2 ≤ which) × (which ≤ 10) ⌝ }
-    requires { ⌜ RestReady which (readRest textures (restIn (now file) BB3D 0 (reached 1 true) from)) (length (now out)) ⌝ }
-    ensures { λ _. ⌜ now (out .exit) ≡ putRows (restRows which) (readRest textures (restIn (now (file .entry)) BB3D 0 (reached 1 true) from)) 0 (now (out .entry)) ⌝ }
+    requires { ⌜ RestReady which (readRest Lenient textures (restIn (now file) BB3D 0 (reached 1 true) from)) (length (now out)) ⌝ }
+    ensures { λ _. ⌜ now (out .exit) ≡ putRows (restRows which) (readRest Lenient textures (restIn (now (file .entry)) BB3D 0 (reached 1 true) from)) 0 (now (out .entry)) ⌝ }
 {
     if which == 2 {
         fill_brus(file, from, textures, out);
         return;
     }
-    match b3d_judge::file::judge_brus(file, from, textures) {
+    match b3d_judge::file::judge_brus(file, from, textures, Mode::Lenient) {
         // Not met: the brushes can be read.
         Brushed::Not(_, _) => {}
         Brushed::To(_, b, c) => {
@@ -142,8 +144,8 @@ fn fill_rest(file: &[u8], from: Cursor, textures: usize, which: u32, out: &mut [
 // Table `which` of a file that was judged to be accepted, with room for it: its rows, then what stood there.
 pub fn fill_table(file: &[u8], which: u32, out: &mut [u32])
     requires { ⌜ (1 ≤ which) × (which ≤ 10) × AllBytes (now file) ⌝ }
-    requires { ⌜ Ready (rows which) (judge (now file)) 0 (length (now out)) ⌝ }
-    ensures { λ _. ⌜ now (out .exit) ≡ tableAfter which (judge (now (file .entry))) (now (out .entry)) ⌝ }
+    requires { ⌜ Ready (rows which) (judge Lenient (now file)) 0 (length (now out)) ⌝ }
+    ensures { λ _. ⌜ now (out .exit) ≡ tableAfter which (judge Lenient (now (file .entry))) (now (out .entry)) ⌝ }
 {
     let from = Cursor {
         at: 12,

@@ -12,6 +12,7 @@ use Rattle.layout.specs.Out.{got, bad, _>>=_}
 use Rattle.layout.specs.Parts.{Name, row, items}
 use Rattle.layout.specs.Rules.{Rule, NONE}
 use Rattle.layout.proofs.Outs.{by-got, bad-got, got-inj}
+use Rattle.b3d_scene.specs.declared.Mode.the-variants.{Lenient}
 use Rattle.b3d_scene.specs.Scene.{Brush}
 use Rattle.b3d_scene.specs.Rules.{slots, brushRow as fixed, brushIds}
 use Rattle.b3d_scene.specs.Parse.{readBrush, readBrushes}
@@ -37,43 +38,43 @@ one k x h =
 abbrev pub brushRows : ℕ × List Brush → List (List ℕ)
 brushRows u = map brushRow (u .1)
 
-module _ (textures at : ℕ) (s : List ℕ) (b : Cursor) (body : Body at b (length s)) (r : Number) (e : r ≡ numberAt s b) (long : ℕ) (k : Ready brushRows (readBrushes textures at (left b s)) 0 long) where
+module _ (textures at : ℕ) (s : List ℕ) (b : Cursor) (body : Body at b (length s)) (r : Number) (e : r ≡ numberAt s b) (long : ℕ) (k : Ready brushRows (readBrushes Lenient textures at (left b s)) 0 long) where
   -- the head is not refused
   no-head : {A : Type 0} (n p : ℕ) → row (slots ∷ []) (at + 8) (left b s) ≡ bad n p → A
   unfolding readBrushes
-  no-head n p h = let z : readBrushes textures at (left b s) ≡ bad n p = rw h in bad-got (sym z ∙ k .is)
+  no-head n p h = let z : readBrushes Lenient textures at (left b s) ≡ bad n p = rw h in bad-got (sym z ∙ k .is)
 
-  pub brushes-cut : r ≡ number.Cut → (out : List ℕ) → out ≡ putRows brushRows (readBrushes textures at (left b s)) 0 out
+  pub brushes-cut : r ≡ number.Cut → (out : List ℕ) → out ≡ putRows brushRows (readBrushes Lenient textures at (left b s)) 0 out
   brushes-cut q out = no-head 5 (b .at) (head-cut s at b body r e slots q)
 
   module _ (m : ℕ) (n : Cursor) (q : r ≡ number.Is m n) where
-    pub brushes-over : 8 < m → (out : List ℕ) → out ≡ putRows brushRows (readBrushes textures at (left b s)) 0 out
+    pub brushes-over : 8 < m → (out : List ℕ) → out ≡ putRows brushRows (readBrushes Lenient textures at (left b s)) 0 out
     brushes-over h out = no-head 6 (b .at) (head-over s at b body r e m n q 8 h)
 
     module _ (h : m ≤ 8) where
       abbrev rules : List Rule
-      rules = fixed ++ brushIds m textures
+      rules = fixed Lenient ++ brushIds m textures
 
       rules-long : length rules ≡ 7 + m
       rules-long = simp length-replicate (omega arith)
 
-      after-head : readBrushes textures at (left b s) ≡ (items (readBrush m textures) (n .at) (left n s) >>= λ l. got (m, l))
+      after-head : readBrushes Lenient textures at (left b s) ≡ (items (readBrush Lenient m textures) (n .at) (left n s) >>= λ l. got (m, l))
       unfolding readBrushes
       after-head = rw (head-within s at b body r e m n q 8 h)
 
-      turn : (u : ℕ × List Brush) → readBrushes textures at (left b s) ≡ got u → Rows brushRows (8 - m) (namedItems (7 + m) (n .at) (left n s)) u
+      turn : (u : ℕ × List Brush) → readBrushes Lenient textures at (left b s) ≡ got u → Rows brushRows (8 - m) (namedItems (7 + m) (n .at) (left n s)) u
       unfolding readBrush brush
       turn u g =
-          by-got (items (readBrush m textures) (n .at) (left n s)) _ (sym after-head ∙ g) (λ l el eu.
+          by-got (items (readBrush Lenient m textures) (n .at) (left n s)) _ (sym after-head ∙ g) (λ l el eu.
           let d = rows-of brush (7 + m) (8 - m) brushRow (one m) rules rules-long (n .at) (left n s) l el in
           record { value = d .value; is = d .is; same = ap brushRows (sym (got-inj eu)) ∙ d .same })
 
       module _ (z : ℕ) (y : z ≡ m) where
         pub brushes-ready : Ready (map (namedRow (8 - z))) (namedItems (7 + z) (n .at) (left n s)) 0 long
-        brushes-ready = rw y (rows-ready brushRows (readBrushes textures at (left b s)) (8 - m) (namedItems (7 + m) (n .at) (left n s)) turn long k)
+        brushes-ready = rw y (rows-ready brushRows (readBrushes Lenient textures at (left b s)) (8 - m) (namedItems (7 + m) (n .at) (left n s)) turn long k)
 
         pub brushes-put : (out put : List ℕ) → put ≡ putRows (map (namedRow (8 - z))) (namedItems (7 + z) (n .at) (left n s)) 0 out
-            → put ≡ putRows brushRows (readBrushes textures at (left b s)) 0 out
-        brushes-put out put f = rw y at f ∙ rows-put brushRows (readBrushes textures at (left b s)) (8 - m) (namedItems (7 + m) (n .at) (left n s)) turn long k out
+            → put ≡ putRows brushRows (readBrushes Lenient textures at (left b s)) 0 out
+        brushes-put out put f = rw y at f ∙ rows-put brushRows (readBrushes Lenient textures at (left b s)) (8 - m) (namedItems (7 + m) (n .at) (left n s)) turn long k out
 
 pub ruleset brushes = (brushes-cut, brushes-over, brushes-ready, brushes-put)

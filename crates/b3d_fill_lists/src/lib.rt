@@ -7,6 +7,7 @@ ghost use lib.Seq.{sets as stored};
 ghost use Rattle.wire.specs.Cursors.{Inside, left};
 ghost use Rattle.layout.specs.Parts.{wordsOf};
 ghost use Rattle.layout.specs.Rules.{NONE};
+ghost use Rattle.b3d_scene.specs.declared.Mode.the-variants.{Lenient};
 ghost use Rattle.b3d_scene.specs.Rules.{mostBytes};
 ghost use Rattle.b3d_scene.specs.Scene.{Brush};
 ghost use Rattle.b3d_scene.specs.Parse.{readTextures, readBrushes};
@@ -106,8 +107,8 @@ pub fn fill_textures(file: &[u8], at: usize, body: Cursor, out: &mut [u32])
 // Table 2: the brushes of a BRUS beside so many textures. Unused slots name nothing.
 pub fn fill_brushes(file: &[u8], at: usize, body: Cursor, textures: usize, out: &mut [u32])
     requires { ⌜ Body at body (length (now file)) ⌝ }
-    requires { ⌜ Ready (λ (u : ℕ × List Brush). map brushRow (u .1)) (readBrushes textures at (left body (now file))) 0 (length (now out)) ⌝ }
-    ensures { λ _. ⌜ now (out .exit) ≡ putRows (λ (u : ℕ × List Brush). map brushRow (u .1)) (readBrushes textures at (left body (now (file .entry)))) 0 (now (out .entry)) ⌝ }
+    requires { ⌜ Ready (λ (u : ℕ × List Brush). map brushRow (u .1)) (readBrushes Lenient textures at (left body (now file))) 0 (length (now out)) ⌝ }
+    ensures { λ _. ⌜ now (out .exit) ≡ putRows (λ (u : ℕ × List Brush). map brushRow (u .1)) (readBrushes Lenient textures at (left body (now (file .entry)))) 0 (now (out .entry)) ⌝ }
 {
     match body.number(file) {
         // Not met, nor are more than eight slots: the brushes can be read.

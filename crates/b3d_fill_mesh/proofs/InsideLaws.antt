@@ -12,6 +12,7 @@ use Rattle.wire.specs.declared.Cursor.{Cursor}
 use Rattle.wire.specs.Test.{if}
 use Rattle.layout.specs.Out.{Out, got}
 use Rattle.layout.proofs.Outs.{by-test}
+use Rattle.b3d_scene.specs.declared.Mode.the-variants.{Lenient}
 use Rattle.b3d_scene.specs.declared.Tag.the-variants.{MESH}
 use Rattle.b3d_scene.specs.declared.Counts.{Counts}
 use Rattle.b3d_scene.specs.Parse.{Vertices, readVertices, readSets}
@@ -44,12 +45,12 @@ shape-rows which n m v brush l e f = rw (e, f)
 -- ---- the ways
 
 module _ (s : List ℕ) (at p : ℕ) (b c : Cursor) (brushes brush which : ℕ) (n : Counts) (base : ℕ) (out : List ℕ)
-    (ready : Ready (meshRowsOf which n) (readAfter brushes brush (readVertices p (left b s)) (restIn s MESH at (reached 1 true) c)) base (length out)) where
+    (ready : Ready (meshRowsOf which n) (readAfter brushes brush (readVertices Lenient p (left b s)) (restIn s MESH at (reached 1 true) c)) base (length out)) where
   abbrev Read : Out Mesh
-  Read = readAfter brushes brush (readVertices p (left b s)) (restIn s MESH at (reached 1 true) c)
+  Read = readAfter brushes brush (readVertices Lenient p (left b s)) (restIn s MESH at (reached 1 true) c)
 
-  parts : PartsRead brushes brush (readVertices p (left b s)) (restIn s MESH at (reached 1 true) c) (ready .value)
-  parts = parts-read brushes brush (readVertices p (left b s)) (restIn s MESH at (reached 1 true) c) (ready .value) (ready .is)
+  parts : PartsRead brushes brush (readVertices Lenient p (left b s)) (restIn s MESH at (reached 1 true) c) (ready .value)
+  parts = parts-read brushes brush (readVertices Lenient p (left b s)) (restIn s MESH at (reached 1 true) c) (ready .value) (ready .is)
 
   -- table 4
   module _ (lo : 4 ≤ which) (h : which < 5) where
@@ -67,14 +68,14 @@ module _ (s : List ℕ) (at p : ℕ) (b c : Cursor) (brushes brush which : ℕ) 
     shape-words : words (shapeRows (parts .shape)) ≡ words (meshRowsOf which n (ready .value))
     shape-words = ap words (shape-rows which n (ready .value) (parts .shape) brush (parts .sets) five (parts .all))
 
-    pub vertices-ready : Ready shapeRows (readVertices p (left b s)) base (length out)
-    vertices-ready = ready-same shapeRows (readVertices p (left b s)) (meshRowsOf which n) Read base out ready (parts .shape) (parts .shape-is) shape-words
+    pub vertices-ready : Ready shapeRows (readVertices Lenient p (left b s)) base (length out)
+    vertices-ready = ready-same shapeRows (readVertices Lenient p (left b s)) (meshRowsOf which n) Read base out ready (parts .shape) (parts .shape-is) shape-words
 
-    pub vertices-put : (put : List ℕ) → put ≡ putRows shapeRows (readVertices p (left b s)) base out → put ≡ putRows (meshRowsOf which n) Read base out
-    vertices-put put e = put-same shapeRows (readVertices p (left b s)) (meshRowsOf which n) Read base out ready (parts .shape) (parts .shape-is) shape-words put e
+    pub vertices-put : (put : List ℕ) → put ≡ putRows shapeRows (readVertices Lenient p (left b s)) base out → put ≡ putRows (meshRowsOf which n) Read base out
+    vertices-put put e = put-same shapeRows (readVertices Lenient p (left b s)) (meshRowsOf which n) Read base out ready (parts .shape) (parts .shape-is) shape-words put e
 
   -- tables 6 and 7
-  module _ (vertices : ℕ) (many : vertices ≡ verticesIn (readVertices p (left b s))) (hi : which ≤ 7) (no : which ≡ 5 → ⊥) (h : 5 ≤ which) where
+  module _ (vertices : ℕ) (many : vertices ≡ verticesIn (readVertices Lenient p (left b s))) (hi : which ≤ 7) (no : which ≡ 5 → ⊥) (h : 5 ≤ which) where
     sets-are : readSets brushes vertices (restIn s MESH at (reached 1 true) c) ≡ got (parts .sets)
     unfolding verticesIn
     sets-are =
@@ -93,14 +94,14 @@ module _ (s : List ℕ) (at p : ℕ) (b c : Cursor) (brushes brush which : ℕ) 
     triangles-put put e = put-same (setsRows which (n .meshes) (n .triangles)) _ (meshRowsOf which n) Read base out ready (parts .sets) sets-are sets-words put e
 
   -- the vertices counted
-  module _ (j : Shaped) (h : Shapes (readVertices p (left b s)) b j) where
+  module _ (j : Shaped) (h : Shapes (readVertices Lenient p (left b s)) b j) where
     says : shaped (got (parts .shape)) ≡ j
     says = ap shaped (sym (parts .shape-is)) ∙ sym (h .is)
 
     pub inside-refused : (e q : ℕ) → j ≡ shape.Not e q → out ≡ putRows (meshRowsOf which n) Read base out
     inside-refused e q z = let w = says ∙ z in let y : _≡_ {A = ℕ} 0 1 = cc in absurd (omega arith)
 
-    pub inside-many : (k w : ℕ) → j ≡ shape.Is k w → k ≡ verticesIn (readVertices p (left b s))
+    pub inside-many : (k w : ℕ) → j ≡ shape.Is k w → k ≡ verticesIn (readVertices Lenient p (left b s))
     unfolding verticesIn
     inside-many k w z = let y = says ∙ z in let e : k ≡ length (parts .shape .items) = cc in e ∙ ap verticesIn (sym (parts .shape-is))
 

@@ -16,6 +16,7 @@ use Rattle.layout.specs.Out.{got}
 use Rattle.layout.specs.Chunks.{done, stop, chunk}
 use Rattle.layout.specs.Parts.{row, number}
 use Rattle.layout.proofs.Outs.{by-got, bad-got, bind-bind}
+use Rattle.b3d_scene.specs.declared.Mode.the-variants.{Lenient}
 use Rattle.b3d_scene.specs.declared.Tag.{Tag}
 use Rattle.b3d_scene.specs.declared.Tag.the-variants.{BB3D, TEXS, BRUS, NODE, MESH, VRTS, TRIS, BONE, KEYS, ANIM}
 use Rattle.b3d_scene.specs.declared.Counts.{Counts}
@@ -42,14 +43,14 @@ use Rattle.b3d_fill_mesh.proofs.MeshRead.{ready-same, put-same}
 
 record HeadRead (s : List ℕ) (at brushes : ℕ) (b : Cursor) (m : Mesh) : Type 0 where
   room : b .at + 4 ≤ b .end
-  inner : readInside brushes (wordAt s (b .at)) (restIn s MESH at start (after b)) ≡ got m
+  inner : readInside Lenient brushes (wordAt s (b .at)) (restIn s MESH at start (after b)) ≡ got m
 
 -- from another place of the same bytes
 moved : (brushes at : ℕ) (m : Mesh) (x y p q : ℕ) (k l : List ℕ) → x ≡ y → p ≡ q → k ≡ l
-    → readInside brushes x (inside MESH at p k) ≡ got m → readInside brushes y (inside MESH at q l) ≡ got m
+    → readInside Lenient brushes x (inside MESH at p k) ≡ got m → readInside Lenient brushes y (inside MESH at q l) ≡ got m
 moved brushes at m x y p q k l e f g h = rw (← e, ← f, ← g) h
 
-head-read : (s : List ℕ) (at brushes : ℕ) (b : Cursor) → Body at b (length s) → (m : Mesh) → readMesh brushes at (left b s) ≡ got m → HeadRead s at brushes b m
+head-read : (s : List ℕ) (at brushes : ℕ) (b : Cursor) → Body at b (length s) → (m : Mesh) → readMesh Lenient brushes at (left b s) ≡ got m → HeadRead s at brushes b m
 unfolding readMesh readInside readAfter restIn inside
 head-read s at brushes b body m e =
     by-got (row (meshHead brushes) (at + 8) (left b s)) _ e (λ h eh e₁.
@@ -63,23 +64,23 @@ unfolding nextTurn if
 turn t = elim t [ BB3D ↦ inl refl | TEXS ↦ inl refl | BRUS ↦ inl refl | NODE ↦ inl refl | MESH ↦ inl refl | VRTS ↦ inr refl | TRIS ↦ inl refl | BONE ↦ inl refl | KEYS ↦ inl refl | ANIM ↦ inl refl ]
 
 module _ (brushes brush : ℕ) (m : Mesh) where
-  none-first : (at : ℕ) {A : Type 0} → readInside brushes brush (order MESH at start done) ≡ got m → A
+  none-first : (at : ℕ) {A : Type 0} → readInside Lenient brushes brush (order MESH at start done) ≡ got m → A
   unfolding readInside readOne order if
   none-first at e = bad-got e
 
-  cut-first : (p : ℕ) {A : Type 0} → readInside brushes brush (stop 3 p) ≡ got m → A
+  cut-first : (p : ℕ) {A : Type 0} → readInside Lenient brushes brush (stop 3 p) ≡ got m → A
   unfolding readInside readOne
   cut-first p e = bad-got e
 
   shape-first : (s : List ℕ) (at : ℕ) (t : Tag) (p : ℕ) (b n : Cursor)
-      → readInside brushes brush (onward (nextTurn (nesting MESH) (nesting MESH) start t) p (λ q. chunk t p (left b s) (restIn s MESH at q n))) ≡ got m
-      → readAfter brushes brush (readVertices p (left b s)) (restIn s MESH at (reached 1 true) n) ≡ got m
+      → readInside Lenient brushes brush (onward (nextTurn (nesting MESH) (nesting MESH) start t) p (λ q. chunk t p (left b s) (restIn s MESH at q n))) ≡ got m
+      → readAfter brushes brush (readVertices Lenient p (left b s)) (restIn s MESH at (reached 1 true) n) ≡ got m
   unfolding readInside readAfter readOne onward nextTurn if
   shape-first s at t p b n e = elim (turn t) [
-    | inl h ↦ bad-got (sym (ap (λ (o : Option Reached). readInside brushes brush (onward o p (λ q. chunk t p (left b s) (restIn s MESH at q n)))) h) ∙ e)
+    | inl h ↦ bad-got (sym (ap (λ (o : Option Reached). readInside Lenient brushes brush (onward o p (λ q. chunk t p (left b s) (restIn s MESH at q n)))) h) ∙ e)
     | inr h ↦
-        sym (bind-bind (readVertices p (left b s)) _ _)
-        ∙ subst (λ (k : Tag). readInside brushes brush (onward (nextTurn (nesting MESH) (nesting MESH) start k) p (λ q. chunk k p (left b s) (restIn s MESH at q n))) ≡ got m) h e
+        sym (bind-bind (readVertices Lenient p (left b s)) _ _)
+        ∙ subst (λ (k : Tag). readInside Lenient brushes brush (onward (nextTurn (nesting MESH) (nesting MESH) start k) p (λ q. chunk k p (left b s) (restIn s MESH at q n))) ≡ got m) h e
   ]
 
 -- no rows in other tables
@@ -90,14 +91,14 @@ no-words which n m a b c d = rw (ne-eqb which 4 a, ne-eqb which 5 b, ne-eqb whic
 -- ---- the ways
 
 module _ (s : List ℕ) (at : ℕ) (b : Cursor) (body : Body at b (length s)) (brushes which : ℕ) (n : Counts) (base : ℕ) (out : List ℕ)
-    (ready : Ready (meshRowsOf which n) (readMesh brushes at (left b s)) base (length out)) where
+    (ready : Ready (meshRowsOf which n) (readMesh Lenient brushes at (left b s)) base (length out)) where
   abbrev Put : List ℕ
-  Put = putRows (meshRowsOf which n) (readMesh brushes at (left b s)) base out
+  Put = putRows (meshRowsOf which n) (readMesh Lenient brushes at (left b s)) base out
 
   nothing : (which ≡ 4 → ⊥) → (which ≡ 5 → ⊥) → (which ≡ 6 → ⊥) → (which ≡ 7 → ⊥) → out ≡ Put
   nothing e f g h =
       let w = no-words which n (ready .value) e f g h in
-      sym (put-ready (meshRowsOf which n) (readMesh brushes at (left b s)) base (length out) ready out ∙ rw w)
+      sym (put-ready (meshRowsOf which n) (readMesh Lenient brushes at (left b s)) base (length out) ready out ∙ rw w)
 
   pub mesh-before : which < 4 → out ≡ Put
   mesh-before h = nothing (λ e. omega arith) (λ e. omega arith) (λ e. omega arith) (λ e. omega arith)
@@ -121,12 +122,12 @@ module _ (s : List ℕ) (at : ℕ) (b : Cursor) (body : Body at b (length s)) (b
     pub mesh-done : r ≡ next.Done → out ≡ Put
     mesh-done w =
         none-first brushes (wordAt s (b .at)) (ready .value) at
-        (ap (readInside brushes (wordAt s (b .at))) (sym (rest-done s (after b) r x MESH at start w)) ∙ read .inner)
+        (ap (readInside Lenient brushes (wordAt s (b .at))) (sym (rest-done s (after b) r x MESH at start w)) ∙ read .inner)
 
     pub mesh-cut : (p : ℕ) → r ≡ next.Cut p → out ≡ Put
     mesh-cut p w =
         cut-first brushes (wordAt s (b .at)) (ready .value) p
-        (ap (readInside brushes (wordAt s (b .at))) (sym (rest-cut s (after b) r x MESH at start p w)) ∙ read .inner)
+        (ap (readInside Lenient brushes (wordAt s (b .at))) (sym (rest-cut s (after b) r x MESH at start p w)) ∙ read .inner)
 
     module _ (t : Tag) (p : ℕ) (y c : Cursor) (w : r ≡ next.Chunk t p y c) where
       pub mesh-body : Body p y (length s)
@@ -138,15 +139,15 @@ module _ (s : List ℕ) (at : ℕ) (b : Cursor) (body : Body at b (length s)) (b
           record { head = omega (arith, body .head); room = a .to; within = omega (arith, body .within); small = body .small }
 
       module _ (brush : ℕ) (e : brush ≡ wordAt s (b .at)) where
-        inner : readAfter brushes brush (readVertices p (left y s)) (restIn s MESH at (reached 1 true) c) ≡ got (ready .value)
+        inner : readAfter brushes brush (readVertices Lenient p (left y s)) (restIn s MESH at (reached 1 true) c) ≡ got (ready .value)
         inner =
             rw e (shape-first brushes (wordAt s (b .at)) (ready .value) s at t p y c
-            (ap (readInside brushes (wordAt s (b .at))) (sym (rest-chunk s (after b) r x MESH at start t p y c w)) ∙ read .inner))
+            (ap (readInside Lenient brushes (wordAt s (b .at))) (sym (rest-chunk s (after b) r x MESH at start t p y c w)) ∙ read .inner))
 
-        pub mesh-ready : Ready (meshRowsOf which n) (readAfter brushes brush (readVertices p (left y s)) (restIn s MESH at (reached 1 true) c)) base (length out)
-        mesh-ready = ready-same (meshRowsOf which n) _ (meshRowsOf which n) (readMesh brushes at (left b s)) base out ready (ready .value) inner refl
+        pub mesh-ready : Ready (meshRowsOf which n) (readAfter brushes brush (readVertices Lenient p (left y s)) (restIn s MESH at (reached 1 true) c)) base (length out)
+        mesh-ready = ready-same (meshRowsOf which n) _ (meshRowsOf which n) (readMesh Lenient brushes at (left b s)) base out ready (ready .value) inner refl
 
-        pub mesh-put : (put : List ℕ) → put ≡ putRows (meshRowsOf which n) (readAfter brushes brush (readVertices p (left y s)) (restIn s MESH at (reached 1 true) c)) base out → put ≡ Put
-        mesh-put put h = put-same (meshRowsOf which n) _ (meshRowsOf which n) (readMesh brushes at (left b s)) base out ready (ready .value) inner refl put h
+        pub mesh-put : (put : List ℕ) → put ≡ putRows (meshRowsOf which n) (readAfter brushes brush (readVertices Lenient p (left y s)) (restIn s MESH at (reached 1 true) c)) base out → put ≡ Put
+        mesh-put put h = put-same (meshRowsOf which n) _ (meshRowsOf which n) (readMesh Lenient brushes at (left b s)) base out ready (ready .value) inner refl put h
 
 pub ruleset mesh-laws = (mesh-before, mesh-past, mesh-number, mesh-inside, mesh-done, mesh-cut, mesh-body, mesh-among, mesh-ready, mesh-put)

@@ -14,6 +14,7 @@ use Rattle.wire.specs.Test.{if}
 use Rattle.wire.proofs.Left.{left-length}
 use Rattle.layout.specs.Out.{got}
 use Rattle.layout.proofs.Outs.{bad-got, got-inj}
+use Rattle.b3d_scene.specs.declared.Mode.the-variants.{Lenient}
 use Rattle.b3d_scene.specs.declared.Tag.the-variants.{MESH}
 use Rattle.b3d_scene.specs.declared.Counts.{Counts}
 use Rattle.b3d_scene.specs.Parse.{Vertices, readVertices, readSets}
@@ -62,14 +63,14 @@ unfolding meshRows meshRow if words
 row-cells n m brush vertices s b v l e f r = rw (e, f, ← r .flags-are, ← r .sets-are, ← r .size-is)
 
 module _ (s : List ℕ) (at p : ℕ) (b c : Cursor) (body : Body p b (length s)) (brushes brush vertices : ℕ) (n : Counts) (base : ℕ) (out : List ℕ)
-    (many : vertices ≡ verticesIn (readVertices p (left b s)))
-    (ready : Ready (meshRowsOf 4 n) (readAfter brushes brush (readVertices p (left b s)) (restIn s MESH at (reached 1 true) c)) base (length out))
+    (many : vertices ≡ verticesIn (readVertices Lenient p (left b s)))
+    (ready : Ready (meshRowsOf 4 n) (readAfter brushes brush (readVertices Lenient p (left b s)) (restIn s MESH at (reached 1 true) c)) base (length out))
     (g : Among at c (length s)) (j : Judged) (h : Judges setsTally (readSets brushes vertices (restIn s MESH at (reached 1 true) c)) (c .at) (c .end) j) where
   abbrev Put : List ℕ
-  Put = putRows (meshRowsOf 4 n) (readAfter brushes brush (readVertices p (left b s)) (restIn s MESH at (reached 1 true) c)) base out
+  Put = putRows (meshRowsOf 4 n) (readAfter brushes brush (readVertices Lenient p (left b s)) (restIn s MESH at (reached 1 true) c)) base out
 
-  parts : PartsRead brushes brush (readVertices p (left b s)) (restIn s MESH at (reached 1 true) c) (ready .value)
-  parts = parts-read brushes brush (readVertices p (left b s)) (restIn s MESH at (reached 1 true) c) (ready .value) (ready .is)
+  parts : PartsRead brushes brush (readVertices Lenient p (left b s)) (restIn s MESH at (reached 1 true) c) (ready .value)
+  parts = parts-read brushes brush (readVertices Lenient p (left b s)) (restIn s MESH at (reached 1 true) c) (ready .value) (ready .is)
 
   shape-read : ShapeRead s b (parts .shape)
   shape-read = read-shape s p b body (parts .shape) (parts .shape-is)

@@ -16,6 +16,7 @@ use Rattle.layout.specs.Rules.{any}
 use Rattle.layout.proofs.Lists.{all-pure, all-of-map}
 use Rattle.layout.proofs.Outs.{by-got, by-check, got-inj}
 use Rattle.layout.proofs.StepLaws.{row-enough}
+use Rattle.b3d_scene.specs.declared.Mode.the-variants.{Lenient}
 use Rattle.b3d_scene.specs.Mask.{spread, vertexMask}
 use Rattle.b3d_scene.specs.Parse.{Vertices, readVertices}
 use Rattle.b3d_scene.specs.Rules.{verticesHead, vertexRow, vertexWords}
@@ -58,7 +59,7 @@ module _ (s : List ℕ) (b : Cursor) (i : Inside b (length s)) (room : b .at + 1
 
   -- the fixed data, and the vertices after it
   made : (p : ℕ) (h : Step (List ℕ)) → row verticesHead p (left b s) ≡ got h → RowRead 3 p (left b s) h → (l : List (List ℕ))
-      → items (row (vertexRow (number h 0) (number h 1) (number h 2))) (h .place) (h .left) ≡ got l
+      → items (row (vertexRow Lenient (number h 0) (number h 1) (number h 2))) (h .place) (h .left) ≡ got l
       → ShapeRead s b (record { flags = number h 0; sets = number h 1; size = number h 2; items = l })
   unfolding judged
   made p h e r l el =
@@ -68,7 +69,7 @@ module _ (s : List ℕ) (b : Cursor) (i : Inside b (length s)) (room : b .at + 1
       by-check (leb (wordAt s (b .at)) 3) 6 p _ g (λ t₀ g₁.
       by-check (leb (wordAt s (b .at + 4)) 8) 6 (p + 4) _ g₁ (λ t₁ g₂.
       by-check (leb (wordAt s (b .at + 8)) 4) 6 (p + 4 + 4) _ g₂ (λ t₂ g₃.
-      let it = items-read (vertexRow (number h 0) (number h 1) (number h 2)) (h .place) (h .left) l el in
+      let it = items-read (vertexRow Lenient (number h 0) (number h 1) (number h 2)) (h .place) (h .left) l el in
       record {
         room = room;
         flags-are = rw hv;
@@ -84,11 +85,11 @@ module _ (s : List ℕ) (at : ℕ) (b : Cursor) (body : Body at b (length s)) wh
   inside : Inside b (length s)
   inside = body-inside s at b body
 
-  pub read-shape : (v : Vertices) → readVertices at (left b s) ≡ got v → ShapeRead s b v
+  pub read-shape : (v : Vertices) → readVertices Lenient at (left b s) ≡ got v → ShapeRead s b v
   unfolding readVertices
   read-shape v e =
       by-got (row verticesHead (at + 8) (left b s)) _ e (λ h eh e₁.
-      by-got (items (row (vertexRow (number h 0) (number h 1) (number h 2))) (h .place) (h .left)) _ e₁ (λ l el e₂.
+      by-got (items (row (vertexRow Lenient (number h 0) (number h 1) (number h 2))) (h .place) (h .left)) _ e₁ (λ l el e₂.
       let r = row-read verticesHead (at + 8) (left b s) h eh in
       subst (ShapeRead s b) (got-inj e₂) (made s b inside (omega (arith, r .room, left-length s b inside)) (at + 8) h eh r l el)))
 
@@ -105,8 +106,8 @@ shaped-many : (o : Out Vertices) (v : Vertices) (k n : ℕ) → o ≡ got v → 
 shaped-many o v k n e h = let z : shaped (got v) ≡ shape.Is k n = ap shaped (sym e) ∙ h in cc
 
 module _ (s : List ℕ) (at : ℕ) (b : Cursor) (body : Body at b (length s)) (base : ℕ) (out : List ℕ)
-    (ready : Ready shapeRows (readVertices at (left b s)) base (length out)) (j : Shaped) (h : Shapes (readVertices at (left b s)) b j) where
-  pub shape-refused : (e p : ℕ) → j ≡ shape.Not e p → out ≡ putRows shapeRows (readVertices at (left b s)) base out
+    (ready : Ready shapeRows (readVertices Lenient at (left b s)) base (length out)) (j : Shaped) (h : Shapes (readVertices Lenient at (left b s)) b j) where
+  pub shape-refused : (e p : ℕ) → j ≡ shape.Not e p → out ≡ putRows shapeRows (readVertices Lenient at (left b s)) base out
   shape-refused e p z = let c : shaped (got (ready .value)) ≡ shape.Not e p = ap shaped (sym (ready .is)) ∙ sym (h .is) ∙ z in let y : _≡_ {A = ℕ} 0 1 = cc in absurd (omega arith)
 
   module _ (k n : ℕ) (z : j ≡ shape.Is k n) where
@@ -114,7 +115,7 @@ module _ (s : List ℕ) (at : ℕ) (b : Cursor) (body : Body at b (length s)) (b
     r = read-shape s at b body (ready .value) (ready .is)
 
     many : k ≡ length (ready .value .items)
-    many = shaped-many (readVertices at (left b s)) (ready .value) k n (ready .is) (sym (h .is) ∙ z)
+    many = shaped-many (readVertices Lenient at (left b s)) (ready .value) k n (ready .is) (sym (h .is) ∙ z)
 
     pub shape-first : b .at + 4 ≤ length s
     shape-first = omega (arith, r .room, body .within)
@@ -148,9 +149,9 @@ module _ (s : List ℕ) (at : ℕ) (b : Cursor) (body : Body at b (length s)) (b
       shape-end = omega (arith, r .room, left-length s (after b) shape-inside, r .read .size, ap (λ (q : ℕ). q * (4 * vertexWords flags sets size)) many, ap (λ (q : ℕ). length (ready .value .items) * (4 * q)) same)
 
       pub shape-filled : (put : List ℕ) → put ≡ stored out base (words (map (spread (vertexMask flags sets size)) (itemsOf k (vertexWords flags sets size) (left (after b) s))))
-          → put ≡ putRows shapeRows (readVertices at (left b s)) base out
+          → put ≡ putRows shapeRows (readVertices Lenient at (left b s)) base out
       unfolding shapeRows
       shape-filled put e =
-          e ∙ ap (stored out base) (ap words (rw (many, ← same, f, g, i, ← r .flags-are, ← r .sets-are, ← r .size-is, ← r .read .is))) ∙ sym (put-ready shapeRows (readVertices at (left b s)) base (length out) ready out)
+          e ∙ ap (stored out base) (ap words (rw (many, ← same, f, g, i, ← r .flags-are, ← r .sets-are, ← r .size-is, ← r .read .is))) ∙ sym (put-ready shapeRows (readVertices Lenient at (left b s)) base (length out) ready out)
 
 pub ruleset shape-laws = (shape-refused, shape-first, shape-second, shape-third, shape-inside, shape-room, shape-flags, shape-sets, shape-size, shape-end, shape-filled)

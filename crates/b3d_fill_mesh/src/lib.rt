@@ -7,6 +7,7 @@ ghost use lib.ListN.{length};
 ghost use lib.Seq.{sets as stored};
 ghost use Rattle.wire.specs.Bytes.{wordAt};
 ghost use Rattle.wire.specs.Cursors.{left};
+ghost use Rattle.b3d_scene.specs.declared.Mode.the-variants.{Lenient};
 ghost use Rattle.b3d_scene.specs.declared.Tag.the-variants.{MESH};
 ghost use Rattle.b3d_scene.specs.Parse.{readVertices, readTriangles, readSets, readMesh};
 ghost use Rattle.b3d_scene.specs.Rules.{mostBytes};
@@ -19,17 +20,18 @@ use b3d_bodies::Judged;
 use b3d_bodies::Shaped;
 use b3d_chunks::Next;
 use b3d_scene::Counts;
+use b3d_scene::Mode;
 use wire::Cursor;
 
 // Table 5: the vertices of a VRTS whose header is at `at`.
 pub fn fill_shape(file: &[u8], at: usize, body: Cursor, base: usize, out: &mut [u32])
     requires { ⌜ Body at body (length (now file)) ⌝ }
-    requires { ⌜ Ready shapeRows (readVertices at (left body (now file))) base (length (now out)) ⌝ }
-    ensures { λ _. ⌜ now (out .exit) ≡ putRows shapeRows (readVertices at (left body (now (file .entry)))) base (now (out .entry)) ⌝ }
+    requires { ⌜ Ready shapeRows (readVertices Lenient at (left body (now file))) base (length (now out)) ⌝ }
+    ensures { λ _. ⌜ now (out .exit) ≡ putRows shapeRows (readVertices Lenient at (left body (now (file .entry)))) base (now (out .entry)) ⌝ }
 {
     let start = body.at;
     let end = body.end;
-    match b3d_bodies::judge_vertices(file, at, body) {
+    match b3d_bodies::judge_vertices(file, at, body, Mode::Lenient) {
         Shaped::Not(_, _) => {}
         Shaped::Is(n, _) => {
             let flags = wire::number_at(file, start);
@@ -180,9 +182,9 @@ fn fill_mesh_row(
     base: usize,
     out: &mut [u32],
 )
-    requires { ⌜ Body p body (length (now file)) × Among at next (length (now file)) × Low n × (vertices ≡ verticesIn (readVertices p (left body (now file)))) ⌝ }
-    requires { ⌜ Ready (meshRowsOf 4 n) (readAfter brushes brush (readVertices p (left body (now file))) (restIn (now file) MESH at (reached 1 true) next)) base (length (now out)) ⌝ }
-    ensures { λ _. ⌜ now (out .exit) ≡ putRows (meshRowsOf 4 n) (readAfter brushes brush (readVertices p (left body (now (file .entry)))) (restIn (now (file .entry)) MESH at (reached 1 true) next)) base (now (out .entry)) ⌝ }
+    requires { ⌜ Body p body (length (now file)) × Among at next (length (now file)) × Low n × (vertices ≡ verticesIn (readVertices Lenient p (left body (now file)))) ⌝ }
+    requires { ⌜ Ready (meshRowsOf 4 n) (readAfter brushes brush (readVertices Lenient p (left body (now file))) (restIn (now file) MESH at (reached 1 true) next)) base (length (now out)) ⌝ }
+    ensures { λ _. ⌜ now (out .exit) ≡ putRows (meshRowsOf 4 n) (readAfter brushes brush (readVertices Lenient p (left body (now (file .entry)))) (restIn (now (file .entry)) MESH at (reached 1 true) next)) base (now (out .entry)) ⌝ }
 {
     match b3d_judge::meshes::judge_sets(file, at, next, brushes, vertices) {
         Judged::Bad(_, _) => {}
@@ -207,10 +209,10 @@ fn fill_counted(
     base: usize,
     out: &mut [u32],
 )
-    requires { ⌜ Body p body (length (now file)) × Among at next (length (now file)) × Low n × (vertices ≡ verticesIn (readVertices p (left body (now file)))) ⌝ }
+    requires { ⌜ Body p body (length (now file)) × Among at next (length (now file)) × Low n × (vertices ≡ verticesIn (readVertices Lenient p (left body (now file)))) ⌝ }
     requires { ⌜ (4 ≤ which) × (which ≤ 7) × (which ≡ 5 → ⊥) ⌝ }
-    requires { ⌜ Ready (meshRowsOf which n) (readAfter brushes brush (readVertices p (left body (now file))) (restIn (now file) MESH at (reached 1 true) next)) base (length (now out)) ⌝ }
-    ensures { λ _. ⌜ now (out .exit) ≡ putRows (meshRowsOf which n) (readAfter brushes brush (readVertices p (left body (now (file .entry)))) (restIn (now (file .entry)) MESH at (reached 1 true) next)) base (now (out .entry)) ⌝ }
+    requires { ⌜ Ready (meshRowsOf which n) (readAfter brushes brush (readVertices Lenient p (left body (now file))) (restIn (now file) MESH at (reached 1 true) next)) base (length (now out)) ⌝ }
+    ensures { λ _. ⌜ now (out .exit) ≡ putRows (meshRowsOf which n) (readAfter brushes brush (readVertices Lenient p (left body (now (file .entry)))) (restIn (now (file .entry)) MESH at (reached 1 true) next)) base (now (out .entry)) ⌝ }
 {
     if which < 5 {
         fill_mesh_row(
@@ -257,14 +259,14 @@ fn fill_inside(
     out: &mut [u32],
 )
     requires { ⌜ Body p body (length (now file)) × Among at next (length (now file)) × Low n × (4 ≤ which) × (which ≤ 7) ⌝ }
-    requires { ⌜ Ready (meshRowsOf which n) (readAfter brushes brush (readVertices p (left body (now file))) (restIn (now file) MESH at (reached 1 true) next)) base (length (now out)) ⌝ }
-    ensures { λ _. ⌜ now (out .exit) ≡ putRows (meshRowsOf which n) (readAfter brushes brush (readVertices p (left body (now (file .entry)))) (restIn (now (file .entry)) MESH at (reached 1 true) next)) base (now (out .entry)) ⌝ }
+    requires { ⌜ Ready (meshRowsOf which n) (readAfter brushes brush (readVertices Lenient p (left body (now file))) (restIn (now file) MESH at (reached 1 true) next)) base (length (now out)) ⌝ }
+    ensures { λ _. ⌜ now (out .exit) ≡ putRows (meshRowsOf which n) (readAfter brushes brush (readVertices Lenient p (left body (now (file .entry)))) (restIn (now (file .entry)) MESH at (reached 1 true) next)) base (now (out .entry)) ⌝ }
 {
     if which == 5 {
         fill_shape(file, p, body, base, out);
         return;
     }
-    match b3d_bodies::judge_vertices(file, p, body) {
+    match b3d_bodies::judge_vertices(file, p, body, Mode::Lenient) {
         Shaped::Not(_, _) => {}
         Shaped::Is(vertices, _) => {
             fill_counted(
@@ -297,8 +299,8 @@ pub fn fill_mesh(
     out: &mut [u32],
 )
     requires { ⌜ Body at body (length (now file)) × Low n ⌝ }
-    requires { ⌜ Ready (meshRowsOf which n) (readMesh brushes at (left body (now file))) base (length (now out)) ⌝ }
-    ensures { λ _. ⌜ now (out .exit) ≡ putRows (meshRowsOf which n) (readMesh brushes at (left body (now (file .entry)))) base (now (out .entry)) ⌝ }
+    requires { ⌜ Ready (meshRowsOf which n) (readMesh Lenient brushes at (left body (now file))) base (length (now out)) ⌝ }
+    ensures { λ _. ⌜ now (out .exit) ≡ putRows (meshRowsOf which n) (readMesh Lenient brushes at (left body (now (file .entry)))) base (now (out .entry)) ⌝ }
 {
     if which < 4 {
         return;

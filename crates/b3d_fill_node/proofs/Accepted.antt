@@ -13,6 +13,7 @@ use Rattle.layout.specs.Out.{Out, got, bad, _>>=_}
 use Rattle.layout.specs.Chunks.{done, stop, chunk}
 use Rattle.layout.specs.Parts.{Step, Name, wordsOf, row, named as namedOf}
 use Rattle.layout.proofs.Outs.{by-got, bad-got, got-inj}
+use Rattle.b3d_scene.specs.declared.Mode.the-variants.{Lenient}
 use Rattle.b3d_scene.specs.declared.Counts.{Counts}
 use Rattle.b3d_scene.specs.declared.Tag.{Tag}
 use Rattle.b3d_scene.specs.declared.Tag.the-variants.{BB3D, TEXS, BRUS, NODE, MESH, VRTS, TRIS, BONE, KEYS, ANIM}
@@ -108,7 +109,7 @@ module _ (brushes bones h : ℕ) (n : Counts) where
     anim-is = anim-found h cs m (ap (λ (x : Found Kind). readMoves still (x .rest)) ek ∙ em);
   }
 
-  cells-are : (cs : Chunks) (k : Found Kind) (m : Found Moves) → readKind brushes bones (order NODE h start cs) ≡ got k → readMoves still (k .rest) ≡ got m → Cells n cs (k .value) (m .value .anim)
+  cells-are : (cs : Chunks) (k : Found Kind) (m : Found Moves) → readKind Lenient brushes bones (order NODE h start cs) ≡ got k → readMoves still (k .rest) ≡ got m → Cells n cs (k .value) (m .value .anim)
   unfolding readKind order onward nextTurn if kindAt kindCells animAt aMesh aBone
   cells-are done k m ek em = no-kind done k m (got-inj ek) em refl
   cells-are (stop i p) k m ek em = bad-got ek
@@ -116,7 +117,7 @@ module _ (brushes bones h : ℕ) (n : Counts) where
   cells-are (chunk TEXS p b r) k m ek em = bad-got ek
   cells-are (chunk BRUS p b r) k m ek em = bad-got ek
   cells-are (chunk NODE p b r) k m ek em = no-kind (chunk NODE p b r) k m (got-inj ek) em refl
-  cells-are (chunk MESH p b r) k m ek em = by-got (readMesh brushes p b) _ ek (λ x ex e₁. after-first (mesh x) MESH p b r k m (got-inj e₁) em refl refl)
+  cells-are (chunk MESH p b r) k m ek em = by-got (readMesh Lenient brushes p b) _ ek (λ x ex e₁. after-first (mesh x) MESH p b r k m (got-inj e₁) em refl refl)
   cells-are (chunk VRTS p b r) k m ek em = bad-got ek
   cells-are (chunk TRIS p b r) k m ek em = bad-got ek
   cells-are (chunk BONE p b r) k m ek em = by-got (readBone bones p b) _ ek (λ ws ew e₁.
@@ -125,11 +126,11 @@ module _ (brushes bones h : ℕ) (n : Counts) where
   cells-are (chunk ANIM p b r) k m ek em = no-kind (chunk ANIM p b r) k m (got-inj ek) em refl
 
 -- the row of a node that was read
-pub row-accepted : (brushes : ℕ) (a : Option ℕ) (at : ℕ) (b : List ℕ) (x : Found Data) → readOwn brushes a at b ≡ got x → (parent : ℕ) (n : Counts)
+pub row-accepted : (brushes : ℕ) (a : Option ℕ) (at : ℕ) (b : List ℕ) (x : Found Data) → readOwn Lenient brushes a at b ≡ got x → (parent : ℕ) (n : Counts)
     → rowOf parent (n .meshes) (n .weights) (namedOf nodeRow (at + 8) b) ≡ nodeCells (x .value) parent n
 unfolding readOwn rowOf nodeCells inside
 row-accepted brushes a at b x e parent n =
     by-got (namedOf nodeRow (at + 8) b) _ e (λ h eh e₁.
-    by-got (readKind brushes (boneVertices a) (order NODE at start (split (h .place) (h .left)))) _ e₁ (λ k ek e₂.
+    by-got (readKind Lenient brushes (boneVertices a) (order NODE at start (split (h .place) (h .left)))) _ e₁ (λ k ek e₂.
     by-got (readMoves still (k .rest)) _ e₂ (λ m em e₃. let c = cells-are brushes (boneVertices a) at n (split (h .place) (h .left)) k m ek em in
     rw (eh, c .kind-is, c .anim-is) (ap (λ (d : Found Data). nodeCells (d .value) parent n) (got-inj e₃)))))

@@ -11,6 +11,7 @@ use Rattle.wire.specs.Cursors.{left}
 use Rattle.wire.specs.declared.Cursor.{Cursor}
 use Rattle.layout.specs.Out.{Out, got, bad, _>>=_}
 use Rattle.layout.proofs.Outs.{by-got, bad-got, got-inj}
+use Rattle.b3d_scene.specs.declared.Mode.the-variants.{Lenient}
 use Rattle.b3d_scene.specs.declared.Tag.the-variants.{NODE}
 use Rattle.b3d_scene.specs.declared.Counts.{Counts}
 use Rattle.b3d_scene.specs.Tags.{Found}
@@ -58,7 +59,7 @@ module _ (l b : ℕ) (above : Option ℕ) (d : Data) (f : Forest) (h : FitNodes 
 -- ---- the ways
 
 module _ (s : List ℕ) (at : ℕ) (body : Cursor) (g : Body at body (length s)) (l brushes : ℕ) (a : Option ℕ) (k : ℕ) (n : Counts) (out : List ℕ)
-    (h : Fillable alone (readNode l brushes a at (left body s)) l brushes a k n (length out)) where
+    (h : Fillable alone (readNode Lenient l brushes a at (left body s)) l brushes a k n (length out)) where
   pub node-lowest : 3 ≤ k
   node-lowest = h .lowest
 
@@ -82,15 +83,15 @@ module _ (s : List ℕ) (at : ℕ) (body : Cursor) (g : Body at body (length s))
   -- the node without those below, and the nodes below
   record Split : Type 0 where
     self : Found Data
-    self-is : readOwn brushes a at (left body s) ≡ got self
+    self-is : readOwn Lenient brushes a at (left body s) ≡ got self
     forest : Forest
-    forest-is : readNodes (readNode (l - 1) brushes (bonesBelow a (self .value))) (self .rest) ≡ got forest
+    forest-is : readNodes (readNode Lenient (l - 1) brushes (bonesBelow a (self .value))) (self .rest) ≡ got forest
     whole : h .value ≡ record { self = self .value; below = forest }
 
   parts : Split
   parts =
-      by-got (readOwn brushes a at (left body s)) _ (sym (node-open l brushes a at (left body s) not-deep) ∙ h .is) (λ d ed e.
-      by-got (readNodes (readNode (l - 1) brushes (bonesBelow a (d .value))) (d .rest)) _ e (λ f ef e₁.
+      by-got (readOwn Lenient brushes a at (left body s)) _ (sym (node-open Lenient l brushes a at (left body s) not-deep) ∙ h .is) (λ d ed e.
+      by-got (readNodes (readNode Lenient (l - 1) brushes (bonesBelow a (d .value))) (d .rest)) _ e (λ f ef e₁.
       record { self = d; self-is = ed; forest = f; forest-is = ef; whole = sym (got-inj e₁) }))
 
   fits : FitNodes l brushes a (node (parts .self .value) (parts .forest) leaf)
@@ -104,7 +105,7 @@ module _ (s : List ℕ) (at : ℕ) (body : Cursor) (g : Body at body (length s))
   room = rw (← at-end) (h .room)
 
   module _ (parent : ℕ) where
-    pub node-ready : Ready (ownRowsOf k parent n) (readOwn brushes a at (left body s)) (width k * before k n) (length out)
+    pub node-ready : Ready (ownRowsOf k parent n) (readOwn Lenient brushes a at (left body s)) (width k * before k n) (length out)
     unfolding ownRowsOf
     node-ready = record {
       value = parts .self;
@@ -115,7 +116,7 @@ module _ (s : List ℕ) (at : ℕ) (body : Cursor) (g : Body at body (length s))
           omega arith;
     }
 
-    module _ (put : List ℕ) (x : Own) (hx : OwnFilled a (readOwn brushes a at (left body s)) s at k parent n out put x) where
+    module _ (put : List ℕ) (x : Own) (hx : OwnFilled a (readOwn Lenient brushes a at (left body s)) s at k parent n out put x) where
       pub node-among : Among at (x .next) (length s)
       node-among = hx .among
 
@@ -125,10 +126,10 @@ module _ (s : List ℕ) (at : ℕ) (body : Cursor) (g : Body at body (length s))
       data-is : parts .self .value ≡ hx .value
       data-is = ap (λ (d : Found Data). d .value) same
 
-      below-is : readNodes (readNode (l - 1) brushes (aboveOf (x .above))) (restIn s NODE at (reached 3 false) (x .next)) ≡ got (parts .forest)
+      below-is : readNodes (readNode Lenient (l - 1) brushes (aboveOf (x .above))) (restIn s NODE at (reached 3 false) (x .next)) ≡ got (parts .forest)
       below-is =
-          ap (λ (q : Option ℕ). readNodes (readNode (l - 1) brushes q) (restIn s NODE at (reached 3 false) (x .next))) (hx .bones)
-          ∙ ap (λ (d : Found Data). readNodes (readNode (l - 1) brushes (bonesBelow a (d .value))) (d .rest)) (sym same) ∙ parts .forest-is
+          ap (λ (q : Option ℕ). readNodes (readNode Lenient (l - 1) brushes q) (restIn s NODE at (reached 3 false) (x .next))) (hx .bones)
+          ∙ ap (λ (d : Found Data). readNodes (readNode Lenient (l - 1) brushes (bonesBelow a (d .value))) (d .rest)) (sym same) ∙ parts .forest-is
 
       counted : x .counts ≡ withNode (parts .self .value) n
       counted = hx .counts ∙ ap (λ (d : Data). withNode d n) (sym data-is)
@@ -136,7 +137,7 @@ module _ (s : List ℕ) (at : ℕ) (body : Cursor) (g : Body at body (length s))
       stored-own : put ≡ stored out (width k * before k n) (words (ownRows k (parts .self .value) parent n))
       stored-own = hx .rows ∙ ap (λ (d : Data). stored out (width k * before k n) (words (ownRows k d parent n))) (sym data-is)
 
-      pub node-below : Fillable all (readNodes (readNode (l - 1) brushes (aboveOf (x .above))) (restIn s NODE at (reached 3 false) (x .next))) (l - 1) brushes (aboveOf (x .above)) k (x .counts) (length put)
+      pub node-below : Fillable all (readNodes (readNode Lenient (l - 1) brushes (aboveOf (x .above))) (restIn s NODE at (reached 3 false) (x .next))) (l - 1) brushes (aboveOf (x .above)) k (x .counts) (length put)
       node-below = record {
         value = parts .forest;
         is = below-is;
@@ -148,8 +149,8 @@ module _ (s : List ℕ) (at : ℕ) (body : Cursor) (g : Body at body (length s))
       }
 
       pub node-whole : (own : ℕ) → own ≡ n .nodes → (put₂ : List ℕ) (r : Counts)
-          → Filled all (readNodes (readNode (l - 1) brushes (aboveOf (x .above))) (restIn s NODE at (reached 3 false) (x .next))) k own (x .counts) put put₂ r
-          → Filled alone (readNode l brushes a at (left body s)) k parent n out put₂ r
+          → Filled all (readNodes (readNode Lenient (l - 1) brushes (aboveOf (x .above))) (restIn s NODE at (reached 3 false) (x .next))) k own (x .counts) put put₂ r
+          → Filled alone (readNode Lenient l brushes a at (left body s)) k parent n out put₂ r
       unfolding filled
       node-whole own eo put₂ r f = record {
         rows = λ v ev.

@@ -14,6 +14,7 @@ use Rattle.wire.specs.declared.Cursor.{Cursor}
 use Rattle.layout.specs.Out.{Out, got, bad}
 use Rattle.layout.specs.Chunks.{done, chunk}
 use Rattle.layout.proofs.Outs.{by-got, bad-got, got-inj}
+use Rattle.b3d_scene.specs.declared.Mode.the-variants.{Lenient}
 use Rattle.b3d_scene.specs.declared.Tag.{Tag}
 use Rattle.b3d_scene.specs.declared.Tag.the-variants.{BB3D, TEXS, BRUS, NODE, MESH, VRTS, TRIS, BONE, KEYS, ANIM}
 use Rattle.b3d_scene.specs.declared.Counts.{Counts}
@@ -88,12 +89,12 @@ pub record NodesLeft (s : List ℕ) (at : ℕ) (one : ℕ → List ℕ → Out I
 
 module _ (s : List ℕ) (at l brushes : ℕ) (a : Option ℕ) (k parent : ℕ) (from : Cursor) (n₀ : Counts) (out₀ : List ℕ) where
   abbrev one : ℕ → List ℕ → Out Inner
-  one = readNode l brushes a
+  one = readNode Lenient l brushes a
 
   abbrev Left : List ℕ → Cursor → Counts → Type 0
   Left out c n = NodesLeft s at one l brushes a k parent from n₀ out₀ out c n
 
-  pub nodes-start : Among at from (length s) → Fillable all (readNodes (readNode l brushes a) (restIn s NODE at (reached 3 false) from)) l brushes a k n₀ (length out₀) → Left out₀ from n₀
+  pub nodes-start : Among at from (length s) → Fillable all (readNodes (readNode Lenient l brushes a) (restIn s NODE at (reached 3 false) from)) l brushes a k n₀ (length out₀) → Left out₀ from n₀
   nodes-start g h = record {
     among = g;
     ready = h;
@@ -153,7 +154,7 @@ module _ (s : List ℕ) (at l brushes : ℕ) (a : Option ℕ) (k parent : ℕ) (
         small : Small (withForest (part .others) after)
         small = rw (← at-end) (v .ready .small)
 
-        pub nodes-ready : Fillable alone (readNode l brushes a p (left y s)) l brushes a k n (length out)
+        pub nodes-ready : Fillable alone (readNode Lenient l brushes a p (left y s)) l brushes a k n (length out)
         nodes-ready = record {
           value = part .first;
           is = part .first-is;
@@ -164,7 +165,7 @@ module _ (s : List ℕ) (at l brushes : ℕ) (a : Option ℕ) (k parent : ℕ) (
           small = small-before (part .others) after small;
         }
 
-        pub nodes-more : (put : List ℕ) (i : Counts) → Filled alone (readNode l brushes a p (left y s)) k parent n out put i → Left put m i
+        pub nodes-more : (put : List ℕ) (i : Counts) → Filled alone (readNode Lenient l brushes a p (left y s)) k parent n out put i → Left put m i
         unfolding filled withForest
         nodes-more put i f =
             let b = chunk-among s c r x t p y m w in

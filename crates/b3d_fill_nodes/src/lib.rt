@@ -4,6 +4,7 @@ ghost use mathlib.Core.Bool.{false};
 ghost use Prim.Native.Nat.{ℕ, _*_, _≤_};
 ghost use lib.ListN.{length};
 ghost use Rattle.wire.specs.Cursors.{left};
+ghost use Rattle.b3d_scene.specs.declared.Mode.the-variants.{Lenient};
 ghost use Rattle.b3d_scene.specs.declared.Tag.the-variants.{NODE};
 ghost use Rattle.b3d_scene.specs.Parse.{readNodes, readNode};
 ghost use Rattle.b3d_scene.specs.Tables.{width, reached as before};
@@ -17,6 +18,7 @@ use b3d_chunks::Next;
 use b3d_judge::Above;
 use b3d_judge::Owned;
 use b3d_scene::Counts;
+use b3d_scene::Mode;
 use wire::Cursor;
 
 // After a node itself: what it says of bones to those below, the counts with it, the cursor at its children.
@@ -39,12 +41,12 @@ fn fill_self(
     out: &mut [u32],
 ) -> Own
     requires { ⌜ Body at body (length (now file)) × Small n × (3 ≤ which) × (which ≤ 10) ⌝ }
-    requires { ⌜ Ready (ownRowsOf which parent n) (readOwn brushes (aboveOf above) at (left body (now file))) (width which * before which n) (length (now out)) ⌝ }
-    ensures { λ r. ⌜ OwnFilled (aboveOf above) (readOwn brushes (aboveOf above) at (left body (now (file .entry)))) (now (file .entry)) at which parent n (now (out .entry)) (now (out .exit)) r ⌝ }
+    requires { ⌜ Ready (ownRowsOf which parent n) (readOwn Lenient brushes (aboveOf above) at (left body (now file))) (width which * before which n) (length (now out)) ⌝ }
+    ensures { λ r. ⌜ OwnFilled (aboveOf above) (readOwn Lenient brushes (aboveOf above) at (left body (now (file .entry)))) (now (file .entry)) at which parent n (now (out .entry)) (now (out .exit)) r ⌝ }
 {
     let base = b3d_counts::words_before(which, n);
     b3d_fill_own::fill_own(file, at, body, brushes, above, which, parent, n, base, out);
-    match b3d_judge::nodes::judge_own(file, at, body, brushes, above) {
+    match b3d_judge::nodes::judge_own(file, at, body, brushes, above, Mode::Lenient) {
         // Not met: the node can be read.
         Owned::Not(_, _) => Own {
             above,
@@ -73,8 +75,8 @@ pub fn fill_node(
     out: &mut [u32],
 ) -> Counts
     requires { ⌜ Body at body (length (now file)) ⌝ }
-    requires { ⌜ Fillable alone (readNode levels brushes (aboveOf above) at (left body (now file))) levels brushes (aboveOf above) which n (length (now out)) ⌝ }
-    ensures { λ r. ⌜ Filled alone (readNode levels brushes (aboveOf above) at (left body (now (file .entry)))) which parent n (now (out .entry)) (now (out .exit)) r ⌝ }
+    requires { ⌜ Fillable alone (readNode Lenient levels brushes (aboveOf above) at (left body (now file))) levels brushes (aboveOf above) which n (length (now out)) ⌝ }
+    ensures { λ r. ⌜ Filled alone (readNode Lenient levels brushes (aboveOf above) at (left body (now (file .entry)))) which parent n (now (out .entry)) (now (out .exit)) r ⌝ }
 {
     let itself = b3d_rows::cell(n.nodes);
     let x = fill_self(file, at, body, brushes, above, which, parent, n, out);
@@ -107,8 +109,8 @@ fn fill_nodes(
     out: &mut [u32],
 ) -> Counts
     requires { ⌜ Among at from (length (now file)) ⌝ }
-    requires { ⌜ Fillable all (readNodes (readNode levels brushes (aboveOf above)) (restIn (now file) NODE at (reached 3 false) from)) levels brushes (aboveOf above) which n (length (now out)) ⌝ }
-    ensures { λ r. ⌜ Filled all (readNodes (readNode levels brushes (aboveOf above)) (restIn (now (file .entry)) NODE at (reached 3 false) from)) which parent n (now (out .entry)) (now (out .exit)) r ⌝ }
+    requires { ⌜ Fillable all (readNodes (readNode Lenient levels brushes (aboveOf above)) (restIn (now file) NODE at (reached 3 false) from)) levels brushes (aboveOf above) which n (length (now out)) ⌝ }
+    ensures { λ r. ⌜ Filled all (readNodes (readNode Lenient levels brushes (aboveOf above)) (restIn (now (file .entry)) NODE at (reached 3 false) from)) which parent n (now (out .entry)) (now (out .exit)) r ⌝ }
 {
     let mut c = from;
     let mut m = n;

@@ -16,6 +16,7 @@ use Rattle.wire.specs.declared.Cursor.{Cursor}
 use Rattle.layout.specs.Out.{got, _>>=_}
 use Rattle.layout.specs.Chunks.{chunk}
 use Rattle.layout.proofs.Outs.{by-test, by-got, bad-got, got-inj, if-no}
+use Rattle.b3d_scene.specs.declared.Mode.the-variants.{Lenient}
 use Rattle.b3d_scene.specs.declared.Tag.{Tag}
 use Rattle.b3d_scene.specs.declared.Tag.the-variants.{NODE, MESH, BONE}
 use Rattle.b3d_scene.specs.declared.Counts.{Counts}
@@ -76,21 +77,21 @@ pub kind-inside : (at l : ℕ) (c : Cursor) → Among at c l → Inside c l
 kind-inside at l c g = record { before = g .room; within = g .within }
 
 module _ (s : List ℕ) (at : ℕ) (c : Cursor) (r : Next) (x : NextIs s c r) (brushes bones which : ℕ) (n : Counts) (base l : ℕ)
-    (ready : Ready (kindRows which n) (readKind brushes bones (restIn s NODE at start c)) base l) where
+    (ready : Ready (kindRows which n) (readKind Lenient brushes bones (restIn s NODE at start c)) base l) where
   -- what the table is to hold
   abbrev Whole : List ℕ → List ℕ
-  Whole out = putRows (kindRows which n) (readKind brushes bones (restIn s NODE at start c)) base out
+  Whole out = putRows (kindRows which n) (readKind Lenient brushes bones (restIn s NODE at start c)) base out
 
-  nothing : (y : Found Kind) → readKind brushes bones (restIn s NODE at start c) ≡ got y → y .value ≡ pivot → (out : List ℕ) → out ≡ Whole out
-  nothing y e h out = no-rows (kindRows which n) (readKind brushes bones (restIn s NODE at start c)) base l ready (rw (got-inj (sym (ready .is) ∙ e)) (pivot-rows which n y h)) out
+  nothing : (y : Found Kind) → readKind Lenient brushes bones (restIn s NODE at start c) ≡ got y → y .value ≡ pivot → (out : List ℕ) → out ≡ Whole out
+  nothing y e h out = no-rows (kindRows which n) (readKind Lenient brushes bones (restIn s NODE at start c)) base l ready (rw (got-inj (sym (ready .is) ∙ e)) (pivot-rows which n y h)) out
 
   pub kind-done : r ≡ next.Done → (out : List ℕ) → out ≡ Whole out
   unfolding readKind order if
-  kind-done w out = nothing _ (ap (readKind brushes bones) (rest-done s c r x NODE at start w)) refl out
+  kind-done w out = nothing _ (ap (readKind Lenient brushes bones) (rest-done s c r x NODE at start w)) refl out
 
   pub kind-cut : (p : ℕ) → r ≡ next.Cut p → (out : List ℕ) → out ≡ Whole out
   unfolding readKind
-  kind-cut p w out = bad-got (sym (ap (readKind brushes bones) (rest-cut s c r x NODE at start p w)) ∙ ready .is)
+  kind-cut p w out = bad-got (sym (ap (readKind Lenient brushes bones) (rest-cut s c r x NODE at start p w)) ∙ ready .is)
 
   module _ (t : Tag) (p : ℕ) (b m : Cursor) (w : r ≡ next.Chunk t p b m) where
     pub kind-other : (ks : List ℕ) → OneOf ks (tagOf the-type t) → T (passed ks) → (out : List ℕ) → out ≡ Whole out
@@ -100,25 +101,25 @@ module _ (s : List ℕ) (at : ℕ) (c : Cursor) (r : Next) (x : NextIs s c r) (b
         go hm hb (nextTurn (nesting NODE) (nesting NODE) start t) (rest-chunk s c r x NODE at start t p b m w)
       where
         go : T (not (is t MESH)) → T (not (is t BONE)) → (q : Option Reached) → restIn s NODE at start c ≡ onward q p (λ z. chunk t p (left b s) (restIn s NODE at z m)) → out ≡ Whole out
-        go hm hb none e = bad-got (sym (ap (readKind brushes bones) e) ∙ ready .is)
-        go hm hb (some z) e = nothing _ (ap (readKind brushes bones) e ∙ if-no (is t MESH) _ _ hm ∙ if-no (is t BONE) _ _ hb) refl out
+        go hm hb none e = bad-got (sym (ap (readKind Lenient brushes bones) e) ∙ ready .is)
+        go hm hb (some z) e = nothing _ (ap (readKind Lenient brushes bones) e ∙ if-no (is t MESH) _ _ hm ∙ if-no (is t BONE) _ _ hb) refl out
 
     module _ (e : t ≡ MESH) where
-      mesh-read : readKind brushes bones (restIn s NODE at start c) ≡ (readMesh brushes p (left b s) >>= λ a. got (record { value = mesh a; rest = restIn s NODE at (reached 1 true) m }))
+      mesh-read : readKind Lenient brushes bones (restIn s NODE at start c) ≡ (readMesh Lenient brushes p (left b s) >>= λ a. got (record { value = mesh a; rest = restIn s NODE at (reached 1 true) m }))
       unfolding readKind aMesh nextTurn onward if
       mesh-read = rw (rest-chunk s c r x NODE at start t p b m w, e)
 
       same-mesh : (a : Mesh) (y : Found Kind) → got (record { value = mesh a; rest = restIn s NODE at (reached 1 true) m }) ≡ got y → kindRows which n y ≡ meshRowsOf which n a
       same-mesh a y h = mesh-rows which n y a (ap (λ (z : Found Kind). z .value) (sym (got-inj h)))
 
-      pub kind-mesh-ready : Ready (meshRowsOf which n) (readMesh brushes p (left b s)) base l
-      kind-mesh-ready = part-ready (kindRows which n) (readKind brushes bones (restIn s NODE at start c)) base l ready (meshRowsOf which n) (readMesh brushes p (left b s)) _ mesh-read same-mesh
+      pub kind-mesh-ready : Ready (meshRowsOf which n) (readMesh Lenient brushes p (left b s)) base l
+      kind-mesh-ready = part-ready (kindRows which n) (readKind Lenient brushes bones (restIn s NODE at start c)) base l ready (meshRowsOf which n) (readMesh Lenient brushes p (left b s)) _ mesh-read same-mesh
 
-      pub kind-mesh : (out put : List ℕ) → put ≡ putRows (meshRowsOf which n) (readMesh brushes p (left b s)) base out → put ≡ Whole out
-      kind-mesh = part-put (kindRows which n) (readKind brushes bones (restIn s NODE at start c)) base l ready (meshRowsOf which n) (readMesh brushes p (left b s)) _ mesh-read same-mesh
+      pub kind-mesh : (out put : List ℕ) → put ≡ putRows (meshRowsOf which n) (readMesh Lenient brushes p (left b s)) base out → put ≡ Whole out
+      kind-mesh = part-put (kindRows which n) (readKind Lenient brushes bones (restIn s NODE at start c)) base l ready (meshRowsOf which n) (readMesh Lenient brushes p (left b s)) _ mesh-read same-mesh
 
     module _ (e : t ≡ BONE) where
-      bone-read : readKind brushes bones (restIn s NODE at start c) ≡ (readBone bones p (left b s) >>= λ a. got (record { value = bone a; rest = restIn s NODE at (reached 1 true) m }))
+      bone-read : readKind Lenient brushes bones (restIn s NODE at start c) ≡ (readBone bones p (left b s) >>= λ a. got (record { value = bone a; rest = restIn s NODE at (reached 1 true) m }))
       unfolding readKind aBone nextTurn onward if
       bone-read = rw (rest-chunk s c r x NODE at start t p b m w, e)
 
@@ -126,14 +127,14 @@ module _ (s : List ℕ) (at : ℕ) (c : Cursor) (r : Next) (x : NextIs s c r) (b
       same-bone i a y h = bone-rows which n y a (ap (λ (z : Found Kind). z .value) (sym (got-inj h))) i
 
       pub kind-bone-ready : which ≡ 8 → Ready (λ ws. ws) (readBone bones p (left b s)) base l
-      kind-bone-ready i = part-ready (kindRows which n) (readKind brushes bones (restIn s NODE at start c)) base l ready (λ ws. ws) (readBone bones p (left b s)) _ bone-read (same-bone i)
+      kind-bone-ready i = part-ready (kindRows which n) (readKind Lenient brushes bones (restIn s NODE at start c)) base l ready (λ ws. ws) (readBone bones p (left b s)) _ bone-read (same-bone i)
 
       pub kind-bone : which ≡ 8 → (out put : List ℕ) → put ≡ putRows (λ ws. ws) (readBone bones p (left b s)) base out → put ≡ Whole out
-      kind-bone i = part-put (kindRows which n) (readKind brushes bones (restIn s NODE at start c)) base l ready (λ ws. ws) (readBone bones p (left b s)) _ bone-read (same-bone i)
+      kind-bone i = part-put (kindRows which n) (readKind Lenient brushes bones (restIn s NODE at start c)) base l ready (λ ws. ws) (readBone bones p (left b s)) _ bone-read (same-bone i)
 
       pub kind-no-bone : (which ≡ 8 → ⊥) → (out : List ℕ) → out ≡ Whole out
       kind-no-bone i out =
           by-got (readBone bones p (left b s)) _ (sym bone-read ∙ ready .is) (λ ws _ h.
-          no-rows (kindRows which n) (readKind brushes bones (restIn s NODE at start c)) base l ready (no-bone-rows which n (ready .value) ws (ap (λ (z : Found Kind). z .value) (sym (got-inj h))) i) out)
+          no-rows (kindRows which n) (readKind Lenient brushes bones (restIn s NODE at start c)) base l ready (no-bone-rows which n (ready .value) ws (ap (λ (z : Found Kind). z .value) (sym (got-inj h))) i) out)
 
 pub ruleset kind-laws = (no-kind, kind-low, kind-inside, chunk-body, kind-done, kind-cut, kind-other, kind-mesh-ready, kind-mesh, kind-bone-ready, kind-bone, kind-no-bone)

@@ -18,6 +18,7 @@ use Rattle.layout.specs.Parts.{wordsOf, named as namedOf}
 use Rattle.layout.specs.Chunks.{done, stop, chunk}
 use Rattle.layout.proofs.Outs.{by-test, bad-got, got-inj, bind-bind, bind-cong, if-yes, if-no}
 use Rattle.layout.proofs.StepLaws.{length-words-of}
+use Rattle.b3d_scene.specs.declared.Mode.the-variants.{Lenient}
 use Rattle.b3d_scene.specs.declared.Tag.the-variants.{NODE, ANIM}
 use Rattle.b3d_scene.specs.declared.Counts.{Counts}
 use Rattle.b3d_scene.specs.Tags.{Chunks, Found, is, split}
@@ -64,10 +65,10 @@ anim-four (chunk t p b r) = go (is t ANIM) (is t NODE) (anim-four r)
 
 module _ (s : List ℕ) (at : ℕ) (body : Cursor) (g : Body at body (length s)) (r : Named) (er : r ≡ namedAt s body 10)
     (brushes : ℕ) (a : Option ℕ) (which parent : ℕ) (n : Counts) (base l : ℕ)
-    (ready : Ready (ownRowsOf which parent n) (readOwn brushes a at (left body s)) base l) where
+    (ready : Ready (ownRowsOf which parent n) (readOwn Lenient brushes a at (left body s)) base l) where
   -- what the table is to hold
   abbrev Whole : List ℕ → List ℕ
-  Whole out = putRows (ownRowsOf which parent n) (readOwn brushes a at (left body s)) base out
+  Whole out = putRows (ownRowsOf which parent n) (readOwn Lenient brushes a at (left body s)) base out
 
   inside-body : Inside body (length s)
   inside-body = record { before = g .room; within = g .within }
@@ -102,7 +103,7 @@ module _ (s : List ℕ) (at : ℕ) (body : Cursor) (g : Body at body (length s))
     own-row-room h = omega (arith, ready .room, ap length (own-words h) ∙ cells-twenty)
 
     pub own-row : which ≡ 3 → (out put : List ℕ) → put ≡ sets out base (rowOf parent (n .meshes) (n .weights) (namedOf nodeRow (at + 8) (left body s))) → put ≡ Whole out
-    own-row h out put e = e ∙ sym (put-ready (ownRowsOf which parent n) (readOwn brushes a at (left body s)) base l ready out ∙ ap (sets out base) (own-words h))
+    own-row h out put e = e ∙ sym (put-ready (ownRowsOf which parent n) (readOwn Lenient brushes a at (left body s)) base l ready out ∙ ap (sets out base) (own-words h))
 
     -- the others
 
@@ -112,12 +113,12 @@ module _ (s : List ℕ) (at : ℕ) (body : Cursor) (g : Body at body (length s))
     abbrev called : Found (Kind × Moves) → Out (Found Data)
     called x = got (record { value = dataOf (x .value); rest = x .rest })
 
-    opened : readOwn brushes a at (left body s) ≡ (readParts brushes (boneVertices a) (restIn s NODE at start m) >>= called)
+    opened : readOwn Lenient brushes a at (left body s) ≡ (readParts Lenient brushes (boneVertices a) (restIn s NODE at start m) >>= called)
     unfolding readOwn readParts inside restIn
     opened =
         rw (← g .head, named-any s body 10 inside-body r er len v m w)
-        (bind-cong (readKind brushes (boneVertices a) (restIn s NODE at start m)) (λ k _. sym (bind-bind (readMoves still (k .rest)) _ called))
-        ∙ sym (bind-bind (readKind brushes (boneVertices a) (restIn s NODE at start m)) _ called))
+        (bind-cong (readKind Lenient brushes (boneVertices a) (restIn s NODE at start m)) (λ k _. sym (bind-bind (readMoves still (k .rest)) _ called))
+        ∙ sym (bind-bind (readKind Lenient brushes (boneVertices a) (restIn s NODE at start m)) _ called))
 
     module _ (low : which ≤ 10) (other : which ≡ 3 → ⊥) where
       same-parts : (x : Found (Kind × Moves)) (y : Found Data) → called x ≡ got y → ownRowsOf which parent n y ≡ partRows which n x
@@ -133,10 +134,10 @@ module _ (s : List ℕ) (at : ℕ) (body : Cursor) (g : Body at body (length s))
           (λ i. let z : which ≡ 10 = omega (arith, low, nltb→le which 10 i) in rw z)))
 
       module _ (bones : ℕ) (eb : bones ≡ boneVertices a) where
-        pub own-parts-ready : Ready (partRows which n) (readParts brushes bones (restIn s NODE at start m)) base l
-        own-parts-ready = rw eb (part-ready (ownRowsOf which parent n) (readOwn brushes a at (left body s)) base l ready (partRows which n) (readParts brushes (boneVertices a) (restIn s NODE at start m)) called opened same-parts)
+        pub own-parts-ready : Ready (partRows which n) (readParts Lenient brushes bones (restIn s NODE at start m)) base l
+        own-parts-ready = rw eb (part-ready (ownRowsOf which parent n) (readOwn Lenient brushes a at (left body s)) base l ready (partRows which n) (readParts Lenient brushes (boneVertices a) (restIn s NODE at start m)) called opened same-parts)
 
-        pub own-parts : (out put : List ℕ) → put ≡ putRows (partRows which n) (readParts brushes bones (restIn s NODE at start m)) base out → put ≡ Whole out
-        own-parts out put e = part-put (ownRowsOf which parent n) (readOwn brushes a at (left body s)) base l ready (partRows which n) (readParts brushes (boneVertices a) (restIn s NODE at start m)) called opened same-parts out put (e ∙ ap (λ (b : ℕ). putRows (partRows which n) (readParts brushes b (restIn s NODE at start m)) base out) eb)
+        pub own-parts : (out put : List ℕ) → put ≡ putRows (partRows which n) (readParts Lenient brushes bones (restIn s NODE at start m)) base out → put ≡ Whole out
+        own-parts out put e = part-put (ownRowsOf which parent n) (readOwn Lenient brushes a at (left body s)) base l ready (partRows which n) (readParts Lenient brushes (boneVertices a) (restIn s NODE at start m)) called opened same-parts out put (e ∙ ap (λ (b : ℕ). putRows (partRows which n) (readParts Lenient brushes b (restIn s NODE at start m)) base out) eb)
 
 pub ruleset own-laws = (own-among, own-cut, own-row-room, own-row, own-parts-ready, own-parts)

@@ -3,6 +3,7 @@ ghost use mathlib.Core.Path.{_≡_};
 ghost use Prim.Native.Nat.{ℕ, _≤_};
 ghost use lib.ListN.{length};
 ghost use Rattle.wire.specs.Cursors.{left};
+ghost use Rattle.b3d_scene.specs.declared.Mode.the-variants.{Lenient};
 ghost use Rattle.b3d_scene.specs.declared.Tag.the-variants.{NODE};
 ghost use Rattle.b3d_scene.specs.Nesting.{start};
 ghost use Rattle.b3d_scene.specs.Parse.{readKind};
@@ -17,6 +18,7 @@ use b3d_chunks::Next;
 use b3d_judge::Above;
 use b3d_judge::Kinded;
 use b3d_scene::Counts;
+use b3d_scene::Mode;
 use b3d_scene::Tag;
 use wire::Cursor;
 
@@ -34,8 +36,8 @@ pub fn fill_kind(
     out: &mut [u32],
 )
     requires { ⌜ Among at from (length (now file)) × Small n ⌝ }
-    requires { ⌜ Ready (kindRows which n) (readKind brushes bones (restIn (now file) NODE at start from)) base (length (now out)) ⌝ }
-    ensures { λ _. ⌜ now (out .exit) ≡ putRows (kindRows which n) (readKind brushes bones (restIn (now (file .entry)) NODE at start from)) base (now (out .entry)) ⌝ }
+    requires { ⌜ Ready (kindRows which n) (readKind Lenient brushes bones (restIn (now file) NODE at start from)) base (length (now out)) ⌝ }
+    ensures { λ _. ⌜ now (out .exit) ≡ putRows (kindRows which n) (readKind Lenient brushes bones (restIn (now (file .entry)) NODE at start from)) base (now (out .entry)) ⌝ }
 {
     match b3d_chunks::next_chunk(file, from) {
         Next::Done => {}
@@ -72,14 +74,14 @@ pub fn fill_parts(
     out: &mut [u32],
 )
     requires { ⌜ Among at from (length (now file)) × Small n ⌝ }
-    requires { ⌜ Ready (partRows which n) (readParts brushes bones (restIn (now file) NODE at start from)) base (length (now out)) ⌝ }
-    ensures { λ _. ⌜ now (out .exit) ≡ putRows (partRows which n) (readParts brushes bones (restIn (now (file .entry)) NODE at start from)) base (now (out .entry)) ⌝ }
+    requires { ⌜ Ready (partRows which n) (readParts Lenient brushes bones (restIn (now file) NODE at start from)) base (length (now out)) ⌝ }
+    ensures { λ _. ⌜ now (out .exit) ≡ putRows (partRows which n) (readParts Lenient brushes bones (restIn (now (file .entry)) NODE at start from)) base (now (out .entry)) ⌝ }
 {
     if which < 9 {
         fill_kind(file, at, from, brushes, bones, which, n, base, out);
         return;
     }
-    match b3d_judge::nodes::judge_kind(file, at, from, brushes, bones) {
+    match b3d_judge::nodes::judge_kind(file, at, from, brushes, bones, Mode::Lenient) {
         Kinded::Not(_, _) => {}
         Kinded::To(_, _, c) => {
             b3d_fill_moves::fill_moves(file, at, c, which, n.nodes, n.keys, base, out);
@@ -101,8 +103,8 @@ pub fn fill_own(
     out: &mut [u32],
 )
     requires { ⌜ Body at body (length (now file)) × Small n × (3 ≤ which) × (which ≤ 10) ⌝ }
-    requires { ⌜ Ready (ownRowsOf which parent n) (readOwn brushes (aboveOf above) at (left body (now file))) base (length (now out)) ⌝ }
-    ensures { λ _. ⌜ now (out .exit) ≡ putRows (ownRowsOf which parent n) (readOwn brushes (aboveOf above) at (left body (now (file .entry)))) base (now (out .entry)) ⌝ }
+    requires { ⌜ Ready (ownRowsOf which parent n) (readOwn Lenient brushes (aboveOf above) at (left body (now file))) base (length (now out)) ⌝ }
+    ensures { λ _. ⌜ now (out .exit) ≡ putRows (ownRowsOf which parent n) (readOwn Lenient brushes (aboveOf above) at (left body (now (file .entry)))) base (now (out .entry)) ⌝ }
 {
     let bones = b3d_judge::nodes::bone_vertices(above);
     match b3d_chunks::named_row(file, body, 10) {

@@ -12,6 +12,7 @@ use Rattle.wire.specs.declared.Cursor.{Cursor}
 use Rattle.layout.specs.Out.{Out, got, bad, _>>=_}
 use Rattle.layout.specs.Chunks.{ended}
 use Rattle.layout.proofs.Outs.{got-inj}
+use Rattle.b3d_scene.specs.declared.Mode.{Mode}
 use Rattle.b3d_scene.specs.declared.Tag.{Tag}
 use Rattle.b3d_scene.specs.declared.Tag.the-variants.{BB3D, TEXS, BRUS, NODE, MESH, VRTS, TRIS, BONE, KEYS, ANIM}
 use Rattle.b3d_scene.specs.Tags.{Chunks, Found}
@@ -114,15 +115,15 @@ file-next ANIM = refl
 
 -- ---- the nodes, and nothing after them
 
-module _ (s : List ℕ) (from : Cursor) (g : Among 0 from (length s)) (count : ℕ)
-    (i : Phase) (hi : Phases forestTally (readOne NODE leaf (readRoot count) (restIn s BB3D 0 (reached 2 true) from)) (restIn s BB3D 0 (reached 3 true)) from i) where
+module _ (mode : Mode) (s : List ℕ) (from : Cursor) (g : Among 0 from (length s)) (count : ℕ)
+    (i : Phase) (hi : Phases forestTally (readOne NODE leaf (readRoot mode count) (restIn s BB3D 0 (reached 2 true) from)) (restIn s BB3D 0 (reached 3 true)) from i) where
   abbrev Last : Judged → Type 0
-  Last y = Judges forestTally (readLast count (restIn s BB3D 0 (reached 2 true) from)) (from .at) (from .end) y
+  Last y = Judges forestTally (readLast mode count (restIn s BB3D 0 (reached 2 true) from)) (from .at) (from .end) y
 
   pub last-bad : (e q : ℕ) → i ≡ phase.Not e q → Last (judge.Bad e q)
   unfolding readLast
   last-bad e q w =
-      let n = tallied-bad forestTally (readOne NODE leaf (readRoot count) (restIn s BB3D 0 (reached 2 true) from)) e q (phases-at forestTally (readOne NODE leaf (readRoot count) (restIn s BB3D 0 (reached 2 true) from)) (restIn s BB3D 0 (reached 3 true)) from i hi w) in
+      let n = tallied-bad forestTally (readOne NODE leaf (readRoot mode count) (restIn s BB3D 0 (reached 2 true) from)) e q (phases-at forestTally (readOne NODE leaf (readRoot mode count) (restIn s BB3D 0 (reached 2 true) from)) (restIn s BB3D 0 (reached 3 true)) from i hi w) in
       record { is = rw n; within = subst (PhasedIn from) w (hi .within) }
 
   module _ (f : Tally) (end : Cursor) (w : i ≡ phase.To f end) where
@@ -135,10 +136,10 @@ module _ (s : List ℕ) (from : Cursor) (g : Among 0 from (length s)) (count : �
     pub last-head : 0 ≤ end .at
     last-head = omega arith
 
-    gave : GaveFound forestTally (readOne NODE leaf (readRoot count) (restIn s BB3D 0 (reached 2 true) from)) f (restIn s BB3D 0 (reached 3 true) end)
-    gave = tallied-good forestTally (readOne NODE leaf (readRoot count) (restIn s BB3D 0 (reached 2 true) from)) f (restIn s BB3D 0 (reached 3 true) end) (phases-at forestTally (readOne NODE leaf (readRoot count) (restIn s BB3D 0 (reached 2 true) from)) (restIn s BB3D 0 (reached 3 true)) from i hi w)
+    gave : GaveFound forestTally (readOne NODE leaf (readRoot mode count) (restIn s BB3D 0 (reached 2 true) from)) f (restIn s BB3D 0 (reached 3 true) end)
+    gave = tallied-good forestTally (readOne NODE leaf (readRoot mode count) (restIn s BB3D 0 (reached 2 true) from)) f (restIn s BB3D 0 (reached 3 true) end) (phases-at forestTally (readOne NODE leaf (readRoot mode count) (restIn s BB3D 0 (reached 2 true) from)) (restIn s BB3D 0 (reached 3 true)) from i hi w)
 
-    last-read : readLast count (restIn s BB3D 0 (reached 2 true) from) ≡ ended (restIn s BB3D 0 (reached 3 true) end) (gave .value)
+    last-read : readLast mode count (restIn s BB3D 0 (reached 2 true) from) ≡ ended (restIn s BB3D 0 (reached 3 true) end) (gave .value)
     unfolding readLast
     last-read = ap (λ (o : Out (Found Forest)). o >>= λ n. ended (n .rest) (n .value)) (gave .is)
 
@@ -167,30 +168,30 @@ pub ruleset last-laws = (last-bad, last-inside, last-head, last-stop, last-end, 
 
 -- ---- the ways of `judge_rest`
 
-module _ (s : List ℕ) (c : Cursor) (g : Among 0 c (length s)) (textures : ℕ)
-    (k : Brushed) (hk : Brushes (readOne BRUS (0, []) (readBrushes textures) (restIn s BB3D 0 (reached 1 true) c)) (restIn s BB3D 0 (reached 2 true)) c k) where
+module _ (mode : Mode) (s : List ℕ) (c : Cursor) (g : Among 0 c (length s)) (textures : ℕ)
+    (k : Brushed) (hk : Brushes (readOne BRUS (0, []) (readBrushes mode textures) (restIn s BB3D 0 (reached 1 true) c)) (restIn s BB3D 0 (reached 2 true)) c k) where
   abbrev Right-rest : Slotted → Type 0
-  Right-rest y = Rests (readRest textures (restIn s BB3D 0 (reached 1 true) c)) (c .at) (c .end) y
+  Right-rest y = Rests (readRest mode textures (restIn s BB3D 0 (reached 1 true) c)) (c .at) (c .end) y
 
   -- the nodes after brushes
   abbrev after : ℕ × List Brush → Out Forest → Out ((ℕ × List Brush) × Forest)
   after u o = o >>= λ f. got ((slotsOf (u .0) (u .1), u .1), f)
 
   abbrev go : Out (Found (ℕ × List Brush)) → Out ((ℕ × List Brush) × Forest)
-  go o = o >>= λ u. after (u .value) (readLast (length (u .value .1)) (u .rest))
+  go o = o >>= λ u. after (u .value) (readLast mode (length (u .value .1)) (u .rest))
 
   pub rest-brus-bad : (e q : ℕ) → k ≡ brushed.Not e q → Right-rest (slotted.Not e q)
   unfolding readRest
   rest-brus-bad e q y =
-      let b = brushes-bad (readOne BRUS (0, []) (readBrushes textures) (restIn s BB3D 0 (reached 1 true) c)) e q (brushes-at (readOne BRUS (0, []) (readBrushes textures) (restIn s BB3D 0 (reached 1 true) c)) (restIn s BB3D 0 (reached 2 true)) c k hk y) in
+      let b = brushes-bad (readOne BRUS (0, []) (readBrushes mode textures) (restIn s BB3D 0 (reached 1 true) c)) e q (brushes-at (readOne BRUS (0, []) (readBrushes mode textures) (restIn s BB3D 0 (reached 1 true) c)) (restIn s BB3D 0 (reached 2 true)) c k hk y) in
       record { is = rw b; within = subst (BrushedIn c) y (hk .within) }
 
   module _ (slots : ℕ) (b : Tally) (d : Cursor) (y : k ≡ brushed.To slots b d) where
     brus-on : Onward c d b
     brus-on = subst (BrushedIn c) y (hk .within)
 
-    pub gave-brus : GaveBrushes (readOne BRUS (0, []) (readBrushes textures) (restIn s BB3D 0 (reached 1 true) c)) slots b (restIn s BB3D 0 (reached 2 true) d)
-    gave-brus = brushes-good (readOne BRUS (0, []) (readBrushes textures) (restIn s BB3D 0 (reached 1 true) c)) slots b (restIn s BB3D 0 (reached 2 true) d) (brushes-at (readOne BRUS (0, []) (readBrushes textures) (restIn s BB3D 0 (reached 1 true) c)) (restIn s BB3D 0 (reached 2 true)) c k hk y)
+    pub gave-brus : GaveBrushes (readOne BRUS (0, []) (readBrushes mode textures) (restIn s BB3D 0 (reached 1 true) c)) slots b (restIn s BB3D 0 (reached 2 true) d)
+    gave-brus = brushes-good (readOne BRUS (0, []) (readBrushes mode textures) (restIn s BB3D 0 (reached 1 true) c)) slots b (restIn s BB3D 0 (reached 2 true) d) (brushes-at (readOne BRUS (0, []) (readBrushes mode textures) (restIn s BB3D 0 (reached 1 true) c)) (restIn s BB3D 0 (reached 2 true)) c k hk y)
 
     pub rest-among : Among 0 d (length s)
     rest-among = let o = brus-on in record { head = omega (arith, g .head, o .from-at); room = o .room; within = omega (arith, g .within, o .same); small = g .small }
@@ -198,17 +199,17 @@ module _ (s : List ℕ) (c : Cursor) (g : Among 0 c (length s)) (textures : ℕ)
     pub rest-brus-small : Within b mostBytes
     rest-brus-small = let o = brus-on in let a = rest-among in within-more (d .at - c .at) mostBytes (o .within) (omega (arith, a .room, a .within, a .small))
 
-    brus-read : readRest textures (restIn s BB3D 0 (reached 1 true) c) ≡ after (gave-brus .value) (readLast (b .brushes) (restIn s BB3D 0 (reached 2 true) d))
+    brus-read : readRest mode textures (restIn s BB3D 0 (reached 1 true) c) ≡ after (gave-brus .value) (readLast mode (b .brushes) (restIn s BB3D 0 (reached 2 true) d))
     unfolding readRest
     brus-read =
         let a = gave-brus in
         let e : length (a .value .1) ≡ b .brushes = sym (ap (λ (q : Tally). q .brushes) (a .has) ∙ brus-count (slotsOf (a .value .0) (a .value .1)) (a .value .1)) in
-        ap go (a .is) ∙ ap (λ (n : ℕ). after (a .value) (readLast n (restIn s BB3D 0 (reached 2 true) d))) e
+        ap go (a .is) ∙ ap (λ (n : ℕ). after (a .value) (readLast mode n (restIn s BB3D 0 (reached 2 true) d))) e
 
-    module _ (i : Judged) (hi : Judges forestTally (readLast (b .brushes) (restIn s BB3D 0 (reached 2 true) d)) (d .at) (d .end) i) where
+    module _ (i : Judged) (hi : Judges forestTally (readLast mode (b .brushes) (restIn s BB3D 0 (reached 2 true) d)) (d .at) (d .end) i) where
       pub rest-last-bad : (e q : ℕ) → i ≡ judge.Bad e q → Right-rest (slotted.Not e q)
       rest-last-bad e q w =
-          let n = judged-bad forestTally (readLast (b .brushes) (restIn s BB3D 0 (reached 2 true) d)) e q (sym (hi .is) ∙ w) in
+          let n = judged-bad forestTally (readLast mode (b .brushes) (restIn s BB3D 0 (reached 2 true) d)) e q (sym (hi .is) ∙ w) in
           let le : q ≤ d .end = subst (JudgedIn (d .at) (d .end)) w (hi .within) in
           let o = brus-on in
           record { is = rw (brus-read, n); within = omega (arith, o .same) }
@@ -224,9 +225,9 @@ module _ (s : List ℕ) (c : Cursor) (g : Among 0 c (length s)) (textures : ℕ)
         rest-good m e =
             let o = brus-on in
             let u = gave-brus in
-            let v = judged-good forestTally (readLast (b .brushes) (restIn s BB3D 0 (reached 2 true) d)) f (sym (hi .is) ∙ w) in
+            let v = judged-good forestTally (readLast mode (b .brushes) (restIn s BB3D 0 (reached 2 true) d)) f (sym (hi .is) ∙ w) in
             let n = slotsOf (u .value .0) (u .value .1) in
-            let to : readRest textures (restIn s BB3D 0 (reached 1 true) c) ≡ got ((n, u .value .1), v .value) = brus-read ∙ ap (after (u .value)) (v .is) in
+            let to : readRest mode textures (restIn s BB3D 0 (reached 1 true) c) ≡ got ((n, u .value .1), v .value) = brus-read ∙ ap (after (u .value)) (v .is) in
             record {
               is = ap₂ slotted.Is (u .slots) (e ∙ ap₂ plus (u .has) (v .has)) ∙ ap rested (sym to);
               within = rw e (within-plus b f (d .at - c .at) (d .end - d .at) (c .end - c .at) (o .within) last-within (omega (arith, o .from-at, o .room, o .same)));
@@ -250,17 +251,17 @@ pub ruleset file-rows-laws = (rows-head-small, rows-first-small, rows-sum)
 
 -- ---- the ways of `judge_chunks`
 
-module _ (s : List ℕ) (v : ℕ) (from : Cursor) (g : Among 0 from (length s)) (twelve : from .at ≡ 12)
+module _ (mode : Mode) (s : List ℕ) (v : ℕ) (from : Cursor) (g : Among 0 from (length s)) (twelve : from .at ≡ 12)
     (j : Phase) (hj : Phases texsTally (readOne TEXS [] readTextures (restIn s BB3D 0 start from)) (restIn s BB3D 0 (reached 1 true)) from j) where
   abbrev Right : Verdict → Type 0
-  Right y = Walks (readChunks v (restIn s BB3D 0 start from)) (from .end) y
+  Right y = Walks (readChunks mode v (restIn s BB3D 0 start from)) (from .end) y
 
   -- the rest after textures
   abbrev then : List Texture → Out ((ℕ × List Brush) × Forest) → Out Scene
   then t o = o >>= λ x. got (record { version = v; textures = t; slots = x .0 .0; brushes = x .0 .1; nodes = x .1 })
 
   abbrev all : Out (Found (List Texture)) → Out Scene
-  all o = o >>= λ t. then (t .value) (readRest (length (t .value)) (t .rest))
+  all o = o >>= λ t. then (t .value) (readRest mode (length (t .value)) (t .rest))
 
   pub chunks-texs-bad : (e q : ℕ) → j ≡ phase.Not e q → Right (verdict.Bad e q)
   unfolding readChunks
@@ -287,17 +288,17 @@ module _ (s : List ℕ) (v : ℕ) (from : Cursor) (g : Among 0 from (length s)) 
     pub chunks-first-small : Within (plus (bytesTally 12) t) mostBytes
     chunks-first-small = let a = chunks-among in within-more (c .at) mostBytes first-within (omega (arith, a .room, a .within, a .small))
 
-    texs-read : readChunks v (restIn s BB3D 0 start from) ≡ then (gave-texs .value) (readRest (t .textures) (restIn s BB3D 0 (reached 1 true) c))
+    texs-read : readChunks mode v (restIn s BB3D 0 start from) ≡ then (gave-texs .value) (readRest mode (t .textures) (restIn s BB3D 0 (reached 1 true) c))
     unfolding readChunks
     texs-read =
         let a = gave-texs in
         let e : length (a .value) ≡ t .textures = sym (ap (λ (q : Tally). q .textures) (a .has) ∙ texs-count (a .value)) in
-        ap all (a .is) ∙ ap (λ (n : ℕ). then (a .value) (readRest n (restIn s BB3D 0 (reached 1 true) c))) e
+        ap all (a .is) ∙ ap (λ (n : ℕ). then (a .value) (readRest mode n (restIn s BB3D 0 (reached 1 true) c))) e
 
-    module _ (i : Slotted) (hi : Rests (readRest (t .textures) (restIn s BB3D 0 (reached 1 true) c)) (c .at) (c .end) i) where
+    module _ (i : Slotted) (hi : Rests (readRest mode (t .textures) (restIn s BB3D 0 (reached 1 true) c)) (c .at) (c .end) i) where
       pub chunks-rest-bad : (e q : ℕ) → i ≡ slotted.Not e q → Right (verdict.Bad e q)
       chunks-rest-bad e q w =
-          let n = rested-bad (readRest (t .textures) (restIn s BB3D 0 (reached 1 true) c)) e q (sym (hi .is) ∙ w) in
+          let n = rested-bad (readRest mode (t .textures) (restIn s BB3D 0 (reached 1 true) c)) e q (sym (hi .is) ∙ w) in
           let le : q ≤ c .end = subst (SlottedIn (c .at) (c .end)) w (hi .within) in
           let o = texs-on in
           record { is = rw (texs-read, n); within = omega (arith, o .same) }
@@ -314,8 +315,8 @@ module _ (s : List ℕ) (v : ℕ) (from : Cursor) (g : Among 0 from (length s)) 
         chunks-good m e =
             let o = texs-on in
             let a = gave-texs in
-            let x = rested-good (readRest (t .textures) (restIn s BB3D 0 (reached 1 true) c)) slots r (sym (hi .is) ∙ w) in
-            let to : readChunks v (restIn s BB3D 0 start from) ≡ got (record { version = v; textures = a .value; slots = x .value .0 .0; brushes = x .value .0 .1; nodes = x .value .1 }) =
+            let x = rested-good (readRest mode (t .textures) (restIn s BB3D 0 (reached 1 true) c)) slots r (sym (hi .is) ∙ w) in
+            let to : readChunks mode v (restIn s BB3D 0 start from) ≡ got (record { version = v; textures = a .value; slots = x .value .0 .0; brushes = x .value .0 .1; nodes = x .value .1 }) =
             texs-read ∙ ap (then (a .value)) (x .is) in
             let total : m ≡ plus (plus (plus (bytesTally 12) (texsTally (a .value))) (brusTally (x .value .0 .0) (x .value .0 .1))) (forestTally (x .value .1)) =
             e ∙ ap₂ plus (ap (plus (bytesTally 12)) (a .has)) (x .has)

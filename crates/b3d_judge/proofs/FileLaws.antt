@@ -13,6 +13,7 @@ use Rattle.wire.specs.Test.{if}
 use Rattle.wire.specs.Cursors.{left}
 use Rattle.wire.specs.declared.Cursor.{Cursor}
 use Rattle.layout.specs.Out.{Out, got, bad, _>>=_}
+use Rattle.b3d_scene.specs.declared.Mode.{Mode}
 use Rattle.b3d_scene.specs.declared.Tag.{Tag}
 use Rattle.b3d_scene.specs.declared.Tag.the-variants.{BB3D, TEXS, BRUS, NODE}
 use Rattle.b3d_scene.specs.Tags.{is}
@@ -171,32 +172,32 @@ unfolding nextTurn if
 root-turn y t =
     by-tag (λ t. nextTurn (nesting BB3D) (nesting BB3D) (reached 2 true) t ≡ some y → t ≡ NODE) (never, never, never, (λ h. refl), never, never, never, never, never, never) t
 
-module _ (s : List ℕ) (from : Cursor) (g : Among 0 from (length s)) (r : Enclosed) (x : EnclosedIs s BB3D 0 (record { turn = 2; spent = true }) from r) (count : ℕ) where
+module _ (mode : Mode) (s : List ℕ) (from : Cursor) (g : Among 0 from (length s)) (r : Enclosed) (x : EnclosedIs s BB3D 0 (record { turn = 2; spent = true }) from r) (count : ℕ) where
   abbrev Root : Phase → Type 0
-  Root y = Phases forestTally (readOne NODE leaf (readRoot count) (restIn s BB3D 0 (reached 2 true) from)) (restIn s BB3D 0 (reached 3 true)) from y
+  Root y = Phases forestTally (readOne NODE leaf (readRoot mode count) (restIn s BB3D 0 (reached 2 true) from)) (restIn s BB3D 0 (reached 3 true)) from y
 
   pub root-end : r ≡ enclosed.End → (m : Tally) → m ≡ noTally → Root (phase.To m from)
-  root-end = phase-end s from g (record { turn = 2; spent = true }) r x NODE leaf (readRoot count) (reached 3 true) forestTally none-root
+  root-end = phase-end s from g (record { turn = 2; spent = true }) r x NODE leaf (readRoot mode count) (reached 3 true) forestTally none-root
 
   pub root-stop : (e p : ℕ) → r ≡ enclosed.Not e p → Root (phase.Not e p)
-  root-stop = phase-stop s from g (record { turn = 2; spent = true }) r x NODE leaf (readRoot count) (reached 3 true) forestTally none-root
+  root-stop = phase-stop s from g (record { turn = 2; spent = true }) r x NODE leaf (readRoot mode count) (reached 3 true) forestTally none-root
 
-  module _ (t : Tag) (p : ℕ) (b n : Cursor) (v : State) (w : r ≡ enclosed.Chunk t p b n v) (j : Judged) (hj : Judges innerTally (readNode 16 count none p (left b s)) p (b .end) j) where
-    root-read : readOne NODE leaf (readRoot count) (restIn s BB3D 0 (reached 2 true) from) ≡ (readRoot count p (left b s) >>= λ y. got (record { value = y; rest = restIn s BB3D 0 (reached 3 true) n }))
+  module _ (t : Tag) (p : ℕ) (b n : Cursor) (v : State) (w : r ≡ enclosed.Chunk t p b n v) (j : Judged) (hj : Judges innerTally (readNode mode 16 count none p (left b s)) p (b .end) j) where
+    root-read : readOne NODE leaf (readRoot mode count) (restIn s BB3D 0 (reached 2 true) from) ≡ (readRoot mode count p (left b s) >>= λ y. got (record { value = y; rest = restIn s BB3D 0 (reached 3 true) n }))
     unfolding nextTurn if
     root-read =
-        one-read s from (next.Chunk t p b n) (found s from g (record { turn = 2; spent = true }) r x t p b n v w) NODE leaf (readRoot count) (reached 2 true) (reached 3 true) t p b n refl
+        one-read s from (next.Chunk t p b n) (found s from g (record { turn = 2; spent = true }) r x t p b n v w) NODE leaf (readRoot mode count) (reached 2 true) (reached 3 true) t p b n refl
         (root-turn (reachedOf v) t (step-turn s BB3D 0 (record { turn = 2; spent = true }) from r x t p b n v w)) refl tt
 
-    root-is : Judges forestTally (readRoot count p (left b s)) p (b .end) j
+    root-is : Judges forestTally (readRoot mode count p (left b s)) p (b .end) j
     unfolding readRoot
-    root-is = root-judges (readNode 16 count none p (left b s)) p (b .end) j hj
+    root-is = root-judges (readNode mode 16 count none p (left b s)) p (b .end) j hj
 
     pub root-bad : (i q : ℕ) → j ≡ judge.Bad i q → Root (phase.Not i q)
-    root-bad = phase-bad s from g (record { turn = 2; spent = true }) r x NODE leaf (readRoot count) (reached 3 true) forestTally none-root t p b n v w root-read j root-is
+    root-bad = phase-bad s from g (record { turn = 2; spent = true }) r x NODE leaf (readRoot mode count) (reached 3 true) forestTally none-root t p b n v w root-read j root-is
 
     pub root-good : (m : Tally) → j ≡ judge.Good m → Root (phase.To m n)
-    root-good = phase-good s from g (record { turn = 2; spent = true }) r x NODE leaf (readRoot count) (reached 3 true) forestTally none-root t p b n v w root-read j root-is
+    root-good = phase-good s from g (record { turn = 2; spent = true }) r x NODE leaf (readRoot mode count) (reached 3 true) forestTally none-root t p b n v w root-read j root-is
 
 pub ruleset root-laws = (among-inside, among-head, file-body, root-end, root-stop, root-bad, root-good)
 
@@ -220,39 +221,39 @@ pub brus-follows : T (plain BB3D (λ u. is u BRUS) (reached 1 true) (reached 2 t
 unfolding plain isNone sameTurn boolSame nextTurn if
 brus-follows = tt
 
-module _ (s : List ℕ) (from : Cursor) (g : Among 0 from (length s)) (r : Enclosed) (x : EnclosedIs s BB3D 0 (record { turn = 1; spent = true }) from r) (textures : ℕ) where
+module _ (mode : Mode) (s : List ℕ) (from : Cursor) (g : Among 0 from (length s)) (r : Enclosed) (x : EnclosedIs s BB3D 0 (record { turn = 1; spent = true }) from r) (textures : ℕ) where
   abbrev Brus : Brushed → Type 0
-  Brus y = Brushes (readOne BRUS (0, []) (readBrushes textures) (restIn s BB3D 0 (reached 1 true) from)) (restIn s BB3D 0 (reached 2 true)) from y
+  Brus y = Brushes (readOne BRUS (0, []) (readBrushes mode textures) (restIn s BB3D 0 (reached 1 true) from)) (restIn s BB3D 0 (reached 2 true)) from y
 
-  brus-left : (m : Tally) → m ≡ noTally → readOne BRUS (0, []) (readBrushes textures) (restIn s BB3D 0 (reached 1 true) from) ≡ got (record { value = (0, []); rest = restIn s BB3D 0 (reached 2 true) from })
+  brus-left : (m : Tally) → m ≡ noTally → readOne BRUS (0, []) (readBrushes mode textures) (restIn s BB3D 0 (reached 1 true) from) ≡ got (record { value = (0, []); rest = restIn s BB3D 0 (reached 2 true) from })
       → Brus (brushed.To 0 m from)
   unfolding slotsOf brusTally brusOf
   brus-left m e h = record { is = rw (h, e); within = onward-none from m (g .room) e }
 
   pub brus-end : r ≡ enclosed.End → (m : Tally) → m ≡ noTally → Brus (brushed.To 0 m from)
-  brus-end w m e = brus-left m e (first-end s from g (record { turn = 1; spent = true }) r x BRUS (0, []) (readBrushes textures) (reached 2 true) w)
+  brus-end w m e = brus-left m e (first-end s from g (record { turn = 1; spent = true }) r x BRUS (0, []) (readBrushes mode textures) (reached 2 true) w)
 
   pub brus-stop : (e p : ℕ) → r ≡ enclosed.Not e p → Brus (brushed.Not e p)
-  brus-stop e p w = record { is = rw (first-stop s from g (record { turn = 1; spent = true }) r x BRUS (0, []) (readBrushes textures) (reached 2 true) e p w); within = stop-before s BB3D 0 (record { turn = 1; spent = true }) from r x e p w }
+  brus-stop e p w = record { is = rw (first-stop s from g (record { turn = 1; spent = true }) r x BRUS (0, []) (readBrushes mode textures) (reached 2 true) e p w); within = stop-before s BB3D 0 (record { turn = 1; spent = true }) from r x e p w }
 
   module _ (t : Tag) (p : ℕ) (b n : Cursor) (v : State) (w : r ≡ enclosed.Chunk t p b n v) where
     pub brus-plain : (ks : List ℕ) → OneOf ks (tagOf the-type t) → T (plain BB3D (λ u. is u BRUS) (reached 1 true) (reached 2 true) ks) → (m : Tally) → m ≡ noTally → Brus (brushed.To 0 m from)
-    brus-plain ks o h m e = brus-left m e (first-plain s from g (record { turn = 1; spent = true }) r x BRUS (0, []) (readBrushes textures) (reached 2 true) t p b n v w ks o h)
+    brus-plain ks o h m e = brus-left m e (first-plain s from g (record { turn = 1; spent = true }) r x BRUS (0, []) (readBrushes mode textures) (reached 2 true) t p b n v w ks o h)
 
-    module _ (e : t ≡ BRUS) (j : Slotted) (hj : SlotsAre (readBrushes textures p (left b s)) p (b .end) j) where
-      brus-read : readOne BRUS (0, []) (readBrushes textures) (restIn s BB3D 0 (reached 1 true) from) ≡ (readBrushes textures p (left b s) >>= λ y. got (record { value = y; rest = restIn s BB3D 0 (reached 2 true) n }))
+    module _ (e : t ≡ BRUS) (j : Slotted) (hj : SlotsAre (readBrushes mode textures p (left b s)) p (b .end) j) where
+      brus-read : readOne BRUS (0, []) (readBrushes mode textures) (restIn s BB3D 0 (reached 1 true) from) ≡ (readBrushes mode textures p (left b s) >>= λ y. got (record { value = y; rest = restIn s BB3D 0 (reached 2 true) n }))
       unfolding nextTurn if
-      brus-read = one-read s from (next.Chunk t p b n) (found s from g (record { turn = 1; spent = true }) r x t p b n v w) BRUS (0, []) (readBrushes textures) (reached 1 true) (reached 2 true) t p b n refl e refl tt
+      brus-read = one-read s from (next.Chunk t p b n) (found s from g (record { turn = 1; spent = true }) r x t p b n v w) BRUS (0, []) (readBrushes mode textures) (reached 1 true) (reached 2 true) t p b n refl e refl tt
 
       pub brus-bad : (i q : ℕ) → j ≡ slotty.Not i q → Brus (brushed.Not i q)
       brus-bad i q y = record {
-        is = rw (brus-read, slotted-bad (readBrushes textures p (left b s)) i q (sym (hj .is) ∙ y));
+        is = rw (brus-read, slotted-bad (readBrushes mode textures p (left b s)) i q (sym (hj .is) ∙ y));
         within = there s from g (record { turn = 1; spent = true }) r x t p b n v w q (subst (SlottedIn p (b .end)) y (hj .within));
       }
 
       pub brus-good : (k : ℕ) (m : Tally) → j ≡ slotty.Is k m → Brus (brushed.To k m n)
       brus-good k m y =
-          let u = slotted-good (readBrushes textures p (left b s)) k m (sym (hj .is) ∙ y) in
+          let u = slotted-good (readBrushes mode textures p (left b s)) k m (sym (hj .is) ∙ y) in
           record {
             is =
                 (λ i. got (u .slots i, u .has i, restIn s BB3D 0 (reached 2 true) n))

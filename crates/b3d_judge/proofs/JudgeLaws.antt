@@ -19,6 +19,7 @@ use Rattle.layout.specs.Parts.{wordsOf, row}
 use Rattle.layout.proofs.Outs.{by-test, if-yes, if-no, bind-cong, bind-bind}
 use Rattle.layout.proofs.Lists.{All}
 use Rattle.layout.proofs.StepLaws.{row-any, word-of}
+use Rattle.b3d_scene.specs.declared.Mode.{Mode}
 use Rattle.b3d_scene.specs.declared.Tag.the-variants.{BB3D, TEXS, BRUS, NODE}
 use Rattle.layout.specs.Chunks.{done, stop, chunk, ended}
 use Rattle.b3d_scene.specs.Tags.{Chunks, Found, code}
@@ -30,7 +31,7 @@ use Rattle.b3d_scene.specs.Tables.{rows, tables, nodeTables}
 use Rattle.b3d_scene.specs.Answers.{eachTable, firstNot, judge}
 use Rattle.b3d_scene.proofs.AnswerLaws.{first-none, first-some, over-not}
 use Rattle.b3d_scene.proofs.Rows.Numbers.{each-table}
-use Rattle.b3d_scene.proofs.Files.FileLaws.{parse-fine}
+use Rattle.b3d_scene.proofs.Laws.{fine}
 use Rattle.b3d_bodies.specs.Tally.{sceneTally, Within}
 use Rattle.b3d_bodies.specs.Answers.{Body}
 use Rattle.b3d_bodies.specs.declared.Tally.{Tally}
@@ -60,10 +61,10 @@ ended-made (stop n p) f a = refl
 ended-made (chunk t p b r) f a = ended-made r f a
 
 -- a BB3D's body after its version, as the definition has it
-abbrev body : ℕ → Chunks → Out Scene
-body v cs =
-    readOne TEXS [] readTextures cs >>= λ t. readOne BRUS (0, []) (readBrushes (length (t .value))) (t .rest)
-    >>= λ u. readOne NODE leaf (readRoot (length (u .value .1))) (u .rest)
+abbrev body : Mode → ℕ → Chunks → Out Scene
+body mode v cs =
+    readOne TEXS [] readTextures cs >>= λ t. readOne BRUS (0, []) (readBrushes mode (length (t .value))) (t .rest)
+    >>= λ u. readOne NODE leaf (readRoot mode (length (u .value .1))) (u .rest)
     >>= λ n. ended (n .rest) (record { version = v; textures = t .value; slots = slotsOf (u .value .0) (u .value .1); brushes = u .value .1; nodes = n .value })
 
 -- a scene of textures, brushes and nodes
@@ -82,27 +83,27 @@ restOf u o = o >>= λ f. got (slotted u, f)
 abbrev wholeOf : ℕ → List Texture → Out ((ℕ × List Brush) × Forest) → Out Scene
 wholeOf v t o = o >>= λ x. got (sceneOf v t (x .0) (x .1))
 
-last-made : (v : ℕ) (t : List Texture) (u : ℕ × List Brush) (cs : Chunks)
-    → lastOf v t u (readOne NODE leaf (readRoot (length (u .1))) cs) ≡ wholeOf v t (restOf u (readLast (length (u .1)) cs))
+last-made : (mode : Mode) (v : ℕ) (t : List Texture) (u : ℕ × List Brush) (cs : Chunks)
+    → lastOf v t u (readOne NODE leaf (readRoot mode (length (u .1))) cs) ≡ wholeOf v t (restOf u (readLast mode (length (u .1)) cs))
 unfolding readLast
-last-made v t u cs =
-    bind-cong (readOne NODE leaf (readRoot (length (u .1))) cs) (λ n _. ended-made (n .rest) (sceneOf v t (slotted u)) (n .value))
-    ∙ sym (bind-bind (readOne NODE leaf (readRoot (length (u .1))) cs) (λ n. ended (n .rest) (n .value)) (λ f. got (sceneOf v t (slotted u) f)))
-    ∙ sym (bind-bind (readLast (length (u .1)) cs) (λ f. got (slotted u, f)) (λ x. got (sceneOf v t (x .0) (x .1))))
+last-made mode v t u cs =
+    bind-cong (readOne NODE leaf (readRoot mode (length (u .1))) cs) (λ n _. ended-made (n .rest) (sceneOf v t (slotted u)) (n .value))
+    ∙ sym (bind-bind (readOne NODE leaf (readRoot mode (length (u .1))) cs) (λ n. ended (n .rest) (n .value)) (λ f. got (sceneOf v t (slotted u) f)))
+    ∙ sym (bind-bind (readLast mode (length (u .1)) cs) (λ f. got (slotted u, f)) (λ x. got (sceneOf v t (x .0) (x .1))))
 
-pub regroup : (v : ℕ) (cs : Chunks) → body v cs ≡ readChunks v cs
+pub regroup : (mode : Mode) (v : ℕ) (cs : Chunks) → body mode v cs ≡ readChunks mode v cs
 unfolding readChunks readRest
-regroup v cs =
+regroup mode v cs =
     bind-cong (readOne TEXS [] readTextures cs) (λ t _.
-    bind-cong (readOne BRUS (0, []) (readBrushes (length (t .value))) (t .rest)) (λ u _. last-made v (t .value) (u .value) (u .rest))
-    ∙ sym (bind-bind (readOne BRUS (0, []) (readBrushes (length (t .value))) (t .rest)) (λ u. restOf (u .value) (readLast (length (u .value .1)) (u .rest))) (λ x. got (sceneOf v (t .value) (x .0) (x .1)))))
+    bind-cong (readOne BRUS (0, []) (readBrushes mode (length (t .value))) (t .rest)) (λ u _. last-made mode v (t .value) (u .value) (u .rest))
+    ∙ sym (bind-bind (readOne BRUS (0, []) (readBrushes mode (length (t .value))) (t .rest)) (λ u. restOf (u .value) (readLast mode (length (u .value .1)) (u .rest))) (λ x. got (sceneOf v (t .value) (x .0) (x .1)))))
 
-module _ (s : List ℕ) (lo : 8 ≤ length s) (hi : length s ≤ mostBytes) (r : Number) (e : r ≡ numberAt s (behind s)) where
+module _ (mode : Mode) (s : List ℕ) (lo : 8 ≤ length s) (hi : length s ≤ mostBytes) (r : Number) (e : r ≡ numberAt s (behind s)) where
   body-is : Body 0 (behind s) (length s)
   body-is = record { head = refl; room = lo; within = omega arith; small = hi }
 
   abbrev Body-right : Verdict → Type 0
-  Body-right y = Walks (readBody 8 (drop 8 s)) (length s) y
+  Body-right y = Walks (readBody mode 8 (drop 8 s)) (length s) y
 
   pub body-cut : r ≡ number.Cut → Body-right (verdict.Bad 5 8)
   unfolding readBody
@@ -119,12 +120,12 @@ module _ (s : List ℕ) (lo : 8 ≤ length s) (hi : length s ≤ mostBytes) (r :
     pub body-twelve : c .at ≡ 12
     body-twelve = let f = head-numbered s 0 (behind s) body-is r e k c w in omega arith
 
-    pub body-chunks : k ≤ 99 → (y : Verdict) → Walks (readChunks k (restIn s BB3D 0 start c)) (c .end) y → Body-right y
+    pub body-chunks : k ≤ 99 → (y : Verdict) → Walks (readChunks mode k (restIn s BB3D 0 start c)) (c .end) y → Body-right y
     unfolding readBody restIn inside
     body-chunks h y v =
         let f = head-numbered s 0 (behind s) body-is r e k c w in
-        let opened : readBody 8 (drop 8 s) ≡ readChunks k (restIn s BB3D 0 start c) =
-        rw (← left-behind s, head-within s 0 (behind s) body-is r e k c w 99 h) (regroup k (restIn s BB3D 0 start c)) in
+        let opened : readBody mode 8 (drop 8 s) ≡ readChunks mode k (restIn s BB3D 0 start c) =
+        rw (← left-behind s, head-within s 0 (behind s) body-is r e k c w 99 h) (regroup mode k (restIn s BB3D 0 start c)) in
         record { is = v .is ∙ ap walked (sym opened); within = subst (λ (q : ℕ). WalkedIn q y) (f .same) (v .within) }
 
 pub ruleset body-laws = (body-cut, body-version, body-among, body-twelve, body-chunks)
@@ -185,12 +186,12 @@ walked-good (got t) x h =
     record { value = t; is = refl; version = sym (ap (λ (y : Summary). y .version) e); slots = sym (ap (λ (y : Summary). y .«n_texs») e); has = sym (ap (λ (y : Summary). y .tally) e) }
 walked-good (bad n p) x h = let z : _≡_ {A = ℕ} 0 1 = cc in absurd (omega arith)
 
-module _ (s : List ℕ) where
-  pub judge-low : length s < 12 → verdict.Bad 1 0 ≡ verdictOf (judge s)
+module _ (mode : Mode) (s : List ℕ) where
+  pub judge-low : length s < 12 → verdict.Bad 1 0 ≡ verdictOf (judge mode s)
   unfolding judge parse check
   judge-low h = rw (size-low (length s) h)
 
-  pub judge-high : 16777216 < length s → verdict.Bad 1 0 ≡ verdictOf (judge s)
+  pub judge-high : 16777216 < length s → verdict.Bad 1 0 ≡ verdictOf (judge mode s)
   unfolding judge parse check
   judge-high h = rw (size-high (length s) h)
 
@@ -198,49 +199,49 @@ module _ (s : List ℕ) where
     eight : 8 ≤ length s
     eight = omega arith
 
-    pub judge-tag : (tag ≡ 0x44334242 → ⊥) → verdict.Bad 2 0 ≡ verdictOf (judge s)
+    pub judge-tag : (tag ≡ 0x44334242 → ⊥) → verdict.Bad 2 0 ≡ verdictOf (judge mode s)
     unfolding judge parse check
     judge-tag d = rw (size-good (length s) lo hi, head-is s eight, first-word s eight, ← et, ne-eqb tag 0x44334242 d)
 
     module _ (is : tag ≡ 0x44334242) (size k : ℕ) (ek : k ≡ wordAt s 4) (es : size ≡ k) where
-      pub judge-length : (size ≡ length s - 8 → ⊥) → verdict.Bad 2 4 ≡ verdictOf (judge s)
+      pub judge-length : (size ≡ length s - 8 → ⊥) → verdict.Bad 2 4 ≡ verdictOf (judge mode s)
       unfolding judge parse check
       judge-length d =
           rw (size-good (length s) lo hi, head-is s eight, first-word s eight, ← et, eq-eqb tag 0x44334242 is, second-word s eight, ← ek, ← es, length-drop 8 s, ne-eqb size (length s - 8) d)
 
-      module _ (fits : size ≡ length s - 8) (j : Verdict) (hj : Walks (readBody 8 (drop 8 s)) (length s) j) where
-        parsed : parse s ≡ readBody 8 (drop 8 s)
+      module _ (fits : size ≡ length s - 8) (j : Verdict) (hj : Walks (readBody mode 8 (drop 8 s)) (length s) j) where
+        parsed : parse mode s ≡ readBody mode 8 (drop 8 s)
         unfolding parse check
         parsed =
             rw (size-good (length s) lo hi, head-is s eight, first-word s eight, ← et, eq-eqb tag 0x44334242 is, second-word s eight, ← ek, ← es, length-drop 8 s, eq-eqb size (length s - 8) fits)
 
-        pub judge-refused : (e q : ℕ) → j ≡ verdict.Bad e q → verdict.Bad e q ≡ verdictOf (judge s)
+        pub judge-refused : (e q : ℕ) → j ≡ verdict.Bad e q → verdict.Bad e q ≡ verdictOf (judge mode s)
         unfolding judge
-        judge-refused e q z = rw (parsed, walked-bad (readBody 8 (drop 8 s)) e q (sym (hj .is) ∙ z))
+        judge-refused e q z = rw (parsed, walked-bad (readBody mode 8 (drop 8 s)) e q (sym (hj .is) ∙ z))
 
         module _ (b : AllBytes s) (x : Summary) (z : j ≡ verdict.Good x) where
-          gave : GaveScene (parse s) x
-          gave = subst (λ (o : Out Scene). GaveScene o x) (sym parsed) (walked-good (readBody 8 (drop 8 s)) x (sym (hj .is) ∙ z))
+          gave : GaveScene (parse mode s) x
+          gave = subst (λ (o : Out Scene). GaveScene o x) (sym parsed) (walked-good (readBody mode 8 (drop 8 s)) x (sym (hj .is) ∙ z))
 
           tally-is : x .tally ≡ tallyOf (gave .value)
-          tally-is = gave .has ∙ total (gave .value) (parse-fine s (gave .value) b (gave .is) .0)
+          tally-is = gave .has ∙ total (gave .value) (fine mode s (gave .value) b (gave .is) .0)
 
           module _ (n : ℕ) (en : n ≡ overLimit (x .tally)) where
             over-at : n ≡ firstNot (λ k. leb (length (rows k (gave .value))) rowLimit) tables
             over-at = en ∙ ap overLimit tally-is ∙ over-is (gave .value) ∙ over-first (λ k. length (rows k (gave .value))) tables
 
-            pub judge-over : (n ≡ 0 → ⊥) → verdict.Bad 10 n ≡ verdictOf (judge s)
+            pub judge-over : (n ≡ 0 → ⊥) → verdict.Bad 10 n ≡ verdictOf (judge mode s)
             unfolding judge
-            judge-over d = finish (parse s) (gave .value) (gave .is)
+            judge-over d = finish (parse mode s) (gave .value) (gave .is)
                 (first-some 10 (λ k. leb (length (rows k (gave .value))) rowLimit) tables (λ q. d (over-at ∙ q)) ∙ ap (λ (i : ℕ). bad 10 i) (sym over-at))
               where
                 finish : (o : Out Scene) (t : Scene) → o ≡ got t → eachTable 10 (λ k. leb (length (rows k t)) rowLimit) tables ≡ bad 10 n
                     → verdict.Bad 10 n ≡ verdictOf (o >>= λ t. eachTable 10 (λ k. leb (length (rows k t)) rowLimit) tables >>= λ _. got t)
                 finish o t e h = rw (e, h)
 
-            pub judge-good : n ≡ 0 → verdict.Good x ≡ verdictOf (judge s)
+            pub judge-good : n ≡ 0 → verdict.Good x ≡ verdictOf (judge mode s)
             unfolding judge
-            judge-good q = finish (parse s) (gave .value) (gave .is) (first-none 10 (λ k. leb (length (rows k (gave .value))) rowLimit) tables (each-table (λ k. 0 < k) (λ k a b. a)) (sym over-at ∙ q))
+            judge-good q = finish (parse mode s) (gave .value) (gave .is) (first-none 10 (λ k. leb (length (rows k (gave .value))) rowLimit) tables (each-table (λ k. 0 < k) (λ k a b. a)) (sym over-at ∙ q))
                 (λ i. record { version = gave .version i; «n_texs» = gave .slots i; tally = tally-is i })
               where
                 finish : (o : Out Scene) (t : Scene) → o ≡ got t → eachTable 10 (λ k. leb (length (rows k t)) rowLimit) tables ≡ got tt

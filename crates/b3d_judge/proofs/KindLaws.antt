@@ -13,6 +13,7 @@ use Rattle.wire.specs.Cursors.{left}
 use Rattle.wire.specs.declared.Cursor.{Cursor}
 use Rattle.layout.specs.Out.{Out, got, bad, _>>=_}
 use Rattle.layout.specs.Chunks.{chunk}
+use Rattle.b3d_scene.specs.declared.Mode.{Mode}
 use Rattle.b3d_scene.specs.declared.Tag.{Tag}
 use Rattle.b3d_scene.specs.declared.Tag.the-variants.{NODE, MESH, BONE}
 use Rattle.layout.proofs.Outs.{if-no}
@@ -59,9 +60,9 @@ neither : (a b : Bool) → T (not (a || b)) → T (not a) × T (not b)
 neither true b h = absurd h
 neither false b h = (tt, h)
 
-module _ (s : List ℕ) (at : ℕ) (from : Cursor) (g : Among at from (length s)) (brushes bones : ℕ) (r : Enclosed) (x : EnclosedIs s NODE at (record { turn = 0; spent = false }) from r) where
+module _ (mode : Mode) (s : List ℕ) (at : ℕ) (from : Cursor) (g : Among at from (length s)) (brushes bones : ℕ) (r : Enclosed) (x : EnclosedIs s NODE at (record { turn = 0; spent = false }) from r) where
   pub kind-end : r ≡ enclosed.End → (t : Tally) → t ≡ noTally
-      → Kinds (readKind brushes bones (restIn s NODE at start from)) (restIn s NODE at (reached 2 false)) from (kind.To 0 t from)
+      → Kinds (readKind mode brushes bones (restIn s NODE at start from)) (restIn s NODE at (reached 2 false)) from (kind.To 0 t from)
   unfolding readKind order if kindTally
   kind-end w t e =
       let d = end-next s NODE at (record { turn = 0; spent = false }) from r x w in
@@ -70,7 +71,7 @@ module _ (s : List ℕ) (at : ℕ) (from : Cursor) (g : Among at from (length s)
         within = onward-none from t (g .room) e;
       }
 
-  pub kind-stop : (e p : ℕ) → r ≡ enclosed.Not e p → Kinds (readKind brushes bones (restIn s NODE at start from)) (restIn s NODE at (reached 2 false)) from (kind.Not e p)
+  pub kind-stop : (e p : ℕ) → r ≡ enclosed.Not e p → Kinds (readKind mode brushes bones (restIn s NODE at start from)) (restIn s NODE at (reached 2 false)) from (kind.Not e p)
   unfolding readKind
   kind-stop e p w = record {
     is = rw (rest-stop s NODE at (record { turn = 0; spent = false }) from r x e p w);
@@ -86,7 +87,7 @@ module _ (s : List ℕ) (at : ℕ) (from : Cursor) (g : Among at from (length s)
 
     -- a chunk of what follows a kind
     pub kind-plain : (ks : List ℕ) → OneOf ks (tagOf the-type t) → T (plain NODE takes start (reached 2 false) ks) → (m : Tally) → m ≡ noTally
-        → Kinds (readKind brushes bones (restIn s NODE at start from)) (restIn s NODE at (reached 2 false)) from (kind.To 0 m from)
+        → Kinds (readKind mode brushes bones (restIn s NODE at start from)) (restIn s NODE at (reached 2 false)) from (kind.To 0 m from)
     unfolding readKind onward kindTally
     kind-plain ks o h m e =
         let f = plain-here NODE takes start (reached 2 false) ks h t o (reachedOf z) (step-turn s NODE at (record { turn = 0; spent = false }) from r x t p b n z w) in
@@ -97,12 +98,12 @@ module _ (s : List ℕ) (at : ℕ) (from : Cursor) (g : Among at from (length s)
 
     -- a MESH or a BONE that was read as o, and then the chunks after it
     module _ {A : Type 0} (o : Out A) (wrap : A → Kind)
-        (h : readKind brushes bones (restIn s NODE at start from) ≡ (o >>= λ a. got (record { value = wrap a; rest = restIn s NODE at (reached 1 true) n }))) where
-      taken-bad : (e q : ℕ) → o ≡ bad e q → q ≤ b .end → Kinds (readKind brushes bones (restIn s NODE at start from)) (restIn s NODE at (reached 2 false)) from (kind.Not e q)
+        (h : readKind mode brushes bones (restIn s NODE at start from) ≡ (o >>= λ a. got (record { value = wrap a; rest = restIn s NODE at (reached 1 true) n }))) where
+      taken-bad : (e q : ℕ) → o ≡ bad e q → q ≤ b .end → Kinds (readKind mode brushes bones (restIn s NODE at start from)) (restIn s NODE at (reached 2 false)) from (kind.Not e q)
       taken-bad e q k le = record { is = rw (h, k); within = let f = chunk-among s from (next.Chunk t p b n) found t p b n refl in omega arith }
 
       taken : (a : A) (own : ℕ) (m : Tally) → o ≡ got a → own ≡ ownVertices (wrap a) → m ≡ kindTally (wrap a) → Within m (b .end - p)
-          → Kinds (readKind brushes bones (restIn s NODE at start from)) (restIn s NODE at (reached 2 false)) from (kind.To own m n)
+          → Kinds (readKind mode brushes bones (restIn s NODE at start from)) (restIn s NODE at (reached 2 false)) from (kind.To own m n)
       taken a own m k eo em i = record {
         is = rw (h, k, eo, em, ← after-kind s at n);
         within =
@@ -110,31 +111,31 @@ module _ (s : List ℕ) (at : ℕ) (from : Cursor) (g : Among at from (length s)
             record { from-at = omega arith; room = f .to; same = f .same; within = within-more (b .end - p) (n .at - from .at) i (omega arith) };
       }
 
-    module _ (e : t ≡ MESH) (j : Meshed) (h : Meshes (readMesh brushes p (left b s)) p (b .end) j) where
-      mesh-read : readKind brushes bones (restIn s NODE at start from) ≡ (readMesh brushes p (left b s) >>= λ a. got (record { value = mesh a; rest = restIn s NODE at (reached 1 true) n }))
+    module _ (e : t ≡ MESH) (j : Meshed) (h : Meshes (readMesh mode brushes p (left b s)) p (b .end) j) where
+      mesh-read : readKind mode brushes bones (restIn s NODE at start from) ≡ (readMesh mode brushes p (left b s) >>= λ a. got (record { value = mesh a; rest = restIn s NODE at (reached 1 true) n }))
       unfolding readKind aMesh nextTurn onward if
       mesh-read = rw (rest-chunk s from (next.Chunk t p b n) found NODE at start t p b n refl, e)
 
-      pub kind-mesh-bad : (i q : ℕ) → j ≡ meshes.Not i q → Kinds (readKind brushes bones (restIn s NODE at start from)) (restIn s NODE at (reached 2 false)) from (kind.Not i q)
+      pub kind-mesh-bad : (i q : ℕ) → j ≡ meshes.Not i q → Kinds (readKind mode brushes bones (restIn s NODE at start from)) (restIn s NODE at (reached 2 false)) from (kind.Not i q)
       kind-mesh-bad i q y =
-          taken-bad (readMesh brushes p (left b s)) mesh mesh-read i q (meshed-bad _ i q (sym (h .is) ∙ y)) (subst (MeshedIn p (b .end)) y (h .within))
+          taken-bad (readMesh mode brushes p (left b s)) mesh mesh-read i q (meshed-bad _ i q (sym (h .is) ∙ y)) (subst (MeshedIn p (b .end)) y (h .within))
 
-      pub kind-mesh : (own : ℕ) (m : Tally) → j ≡ meshes.Is own m → Kinds (readKind brushes bones (restIn s NODE at start from)) (restIn s NODE at (reached 2 false)) from (kind.To own m n)
+      pub kind-mesh : (own : ℕ) (m : Tally) → j ≡ meshes.Is own m → Kinds (readKind mode brushes bones (restIn s NODE at start from)) (restIn s NODE at (reached 2 false)) from (kind.To own m n)
       unfolding kindTally
       kind-mesh own m y =
-          let v = meshed-good (readMesh brushes p (left b s)) own m (sym (h .is) ∙ y) in
-          taken (readMesh brushes p (left b s)) mesh mesh-read (v .value) own m (v .is) (v .own-is) (v .has) (subst (MeshedIn p (b .end)) y (h .within))
+          let v = meshed-good (readMesh mode brushes p (left b s)) own m (sym (h .is) ∙ y) in
+          taken (readMesh mode brushes p (left b s)) mesh mesh-read (v .value) own m (v .is) (v .own-is) (v .has) (subst (MeshedIn p (b .end)) y (h .within))
 
     module _ (e : t ≡ BONE) (j : Judged) (h : Judges boneTally (readBone bones p (left b s)) p (b .end) j) where
-      bone-read : readKind brushes bones (restIn s NODE at start from) ≡ (readBone bones p (left b s) >>= λ a. got (record { value = bone a; rest = restIn s NODE at (reached 1 true) n }))
+      bone-read : readKind mode brushes bones (restIn s NODE at start from) ≡ (readBone bones p (left b s) >>= λ a. got (record { value = bone a; rest = restIn s NODE at (reached 1 true) n }))
       unfolding readKind aBone nextTurn onward if
       bone-read = rw (rest-chunk s from (next.Chunk t p b n) found NODE at start t p b n refl, e)
 
-      pub kind-bone-bad : (i q : ℕ) → j ≡ judge.Bad i q → Kinds (readKind brushes bones (restIn s NODE at start from)) (restIn s NODE at (reached 2 false)) from (kind.Not i q)
+      pub kind-bone-bad : (i q : ℕ) → j ≡ judge.Bad i q → Kinds (readKind mode brushes bones (restIn s NODE at start from)) (restIn s NODE at (reached 2 false)) from (kind.Not i q)
       kind-bone-bad i q y =
           taken-bad (readBone bones p (left b s)) bone bone-read i q (judged-bad boneTally _ i q (sym (h .is) ∙ y)) (subst (JudgedIn p (b .end)) y (h .within))
 
-      pub kind-bone : (m : Tally) → j ≡ judge.Good m → Kinds (readKind brushes bones (restIn s NODE at start from)) (restIn s NODE at (reached 2 false)) from (kind.To 0 m n)
+      pub kind-bone : (m : Tally) → j ≡ judge.Good m → Kinds (readKind mode brushes bones (restIn s NODE at start from)) (restIn s NODE at (reached 2 false)) from (kind.To 0 m n)
       unfolding kindTally
       kind-bone m y =
           let v = judged-good boneTally (readBone bones p (left b s)) m (sym (h .is) ∙ y) in

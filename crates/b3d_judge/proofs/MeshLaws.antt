@@ -11,6 +11,7 @@ use Rattle.wire.specs.declared.Number.{Number}
 use Rattle.wire.specs.declared.Number.the-variants as number
 use Rattle.layout.specs.Out.{Out, got, bad, _>>=_}
 use Rattle.layout.specs.Rules.{holds}
+use Rattle.b3d_scene.specs.declared.Mode.{Mode}
 use Rattle.b3d_scene.specs.declared.Tag.the-variants.{MESH, VRTS}
 use Rattle.b3d_scene.specs.Tags.{Chunks, Found}
 use Rattle.b3d_scene.specs.Scene.{TriangleSet, Mesh}
@@ -26,9 +27,9 @@ use Rattle.b3d_judge.specs.declared.Meshed.{Meshed}
 use Rattle.b3d_judge.specs.declared.Meshed.the-variants as meshes
 
 -- a mesh's brush is not counted
-brush-free : (brushes x y : ℕ) (cs : Chunks) → meshed (readInside brushes x cs) ≡ meshed (readInside brushes y cs)
+brush-free : (mode : Mode) (brushes x y : ℕ) (cs : Chunks) → meshed (readInside mode brushes x cs) ≡ meshed (readInside mode brushes y cs)
 unfolding readInside readAfter meshTally
-brush-free brushes x y cs = go (readOne VRTS noVertices readVertices cs)
+brush-free mode brushes x y cs = go (readOne VRTS noVertices (readVertices mode) cs)
   where
     sets : (v : Vertices) (o : Out (List TriangleSet))
         → meshed (o >>= λ l. got (record { brush = x; flags = v .flags; sets = v .sets; size = v .size; vertices = v .items; triangleSets = l }))
@@ -40,9 +41,9 @@ brush-free brushes x y cs = go (readOne VRTS noVertices readVertices cs)
     go (got v) = sets (v .value) (readSets brushes (length (v .value .items)) (v .rest))
     go (bad n p) = refl
 
-module _ (s : List ℕ) (at : ℕ) (body : Cursor) (g : Body at body (length s)) (brushes : ℕ) (r : Number) (e : r ≡ numberAt s body) where
+module _ (mode : Mode) (s : List ℕ) (at : ℕ) (body : Cursor) (g : Body at body (length s)) (brushes : ℕ) (r : Number) (e : r ≡ numberAt s body) where
   abbrev Right : Meshed → Type 0
-  Right y = Meshes (readMesh brushes at (left body s)) at (body .end) y
+  Right y = Meshes (readMesh mode brushes at (left body s)) at (body .end) y
 
   pub mesh-inside : Inside body (length s)
   mesh-inside = body-inside s at body g
@@ -64,16 +65,16 @@ module _ (s : List ℕ) (at : ℕ) (body : Cursor) (g : Body at body (length s))
     pub mesh-far : at + 12 ≤ c .at
     mesh-far = let f = head-numbered s at body g r e k c w in omega (arith, g .head)
 
-    pub mesh-inner : not ok ≡ false → (j : Meshed) → Meshes (readInside brushes 0 (restIn s MESH at start c)) at (c .end) j → Right j
+    pub mesh-inner : not ok ≡ false → (j : Meshed) → Meshes (readInside mode brushes 0 (restIn s MESH at start c)) at (c .end) j → Right j
     unfolding readMesh readInside readAfter restIn inside
     mesh-inner h j hj =
         let f = head-numbered s at body g r e k c w in
         record {
-          is = hj .is ∙ brush-free brushes 0 k (restIn s MESH at start c) ∙ ap meshed (sym (opened h));
+          is = hj .is ∙ brush-free mode brushes 0 k (restIn s MESH at start c) ∙ ap meshed (sym (opened h));
           within = subst (λ (q : ℕ). MeshedIn at q j) (f .same) (hj .within);
         }
       where
-        opened : not ok ≡ false → readMesh brushes at (left body s) ≡ readInside brushes k (restIn s MESH at start c)
+        opened : not ok ≡ false → readMesh mode brushes at (left body s) ≡ readInside mode brushes k (restIn s MESH at start c)
         opened h = rw (head-kept s at body g r e k c w (brushId brushes) ok a h)
 
 pub ruleset mesh-laws = (mesh-inside, mesh-cut, mesh-brush, mesh-among, mesh-far, mesh-inner)

@@ -11,6 +11,7 @@ use Rattle.wire.specs.declared.Cursor.{Cursor}
 use Rattle.layout.specs.Out.{Out, got, bad, _>>=_}
 use Rattle.layout.specs.Parts.{named}
 use Rattle.layout.proofs.Outs.{got-inj, bind-cong, bind-bind}
+use Rattle.b3d_scene.specs.declared.Mode.{Mode}
 use Rattle.b3d_scene.specs.declared.Tag.{Tag}
 use Rattle.b3d_scene.specs.declared.Tag.the-variants.{NODE}
 use Rattle.b3d_scene.specs.Tags.{Chunks, Found}
@@ -42,18 +43,18 @@ use Rattle.b3d_judge.proofs.Rests.{rest-step, rest-stop, rest-end, step
 -- ---- a node: its own, then the nodes below
 
 -- the nodes below, after a node's own
-abbrev pub below : ℕ → ℕ → Option ℕ → Found Data → Out Inner
-below l brushes a d = readNodes (readNode l brushes (bonesBelow a (d .value))) (d .rest) >>= λ f. got (record { self = d .value; below = f })
+abbrev pub below : Mode → ℕ → ℕ → Option ℕ → Found Data → Out Inner
+below mode l brushes a d = readNodes (readNode mode l brushes (bonesBelow a (d .value))) (d .rest) >>= λ f. got (record { self = d .value; below = f })
 
-pub node-open : (l brushes : ℕ) (a : Option ℕ) (p : ℕ) (b : List ℕ) → (l ≡ 0 → ⊥) → readNode l brushes a p b ≡ (readOwn brushes a p b >>= below (l - 1) brushes a)
+pub node-open : (mode : Mode) (l brushes : ℕ) (a : Option ℕ) (p : ℕ) (b : List ℕ) → (l ≡ 0 → ⊥) → readNode mode l brushes a p b ≡ (readOwn mode brushes a p b >>= below mode (l - 1) brushes a)
 unfolding readNode readOwn readBelow
-node-open zero brushes a p b d = absurd (d refl)
-node-open (suc l) brushes a p b d =
+node-open mode zero brushes a p b d = absurd (d refl)
+node-open mode (suc l) brushes a p b d =
     let e : suc l - 1 ≡ l = omega arith in
     rw e
-    (sym (bind-bind (named nodeRow (p + 8) b) _ (below l brushes a)
-    ∙ bind-cong (named nodeRow (p + 8) b) (λ h _. bind-bind (readKind brushes (boneVertices a) (inside NODE p (h .place) (h .left))) _ (below l brushes a)
-    ∙ bind-cong (readKind brushes (boneVertices a) (inside NODE p (h .place) (h .left))) (λ k _. bind-bind (readMoves still (k .rest)) _ (below l brushes a)))))
+    (sym (bind-bind (named nodeRow (p + 8) b) _ (below mode l brushes a)
+    ∙ bind-cong (named nodeRow (p + 8) b) (λ h _. bind-bind (readKind mode brushes (boneVertices a) (inside NODE p (h .place) (h .left))) _ (below mode l brushes a)
+    ∙ bind-cong (readKind mode brushes (boneVertices a) (inside NODE p (h .place) (h .left))) (λ k _. bind-bind (readMoves still (k .rest)) _ (below mode l brushes a)))))
 
 -- ---- what `judge_own` says
 
@@ -78,8 +79,8 @@ owns-at a o rest at body k h z = subst (λ (x : Owned). ownedBy rest x ≡ owned
 
 -- ---- the ways through a node
 
-module _ (s : List ℕ) (at : ℕ) (body : Cursor) (g : Body at body (length s)) (brushes : ℕ) (a : Option ℕ) (j : Owned)
-    (h : Owns a (readOwn brushes a at (left body s)) (restIn s NODE at (reached 3 false)) at body j) (b : Above) (t : Tally) (c : Cursor) (z : j ≡ own.To b t c) where
+module _ (mode : Mode) (s : List ℕ) (at : ℕ) (body : Cursor) (g : Body at body (length s)) (brushes : ℕ) (a : Option ℕ) (j : Owned)
+    (h : Owns a (readOwn mode brushes a at (left body s)) (restIn s NODE at (reached 3 false)) at body j) (b : Above) (t : Tally) (c : Cursor) (z : j ≡ own.To b t c) where
   own-on : Onward (record { at = at; end = body .end }) c t × (at + 8 ≤ c .at)
   own-on = subst (OwnedIn at body) z (h .within)
 
@@ -89,41 +90,41 @@ module _ (s : List ℕ) (at : ℕ) (body : Cursor) (g : Body at body (length s))
   pub node-own-small : Within t mostBytes
   node-own-small = let o = own-on in within-more (c .at - at) mostBytes (o .0 .within) (omega (arith, o .0 .room, o .0 .same, g .within, g .small))
 
-module _ (s : List ℕ) (at : ℕ) (body : Cursor) (g : Body at body (length s)) (l brushes : ℕ) (a : Option ℕ) where
+module _ (mode : Mode) (s : List ℕ) (at : ℕ) (body : Cursor) (g : Body at body (length s)) (l brushes : ℕ) (a : Option ℕ) where
   abbrev Node : Judged → Type 0
-  Node x = Judges innerTally (readNode l brushes a at (left body s)) at (body .end) x
+  Node x = Judges innerTally (readNode mode l brushes a at (left body s)) at (body .end) x
 
   pub node-deep : l ≡ 0 → Node (judge.Bad 9 at)
   unfolding readNode
   node-deep e = record { is = rw e; within = omega (arith, g .head, g .room) }
 
-  module _ (d : l ≡ 0 → ⊥) (j : Owned) (h : Owns a (readOwn brushes a at (left body s)) (restIn s NODE at (reached 3 false)) at body j) where
+  module _ (d : l ≡ 0 → ⊥) (j : Owned) (h : Owns a (readOwn mode brushes a at (left body s)) (restIn s NODE at (reached 3 false)) at body j) where
     pub node-own-bad : (e q : ℕ) → j ≡ own.Not e q → Node (judge.Bad e q)
     node-own-bad e q z =
-        let b = owned-bad a (readOwn brushes a at (left body s)) e q (owns-at a (readOwn brushes a at (left body s)) (restIn s NODE at (reached 3 false)) at body j h z) in
-        record { is = rw (node-open l brushes a at (left body s) d, b); within = subst (OwnedIn at body) z (h .within) }
+        let b = owned-bad a (readOwn mode brushes a at (left body s)) e q (owns-at a (readOwn mode brushes a at (left body s)) (restIn s NODE at (reached 3 false)) at body j h z) in
+        record { is = rw (node-open mode l brushes a at (left body s) d, b); within = subst (OwnedIn at body) z (h .within) }
 
     module _ (b : Above) (t : Tally) (c : Cursor) (z : j ≡ own.To b t c) where
       on : Onward (record { at = at; end = body .end }) c t × (at + 8 ≤ c .at)
-      on = own-on s at body g brushes a j h b t c z
+      on = own-on mode s at body g brushes a j h b t c z
 
       among : Among at c (length s)
-      among = node-among s at body g brushes a j h b t c z
+      among = node-among mode s at body g brushes a j h b t c z
 
-      gave : GaveOwn a (readOwn brushes a at (left body s)) (aboveOf b) t (restIn s NODE at (reached 3 false) c)
-      gave = owned-good a (readOwn brushes a at (left body s)) (aboveOf b) t (restIn s NODE at (reached 3 false) c) (owns-at a (readOwn brushes a at (left body s)) (restIn s NODE at (reached 3 false)) at body j h z)
+      gave : GaveOwn a (readOwn mode brushes a at (left body s)) (aboveOf b) t (restIn s NODE at (reached 3 false) c)
+      gave = owned-good a (readOwn mode brushes a at (left body s)) (aboveOf b) t (restIn s NODE at (reached 3 false) c) (owns-at a (readOwn mode brushes a at (left body s)) (restIn s NODE at (reached 3 false)) at body j h z)
 
-      opened : readNode l brushes a at (left body s)
-          ≡ (readNodes (readNode (l - 1) brushes (aboveOf b)) (restIn s NODE at (reached 3 false) c) >>= λ f. got (record { self = gave .value; below = f }))
+      opened : readNode mode l brushes a at (left body s)
+          ≡ (readNodes (readNode mode (l - 1) brushes (aboveOf b)) (restIn s NODE at (reached 3 false) c) >>= λ f. got (record { self = gave .value; below = f }))
       opened =
           let v = gave in
-          node-open l brushes a at (left body s) d ∙ ap (λ (o : Out (Found Data)). o >>= below (l - 1) brushes a) (v .is)
-          ∙ ap (λ (q : Option ℕ). readNodes (readNode (l - 1) brushes q) (restIn s NODE at (reached 3 false) c) >>= λ f. got (record { self = v .value; below = f })) (sym (v .bones))
+          node-open mode l brushes a at (left body s) d ∙ ap (λ (o : Out (Found Data)). o >>= below mode (l - 1) brushes a) (v .is)
+          ∙ ap (λ (q : Option ℕ). readNodes (readNode mode (l - 1) brushes q) (restIn s NODE at (reached 3 false) c) >>= λ f. got (record { self = v .value; below = f })) (sym (v .bones))
 
-      module _ (k : Judged) (hk : Judges forestTally (readNodes (readNode (l - 1) brushes (aboveOf b)) (restIn s NODE at (reached 3 false) c)) (c .at) (c .end) k) where
+      module _ (k : Judged) (hk : Judges forestTally (readNodes (readNode mode (l - 1) brushes (aboveOf b)) (restIn s NODE at (reached 3 false) c)) (c .at) (c .end) k) where
         pub node-below-bad : (e q : ℕ) → k ≡ judge.Bad e q → Node (judge.Bad e q)
         node-below-bad e q y =
-            let i = judged-bad forestTally (readNodes (readNode (l - 1) brushes (aboveOf b)) (restIn s NODE at (reached 3 false) c)) e q (sym (hk .is) ∙ y) in
+            let i = judged-bad forestTally (readNodes (readNode mode (l - 1) brushes (aboveOf b)) (restIn s NODE at (reached 3 false) c)) e q (sym (hk .is) ∙ y) in
             let le : q ≤ c .end = subst (JudgedIn (c .at) (c .end)) y (hk .within) in
             record { is = rw (opened, i); within = let o = on in omega (arith, o .0 .same) }
 
@@ -136,9 +137,9 @@ module _ (s : List ℕ) (at : ℕ) (body : Cursor) (g : Body at body (length s))
         unfolding innerTally
         node-good f x y e =
             let o = on in
-            let v = judged-good forestTally (readNodes (readNode (l - 1) brushes (aboveOf b)) (restIn s NODE at (reached 3 false) c)) f (sym (hk .is) ∙ y) in
+            let v = judged-good forestTally (readNodes (readNode mode (l - 1) brushes (aboveOf b)) (restIn s NODE at (reached 3 false) c)) f (sym (hk .is) ∙ y) in
             let i : Within f (c .end - c .at) = subst (JudgedIn (c .at) (c .end)) y (hk .within) in
-            let to : readNode l brushes a at (left body s) ≡ got (record { self = gave .value; below = v .value }) =
+            let to : readNode mode l brushes a at (left body s) ≡ got (record { self = gave .value; below = v .value }) =
             opened ∙ ap (λ (q : Out Forest). q >>= λ f. got (record { self = gave .value; below = f })) (v .is) in
             record {
               is = ap judge.Good (e ∙ ap₂ plus (gave .has) (v .has)) ∙ inner (gave .value) (v .value) ∙ ap (judged innerTally) (sym to);
@@ -164,20 +165,20 @@ forest-more : (x : Inner) (f : Forest) → forestTally (node (x .self) (x .below
 unfolding forestTally innerTally
 forest-more x f = refl
 
-module _ (s : List ℕ) (at l brushes : ℕ) (a : Option ℕ) (from : Cursor) where
+module _ (mode : Mode) (s : List ℕ) (at l brushes : ℕ) (a : Option ℕ) (from : Cursor) where
   abbrev Nodes : Judged → Type 0
-  Nodes x = Judges forestTally (readNodes (readNode l brushes a) (restIn s NODE at (reached 3 false) from)) (from .at) (from .end) x
+  Nodes x = Judges forestTally (readNodes (readNode mode l brushes a) (restIn s NODE at (reached 3 false) from)) (from .at) (from .end) x
 
-  pub noding-start : Among at from (length s) → (m : Tally) → m ≡ noTally → Noding s at (readNode l brushes a) from from (record { turn = 3; spent = false }) m
+  pub noding-start : Among at from (length s) → (m : Tally) → m ≡ noTally → Noding s at (readNode mode l brushes a) from from (record { turn = 3; spent = false }) m
   noding-start g m e = record {
     among = g;
     from-at = omega arith;
     same = refl;
     within = rw e (within-none (from .at - from .at));
-    so-far = rw e (judged-start forestTally (readNodes (readNode l brushes a) (restIn s NODE at (reached 3 false) from)));
+    so-far = rw e (judged-start forestTally (readNodes (readNode mode l brushes a) (restIn s NODE at (reached 3 false) from)));
   }
 
-  module _ (c : Cursor) (q : State) (m : Tally) (v : Noding s at (readNode l brushes a) from c q m) where
+  module _ (c : Cursor) (q : State) (m : Tally) (v : Noding s at (readNode mode l brushes a) from c q m) where
     pub noding-inside : Inside c (length s)
     noding-inside = record { before = v .among .room; within = v .among .within }
 
@@ -187,7 +188,7 @@ module _ (s : List ℕ) (at l brushes : ℕ) (a : Option ℕ) (from : Cursor) wh
     pub noding-small : Within m mostBytes
     noding-small = within-more (c .at - from .at) mostBytes (v .within) (omega (arith, v .among .room, v .among .within, v .among .small))
 
-    refuse : (e i : ℕ) → readNodes (readNode l brushes a) (restIn s NODE at (reachedOf q) c) ≡ bad e i → i ≤ c .end → Nodes (judge.Bad e i)
+    refuse : (e i : ℕ) → readNodes (readNode mode l brushes a) (restIn s NODE at (reachedOf q) c) ≡ bad e i → i ≤ c .end → Nodes (judge.Bad e i)
     refuse e i h le = record { is = sym (v .so-far ∙ rw h); within = omega (arith, v .same) }
 
     module _ (r : Enclosed) (x : EnclosedIs s NODE at q c r) where
@@ -209,9 +210,9 @@ module _ (s : List ℕ) (at l brushes : ℕ) (a : Option ℕ) (from : Cursor) wh
         pub noding-less : n .end - n .at < c .end - c .at
         noding-less = let f = step-among s NODE at q c r x t p b n z w in omega arith
 
-        module _ (j : Judged) (h : Judges innerTally (readNode l brushes a p (left b s)) p (b .end) j) where
-          more : readNodes (readNode l brushes a) (restIn s NODE at (reachedOf q) c)
-              ≡ (readNode l brushes a p (left b s) >>= λ i. readNodes (readNode l brushes a) (restIn s NODE at (reachedOf z) n) >>= λ f. got (node (i .self) (i .below) f))
+        module _ (j : Judged) (h : Judges innerTally (readNode mode l brushes a p (left b s)) p (b .end) j) where
+          more : readNodes (readNode mode l brushes a) (restIn s NODE at (reachedOf q) c)
+              ≡ (readNode mode l brushes a p (left b s) >>= λ i. readNodes (readNode mode l brushes a) (restIn s NODE at (reachedOf z) n) >>= λ f. got (node (i .self) (i .below) f))
           unfolding readNodes
           more = rw (rest-step s NODE at q c r x t p b n z w)
 
@@ -219,17 +220,17 @@ module _ (s : List ℕ) (at l brushes : ℕ) (a : Option ℕ) (from : Cursor) wh
           noding-bad e i y =
               let f = step-among s NODE at q c r x t p b n z w in
               let le : i ≤ b .end = subst (JudgedIn p (b .end)) y (h .within) in
-              refuse e i (rw (more, judged-bad innerTally (readNode l brushes a p (left b s)) e i (sym (h .is) ∙ y))) (omega arith)
+              refuse e i (rw (more, judged-bad innerTally (readNode mode l brushes a p (left b s)) e i (sym (h .is) ∙ y))) (omega arith)
 
           pub noding-one-small : (k : Tally) → j ≡ judge.Good k → Within k mostBytes
           noding-one-small k y =
               let i : Within k (b .end - p) = subst (JudgedIn p (b .end)) y (h .within) in
               within-more (b .end - p) mostBytes i (let f = noding-body in omega (arith, f .within, f .small))
 
-          pub noding-more : (k u : Tally) → j ≡ judge.Good k → u ≡ plus m k → Noding s at (readNode l brushes a) from n z u
+          pub noding-more : (k u : Tally) → j ≡ judge.Good k → u ≡ plus m k → Noding s at (readNode mode l brushes a) from n z u
           noding-more k u y e =
               let f = step-among s NODE at q c r x t p b n z w in
-              let g = judged-good innerTally (readNode l brushes a p (left b s)) k (sym (h .is) ∙ y) in
+              let g = judged-good innerTally (readNode mode l brushes a p (left b s)) k (sym (h .is) ∙ y) in
               let i : Within k (b .end - p) = subst (JudgedIn p (b .end)) y (h .within) in
               record {
                 among = record { head = omega (arith, v .among .head); room = f .to; within = omega (arith, v .among .within); small = v .among .small };
@@ -238,7 +239,7 @@ module _ (s : List ℕ) (at l brushes : ℕ) (a : Option ℕ) (from : Cursor) wh
                 within = rw e (within-plus m k (c .at - from .at) (b .end - p) (n .at - from .at) (v .within) i (omega (arith, v .from-at)));
                 so-far =
                     v .so-far ∙ ap (judgedFrom m forestTally) more
-                    ∙ judged-more innerTally forestTally (λ i f. node (i .self) (i .below) f) forest-more (readNode l brushes a p (left b s)) k g m u e (readNodes (readNode l brushes a) (restIn s NODE at (reachedOf z) n));
+                    ∙ judged-more innerTally forestTally (λ i f. node (i .self) (i .below) f) forest-more (readNode mode l brushes a p (left b s)) k g m u e (readNodes (readNode mode l brushes a) (restIn s NODE at (reachedOf z) n));
               }
 
 pub ruleset noding = (noding-start, noding-inside, noding-head, noding-small, noding-stop, noding-end, noding-body, noding-less, noding-bad, noding-one-small, noding-more)

@@ -12,6 +12,7 @@ use Rattle.layout.specs.Out.{Out, got, bad, _>>=_}
 use Rattle.layout.specs.Rules.{any}
 use Rattle.layout.proofs.Outs.{got-inj}
 use Rattle.layout.specs.Parts.{Step, Name, wordsOf, named as namedOf}
+use Rattle.b3d_scene.specs.declared.Mode.{Mode}
 use Rattle.b3d_scene.specs.declared.Tag.the-variants.{NODE}
 use Rattle.b3d_scene.specs.Tags.{Chunks, Found}
 use Rattle.b3d_scene.specs.Scene.{Kind, still, Data}
@@ -111,10 +112,10 @@ pub ruleset own-rows-laws = (own-head-small, own-rows-small, own-rows-are)
 
 -- ---- the ways of `judge_parts`
 
-module _ (s : List ℕ) (at : ℕ) (from : Cursor) (g : Among at from (length s)) (far : at + 49 ≤ from .at) (brushes : ℕ) (a : Option ℕ) (bones : ℕ) (eb : bones ≡ boneVertices a)
-    (k : Kinded) (hk : Kinds (readKind brushes bones (restIn s NODE at start from)) (restIn s NODE at (reached 2 false)) from k) where
+module _ (mode : Mode) (s : List ℕ) (at : ℕ) (from : Cursor) (g : Among at from (length s)) (far : at + 49 ≤ from .at) (brushes : ℕ) (a : Option ℕ) (bones : ℕ) (eb : bones ≡ boneVertices a)
+    (k : Kinded) (hk : Kinds (readKind mode brushes bones (restIn s NODE at start from)) (restIn s NODE at (reached 2 false)) from k) where
   abbrev Right-parts : Owned → Type 0
-  Right-parts x = Parted a (readParts brushes (boneVertices a) (restIn s NODE at start from)) (restIn s NODE at (reached 3 false)) at from x
+  Right-parts x = Parted a (readParts mode brushes (boneVertices a) (restIn s NODE at start from)) (restIn s NODE at (reached 3 false)) at from x
 
   -- the moves after a kind
   abbrev made : Kind → Out (Found Moves) → Out (Found (Kind × Moves))
@@ -126,15 +127,15 @@ module _ (s : List ℕ) (at : ℕ) (from : Cursor) (g : Among at from (length s)
   pub parts-kind-bad : (e q : ℕ) → k ≡ kind.Not e q → Right-parts (own.Not e q)
   unfolding readParts
   parts-kind-bad e q z =
-      let b = kinded-bad (readKind brushes bones (restIn s NODE at start from)) e q (kinds-at (readKind brushes bones (restIn s NODE at start from)) (restIn s NODE at (reached 2 false)) from k hk z) in
+      let b = kinded-bad (readKind mode brushes bones (restIn s NODE at start from)) e q (kinds-at (readKind mode brushes bones (restIn s NODE at start from)) (restIn s NODE at (reached 2 false)) from k hk z) in
       record { is = rw (← eb, b); within = subst (KindedIn from) z (hk .within) }
 
   module _ (have : ℕ) (t : Tally) (c : Cursor) (z : k ≡ kind.To have t c) where
     on : Onward from c t
     on = subst (KindedIn from) z (hk .within)
 
-    gave : GaveKind (readKind brushes bones (restIn s NODE at start from)) have t (restIn s NODE at (reached 2 false) c)
-    gave = kinded-good (readKind brushes bones (restIn s NODE at start from)) have t (restIn s NODE at (reached 2 false) c) (kinds-at (readKind brushes bones (restIn s NODE at start from)) (restIn s NODE at (reached 2 false)) from k hk z)
+    gave : GaveKind (readKind mode brushes bones (restIn s NODE at start from)) have t (restIn s NODE at (reached 2 false) c)
+    gave = kinded-good (readKind mode brushes bones (restIn s NODE at start from)) have t (restIn s NODE at (reached 2 false) c) (kinds-at (readKind mode brushes bones (restIn s NODE at start from)) (restIn s NODE at (reached 2 false)) from k hk z)
 
     pub parts-among : Among at c (length s)
     parts-among = let o = on in record { head = omega (arith, g .head, o .from-at); room = o .room; within = omega (arith, g .within, o .same); small = g .small }
@@ -174,7 +175,7 @@ module _ (s : List ℕ) (at : ℕ) (from : Cursor) (g : Among at from (length s)
             let m = after-moves in
             let kd = gave in
             let mv = moved-good (readMoves still (restIn s NODE at (reached 2 false) c)) seen u (restIn s NODE at (reached 3 false) d) (motions-at (readMoves still (restIn s NODE at (reached 2 false) c)) (restIn s NODE at (reached 3 false)) c j hj y) in
-            let to : readParts brushes bones (restIn s NODE at start from) ≡ got (record { value = (kd .value, mv .value); rest = restIn s NODE at (reached 3 false) d }) =
+            let to : readParts mode brushes bones (restIn s NODE at start from) ≡ got (record { value = (kd .value, mv .value); rest = restIn s NODE at (reached 3 false) d }) =
             ap go (kd .is) ∙ ap (made (kd .value)) (mv .is) in
             let eq-below : aboveOf below ≡ bonesFrom a (animated (mv .value .anim)) (ownVertices (kd .value)) = e-below ∙ ap₂ (bonesFrom a) (mv .seen) (kd .vertices) in
             let eq-tally : x ≡ plus (plus headTally (kindTally (kd .value))) (movesTally (mv .value)) = ex ∙ ap (λ (q : Tally). plus q u) (ap (plus headTally) (kd .has)) ∙ ap (plus (plus headTally (kindTally (kd .value)))) (mv .has) in
@@ -208,10 +209,10 @@ module _ (s : List ℕ) (at : ℕ) (body : Cursor) (g : Body at body (length s))
   pub own-far : at + 49 ≤ n .at
   own-far = let f = named-among body 10 r ir len v n w in omega (arith, f .row, f .after, g .head)
 
-module _ (s : List ℕ) (at : ℕ) (body : Cursor) (g : Body at body (length s)) (brushes : ℕ) (a : Option ℕ) (r : Named) (er : r ≡ namedAt s body 10) where
+module _ (mode : Mode) (s : List ℕ) (at : ℕ) (body : Cursor) (g : Body at body (length s)) (brushes : ℕ) (a : Option ℕ) (r : Named) (er : r ≡ namedAt s body 10) where
   -- the answers that are right
   abbrev Right : Owned → Type 0
-  Right x = Owns a (readOwn brushes a at (left body s)) (restIn s NODE at (reached 3 false)) at body x
+  Right x = Owns a (readOwn mode brushes a at (left body s)) (restIn s NODE at (reached 3 false)) at body x
 
   inside-body : Inside body (length s)
   inside-body = record { before = g .room; within = g .within }
@@ -227,9 +228,9 @@ module _ (s : List ℕ) (at : ℕ) (body : Cursor) (g : Body at body (length s))
     abbrev within-name : Out (Found (Kind × Moves)) → Out (Found Data)
     within-name o = o >>= λ x. got (record { value = dataOf (x .value); rest = x .rest })
 
-    opened : readOwn brushes a at (left body s) ≡ within-name (readParts brushes (boneVertices a) (restIn s NODE at start n))
+    opened : readOwn mode brushes a at (left body s) ≡ within-name (readParts mode brushes (boneVertices a) (restIn s NODE at start n))
     unfolding readOwn readParts inside restIn
-    opened = rw (← g .head, named-any s body 10 inside-body r er len v n w) (kinds (readKind brushes (boneVertices a) (restIn s NODE at start n)))
+    opened = rw (← g .head, named-any s body 10 inside-body r er len v n w) (kinds (readKind mode brushes (boneVertices a) (restIn s NODE at start n)))
       where
         moves : (k : Kind) (o : Out (Found Moves))
             → (o >>= λ m. got (record { value = dataOf (k, m .value); rest = m .rest })) ≡ within-name (o >>= λ m. got (record { value = (k, m .value); rest = m .rest }))
@@ -247,11 +248,11 @@ module _ (s : List ℕ) (at : ℕ) (body : Cursor) (g : Body at body (length s))
     owned-parted (got x) = refl
     owned-parted (bad e q) = refl
 
-    pub own-parts : (k : Owned) → Parted a (readParts brushes (boneVertices a) (restIn s NODE at start n)) (restIn s NODE at (reached 3 false)) at n k → Right k
+    pub own-parts : (k : Owned) → Parted a (readParts mode brushes (boneVertices a) (restIn s NODE at start n)) (restIn s NODE at (reached 3 false)) at n k → Right k
     own-parts k h =
         let f = named-among body 10 r ir len v n w in
         record {
-          is = h .is ∙ sym (ap (owned a) opened ∙ owned-parted (readParts brushes (boneVertices a) (restIn s NODE at start n)));
+          is = h .is ∙ sym (ap (owned a) opened ∙ owned-parted (readParts mode brushes (boneVertices a) (restIn s NODE at start n)));
           within = owned-in at n body (f .same) k (h .within);
         }
 

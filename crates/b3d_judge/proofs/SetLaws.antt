@@ -13,6 +13,7 @@ use Rattle.wire.specs.declared.Cursor.{Cursor}
 use Rattle.layout.specs.Out.{Out, got, bad, _>>=_}
 use Rattle.layout.specs.Chunks.{done, stop}
 use Rattle.layout.proofs.Outs.{bind-bind}
+use Rattle.b3d_scene.specs.declared.Mode.{Mode}
 use Rattle.b3d_scene.specs.declared.Tag.{Tag}
 use Rattle.b3d_scene.specs.declared.Tag.the-variants.{MESH, VRTS}
 use Rattle.b3d_scene.specs.Scene.{TriangleSet, Mesh}
@@ -163,16 +164,16 @@ shaped-good (bad n p) k words h = let z : _≡_ {A = ℕ} 0 1 = cc in absurd (om
 abbrev madeOf : Vertices → Out (List TriangleSet) → Out Mesh
 madeOf v o = o >>= λ l. got (record { brush = 0; flags = v .flags; sets = v .sets; size = v .size; vertices = v .items; triangleSets = l })
 
-module _ (s : List ℕ) (at brushes p : ℕ) (b n : Cursor) (gb : Body p b (length s)) (gn : Among at n (length s)) (far : at + 12 ≤ p) (join : b .end ≡ n .at)
-    (j : Shaped) (h : Shapes (readVertices p (left b s)) b j) where
+module _ (mode : Mode) (s : List ℕ) (at brushes p : ℕ) (b n : Cursor) (gb : Body p b (length s)) (gn : Among at n (length s)) (far : at + 12 ≤ p) (join : b .end ≡ n .at)
+    (j : Shaped) (h : Shapes (readVertices mode p (left b s)) b j) where
   abbrev Shape-right : Meshed → Type 0
-  Shape-right y = Meshes (readAfter brushes 0 (readVertices p (left b s)) (restIn s MESH at (reached 1 true) n)) at (n .end) y
+  Shape-right y = Meshes (readAfter brushes 0 (readVertices mode p (left b s)) (restIn s MESH at (reached 1 true) n)) at (n .end) y
 
   pub shape-bad : (e i : ℕ) → j ≡ shape.Not e i → Shape-right (meshes.Not e i)
   unfolding readAfter
   shape-bad e i z =
       let le : i ≤ b .end = subst (ShapedIn b) z (h .within) in
-      record { is = rw (shaped-bad (readVertices p (left b s)) e i (sym (h .is) ∙ z)); within = omega (arith, gn .room) }
+      record { is = rw (shaped-bad (readVertices mode p (left b s)) e i (sym (h .is) ∙ z)); within = omega (arith, gn .room) }
 
   module _ (k words : ℕ) (z : j ≡ shape.Is k words) where
     room : (12 + k * (4 * words) ≤ b .end - b .at) × (3 ≤ words) × (words ≤ 42)
@@ -187,11 +188,11 @@ module _ (s : List ℕ) (at brushes p : ℕ) (b n : Cursor) (gb : Body p b (leng
     pub shape-wide : words ≤ 42
     shape-wide = room .2
 
-    gave : GaveShape (readVertices p (left b s)) k words
-    gave = shaped-good (readVertices p (left b s)) k words (sym (h .is) ∙ z)
+    gave : GaveShape (readVertices mode p (left b s)) k words
+    gave = shaped-good (readVertices mode p (left b s)) k words (sym (h .is) ∙ z)
 
     module _ (i : Judged) (hi : Judges setsTally (readSets brushes k (restIn s MESH at (reached 1 true) n)) (n .at) (n .end) i) where
-      sets-read : readAfter brushes 0 (readVertices p (left b s)) (restIn s MESH at (reached 1 true) n) ≡ madeOf (gave .value) (readSets brushes k (restIn s MESH at (reached 1 true) n))
+      sets-read : readAfter brushes 0 (readVertices mode p (left b s)) (restIn s MESH at (reached 1 true) n) ≡ madeOf (gave .value) (readSets brushes k (restIn s MESH at (reached 1 true) n))
       unfolding readAfter
       sets-read =
           let v = gave in
@@ -223,7 +224,7 @@ module _ (s : List ℕ) (at brushes p : ℕ) (b n : Cursor) (gb : Body p b (leng
             let v = gave in
             let l = judged-good setsTally (readSets brushes k (restIn s MESH at (reached 1 true) n)) u (sym (hi .is) ∙ y) in
             let M : Mesh = record { brush = 0; flags = v .value .flags; sets = v .value .sets; size = v .value .size; vertices = v .value .items; triangleSets = l .value } in
-            let to : readAfter brushes 0 (readVertices p (left b s)) (restIn s MESH at (reached 1 true) n) ≡ got M = sets-read ∙ ap (madeOf (v .value)) (l .is) in
+            let to : readAfter brushes 0 (readVertices mode p (left b s)) (restIn s MESH at (reached 1 true) n) ≡ got M = sets-read ∙ ap (madeOf (v .value)) (l .is) in
             record {
               is = made M (v .many) (e ∙ ap₂ plus (ap₂ verticesTally (v .many) (v .wide)) (l .has)) ∙ ap meshed (sym to);
               within = rw e (within-plus (verticesTally k words) u (n .at - at) (n .end - n .at) (n .end - at) first tail (omega (arith, gn .head, gn .room)));
@@ -251,9 +252,9 @@ first-turn t z =
     by-tag (λ t. nextTurn (nesting MESH) (nesting MESH) start t ≡ some (reachedOf z) → (t ≡ VRTS) × (reachedOf z ≡ reached 1 true))
     (never, never, never, never, never, (λ h. (refl, some-inj h)), never, never, never, never) t
 
-module _ (s : List ℕ) (at brushes : ℕ) (from : Cursor) (g : Among at from (length s)) (far : at + 12 ≤ from .at) (r : Enclosed) (x : EnclosedIs s MESH at (record { turn = 0; spent = false }) from r) where
+module _ (mode : Mode) (s : List ℕ) (at brushes : ℕ) (from : Cursor) (g : Among at from (length s)) (far : at + 12 ≤ from .at) (r : Enclosed) (x : EnclosedIs s MESH at (record { turn = 0; spent = false }) from r) where
   abbrev Inside-mesh : Meshed → Type 0
-  Inside-mesh y = Meshes (readInside brushes 0 (restIn s MESH at start from)) at (from .end) y
+  Inside-mesh y = Meshes (readInside mode brushes 0 (restIn s MESH at start from)) at (from .end) y
 
   pub inside-stop : (e p : ℕ) → r ≡ enclosed.Not e p → Inside-mesh (meshes.Not e p)
   unfolding readInside readOne
@@ -286,13 +287,13 @@ module _ (s : List ℕ) (at brushes : ℕ) (from : Cursor) (g : Among at from (l
     pub inside-join : b .end ≡ n .at
     inside-join = sym (among .after)
 
-    pub inside-shape : (y : Meshed) → Meshes (readAfter brushes 0 (readVertices p (left b s)) (restIn s MESH at (reached 1 true) n)) at (n .end) y → Inside-mesh y
+    pub inside-shape : (y : Meshed) → Meshes (readAfter brushes 0 (readVertices mode p (left b s)) (restIn s MESH at (reached 1 true) n)) at (n .end) y → Inside-mesh y
     unfolding readInside readAfter readOne if
     inside-shape y m =
         let f = among in
         let u = first-turn t z (step-turn s MESH at (record { turn = 0; spent = false }) from r x t p b n z w) in
-        let opened : readInside brushes 0 (restIn s MESH at start from) ≡ readAfter brushes 0 (readVertices p (left b s)) (restIn s MESH at (reached 1 true) n) =
-        rw (rest-step s MESH at (record { turn = 0; spent = false }) from r x t p b n z w, u .0, u .1) (bind-bind (readVertices p (left b s)) _ _) in
+        let opened : readInside mode brushes 0 (restIn s MESH at start from) ≡ readAfter brushes 0 (readVertices mode p (left b s)) (restIn s MESH at (reached 1 true) n) =
+        rw (rest-step s MESH at (record { turn = 0; spent = false }) from r x t p b n z w, u .0, u .1) (bind-bind (readVertices mode p (left b s)) _ _) in
         record {
           is = m .is ∙ ap meshed (sym opened);
           within = subst (λ (e : ℕ). MeshedIn at e y) (f .same) (m .within);

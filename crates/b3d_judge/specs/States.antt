@@ -9,6 +9,7 @@ use Rattle.wire.specs.declared.Cursor.{Cursor}
 use Rattle.layout.specs.Out.{Out, got, _>>=_}
 use Rattle.layout.specs.Parts.{named}
 use Rattle.layout.specs.Chunks.{ended}
+use Rattle.b3d_scene.specs.declared.Mode.{Mode}
 use Rattle.b3d_scene.specs.declared.Tag.{Tag}
 use Rattle.b3d_scene.specs.declared.Tag.the-variants.{TEXS, BRUS, NODE, VRTS}
 use Rattle.b3d_scene.specs.Tags.{Chunks, Found, split}
@@ -31,17 +32,17 @@ animOf true = anim []
 animOf false = still
 
 -- the chunks inside a NODE up to the nodes below it: its kind, its KEYS and ANIM, and the chunks that are left
-unfoldable pub readParts : ℕ → ℕ → Chunks → Out (Found (Kind × Moves))
-readParts brushes bones cs = do
-  k ← readKind brushes bones cs
+unfoldable pub readParts : Mode → ℕ → ℕ → Chunks → Out (Found (Kind × Moves))
+readParts mode brushes bones cs = do
+  k ← readKind mode brushes bones cs
   m ← readMoves still (k .rest)
   got (record { value = (k .value, m .value); rest = m .rest })
 
 -- a NODE without the nodes below it: its data, and the chunks that are left
-unfoldable pub readOwn : ℕ → Option ℕ → ℕ → List ℕ → Out (Found Data)
-readOwn brushes above p b = do
+unfoldable pub readOwn : Mode → ℕ → Option ℕ → ℕ → List ℕ → Out (Found Data)
+readOwn mode brushes above p b = do
   h ← named nodeRow (p + 8) b
-  k ← readKind brushes (boneVertices above) (inside NODE p (h .place) (h .left))
+  k ← readKind mode brushes (boneVertices above) (inside NODE p (h .place) (h .left))
   m ← readMoves still (k .rest)
   got
       (record {
@@ -50,23 +51,23 @@ readOwn brushes above p b = do
       })
 
 -- the nodes, if NODE comes first, and nothing known after it
-unfoldable pub readLast : ℕ → Chunks → Out Forest
-readLast brushes cs = do
-  n ← readOne NODE leaf (readRoot brushes) cs
+unfoldable pub readLast : Mode → ℕ → Chunks → Out Forest
+readLast mode brushes cs = do
+  n ← readOne NODE leaf (readRoot mode brushes) cs
   ended (n .rest) (n .value)
 
 -- the chunks inside a BB3D after its textures: how many slots a brush has, its brushes, its nodes
-unfoldable pub readRest : ℕ → Chunks → Out ((ℕ × List Brush) × Forest)
-readRest textures cs = do
-  u ← readOne BRUS (0, []) (readBrushes textures) cs
-  f ← readLast (length (u .value .1)) (u .rest)
+unfoldable pub readRest : Mode → ℕ → Chunks → Out ((ℕ × List Brush) × Forest)
+readRest mode textures cs = do
+  u ← readOne BRUS (0, []) (readBrushes mode textures) cs
+  f ← readLast mode (length (u .value .1)) (u .rest)
   got ((slotsOf (u .value .0) (u .value .1), u .value .1), f)
 
 -- the chunks inside a BB3D of this version, from the first on
-unfoldable pub readChunks : ℕ → Chunks → Out Scene
-readChunks version cs = do
+unfoldable pub readChunks : Mode → ℕ → Chunks → Out Scene
+readChunks mode version cs = do
   t ← readOne TEXS [] readTextures cs
-  x ← readRest (length (t .value)) (t .rest)
+  x ← readRest mode (length (t .value)) (t .rest)
   got (record { version = version; textures = t .value; slots = x .0 .0; brushes = x .0 .1; nodes = x .1 })
 
 -- a mesh of this brush, of vertices that were read and the TRIS chunks after them
@@ -77,7 +78,7 @@ readAfter brushes brush o cs = do
   got (record { brush = brush; flags = v .flags; sets = v .sets; size = v .size; vertices = v .items; triangleSets = l })
 
 -- the chunks inside a MESH of this brush, from the first on
-unfoldable pub readInside : ℕ → ℕ → Chunks → Out Mesh
-readInside brushes brush cs = do
-  v ← readOne VRTS noVertices readVertices cs
+unfoldable pub readInside : Mode → ℕ → ℕ → Chunks → Out Mesh
+readInside mode brushes brush cs = do
+  v ← readOne VRTS noVertices (readVertices mode) cs
   readAfter brushes brush (got (v .value)) (v .rest)

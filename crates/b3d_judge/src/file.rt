@@ -23,6 +23,7 @@ use b3d_bodies::Judged;
 use b3d_bodies::Slotted;
 use b3d_bodies::Tally;
 use b3d_bodies::rows;
+use b3d_scene::Mode;
 use b3d_scene::Tag;
 use b3d_turns::Enclosed;
 use b3d_turns::Reached;
@@ -71,9 +72,9 @@ pub fn judge_texs(s: &[u8], from: Cursor) -> Phase
 }
 
 // The brushes, if BRUS comes first.
-pub fn judge_brus(s: &[u8], from: Cursor, textures: usize) -> Brushed
+pub fn judge_brus(s: &[u8], from: Cursor, textures: usize, mode: Mode) -> Brushed
     requires { ⌜ Among 0 from (length (now s)) ⌝ }
-    ensures { λ r. ⌜ Brushes (readOne BRUS (0, []) (readBrushes textures) (restIn (now (s .entry)) BB3D 0 (reached 1 true) from)) (restIn (now (s .entry)) BB3D 0 (reached 2 true)) from r ⌝ }
+    ensures { λ r. ⌜ Brushes (readOne BRUS (0, []) (readBrushes mode textures) (restIn (now (s .entry)) BB3D 0 (reached 1 true) from)) (restIn (now (s .entry)) BB3D 0 (reached 2 true)) from r ⌝ }
 {
     let found = b3d_chunks::next_chunk(s, from);
     match b3d_turns::next_inside(s, from, found, Tag::BB3D, 0, TEXS_READ) {
@@ -86,7 +87,7 @@ pub fn judge_brus(s: &[u8], from: Cursor, textures: usize) -> Brushed
             next,
             reached: _,
         } => match tag {
-            Tag::BRUS => match b3d_bodies::judge_brushes(s, at, body, textures) {
+            Tag::BRUS => match b3d_bodies::judge_brushes(s, at, body, textures, mode) {
                 Slotted::Not(e, p) => Brushed::Not(e, p),
                 Slotted::Is(slots, t) => Brushed::To(slots, t, next),
             },
@@ -96,9 +97,9 @@ pub fn judge_brus(s: &[u8], from: Cursor, textures: usize) -> Brushed
 }
 
 // The nodes, if NODE comes first.
-fn judge_root(s: &[u8], from: Cursor, brushes: usize) -> Phase
+fn judge_root(s: &[u8], from: Cursor, brushes: usize, mode: Mode) -> Phase
     requires { ⌜ Among 0 from (length (now s)) ⌝ }
-    ensures { λ r. ⌜ Phases forestTally (readOne NODE leaf (readRoot brushes) (restIn (now (s .entry)) BB3D 0 (reached 2 true) from)) (restIn (now (s .entry)) BB3D 0 (reached 3 true)) from r ⌝ }
+    ensures { λ r. ⌜ Phases forestTally (readOne NODE leaf (readRoot mode brushes) (restIn (now (s .entry)) BB3D 0 (reached 2 true) from)) (restIn (now (s .entry)) BB3D 0 (reached 3 true)) from r ⌝ }
 {
     let found = b3d_chunks::next_chunk(s, from);
     match b3d_turns::next_inside(s, from, found, Tag::BB3D, 0, BRUS_READ) {
@@ -110,7 +111,7 @@ fn judge_root(s: &[u8], from: Cursor, brushes: usize) -> Phase
             body,
             next,
             reached: _,
-        } => match nodes::judge_node(s, at, body, 16, brushes, Above::Root) {
+        } => match nodes::judge_node(s, at, body, 16, brushes, Above::Root, mode) {
             Judged::Bad(e, p) => Phase::Not(e, p),
             Judged::Good(t) => Phase::To(t, next),
         },
@@ -118,11 +119,11 @@ fn judge_root(s: &[u8], from: Cursor, brushes: usize) -> Phase
 }
 
 // The nodes, if NODE comes first, and nothing known after it.
-fn judge_last(s: &[u8], from: Cursor, brushes: usize) -> Judged
+fn judge_last(s: &[u8], from: Cursor, brushes: usize, mode: Mode) -> Judged
     requires { ⌜ Among 0 from (length (now s)) ⌝ }
-    ensures { λ r. ⌜ Judges forestTally (readLast brushes (restIn (now (s .entry)) BB3D 0 (reached 2 true) from)) (from .at) (from .end) r ⌝ }
+    ensures { λ r. ⌜ Judges forestTally (readLast mode brushes (restIn (now (s .entry)) BB3D 0 (reached 2 true) from)) (from .at) (from .end) r ⌝ }
 {
-    match judge_root(s, from, brushes) {
+    match judge_root(s, from, brushes, mode) {
         Phase::Not(e, p) => Judged::Bad(e, p),
         Phase::To(t, end) => {
             let found = b3d_chunks::next_chunk(s, end);
@@ -143,13 +144,13 @@ fn judge_last(s: &[u8], from: Cursor, brushes: usize) -> Judged
 }
 
 // BRUS and NODE.
-fn judge_rest(s: &[u8], from: Cursor, textures: usize) -> Slotted
+fn judge_rest(s: &[u8], from: Cursor, textures: usize, mode: Mode) -> Slotted
     requires { ⌜ Among 0 from (length (now s)) ⌝ }
-    ensures { λ r. ⌜ Rests (readRest textures (restIn (now (s .entry)) BB3D 0 (reached 1 true) from)) (from .at) (from .end) r ⌝ }
+    ensures { λ r. ⌜ Rests (readRest mode textures (restIn (now (s .entry)) BB3D 0 (reached 1 true) from)) (from .at) (from .end) r ⌝ }
 {
-    match judge_brus(s, from, textures) {
+    match judge_brus(s, from, textures, mode) {
         Brushed::Not(e, p) => Slotted::Not(e, p),
-        Brushed::To(slots, b, c) => match judge_last(s, c, b.brushes) {
+        Brushed::To(slots, b, c) => match judge_last(s, c, b.brushes, mode) {
             Judged::Bad(e, p) => Slotted::Not(e, p),
             Judged::Good(f) => Slotted::Is(slots, rows::plus(b, f)),
         },
@@ -165,13 +166,13 @@ fn file_rows(textures: Tally, rest: Tally) -> Tally
 }
 
 // TEXS, BRUS and NODE.
-fn judge_chunks(s: &[u8], version: u32, from: Cursor) -> Verdict
+fn judge_chunks(s: &[u8], version: u32, from: Cursor, mode: Mode) -> Verdict
     requires { ⌜ Among 0 from (length (now s)) × (from .at ≡ 12) ⌝ }
-    ensures { λ r. ⌜ Walks (readChunks version (restIn (now (s .entry)) BB3D 0 start from)) (from .end) r ⌝ }
+    ensures { λ r. ⌜ Walks (readChunks mode version (restIn (now (s .entry)) BB3D 0 start from)) (from .end) r ⌝ }
 {
     match judge_texs(s, from) {
         Phase::Not(e, p) => Verdict::Bad(e, p),
-        Phase::To(t, c) => match judge_rest(s, c, t.textures) {
+        Phase::To(t, c) => match judge_rest(s, c, t.textures, mode) {
             Slotted::Not(e, p) => Verdict::Bad(e, p),
             Slotted::Is(slots, r) => Verdict::Good(Summary {
                 version,
@@ -183,9 +184,9 @@ fn judge_chunks(s: &[u8], version: u32, from: Cursor) -> Verdict
 }
 
 // All that follows the header of a file.
-pub fn judge_body(s: &[u8]) -> Verdict
+pub fn judge_body(s: &[u8], mode: Mode) -> Verdict
     requires { ⌜ (8 ≤ length (now s)) × (length (now s) ≤ mostBytes) ⌝ }
-    ensures { λ r. ⌜ Walks (readBody 8 (drop 8 (now (s .entry)))) (length (now (s .entry))) r ⌝ }
+    ensures { λ r. ⌜ Walks (readBody mode 8 (drop 8 (now (s .entry)))) (length (now (s .entry))) r ⌝ }
 {
     let behind = Cursor {
         at: 8,
@@ -197,7 +198,7 @@ pub fn judge_body(s: &[u8]) -> Verdict
             if 99 < version {
                 return Verdict::Bad(6, 8);
             }
-            judge_chunks(s, version, c)
+            judge_chunks(s, version, c, mode)
         }
     }
 }

@@ -12,6 +12,7 @@ ghost use Rattle.b3d_scene.specs.Rules.{rowLimit};
 ghost use Rattle.b3d_scene.specs.Answers.{judge};
 ghost use Rattle.b3d_judge.specs.Answers.{overLimit, verdictOf};
 use b3d_bodies::Tally;
+use b3d_scene::Mode;
 use wire::Cursor;
 
 // A mesh's vertices and its tally.
@@ -101,8 +102,8 @@ pub fn are_bytes(s: &[u8]) -> bool
 }
 
 // What a file says, without any table.
-pub fn judge(file: &[u8]) -> Verdict
-    ensures { λ r. ⌜ r ≡ verdictOf (judge (now (file .entry))) ⌝ }
+pub fn judge(mode: Mode, file: &[u8]) -> Verdict
+    ensures { λ r. ⌜ r ≡ verdictOf (judge mode (now (file .entry))) ⌝ }
 {
     let n = file.len();
     if n < 12 {
@@ -117,7 +118,7 @@ pub fn judge(file: &[u8]) -> Verdict
     if wire::size(wire::number_at(file, 4)) != n - 8 {
         return Verdict::Bad(2, 4);
     }
-    match file::judge_body(file) {
+    match file::judge_body(file, mode) {
         Verdict::Bad(e, p) => Verdict::Bad(e, p),
         Verdict::Good(x) => {
             are_bytes(file);

@@ -17,6 +17,7 @@ use b3d_bodies::Judged;
 use b3d_bodies::Shaped;
 use b3d_bodies::Tally;
 use b3d_bodies::rows;
+use b3d_scene::Mode;
 use b3d_scene::Tag;
 use b3d_turns::Enclosed;
 use b3d_turns::Reached;
@@ -75,11 +76,19 @@ fn mesh_rows(n: usize, words: usize, sets: Tally) -> Tally
 }
 
 // A VRTS whose header is at p, and the TRIS after it, of a mesh whose header is at `at`.
-fn judge_shape(s: &[u8], at: usize, p: usize, body: Cursor, next: Cursor, brushes: usize) -> Meshed
+fn judge_shape(
+    s: &[u8],
+    at: usize,
+    p: usize,
+    body: Cursor,
+    next: Cursor,
+    brushes: usize,
+    mode: Mode,
+) -> Meshed
     requires { ⌜ Body p body (length (now s)) × Among at next (length (now s)) × (at + 12 ≤ p) × (body .end ≡ next .at) ⌝ }
-    ensures { λ r. ⌜ Meshes (readAfter brushes 0 (readVertices p (left body (now (s .entry)))) (restIn (now (s .entry)) MESH at (reached 1 true) next)) at (next .end) r ⌝ }
+    ensures { λ r. ⌜ Meshes (readAfter brushes 0 (readVertices mode p (left body (now (s .entry)))) (restIn (now (s .entry)) MESH at (reached 1 true) next)) at (next .end) r ⌝ }
 {
-    match b3d_bodies::judge_vertices(s, p, body) {
+    match b3d_bodies::judge_vertices(s, p, body, mode) {
         Shaped::Not(e, q) => Meshed::Not(e, q),
         Shaped::Is(n, words) => match judge_sets(s, at, next, brushes, n) {
             Judged::Bad(e, q) => Meshed::Not(e, q),
@@ -89,9 +98,9 @@ fn judge_shape(s: &[u8], at: usize, p: usize, body: Cursor, next: Cursor, brushe
 }
 
 // The VRTS of a mesh and its TRIS, from the first chunk on.
-fn judge_inside(s: &[u8], at: usize, from: Cursor, brushes: usize) -> Meshed
+fn judge_inside(s: &[u8], at: usize, from: Cursor, brushes: usize, mode: Mode) -> Meshed
     requires { ⌜ Among at from (length (now s)) × (at + 12 ≤ from .at) ⌝ }
-    ensures { λ r. ⌜ Meshes (readInside brushes 0 (restIn (now (s .entry)) MESH at start from)) at (from .end) r ⌝ }
+    ensures { λ r. ⌜ Meshes (readInside mode brushes 0 (restIn (now (s .entry)) MESH at start from)) at (from .end) r ⌝ }
 {
     let found = b3d_chunks::next_chunk(s, from);
     match b3d_turns::first_inside(s, from, found, Tag::MESH, at) {
@@ -104,14 +113,14 @@ fn judge_inside(s: &[u8], at: usize, from: Cursor, brushes: usize) -> Meshed
             body,
             next,
             reached: _,
-        } => judge_shape(s, at, p, body, next, brushes),
+        } => judge_shape(s, at, p, body, next, brushes, mode),
     }
 }
 
 // A MESH: its brush id, then the chunks inside it.
-pub fn judge_mesh(s: &[u8], at: usize, body: Cursor, brushes: usize) -> Meshed
+pub fn judge_mesh(s: &[u8], at: usize, body: Cursor, brushes: usize, mode: Mode) -> Meshed
     requires { ⌜ Body at body (length (now s)) ⌝ }
-    ensures { λ r. ⌜ Meshes (readMesh brushes at (left body (now (s .entry)))) at (body .end) r ⌝ }
+    ensures { λ r. ⌜ Meshes (readMesh mode brushes at (left body (now (s .entry)))) at (body .end) r ⌝ }
 {
     match body.number(s) {
         Number::Cut => Meshed::Not(5, body.at),
@@ -119,7 +128,7 @@ pub fn judge_mesh(s: &[u8], at: usize, body: Cursor, brushes: usize) -> Meshed
             if !b3d_chunks::id_named(brush, brushes, true) {
                 return Meshed::Not(7, body.at);
             }
-            judge_inside(s, at, c, brushes)
+            judge_inside(s, at, c, brushes, mode)
         }
     }
 }

@@ -23,6 +23,7 @@ use b3d_bodies::Judged;
 use b3d_bodies::Tally;
 use b3d_bodies::rows;
 use b3d_chunks::Named;
+use b3d_scene::Mode;
 use b3d_scene::Tag;
 use b3d_turns::Enclosed;
 use b3d_turns::Reached;
@@ -65,9 +66,16 @@ fn bones_below(a: Above, anim: bool, own: usize) -> Above
 }
 
 // A MESH or a BONE, if it comes first.
-pub fn judge_kind(s: &[u8], at: usize, from: Cursor, brushes: usize, bones: usize) -> Kinded
+pub fn judge_kind(
+    s: &[u8],
+    at: usize,
+    from: Cursor,
+    brushes: usize,
+    bones: usize,
+    mode: Mode,
+) -> Kinded
     requires { ⌜ Among at from (length (now s)) ⌝ }
-    ensures { λ r. ⌜ Kinds (readKind brushes bones (restIn (now (s .entry)) NODE at start from)) (restIn (now (s .entry)) NODE at (reached 2 false)) from r ⌝ }
+    ensures { λ r. ⌜ Kinds (readKind mode brushes bones (restIn (now (s .entry)) NODE at start from)) (restIn (now (s .entry)) NODE at (reached 2 false)) from r ⌝ }
 {
     let found = b3d_chunks::next_chunk(s, from);
     match b3d_turns::first_inside(s, from, found, Tag::NODE, at) {
@@ -80,7 +88,7 @@ pub fn judge_kind(s: &[u8], at: usize, from: Cursor, brushes: usize, bones: usiz
             next,
             reached: _,
         } => match tag {
-            Tag::MESH => match meshes::judge_mesh(s, p, body, brushes) {
+            Tag::MESH => match meshes::judge_mesh(s, p, body, brushes, mode) {
                 Meshed::Not(e, q) => Kinded::Not(e, q),
                 Meshed::Is(own, t) => Kinded::To(own, t, next),
             },
@@ -162,11 +170,11 @@ fn own_rows(kind: Tally, moves: Tally) -> Tally
 }
 
 // The chunks inside a NODE up to the nodes below it.
-fn judge_parts(s: &[u8], at: usize, from: Cursor, brushes: usize, above: Above) -> Owned
+fn judge_parts(s: &[u8], at: usize, from: Cursor, brushes: usize, above: Above, mode: Mode) -> Owned
     requires { ⌜ Among at from (length (now s)) × (at + 49 ≤ from .at) ⌝ }
-    ensures { λ r. ⌜ Parted (aboveOf above) (readParts brushes (boneVertices (aboveOf above)) (restIn (now (s .entry)) NODE at start from)) (restIn (now (s .entry)) NODE at (reached 3 false)) at from r ⌝ }
+    ensures { λ r. ⌜ Parted (aboveOf above) (readParts mode brushes (boneVertices (aboveOf above)) (restIn (now (s .entry)) NODE at start from)) (restIn (now (s .entry)) NODE at (reached 3 false)) at from r ⌝ }
 {
-    match judge_kind(s, at, from, brushes, bone_vertices(above)) {
+    match judge_kind(s, at, from, brushes, bone_vertices(above), mode) {
         Kinded::Not(e, q) => Owned::Not(e, q),
         Kinded::To(own, k, c) => match judge_moves(s, at, c) {
             Motion::Not(e, q) => Owned::Not(e, q),
@@ -176,9 +184,16 @@ fn judge_parts(s: &[u8], at: usize, from: Cursor, brushes: usize, above: Above) 
 }
 
 // A NODE whose header is at `at`, without the nodes below it.
-pub fn judge_own(s: &[u8], at: usize, body: Cursor, brushes: usize, above: Above) -> Owned
+pub fn judge_own(
+    s: &[u8],
+    at: usize,
+    body: Cursor,
+    brushes: usize,
+    above: Above,
+    mode: Mode,
+) -> Owned
     requires { ⌜ Body at body (length (now s)) ⌝ }
-    ensures { λ r. ⌜ Owns (aboveOf above) (readOwn brushes (aboveOf above) at (left body (now (s .entry)))) (restIn (now (s .entry)) NODE at (reached 3 false)) at body r ⌝ }
+    ensures { λ r. ⌜ Owns (aboveOf above) (readOwn mode brushes (aboveOf above) at (left body (now (s .entry)))) (restIn (now (s .entry)) NODE at (reached 3 false)) at body r ⌝ }
 {
     match b3d_chunks::named_row(s, body, 10) {
         Named::Cut => Owned::Not(5, body.at),
@@ -186,7 +201,7 @@ pub fn judge_own(s: &[u8], at: usize, body: Cursor, brushes: usize, above: Above
             length: _,
             row: _,
             next,
-        } => judge_parts(s, at, next, brushes, above),
+        } => judge_parts(s, at, next, brushes, above, mode),
     }
 }
 
@@ -198,16 +213,17 @@ pub fn judge_node(
     levels: u32,
     brushes: usize,
     above: Above,
+    mode: Mode,
 ) -> Judged
     requires { ⌜ Body at body (length (now s)) ⌝ }
-    ensures { λ r. ⌜ Judges innerTally (readNode levels brushes (aboveOf above) at (left body (now (s .entry)))) at (body .end) r ⌝ }
+    ensures { λ r. ⌜ Judges innerTally (readNode mode levels brushes (aboveOf above) at (left body (now (s .entry)))) at (body .end) r ⌝ }
 {
     if levels == 0 {
         return Judged::Bad(9, at);
     }
-    match judge_own(s, at, body, brushes, above) {
+    match judge_own(s, at, body, brushes, above, mode) {
         Owned::Not(e, p) => Judged::Bad(e, p),
-        Owned::To(below, t, c) => match judge_nodes(s, at, c, levels - 1, brushes, below) {
+        Owned::To(below, t, c) => match judge_nodes(s, at, c, levels - 1, brushes, below, mode) {
             Judged::Bad(e, p) => Judged::Bad(e, p),
             Judged::Good(f) => Judged::Good(rows::plus(t, f)),
         },
@@ -222,9 +238,10 @@ pub fn judge_nodes(
     levels: u32,
     brushes: usize,
     above: Above,
+    mode: Mode,
 ) -> Judged
     requires { ⌜ Among at from (length (now s)) ⌝ }
-    ensures { λ r. ⌜ Judges forestTally (readNodes (readNode levels brushes (aboveOf above)) (restIn (now (s .entry)) NODE at (reached 3 false) from)) (from .at) (from .end) r ⌝ }
+    ensures { λ r. ⌜ Judges forestTally (readNodes (readNode mode levels brushes (aboveOf above)) (restIn (now (s .entry)) NODE at (reached 3 false) from)) (from .at) (from .end) r ⌝ }
 {
     let mut c = from;
     let mut q = MOVES_READ;
@@ -244,7 +261,7 @@ pub fn judge_nodes(
                 body,
                 next,
                 reached,
-            } => match judge_node(s, p, body, levels, brushes, above) {
+            } => match judge_node(s, p, body, levels, brushes, above, mode) {
                 Judged::Bad(e, i) => {
                     return Judged::Bad(e, i);
                 }

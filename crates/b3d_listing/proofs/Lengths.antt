@@ -15,6 +15,7 @@ use Rattle.layout.proofs.Lists.{All, all-map}
 use Rattle.layout.proofs.RefusalLaws.{OneToNine}
 use Rattle.layout.proofs.Outs.{by-test, if-yes, if-no, bad-got}
 use Rattle.b3d_scene.specs.Answers.{eachTable, judge}
+use Rattle.b3d_scene.specs.declared.Mode.the-variants.{Strict}
 use Rattle.b3d_scene.specs.Parse.{parse}
 use Rattle.b3d_scene.specs.Rules.{rowLimit, mostBytes}
 use Rattle.b3d_scene.specs.Scene.{Brush, Forest, leaf, node, Scene}
@@ -79,9 +80,9 @@ unfolding eachTable
 each-number n ok t [] m p e = bad-got (sym e)
 each-number n ok t (k ∷ ks) m p e = each-step (ok k) (eachTable n ok ks) t n k m p (each-number n ok t ks m p) e
 
-judge-number : (s : List ℕ) (n p : ℕ) → judge s ≡ bad n p → n ≤ 10
+judge-number : (s : List ℕ) (n p : ℕ) → judge Strict s ≡ bad n p → n ≤ 10
 unfolding judge
-judge-number s n p e = go (parse s) (refused s) e
+judge-number s n p e = go (parse Strict s) (refused Strict s) e
   where
     go : (o : Out Scene) → ((m q : ℕ) → o ≡ bad m q → OneToNine m) → (o >>= λ t. eachTable 10 (λ k. leb (length (rows k t)) rowLimit) tables >>= λ _. got t) ≡ bad n p → n ≤ 10
     go (got t) h e = omega (arith, each-number 10 (λ k. leb (length (rows k t)) rowLimit) t tables n p e)
@@ -89,10 +90,10 @@ judge-number s n p e = go (parse s) (refused s) e
 
 -- ---- the whole text
 
-accepted-length : (s : List ℕ) (t : Scene) → AllBytes s → judge s ≡ got t → length (listed (got t)) ≤ length s + 142
+accepted-length : (s : List ℕ) (t : Scene) → AllBytes s → judge Strict s ≡ got t → length (listed (got t)) ≤ length s + 142
 unfolding listed counts tables nodeTables
 accepted-length s t b e =
-    let j = judge-got s t e in
+    let j = judge-got Strict s t e in
     let f = fits s t b (j .0) in
     let first = numberLine (0 ∷ 0 ∷ []) in
     let second = numberLine (t .version ∷ t .slots ∷ []) in
@@ -113,17 +114,17 @@ refused-length : (n p : ℕ) → n ≤ 10 → p ≤ mostBytes → length (listed
 unfolding listed
 refused-length n p h k = numbers-length (n ∷ p ∷ []) (omega arith, (omega arith, tt))
 
-listed-length : (s : List ℕ) (o : Out Scene) → AllBytes s → judge s ≡ o → length (listed o) ≤ length s + 142
+listed-length : (s : List ℕ) (o : Out Scene) → AllBytes s → judge Strict s ≡ o → length (listed o) ≤ length s + 142
 listed-length s (got t) b e = accepted-length s t b e
-listed-length s (bad n p) b e = omega (arith, refused-length n p (judge-number s n p e) (judge-place s n p e))
+listed-length s (bad n p) b e = omega (arith, refused-length n p (judge-number s n p e) (judge-place Strict s n p e))
 
 pub listing-length : (s : List ℕ) → AllBytes s → length (listing s) ≤ mostPrinted
 unfolding listing
 listing-length s b =
     by-test (ltb mostListed (length s))
-    (λ t. rw (if-yes (ltb mostListed (length s)) (numberLine (1 ∷ 0 ∷ [])) (listed (judge s)) t) (omega (arith, numbers-length (1 ∷ 0 ∷ []) (omega arith, (omega arith, tt)))))
+    (λ t. rw (if-yes (ltb mostListed (length s)) (numberLine (1 ∷ 0 ∷ [])) (listed (judge Strict s)) t) (omega (arith, numbers-length (1 ∷ 0 ∷ []) (omega arith, (omega arith, tt)))))
     (λ t. let h = nltb→le mostListed (length s) t in
-    rw (if-no (ltb mostListed (length s)) (numberLine (1 ∷ 0 ∷ [])) (listed (judge s)) t) (omega (arith, listed-length s (judge s) b refl)))
+    rw (if-no (ltb mostListed (length s)) (numberLine (1 ∷ 0 ∷ [])) (listed (judge Strict s)) t) (omega (arith, listed-length s (judge Strict s) b refl)))
 
 -- a byte more than the limit is as good as the whole file
 pub listing-cut : (s : List ℕ) → listing (take 65537 s) ≡ listing s

@@ -11,10 +11,11 @@ use Rattle.wire.specs.Test.{if}
 use Rattle.wire.specs.Bytes.{AllBytes, over}
 use Rattle.layout.specs.Out.{Out, got}
 use Rattle.b3d_scene.specs.Answers.{judge, tableAfter}
+use Rattle.b3d_scene.specs.declared.Mode.the-variants.{Strict, Lenient}
 use Rattle.b3d_scene.specs.Parse.{parse}
 use Rattle.b3d_scene.specs.Scene.{Scene}
 use Rattle.b3d_scene.specs.Tables.{rows, table, counts, tables, nodeTables}
-use Rattle.b3d_scene.proofs.AnswerLaws.{judge-got}
+use Rattle.b3d_scene.proofs.AnswerLaws.{judge-got, judge-lenient}
 use Rattle.b3d_judge.specs.Answers.{verdictOf}
 use Rattle.b3d_judge.specs.declared.Summary.{Summary}
 use Rattle.b3d_judge.specs.declared.Verdict.{Verdict}
@@ -81,31 +82,35 @@ pub ruleset names-laws = (names-start, names-inside, names-next, names-done)
 -- ---- `put_nodes`
 
 module _ (s : List ℕ) (n : ℕ) (l : Listable s n) (b : AllBytes s) where
-  parsed : parse s ≡ got (l .scene)
-  parsed = judge-got s (l .scene) (l .accepted) .0
+  -- the table is filled by the lenient reading, which has read the same
+  same : judge Lenient s ≡ got (l .scene)
+  same = judge-lenient Strict s (l .scene) (l .accepted)
 
-  pub table-ready : (room : ℕ) → 26740 ≡ room → Ready (rows 3) (judge s) 0 room
+  parsed : parse Strict s ≡ got (l .scene)
+  parsed = judge-got Strict s (l .scene) (l .accepted) .0
+
+  pub table-ready : (room : ℕ) → 26740 ≡ room → Ready (rows 3) (judge Lenient s) 0 room
   unfolding table
-  table-ready room e = record { value = l .scene; is = l .accepted; room = omega (arith, table-room s (l .scene) b parsed (l .short)) }
+  table-ready room e = record { value = l .scene; is = same; room = omega (arith, table-room s (l .scene) b parsed (l .short)) }
 
   -- the table after it was filled is as long as before
-  pub table-rows : (xs ws : List ℕ) → 26740 ≡ length xs → ws ≡ tableAfter 3 (judge s) xs → 20 * n ≤ length ws
+  pub table-rows : (xs ws : List ℕ) → 26740 ≡ length xs → ws ≡ tableAfter 3 (judge Lenient s) xs → 20 * n ≤ length ws
   unfolding tableAfter over
   table-rows xs ws e f =
       let t = table 3 (l .scene) in
       let r = table-room s (l .scene) b parsed (l .short) in
       let c : 20 * n ≤ 26740 = omega (arith, l .count, nodes-count s (l .scene) b parsed, l .short) in
-      let g : ws ≡ t ++ drop (length t) xs = f ∙ ap (λ (o : Out Scene). tableAfter 3 o xs) (l .accepted) in
+      let g : ws ≡ t ++ drop (length t) xs = f ∙ ap (λ (o : Out Scene). tableAfter 3 o xs) same in
       omega (arith, ap length g, length-append t (drop (length t) xs), length-drop (length t) xs)
 
-  lines-are : (xs ws : List ℕ) → ws ≡ tableAfter 3 (judge s) xs → rowLines s ws n ≡ nodeLinesOf (judge s)
+  lines-are : (xs ws : List ℕ) → ws ≡ tableAfter 3 (judge Lenient s) xs → rowLines s ws n ≡ nodeLinesOf (judge Strict s)
   unfolding tableAfter nodeLinesOf
   lines-are xs ws e =
-      ap₂ (rowLines s) (e ∙ ap (λ (o : Out Scene). tableAfter 3 o xs) (l .accepted)) (l .count)
+      ap₂ (rowLines s) (e ∙ ap (λ (o : Out Scene). tableAfter 3 o xs) same) (l .count)
       ∙ table-lines s (l .scene) b parsed xs ∙ sym (ap nodeLinesOf (l .accepted))
 
-  pub nodes-done : (xs ws : List ℕ) → ws ≡ tableAfter 3 (judge s) xs → (out : List ℕ) (at : ℕ) (ys : List ℕ) (p : ℕ) → Puts (rowLines s ws n) out at ys p
-      → Puts (nodeLinesOf (judge s)) out at ys p
+  pub nodes-done : (xs ws : List ℕ) → ws ≡ tableAfter 3 (judge Lenient s) xs → (out : List ℕ) (at : ℕ) (ys : List ℕ) (p : ℕ) → Puts (rowLines s ws n) out at ys p
+      → Puts (nodeLinesOf (judge Strict s)) out at ys p
   nodes-done xs ws e out at ys p h = rw (← lines-are xs ws e) h
 
 pub ruleset nodes-laws = (table-ready, table-rows, nodes-done)
@@ -122,31 +127,31 @@ module _ (s xs ys : List ℕ) (p : ℕ) where
   unfolding listing if
   listing-long h k = rw (lt-ltb 65536 (length s) h) k
 
-  module _ (h : length s ≤ 65536) (v : Verdict) (ev : v ≡ verdictOf (judge s)) where
-    listing-short : listing s ≡ listed (judge s)
+  module _ (h : length s ≤ 65536) (v : Verdict) (ev : v ≡ verdictOf (judge Strict s)) where
+    listing-short : listing s ≡ listed (judge Strict s)
     unfolding listing if
     listing-short = rw (le-ltb 65536 (length s) h)
 
     pub listing-bad : (n q : ℕ) → v ≡ verdict.Bad n q → (k : ℕ) → k ≡ n → Puts (numberLine (k ∷ q ∷ [])) xs 0 ys p → Puts (listing s) xs 0 ys p
     unfolding listed
-    listing-bad n q w k e g = rw (listing-short, was-bad (judge s) n q (sym ev ∙ w), ← e) g
+    listing-bad n q w k e g = rw (listing-short, was-bad (judge Strict s) n q (sym ev ∙ w), ← e) g
 
     module _ (x : Summary) (w : v ≡ verdict.Good x) where
-      good : Good (judge s) x
-      good = was-good (judge s) x (sym ev ∙ w)
+      good : Good (judge Strict s) x
+      good = was-good (judge Strict s) x (sym ev ∙ w)
 
-      listing-lines : headLines x ++ nodeLinesOf (judge s) ≡ listing s
+      listing-lines : headLines x ++ nodeLinesOf (judge Strict s) ≡ listing s
       unfolding nodeLinesOf
       listing-lines =
           ap₂ (λ (y : Summary) (o : Out Scene). headLines y ++ nodeLinesOf o) (good .same) (good .is)
           ∙ accepted-lines (good .scene) ∙ sym (listing-short ∙ ap listed (good .is))
 
-      pub listing-good : Puts (headLines x) xs 0 ys p → (zs : List ℕ) (q : ℕ) → Puts (nodeLinesOf (judge s)) ys p zs q → Puts (listing s) xs 0 zs q
-      listing-good k zs q l = rw (← listing-lines) (put-both (headLines x) (nodeLinesOf (judge s)) xs 0 ys p zs q k l)
+      pub listing-good : Puts (headLines x) xs 0 ys p → (zs : List ℕ) (q : ℕ) → Puts (nodeLinesOf (judge Strict s)) ys p zs q → Puts (listing s) xs 0 zs q
+      listing-good k zs q l = rw (← listing-lines) (put-both (headLines x) (nodeLinesOf (judge Strict s)) xs 0 ys p zs q k l)
 
-pub listing-nodes : (s : List ℕ) → length s ≤ 65536 → (v : Verdict) → v ≡ verdictOf (judge s) → (x : Summary) → v ≡ verdict.Good x → Listable s (x .tally .nodes)
+pub listing-nodes : (s : List ℕ) → length s ≤ 65536 → (v : Verdict) → v ≡ verdictOf (judge Strict s) → (x : Summary) → v ≡ verdict.Good x → Listable s (x .tally .nodes)
 listing-nodes s h v ev x w =
-    let g = was-good (judge s) x (sym ev ∙ w) in
+    let g = was-good (judge Strict s) x (sym ev ∙ w) in
     record { scene = g .scene; accepted = g .is; count = ap (λ (y : Summary). y .tally .nodes) (g .same); short = h }
 
 pub ruleset listing-laws = (listing-long, listing-bad, listing-good, listing-nodes, put-inside)

@@ -13,6 +13,7 @@ use Rattle.layout.specs.Out.{got}
 use Rattle.layout.specs.Rules.{NONE}
 use Rattle.layout.proofs.PlaceLaws.{At, NameIn}
 use Rattle.b3d_scene.specs.Parse.{parse}
+use Rattle.b3d_scene.specs.declared.Mode.the-variants.{Strict}
 use Rattle.b3d_scene.specs.Rules.{boneVertices, bonesBelow, levels}
 use Rattle.b3d_scene.specs.Scene.{Data, Forest, leaf, node, Scene}
 use Rattle.b3d_scene.specs.Sizes.{nodesSize, sizeOf}
@@ -76,14 +77,14 @@ forest-count (node d f g) p n =
     let b = forestRows 3 g p (withForest f (withNode d n)) in
     omega (arith, length-append a b, forest-count f (n .nodes) (withNode d n), forest-count g p (withForest f (withNode d n)))
 
-module _ (s : List ℕ) (t : Scene) (h : AllBytes s) (e : parse s ≡ got t) where
+module _ (s : List ℕ) (t : Scene) (h : AllBytes s) (e : parse Strict s ≡ got t) where
   pub fits : Fit t
-  fits = fine s t h e .0
+  fits = fine Strict s t h e .0
 
   -- the nodes in bytes of the file
   pub nodes-bytes : nodesSize (t .nodes) + 12 ≤ length s
   unfolding sizeOf
-  nodes-bytes = let l = fine s t h e .1 in omega (arith, file-length t fits)
+  nodes-bytes = let l = fine Strict s t h e .1 in omega (arith, file-length t fits)
 
   pub nodes-count : 49 * length (rows 3 t) ≤ length s
   unfolding rows if
@@ -100,5 +101,5 @@ module _ (s : List ℕ) (t : Scene) (h : AllBytes s) (e : parse s ≡ got t) whe
       let r = forestRows 3 (t .nodes) NONE start in
       let z : length r ≡ length r + 0 = omega arith in
       ap (rowLines s (words r ++ drop (length (words r)) xs)) z
-      ∙ forest-lines s levels (length (t .brushes)) none (t .nodes) NONE start (drop (length (words r)) xs) 0 (names-stand s t e .nodes) (fits .nodes)
+      ∙ forest-lines s levels (length (t .brushes)) none (t .nodes) NONE start (drop (length (words r)) xs) 0 (names-stand Strict s t e .nodes) (fits .nodes)
       ∙ append-nil (nodeLines (t .nodes))

@@ -8,6 +8,7 @@ use Rattle.wire.specs.Bytes.{over}
 use Rattle.wire.specs.Test.{if}
 use Rattle.layout.specs.Out.{Out, got, bad}
 use Rattle.b3d_scene.specs.Answers.{judge}
+use Rattle.b3d_scene.specs.declared.Mode.the-variants.{Strict}
 use Rattle.b3d_scene.specs.Scene.{Forest, leaf, node, Scene}
 use Rattle.b3d_scene.specs.Tables.{counts}
 use Rattle.b3d_text.specs.Text.{numberLine, textLine}
@@ -41,7 +42,7 @@ listed (bad n p) = numberLine (n ∷ p ∷ [])
 
 -- the whole text; a file of too many bytes is refused with 1 at 0
 unfoldable pub listing : List ℕ → List ℕ
-listing s = if (ltb mostListed (length s)) (numberLine (1 ∷ 0 ∷ [])) (listed (judge s))
+listing s = if (ltb mostListed (length s)) (numberLine (1 ∷ 0 ∷ [])) (listed (judge Strict s))
 
 -- an output before and after a file was listed, and the size of the text
 pub record Lists (s xs ys : List ℕ) (size : ℕ) : Type 0 where

@@ -5,6 +5,7 @@ use mathlib.Core.List.{List, [], _∷_, _++_}
 use lib.ListN.{length, drop, getD}
 use Rattle.layout.specs.Out.{Out, got, bad}
 use Rattle.b3d_scene.specs.Answers.{judge}
+use Rattle.b3d_scene.specs.declared.Mode.the-variants.{Strict}
 use Rattle.b3d_scene.specs.Scene.{Scene}
 use Rattle.b3d_scene.specs.Tables.{rows}
 use Rattle.b3d_judge.specs.declared.Summary.{Summary}
@@ -34,6 +35,6 @@ rowLines s ws (suc n) = rowLine s ws ++ rowLines s (drop 20 ws) n
 -- an accepted file of so many nodes, no longer than the lister reads
 pub record Listable (s : List ℕ) (nodes : ℕ) : Type 0 where
   pub scene : Scene
-  pub accepted : judge s ≡ got scene
+  pub accepted : judge Strict s ≡ got scene
   pub count : nodes ≡ length (rows 3 scene)
   pub short : length s ≤ mostListed

@@ -4,6 +4,7 @@ ghost use mathlib.Core.List.{[], _∷_};
 ghost use Prim.Native.Nat.{_+_, _*_, _≤_};
 ghost use lib.ListN.{length, drop};
 ghost use Rattle.b3d_scene.specs.Answers.{judge};
+ghost use Rattle.b3d_scene.specs.declared.Mode.the-variants.{Strict};
 ghost use Rattle.b3d_text.specs.Puts.{Puts};
 ghost use Rattle.b3d_text.specs.Text.{numberLine};
 ghost use Rattle.b3d_read.specs.Rooms.{countsIn};
@@ -12,6 +13,7 @@ ghost use Rattle.b3d_listing.specs.Parts.{headLines, nodeLinesOf, rowLin
 use b3d_bodies::Tally;
 use b3d_judge::Summary;
 use b3d_judge::Verdict;
+use b3d_scene::Mode;
 
 // A line of two numbers.
 fn put_pair(a: usize, b: usize, out: &mut [u8], at: usize) -> usize
@@ -87,7 +89,7 @@ fn table() -> [u32; 26740]
 // The lines of the nodes of an accepted file.
 fn put_nodes(file: &[u8], nodes: usize, out: &mut [u8], at: usize) -> usize
     requires { ⌜ Listable (now file) nodes × (at ≤ length (now out)) ⌝ }
-    ensures { λ r. ⌜ Puts (nodeLinesOf (judge (now (file .entry)))) (now (out .entry)) at (now (out .exit)) r ⌝ }
+    ensures { λ r. ⌜ Puts (nodeLinesOf (judge Strict (now (file .entry)))) (now (out .entry)) at (now (out .exit)) r ⌝ }
 {
     let mut space = table();
     let rows: &mut [u32] = &mut space;
@@ -103,7 +105,7 @@ pub fn put_listing(file: &[u8], out: &mut [u8]) -> usize
     if 65536 < file.len() {
         return put_pair(1, 0, out, 0);
     }
-    match b3d_judge::judge(file) {
+    match b3d_judge::judge(Mode::Strict, file) {
         Verdict::Bad(e, p) => put_pair(wire::size(e), p, out, 0),
         Verdict::Good(x) => {
             let t = x.tally;

@@ -9,13 +9,15 @@ use Rattle.wire.specs.Bytes.{AllBytes, over}
 use Rattle.layout.specs.Out.{Out, got, bad, _>>=_}
 use Rattle.layout.proofs.Lists.{All, all-zip}
 use Rattle.b3d_scene.specs.declared.Answer.{Answer}
+use Rattle.b3d_scene.specs.declared.Mode.{Mode}
+use Rattle.b3d_scene.specs.declared.Mode.the-variants.{Lenient}
 use Rattle.b3d_scene.specs.Answers.{eachTable, firstNot, judge, read, answer, readAnswer, readTable, tableAfter}
 use Rattle.b3d_scene.specs.Rules.{rowLimit}
 use Rattle.b3d_scene.specs.Scene.{Scene}
 use Rattle.b3d_scene.specs.Tables.{width, rows, words, table, tables, nodeTables, counts}
 use Rattle.b3d_scene.proofs.Refusals.{judge-place, read-number}
 use Rattle.b3d_scene.proofs.Rows.Numbers.{each-table, table-each, ten-tables}
-use Rattle.b3d_scene.proofs.AnswerLaws.{first-none, first-some, judge-got, judge-first, read-got}
+use Rattle.b3d_scene.proofs.AnswerLaws.{first-none, first-some, judge-got, judge-lenient, judge-first, read-got}
 use Rattle.b3d_scene.proofs.Files.FileLaws.{parse-fine}
 use Rattle.b3d_scene.proofs.Rows.CountLaws.{table-length}
 use Rattle.b3d_rows.specs.Puts.{Ready}
@@ -73,29 +75,29 @@ accepted-is : (t : Scene) → acceptedAs (summaryOf t) ≡ answer (got t)
 unfolding acceptedAs answer countsIn counts tables nodeTables
 accepted-is t = refl
 
-module _ (s : List ℕ) (v : Verdict) (ev : v ≡ verdictOf (judge s)) where
+module _ (mode : Mode) (s : List ℕ) (v : Verdict) (ev : v ≡ verdictOf (judge mode s)) where
   module _ (e p : ℕ) (w : v ≡ verdict.Bad e p) where
-    bad-is : judge s ≡ bad e p
-    bad-is = was-bad (judge s) e p (sym ev ∙ w)
+    bad-is : judge mode s ≡ bad e p
+    bad-is = was-bad (judge mode s) e p (sym ev ∙ w)
 
     pub place-fits : p < 4294967296
-    place-fits = let h = judge-place s e p bad-is in omega arith
+    place-fits = let h = judge-place mode s e p bad-is in omega arith
 
-    pub judge-bad : (y : Answer) → y ≡ answer (bad e p) → y ≡ answer (judge s)
+    pub judge-bad : (y : Answer) → y ≡ answer (bad e p) → y ≡ answer (judge mode s)
     judge-bad y h = h ∙ ap answer (sym bad-is)
 
-    pub answer-bad : (room : ℕ → ℕ) (y : Answer) → y ≡ answer (bad e p) → y ≡ readAnswer room s
+    pub answer-bad : (room : ℕ → ℕ) (y : Answer) → y ≡ answer (bad e p) → y ≡ readAnswer mode room s
     unfolding readAnswer
-    answer-bad room y h = h ∙ ap answer (sym (judge-first s e p bad-is room 0 .0))
+    answer-bad room y h = h ∙ ap answer (sym (judge-first mode s e p bad-is room))
 
   module _ (x : Summary) (w : v ≡ verdict.Good x) where
-    good : Good (judge s) x
-    good = was-good (judge s) x (sym ev ∙ w)
+    good : Good (judge mode s) x
+    good = was-good (judge mode s) x (sym ev ∙ w)
 
     pub good-limited : Limited (x .tally)
-    good-limited = rw (good .same) (limited (good .scene) (judge-got s (good .scene) (good .is) .1))
+    good-limited = rw (good .same) (limited (good .scene) (judge-got mode s (good .scene) (good .is) .1))
 
-    pub judge-good : (y : Answer) → y ≡ acceptedAs x → y ≡ answer (judge s)
+    pub judge-good : (y : Answer) → y ≡ acceptedAs x → y ≡ answer (judge mode s)
     judge-good y h = h ∙ ap acceptedAs (good .same) ∙ accepted-is (good .scene) ∙ ap answer (sym (good .is))
 
     module _ (room : ℕ → ℕ) (n : ℕ) (en : n ≡ firstShort (numberOf (countsIn (x .tally))) room tables) where
@@ -108,23 +110,23 @@ module _ (s : List ℕ) (v : Verdict) (ev : v ≡ verdictOf (judge s)) where
       first-is : n ≡ firstNot (λ k. leb (width k * count k) (room k)) tables
       first-is = short-count ∙ short-first count room tables
 
-      opened : read room s ≡ (eachTable 11 (λ k. leb (width k * count k) (room k)) tables >>= λ _. got (good .scene))
+      opened : read mode room s ≡ (eachTable 11 (λ k. leb (width k * count k) (room k)) tables >>= λ _. got (good .scene))
       unfolding read
       opened = rw (good .is)
 
       pub short-fits : n < 4294967296
       short-fits = let h = short-at-most count room 10 tables (each-table (λ k. k ≤ 10) (λ k a b. b)) in omega (arith, short-count)
 
-      pub answer-short : (n ≡ 0 → ⊥) → (y : Answer) → y ≡ answer (bad 11 n) → y ≡ readAnswer room s
+      pub answer-short : (n ≡ 0 → ⊥) → (y : Answer) → y ≡ answer (bad 11 n) → y ≡ readAnswer mode room s
       unfolding readAnswer
       answer-short d y h =
-          let e : read room s ≡ bad 11 (firstNot (λ k. leb (width k * count k) (room k)) tables) = rw (opened, first-some 11 (λ k. leb (width k * count k) (room k)) tables (λ q. d (first-is ∙ q))) in
+          let e : read mode room s ≡ bad 11 (firstNot (λ k. leb (width k * count k) (room k)) tables) = rw (opened, first-some 11 (λ k. leb (width k * count k) (room k)) tables (λ q. d (first-is ∙ q))) in
           h ∙ ap (λ (i : ℕ). answer (bad 11 i)) first-is ∙ ap answer (sym e)
 
-      pub answer-good : n ≡ 0 → (y : Answer) → y ≡ acceptedAs x → y ≡ readAnswer room s
+      pub answer-good : n ≡ 0 → (y : Answer) → y ≡ acceptedAs x → y ≡ readAnswer mode room s
       unfolding readAnswer
       answer-good z y h =
-          let e : read room s ≡ got (good .scene) = rw (opened, first-none 11 (λ k. leb (width k * count k) (room k)) tables (each-table (λ k. 0 < k) (λ k a b. a)) (sym first-is ∙ z)) in
+          let e : read mode room s ≡ got (good .scene) = rw (opened, first-none 11 (λ k. leb (width k * count k) (room k)) tables (each-table (λ k. 0 < k) (λ k a b. a)) (sym first-is ∙ z)) in
           h ∙ ap acceptedAs (good .same) ∙ accepted-is (good .scene) ∙ ap answer (sym e)
 
 pub ruleset judge-laws = (place-fits, judge-bad, good-limited, judge-good)
@@ -134,17 +136,17 @@ pub ruleset answer-laws = (place-fits, answer-bad, good-limited, short-fits, ans
 -- ---- `read`
 
 -- the number says whether a file is accepted, for no refusal has the number 0
-record Accepted (room : ℕ → ℕ) (s : List ℕ) : Type 0 where
+record Accepted (mode : Mode) (room : ℕ → ℕ) (s : List ℕ) : Type 0 where
   scene : Scene
-  is : read room s ≡ got scene
+  is : read mode room s ≡ got scene
 
-accepts : (room : ℕ → ℕ) (s : List ℕ) → readAnswer room s .number ≡ 0 → Accepted room s
+accepts : (mode : Mode) (room : ℕ → ℕ) (s : List ℕ) → readAnswer mode room s .number ≡ 0 → Accepted mode room s
 unfolding readAnswer answer
-accepts room s = go (read room s) refl
+accepts mode room s = go (read mode room s) refl
   where
-    go : (o : Out Scene) → read room s ≡ o → answer o .number ≡ 0 → Accepted room s
+    go : (o : Out Scene) → read mode room s ≡ o → answer o .number ≡ 0 → Accepted mode room s
     go (got t) e z = record { scene = t; is = e }
-    go (bad n p) e z = absurd (omega (arith, read-number room s n p e))
+    go (bad n p) e z = absurd (omega (arith, read-number mode room s n p e))
 
 -- a table without rows stays
 no-words : (t : Scene) (k : ℕ) → length (rows k t) ≡ 0 → table k t ≡ []
@@ -166,69 +168,70 @@ empty-stays (bad e p) cs h k a b n i z xs = refl
 empty-stays (got t) cs h k a b n i z xs = ap (λ (w : List ℕ). over w xs) (sym (no-words t k (sym (count-at t k a b) ∙ ap (λ (c : List ℕ). getD c (k - 1) 0) (sym (h t refl)) ∙ ap (λ (m : ℕ). getD cs (m - 1) 0) (sym i) ∙ z)))
 
 -- where it is refused, a table stays
-stays : (room : ℕ → ℕ) (s : List ℕ) (k : ℕ) (xs : List ℕ) → (readAnswer room s .number ≡ 0 → ⊥) → xs ≡ readTable k room s xs
+stays : (mode : Mode) (room : ℕ → ℕ) (s : List ℕ) (k : ℕ) (xs : List ℕ) → (readAnswer mode room s .number ≡ 0 → ⊥) → xs ≡ readTable mode k room s xs
 unfolding readAnswer readTable answer tableAfter
-stays room s k xs = go (read room s)
+stays mode room s k xs = go (read mode room s)
   where
     go : (o : Out Scene) → (answer o .number ≡ 0 → ⊥) → xs ≡ tableAfter k o xs
     go (got t) d = absurd (d refl)
     go (bad n p) d = refl
 
 -- where `read` accepts, it has read what the judge has, and each table has room
-fits : (s : List ℕ) (room : ℕ → ℕ) (t : Scene) → AllBytes s → read room s ≡ got t → All (λ k. Ready (rows k) (judge s) 0 (room k)) tables
+fits : (mode : Mode) (s : List ℕ) (room : ℕ → ℕ) (t : Scene) → AllBytes s → read mode room s ≡ got t → All (λ k. Ready (rows k) (judge Lenient s) 0 (room k)) tables
 unfolding table words
-fits s room t b e =
-    let g = read-got room s t e in
+fits mode s room t b e =
+    let g = read-got mode room s t e in
+    let j = judge-lenient mode s t (g .0) in
     all-zip (λ k. length (table k t) ≡ width k * length (rows k t)) (λ k. width k * length (rows k t) ≤ room k) _
-    (λ k l r. record { value = t; is = g .0; room = omega (arith, l, r) })
-    tables (table-length t (parse-fine s t b (judge-got s t (g .0) .0) .0)) (g .1)
+    (λ k l r. record { value = t; is = j; room = omega (arith, l, r) })
+    tables (table-length t (parse-fine s t b (judge-got Lenient s t j .0) .0)) (g .1)
 
-module _ (s : List ℕ) (t1 t2 t3 t4 t5 t6 t7 t8 t9 t10 : List ℕ) (y : Answer)
-    (ey : y ≡ readAnswer (numberOf (length t1 ∷ length t2 ∷ length t3 ∷ length t4 ∷ length t5 ∷ length t6 ∷ length t7 ∷ length t8 ∷ length t9 ∷ length t10 ∷ [])) s) where
+module _ (mode : Mode) (s : List ℕ) (t1 t2 t3 t4 t5 t6 t7 t8 t9 t10 : List ℕ) (y : Answer)
+    (ey : y ≡ readAnswer mode (numberOf (length t1 ∷ length t2 ∷ length t3 ∷ length t4 ∷ length t5 ∷ length t6 ∷ length t7 ∷ length t8 ∷ length t9 ∷ length t10 ∷ [])) s) where
   abbrev lent : List (List ℕ)
   lent = t1 ∷ t2 ∷ t3 ∷ t4 ∷ t5 ∷ t6 ∷ t7 ∷ t8 ∷ t9 ∷ t10 ∷ []
 
-  answer-is : y ≡ readAnswer (roomIn lent) s
+  answer-is : y ≡ readAnswer mode (roomIn lent) s
   unfolding readAnswer read eachTable tables nodeTables
   answer-is = ey
 
-  pub read-refused : (y .number ≡ 0 → ⊥) → Reads s lent lent y
-  read-refused d = record { answer = answer-is; table = λ k a b. stays (roomIn lent) s k (tableIn lent k) (λ z. d (ap (λ (a : Answer). a .number) answer-is ∙ z)) }
+  pub read-refused : (y .number ≡ 0 → ⊥) → Reads mode s lent lent y
+  read-refused d = record { answer = answer-is; table = λ k a b. stays mode (roomIn lent) s k (tableIn lent k) (λ z. d (ap (λ (a : Answer). a .number) answer-is ∙ z)) }
 
   module _ (z : y .number ≡ 0) where
-    accepted : Accepted (roomIn lent) s
-    accepted = accepts (roomIn lent) s (sym (ap (λ (a : Answer). a .number) answer-is) ∙ z)
+    accepted : Accepted mode (roomIn lent) s
+    accepted = accepts mode (roomIn lent) s (sym (ap (λ (a : Answer). a .number) answer-is) ∙ z)
 
     -- the answer has the counts of what was read
-    pub read-counts : CountsOf (judge s) (y .counts)
+    pub read-counts : CountsOf (judge Lenient s) (y .counts)
     unfolding readAnswer answer
     read-counts t e =
-        let g = read-got (roomIn lent) s (accepted .scene) (accepted .is) .0 in
+        let g = judge-lenient mode s (accepted .scene) (read-got mode (roomIn lent) s (accepted .scene) (accepted .is) .0) in
         ap (λ (a : Answer). a .counts) answer-is ∙ ap (λ (o : Out Scene). answer o .counts) (accepted .is ∙ sym g ∙ e)
 
-    pub first-fits : AllBytes s → Fits (judge s) 1 (length t1) (length t2) (length t3) (length t4) (length t5)
+    pub first-fits : AllBytes s → Fits (judge Lenient s) 1 (length t1) (length t2) (length t3) (length t4) (length t5)
     unfolding tables nodeTables
     first-fits b =
-        let h = fits s (roomIn lent) (accepted .scene) b (accepted .is) in
+        let h = fits mode s (roomIn lent) (accepted .scene) b (accepted .is) in
         record { first = h .0; second = h .1 .0; third = h .1 .1 .0; fourth = h .1 .1 .1 .0; fifth = h .1 .1 .1 .1 .0 }
 
-    pub last-fits : AllBytes s → Fits (judge s) 6 (length t6) (length t7) (length t8) (length t9) (length t10)
+    pub last-fits : AllBytes s → Fits (judge Lenient s) 6 (length t6) (length t7) (length t8) (length t9) (length t10)
     unfolding tables nodeTables
     last-fits b =
-        let h = fits s (roomIn lent) (accepted .scene) b (accepted .is) .1 .1 .1 .1 .1 in
+        let h = fits mode s (roomIn lent) (accepted .scene) b (accepted .is) .1 .1 .1 .1 .1 in
         record { first = h .0; second = h .1 .0; third = h .1 .1 .0; fourth = h .1 .1 .1 .0; fifth = h .1 .1 .1 .1 .0 }
 
     module _ (u1 u2 u3 u4 u5 u6 u7 u8 u9 u10 : List ℕ)
-        (f : Fills (judge s) 1 t1 t2 t3 t4 t5 u1 u2 u3 u4 u5) (g : Fills (judge s) 6 t6 t7 t8 t9 t10 u6 u7 u8 u9 u10) where
+        (f : Fills (judge Lenient s) 1 t1 t2 t3 t4 t5 u1 u2 u3 u4 u5) (g : Fills (judge Lenient s) 6 t6 t7 t8 t9 t10 u6 u7 u8 u9 u10) where
       abbrev Filled : ℕ → Type 0
-      Filled k = tableIn (u1 ∷ u2 ∷ u3 ∷ u4 ∷ u5 ∷ u6 ∷ u7 ∷ u8 ∷ u9 ∷ u10 ∷ []) k ≡ readTable k (roomIn lent) s (tableIn lent k)
+      Filled k = tableIn (u1 ∷ u2 ∷ u3 ∷ u4 ∷ u5 ∷ u6 ∷ u7 ∷ u8 ∷ u9 ∷ u10 ∷ []) k ≡ readTable mode k (roomIn lent) s (tableIn lent k)
 
       -- what the judge has read is what the definition of `read` has
-      same : (k : ℕ) (xs ys : List ℕ) → ys ≡ tableAfter k (judge s) xs → ys ≡ readTable k (roomIn lent) s xs
+      same : (k : ℕ) (xs ys : List ℕ) → ys ≡ tableAfter k (judge Lenient s) xs → ys ≡ readTable mode k (roomIn lent) s xs
       unfolding readTable
-      same k xs ys e = e ∙ ap (λ (o : Out Scene). tableAfter k o xs) (read-got (roomIn lent) s (accepted .scene) (accepted .is) .0 ∙ sym (accepted .is))
+      same k xs ys e = e ∙ ap (λ (o : Out Scene). tableAfter k o xs) (judge-lenient mode s (accepted .scene) (read-got mode (roomIn lent) s (accepted .scene) (accepted .is) .0) ∙ sym (accepted .is))
 
-      pub read-filled : Reads s lent (u1 ∷ u2 ∷ u3 ∷ u4 ∷ u5 ∷ u6 ∷ u7 ∷ u8 ∷ u9 ∷ u10 ∷ []) y
+      pub read-filled : Reads mode s lent (u1 ∷ u2 ∷ u3 ∷ u4 ∷ u5 ∷ u6 ∷ u7 ∷ u8 ∷ u9 ∷ u10 ∷ []) y
       read-filled =
           record {
             answer = answer-is;

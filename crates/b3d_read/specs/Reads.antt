@@ -5,6 +5,7 @@ use mathlib.Core.List.{List, []}
 use lib.ListN.{length, getD}
 use Rattle.layout.specs.Out.{Out, got}
 use Rattle.b3d_scene.specs.declared.Answer.{Answer}
+use Rattle.b3d_scene.specs.declared.Mode.{Mode}
 use Rattle.b3d_scene.specs.Answers.{tableAfter, readAnswer, readTable}
 use Rattle.b3d_scene.specs.Scene.{Scene}
 use Rattle.b3d_scene.specs.Tables.{rows, counts}
@@ -20,10 +21,10 @@ tableIn ts k = getD ts (k - 1) []
 abbrev pub roomIn : List (List ℕ) → ℕ → ℕ
 roomIn ts k = length (tableIn ts k)
 
--- the answer for a file and ten lent tables, and each of these afterwards
-pub record Reads (s : List ℕ) (before after : List (List ℕ)) (r : Answer) : Type 0 where
-  pub answer : r ≡ readAnswer (roomIn before) s
-  pub table : (k : ℕ) → 1 ≤ k → k ≤ 10 → tableIn after k ≡ readTable k (roomIn before) s (tableIn before k)
+-- the answer for a file in a mode and ten lent tables, and each of these afterwards
+pub record Reads (mode : Mode) (s : List ℕ) (before after : List (List ℕ)) (r : Answer) : Type 0 where
+  pub answer : r ≡ readAnswer mode (roomIn before) s
+  pub table : (k : ℕ) → 1 ≤ k → k ≤ 10 → tableIn after k ≡ readTable mode k (roomIn before) s (tableIn before k)
 
 -- ---- the parts of `read`
 

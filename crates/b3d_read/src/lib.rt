@@ -7,6 +7,7 @@ ghost use lib.Dec.{ltb};
 ghost use Rattle.wire.specs.Test.{if};
 ghost use Rattle.wire.specs.Bytes.{AllBytes};
 ghost use Rattle.layout.specs.Out.{bad};
+ghost use Rattle.b3d_scene.specs.declared.Mode.the-variants.{Lenient};
 ghost use Rattle.b3d_scene.specs.Tables.{tables, rows};
 ghost use Rattle.b3d_scene.specs.Answers.{judge, answer, readAnswer, tableAfter};
 ghost use Rattle.b3d_rows.specs.Puts.{Ready};
@@ -16,6 +17,7 @@ use b3d_bodies::Tally;
 use b3d_judge::Summary;
 use b3d_judge::Verdict;
 use b3d_scene::Answer;
+use b3d_scene::Mode;
 
 // The answer for a refusal.
 fn refused(number: u32, place: usize) -> Answer
@@ -57,11 +59,11 @@ fn accepted(x: Summary) -> Answer
     }
 }
 
-// The answer for a file without any table.
-pub fn judge(file: &[u8]) -> Answer
-    ensures { λ r. ⌜ r ≡ answer (judge (now (file .entry))) ⌝ }
+// The answer for a file in a mode without any table.
+pub fn judge(mode: Mode, file: &[u8]) -> Answer
+    ensures { λ r. ⌜ r ≡ answer (judge mode (now (file .entry))) ⌝ }
 {
-    match b3d_judge::judge(file) {
+    match b3d_judge::judge(mode, file) {
         Verdict::Bad(number, place) => refused(number, place),
         Verdict::Good(found) => accepted(found),
     }
@@ -101,8 +103,9 @@ fn first_short(
     short_or(1, 9, t.textures, l1, short_or(2, 17, t.brushes, l2, from3))
 }
 
-// The answer for a file and ten tables of these lengths.
+// The answer for a file in a mode and ten tables of these lengths.
 fn answer_for(
+    mode: Mode,
     file: &[u8],
     l1: usize,
     l2: usize,
@@ -115,9 +118,9 @@ fn answer_for(
     l9: usize,
     l10: usize,
 ) -> Answer
-    ensures { λ r. ⌜ r ≡ readAnswer (numberOf (l1 ∷ l2 ∷ l3 ∷ l4 ∷ l5 ∷ l6 ∷ l7 ∷ l8 ∷ l9 ∷ l10 ∷ [])) (now (file .entry)) ⌝ }
+    ensures { λ r. ⌜ r ≡ readAnswer mode (numberOf (l1 ∷ l2 ∷ l3 ∷ l4 ∷ l5 ∷ l6 ∷ l7 ∷ l8 ∷ l9 ∷ l10 ∷ [])) (now (file .entry)) ⌝ }
 {
-    match b3d_judge::judge(file) {
+    match b3d_judge::judge(mode, file) {
         Verdict::Bad(e, p) => refused(e, p),
         Verdict::Good(x) => {
             let short = first_short(x.tally, l1, l2, l3, l4, l5, l6, l7, l8, l9, l10);
@@ -132,9 +135,9 @@ fn answer_for(
 // Fills a table with an accepted file's, of which the counts are known: where there are no rows, the file need not be walked.
 fn fill_counted(file: &[u8], which: u32, counts: [u32; 10], out: &mut [u32])
     requires { ⌜ (1 ≤ which) × (which ≤ 10) × AllBytes (now file) ⌝ }
-    requires { ⌜ CountsOf (judge (now file)) counts ⌝ }
-    requires { ⌜ Ready (rows which) (judge (now file)) 0 (length (now out)) ⌝ }
-    ensures { λ _. ⌜ now (out .exit) ≡ tableAfter which (judge (now (file .entry))) (now (out .entry)) ⌝ }
+    requires { ⌜ CountsOf (judge Lenient (now file)) counts ⌝ }
+    requires { ⌜ Ready (rows which) (judge Lenient (now file)) 0 (length (now out)) ⌝ }
+    ensures { λ _. ⌜ now (out .exit) ≡ tableAfter which (judge Lenient (now (file .entry))) (now (out .entry)) ⌝ }
 {
     if counts[wire::size(which) - 1] == 0 {
         return;
@@ -154,9 +157,9 @@ fn fill_five(
     e: &mut [u32],
 )
     requires { ⌜ (1 ≤ k) × (k ≤ 6) × AllBytes (now file) ⌝ }
-    requires { ⌜ CountsOf (judge (now file)) counts ⌝ }
-    requires { ⌜ Fits (judge (now file)) k (length (now a)) (length (now b)) (length (now c)) (length (now d)) (length (now e)) ⌝ }
-    ensures { λ _. ⌜ Fills (judge (now (file .entry))) k
+    requires { ⌜ CountsOf (judge Lenient (now file)) counts ⌝ }
+    requires { ⌜ Fits (judge Lenient (now file)) k (length (now a)) (length (now b)) (length (now c)) (length (now d)) (length (now e)) ⌝ }
+    ensures { λ _. ⌜ Fills (judge Lenient (now (file .entry))) k
         (now (a .entry)) (now (b .entry)) (now (c .entry)) (now (d .entry)) (now (e .entry))
         (now (a .exit)) (now (b .exit)) (now (c .exit)) (now (d .exit)) (now (e .exit)) ⌝ }
 {
@@ -167,9 +170,10 @@ fn fill_five(
     fill_counted(file, k + 4, counts, e);
 }
 
-// Reads a file into ten lent tables: their rows are stored, and what stood behind them stays. Where the file is refused, or a table is too
+// Reads a file in a mode into ten lent tables: their rows are stored, and what stood behind them stays. Where the file is refused, or a table is too
 // short, each table stays as it was.
 pub fn read(
+    mode: Mode,
     file: &[u8],
     t1: &mut [u32],
     t2: &mut [u32],
@@ -182,13 +186,14 @@ pub fn read(
     t9: &mut [u32],
     t10: &mut [u32],
 ) -> Answer
-    ensures { λ r. ⌜ Reads (now (file .entry))
+    ensures { λ r. ⌜ Reads mode (now (file .entry))
         (now (t1 .entry) ∷ now (t2 .entry) ∷ now (t3 .entry) ∷ now (t4 .entry) ∷ now (t5 .entry)
         ∷ now (t6 .entry) ∷ now (t7 .entry) ∷ now (t8 .entry) ∷ now (t9 .entry) ∷ now (t10 .entry) ∷ [])
         (now (t1 .exit) ∷ now (t2 .exit) ∷ now (t3 .exit) ∷ now (t4 .exit) ∷ now (t5 .exit)
         ∷ now (t6 .exit) ∷ now (t7 .exit) ∷ now (t8 .exit) ∷ now (t9 .exit) ∷ now (t10 .exit) ∷ []) r ⌝ }
 {
     let answer = answer_for(
+        mode,
         file,
         t1.len(),
         t2.len(),

@@ -12,6 +12,9 @@ use Rattle.wire.specs.Test.{if}
 use Rattle.layout.specs.Out.{Out, got, bad, check, _>>=_}
 use Rattle.layout.proofs.Lists.{All, all-map}
 use Rattle.layout.proofs.Outs.{by-test, if-yes, if-no, by-check, by-got, bad-got, check-yes, got-inj}
+use Rattle.b3d_scene.specs.declared.Mode.{Mode}
+use Rattle.b3d_scene.specs.declared.Mode.the-variants.{Lenient}
+use Rattle.b3d_scene.proofs.Modes.{mode-got}
 use Rattle.b3d_scene.specs.Answers.{eachTable, firstNot, judge, read, roomFor, shortest, write, clear}
 use Rattle.b3d_scene.specs.Encode.{encode}
 use Rattle.b3d_scene.specs.Parse.{parse}
@@ -88,26 +91,34 @@ Small t = All (λ k. length (rows k t) ≤ rowLimit) tables
 abbrev pub Roomy : (ℕ → ℕ) → Scene → Type 0
 Roomy room t = All (λ k. width k * length (rows k t) ≤ room k) tables
 
-pub judge-got : (s : List ℕ) (t : Scene) → judge s ≡ got t → (parse s ≡ got t) × Small t
+pub judge-got : (mode : Mode) (s : List ℕ) (t : Scene) → judge mode s ≡ got t → (parse mode s ≡ got t) × Small t
 unfolding judge
-judge-got s t e = within-got 10 (λ k t. length (rows k t)) (λ k. rowLimit) (parse s) t e
+judge-got mode s t e = within-got 10 (λ k t. length (rows k t)) (λ k. rowLimit) (parse mode s) t e
 
-pub judge-yes : (s : List ℕ) (t : Scene) → parse s ≡ got t → Small t → judge s ≡ got t
+pub judge-yes : (mode : Mode) (s : List ℕ) (t : Scene) → parse mode s ≡ got t → Small t → judge mode s ≡ got t
 unfolding judge
-judge-yes s t e h = rw e (within-yes 10 (λ k t. length (rows k t)) (λ k. rowLimit) t h)
+judge-yes mode s t e h = rw e (within-yes 10 (λ k t. length (rows k t)) (λ k. rowLimit) t h)
 
--- a file that is not accepted gets its refusal with any tables and any output
-pub judge-first : (s : List ℕ) (n p : ℕ) → judge s ≡ bad n p → (room : ℕ → ℕ) (size : ℕ) → (read room s ≡ bad n p) × (clear s size ≡ bad n p)
-unfolding read clear
-judge-first s n p e room size = (rw e, rw e)
+-- what a mode accepts the lenient one accepts
+pub judge-lenient : (mode : Mode) (s : List ℕ) (t : Scene) → judge mode s ≡ got t → judge Lenient s ≡ got t
+judge-lenient mode s t e = let g = judge-got mode s t e in judge-yes Lenient s t (mode-got mode s t (g .0) .0) (g .1)
 
-pub read-got : (room : ℕ → ℕ) (s : List ℕ) (t : Scene) → read room s ≡ got t → (judge s ≡ got t) × Roomy room t
+-- a file that is not accepted gets its refusal with any tables, and under the lenient mode with any output
+pub judge-first : (mode : Mode) (s : List ℕ) (n p : ℕ) → judge mode s ≡ bad n p → (room : ℕ → ℕ) → read mode room s ≡ bad n p
 unfolding read
-read-got room s t e = within-got 11 (λ k t. width k * length (rows k t)) room (judge s) t e
+judge-first mode s n p e room = rw e
 
-pub read-yes : (room : ℕ → ℕ) (s : List ℕ) (t : Scene) → judge s ≡ got t → Roomy room t → read room s ≡ got t
+pub clear-first : (s : List ℕ) (n p : ℕ) → judge Lenient s ≡ bad n p → (size : ℕ) → clear s size ≡ bad n p
+unfolding clear
+clear-first s n p e size = rw e
+
+pub read-got : (mode : Mode) (room : ℕ → ℕ) (s : List ℕ) (t : Scene) → read mode room s ≡ got t → (judge mode s ≡ got t) × Roomy room t
 unfolding read
-read-yes room s t e h = rw e (within-yes 11 (λ k t. width k * length (rows k t)) room t h)
+read-got mode room s t e = within-got 11 (λ k t. width k * length (rows k t)) room (judge mode s) t e
+
+pub read-yes : (mode : Mode) (room : ℕ → ℕ) (s : List ℕ) (t : Scene) → judge mode s ≡ got t → Roomy room t → read mode room s ≡ got t
+unfolding read
+read-yes mode room s t e h = rw e (within-yes 11 (λ k t. width k * length (rows k t)) room t h)
 
 -- ---- writer
 
@@ -123,10 +134,10 @@ shortest-got (some t) b e =
     (t, refl, refl, leb→le (length (encode t)) mostBytes h))
 
 -- what is written is the shortest file of the tables' scene, within the limit and the output
-pub write-got : (T : Lent) (ns : List ℕ) (room : ℕ) (b : List ℕ) → write T ns room ≡ got b
-    → (t : Scene) × (rebuild T ns ≡ some t) × (encode t ≡ b) × (length b ≤ mostBytes) × (length b ≤ room)
+pub write-got : (mode : Mode) (T : Lent) (ns : List ℕ) (room : ℕ) (b : List ℕ) → write mode T ns room ≡ got b
+    → (t : Scene) × (rebuild mode T ns ≡ some t) × (encode t ≡ b) × (length b ≤ mostBytes) × (length b ≤ room)
 unfolding write
-write-got T ns room b e =
-    by-got (shortest (rebuild T ns)) _ e (λ c ec e₁. let x = shortest-got (rebuild T ns) c ec in
+write-got mode T ns room b e =
+    by-got (shortest (rebuild mode T ns)) _ e (λ c ec e₁. let x = shortest-got (rebuild mode T ns) c ec in
     let y = room-got room c b e₁ in
-    subst (λ (d : List ℕ). (t : Scene) × (rebuild T ns ≡ some t) × (encode t ≡ d) × (length d ≤ mostBytes) × (length d ≤ room)) (y .0) (x .0, x .1, x .2, x .3, y .1))
+    subst (λ (d : List ℕ). (t : Scene) × (rebuild mode T ns ≡ some t) × (encode t ≡ d) × (length d ≤ mostBytes) × (length d ≤ room)) (y .0) (x .0, x .1, x .2, x .3, y .1))

@@ -6,6 +6,7 @@ use mathlib.Core.List.{List, [], _∷_, _++_, map}
 use lib.ListN.{length, replicate, drop}
 use Rattle.layout.specs.Rules.{NONE}
 use Rattle.layout.specs.Write.{writeWords}
+use Rattle.b3d_scene.specs.declared.Mode.the-variants.{Strict}
 use Rattle.b3d_scene.specs.declared.Tag.the-variants.{BB3D, NODE, MESH, VRTS, TRIS}
 use Rattle.b3d_scene.specs.Tags.{code}
 use Rattle.b3d_scene.specs.Tables.{tables}
@@ -86,8 +87,8 @@ output room = replicate room 170
 abbrev pub said : Case → Told
 said c = record {
   size = length (c .bytes);
-  answer = readAnswer (λ k. 126) (c .bytes);
-  tables = map (λ k. readTable k (λ j. 126) (c .bytes) lent) tables;
+  answer = readAnswer Strict (λ k. 126) (c .bytes);
+  tables = map (λ k. readTable Strict k (λ j. 126) (c .bytes) lent) tables;
   cleared = clearAnswer (c .bytes) (output (c .room));
   output = clearOutput (c .bytes) (output (c .room));
 }

@@ -7,6 +7,8 @@ use lib.ListN.{length, replicate, take, drop, getD}
 use Rattle.layout.specs.Out.{Out, got, bad}
 use Rattle.layout.specs.Rules.{NONE}
 use Rattle.layout.specs.Write.{writeWords}
+use Rattle.b3d_scene.specs.Colours.{coloured, passes}
+use Rattle.b3d_scene.specs.declared.Mode.the-variants.{Strict}
 use Rattle.b3d_scene.specs.declared.Tag.{Tag}
 use Rattle.b3d_scene.specs.declared.Tag.the-variants.{BB3D, TEXS, BRUS, NODE, MESH, VRTS, TRIS, BONE, KEYS, ANIM}
 use Rattle.b3d_scene.specs.Tags.{code}
@@ -21,17 +23,17 @@ use Rattle.b3d_scene.proofs.Cases.{zeros}
 -- ---- the parts of a file
 
 -- words as bytes
-abbrev ws : List ℕ → List ℕ
+abbrev pub ws : List ℕ → List ℕ
 ws l = writeWords l []
 
-abbrev part : Tag → List ℕ → List ℕ
+abbrev pub part : Tag → List ℕ → List ℕ
 part t b = ws (code t ∷ length b ∷ []) ++ b
 
-abbrev file : List ℕ → List ℕ
+abbrev pub file : List ℕ → List ℕ
 file b = part BB3D (ws (1 ∷ []) ++ b)
 
 -- a node with this name, its ten floats 0, and then these chunks
-abbrev aNode : List ℕ → List ℕ → List ℕ
+abbrev pub aNode : List ℕ → List ℕ → List ℕ
 aNode name b = part NODE (name ++ zeros 41 ++ b)
 
 -- a mesh without a brush: a VRTS of plain vertices, a TRIS without a brush
@@ -71,7 +73,7 @@ full = file (textures (116 ∷ []) ++ brushes ++ aNode (114 ∷ []) (kind ++ ani
 pub full-copy : List ℕ
 full-copy = file (textures [] ++ brushes ++ aNode [] (kind ++ keys ++ anim ++ children))
 
-pub full-read : readAnswer (λ k. 80) full ≡ record { number = 0; place = 0; version = 1; «n_texs» = 1; counts = 1 ∷ 1 ∷ 4 ∷ 2 ∷ 1 ∷ 2 ∷ 1 ∷ 1 ∷ 2 ∷ 1 ∷ [] }
+pub full-read : readAnswer Strict (λ k. 80) full ≡ record { number = 0; place = 0; version = 1; «n_texs» = 1; counts = 1 ∷ 1 ∷ 4 ∷ 2 ∷ 1 ∷ 2 ∷ 1 ∷ 1 ∷ 2 ∷ 1 ∷ [] }
 unfolding computing full
 full-read = refl
 
@@ -79,7 +81,7 @@ full-read = refl
 abbrev nodeWords : List ℕ → List ℕ → List ℕ
 nodeWords name kind = name ++ zeros 10 ++ kind
 
-pub full-tables : map (λ k. readTable k (λ j. 80) full []) tables
+pub full-tables : map (λ k. readTable Strict k (λ j. 80) full []) tables
     ≡ (20 ∷ 1 ∷ 1 ∷ 2 ∷ 3 ∷ 4 ∷ 5 ∷ 6 ∷ 7 ∷ [])
     ∷ (62 ∷ 0 ∷ 11 ∷ 12 ∷ 13 ∷ 14 ∷ 15 ∷ 16 ∷ 17 ∷ 0 ∷ replicate 7 NONE)
     ∷ (nodeWords (103 ∷ 1 ∷ NONE ∷ []) (1 ∷ 0 ∷ 1 ∷ 1 ∷ 9 ∷ 10 ∷ 11 ∷ []) ++ nodeWords (293 ∷ 0 ∷ 0 ∷ []) (2 ∷ 0 ∷ 1 ∷ zeros 4)
@@ -112,7 +114,7 @@ layers = file (textures [] ++ aBrush (2 ∷ NONE ∷ 0 ∷ []))
 abbrev brushWords : List ℕ → List ℕ
 brushWords slots = (61 ∷ 0 ∷ zeros 7) ++ slots
 
-pub layers-read : readTable 2 (λ j. 80) layers [] ≡ brushWords (NONE ∷ 0 ∷ replicate 6 NONE)
+pub layers-read : readTable Strict 2 (λ j. 80) layers [] ≡ brushWords (NONE ∷ 0 ∷ replicate 6 NONE)
 unfolding computing layers
 layers-read = refl
 
@@ -130,14 +132,14 @@ lent slots = record {
 }
 
 -- the writer: a slot below n_texs may be NONE or name a texture, those from n_texs on must be NONE
-pub layers-written : map (λ slots. write (lent slots) (zeros 61) 200) (
+pub layers-written : map (λ slots. write Strict (lent slots) (zeros 61) 200) (
     (NONE ∷ 0 ∷ replicate 6 NONE)
     ∷ (NONE ∷ 1 ∷ replicate 6 NONE)
     ∷ (NONE ∷ 0xFFFFFFFE ∷ replicate 6 NONE)
     ∷ (NONE ∷ 0 ∷ 0 ∷ replicate 5 NONE)
     ∷ [])
     ≡ got layers ∷ bad 12 0 ∷ bad 12 0 ∷ bad 12 0 ∷ []
-unfolding computing write shortest rebuild cut lentRows roomy nameFrom textureFrom brushFrom walk tree together same sameRows nodeNames names stands sound fits layers
+unfolding computing write shortest rebuild coloured passes cut lentRows roomy nameFrom textureFrom brushFrom walk tree together same sameRows nodeNames names stands sound fits layers
 layers-written = refl
 
 -- ---- refusals
@@ -187,7 +189,7 @@ refusals =
     ∷ (file (aNode [] (part MESH (ws (NONE ∷ []) ++ part VRTS (ws (0 ∷ 0 ∷ 5 ∷ []))))), bad 6 89)
     ∷ []
 
-pub refused : map (λ (c : List ℕ × Out Scene). judge (c .0)) refusals ≡ map (λ (c : List ℕ × Out Scene). c .1) refusals
+pub refused : map (λ (c : List ℕ × Out Scene). judge Strict (c .0)) refusals ≡ map (λ (c : List ℕ × Out Scene). c .1) refusals
 unfolding computing refusals deep
 refused = refl
 
@@ -237,6 +239,6 @@ abbrev numbered : Out Scene → ℕ × ℕ
 numbered (got t) = (0, 0)
 numbered (bad n p) = (n, p)
 
-pub bones-judged : map (λ (c : List ℕ × (ℕ × ℕ)). numbered (judge (c .0))) bones ≡ map (λ (c : List ℕ × (ℕ × ℕ)). c .1) bones
+pub bones-judged : map (λ (c : List ℕ × (ℕ × ℕ)). numbered (judge Strict (c .0))) bones ≡ map (λ (c : List ℕ × (ℕ × ℕ)). c .1) bones
 unfolding computing bones
 bones-judged = refl

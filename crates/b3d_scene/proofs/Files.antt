@@ -10,3 +10,4 @@ pub mod SizeLaws
 pub mod PlaceLaws
 pub mod RefusalLaws
 pub mod TagLaws
+pub mod ModeLaws

@@ -4,6 +4,7 @@ use mathlib.Core.Option.{Option, none}
 use mathlib.Core.List.{List, [], _∷_}
 use lib.ListN.{length}
 use Rattle.layout.proofs.Fitting.{row-is, rows-is, text-is}
+use Rattle.b3d_scene.specs.declared.Mode.the-variants.{Lenient}
 use Rattle.b3d_scene.specs.Fit.{textureFits, brushFits, trianglesFit, meshFits, keysFit, kindFits, animFits, dataFits, nodesFit, oneRoot, slotsFit, fits}
 pub use Rattle.b3d_scene.specs.Fitting.{FitTexture, FitBrush, FitTriangles, FitMesh, FitKeys, FitKind, FitAnim, FitData, FitNodes, OneRoot, FitSlots, Fit}
 use Rattle.b3d_scene.specs.Rules.{textureRow, brushRow, brushIds, nodeRow, vertexRow, triangleRow, weightRow, keyRow, animRow, boneVertices, bonesBelow, levels, fileHead, brushesHead, meshHead, verticesHead, trianglesHead, keysHead}
@@ -16,7 +17,7 @@ texture-is x = both (text-is (x .name .bytes)) (row-is textureRow (x .words))
 brush-is : (n textures : ℕ) (b : Brush) → Tests (brushFits n textures b) (FitBrush n textures b)
 brush-is n textures b =
     via (λ h. (h .0, h .1 .0, h .1 .1)) (λ h. (h .0, (h .1, h .2)))
-    (both (text-is (b .name .bytes)) (both (row-is brushRow (b .words)) (row-is (brushIds n textures) (b .ids))))
+    (both (text-is (b .name .bytes)) (both (row-is (brushRow Lenient) (b .words)) (row-is (brushIds n textures) (b .ids))))
 
 triangles-is : (brushes n : ℕ) (x : TriangleSet) → Tests (trianglesFit brushes n x) (FitTriangles brushes n x)
 triangles-is brushes n x = both (row-is (trianglesHead brushes) (x .brush ∷ [])) (rows-is (triangleRow n) (x .triangles))
@@ -27,7 +28,7 @@ mesh-is brushes m =
     (λ h. (h .brush, (h .head, (h .vertices, (h .triangles, h .some-set)))))
     (both (row-is (meshHead brushes) (m .brush ∷ []))
     (both (row-is verticesHead (m .flags ∷ m .sets ∷ m .size ∷ []))
-    (both (rows-is (vertexRow (m .flags) (m .sets) (m .size)) (m .vertices))
+    (both (rows-is (vertexRow Lenient (m .flags) (m .sets) (m .size)) (m .vertices))
     (both (all-is (triangles-is brushes (length (m .vertices))) (m .triangleSets))
     (lt-is 0 (length (m .triangleSets)))))))
 

@@ -4,6 +4,7 @@ use Prim.Native.Nat.{ℕ}
 use mathlib.Core.List.{List, [], _∷_}
 use lib.ListN.{length, replicate}
 use Rattle.layout.specs.Write.{writeWords}
+use Rattle.b3d_scene.specs.declared.Mode.the-variants.{Strict}
 use Rattle.b3d_scene.specs.declared.Tag.the-variants.{KEYS}
 use Rattle.b3d_scene.specs.Tags.{code}
 use Rattle.b3d_scene.specs.Answers.{readAnswer}
@@ -18,6 +19,6 @@ pub large-size : length large ≡ 4073
 unfolding large
 large-size = refl
 
-pub large-read : readAnswer (λ k. 11000) large ≡ record { number = 0; place = 0; version = 1; «n_texs» = 0; counts = 0 ∷ 0 ∷ 1 ∷ 0 ∷ 0 ∷ 0 ∷ 0 ∷ 0 ∷ 1 ∷ 1000 ∷ [] }
+pub large-read : readAnswer Strict (λ k. 11000) large ≡ record { number = 0; place = 0; version = 1; «n_texs» = 0; counts = 0 ∷ 0 ∷ 1 ∷ 0 ∷ 0 ∷ 0 ∷ 0 ∷ 0 ∷ 1 ∷ 1000 ∷ [] }
 unfolding computing large
 large-read = refl

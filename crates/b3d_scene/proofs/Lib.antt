@@ -3,6 +3,7 @@
 pub mod Fitting
 pub mod Files
 pub mod Rows
+pub mod Modes
 pub mod Join
 pub mod Laws
 pub mod AnswerLaws
@@ -10,4 +11,5 @@ pub mod Refusals
 pub mod Computing
 pub mod Cases
 pub mod ExtraCases
+pub mod ColourCases
 pub mod Large

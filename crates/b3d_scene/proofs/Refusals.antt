@@ -15,6 +15,7 @@ use Rattle.layout.specs.Out.{Out, got, bad, check, _>>=_}
 use Rattle.layout.specs.Parts.{Step, text, words, judged, row, number, named, itemsIn, items}
 use Rattle.layout.specs.Rules.{Rule, holds, refusal}
 use Rattle.layout.proofs.Lists.{All}
+use Rattle.b3d_scene.specs.declared.Mode.{Mode}
 use Rattle.b3d_scene.specs.declared.Tag.{Tag}
 use Rattle.b3d_scene.specs.declared.Tag.the-variants.{BB3D, TEXS, BRUS, NODE, MESH, VRTS, BONE, KEYS, ANIM}
 use Rattle.b3d_scene.specs.Answers.{eachTable, judge, read}
@@ -192,21 +193,21 @@ textures-low : Body readTextures
 unfolding readTextures
 textures-low p b h = items-low readTexture texture-low (p + 8) b h
 
-brush-low : (n textures p : ℕ) (s : List ℕ) → p + length s ≤ mostBytes → Low Left (readBrush n textures p s)
+brush-low : (mode : Mode) (n textures p : ℕ) (s : List ℕ) → p + length s ≤ mostBytes → Low Left (readBrush mode n textures p s)
 unfolding readBrush
-brush-low n textures p s h = bind-low Left Left (named (brushRow ++ brushIds n textures) p s) _ (named-low (brushRow ++ brushIds n textures) p s h) (λ x hx. hx)
+brush-low mode n textures p s h = bind-low Left Left (named (brushRow mode ++ brushIds n textures) p s) _ (named-low (brushRow mode ++ brushIds n textures) p s h) (λ x hx. hx)
 
-brushes-low : (textures : ℕ) → Body (readBrushes textures)
+brushes-low : (mode : Mode) (textures : ℕ) → Body (readBrushes mode textures)
 unfolding readBrushes
-brushes-low textures p b h =
+brushes-low mode textures p b h =
     bind-low Left Any (row brushesHead (p + 8) b) _ (row-low brushesHead (p + 8) b h) (λ x hx.
-    bind-low Any Any (items (readBrush (number x 0) textures) (x .place) (x .left)) _ (items-low (readBrush (number x 0) textures) (brush-low (number x 0) textures) (x .place) (x .left) hx) (λ l _. tt))
+    bind-low Any Any (items (readBrush mode (number x 0) textures) (x .place) (x .left)) _ (items-low (readBrush mode (number x 0) textures) (brush-low mode (number x 0) textures) (x .place) (x .left) hx) (λ l _. tt))
 
-vertices-low : Body readVertices
+vertices-low : (mode : Mode) → Body (readVertices mode)
 unfolding readVertices
-vertices-low p b h =
+vertices-low mode p b h =
     bind-low Left Any (row verticesHead (p + 8) b) _ (row-low verticesHead (p + 8) b h) (λ x hx.
-    bind-low Any Any (items (row (vertexRow (number x 0) (number x 1) (number x 2))) (x .place) (x .left)) _ (rows-low (vertexRow (number x 0) (number x 1) (number x 2)) (x .place) (x .left) hx) (λ l _. tt))
+    bind-low Any Any (items (row (vertexRow mode (number x 0) (number x 1) (number x 2))) (x .place) (x .left)) _ (rows-low (vertexRow mode (number x 0) (number x 1) (number x 2)) (x .place) (x .left) hx) (λ l _. tt))
 
 triangles-low : (brushes n : ℕ) → Body (readTriangles brushes n)
 unfolding readTriangles
@@ -222,12 +223,12 @@ sets-low brushes n (chunk t p b r) h =
     bind-low Any Any (readTriangles brushes n p b) _ (triangles-low brushes n p b (h .0)) (λ x _.
     bind-low Any Any (readSets brushes n r) _ (sets-low brushes n r (h .1)) (λ l _. tt))
 
-mesh-low : (brushes : ℕ) → Body (readMesh brushes)
+mesh-low : (mode : Mode) (brushes : ℕ) → Body (readMesh mode brushes)
 unfolding readMesh
-mesh-low brushes p b h =
+mesh-low mode brushes p b h =
     bind-low Left Any (row (meshHead brushes) (p + 8) b) _ (row-low (meshHead brushes) (p + 8) b h) (λ x hx.
     let cs = inside MESH p (x .place) (x .left) in
-    bind-low Rest Any (readOne VRTS noVertices readVertices cs) _ (one-low VRTS noVertices readVertices vertices-low cs (inside-low MESH p (x .place) (x .left) (omega arith) hx)) (λ v hv.
+    bind-low Rest Any (readOne VRTS noVertices (readVertices mode) cs) _ (one-low VRTS noVertices (readVertices mode) (vertices-low mode) cs (inside-low MESH p (x .place) (x .left) (omega arith) hx)) (λ v hv.
     bind-low Any Any (readSets brushes (length (v .value .items)) (v .rest)) _ (sets-low brushes (length (v .value .items)) (v .rest) hv) (λ l _. tt)))
 
 bone-low : (n : ℕ) → Body (readBone n)
@@ -251,12 +252,12 @@ anim-low p b h = bind-low Left Any (row animRow (p + 8) b) _ (row-low animRow (p
 
 -- ---- nodes
 
-kind-low : (brushes n : ℕ) (cs : Chunks) → LowC cs → Low Rest (readKind brushes n cs)
+kind-low : (mode : Mode) (brushes n : ℕ) (cs : Chunks) → LowC cs → Low Rest (readKind mode brushes n cs)
 unfolding readKind aMesh aBone
-kind-low brushes n done h = tt
-kind-low brushes n (stop i p) h = h
-kind-low brushes n (chunk t p b r) h =
-    if-low Rest (is t MESH) _ _ (bind-low Any Rest (readMesh brushes p b) _ (mesh-low brushes p b (h .0)) (λ m _. h .1))
+kind-low mode brushes n done h = tt
+kind-low mode brushes n (stop i p) h = h
+kind-low mode brushes n (chunk t p b r) h =
+    if-low Rest (is t MESH) _ _ (bind-low Any Rest (readMesh mode brushes p b) _ (mesh-low mode brushes p b (h .0)) (λ m _. h .1))
     (if-low Rest (is t BONE) _ _ (bind-low Any Rest (readBone n p b) _ (bone-low n p b (h .0)) (λ w _. h .1)) h)
 
 moves-low : (cs : Chunks) (seen : Anim) → LowC cs → Low Rest (readMoves seen cs)
@@ -275,31 +276,31 @@ nodes-low one low (stop i p) h = h
 nodes-low one low (chunk t p b r) h =
     bind-low Any Any (one p b) _ (low p b (h .0)) (λ x _. bind-low Any Any (readNodes one r) _ (nodes-low one low r (h .1)) (λ l _. tt))
 
-node-low : (l brushes : ℕ) (above : Option ℕ) → Body (readNode l brushes above)
+node-low : (mode : Mode) (l brushes : ℕ) (above : Option ℕ) → Body (readNode mode l brushes above)
 unfolding readNode readBelow
-node-low zero brushes above p b h = omega arith
-node-low (suc l) brushes above p b h =
+node-low mode zero brushes above p b h = omega arith
+node-low mode (suc l) brushes above p b h =
     bind-low Left Any (named nodeRow (p + 8) b) _ (named-low nodeRow (p + 8) b h) (λ x hx.
     let cs = inside NODE p (x .place) (x .left) in
-    bind-low Rest Any (readKind brushes (boneVertices above) cs) _ (kind-low brushes (boneVertices above) cs (inside-low NODE p (x .place) (x .left) (omega arith) hx)) (λ k hk.
+    bind-low Rest Any (readKind mode brushes (boneVertices above) cs) _ (kind-low mode brushes (boneVertices above) cs (inside-low NODE p (x .place) (x .left) (omega arith) hx)) (λ k hk.
     bind-low Rest Any (readMoves still (k .rest)) _ (moves-low (k .rest) still hk) (λ m hm.
     let d : Data = record { name = x .value .0; words = x .value .1; kind = k .value; keys = m .value .keys; anim = m .value .anim } in
-    bind-low Any Any (readNodes (readNode l brushes (bonesBelow above d)) (m .rest)) _ (nodes-low (readNode l brushes (bonesBelow above d)) (node-low l brushes (bonesBelow above d)) (m .rest) hm) (λ f _. tt))))
+    bind-low Any Any (readNodes (readNode mode l brushes (bonesBelow above d)) (m .rest)) _ (nodes-low (readNode mode l brushes (bonesBelow above d)) (node-low mode l brushes (bonesBelow above d)) (m .rest) hm) (λ f _. tt))))
 
 -- ---- the file
 
-root-low : (brushes : ℕ) → Body (readRoot brushes)
+root-low : (mode : Mode) (brushes : ℕ) → Body (readRoot mode brushes)
 unfolding readRoot
-root-low brushes p b h = bind-low Any Any (readNode levels brushes none p b) _ (node-low levels brushes none p b h) (λ x _. tt)
+root-low mode brushes p b h = bind-low Any Any (readNode mode levels brushes none p b) _ (node-low mode levels brushes none p b h) (λ x _. tt)
 
-body-low : (p : ℕ) (b : List ℕ) → p + length b ≤ mostBytes → Low Any (readBody p b)
+body-low : (mode : Mode) (p : ℕ) (b : List ℕ) → p + length b ≤ mostBytes → Low Any (readBody mode p b)
 unfolding readBody
-body-low p b h =
+body-low mode p b h =
     bind-low Left Any (row fileHead p b) _ (row-low fileHead p b h) (λ x hx.
     let cs = inside BB3D 0 (x .place) (x .left) in
     bind-low Rest Any (readOne TEXS [] readTextures cs) _ (one-low TEXS [] readTextures textures-low cs (inside-low BB3D 0 (x .place) (x .left) (omega arith) hx)) (λ t ht.
-    bind-low Rest Any (readOne BRUS (0, []) (readBrushes (length (t .value))) (t .rest)) _ (one-low BRUS (0, []) (readBrushes (length (t .value))) (brushes-low (length (t .value))) (t .rest) ht) (λ u hu.
-    bind-low Rest Any (readOne NODE leaf (readRoot (length (u .value .1))) (u .rest)) _ (one-low NODE leaf (readRoot (length (u .value .1))) (root-low (length (u .value .1))) (u .rest) hu) (λ n hn.
+    bind-low Rest Any (readOne BRUS (0, []) (readBrushes mode (length (t .value))) (t .rest)) _ (one-low BRUS (0, []) (readBrushes mode (length (t .value))) (brushes-low mode (length (t .value))) (t .rest) ht) (λ u hu.
+    bind-low Rest Any (readOne NODE leaf (readRoot mode (length (u .value .1))) (u .rest)) _ (one-low NODE leaf (readRoot mode (length (u .value .1))) (root-low mode (length (u .value .1))) (u .rest) hu) (λ n hn.
     ended-low (n .rest) _ hn))))
 
 -- the number of a table
@@ -316,23 +317,23 @@ unfolding check
 size-low true m h = h tt
 size-low false m h = omega arith
 
-parse-low : (s : List ℕ) → Low Any (parse s)
+parse-low : (mode : Mode) (s : List ℕ) → Low Any (parse mode s)
 unfolding parse
-parse-low s =
+parse-low mode s =
     size-low (fileSize (length s)) _ (λ t.
     bind-low Left Any (row header 0 s) _ (row-low header 0 s (omega (arith, size-bound (length s) t))) (λ x hx.
     bind-low Any Any (check (eqb (number x 0) (code BB3D)) 2 0) _ (check-low (eqb (number x 0) (code BB3D)) 2 0 (omega arith)) (λ u _.
     bind-low Any Any (check (eqb (number x 1) (length (x .left))) 2 4) _ (check-low (eqb (number x 1) (length (x .left))) 2 4 (omega arith)) (λ v _.
-    body-low (x .place) (x .left) hx))))
+    body-low mode (x .place) (x .left) hx))))
 
-judge-low : (s : List ℕ) → Low Any (judge s)
+judge-low : (mode : Mode) (s : List ℕ) → Low Any (judge mode s)
 unfolding judge
-judge-low s =
-    bind-low Any Any (parse s) _ (parse-low s) (λ t _.
+judge-low mode s =
+    bind-low Any Any (parse mode s) _ (parse-low mode s) (λ t _.
     bind-low Any Any (eachTable 10 _ tables) _ (each-low 10 _ tables (each-table (λ k. k ≤ mostBytes) (λ k a b. omega arith))) (λ u _. tt))
 
-pub judge-place : (s : List ℕ) (n p : ℕ) → judge s ≡ bad n p → p ≤ mostBytes
-judge-place s n p e = subst (λ (o : Out Scene). Low Any o) e (judge-low s)
+pub judge-place : (mode : Mode) (s : List ℕ) (n p : ℕ) → judge mode s ≡ bad n p → p ≤ mostBytes
+judge-place mode s n p e = subst (λ (o : Out Scene). Low Any o) e (judge-low mode s)
 
 -- ---- numbers: 1 to 9, then 10, then 11
 
@@ -353,18 +354,18 @@ each-numbered n ok (k ∷ ks) h = bind-numbered (check (ok k) n k) _ (one (ok k)
     one true = tt
     one false = h
 
-parse-numbered : (s : List ℕ) → Numbered (parse s)
-parse-numbered s = go (parse s) (λ n p e. parse-refusal s n p e .0)
+parse-numbered : (mode : Mode) (s : List ℕ) → Numbered (parse mode s)
+parse-numbered mode s = go (parse mode s) (λ n p e. parse-refusal mode s n p e .0)
   where
     go : (o : Out Scene) → ((n p : ℕ) → o ≡ bad n p → 1 ≤ n) → Numbered o
     go (got t) f = tt
     go (bad n p) f = f n p refl
 
-read-numbered : (room : ℕ → ℕ) (s : List ℕ) → Numbered (read room s)
+read-numbered : (mode : Mode) (room : ℕ → ℕ) (s : List ℕ) → Numbered (read mode room s)
 unfolding read judge
-read-numbered room s =
-    bind-numbered (judge s) _ (bind-numbered (parse s) _ (parse-numbered s) (λ t. bind-numbered (eachTable 10 _ tables) _ (each-numbered 10 _ tables (omega arith)) (λ u. tt)))
+read-numbered mode room s =
+    bind-numbered (judge mode s) _ (bind-numbered (parse mode s) _ (parse-numbered mode s) (λ t. bind-numbered (eachTable 10 _ tables) _ (each-numbered 10 _ tables (omega arith)) (λ u. tt)))
     (λ t. bind-numbered (eachTable 11 _ tables) _ (each-numbered 11 _ tables (omega arith)) (λ u. tt))
 
-pub read-number : (room : ℕ → ℕ) (s : List ℕ) (n p : ℕ) → read room s ≡ bad n p → 1 ≤ n
-read-number room s n p e = subst (λ (o : Out Scene). Numbered o) e (read-numbered room s)
+pub read-number : (mode : Mode) (room : ℕ → ℕ) (s : List ℕ) (n p : ℕ) → read mode room s ≡ bad n p → 1 ≤ n
+read-number mode room s n p e = subst (λ (o : Out Scene). Numbered o) e (read-numbered mode room s)

@@ -9,6 +9,8 @@ use lib.Dec.{leb}
 use Rattle.wire.specs.Bytes.{over}
 use Rattle.wire.specs.Test.{if}
 use Rattle.layout.specs.Out.{Out, got, bad, check, _>>=_}
+use Rattle.b3d_scene.specs.declared.Mode.{Mode}
+use Rattle.b3d_scene.specs.declared.Mode.the-variants.{Lenient}
 use Rattle.b3d_scene.specs.Scene.{Scene}
 use Rattle.b3d_scene.specs.Rules.{rowLimit, mostBytes}
 use Rattle.b3d_scene.specs.Parse.{parse}
@@ -33,17 +35,17 @@ firstNot ok (k ∷ ks) = if (ok k) (firstNot ok ks) k
 
 -- ---- reader
 
--- a file without the faults 1 to 10: what 01 calls accepted
-unfoldable pub judge : List ℕ → Out Scene
-judge s = do
-  t ← parse s
+-- a file without the faults 1 to 10: what 01 calls accepted, in a mode
+unfoldable pub judge : Mode → List ℕ → Out Scene
+judge mode s = do
+  t ← parse mode s
   _ ← eachTable 10 (λ k. leb (length (rows k t)) rowLimit) tables
   got t
 
 -- the same with lent tables, table k of room k words
-unfoldable pub read : (ℕ → ℕ) → List ℕ → Out Scene
-read room s = do
-  t ← judge s
+unfoldable pub read : Mode → (ℕ → ℕ) → List ℕ → Out Scene
+read mode room s = do
+  t ← judge mode s
   _ ← eachTable 11 (λ k. leb (width k * length (rows k t)) (room k)) tables
   got t
 
@@ -56,11 +58,11 @@ unfoldable pub tableAfter : ℕ → Out Scene → List ℕ → List ℕ
 tableAfter k (got t) xs = over (table k t) xs
 tableAfter k (bad n p) xs = xs
 
-unfoldable pub readAnswer : (ℕ → ℕ) → List ℕ → Answer
-readAnswer room s = answer (read room s)
+unfoldable pub readAnswer : Mode → (ℕ → ℕ) → List ℕ → Answer
+readAnswer mode room s = answer (read mode room s)
 
-unfoldable pub readTable : ℕ → (ℕ → ℕ) → List ℕ → List ℕ → List ℕ
-readTable k room s xs = tableAfter k (read room s) xs
+unfoldable pub readTable : Mode → ℕ → (ℕ → ℕ) → List ℕ → List ℕ → List ℕ
+readTable mode k room s xs = tableAfter k (read mode room s) xs
 
 -- ---- writer and clearer
 
@@ -78,18 +80,19 @@ shortest (some t) = do
   got (encode t)
 
 -- the writer's file, of lent tables and the bytes that hold the names
-unfoldable pub write : Lent → List ℕ → ℕ → Out (List ℕ)
-write T ns room = do
-  b ← shortest (rebuild T ns)
+unfoldable pub write : Mode → Lent → List ℕ → ℕ → Out (List ℕ)
+write mode T ns room = do
+  b ← shortest (rebuild mode T ns)
   roomFor room b
 
 -- the copy: what 01 calls so, with every name empty
 unfoldable pub copy : Scene → List ℕ
 copy t = encode (cleared t)
 
+-- under the lenient mode
 unfoldable pub clear : List ℕ → ℕ → Out (List ℕ)
 clear s room = do
-  t ← judge s
+  t ← judge Lenient s
   roomFor room (copy t)
 
 unfoldable pub written : Out (List ℕ) → Written
@@ -101,11 +104,11 @@ unfoldable pub outputAfter : Out (List ℕ) → List ℕ → List ℕ
 outputAfter (got b) out = over b out
 outputAfter (bad n p) out = out
 
-unfoldable pub writeAnswer : Lent → List ℕ → List ℕ → Written
-writeAnswer T ns out = written (write T ns (length out))
+unfoldable pub writeAnswer : Mode → Lent → List ℕ → List ℕ → Written
+writeAnswer mode T ns out = written (write mode T ns (length out))
 
-unfoldable pub writeOutput : Lent → List ℕ → List ℕ → List ℕ
-writeOutput T ns out = outputAfter (write T ns (length out)) out
+unfoldable pub writeOutput : Mode → Lent → List ℕ → List ℕ → List ℕ
+writeOutput mode T ns out = outputAfter (write mode T ns (length out)) out
 
 unfoldable pub clearAnswer : List ℕ → List ℕ → Written
 clearAnswer s out = written (clear s (length out))

@@ -1,4 +1,5 @@
--- Which scenes a file can hold, as a test: words against their rules, texts without a zero, at most so many levels, one root.
+-- Which scenes a file can hold, as a test: words against their rules, texts without a zero, at most so many levels, one root. This
+-- is of the lenient mode; what the strict one asks of colours besides is in Colours.
 use Prim.Native.Nat.{ℕ, zero, suc}
 use mathlib.Core.Bool.{Bool, true, false, _&&_}
 use mathlib.Core.Option.{Option, none}
@@ -7,13 +8,14 @@ use lib.ListN.{length}
 use lib.Dec.{ltb, eqb}
 use Rattle.layout.specs.Fit.{all, rowFits, textFits}
 use Rattle.b3d_scene.specs.Rules.{textureRow, brushRow, brushIds, nodeRow, vertexRow, triangleRow, weightRow, keyRow, animRow, boneVertices, bonesBelow, levels, fileHead, brushesHead, meshHead, verticesHead, trianglesHead, keysHead}
+use Rattle.b3d_scene.specs.declared.Mode.the-variants.{Lenient}
 use Rattle.b3d_scene.specs.Scene.{Texture, Brush, TriangleSet, Mesh, Kind, pivot, mesh, bone, Keys, Anim, still, anim, Data, Forest, leaf, node, Scene}
 
 abbrev pub textureFits : Texture → Bool
 textureFits t = textFits (t .name .bytes) && rowFits textureRow (t .words)
 
 abbrev pub brushFits : ℕ → ℕ → Brush → Bool
-brushFits slots textures b = textFits (b .name .bytes) && (rowFits brushRow (b .words) && rowFits (brushIds slots textures) (b .ids))
+brushFits slots textures b = textFits (b .name .bytes) && (rowFits (brushRow Lenient) (b .words) && rowFits (brushIds slots textures) (b .ids))
 
 abbrev pub trianglesFit : ℕ → ℕ → TriangleSet → Bool
 trianglesFit brushes vertices x = rowFits (trianglesHead brushes) (x .brush ∷ []) && all (rowFits (triangleRow vertices)) (x .triangles)
@@ -22,7 +24,7 @@ abbrev pub meshFits : ℕ → Mesh → Bool
 meshFits brushes m =
     rowFits (meshHead brushes) (m .brush ∷ [])
     && (rowFits verticesHead (m .flags ∷ m .sets ∷ m .size ∷ [])
-    && (all (rowFits (vertexRow (m .flags) (m .sets) (m .size))) (m .vertices)
+    && (all (rowFits (vertexRow Lenient (m .flags) (m .sets) (m .size))) (m .vertices)
     && (all (trianglesFit brushes (length (m .vertices))) (m .triangleSets) && ltb 0 (length (m .triangleSets)))))
 
 abbrev pub keysFit : Keys → Bool

@@ -7,6 +7,7 @@ use lib.ListN.{length, take, drop}
 use Rattle.layout.specs.Fitting.{Fits, FitText}
 use Rattle.layout.specs.Lists.{All}
 use Rattle.layout.specs.Parts.{Name}
+use Rattle.b3d_scene.specs.declared.Mode.the-variants.{Lenient}
 use Rattle.b3d_scene.specs.Rules.{textureRow, brushRow, brushIds, nodeRow, vertexRow, triangleRow, weightRow, keyRow, animRow, boneVertices, bonesBelow, levels, fileHead, brushesHead, meshHead, verticesHead, trianglesHead, keysHead}
 use Rattle.b3d_scene.specs.Scene.{Texture, Brush, TriangleSet, Mesh, Kind, pivot, mesh, bone, Keys, Anim, still, anim, Data, Forest, leaf, node, Scene}
 
@@ -15,7 +16,7 @@ FitTexture t = FitText (t .name .bytes) × Fits textureRow (t .words)
 
 -- a brush of so many slots beside so many textures
 abbrev pub FitBrush : ℕ → ℕ → Brush → Type 0
-FitBrush slots textures b = FitText (b .name .bytes) × Fits brushRow (b .words) × Fits (brushIds slots textures) (b .ids)
+FitBrush slots textures b = FitText (b .name .bytes) × Fits (brushRow Lenient) (b .words) × Fits (brushIds slots textures) (b .ids)
 
 abbrev pub FitTriangles : ℕ → ℕ → TriangleSet → Type 0
 FitTriangles brushes vertices x = Fits (trianglesHead brushes) (x .brush ∷ []) × All (Fits (triangleRow vertices)) (x .triangles)
@@ -23,7 +24,7 @@ FitTriangles brushes vertices x = Fits (trianglesHead brushes) (x .brush ∷ [])
 pub record FitMesh (brushes : ℕ) (m : Mesh) : Type 0 where
   pub brush : Fits (meshHead brushes) (m .brush ∷ [])
   pub head : Fits verticesHead (m .flags ∷ m .sets ∷ m .size ∷ [])
-  pub vertices : All (Fits (vertexRow (m .flags) (m .sets) (m .size))) (m .vertices)
+  pub vertices : All (Fits (vertexRow Lenient (m .flags) (m .sets) (m .size))) (m .vertices)
   pub triangles : All (FitTriangles brushes (length (m .vertices))) (m .triangleSets)
   pub some-set : 0 < length (m .triangleSets)
 

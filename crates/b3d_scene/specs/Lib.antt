@@ -8,6 +8,7 @@ pub mod Names
 pub mod Fit
 pub mod Fitting
 pub mod Mask
+pub mod Colours
 pub mod Tables
 pub mod Rebuild
 pub mod Sizes

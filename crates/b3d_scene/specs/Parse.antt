@@ -12,6 +12,7 @@ use Rattle.layout.specs.Parts.{Step, row, number, named, items}
 use Rattle.b3d_scene.specs.Nesting.{inside}
 use Rattle.b3d_scene.specs.Rules.{textureRow, brushRow, brushIds, nodeRow, vertexRow, triangleRow, weightRow, keyRow, animRow, boneVertices, bonesBelow, levels, fileSize, header, fileHead, brushesHead, meshHead, verticesHead, trianglesHead, keysHead}
 use Rattle.b3d_scene.specs.Scene.{Texture, Brush, TriangleSet, Mesh, Kind, pivot, mesh, bone, Keys, Anim, still, anim, Data, Forest, leaf, node, Scene}
+use Rattle.b3d_scene.specs.declared.Mode.{Mode}
 use Rattle.b3d_scene.specs.declared.Tag.{Tag}
 use Rattle.b3d_scene.specs.declared.Tag.the-variants.{BB3D, TEXS, BRUS, NODE, MESH, VRTS, BONE, KEYS, ANIM}
 use Rattle.b3d_scene.specs.Tags.{code, is, Chunks, Found}
@@ -36,16 +37,16 @@ readTexture p s = do
 unfoldable pub readTextures : ℕ → List ℕ → Out (List Texture)
 readTextures p b = items readTexture (p + 8) b
 
-unfoldable pub readBrush : ℕ → ℕ → ℕ → List ℕ → Out (Step Brush)
-readBrush slots textures p s = do
-  x ← named (brushRow ++ brushIds slots textures) p s
+unfoldable pub readBrush : Mode → ℕ → ℕ → ℕ → List ℕ → Out (Step Brush)
+readBrush mode slots textures p s = do
+  x ← named (brushRow mode ++ brushIds slots textures) p s
   got (record { value = record { name = x .value .0; words = take 7 (x .value .1); ids = drop 7 (x .value .1) }; place = x .place; left = x .left })
 
 -- the slots of a brush, and the brushes
-unfoldable pub readBrushes : ℕ → ℕ → List ℕ → Out (ℕ × List Brush)
-readBrushes textures p b = do
+unfoldable pub readBrushes : Mode → ℕ → ℕ → List ℕ → Out (ℕ × List Brush)
+readBrushes mode textures p b = do
   h ← row brushesHead (p + 8) b
-  l ← items (readBrush (number h 0) textures) (h .place) (h .left)
+  l ← items (readBrush mode (number h 0) textures) (h .place) (h .left)
   got (number h 0, l)
 
 -- ---- meshes
@@ -60,10 +61,10 @@ pub record Vertices : Type 0 where
 abbrev pub noVertices : Vertices
 noVertices = record { flags = 0; sets = 0; size = 0; items = [] }
 
-unfoldable pub readVertices : ℕ → List ℕ → Out Vertices
-readVertices p b = do
+unfoldable pub readVertices : Mode → ℕ → List ℕ → Out Vertices
+readVertices mode p b = do
   h ← row verticesHead (p + 8) b
-  l ← items (row (vertexRow (number h 0) (number h 1) (number h 2))) (h .place) (h .left)
+  l ← items (row (vertexRow mode (number h 0) (number h 1) (number h 2))) (h .place) (h .left)
   got (record { flags = number h 0; sets = number h 1; size = number h 2; items = l })
 
 unfoldable pub readTriangles : ℕ → ℕ → ℕ → List ℕ → Out TriangleSet
@@ -82,10 +83,10 @@ readSets brushes vertices (chunk t p b r) = do
   got (x ∷ l)
 
 -- one VRTS, then one or more TRIS
-unfoldable pub readMesh : ℕ → ℕ → List ℕ → Out Mesh
-readMesh brushes p b = do
+unfoldable pub readMesh : Mode → ℕ → ℕ → List ℕ → Out Mesh
+readMesh mode brushes p b = do
   h ← row (meshHead brushes) (p + 8) b
-  v ← readOne VRTS noVertices readVertices (inside MESH p (h .place) (h .left))
+  v ← readOne VRTS noVertices (readVertices mode) (inside MESH p (h .place) (h .left))
   l ← readSets brushes (length (v .value .items)) (v .rest)
   got (record { brush = number h 0; flags = v .value .flags; sets = v .value .sets; size = v .value .size; vertices = v .value .items; triangleSets = l })
 
@@ -113,9 +114,9 @@ readAnim p b = do
 -- ---- nodes
 
 -- a mesh or a bone, before the chunks r
-unfoldable pub aMesh : ℕ → ℕ → List ℕ → Chunks → Out (Found Kind)
-aMesh brushes p b r = do
-  m ← readMesh brushes p b
+unfoldable pub aMesh : Mode → ℕ → ℕ → List ℕ → Chunks → Out (Found Kind)
+aMesh mode brushes p b r = do
+  m ← readMesh mode brushes p b
   got (record { value = mesh m; rest = r })
 
 unfoldable pub aBone : ℕ → ℕ → List ℕ → Chunks → Out (Found Kind)
@@ -124,11 +125,11 @@ aBone vertices p b r = do
   got (record { value = bone ws; rest = r })
 
 -- a MESH or a BONE, if it comes first
-unfoldable pub readKind : ℕ → ℕ → Chunks → Out (Found Kind)
-readKind brushes vertices done = got (record { value = pivot; rest = done })
-readKind brushes vertices (stop n p) = bad n p
-readKind brushes vertices (chunk t p b r) =
-    let m = aMesh brushes p b r in
+unfoldable pub readKind : Mode → ℕ → ℕ → Chunks → Out (Found Kind)
+readKind mode brushes vertices done = got (record { value = pivot; rest = done })
+readKind mode brushes vertices (stop n p) = bad n p
+readKind mode brushes vertices (chunk t p b r) =
+    let m = aMesh mode brushes p b r in
     let w = aBone vertices p b r in
     let other = if (is t BONE) w (got (record { value = pivot; rest = chunk t p b r })) in
     if (is t MESH) m other
@@ -172,19 +173,19 @@ readBelow one above d cs = do
   got (record { self = d; below = f })
 
 -- a NODE with so many levels left; `above`: what the nodes above say of bones
-unfoldable pub readNode : ℕ → ℕ → Option ℕ → ℕ → List ℕ → Out Inner
-readNode zero brushes above p b = bad 9 p
-readNode (suc l) brushes above p b = do
+unfoldable pub readNode : Mode → ℕ → ℕ → Option ℕ → ℕ → List ℕ → Out Inner
+readNode mode zero brushes above p b = bad 9 p
+readNode mode (suc l) brushes above p b = do
   h ← named nodeRow (p + 8) b
-  k ← readKind brushes (boneVertices above) (inside NODE p (h .place) (h .left))
+  k ← readKind mode brushes (boneVertices above) (inside NODE p (h .place) (h .left))
   m ← readMoves still (k .rest)
-  readBelow (readNode l brushes) above
+  readBelow (readNode mode l brushes) above
       (record { name = h .value .0; words = h .value .1; kind = k .value; keys = m .value .keys; anim = m .value .anim })
       (m .rest)
 
-unfoldable pub readRoot : ℕ → ℕ → List ℕ → Out Forest
-readRoot brushes p b = do
-  x ← readNode levels brushes none p b
+unfoldable pub readRoot : Mode → ℕ → ℕ → List ℕ → Out Forest
+readRoot mode brushes p b = do
+  x ← readNode mode levels brushes none p b
   got (node (x .self) (x .below) leaf)
 
 -- ---- the file
@@ -195,20 +196,20 @@ slotsOf n [] = 0
 slotsOf n (b ∷ l) = n
 
 -- a BB3D's body, at place p: the version, at most one each of TEXS, BRUS, NODE, in that order
-unfoldable pub readBody : ℕ → List ℕ → Out Scene
-readBody p b = do
+unfoldable pub readBody : Mode → ℕ → List ℕ → Out Scene
+readBody mode p b = do
   h ← row fileHead p b
   t ← readOne TEXS [] readTextures (inside BB3D 0 (h .place) (h .left))
-  u ← readOne BRUS (0, []) (readBrushes (length (t .value))) (t .rest)
-  n ← readOne NODE leaf (readRoot (length (u .value .1))) (u .rest)
+  u ← readOne BRUS (0, []) (readBrushes mode (length (t .value))) (t .rest)
+  n ← readOne NODE leaf (readRoot mode (length (u .value .1))) (u .rest)
   ended (n .rest)
       (record { version = number h 0; textures = t .value; slots = slotsOf (u .value .0) (u .value .1); brushes = u .value .1; nodes = n .value })
 
 -- a file: one BB3D, whose length is that of the bytes after its header
-unfoldable pub parse : List ℕ → Out Scene
-parse s = do
+unfoldable pub parse : Mode → List ℕ → Out Scene
+parse mode s = do
   _ ← check (fileSize (length s)) 1 0
   h ← row header 0 s
   _ ← check (eqb (number h 0) (code BB3D)) 2 0
   _ ← check (eqb (number h 1) (length (h .left))) 2 4
-  readBody (h .place) (h .left)
+  readBody mode (h .place) (h .left)

@@ -9,6 +9,8 @@ use lib.Dec.{leb, eqb}
 use Rattle.wire.specs.Test.{if}
 use Rattle.layout.specs.Fit.{all}
 use Rattle.layout.specs.Parts.{Name}
+use Rattle.b3d_scene.specs.declared.Mode.{Mode}
+use Rattle.b3d_scene.specs.Colours.{passes}
 use Rattle.b3d_scene.specs.Fit.{fits}
 use Rattle.b3d_scene.specs.Mask.{squeeze, vertexMask, keyMask}
 use Rattle.b3d_scene.specs.Rules.{rowLimit}
@@ -181,8 +183,8 @@ stands ns x = leb (x .place + length (x .bytes)) (length ns) && same (take (leng
 unfoldable pub sound : List ℕ → Lent → Scene → Bool
 sound ns T t = fits t && (all (stands ns) (names t) && all (λ (k : ℕ). sameRows (rows k t) (lentRows T k)) tables)
 
--- some scene just where the tables are sound
-unfoldable pub rebuild : Lent → List ℕ → Option Scene
-rebuild T ns =
+-- some scene just where the tables are sound and their colours pass
+unfoldable pub rebuild : Mode → Lent → List ℕ → Option Scene
+rebuild mode T ns =
     let t = together ns T in
-    if (all (roomy T) tables) (if (sound ns T t) (some t) none) none
+    if (all (roomy T) tables) (if (passes mode (lentRows T) && sound ns T t) (some t) none) none

@@ -2,10 +2,12 @@
 use Prim.Native.Nat.{ℕ, _+_, _*_, _/_, _%_}
 use mathlib.Core.Bool.{Bool, true, false, _&&_}
 use mathlib.Core.Option.{Option, none, some}
-use mathlib.Core.List.{List, [], _∷_}
+use mathlib.Core.List.{List, [], _∷_, _++_}
 use lib.ListN.{length, replicate}
 use lib.Dec.{leb}
-use Rattle.layout.specs.Rules.{Rule, any, upTo, names, namesOrNone}
+use Rattle.layout.specs.Rules.{Rule, any, upTo, names, namesOrNone, unit}
+use Rattle.b3d_scene.specs.declared.Mode.{Mode}
+use Rattle.b3d_scene.specs.declared.Mode.the-variants.{Strict, Lenient}
 use Rattle.b3d_scene.specs.Scene.{Kind, pivot, mesh, bone, Anim, still, anim, Data}
 
 -- ---- ranges
@@ -27,6 +29,11 @@ setSize = upTo 4
 
 abbrev pub keyFlags : Rule
 keyFlags = upTo 7
+
+-- red, green, blue, alpha
+abbrev pub colour : Mode → Rule
+colour Strict = unit
+colour Lenient = any
 
 -- ---- ids
 
@@ -71,8 +78,8 @@ textureRow = replicate 7 any
 abbrev pub brushesHead : List Rule
 brushesHead = slots ∷ []
 
-abbrev pub brushRow : List Rule
-brushRow = replicate 7 any
+abbrev pub brushRow : Mode → List Rule
+brushRow mode = replicate 4 (colour mode) ++ replicate 3 any
 
 abbrev pub brushIds : ℕ → ℕ → List Rule
 brushIds slots textures = replicate slots (textureId textures)
@@ -89,8 +96,9 @@ meshHead brushes = brushId brushes ∷ []
 abbrev pub verticesHead : List Rule
 verticesHead = vertexFlags ∷ sets ∷ setSize ∷ []
 
-abbrev pub vertexRow : ℕ → ℕ → ℕ → List Rule
-vertexRow flags sets size = replicate (vertexWords flags sets size) any
+abbrev pub vertexRow : Mode → ℕ → ℕ → ℕ → List Rule
+vertexRow Strict flags sets size = replicate (3 + when 1 flags 3) any ++ (replicate (when 2 flags 4) (colour Strict) ++ replicate (sets * size) any)
+vertexRow Lenient flags sets size = replicate (vertexWords flags sets size) any
 
 -- TRIS
 abbrev pub trianglesHead : ℕ → List Rule

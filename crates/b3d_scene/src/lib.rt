@@ -15,6 +15,12 @@ pub enum Tag {
     ANIM,
 }
 
+// Whether colours are held to the range 0 to 1.
+pub enum Mode {
+    Strict,
+    Lenient,
+}
+
 // How many rows of tables 3 to 10 came before.
 pub struct Counts {
     pub nodes: usize,

@@ -11,6 +11,7 @@ use borrow.Author.Tests.{ne-eqb}
 use Rattle.wire.specs.Test.{if}
 use Rattle.layout.specs.Rules.{NONE}
 use Rattle.layout.proofs.Lists.{All, all-map, all-append}
+use Rattle.b3d_scene.specs.declared.Mode.{Mode}
 use Rattle.b3d_scene.specs.declared.Counts.{Counts}
 use Rattle.b3d_scene.specs.Encode.{encode}
 use Rattle.b3d_scene.specs.Mask.{spread, vertexMask, keyMask}
@@ -137,9 +138,9 @@ scene-sum T t f es c r =
     brus slots l = ap (λ (n : ℕ). around n 12 + sum (namedBytes (29 + 4 * slots)) (map brushRow l)) (length-map l brushRow) ∙ brus-sum slots l
 
 -- sound tables: their size is that of the shortest file
-pub lent-size : (T : Lent) (ns : List ℕ) (t : Scene) → rebuild T ns ≡ some t → lentSize T ≡ length (encode t)
-lent-size T ns t e =
-    let f = rebuild-fine ns T t e in
+pub lent-size : (mode : Mode) (T : Lent) (ns : List ℕ) (t : Scene) → rebuild mode T ns ≡ some t → lentSize T ≡ length (encode t)
+lent-size mode T ns t e =
+    let f = rebuild-fine mode ns T t e in
     scene-sum T t (f .0) (f .1 .slots) (all-map (Holds T t) _ (λ k h. h .many) tables (f .1 .held)) (held-rows T t (f .0) (f .1 .held)) ∙ sym (file-length t (f .0))
 
 -- ---- rows that can be added up

@@ -9,11 +9,13 @@ use lib.Dec.{leb, ltb, eqb}
 use Rattle.wire.specs.Test.{if}
 use Rattle.layout.specs.Fit.{all}
 use Rattle.layout.specs.Rules.{NONE, Rule, holds}
+use Rattle.b3d_scene.specs.Colours.{passes}
 use Rattle.b3d_scene.specs.Mask.{vertexMask, keyMask}
 use Rattle.b3d_scene.specs.Rebuild.{Lent, lentRows, roomy, mine, Rows}
 use Rattle.b3d_scene.specs.Rules.{version, slots, vertexFlags, sets, setSize, keyFlags, brushId, brushIds, triangleRow, weightRow, boneVertices, levels}
 use Rattle.b3d_scene.specs.Tables.{start, reached, partTables, tables}
 use Rattle.b3d_scene.specs.declared.Counts.{Counts}
+use Rattle.b3d_scene.specs.declared.Mode.{Mode}
 use Rattle.b3d_sound.specs.CellCounts.{cellCounts, cellBones}
 
 -- ---- rows
@@ -154,3 +156,7 @@ check T ns =
     && (slotsHere (T .slots) (T .count 2)
     && (all (nameHere ns) (lentRows T 1)
     && (all (brushHere ns (T .slots) (T .count 1)) (lentRows T 2) && treeHere ns (T .count 2) (lentRows T) (lentRows T 3)))))
+
+-- in a mode: then the colours, one loop over each of tables 2 and 5
+unfoldable pub checkIn : Mode → Lent → List ℕ → Bool
+checkIn mode T ns = check T ns && passes mode (lentRows T)

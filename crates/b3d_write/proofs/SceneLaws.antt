@@ -10,6 +10,7 @@ use Rattle.wire.specs.Test.{if}
 use Rattle.layout.specs.Parts.{Name}
 use Rattle.layout.proofs.Lists.{All, all-left, all-right, all-from-map, all-zip, all-map}
 use Rattle.b3d_scene.specs.declared.Counts.{Counts}
+use Rattle.b3d_scene.specs.declared.Mode.{Mode}
 use Rattle.b3d_scene.specs.Rebuild.{Lent, Rows, cut, lentRows, textureFrom, brushFrom, together, nodeNames, names, rebuild}
 use Rattle.b3d_scene.specs.Rules.{levels}
 use Rattle.b3d_scene.specs.Scene.{Texture, Brush, Scene}
@@ -37,17 +38,17 @@ module _ {A : Type 0} (name : A → Name) (row r : A → List ℕ) (begins : (x 
   names-there ns [] h = tt
   names-there ns (x ∷ xs) h = (rw (begins x) (h .0 .0), names-there ns xs (h .1))
 
-module _ (v slots : ℕ) (counts t₁ t₂ t₃ t₄ t₅ t₆ t₇ t₈ t₉ t₁₀ ns : List ℕ) (t : Scene) (e : rebuild (lentOf v slots counts t₁ t₂ t₃ t₄ t₅ t₆ t₇ t₈ t₉ t₁₀) ns ≡ some t) where
+module _ (mode : Mode) (v slots : ℕ) (counts t₁ t₂ t₃ t₄ t₅ t₆ t₇ t₈ t₉ t₁₀ ns : List ℕ) (t : Scene) (e : rebuild mode (lentOf v slots counts t₁ t₂ t₃ t₄ t₅ t₆ t₇ t₈ t₉ t₁₀) ns ≡ some t) where
   abbrev L : Lent
   L = lentOf v slots counts t₁ t₂ t₃ t₄ t₅ t₆ t₇ t₈ t₉ t₁₀
 
   abbrev rs : Rooms counts (length t₁) (length t₂) (length t₃) (length t₄) (length t₅) (length t₆) (length t₇) (length t₈) (length t₉) (length t₁₀)
-  rs = sound-rooms v slots counts t₁ t₂ t₃ t₄ t₅ t₆ t₇ t₈ t₉ t₁₀ ns t e
+  rs = sound-rooms mode v slots counts t₁ t₂ t₃ t₄ t₅ t₆ t₇ t₈ t₉ t₁₀ ns t e
 
   is-together : together ns L ≡ t
   is-together =
-      together-back ns L t (fit v slots counts t₁ t₂ t₃ t₄ t₅ t₆ t₇ t₈ t₉ t₁₀ ns t e) (agree v slots counts t₁ t₂ t₃ t₄ t₅ t₆ t₇ t₈ t₉ t₁₀ ns t e .version)
-      (agree v slots counts t₁ t₂ t₃ t₄ t₅ t₆ t₇ t₈ t₉ t₁₀ ns t e .slots) (agree v slots counts t₁ t₂ t₃ t₄ t₅ t₆ t₇ t₈ t₉ t₁₀ ns t e .named) (sound-rows v slots counts t₁ t₂ t₃ t₄ t₅ t₆ t₇ t₈ t₉ t₁₀ ns t e)
+      together-back ns L t (fit mode v slots counts t₁ t₂ t₃ t₄ t₅ t₆ t₇ t₈ t₉ t₁₀ ns t e) (agree mode v slots counts t₁ t₂ t₃ t₄ t₅ t₆ t₇ t₈ t₉ t₁₀ ns t e .version)
+      (agree mode v slots counts t₁ t₂ t₃ t₄ t₅ t₆ t₇ t₈ t₉ t₁₀ ns t e .slots) (agree mode v slots counts t₁ t₂ t₃ t₄ t₅ t₆ t₇ t₈ t₉ t₁₀ ns t e .named) (sound-rows mode v slots counts t₁ t₂ t₃ t₄ t₅ t₆ t₇ t₈ t₉ t₁₀ ns t e)
 
   pub low-rooms : LowRooms (getD counts 0 0) (getD counts 1 0) (partCounts counts) (length t₁) (length t₂) (length t₃) (length t₄) (length t₅)
   unfolding partCounts
@@ -109,14 +110,14 @@ module _ (v slots : ℕ) (counts t₁ t₂ t₃ t₄ t₅ t₆ t₇ t₈ t₉ t�
   R = tableRows (take (20 * all .nodes) t₃) (take (9 * all .meshes) t₄) (take (42 * all .vertices) t₅) (take (4 * all .sets) t₆) (take (3 * all .triangles) t₇) (take (2 * all .weights) t₈) (take (4 * all .lists) t₉) (take (11 * all .keys) t₁₀)
 
   held-rooms : All (λ k. width k * L .count k ≤ length (L .words k)) tables
-  held-rooms = all-map (Holds L t) _ (λ k h. h .room) tables (agree v slots counts t₁ t₂ t₃ t₄ t₅ t₆ t₇ t₈ t₉ t₁₀ ns t e .held)
+  held-rooms = all-map (Holds L t) _ (λ k h. h .room) tables (agree mode v slots counts t₁ t₂ t₃ t₄ t₅ t₆ t₇ t₈ t₉ t₁₀ ns t e .held)
 
   rows-are : All (λ k. R k ≡ lentRows L k) nodeTables
   unfolding tables nodeTables lentRows lentOf partCounts width if tableRows
   rows-are = (rows-lent 20 (getD counts 2 0) t₃ (omega arith) (held-rooms .1 .1 .0), trimmed-rows L (held-rooms .1 .1 .1))
 
   names-all : All (Stands ns) (names t)
-  names-all = agree v slots counts t₁ t₂ t₃ t₄ t₅ t₆ t₇ t₈ t₉ t₁₀ ns t e .named
+  names-all = agree mode v slots counts t₁ t₂ t₃ t₄ t₅ t₆ t₇ t₈ t₉ t₁₀ ns t e .named
 
   names-textures : All (λ (x : Texture). Stands ns (x .name)) (t .textures)
   unfolding names
@@ -140,15 +141,15 @@ module _ (v slots : ℕ) (counts t₁ t₂ t₃ t₄ t₅ t₆ t₇ t₈ t₉ t�
   many-brushes : length (t .brushes) ≡ length (take (17 * getD counts 1 0) t₂) / 17
   unfolding tables rows if lentRows lentOf width
   many-brushes =
-      sym (length-map (t .brushes) brushRow) ∙ ap length (sym (sound-rows v slots counts t₁ t₂ t₃ t₄ t₅ t₆ t₇ t₈ t₉ t₁₀ ns t e .1 .0)) ∙ cut-length 17 (getD counts 1 0) t₂
+      sym (length-map (t .brushes) brushRow) ∙ ap length (sym (sound-rows mode v slots counts t₁ t₂ t₃ t₄ t₅ t₆ t₇ t₈ t₉ t₁₀ ns t e .1 .0)) ∙ cut-length 17 (getD counts 1 0) t₂
       ∙ sym (quotient 17 (getD counts 1 0) (length (take (17 * getD counts 1 0) t₂)) (omega arith) (length-take-le (17 * getD counts 1 0) t₂ (rs .room₂)))
 
   of-nodes : OfNodes ns R (length (take (17 * getD counts 1 0) t₂) / 17) (t .nodes)
   unfolding tables nodeTables rows if
   of-nodes =
-      let f = fit v slots counts t₁ t₂ t₃ t₄ t₅ t₆ t₇ t₈ t₉ t₁₀ ns t e in
+      let f = fit mode v slots counts t₁ t₂ t₃ t₄ t₅ t₆ t₇ t₈ t₉ t₁₀ ns t e in
       record {
-        rows = all-zip (λ k. R k ≡ lentRows L k) (λ k. lentRows L k ≡ rows k t) _ (λ k a b. a ∙ b) nodeTables rows-are (sound-rows v slots counts t₁ t₂ t₃ t₄ t₅ t₆ t₇ t₈ t₉ t₁₀ ns t e .1 .1);
+        rows = all-zip (λ k. R k ≡ lentRows L k) (λ k. lentRows L k ≡ rows k t) _ (λ k a b. a ∙ b) nodeTables rows-are (sound-rows mode v slots counts t₁ t₂ t₃ t₄ t₅ t₆ t₇ t₈ t₉ t₁₀ ns t e .1 .1);
         fits = subst (λ (n : ℕ). FitNodes levels n none (t .nodes)) many-brushes (f .nodes);
         root = f .root;
         names = all-right (Stands ns) (map (λ (x : Brush). x .name) (t .brushes)) _ names-others;
@@ -164,19 +165,19 @@ module _ (v slots : ℕ) (counts t₁ t₂ t₃ t₄ t₅ t₆ t₇ t₈ t₉ t�
 
   slots-made : t .slots ≡ slots
   unfolding lentOf
-  slots-made = sym (agree v slots counts t₁ t₂ t₃ t₄ t₅ t₆ t₇ t₈ t₉ t₁₀ ns t e .slots)
+  slots-made = sym (agree mode v slots counts t₁ t₂ t₃ t₄ t₅ t₆ t₇ t₈ t₉ t₁₀ ns t e .slots)
 
   version-made : t .version ≡ v
   unfolding lentOf
-  version-made = sym (agree v slots counts t₁ t₂ t₃ t₄ t₅ t₆ t₇ t₈ t₉ t₁₀ ns t e .version)
+  version-made = sym (agree mode v slots counts t₁ t₂ t₃ t₄ t₅ t₆ t₇ t₈ t₉ t₁₀ ns t e .version)
 
   textures-there : NamesThere ns (lentRows L 1)
   unfolding tables rows if textureRow
-  textures-there = subst (NamesThere ns) (sym (sound-rows v slots counts t₁ t₂ t₃ t₄ t₅ t₆ t₇ t₈ t₉ t₁₀ ns t e .0)) (names-there (λ (x : Texture). x .name) textureRow (λ x. x .words) (λ x. refl) ns (t .textures) names-textures)
+  textures-there = subst (NamesThere ns) (sym (sound-rows mode v slots counts t₁ t₂ t₃ t₄ t₅ t₆ t₇ t₈ t₉ t₁₀ ns t e .0)) (names-there (λ (x : Texture). x .name) textureRow (λ x. x .words) (λ x. refl) ns (t .textures) names-textures)
 
   brushes-there : NamesThere ns (lentRows L 2)
   unfolding tables rows if brushRow
-  brushes-there = subst (NamesThere ns) (sym (sound-rows v slots counts t₁ t₂ t₃ t₄ t₅ t₆ t₇ t₈ t₉ t₁₀ ns t e .1 .0)) (names-there (λ (x : Brush). x .name) brushRow _ (λ x. refl) ns (t .brushes) names-brushes)
+  brushes-there = subst (NamesThere ns) (sym (sound-rows mode v slots counts t₁ t₂ t₃ t₄ t₅ t₆ t₇ t₈ t₉ t₁₀ ns t e .1 .0)) (names-there (λ (x : Brush). x .name) brushRow _ (λ x. refl) ns (t .brushes) names-brushes)
 
   pub is-scene : OfScene ns (take (9 * getD counts 0 0) t₁) (take (17 * getD counts 1 0) t₂) R v slots t
   is-scene = record {
@@ -187,7 +188,7 @@ module _ (v slots : ℕ) (counts t₁ t₂ t₃ t₄ t₅ t₆ t₇ t₈ t₉ t�
       rest = record {
         brushes = ap (map (brushFrom ns slots)) brushes-lent ∙ brush-made;
         there = subst (NamesThere ns) (sym brushes-lent) brushes-there;
-        few = sound-slots v slots counts t₁ t₂ t₃ t₄ t₅ t₆ t₇ t₈ t₉ t₁₀ ns t e;
+        few = sound-slots mode v slots counts t₁ t₂ t₃ t₄ t₅ t₆ t₇ t₈ t₉ t₁₀ ns t e;
         slots-are = slots-made;
         nodes = of-nodes;
       };

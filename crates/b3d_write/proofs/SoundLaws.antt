@@ -13,6 +13,7 @@ use Rattle.layout.specs.Out.{Out, got, bad, check, _>>=_}
 use Rattle.layout.specs.Rules.{NONE}
 use Rattle.layout.proofs.Lists.{All, all-map}
 use Rattle.b3d_scene.specs.declared.Counts.{Counts}
+use Rattle.b3d_scene.specs.declared.Mode.{Mode}
 use Rattle.b3d_scene.specs.Answers.{shortest}
 use Rattle.b3d_scene.specs.Encode.{encode}
 use Rattle.b3d_scene.specs.Rebuild.{Lent, cut, lentRows, together, rebuild}
@@ -30,18 +31,18 @@ few-slots : (n : ℕ) (l : List Brush) → FitSlots n l → n ≤ 8
 few-slots n [] h = omega arith
 few-slots n (b ∷ l) h = leb→le n 8 (h .1)
 
-module _ (v slots : ℕ) (counts t₁ t₂ t₃ t₄ t₅ t₆ t₇ t₈ t₉ t₁₀ ns : List ℕ) where
+module _ (mode : Mode) (v slots : ℕ) (counts t₁ t₂ t₃ t₄ t₅ t₆ t₇ t₈ t₉ t₁₀ ns : List ℕ) where
   abbrev L : Lent
   L = lentOf v slots counts t₁ t₂ t₃ t₄ t₅ t₆ t₇ t₈ t₉ t₁₀
 
   -- ---- what sound tables have
 
-  module _ (t : Scene) (e : rebuild L ns ≡ some t) where
+  module _ (t : Scene) (e : rebuild mode L ns ≡ some t) where
     pub fit : Fit t
-    fit = rebuild-fine ns L t e .0
+    fit = rebuild-fine mode ns L t e .0
 
     pub agree : Agree ns L t
-    agree = rebuild-fine ns L t e .1
+    agree = rebuild-fine mode ns L t e .1
 
     pub sound-rooms : Rooms counts (length t₁) (length t₂) (length t₃) (length t₄) (length t₅) (length t₆) (length t₇) (length t₈) (length t₉) (length t₁₀)
     unfolding lentOf tables nodeTables width if rowLimit
@@ -108,17 +109,17 @@ module _ (v slots : ℕ) (counts t₁ t₂ t₃ t₄ t₅ t₆ t₇ t₈ t₉ t�
 
     sound-bytes : fileBytes slots (getD counts 0 0) (getD counts 1 0) (partCounts counts) t₁ t₂ t₃ t₄ t₉ ≡ length (encode t)
     unfolding fileBytes lentSize partCounts lentRows lentOf width if
-    sound-bytes = lent-size L ns t e
+    sound-bytes = lent-size mode L ns t e
 
   -- ---- `needed`
 
-  module _ (s : Bool) (es : rebuild L ns ≡ if s (some (together ns L)) none) where
-    pub needed-none : not s ≡ true → 0 ≡ sizeNeeded (shortest (rebuild L ns))
+  module _ (s : Bool) (es : rebuild mode L ns ≡ if s (some (together ns L)) none) where
+    pub needed-none : not s ≡ true → 0 ≡ sizeNeeded (shortest (rebuild mode L ns))
     unfolding sizeNeeded shortest if
     needed-none f = rw (es, not-true s f)
 
     module _ (f : not s ≡ false) where
-      scene-is : rebuild L ns ≡ some (together ns L)
+      scene-is : rebuild mode L ns ≡ some (together ns L)
       unfolding if
       scene-is = es ∙ rw (not-false s f)
 
@@ -147,11 +148,11 @@ module _ (v slots : ℕ) (counts t₁ t₂ t₃ t₄ t₅ t₆ t₇ t₈ t₉ t�
           bytes-are : n ≡ length (encode (together ns L))
           bytes-are = en ∙ (λ i. fileBytes slots (e₁ i) (e₂ i) (ea i) t₁ t₂ t₃ t₄ t₉) ∙ sound-bytes (together ns L) scene-is
 
-          pub needed-long : 16777216 < n → 0 ≡ sizeNeeded (shortest (rebuild L ns))
+          pub needed-long : 16777216 < n → 0 ≡ sizeNeeded (shortest (rebuild mode L ns))
           unfolding sizeNeeded shortest check
           needed-long h = rw (scene-is, lt-leb (length (encode (together ns L))) 16777216 (omega (arith, bytes-are)))
 
-          pub needed-size : n ≤ 16777216 → n ≡ sizeNeeded (shortest (rebuild L ns))
+          pub needed-size : n ≤ 16777216 → n ≡ sizeNeeded (shortest (rebuild mode L ns))
           unfolding sizeNeeded shortest check
           needed-size h = rw (scene-is, le-leb (length (encode (together ns L))) 16777216 (omega (arith, bytes-are))) bytes-are
 

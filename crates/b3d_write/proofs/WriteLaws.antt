@@ -13,6 +13,7 @@ use Rattle.layout.specs.Out.{Out, got, bad, check, _>>=_}
 use Rattle.layout.proofs.Outs.{by-test}
 use Rattle.emit.specs.Writing.{Room, Put}
 use Rattle.b3d_scene.specs.declared.Counts.{Counts}
+use Rattle.b3d_scene.specs.declared.Mode.{Mode}
 use Rattle.b3d_scene.specs.declared.Written.{Written}
 use Rattle.b3d_scene.specs.Answers.{shortest, roomFor, write, written, outputAfter, writeAnswer, writeOutput}
 use Rattle.b3d_scene.specs.Encode.{encode}
@@ -29,9 +30,9 @@ use Rattle.b3d_write.proofs.SceneLaws.{low-rooms, high-rooms, are-sized
 -- ---- by the size that is needed
 
 -- sound tables whose file is not too long
-pub record Sound (L : Lent) (ns : List ℕ) (size : ℕ) : Type 0 where
+pub record Sound (mode : Mode) (L : Lent) (ns : List ℕ) (size : ℕ) : Type 0 where
   pub scene : Scene
-  pub is : rebuild L ns ≡ some scene
+  pub is : rebuild mode L ns ≡ some scene
   pub bytes : size ≡ length (encode scene)
   pub short : length (encode scene) ≤ mostBytes
 
@@ -39,10 +40,10 @@ encode-some : (t : Scene) → 0 < length (encode t)
 unfolding encode
 encode-some t = omega arith
 
-module _ (L : Lent) (ns : List ℕ) (size : ℕ) (e : size ≡ sizeNeeded (shortest (rebuild L ns))) where
-  unsound : size ≡ 0 → shortest (rebuild L ns) ≡ bad 12 0
+module _ (mode : Mode) (L : Lent) (ns : List ℕ) (size : ℕ) (e : size ≡ sizeNeeded (shortest (rebuild mode L ns))) where
+  unsound : size ≡ 0 → shortest (rebuild mode L ns) ≡ bad 12 0
   unfolding shortest check sizeNeeded
-  unsound z = by (rebuild L ns) (sym z ∙ e)
+  unsound z = by (rebuild mode L ns) (sym z ∙ e)
     where
       by : (o : Option Scene) → 0 ≡ sizeNeeded (shortest o) → shortest o ≡ bad 12 0
       by none q = refl
@@ -52,11 +53,11 @@ module _ (L : Lent) (ns : List ℕ) (size : ℕ) (e : size ≡ sizeNeeded (short
           let k : 0 ≡ length (encode t) = rw y at q in absurd (omega (arith, encode-some t)))
           (λ h. rw (lt-leb (length (encode t)) mostBytes (nleb→lt (length (encode t)) mostBytes h)))
 
-  pub sound : (size ≡ 0 → ⊥) → Sound L ns size
+  pub sound : (size ≡ 0 → ⊥) → Sound mode L ns size
   unfolding shortest check sizeNeeded
-  sound d = by (rebuild L ns) refl (λ q. d (e ∙ q)) e
+  sound d = by (rebuild mode L ns) refl (λ q. d (e ∙ q)) e
     where
-      by : (o : Option Scene) → rebuild L ns ≡ o → (sizeNeeded (shortest o) ≡ 0 → ⊥) → size ≡ sizeNeeded (shortest o) → Sound L ns size
+      by : (o : Option Scene) → rebuild mode L ns ≡ o → (sizeNeeded (shortest o) ≡ 0 → ⊥) → size ≡ sizeNeeded (shortest o) → Sound mode L ns size
       by none q n i = absurd (n refl)
       by (some t) q n i =
           by-test (leb (length (encode t)) mostBytes)
@@ -68,16 +69,16 @@ module _ (L : Lent) (ns : List ℕ) (size : ℕ) (e : size ≡ sizeNeeded (short
   write-fits d = let s = sound d in record { fits = omega (arith, s .bytes, s .short) }
 
   module _ (out : List ℕ) where
-    pub write-unsound : size ≡ 0 → Writes L ns out out (record { number = 12; place = 0; size = 0 })
+    pub write-unsound : size ≡ 0 → Writes mode L ns out out (record { number = 12; place = 0; size = 0 })
     unfolding writeAnswer writeOutput write written outputAfter
     write-unsound z = let q = unsound z in record { answer = rw q; output = rw q }
 
     module _ (d : size ≡ 0 → ⊥) where
-      found : shortest (rebuild L ns) ≡ got (encode (sound d .scene))
+      found : shortest (rebuild mode L ns) ≡ got (encode (sound d .scene))
       unfolding shortest check
       found = let s = sound d in rw (s .is, le-leb (length (encode (s .scene))) mostBytes (s .short))
 
-      pub write-short : length out < size → Writes L ns out out (record { number = 11; place = size; size = 0 })
+      pub write-short : length out < size → Writes mode L ns out out (record { number = 11; place = size; size = 0 })
       unfolding writeAnswer writeOutput write written outputAfter roomFor check
       write-short h =
           let s = sound d in
@@ -85,7 +86,7 @@ module _ (L : Lent) (ns : List ℕ) (size : ℕ) (e : size ≡ sizeNeeded (short
           record { answer = ap (λ (n : ℕ). record { number = 11; place = n; size = 0 }) (s .bytes) ∙ rw (found, k); output = rw (found, k) }
 
       -- the file is written over the front of the output
-      pub write-done : size ≤ length out → (put : List ℕ) (n : ℕ) → Put (encode (sound d .scene)) out put n → Writes L ns out put (record { number = 0; place = 0; size = size })
+      pub write-done : size ≤ length out → (put : List ℕ) (n : ℕ) → Put (encode (sound d .scene)) out put n → Writes mode L ns out put (record { number = 0; place = 0; size = size })
       unfolding writeAnswer writeOutput write written outputAfter roomFor check
       write-done h put n p =
           let s = sound d in
@@ -94,28 +95,28 @@ module _ (L : Lent) (ns : List ℕ) (size : ℕ) (e : size ≡ sizeNeeded (short
 
 -- ---- what `put_low` is asked, and what it leaves
 
-module _ (v slots : ℕ) (counts t₁ t₂ t₃ t₄ t₅ t₆ t₇ t₈ t₉ t₁₀ ns : List ℕ) (size : ℕ) (e : size ≡ sizeNeeded (shortest (rebuild (lentOf v slots counts t₁ t₂ t₃ t₄ t₅ t₆ t₇ t₈ t₉ t₁₀) ns))) (d : size ≡ 0 → ⊥)
+module _ (mode : Mode) (v slots : ℕ) (counts t₁ t₂ t₃ t₄ t₅ t₆ t₇ t₈ t₉ t₁₀ ns : List ℕ) (size : ℕ) (e : size ≡ sizeNeeded (shortest (rebuild mode (lentOf v slots counts t₁ t₂ t₃ t₄ t₅ t₆ t₇ t₈ t₉ t₁₀) ns))) (d : size ≡ 0 → ⊥)
     (all : Counts) (all-is : all ≡ partCounts counts) (n₁ n₂ : ℕ) (first : n₁ ≡ getD counts 0 0) (second : n₂ ≡ getD counts 1 0) where
   abbrev L : Lent
   L = lentOf v slots counts t₁ t₂ t₃ t₄ t₅ t₆ t₇ t₈ t₉ t₁₀
 
-  abbrev S : Sound L ns size
-  S = sound L ns size e d
+  abbrev S : Sound mode L ns size
+  S = sound mode L ns size e d
 
   pub asked-low : LowRooms n₁ n₂ all (length t₁) (length t₂) (length t₃) (length t₄) (length t₅)
-  asked-low = rw (first, second, all-is) (low-rooms v slots counts t₁ t₂ t₃ t₄ t₅ t₆ t₇ t₈ t₉ t₁₀ ns (S .scene) (S .is))
+  asked-low = rw (first, second, all-is) (low-rooms mode v slots counts t₁ t₂ t₃ t₄ t₅ t₆ t₇ t₈ t₉ t₁₀ ns (S .scene) (S .is))
 
   pub asked-high : HighRooms all (length t₆) (length t₇) (length t₈) (length t₉) (length t₁₀)
-  asked-high = rw all-is (high-rooms v slots counts t₁ t₂ t₃ t₄ t₅ t₆ t₇ t₈ t₉ t₁₀ ns (S .scene) (S .is))
+  asked-high = rw all-is (high-rooms mode v slots counts t₁ t₂ t₃ t₄ t₅ t₆ t₇ t₈ t₉ t₁₀ ns (S .scene) (S .is))
 
   pub asked-sized : Sized all (take (20 * all .nodes) t₃) (take (9 * all .meshes) t₄) (take (42 * all .vertices) t₅) (take (4 * all .sets) t₆) (take (3 * all .triangles) t₇) (take (2 * all .weights) t₈) (take (4 * all .lists) t₉) (take (11 * all .keys) t₁₀)
-  asked-sized = rw all-is (are-sized v slots counts t₁ t₂ t₃ t₄ t₅ t₆ t₇ t₈ t₉ t₁₀ ns (S .scene) (S .is))
+  asked-sized = rw all-is (are-sized mode v slots counts t₁ t₂ t₃ t₄ t₅ t₆ t₇ t₈ t₉ t₁₀ ns (S .scene) (S .is))
 
   abbrev Of : Scene → Type 0
   Of = OfScene ns (take (9 * n₁) t₁) (take (17 * n₂) t₂) (tableRows (take (20 * all .nodes) t₃) (take (9 * all .meshes) t₄) (take (42 * all .vertices) t₅) (take (4 * all .sets) t₆) (take (3 * all .triangles) t₇) (take (2 * all .weights) t₈) (take (4 * all .lists) t₉) (take (11 * all .keys) t₁₀)) v slots
 
   of-scene : Of (S .scene)
-  of-scene = rw (first, second, all-is) (is-scene v slots counts t₁ t₂ t₃ t₄ t₅ t₆ t₇ t₈ t₉ t₁₀ ns (S .scene) (S .is))
+  of-scene = rw (first, second, all-is) (is-scene mode v slots counts t₁ t₂ t₃ t₄ t₅ t₆ t₇ t₈ t₉ t₁₀ ns (S .scene) (S .is))
 
   module _ (out : List ℕ) (h : size ≤ length out) where
     file-room : Room (encode (S .scene)) out
@@ -124,5 +125,5 @@ module _ (v slots : ℕ) (counts t₁ t₂ t₃ t₄ t₅ t₆ t₇ t₈ t₉ t�
     pub asked-some : Some Of encode out
     asked-some = record { value = S .scene; is = of-scene; room = file-room }
 
-    pub file-done : (put : List ℕ) (n : ℕ) → Each Of encode out put n → Writes L ns out put (record { number = 0; place = 0; size = size })
-    file-done put n f = write-done L ns size e out d h put n (f .bytes (S .scene) of-scene file-room)
+    pub file-done : (put : List ℕ) (n : ℕ) → Each Of encode out put n → Writes mode L ns out put (record { number = 0; place = 0; size = size })
+    file-done put n f = write-done mode L ns size e out d h put n (f .bytes (S .scene) of-scene file-room)

@@ -5,14 +5,15 @@ use mathlib.Core.List.{List}
 use lib.ListN.{length}
 use Rattle.layout.specs.Out.{Out, got, bad}
 use Rattle.b3d_scene.specs.declared.Counts.{Counts}
+use Rattle.b3d_scene.specs.declared.Mode.{Mode}
 use Rattle.b3d_scene.specs.declared.Written.{Written}
 use Rattle.b3d_scene.specs.Answers.{writeAnswer, writeOutput}
 use Rattle.b3d_scene.specs.Rebuild.{Lent}
 
 -- the answer for lent tables with names in ns, and the output afterwards
-pub record Writes (T : Lent) (ns out put : List ℕ) (r : Written) : Type 0 where
-  pub answer : r ≡ writeAnswer T ns out
-  pub output : put ≡ writeOutput T ns out
+pub record Writes (mode : Mode) (T : Lent) (ns out put : List ℕ) (r : Written) : Type 0 where
+  pub answer : r ≡ writeAnswer mode T ns out
+  pub output : put ≡ writeOutput mode T ns out
 
 -- how long the file is that is to be written; 0 where there is none
 unfoldable pub sizeNeeded : Out (List ℕ) → ℕ

@@ -11,10 +11,12 @@ ghost use Rattle.b3d_put_nodes.specs.Walk.{Sized};
 ghost use Rattle.b3d_put_file.specs.Whole.{OfScene, Some, Each};
 ghost use Rattle.b3d_write.specs.Writes.{sizeNeeded, LowRooms, HighRooms, Writes};
 use b3d_scene::Counts;
+use b3d_scene::Mode;
 use b3d_scene::Written;
 
 // How long the file of these tables is; 0 where they are unsound or it is too long.
 fn needed(
+    mode: Mode,
     version: u32,
     slots: u32,
     counts: &[u32; 10],
@@ -30,9 +32,10 @@ fn needed(
     t10: &[u32],
     names: &[u8],
 ) -> usize
-    ensures { λ r. ⌜ r ≡ sizeNeeded (shortest (rebuild (lentOf version slots (now (counts .entry)) (now (t1 .entry)) (now (t2 .entry)) (now (t3 .entry)) (now (t4 .entry)) (now (t5 .entry)) (now (t6 .entry)) (now (t7 .entry)) (now (t8 .entry)) (now (t9 .entry)) (now (t10 .entry))) (now (names .entry)))) ⌝ }
+    ensures { λ r. ⌜ r ≡ sizeNeeded (shortest (rebuild mode (lentOf version slots (now (counts .entry)) (now (t1 .entry)) (now (t2 .entry)) (now (t3 .entry)) (now (t4 .entry)) (now (t5 .entry)) (now (t6 .entry)) (now (t7 .entry)) (now (t8 .entry)) (now (t9 .entry)) (now (t10 .entry))) (now (names .entry)))) ⌝ }
 {
     if !b3d_check::sound(
+        mode,
         version,
         slots,
         counts,
@@ -157,9 +160,10 @@ fn put_low(
     )
 }
 
-// Writes the shortest file that has these tables, with names in `names`: 12 where no accepted file has them, 11 with the size needed where
-// the output is too short; then the output stays as it was. Past the file it stays so too.
+// Writes the shortest file that has these tables, with names in `names`: 12 where no file that the mode accepts has them, 11 with the size
+// needed where the output is too short; then the output stays as it was. Past the file it stays so too.
 pub fn write(
+    mode: Mode,
     t1: &[u32],
     t2: &[u32],
     t3: &[u32],
@@ -176,9 +180,10 @@ pub fn write(
     names: &[u8],
     out: &mut [u8],
 ) -> Written
-    ensures { λ r. ⌜ Writes (lentOf version slots (now (counts .entry)) (now (t1 .entry)) (now (t2 .entry)) (now (t3 .entry)) (now (t4 .entry)) (now (t5 .entry)) (now (t6 .entry)) (now (t7 .entry)) (now (t8 .entry)) (now (t9 .entry)) (now (t10 .entry))) (now (names .entry)) (now (out .entry)) (now (out .exit)) r ⌝ }
+    ensures { λ r. ⌜ Writes mode (lentOf version slots (now (counts .entry)) (now (t1 .entry)) (now (t2 .entry)) (now (t3 .entry)) (now (t4 .entry)) (now (t5 .entry)) (now (t6 .entry)) (now (t7 .entry)) (now (t8 .entry)) (now (t9 .entry)) (now (t10 .entry))) (now (names .entry)) (now (out .entry)) (now (out .exit)) r ⌝ }
 {
     let size = needed(
+        mode,
         version,
         slots,
         counts,

@@ -1,24 +1,38 @@
--- What was promised of an answer holds of the same answer in C's layout.
-use mathlib.Core.Path.{_≡_, sym, subst, _∙_}
+-- What was promised of an answer holds of the same answer in C's layout; what was promised of a mode, of the number that names it.
+use mathlib.Core.Path.{_≡_, refl, sym, subst, _∙_, ap}
 use Prim.Native.Nat.{ℕ}
 use mathlib.Core.List.{List}
+use borrow.Author.Tests.{ne-eqb}
+use Rattle.wire.specs.Test.{if}
 use Rattle.b3d_scene.specs.declared.Answer.{Answer}
+use Rattle.b3d_scene.specs.declared.Mode.{Mode}
+use Rattle.b3d_scene.specs.declared.Mode.the-variants.{Strict, Lenient}
 use Rattle.b3d_scene.specs.declared.Written.{Written}
+use Rattle.b3d_scene.specs.Answers.{judge, answer}
 use Rattle.b3d_scene.specs.Rebuild.{Lent}
 use Rattle.b3d_write.specs.Writes.{Writes}
 use Rattle.b3d_read.specs.Reads.{Reads}
-use Rattle.kelompuris_c.specs.Answers.{answerIn, writtenIn}
+use Rattle.kelompuris_c.specs.Answers.{answerIn, writtenIn, modeOf}
 use Rattle.kelompuris_c.specs.declared.KelompurisAnswer.{KelompurisAnswer}
 use Rattle.kelompuris_c.specs.declared.KelompurisWritten.{KelompurisWritten}
 
-module _ (r : KelompurisAnswer) (a : Answer) (e : answerIn r ≡ a) where
-  pub outward-is : (b : Answer) → a ≡ b → answerIn r ≡ b
-  outward-is b h = e ∙ h
+pub one-lenient : (n : ℕ) → n ≡ 1 → Lenient ≡ modeOf n
+unfolding modeOf if
+one-lenient n e = rw e
 
-  pub outward-reads : (s : List ℕ) (before after : List (List ℕ)) → Reads s before after a → Reads s before after (answerIn r)
-  outward-reads s before after h = subst (Reads s before after) (sym e) h
+pub other-strict : (n : ℕ) → (n ≡ 1 → ⊥) → Strict ≡ modeOf n
+unfolding modeOf if
+other-strict n e = rw (ne-eqb n 1 e)
 
-pub ruleset outward-laws = (outward-is, outward-reads)
+pub ruleset mode-laws = (one-lenient, other-strict)
 
-pub outward-writes : (r : KelompurisWritten) (w : Written) → writtenIn r ≡ w → (T : Lent) (ns out put : List ℕ) → Writes T ns out put w → Writes T ns out put (writtenIn r)
-outward-writes r w e T ns out put h = subst (Writes T ns out put) (sym e) h
+module _ (m k : Mode) (em : m ≡ k) where
+  module _ (r : KelompurisAnswer) (a : Answer) (e : answerIn r ≡ a) where
+    pub outward-judge : (s : List ℕ) → a ≡ answer (judge m s) → answerIn r ≡ answer (judge k s)
+    outward-judge s h = e ∙ h ∙ ap (λ (x : Mode). answer (judge x s)) em
+
+    pub outward-reads : (s : List ℕ) (before after : List (List ℕ)) → Reads m s before after a → Reads k s before after (answerIn r)
+    outward-reads s before after h = rw (← em, e) h
+
+  pub outward-writes : (r : KelompurisWritten) (w : Written) → writtenIn r ≡ w → (T : Lent) (ns out put : List ℕ) → Writes m T ns out put w → Writes k T ns out put (writtenIn r)
+  outward-writes r w e T ns out put h = rw (← em, e) h

@@ -1,5 +1,10 @@
--- What an answer in C's layout says.
+-- What an answer in C's layout says, and a mode that is given by a number.
+use Prim.Native.Nat.{ℕ}
+use lib.Dec.{eqb}
+use Rattle.wire.specs.Test.{if}
 use Rattle.b3d_scene.specs.declared.Answer.{Answer}
+use Rattle.b3d_scene.specs.declared.Mode.{Mode}
+use Rattle.b3d_scene.specs.declared.Mode.the-variants.{Strict, Lenient}
 use Rattle.b3d_scene.specs.declared.Written.{Written}
 use Rattle.kelompuris_c.specs.declared.KelompurisAnswer.{KelompurisAnswer}
 use Rattle.kelompuris_c.specs.declared.KelompurisWritten.{KelompurisWritten}
@@ -10,3 +15,7 @@ answerIn r = record { number = r .number; place = r .place; version = r .version
 
 unfoldable pub writtenIn : KelompurisWritten → Written
 writtenIn r = record { number = r .number; place = r .place; size = r .size }
+
+-- KELOMPURIS_LENIENT is 1; any other number means strict
+unfoldable pub modeOf : ℕ → Mode
+modeOf n = if (eqb n 1) Lenient Strict

@@ -7,8 +7,9 @@ ghost use Rattle.b3d_read.specs.Reads.{Reads};
 ghost use Rattle.b3d_scene.specs.Answers.{clearAnswer, clearOutput};
 ghost use Rattle.b3d_check.specs.Lent.{lentOf};
 ghost use Rattle.b3d_write.specs.Writes.{Writes};
-ghost use Rattle.kelompuris_c.specs.Answers.{answerIn, writtenIn};
+ghost use Rattle.kelompuris_c.specs.Answers.{answerIn, writtenIn, modeOf};
 use b3d_scene::Answer;
+use b3d_scene::Mode;
 use b3d_scene::Written;
 
 // The reader's answer as C lays it out.
@@ -29,6 +30,16 @@ pub struct KelompurisWritten {
     pub size: u32,
 }
 
+// The mode that a number names: 1 the lenient one, any other the strict one.
+fn mode_of(n: u32) -> Mode
+    ensures { λ r. ⌜ r ≡ modeOf n ⌝ }
+{
+    if n == 1 {
+        return Mode::Lenient;
+    }
+    Mode::Strict
+}
+
 // The same answer in C's layout.
 fn outward(a: Answer) -> KelompurisAnswer
     ensures { λ r. ⌜ answerIn r ≡ a ⌝ }
@@ -43,17 +54,19 @@ fn outward(a: Answer) -> KelompurisAnswer
     }
 }
 
-// Judges a file without any table: 1 to 10, or 0 with version, n_texs and counts.
+// Judges a file in a mode without any table: 1 to 10, or 0 with version, n_texs and counts.
 #[no_mangle]
-pub extern "C" fn kelompuris_b3d_judge(file: &[u8]) -> KelompurisAnswer
-    ensures { λ r. ⌜ answerIn r ≡ answer (judge (now (file .entry))) ⌝ }
+pub extern "C" fn kelompuris_b3d_judge(mode: u32, file: &[u8]) -> KelompurisAnswer
+    ensures { λ r. ⌜ answerIn r ≡ answer (judge (modeOf mode) (now (file .entry))) ⌝ }
 {
-    outward(b3d_read::judge(file))
+    let m = mode_of(mode);
+    outward(b3d_read::judge(m, file))
 }
 
-// Reads a file into ten lent tables.
+// Reads a file in a mode into ten lent tables.
 #[no_mangle]
 pub extern "C" fn kelompuris_b3d_read(
+    mode: u32,
     file: &[u8],
     t1: &mut [u32],
     t2: &mut [u32],
@@ -66,13 +79,14 @@ pub extern "C" fn kelompuris_b3d_read(
     t9: &mut [u32],
     t10: &mut [u32],
 ) -> KelompurisAnswer
-    ensures { λ r. ⌜ Reads (now (file .entry))
+    ensures { λ r. ⌜ Reads (modeOf mode) (now (file .entry))
         (now (t1 .entry) ∷ now (t2 .entry) ∷ now (t3 .entry) ∷ now (t4 .entry) ∷ now (t5 .entry)
         ∷ now (t6 .entry) ∷ now (t7 .entry) ∷ now (t8 .entry) ∷ now (t9 .entry) ∷ now (t10 .entry) ∷ [])
         (now (t1 .exit) ∷ now (t2 .exit) ∷ now (t3 .exit) ∷ now (t4 .exit) ∷ now (t5 .exit)
         ∷ now (t6 .exit) ∷ now (t7 .exit) ∷ now (t8 .exit) ∷ now (t9 .exit) ∷ now (t10 .exit) ∷ []) (answerIn r) ⌝ }
 {
-    outward(b3d_read::read(file, t1, t2, t3, t4, t5, t6, t7, t8, t9, t10))
+    let m = mode_of(mode);
+    outward(b3d_read::read(m, file, t1, t2, t3, t4, t5, t6, t7, t8, t9, t10))
 }
 
 // What the writer or the clearer answers, in C's layout.
@@ -86,9 +100,10 @@ fn outward_written(w: Written) -> KelompurisWritten
     }
 }
 
-// Writes the shortest file that has the lent tables.
+// Writes the shortest file that has the lent tables, in a mode.
 #[no_mangle]
 pub extern "C" fn kelompuris_b3d_write(
+    mode: u32,
     t1: &[u32],
     t2: &[u32],
     t3: &[u32],
@@ -105,10 +120,12 @@ pub extern "C" fn kelompuris_b3d_write(
     names: &[u8],
     out: &mut [u8],
 ) -> KelompurisWritten
-    ensures { λ r. ⌜ Writes (lentOf version «n_texs» (now (counts .entry)) (now (t1 .entry)) (now (t2 .entry)) (now (t3 .entry)) (now (t4 .entry)) (now (t5 .entry))
+    ensures { λ r. ⌜ Writes (modeOf mode) (lentOf version «n_texs» (now (counts .entry)) (now (t1 .entry)) (now (t2 .entry)) (now (t3 .entry)) (now (t4 .entry)) (now (t5 .entry))
         (now (t6 .entry)) (now (t7 .entry)) (now (t8 .entry)) (now (t9 .entry)) (now (t10 .entry))) (now (names .entry)) (now (out .entry)) (now (out .exit)) (writtenIn r) ⌝ }
 {
+    let m = mode_of(mode);
     outward_written(b3d_write::write(
+        m,
         t1,
         t2,
         t3,

@@ -7,3 +7,4 @@ pub mod StepLaws
 pub mod ChunkLaws
 pub mod PlaceLaws
 pub mod RefusalLaws
+pub mod HeldLaws

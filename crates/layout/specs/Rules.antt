@@ -17,12 +17,15 @@ pub data Rule : Type 0 where
   names : ℕ → Rule
   -- such an id, or -1
   namesOrNone : ℕ → Rule
+  -- a float from 0 to 1, by its bits; minus zero is one
+  unit : Rule
 
 abbrev pub holds : Rule → ℕ → Bool
 holds any w = true
 holds (upTo m) w = leb w m
 holds (names n) w = ltb w n
 holds (namesOrNone n) w = eqb w NONE || ltb w n
+holds unit w = leb w 0x3F800000 || eqb w 0x80000000
 
 -- what refuses a number against its rule: 6 a range, 7 an id
 abbrev pub refusal : Rule → ℕ
@@ -30,3 +33,4 @@ refusal any = 6
 refusal (upTo m) = 6
 refusal (names n) = 7
 refusal (namesOrNone n) = 7
+refusal unit = 6

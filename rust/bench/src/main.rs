@@ -3,9 +3,12 @@
 //! output are made once for a file and lent again and again, so they are warm
 //! and hold what the call before left there.
 //!
+//! All is in strict mode but the clearer; colours are timed in both.
+//!
 //! A line is a file: its size, then nanoseconds a byte for each function. The
 //! last columns are ratios of medians.
 
+use kelompuris::Mode;
 use std::hint::black_box;
 use std::time::{Duration, Instant};
 
@@ -47,25 +50,100 @@ fn main() {
             line(table, rows);
         }
     }
+    colours();
+}
+
+/// A file of vertices with colours, in both modes. The last column is a ratio
+/// of medians.
+fn colours() {
+    println!();
+    println!(
+        "{:<18} {:>6} {:>9} | {:>9} {:>9} | {:>14}",
+        "with colours", "rows", "bytes", "strict", "lenient", "strict/lenient"
+    );
+    for rows in [1024, 16383] {
+        let file = scenes::rows::file_with_colours(rows);
+        let (mut tables, answer) = tables_for(&file);
+        let judge = |mode| median(|| kelompuris::judge(mode, black_box(&file)).number);
+        colour_line("judge", rows, file.len(), judge);
+        let read = |mode| {
+            median(|| kelompuris::read(mode, black_box(&file), &mut lent(&mut tables)).number)
+        };
+        colour_line("read", rows, file.len(), read);
+        let filled = slices(&tables);
+        let mut out = vec![0; file.len()];
+        let write = |mode| {
+            median(|| {
+                let (version, slots) = (answer.version, answer.n_texs);
+                let names = black_box(&file);
+                kelompuris::write(
+                    mode,
+                    &filled,
+                    &answer.counts,
+                    version,
+                    slots,
+                    names,
+                    &mut out,
+                )
+                .number
+            })
+        };
+        colour_line("write", rows, file.len(), write);
+    }
+}
+
+/// Nanoseconds a vertex in both modes.
+fn colour_line(about: &str, rows: usize, bytes: usize, mut call: impl FnMut(Mode) -> Duration) {
+    let (strict, lenient) = (call(Mode::Strict), call(Mode::Lenient));
+    let a_row = |t: Duration| t.as_nanos() as f64 / rows as f64;
+    println!(
+        "{:<18} {:>6} {:>9} | {:>9.3} {:>9.3} | {:>14.2}",
+        format!("{about}, ns a vertex"),
+        rows,
+        bytes,
+        a_row(strict),
+        a_row(lenient),
+        strict.as_secs_f64() / lenient.as_secs_f64(),
+    );
+}
+
+/// Tables that are just long enough for a file, and its answer.
+fn tables_for(file: &[u8]) -> (Vec<Vec<u32>>, kelompuris::Answer) {
+    let answer = kelompuris::judge(Mode::Strict, file);
+    assert_eq!(answer.number, 0);
+    let words = |k: usize| vec![0; WIDTHS[k] * answer.counts[k] as usize];
+    ((0..10).map(words).collect(), answer)
+}
+
+fn slices(tables: &[Vec<u32>]) -> [&[u32]; 10] {
+    std::array::from_fn(|table| tables[table].as_slice())
 }
 
 fn line(table: usize, rows: usize) {
     let file = scenes::rows::file_with_rows(table, rows);
-    let answer = kelompuris::judge(&file);
-    assert_eq!(answer.number, 0, "table {table}, {rows} rows");
-    let mut tables: Vec<Vec<u32>> = (0..10)
-        .map(|k| vec![0; WIDTHS[k] * answer.counts[k] as usize])
-        .collect();
+    let (mut tables, answer) = tables_for(&file);
     let mut out = vec![0; file.len()];
-    let judge = median(|| kelompuris::judge(black_box(&file)).number);
-    let read = median(|| kelompuris::read(black_box(&file), &mut lent(&mut tables)).number);
-    let independent = median(|| reference::read(black_box(&file), &mut lent(&mut tables)).number);
-    let filled: Vec<&[u32]> = tables.iter().map(Vec::as_slice).collect();
-    let filled: [&[u32]; 10] = filled.try_into().expect("ten tables");
+    let judge = median(|| kelompuris::judge(Mode::Strict, black_box(&file)).number);
+    let mode = Mode::Strict;
+    let read = median(|| kelompuris::read(mode, black_box(&file), &mut lent(&mut tables)).number);
+    let independent = median(|| {
+        let mode = reference::Mode::Strict;
+        reference::read(mode, black_box(&file), &mut lent(&mut tables)).number
+    });
+    let filled = slices(&tables);
     let write = median(|| {
         let (version, slots) = (answer.version, answer.n_texs);
         let names = black_box(&file);
-        kelompuris::write(&filled, &answer.counts, version, slots, names, &mut out).number
+        kelompuris::write(
+            mode,
+            &filled,
+            &answer.counts,
+            version,
+            slots,
+            names,
+            &mut out,
+        )
+        .number
     });
     let clear = median(|| kelompuris::clear(black_box(&file), &mut out).number);
     let copy = median(|| {

@@ -1,4 +1,4 @@
-//! The five commands. What goes to standard output is added to `out`, by the two
+//! The five commands, all but `clear` in a mode. What goes to standard output is added to `out`, by the two
 //! that print; the others say nothing unless they stop.
 
 use crate::answer::{about, in_words, Stop};
@@ -6,17 +6,17 @@ use crate::columns::{Table, HEAD, NODES, TABLES};
 use crate::output::{put_file, put_folder};
 use crate::scene::{self, load, name, Scene};
 use crate::text;
-use kelompuris::{judge, Answer};
+use kelompuris::{judge, Answer, Mode};
 use std::fs;
 use std::path::Path;
 
 /// A line for each file: its answer in words.
-pub fn check(paths: &[&Path], out: &mut Vec<u8>) -> Result<(), Stop> {
+pub fn check(mode: Mode, paths: &[&Path], out: &mut Vec<u8>) -> Result<(), Stop> {
     let (mut refused, mut failed) = (0, 0);
     for path in paths {
         let line = match load(path) {
             Ok(file) => {
-                let answer = judge(&file);
+                let answer = judge(mode, &file);
                 refused += usize::from(answer.number != 0);
                 about(path, in_words(&answer))
             }
@@ -36,11 +36,11 @@ pub fn check(paths: &[&Path], out: &mut Vec<u8>) -> Result<(), Stop> {
 }
 
 /// Number and place; if accepted version and n_texs, ten counts, node names.
-pub fn list(path: &Path, out: &mut Vec<u8>) -> Result<(), Stop> {
+pub fn list(mode: Mode, path: &Path, out: &mut Vec<u8>) -> Result<(), Stop> {
     let file = load(path)?;
-    let answer = judge(&file);
+    let answer = judge(mode, &file);
     add_numbers(out, &[answer.number, answer.place]);
-    let scene = accepted(path, file, &answer)?;
+    let scene = accepted(mode, path, file, &answer)?;
     add_numbers(out, &[answer.version, answer.n_texs]);
     add_numbers(out, &answer.counts);
     for node in scene.tables[NODES].chunks(TABLES[NODES].words()) {
@@ -50,10 +50,10 @@ pub fn list(path: &Path, out: &mut Vec<u8>) -> Result<(), Stop> {
 }
 
 /// The tables of a file as a folder of texts.
-pub fn tables(path: &Path, folder: &Path) -> Result<(), Stop> {
+pub fn tables(mode: Mode, path: &Path, folder: &Path) -> Result<(), Stop> {
     let file = load(path)?;
-    let answer = judge(&file);
-    let scene = accepted(path, file, &answer)?;
+    let answer = judge(mode, &file);
+    let scene = accepted(mode, path, file, &answer)?;
     let as_text =
         |table: &Table, words: &[u32]| (table.file_name(), text::print(table, words, &scene.names));
     let mut files = vec![as_text(&HEAD, &[scene.version, scene.n_texs])];
@@ -64,7 +64,7 @@ pub fn tables(path: &Path, folder: &Path) -> Result<(), Stop> {
 }
 
 /// A file from such a folder.
-pub fn build(folder: &Path, target: &Path) -> Result<(), Stop> {
+pub fn build(mode: Mode, folder: &Path, target: &Path) -> Result<(), Stop> {
     let mut names = Vec::new();
     let mut read = |table: &Table| {
         let path = folder.join(table.file_name());
@@ -85,7 +85,7 @@ pub fn build(folder: &Path, target: &Path) -> Result<(), Stop> {
         tables,
         names,
     };
-    let bytes = scene.write();
+    let bytes = scene.write(mode);
     let bytes = bytes.map_err(|written| Stop::not_written(folder, written))?;
     put_file(target, &bytes)
 }
@@ -99,9 +99,9 @@ pub fn clear(path: &Path, target: &Path) -> Result<(), Stop> {
 }
 
 /// The scene of a file, unless it is refused.
-fn accepted(path: &Path, file: Vec<u8>, answer: &Answer) -> Result<Scene, Stop> {
+fn accepted(mode: Mode, path: &Path, file: Vec<u8>, answer: &Answer) -> Result<Scene, Stop> {
     let scene = match answer.number {
-        0 => Scene::read(file, answer),
+        0 => Scene::read(mode, file, answer),
         _ => Err(*answer),
     };
     scene.map_err(|answer| Stop::refused(path, answer.number, answer.place))

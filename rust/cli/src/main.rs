@@ -9,6 +9,7 @@ mod scene;
 mod text;
 
 use answer::Stop;
+use kelompuris::Mode;
 use std::env;
 use std::ffi::OsString;
 use std::io::{self, Write};
@@ -16,10 +17,10 @@ use std::path::Path;
 use std::process::ExitCode;
 
 const USAGE: &str = "\
-usage: kelompuris check FILE..
-       kelompuris list FILE
-       kelompuris tables FILE DIR
-       kelompuris build DIR OUT
+usage: kelompuris check [--lenient] FILE..
+       kelompuris list [--lenient] FILE
+       kelompuris tables [--lenient] FILE DIR
+       kelompuris build [--lenient] DIR OUT
        kelompuris clear FILE OUT
        kelompuris --help
 ";
@@ -33,6 +34,9 @@ tables  the ten tables of a file and scene.tsv (version, n_texs) as texts in
         DIR, which must be new or empty
 build   the shortest file with the tables in such a DIR
 clear   a copy without names and without chunks of other tags
+
+A red, green, blue or alpha that is not a number or lies outside 0 to 1 is
+refused; with --lenient any is taken. `clear` takes any.
 
 In the texts of `tables` the first line has the column names, and a tab stands
 between cells. Whole numbers are signed decimals, so NONE is -1. A float is its
@@ -61,15 +65,21 @@ fn main() -> ExitCode {
 
 fn run(args: &[OsString], out: &mut Vec<u8>) -> Result<(), Stop> {
     let usage = || Err(Stop::Failed(USAGE.to_string()));
-    let Some((command, paths)) = args.split_first() else {
+    let Some((command, words)) = args.split_first() else {
         return usage();
     };
+    let command = command.to_str();
+    let with_mode = matches!(command, Some("check" | "list" | "tables" | "build"));
+    let (mode, paths) = match words.split_first() {
+        Some((first, rest)) if with_mode && first == "--lenient" => (Mode::Lenient, rest),
+        _ => (Mode::Strict, words),
+    };
     let paths: Vec<&Path> = paths.iter().map(Path::new).collect();
-    match (command.to_str(), &paths[..]) {
-        (Some("check"), [_, ..]) => commands::check(&paths, out),
-        (Some("list"), [file]) => commands::list(file, out),
-        (Some("tables"), [file, folder]) => commands::tables(file, folder),
-        (Some("build"), [folder, target]) => commands::build(folder, target),
+    match (command, &paths[..]) {
+        (Some("check"), [_, ..]) => commands::check(mode, &paths, out),
+        (Some("list"), [file]) => commands::list(mode, file, out),
+        (Some("tables"), [file, folder]) => commands::tables(mode, file, folder),
+        (Some("build"), [folder, target]) => commands::build(mode, folder, target),
         (Some("clear"), [file, target]) => commands::clear(file, target),
         (Some("--help"), []) => {
             out.extend_from_slice(USAGE.as_bytes());

@@ -2,7 +2,7 @@
 
 use crate::answer::{Stop, SHORT};
 use crate::columns::TABLES;
-use kelompuris::{Answer, Written};
+use kelompuris::{Answer, Mode, Written};
 use std::fs::File;
 use std::io::{self, Read};
 use std::path::Path;
@@ -19,12 +19,12 @@ pub struct Scene {
 }
 
 impl Scene {
-    /// The scene of a file with this answer of the judge. The names are the
-    /// file itself.
-    pub fn read(file: Vec<u8>, answer: &Answer) -> Result<Scene, Answer> {
+    /// The scene of a file with this answer of the judge in a mode. The names
+    /// are the file itself.
+    pub fn read(mode: Mode, file: Vec<u8>, answer: &Answer) -> Result<Scene, Answer> {
         let words = |table: usize| TABLES[table].words() * answer.counts[table] as usize;
         let mut tables = std::array::from_fn(|table| vec![0; words(table)]);
-        let read = kelompuris::read(&file, &mut tables.each_mut().map(Vec::as_mut_slice));
+        let read = kelompuris::read(mode, &file, &mut tables.each_mut().map(Vec::as_mut_slice));
         match read.number {
             0 => Ok(Scene {
                 version: read.version,
@@ -37,12 +37,12 @@ impl Scene {
     }
 
     /// The shortest file with these tables and names.
-    pub fn write(&self) -> Result<Vec<u8>, Written> {
+    pub fn write(&self, mode: Mode) -> Result<Vec<u8>, Written> {
         let tables = self.tables.each_ref().map(Vec::as_slice);
         let rows = |table: usize| self.tables[table].len() / TABLES[table].words();
         let counts = std::array::from_fn(|table| word(rows(table)));
         let (version, n_texs, names) = (self.version, self.n_texs, &self.names);
-        exact(|out| kelompuris::write(&tables, &counts, version, n_texs, names, out))
+        exact(|out| kelompuris::write(mode, &tables, &counts, version, n_texs, names, out))
     }
 }
 

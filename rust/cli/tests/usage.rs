@@ -8,7 +8,7 @@ use std::fs;
 #[test]
 fn wrong_use() {
     let folder = fresh("wrong_use");
-    let wrong: [&[&str]; 11] = [
+    let wrong: [&[&str]; 15] = [
         &[],
         &["check"],
         &["list"],
@@ -20,10 +20,14 @@ fn wrong_use() {
         &["Check", "hall.b3d"],
         &["--help", "hall.b3d"],
         &["hall.b3d"],
+        &["check", "--lenient"],
+        &["list", "hall.b3d", "--lenient"],
+        &["clear", "--lenient", "hall.b3d", "a"],
+        &["--lenient", "check", "hall.b3d"],
     ];
     let before = names_in(&folder);
     for args in wrong {
-        run(&folder, args).stops(2, "usage: kelompuris check FILE..");
+        run(&folder, args).stops(2, "usage: kelompuris check [--lenient] FILE..");
     }
     assert_eq!(names_in(&folder), before);
 }

@@ -12,7 +12,7 @@ mod run;
 pub use output::{sheet_of, Call};
 pub use run::{run, Group};
 
-use reference::Answer;
+use reference::{Answer, Mode};
 use scenes::sheet::ROW_WORDS;
 use scenes::Rng;
 use std::error::Error;
@@ -58,44 +58,70 @@ impl fmt::Display for Disagreement {
 impl Error for Disagreement {}
 
 impl Compared {
-    /// Judges a file and reads it with tables of several sizes; the answer of
-    /// both to a file without tables.
-    pub fn file(&mut self, file: &[u8], rng: &mut Rng) -> Result<Answer, Disagreement> {
+    /// Judges a file in both modes and reads it with tables of several sizes,
+    /// leniently with one where both modes answer the same. The answers to it
+    /// without tables, the strict one first.
+    pub fn file(&mut self, file: &[u8], rng: &mut Rng) -> Result<[Answer; 2], Disagreement> {
         self.files += 1;
-        let answer = own(kelompuris::judge(file));
-        self.same("judge", file, answer, reference::judge(file))?;
-        for sizes in sizes_to_lend(&answer, rng) {
-            self.read(file, sizes)?;
+        let strict = self.judge(Mode::Strict, file)?;
+        let lenient = self.judge(Mode::Lenient, file)?;
+        for sizes in sizes_to_lend(&strict, rng) {
+            self.read(Mode::Strict, file, sizes)?;
         }
-        Ok(answer)
+        let mut sizes = sizes_to_lend(&lenient, rng);
+        if lenient == strict {
+            sizes.truncate(1);
+        }
+        for sizes in sizes {
+            self.read(Mode::Lenient, file, sizes)?;
+        }
+        Ok([strict, lenient])
     }
 
-    /// Compares, and holds both to an answer that is known.
+    /// Compares, and holds both in both modes to an answer that is known.
     pub fn known(
         &mut self,
         about: &str,
         file: &[u8],
-        (number, place): (u32, u32),
+        answer: (u32, u32),
         rng: &mut Rng,
     ) -> Result<(), Disagreement> {
-        let answer = self.file(file, rng)?;
-        if (answer.number, answer.place) == (number, place) {
+        self.known_in(about, file, [answer; 2], rng)
+    }
+
+    /// The same with an answer for each mode, the strict one first.
+    pub fn known_in(
+        &mut self,
+        about: &str,
+        file: &[u8],
+        known: [(u32, u32); 2],
+        rng: &mut Rng,
+    ) -> Result<(), Disagreement> {
+        let answers = self.file(file, rng)?;
+        if answers.map(|answer| (answer.number, answer.place)) == known {
             return Ok(());
         }
-        let about = format!("{about}: both answer {answer:?}, not {number} at {place}");
+        let about = format!("{about}: both answer {answers:?}, not {known:?}");
         disagree(about, file)
     }
 
+    fn judge(&mut self, mode: Mode, file: &[u8]) -> Result<Answer, Disagreement> {
+        let answer = own(kelompuris::judge(proved(mode), file));
+        let about = format!("judge, {mode:?}");
+        self.same(&about, file, answer, reference::judge(mode, file))?;
+        Ok(answer)
+    }
+
     /// Reads with tables of these sizes.
-    fn read(&mut self, file: &[u8], sizes: [usize; 10]) -> Result<(), Disagreement> {
+    fn read(&mut self, mode: Mode, file: &[u8], sizes: [usize; 10]) -> Result<(), Disagreement> {
         self.reads += 1;
-        let (mut proved, mut plain) = (Lent::new(sizes), Lent::new(sizes));
-        let answer = own(kelompuris::read(file, &mut proved.tables()));
-        let expected = reference::read(file, &mut plain.tables());
-        let about = format!("read with {sizes:?} words");
+        let (mut lent, mut plain) = (Lent::new(sizes), Lent::new(sizes));
+        let answer = own(kelompuris::read(proved(mode), file, &mut lent.tables()));
+        let expected = reference::read(mode, file, &mut plain.tables());
+        let about = format!("read, {mode:?}, with {sizes:?} words");
         self.same(&about, file, answer, expected)?;
         for table in 0..10 {
-            let (own, other) = (&proved.words[table], &plain.words[table]);
+            let (own, other) = (&lent.words[table], &plain.words[table]);
             if let Some(at) = (0..own.len()).find(|&at| own[at] != other[at]) {
                 let (own, other) = (own[at], other[at]);
                 let at = at as isize - AROUND as isize;
@@ -105,7 +131,7 @@ impl Compared {
             }
             self.words += own.len();
         }
-        match proved.changed_outside(&answer) {
+        match lent.changed_outside(&answer) {
             None => Ok(()),
             Some(table) => disagree(format!("{about}: table {table} outside its rows"), file),
         }
@@ -135,6 +161,14 @@ impl Compared {
 pub fn disagree<T>(about: impl Into<String>, file: &[u8]) -> Result<T, Disagreement> {
     let (about, file) = (about.into(), file.to_vec());
     Err(Disagreement { about, file })
+}
+
+/// A mode for the proved functions.
+fn proved(mode: Mode) -> kelompuris::Mode {
+    match mode {
+        Mode::Strict => kelompuris::Mode::Strict,
+        Mode::Lenient => kelompuris::Mode::Lenient,
+    }
 }
 
 /// The proved answer as one of the reference.

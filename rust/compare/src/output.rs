@@ -1,19 +1,20 @@
-use crate::{disagree, Compared, Disagreement};
-use reference::Written;
+use crate::{disagree, proved, Compared, Disagreement};
+use reference::{Mode, Written};
 use scenes::sheet::ROW_WORDS;
 use scenes::{Rng, Sheet};
 
 /// A call of the writer or of the clearer, the output aside.
 #[derive(Clone, Copy)]
 pub enum Call<'a> {
-    Write(&'a Sheet),
+    Write(Mode, &'a Sheet),
     Clear(&'a [u8]),
 }
 
 impl Call<'_> {
     fn proved(&self, out: &mut [u8]) -> Written {
         let answer = match self {
-            Call::Write(sheet) => kelompuris::write(
+            Call::Write(mode, sheet) => kelompuris::write(
+                proved(*mode),
                 &sheet.slices(),
                 &sheet.counts,
                 sheet.version,
@@ -32,7 +33,8 @@ impl Call<'_> {
 
     fn plain(&self, out: &mut [u8]) -> Written {
         match self {
-            Call::Write(sheet) => reference::write(
+            Call::Write(mode, sheet) => reference::write(
+                *mode,
                 &sheet.slices(),
                 &sheet.counts,
                 sheet.version,
@@ -46,8 +48,9 @@ impl Call<'_> {
 
     fn disagree<T>(&self, about: String) -> Result<T, Disagreement> {
         match self {
-            Call::Write(sheet) => {
-                disagree(format!("write: {about}: {}", shown(sheet)), &sheet.names)
+            Call::Write(mode, sheet) => {
+                let about = format!("write, {mode:?}: {about}: {}", shown(sheet));
+                disagree(about, &sheet.names)
             }
             Call::Clear(file) => disagree(format!("clear: {about}"), file),
         }
@@ -149,12 +152,18 @@ fn pattern(at: usize) -> u8 {
     (at as u32).wrapping_mul(0x9E37_79B1).to_be_bytes()[0] ^ 0xB7
 }
 
-/// The words of a file that the proved reader accepts; the names are the file.
-pub fn sheet_of(file: &[u8]) -> Result<Sheet, Disagreement> {
-    let counts = kelompuris::judge(file).counts;
+/// The words of a file that the proved reader accepts in a mode; the names are
+/// the file.
+pub fn sheet_of(mode: Mode, file: &[u8]) -> Result<Sheet, Disagreement> {
+    let mode = proved(mode);
+    let counts = kelompuris::judge(mode, file).counts;
     let rows = |table| counts[table] as usize * ROW_WORDS[table];
     let mut tables: [Vec<u32>; 10] = std::array::from_fn(|table| vec![0; rows(table)]);
-    let answer = kelompuris::read(file, &mut tables.each_mut().map(|table| &mut table[..]));
+    let answer = kelompuris::read(
+        mode,
+        file,
+        &mut tables.each_mut().map(|table| &mut table[..]),
+    );
     if answer.number != 0 {
         return disagree(format!("read: {answer:?}"), file);
     }

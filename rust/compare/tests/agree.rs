@@ -4,6 +4,7 @@
 
 use compare::{disagree, run, Compared, Disagreement, Group};
 use scenes::change::changed;
+use scenes::colour::{outside, outside_and_cut};
 use scenes::damage::{aimed, node_of};
 use scenes::nesting::orders;
 use scenes::rows::keys;
@@ -20,10 +21,13 @@ fn worked_files(compared: &mut Compared, rng: &mut Rng) -> Result<(), Disagreeme
         compared.known(&case.about, &case.file, (case.number, case.place), rng)?;
     }
     for case in worked::counted() {
-        let answer = compared.file(&case.file, rng)?;
-        if (answer.number, answer.counts) != (0, case.counts) {
+        let answers = compared.file(&case.file, rng)?;
+        if answers
+            .iter()
+            .any(|answer| (answer.number, answer.counts) != (0, case.counts))
+        {
             return disagree(
-                format!("{}: both answer {answer:?}", case.about),
+                format!("{}: both answer {answers:?}", case.about),
                 &case.file,
             );
         }
@@ -91,6 +95,24 @@ fn generated(compared: &mut Compared, rng: &mut Rng) -> Result<(), Disagreement>
     Ok(())
 }
 
+/// Generated files with colours outside 0 to 1: refused in strict mode only. In
+/// an item that is cut they are not looked at.
+fn colours(compared: &mut Compared, rng: &mut Rng) -> Result<(), Disagreement> {
+    for _ in 0..SCENES {
+        let profile = Profile::any(rng);
+        let scene = scene(rng, profile);
+        for _ in 0..5 {
+            if let Some((file, place)) = outside(&scene, rng) {
+                compared.known_in("colours", &file, [(6, place), (0, 0)], rng)?;
+            }
+            if let Some((file, place)) = outside_and_cut(&scene, rng) {
+                compared.known("colours of a cut item", &file, (5, place), rng)?;
+            }
+        }
+    }
+    Ok(())
+}
+
 /// Generated files with one row too many, and the same with a fault behind
 /// those rows: 10 comes after all faults of the file.
 fn too_many_rows(compared: &mut Compared, rng: &mut Rng) -> Result<(), Disagreement> {
@@ -116,11 +138,12 @@ fn nesting(compared: &mut Compared, rng: &mut Rng) -> Result<(), Disagreement> {
     Ok(())
 }
 
-const GROUPS: [(&str, Group); 5] = [
+const GROUPS: [(&str, Group); 6] = [
     ("cases of paper 01", worked_files),
     ("every byte of small files", every_byte),
     ("every order of a few chunks", nesting),
     ("generated and damaged files", generated),
+    ("colours outside 0 to 1", colours),
     ("too many rows", too_many_rows),
 ];
 

@@ -3,7 +3,9 @@
 //! how often each number was met.
 
 use compare::{disagree, run, sheet_of, Call, Compared, Disagreement, Group};
+use reference::Mode;
 use scenes::change::changed;
+use scenes::colour::outside;
 use scenes::damage::aimed;
 use scenes::private::{private_change, Change, KINDS};
 use scenes::rows::file_with_rows;
@@ -11,7 +13,7 @@ use scenes::worked;
 use scenes::{scene, Profile, Rng};
 use std::process::ExitCode;
 
-/// Clears a file. If it is accepted: the copy has all words but names, is what
+/// Clears a file. If it is accepted in lenient mode: the copy has all words but names, is what
 /// the writer makes of them, and is its own copy. The answer's number and
 /// place, an output that is long enough lent.
 fn clear(compared: &mut Compared, file: &[u8], rng: &mut Rng) -> Result<(u32, u32), Disagreement> {
@@ -20,14 +22,14 @@ fn clear(compared: &mut Compared, file: &[u8], rng: &mut Rng) -> Result<(u32, u3
         Ok(copy) => copy,
         Err(refusal) => return Ok((refusal.number, refusal.place)),
     };
-    let bare = sheet_of(file)?.without_names();
+    let bare = sheet_of(Mode::Lenient, file)?.without_names();
     if copy.len() > file.len() {
         return disagree("a copy longer than the file", file);
     }
-    if !sheet_of(&copy)?.same_but_name_places(&bare) {
+    if !sheet_of(Mode::Lenient, &copy)?.same_but_name_places(&bare) {
         return disagree("a copy with other words or with names", file);
     }
-    if compared.written(Call::Write(&bare), rng)? != copy {
+    if compared.written(Call::Write(Mode::Lenient, &bare), rng)? != copy {
         return disagree("a copy other than the writer's", file);
     }
     match compared.written(Call::Clear(&copy), rng)? == copy {
@@ -108,6 +110,9 @@ fn generated(compared: &mut Compared, rng: &mut Rng) -> Result<(), Disagreement>
         let profile = Profile::any(rng);
         let scene = scene(rng, profile);
         known(compared, "generated", &scene.file, (0, 0), rng)?;
+        if let Some((file, _)) = outside(&scene, rng) {
+            known(compared, "colours outside 0 to 1", &file, (0, 0), rng)?;
+        }
         for damaged in aimed(&scene, rng) {
             let answer = (damaged.number, damaged.place);
             known(compared, damaged.aim, &damaged.file, answer, rng)?;

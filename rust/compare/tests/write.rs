@@ -2,31 +2,52 @@
 //! files, as read and damaged, and prints how often each number was met.
 
 use compare::{disagree, run, sheet_of, Call, Compared, Disagreement, Group};
+use reference::Mode;
+use scenes::colour::outside;
 use scenes::words::{each_cell, each_header_word, each_name_byte, each_slice_length, reshaped};
 use scenes::worked;
 use scenes::{scene, Profile, Rng, Sheet};
 use std::process::ExitCode;
 
-/// Files read and written, and read again: the same words and names. Where the
-/// names stand does not matter, and a file written is written as itself.
+const MODES: [Mode; 2] = [Mode::Strict, Mode::Lenient];
+
+/// Files read and written, and read again, in both modes: the same words and
+/// names. Where the names stand does not matter, and a file written is written
+/// as itself. With a colour outside 0 to 1 the strict writer answers 12.
 fn read_and_written(compared: &mut Compared, rng: &mut Rng) -> Result<(), Disagreement> {
     for _ in 0..2000 {
         let profile = Profile::any(rng);
-        read_and_write(compared, &scene(rng, profile).file, rng)?;
+        let scene = scene(rng, profile);
+        for mode in MODES {
+            read_and_write(compared, mode, &scene.file, rng)?;
+        }
+        if let Some((file, _)) = outside(&scene, rng) {
+            read_and_write(compared, Mode::Lenient, &file, rng)?;
+            let sheet = sheet_of(Mode::Lenient, &file)?;
+            match compared.call(Call::Write(Mode::Strict, &sheet), rng)? {
+                Err(refusal) if (refusal.number, refusal.place) == (12, 0) => {}
+                given => return disagree(format!("strict: {:?}", given.err()), &file),
+            }
+        }
     }
     for case in worked::cases() {
         if case.number == 0 {
-            read_and_write(compared, &case.file, rng)?;
+            read_and_write(compared, Mode::Strict, &case.file, rng)?;
         }
     }
     Ok(())
 }
 
-fn read_and_write(compared: &mut Compared, file: &[u8], rng: &mut Rng) -> Result<(), Disagreement> {
+fn read_and_write(
+    compared: &mut Compared,
+    mode: Mode,
+    file: &[u8],
+    rng: &mut Rng,
+) -> Result<(), Disagreement> {
     compared.files += 1;
-    let sheet = sheet_of(file)?;
-    let written = compared.written(Call::Write(&sheet), rng)?;
-    let again = sheet_of(&written)?;
+    let sheet = sheet_of(mode, file)?;
+    let written = compared.written(Call::Write(mode, &sheet), rng)?;
+    let again = sheet_of(mode, &written)?;
     if written.len() > file.len() {
         return disagree("longer than the file read", file);
     }
@@ -34,7 +55,7 @@ fn read_and_write(compared: &mut Compared, file: &[u8], rng: &mut Rng) -> Result
         return disagree("other words or names after writing", file);
     }
     for same in [&sheet.with_own_names(), &again] {
-        if compared.written(Call::Write(same), rng)? != written {
+        if compared.written(Call::Write(mode, same), rng)? != written {
             return disagree("other bytes with the names elsewhere", file);
         }
     }
@@ -50,7 +71,7 @@ fn small(rng: &mut Rng) -> Sheet {
     }
 }
 
-/// Writes all tables that `each` shows.
+/// Writes all tables that `each` shows, in both modes.
 fn write_each(
     compared: &mut Compared,
     rng: &mut Rng,
@@ -59,9 +80,11 @@ fn write_each(
     let mut sizes = rng.clone();
     let mut result = Ok(());
     each(rng, &mut |sheet| {
-        if result.is_ok() {
-            let called = compared.call(Call::Write(sheet), &mut sizes);
-            result = called.map(drop);
+        for mode in MODES {
+            if result.is_ok() {
+                let called = compared.call(Call::Write(mode, sheet), &mut sizes);
+                result = called.map(drop);
+            }
         }
     });
     result
@@ -137,7 +160,7 @@ fn limits(compared: &mut Compared, rng: &mut Rng) -> Result<(), Disagreement> {
         (nodes(16_384, 3), None),
     ];
     for (sheet, size) in cases {
-        let written = compared.call(Call::Write(&sheet), rng)?;
+        let written = compared.call(Call::Write(Mode::Strict, &sheet), rng)?;
         if written.ok().map(|bytes| bytes.len()) != size {
             return disagree(format!("not of size {size:?}"), &sheet.names);
         }

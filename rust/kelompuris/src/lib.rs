@@ -1,6 +1,14 @@
 //! Safe Rust over the proved functions of `libkelompuris_c.a`. The rules of
 //! each stand in `include/kelompuris.h`.
 
+/// Whether a red, green, blue or alpha outside 0 to 1 is refused.
+#[repr(u32)]
+#[derive(Clone, Copy, Debug, PartialEq, Eq)]
+pub enum Mode {
+    Strict = 0,
+    Lenient = 1,
+}
+
 /// What a file is answered. All but number and place are 0 on refusal.
 #[repr(C)]
 #[derive(Clone, Copy, Debug, Default, PartialEq, Eq)]
@@ -23,10 +31,10 @@ pub struct Written {
 
 #[rustfmt::skip]
 extern "C" {
-    fn kelompuris_b3d_judge(file: *const u8, file_len: usize) -> Answer;
+    fn kelompuris_b3d_judge(mode: u32, file: *const u8, file_len: usize) -> Answer;
 
     fn kelompuris_b3d_read(
-        file: *const u8, file_len: usize,
+        mode: u32, file: *const u8, file_len: usize,
         t1: *mut u32, t1_len: usize, t2: *mut u32, t2_len: usize,
         t3: *mut u32, t3_len: usize, t4: *mut u32, t4_len: usize,
         t5: *mut u32, t5_len: usize, t6: *mut u32, t6_len: usize,
@@ -35,6 +43,7 @@ extern "C" {
     ) -> Answer;
 
     fn kelompuris_b3d_write(
+        mode: u32,
         t1: *const u32, t1_len: usize, t2: *const u32, t2_len: usize,
         t3: *const u32, t3_len: usize, t4: *const u32, t4_len: usize,
         t5: *const u32, t5_len: usize, t6: *const u32, t6_len: usize,
@@ -50,20 +59,20 @@ extern "C" {
 }
 
 /// Judges a file without tables: refusals 1 to 10.
-pub fn judge(file: &[u8]) -> Answer {
+pub fn judge(mode: Mode, file: &[u8]) -> Answer {
     // SAFETY: the pointer holds for the length, and nothing is written.
-    unsafe { kelompuris_b3d_judge(file.as_ptr(), file.len()) }
+    unsafe { kelompuris_b3d_judge(mode as u32, file.as_ptr(), file.len()) }
 }
 
 /// Reads a file into lent tables: refusals 1 to 11. A refused call changes no
 /// word, and words past the last row stay as they were.
 #[rustfmt::skip]
-pub fn read(file: &[u8], tables: &mut [&mut [u32]; 10]) -> Answer {
+pub fn read(mode: Mode, file: &[u8], tables: &mut [&mut [u32]; 10]) -> Answer {
     let [t1, t2, t3, t4, t5, t6, t7, t8, t9, t10] = tables;
     // SAFETY: each pointer holds for its length, and the borrows are apart.
     unsafe {
         kelompuris_b3d_read(
-            file.as_ptr(), file.len(),
+            mode as u32, file.as_ptr(), file.len(),
             t1.as_mut_ptr(), t1.len(), t2.as_mut_ptr(), t2.len(),
             t3.as_mut_ptr(), t3.len(), t4.as_mut_ptr(), t4.len(),
             t5.as_mut_ptr(), t5.len(), t6.as_mut_ptr(), t6.len(),
@@ -77,6 +86,7 @@ pub fn read(file: &[u8], tables: &mut [&mut [u32]; 10]) -> Answer {
 /// changes no byte, and bytes past the size stay as they were.
 #[rustfmt::skip]
 pub fn write(
+    mode: Mode,
     tables: &[&[u32]; 10],
     counts: &[u32; 10],
     version: u32,
@@ -89,6 +99,7 @@ pub fn write(
     // output is written, and its borrow is apart from the others.
     unsafe {
         kelompuris_b3d_write(
+            mode as u32,
             t1.as_ptr(), t1.len(), t2.as_ptr(), t2.len(),
             t3.as_ptr(), t3.len(), t4.as_ptr(), t4.len(),
             t5.as_ptr(), t5.len(), t6.as_ptr(), t6.len(),
@@ -100,7 +111,7 @@ pub fn write(
     }
 }
 
-/// Copies a file without names: refusals 1 to 10, then 11. A refused call
+/// Copies a file without names: refusals 1 to 10 of the lenient mode, then 11. A refused call
 /// changes no byte, and bytes past the size stay as they were.
 pub fn clear(file: &[u8], out: &mut [u8]) -> Written {
     // SAFETY: each pointer holds for its length, and the borrows are apart.

@@ -4,7 +4,7 @@
 //!
 //! Reading: `parse` makes a `scene` (refusals 1 to 9), `tables` counts its rows
 //! (10) and fills them. Writing: `soundness` judges lent tables (12), `encode`
-//! makes the bytes.
+//! makes the bytes. Reader and writer take a mode: whether colours are judged.
 
 mod chunks;
 mod encode;
@@ -26,6 +26,13 @@ use refusal::{Refusal, SHORT, UNSOUND};
 
 pub use lister::list;
 
+/// Whether a red, green, blue or alpha outside 0 to 1 is refused.
+#[derive(Clone, Copy, Debug, PartialEq, Eq)]
+pub enum Mode {
+    Strict,
+    Lenient,
+}
+
 /// The reader's answer. All but number and place are 0 on refusal.
 #[derive(Clone, Copy, Debug, Default, PartialEq, Eq)]
 pub struct Answer {
@@ -45,8 +52,8 @@ pub struct Written {
 }
 
 /// Judges a file without tables: refusals 1 to 10.
-pub fn judge(file: &[u8]) -> Answer {
-    match accept(file) {
+pub fn judge(mode: Mode, file: &[u8]) -> Answer {
+    match accept(mode, file) {
         Ok(accepted) => accepted.answer(),
         Err(refusal) => refused_file(refusal),
     }
@@ -54,8 +61,8 @@ pub fn judge(file: &[u8]) -> Answer {
 
 /// Reads a file to lent tables: refusals 1 to 11. A refused call changes no
 /// word, and words past the last row stay as found.
-pub fn read(file: &[u8], tables: &mut [&mut [u32]; 10]) -> Answer {
-    let accepted = match accept(file) {
+pub fn read(mode: Mode, file: &[u8], tables: &mut [&mut [u32]; 10]) -> Answer {
+    let accepted = match accept(mode, file) {
         Ok(accepted) => accepted,
         Err(refusal) => return refused_file(refusal),
     };
@@ -76,6 +83,7 @@ pub fn read(file: &[u8], tables: &mut [&mut [u32]; 10]) -> Answer {
 /// Writes tables as the shortest file: refusals 12, then 11. A refused call
 /// changes no byte, and bytes past the size stay as found.
 pub fn write(
+    mode: Mode,
     tables: &[&[u32]; 10],
     counts: &[u32; 10],
     version: u32,
@@ -86,7 +94,7 @@ pub fn write(
     let Some(lent) = Lent::new(*tables, counts, version, n_texs, names) else {
         return refused_output(UNSOUND, 0);
     };
-    let Some(size) = soundness::sound_size(&lent) else {
+    let Some(size) = soundness::sound_size(mode, &lent) else {
         return refused_output(UNSOUND, 0);
     };
     if out.len() < size {
@@ -95,9 +103,9 @@ pub fn write(
     put(&encode::encode(&lent), out)
 }
 
-/// Copies a file without names: refusals 1 to 10, then 11.
+/// Copies a file without names: refusals 1 to 10 of the lenient mode, then 11.
 pub fn clear(file: &[u8], out: &mut [u8]) -> Written {
-    let accepted = match accept(file) {
+    let accepted = match accept(Mode::Lenient, file) {
         Ok(accepted) => accepted,
         Err(refusal) => return refused_output(refusal.number, refusal.place),
     };
@@ -117,8 +125,8 @@ struct Accepted {
 }
 
 /// The words of a file without faults 1 to 10, else the first fault.
-fn accept(file: &[u8]) -> Result<Accepted, Refusal> {
-    let scene = parse::parse(file)?;
+fn accept(mode: Mode, file: &[u8]) -> Result<Accepted, Refusal> {
+    let scene = parse::parse(mode, file)?;
     let counts = tables::limited_counts(&scene)?;
     // n_texs is 0 if there is no brush.
     let n_texs = match counts[BRUSHES] {

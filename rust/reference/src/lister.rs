@@ -2,14 +2,14 @@
 
 use crate::limits::{LARGEST_LISTED, NODES, ROW_WORDS};
 use crate::refusal::{Refusal, FILE_SIZE};
-use crate::{accept, Accepted};
+use crate::{accept, Accepted, Mode};
 
 /// The lines for this standard input.
 pub fn list(file: &[u8]) -> Vec<u8> {
     if file.len() > LARGEST_LISTED {
         return numbers(&[FILE_SIZE, 0]);
     }
-    match accept(file) {
+    match accept(Mode::Strict, file) {
         Ok(accepted) => listing(file, &accepted),
         Err(Refusal { number, place }) => numbers(&[number, place as u32]),
     }

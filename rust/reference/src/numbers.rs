@@ -3,6 +3,7 @@
 use crate::limits::NONE;
 use crate::refusal::{refuse, Refusal, CUT, ID, RANGE};
 use crate::scene::{Items, Name};
+use crate::Mode;
 
 /// The four bytes at `place`, little endian.
 pub fn word(file: &[u8], place: usize) -> u32 {
@@ -44,6 +45,23 @@ pub fn id_or_none(file: &[u8], place: usize, count: usize) -> Result<u32, Refusa
         return Ok(NONE);
     }
     id(file, place, count)
+}
+
+/// Red, green, blue and alpha from `place` on: in strict mode 6 at the first
+/// that is not a number or lies outside 0 to 1.
+pub fn colours(mode: Mode, file: &[u8], place: usize) -> Result<(), Refusal> {
+    for at in [place, place + 4, place + 8, place + 12] {
+        if mode == Mode::Strict && !colour(word(file, at)) {
+            return refuse(RANGE, at);
+        }
+    }
+    Ok(())
+}
+
+/// As bits, 0 to 0x3F800000 (1.0) and 0x80000000 (minus zero) pass and nothing
+/// else does.
+pub fn colour(bits: u32) -> bool {
+    matches!(bits, 0..=0x3F80_0000 | 0x8000_0000)
 }
 
 /// 5 at `start` unless `size` bytes from `start` on end by `end`.

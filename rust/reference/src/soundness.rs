@@ -1,14 +1,17 @@
-//! Whether an accepted file has the lent tables, name places aside (12).
+//! Whether a file that a mode accepts has the lent tables, name places aside
+//! (12).
 //! Counts against limits and slices are judged by `Lent::new`.
 
 use crate::layout::{key_cells, vertex_cells};
 use crate::lent::{Lent, MeshRow};
 use crate::limits::*;
+use crate::numbers::colour;
 use crate::size::shortest_file;
+use crate::Mode;
 
 /// The size of the shortest file with these tables, or none if there is no
 /// such file.
-pub fn sound_size(lent: &Lent) -> Option<usize> {
+pub fn sound_size(mode: Mode, lent: &Lent) -> Option<usize> {
     let sound = header_numbers(lent)
         && brush_slots(lent)
         && node_order(lent)
@@ -17,7 +20,8 @@ pub fn sound_size(lent: &Lent) -> Option<usize> {
         && meshes(lent)
         && triangle_sets(lent)
         && weights(lent)
-        && key_lists(lent);
+        && key_lists(lent)
+        && (mode == Mode::Lenient || colours(lent));
     if !sound {
         return None;
     }
@@ -48,6 +52,14 @@ fn brush_slots(lent: &Lent) -> bool {
             .all(|&id| names_row_or_none(id, lent.count(TEXTURES)))
             && unused.iter().all(|&slot| slot == NONE)
     })
+}
+
+/// Red, green, blue and alpha of brushes, and of vertices (0 for those that
+/// have none), lie from 0 to 1.
+fn colours(lent: &Lent) -> bool {
+    let pass = |cells: &[u32]| cells.iter().all(|&bits| colour(bits));
+    lent.rows(BRUSHES).all(|row| pass(&row[2..6]))
+        && lent.rows(VERTICES).all(|row| pass(&row[6..10]))
 }
 
 /// Row 0 is the root, with parent NONE. Each other node follows its parent

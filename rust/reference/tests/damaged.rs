@@ -4,7 +4,7 @@
 mod common;
 
 use common::*;
-use reference::{judge, list};
+use reference::{judge, list, Mode};
 use scenes::change::changed;
 use scenes::damage::aimed;
 use scenes::{scene, Profile, Rng};
@@ -37,12 +37,15 @@ fn random_changes() {
         let scene = scene(&mut rng, profile);
         for _ in 0..10 {
             let file = changed(&scene, &mut rng);
-            let answer = judge(&file);
-            met[answer.number as usize] += 1;
-            match answer.number {
-                0 => assert_accepted(&file),
-                number => assert_refused(&file, number, answer.place, "changed"),
+            for mode in MODES {
+                let answer = judge(mode, &file);
+                met[answer.number as usize] += 1;
+                match answer.number {
+                    0 => assert_accepted(mode, &file),
+                    number => assert_refused_in(mode, &file, number, answer.place, "changed"),
+                }
             }
+            check_clearing(&file);
             check_listing(&file);
         }
     }
@@ -51,19 +54,34 @@ fn random_changes() {
     assert!(met[0] > 1000, "{met:?}");
 }
 
-/// A changed file that is accepted can be written and cleared.
-fn assert_accepted(file: &[u8]) {
-    let sheet = sheet_of(file);
-    let written = written(&sheet, file.len());
-    assert!(sheet_of(&written).same_but_name_places(&sheet));
+/// A changed file that is accepted can be written.
+fn assert_accepted(mode: Mode, file: &[u8]) {
+    let sheet = sheet_in(mode, file);
+    let written = accepted_bytes(write_in(mode, &sheet, file.len()));
+    assert!(sheet_in(mode, &written).same_but_name_places(&sheet));
+}
+
+/// The clearer refuses what the lenient mode refuses, and copies the rest.
+fn check_clearing(file: &[u8]) {
+    let answer = judge(Mode::Lenient, file);
+    if answer.number != 0 {
+        let (refused, out) = clear_to(file, 64);
+        assert_eq!(
+            (refused.number, refused.place),
+            (answer.number, answer.place)
+        );
+        assert!(untouched(&out));
+        return;
+    }
     let copy = cleared(file);
-    assert!(sheet_of(&copy).same_but_name_places(&sheet.without_names()));
+    let bare = sheet_in(Mode::Lenient, file).without_names();
+    assert!(sheet_in(Mode::Lenient, &copy).same_but_name_places(&bare));
     assert_eq!(cleared(&copy), copy);
 }
 
 /// The first line agrees with the judge, and there is a line for each node.
 fn check_listing(file: &[u8]) {
-    let answer = judge(file);
+    let answer = judge(Mode::Strict, file);
     let listing = String::from_utf8(list(file)).expect("printable");
     let lines: Vec<&str> = listing.lines().collect();
     if file.len() > 65_536 {

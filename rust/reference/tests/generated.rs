@@ -3,7 +3,7 @@
 mod common;
 
 use common::*;
-use reference::{judge, Written};
+use reference::{judge, Mode, Written};
 use scenes::private::private_change;
 use scenes::{scene, Profile, Rng, Scene};
 
@@ -86,7 +86,7 @@ fn private_parts_do_not_show_in_the_copy() {
     let mut differing = 0;
     each_scene(5, 2000, |scene, rng| {
         let other = private_change(&scene.tree, rng);
-        assert_eq!(judge(&other).number, 0);
+        assert_eq!(judge(Mode::Strict, &other).number, 0);
         assert_eq!(cleared(&other), cleared(&scene.file));
         differing += usize::from(other != scene.file);
     });

@@ -2,7 +2,7 @@
 //! independent reader to the page: its table, over every order of a few
 //! chunks, and its examples.
 
-use reference::judge;
+use reference::{judge, Mode};
 use scenes::chunk::KNOWN;
 use scenes::nesting::{order, orders, Order};
 use std::collections::HashMap;
@@ -213,7 +213,7 @@ fn every_order_is_judged_by_the_page() {
     let table = page();
     let mut met = [0; 9];
     for order in orders(4) {
-        let answer = judge(&order.file);
+        let answer = judge(Mode::Strict, &order.file);
         let found = (answer.number, answer.place);
         assert_eq!(
             found,
@@ -247,7 +247,7 @@ fn the_examples_of_the_page_hold() {
             ),
             _ => panic!("answer {says}"),
         };
-        let answer = judge(&order.file);
+        let answer = judge(Mode::Strict, &order.file);
         assert_eq!((answer.number, answer.place), expected, "{row:?}");
     }
 }

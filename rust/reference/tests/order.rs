@@ -3,7 +3,7 @@
 mod common;
 
 use common::*;
-use reference::judge;
+use reference::{judge, Mode};
 use scenes::chunk::Chunk;
 use scenes::damage::{file_of, node_of};
 
@@ -54,7 +54,7 @@ const INSIDE: u32 = 61;
 const INSIDE_MESH: u32 = INSIDE + 12;
 
 fn assert_accepted(file: &[u8]) {
-    let answer = judge(file);
+    let answer = judge(Mode::Strict, file);
     assert_eq!((answer.number, answer.place), (0, 0));
 }
 
@@ -210,8 +210,8 @@ fn top_order() {
 #[test]
 fn brus_without_items() {
     let file = |n_texs| file_of(vec![of_words(b"BRUS", &[n_texs])]).bytes();
-    assert_eq!(judge(&file(8)).number, 0);
-    assert_eq!(judge(&file(8)).n_texs, 0);
+    assert_eq!(judge(Mode::Strict, &file(8)).number, 0);
+    assert_eq!(judge(Mode::Strict, &file(8)).n_texs, 0);
     assert_refused(&file(9), 6, 20, "n_texs");
     assert_refused(&file(NONE), 6, 20, "n_texs");
     let empty = file_of(vec![Chunk::new(b"BRUS")]).bytes();
@@ -265,7 +265,7 @@ fn firsts_of_empty_lists() {
 #[test]
 fn short_tables_lowest_first() {
     let file = root(vec![mesh(), keys()]);
-    let full = sizes(&judge(&file).counts);
+    let full = sizes(&judge(Mode::Strict, &file).counts);
     for table in 0..10 {
         for lower in 0..=table {
             let mut size = full;

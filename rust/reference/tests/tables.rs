@@ -5,7 +5,7 @@
 mod common;
 
 use common::*;
-use reference::{judge, Written};
+use reference::{judge, Mode, Written};
 use scenes::rebuild::rebuild;
 use scenes::words::{each_cell, each_header_word, each_name_byte, reshaped};
 use scenes::{scene, Profile, Rng, Sheet};
@@ -16,13 +16,14 @@ const UNSOUND: Written = Written {
     size: 0,
 };
 
-/// The file that the writer must make of these tables, if they are sound.
-fn expected(sheet: &Sheet) -> Option<Vec<u8>> {
+/// The file that the writer must make of these tables, if they are sound in a
+/// mode.
+fn expected(mode: Mode, sheet: &Sheet) -> Option<Vec<u8>> {
     let file = rebuild(sheet)?;
-    if judge(&file).number != 0 {
+    if judge(mode, &file).number != 0 {
         return None;
     }
-    match sheet_of(&file).same_but_name_places(sheet) {
+    match sheet_in(mode, &file).same_but_name_places(sheet) {
         true => Some(file),
         false => None,
     }
@@ -36,19 +37,26 @@ struct Found {
 }
 
 impl Found {
-    /// Checks the writer against the rebuilt file.
+    /// Checks the writer against the rebuilt file, in both modes.
     fn check(&mut self, sheet: &Sheet) {
-        match expected(sheet) {
+        for mode in MODES {
+            self.check_in(mode, sheet);
+        }
+    }
+
+    fn check_in(&mut self, mode: Mode, sheet: &Sheet) {
+        match expected(mode, sheet) {
             Some(file) => {
-                assert_eq!(written(sheet, file.len() + SPARE), file);
-                let (answer, out) = write_to(sheet, file.len() - 1);
+                let bytes = accepted_bytes(write_in(mode, sheet, file.len() + SPARE));
+                assert_eq!(bytes, file);
+                let (answer, out) = write_in(mode, sheet, file.len() - 1);
                 assert_eq!((answer.number, answer.place), (11, file.len() as u32));
                 assert!(untouched(&out));
                 self.sound += 1;
             }
             None => {
                 for size in [0, 4000] {
-                    let (answer, out) = write_to(sheet, size);
+                    let (answer, out) = write_in(mode, sheet, size);
                     assert_eq!(answer, UNSOUND, "{sheet:?}");
                     assert!(untouched(&out));
                 }
@@ -139,7 +147,7 @@ fn size_limit_of_the_written_file() {
     let sheet = long_name(longest);
     let file = written(&sheet, 16_777_216);
     assert_eq!(file.len(), 16_777_216);
-    assert_eq!(judge(&file).number, 0);
+    assert_eq!(judge(Mode::Strict, &file).number, 0);
     let (answer, _) = write_to(&long_name(longest + 1), 16_777_217);
     assert_eq!(answer, UNSOUND);
     let (answer, _) = write_to(&sheet, 16_777_215);

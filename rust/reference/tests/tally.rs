@@ -3,7 +3,7 @@
 mod common;
 
 use common::*;
-use reference::judge;
+use reference::{judge, Mode};
 use scenes::change::changed;
 use scenes::damage::{aimed, too_large};
 use scenes::rows::file_with_rows;
@@ -20,9 +20,9 @@ fn every_number_is_met() {
         files(&scene, &mut rng, &mut met);
         tables(&scene, &mut rng, &mut met);
     }
-    met[judge(&too_large().file).number as usize] += 1;
+    met[judge(Mode::Strict, &too_large().file).number as usize] += 1;
     for table in 1..=10 {
-        met[judge(&file_with_rows(table, 16_384)).number as usize] += 1;
+        met[judge(Mode::Strict, &file_with_rows(table, 16_384)).number as usize] += 1;
     }
     for (number, count) in met.iter().enumerate() {
         println!("{number:2}: {count}");

@@ -3,7 +3,7 @@
 mod common;
 
 use common::*;
-use reference::{clear, judge, list, Written};
+use reference::{clear, judge, list, Mode, Written};
 use scenes::chunk::Chunk;
 use scenes::damage::file_of;
 use scenes::rows::file_with_rows;
@@ -15,7 +15,7 @@ const NONE: u32 = 0xFFFF_FFFF;
 fn cases_of_paper_01() {
     for case in cases() {
         match case.number {
-            0 => assert_eq!(judge(&case.file).number, 0, "{}", case.about),
+            0 => assert_eq!(judge(Mode::Strict, &case.file).number, 0, "{}", case.about),
             number => assert_refused(&case.file, number, case.place, &case.about),
         }
     }
@@ -24,7 +24,7 @@ fn cases_of_paper_01() {
 #[test]
 fn counts_at_the_row_limit() {
     for table in 1..=10 {
-        let answer = judge(&file_with_rows(table, 16_383));
+        let answer = judge(Mode::Strict, &file_with_rows(table, 16_383));
         assert_eq!(answer.counts[table - 1], 16_383, "table {table}");
     }
 }
@@ -32,7 +32,12 @@ fn counts_at_the_row_limit() {
 #[test]
 fn counts_and_copies_by_hand() {
     for case in counted() {
-        assert_eq!(judge(&case.file).counts, case.counts, "{}", case.about);
+        assert_eq!(
+            judge(Mode::Strict, &case.file).counts,
+            case.counts,
+            "{}",
+            case.about
+        );
         assert_eq!(cleared(&case.file).len(), case.copy, "{}", case.about);
     }
 }
@@ -44,7 +49,7 @@ fn sizes_of_the_files() {
 
 #[test]
 fn p_has_no_rows() {
-    let answer = judge(&p());
+    let answer = judge(Mode::Strict, &p());
     assert_eq!((answer.number, answer.place), (0, 0));
     assert_eq!((answer.version, answer.n_texs), (1, 0));
     assert_eq!(answer.counts, [0; 10]);
@@ -106,7 +111,7 @@ fn t_and_its_tables() {
 
 #[test]
 fn depth() {
-    assert_eq!(judge(&chain(16)).counts[2], 16);
+    assert_eq!(judge(Mode::Strict, &chain(16)).counts[2], 16);
 }
 
 #[test]
@@ -143,6 +148,6 @@ fn longest_listing() {
     let (largest, larger) = (size(65_536 - 20), size(65_537 - 20));
     assert_eq!((largest.len(), larger.len()), (65_536, 65_537));
     assert_eq!(list(&largest), b"0 0\n1 0\n0 0 0 0 0 0 0 0 0 0\n");
-    assert_eq!(judge(&larger).number, 0);
+    assert_eq!(judge(Mode::Strict, &larger).number, 0);
     assert_eq!(list(&larger), b"1 0\n");
 }

@@ -2,6 +2,7 @@
 //! refused, at times for more than one fault. For comparing readers.
 
 use crate::chunk::{Chunk, KNOWN};
+use crate::colour::OUTSIDE;
 use crate::damage::AIMS;
 use crate::make::{unknown, Scene};
 use crate::rng::Rng;
@@ -52,7 +53,7 @@ pub fn other_word(old: u32, rng: &mut Rng) -> u32 {
     }
 }
 
-/// A length, a ranged number or an id of one chunk changed.
+/// A length, a ranged number, an id or a colour of one chunk changed.
 pub fn marked_change(tree: &Chunk, rng: &mut Rng) -> Chunk {
     let mut tree = tree.clone();
     let mut spots = tree.spots();
@@ -60,6 +61,7 @@ pub fn marked_change(tree: &Chunk, rng: &mut Rng) -> Chunk {
     let chunk = tree.at_mut(&spot.path);
     let mut numbers: Vec<usize> = chunk.ranged.iter().map(|&(at, _)| at).collect();
     numbers.extend(chunk.ids.iter().map(|id| id.at));
+    numbers.extend(&chunk.colours);
     if numbers.is_empty() || rng.percent(30) {
         let length = chunk.body_size() as u32;
         chunk.wrong_length = Some(other_word(length, rng));
@@ -67,7 +69,11 @@ pub fn marked_change(tree: &Chunk, rng: &mut Rng) -> Chunk {
     }
     let at = rng.pick(&numbers);
     let old = [0, 1, 2, 3].map(|i| chunk.data[at + i]);
-    chunk.set_word(at, other_word(u32::from_le_bytes(old), rng));
+    let new = match chunk.colours.contains(&at) && rng.percent(50) {
+        true => rng.pick(&OUTSIDE),
+        false => other_word(u32::from_le_bytes(old), rng),
+    };
+    chunk.set_word(at, new);
     tree
 }
 
@@ -150,5 +156,6 @@ fn marks_hold(tree: &Chunk) -> bool {
     let ranged = tree.ranged.iter().all(|&(at, _)| at + 4 <= tree.data.len());
     let ids = tree.ids.iter().all(|id| id.at + 4 <= tree.data.len());
     let pieces = tree.pieces.iter().all(|&at| at < tree.data.len());
-    ranged && ids && pieces && tree.chunks.iter().all(marks_hold)
+    let colours = tree.colours.iter().all(|&at| at + 4 <= tree.data.len());
+    ranged && ids && colours && pieces && tree.chunks.iter().all(marks_hold)
 }

@@ -39,6 +39,8 @@ pub struct Chunk {
     /// Numbers with a range: where, and the highest.
     pub ranged: Vec<(usize, u32)>,
     pub ids: Vec<Id>,
+    /// Where colours stand.
+    pub colours: Vec<usize>,
 }
 
 impl Chunk {
@@ -90,6 +92,14 @@ impl Chunk {
     /// Adds numbers.
     pub fn words(&mut self, words: &[u32]) {
         for &word in words {
+            self.word(word);
+        }
+    }
+
+    /// Adds colours.
+    pub fn coloured(&mut self, words: &[u32]) {
+        for &word in words {
+            self.colours.push(self.data.len());
             self.word(word);
         }
     }

@@ -3,6 +3,7 @@
 //!
 //! - `make`: random valid files with the words that a reader must give.
 //! - `damage`: files with one fault, and the refusal that it must bring.
+//! - `colour`: colours on and near the limits of the strict mode.
 //! - `change`: files changed without regard to the outcome.
 //! - `rows`: files with a given number of rows in one table.
 //! - `nesting`: known chunks in any order inside one chunk.
@@ -13,6 +14,7 @@
 
 pub mod change;
 pub mod chunk;
+pub mod colour;
 pub mod damage;
 pub mod make;
 pub mod nesting;

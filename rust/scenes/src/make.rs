@@ -197,6 +197,10 @@ impl Maker<'_> {
         (0..count).map(|_| self.rng.float()).collect()
     }
 
+    fn colours(&mut self) -> [u32; 4] {
+        std::array::from_fn(|_| self.rng.colour())
+    }
+
     /// Puts unknown chunks between the known ones.
     fn mixed(&mut self, known: Vec<Chunk>) -> Vec<Chunk> {
         let mut chunks = Vec::new();
@@ -269,15 +273,16 @@ impl Maker<'_> {
 
     fn brush(&mut self, chunk: &mut Chunk, n_texs: usize, textures: u32) {
         let name = name(self.rng);
-        let floats = self.floats(5);
+        let colours = self.colours();
+        let shininess = self.rng.float();
         let (blend, fx) = (self.rng.pick(&[0, 1, 3]), self.rng.word());
         chunk.begin_item();
         chunk.name(&name);
-        chunk.words(&floats);
-        chunk.words(&[blend, fx]);
+        chunk.coloured(&colours);
+        chunk.words(&[shininess, blend, fx]);
         let mut row = vec![0, name.len() as u32];
-        row.extend(floats);
-        row.extend([blend, fx]);
+        row.extend(colours);
+        row.extend([shininess, blend, fx]);
         for _ in 0..n_texs {
             let id = self.id_or_none(textures);
             chunk.id_or_none(id, textures);
@@ -394,6 +399,7 @@ impl Maker<'_> {
         for _ in 0..self.rng.between(0, self.profile.vertices) {
             chunk.begin_item();
             let mut row = self.floats(42);
+            row[6..10].copy_from_slice(&self.colours());
             if flags & 1 == 0 {
                 row[3..6].fill(0);
             }
@@ -405,7 +411,7 @@ impl Maker<'_> {
                 chunk.words(&row[3..6]);
             }
             if flags & 2 == 2 {
-                chunk.words(&row[6..10]);
+                chunk.coloured(&row[6..10]);
             }
             for (set, words) in row[10..].chunks_mut(4).enumerate() {
                 let used = match set < sets as usize {

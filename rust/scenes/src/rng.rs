@@ -1,6 +1,8 @@
 //! A small generator of pseudo random numbers (splitmix64). The same seed
 //! gives the same numbers on every machine.
 
+use crate::colour::INSIDE;
+
 /// The state of the generator.
 #[derive(Clone, Debug)]
 pub struct Rng {
@@ -54,6 +56,15 @@ impl Rng {
     /// `count` bytes of any value.
     pub fn bytes(&mut self, count: usize) -> Vec<u8> {
         (0..count).map(|_| self.byte()).collect()
+    }
+
+    /// The bits of a colour from 0 to 1, minus zero too.
+    pub fn colour(&mut self) -> u32 {
+        match self.below(3) {
+            0 => self.pick(&INSIDE),
+            1 => self.below(0x3F80_0001) as u32,
+            _ => (self.below(1001) as f32 / 1000.0).to_bits(),
+        }
     }
 
     /// The bits of a float: often plain values, also zeros of both signs,

@@ -42,6 +42,24 @@ fn file_with_two(table: usize, rows: usize, more: Option<Chunk>) -> Vec<u8> {
     file_of(top).bytes()
 }
 
+/// A file with a mesh of this many vertices with normal, colour and one set of
+/// two coordinates.
+pub fn file_with_colours(vertices: usize) -> Vec<u8> {
+    let mut vrts = Chunk::new(b"VRTS");
+    vrts.words(&[3, 1, 2]);
+    for _ in 0..vertices {
+        vrts.words(&[0; 6]);
+        vrts.coloured(&[0x3F80_0000, 0x3F00_0000, 0, 0x3F80_0000]);
+        vrts.words(&[0; 2]);
+    }
+    let mut tris = Chunk::new(b"TRIS");
+    tris.word(MINUS_ONE);
+    let mut chunk = Chunk::new(b"MESH");
+    chunk.word(MINUS_ONE);
+    chunk.chunks = vec![vrts, tris];
+    file_of(vec![node_of(vec![chunk])]).bytes()
+}
+
 /// TEXS or BRUS: fixed data, then items without name, ids or other than zeros.
 fn named_items(tag: &[u8; 4], fixed: &[u32], rows: usize) -> Chunk {
     let mut chunk = Chunk::new(tag);

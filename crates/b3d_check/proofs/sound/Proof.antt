@@ -11,7 +11,7 @@ sound-spec =
     (tie.spec
     (λ c κs. search needs)
     (λ c. let a = c .before .before .before .before .before .before .before .before .before .before .before .before .args in let f = c .before .before .before .before .before .before .before .before .before .before .before .before .fits in
-    verdict (a .names .now) (a .version) (a .slots) (a .counts .now) (a .t1 .now) (a .t2 .now) (a .t3 .now) (a .t4 .now) (a .t5 .now) (a .t6 .now) (a .t7 .now) (a .t8 .now) (a .t9 .now) (a .t10 .now)
+    verdict (a .mode) (a .names .now) (a .version) (a .slots) (a .counts .now) (a .t1 .now) (a .t2 .now) (a .t3 .now) (a .t4 .now) (a .t5 .now) (a .t6 .now) (a .t7 .now) (a .t8 .now) (a .t9 .now) (a .t10 .now)
     (lent-typed (a .names .now) (a .version) (a .slots) (a .counts .now) (a .t1 .now) (a .t2 .now) (a .t3 .now) (a .t4 .now) (a .t5 .now) (a .t6 .now) (a .t7 .now) (a .t8 .now) (a .t9 .now) (a .t10 .now)
     (omega (arith, f .version)) (omega (arith, f .slots))
     (all-words (a .t1 .now) (λ i. omega (arith, c .before .before .before .before .before .before .before .before .before .before .before .shared-slice-known .given i)))

@@ -14,6 +14,7 @@ use Rattle.b3d_rows.proofs.cell.Reads as cell-reads
 use Rattle.b3d_fill_nodes.proofs.+fill_node+fill_nodes.{statement}
 use Rattle.b3d_fill_nodes.proofs.+fill_node+fill_nodes.Tie.{close}
 use Prim.Native.Nat.{_+_, _-_, _*_}
+use Rattle.b3d_scene.specs.declared.Mode.the-variants.{Lenient}
 use Rattle.b3d_scene.specs.Parse.{readNode}
 use Rattle.b3d_judge.specs.Answers.{aboveOf}
 use Rattle.b3d_fill_nodes.proofs.NodeLaws.{node-laws}
@@ -42,7 +43,7 @@ fill-nodes-below t =
     and 2 fill-nodes-kinds.ps (falls 2 fill-nodes-kinds.ps _<_ μ-fill-nodes t) fill-nodes.Pre
 
 abbrev fill-nodes-Inv-loop : fill-nodes-lts.InvT-loop
-fill-nodes-Inv-loop file at levels brushes above which parent out₀ c₀ m₀ out c m = NodesLeft file at (readNode levels brushes (aboveOf above)) levels brushes (aboveOf above) which parent c₀ m₀ out₀ out c m
+fill-nodes-Inv-loop file at levels brushes above which parent out₀ c₀ m₀ out c m = NodesLeft file at (readNode Lenient levels brushes (aboveOf above)) levels brushes (aboveOf above) which parent c₀ m₀ out₀ out c m
 
 abbrev fill-nodes-μ-loop : fill-nodes-lts.MeasureT-loop
 fill-nodes-μ-loop file at levels brushes above which parent out₀ c₀ m₀ out c m = c .end - c .at

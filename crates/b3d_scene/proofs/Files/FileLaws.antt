@@ -19,6 +19,7 @@ use Rattle.layout.proofs.Fitting.{Fits}
 use Rattle.layout.proofs.Lists.{All}
 use Rattle.layout.proofs.Outs.{check-yes, by-check, if-no, by-if, by-got, bad-got, got-inj}
 use Rattle.layout.proofs.PartLaws.{length-words, length-fits, row-back, row-fine}
+use Rattle.b3d_scene.specs.declared.Mode.the-variants.{Lenient}
 use Rattle.b3d_scene.specs.Encode.{writeTexture, writeBrush, writeNode, nodeChunks, textureChunks, brushChunks, writeScene, encode}
 use Rattle.b3d_scene.specs.Names.{renameTexture, renameBrush, renameForest, rename, bareName, bare}
 use Rattle.b3d_scene.specs.Nesting.{inside}
@@ -73,12 +74,12 @@ same-length {A} f l m e = sym (length-map l f) ∙ ap (λ (v : List A). length v
 
 abbrev BrushesBack : ℕ → ℕ → List Brush → List Chunk → ℕ → Type 0
 BrushesBack n textures l r p =
-    (x : ℕ × List Brush) × (q : ℕ) × (readOne BRUS (0, []) (readBrushes textures) (lay p (brushChunks n l r)) ≡ got (record { value = x; rest = lay q r }))
+    (x : ℕ × List Brush) × (q : ℕ) × (readOne BRUS (0, []) (readBrushes Lenient textures) (lay p (brushChunks n l r)) ≡ got (record { value = x; rest = lay q r }))
     × (slotsOf (x .0) (x .1) ≡ n) × (map (renameBrush bareName) (x .1) ≡ map (renameBrush bareName) l)
 
 one-brushes : (n textures : ℕ) (l : List Brush) → FitSlots n l → All (FitBrush n textures) l → (r : List Chunk) → Not BRUS r → (p : ℕ) → BrushesBack n textures l r p
 unfolding readOne if
-one-brushes n textures [] hn h r k p = ((0, []), p, one-none BRUS (0, []) (readBrushes textures) r p k, slots-none 0 ∙ sym hn, refl)
+one-brushes n textures [] hn h r k p = ((0, []), p, one-none BRUS (0, []) (readBrushes Lenient textures) r p k, slots-none 0 ∙ sym hn, refl)
 one-brushes n textures (b ∷ l) hn h r k p =
     let x = brushes-back n textures (b ∷ l) hn h p in
     let s = same-length (renameBrush bareName) (x .0) (b ∷ l) (x .2) in
@@ -86,9 +87,9 @@ one-brushes n textures (b ∷ l) hn h r k p =
 
 abbrev RootBack : ℕ → Forest → ℕ → Type 0
 RootBack brushes f p =
-    (g : Forest) × (readOne NODE leaf (readRoot brushes) (lay p (nodeChunks f)) ≡ got (record { value = g; rest = done })) × (renameForest bareName g ≡ renameForest bareName f)
+    (g : Forest) × (readOne NODE leaf (readRoot Lenient brushes) (lay p (nodeChunks f)) ≡ got (record { value = g; rest = done })) × (renameForest bareName g ≡ renameForest bareName f)
 
-root-of : (brushes : ℕ) (d : Data) (f : Forest) (p : ℕ) → BackNode (readNode levels brushes none p (writeNode d (nodeChunks f))) d f → RootBack brushes (node d f leaf) p
+root-of : (brushes : ℕ) (d : Data) (f : Forest) (p : ℕ) → BackNode (readNode Lenient levels brushes none p (writeNode d (nodeChunks f))) d f → RootBack brushes (node d f leaf) p
 unfolding readOne readRoot if nodeChunks
 root-of brushes d f p x =
     (node (x .inner .self) (x .inner .below) leaf, rw (x .is-got), cc (x .self, x .below))
@@ -124,7 +125,7 @@ nodes-short n (t ∷ ts) (b ∷ bs) l =
 abbrev SceneBack : Out Scene → Scene → Type 0
 SceneBack o t = (u : Scene) × (o ≡ got u) × (bare u ≡ bare t)
 
-body-back : (t : Scene) → Fit t → length (writeScene t) < 4294967296 → (p : ℕ) → SceneBack (readBody p (writeScene t)) t
+body-back : (t : Scene) → Fit t → length (writeScene t) < 4294967296 → (p : ℕ) → SceneBack (readBody Lenient p (writeScene t)) t
 unfolding readBody writeScene ended bare rename
 body-back t h n p =
     let ns = nodeChunks (t .nodes) in
@@ -172,7 +173,7 @@ scene-long : (t : Scene) → 4 ≤ length (writeScene t)
 unfolding writeScene
 scene-long t = omega arith
 
-pub parse-back : (t : Scene) → Fit t → length (encode t) ≤ 16777216 → (u : Scene) × (parse (encode t) ≡ got u) × (bare u ≡ bare t)
+pub parse-back : (t : Scene) → Fit t → length (encode t) ≤ 16777216 → (u : Scene) × (parse Lenient (encode t) ≡ got u) × (bare u ≡ bare t)
 unfolding parse encode
 parse-back t h n =
     let b = writeScene t in
@@ -230,10 +231,10 @@ unfolding slotsOf writeChunksOf
 brushes-ok textures m n [] h = ((refl, tt), λ r. omega arith)
 brushes-ok textures m n (b ∷ l) h = ((h .0, h .1), λ r. omega (arith, h .2, length-chunk code BRUS (writeWords (n ∷ []) (writeItems writeBrush (b ∷ l))) (writeChunks r)))
 
-brushes-found : (textures n : ℕ) (cs : Chunks) (x : Found (ℕ × List Brush)) → Of n cs → readOne BRUS (0, []) (readBrushes textures) cs ≡ got x
+brushes-found : (textures n : ℕ) (cs : Chunks) (x : Found (ℕ × List Brush)) → Of n cs → readOne BRUS (0, []) (readBrushes Lenient textures) cs ≡ got x
     → FineS (FitBrushes textures) putBrushes n x
 brushes-found textures =
-    one-fine (FitBrushes textures) putBrushes (0, []) (slots-none 0, tt) (λ l. refl) BRUS (readBrushes textures)
+    one-fine (FitBrushes textures) putBrushes (0, []) (slots-none 0, tt) (λ l. refl) BRUS (readBrushes Lenient textures)
     (λ p b x h e. brushes-ok textures (length b) (x .0) (x .1) (brushes-fine textures p b x h e))
 
 abbrev FitRoot : ℕ → Forest → Type 0
@@ -256,26 +257,26 @@ unfolding writeChunksOf
 root-ok brushes m x h =
     (((h .0, h .1, tt), tt), λ l. omega (arith, h .2, length-chunk code NODE (writeNode (x .self) (nodeChunks (x .below))) (writeChunks l)))
 
-root-found : (brushes n : ℕ) (cs : Chunks) (x : Found Forest) → Of n cs → readOne NODE leaf (readRoot brushes) cs ≡ got x → FineS (FitRoot brushes) putRoot n x
+root-found : (brushes n : ℕ) (cs : Chunks) (x : Found Forest) → Of n cs → readOne NODE leaf (readRoot Lenient brushes) cs ≡ got x → FineS (FitRoot brushes) putRoot n x
 unfolding readRoot
 root-found brushes =
-    one-fine (FitRoot brushes) putRoot leaf (tt, tt) (λ l. refl) NODE (readRoot brushes)
-    (λ p b f h e. by-got (readNode levels brushes none p b) _ e (λ x ex e₁.
+    one-fine (FitRoot brushes) putRoot leaf (tt, tt) (λ l. refl) NODE (readRoot Lenient brushes)
+    (λ p b f h e. by-got (readNode Lenient levels brushes none p b) _ e (λ x ex e₁.
     subst (λ (g : Forest). FitRoot brushes g × ((l : List Chunk) → length (writeChunks (putRoot g l)) ≤ 8 + length b + length (writeChunks l))) (got-inj e₁)
     (root-ok brushes (length b) x (node-fine levels brushes none p b x h ex))))
 
 abbrev SceneOK : ℕ → Scene → Type 0
 SceneOK n t = Fit t × (length (writeScene t) ≤ n)
 
-body-fine : (p : ℕ) (s : List ℕ) (t : Scene) → AllBytes s → readBody p s ≡ got t → SceneOK (length s) t
+body-fine : (p : ℕ) (s : List ℕ) (t : Scene) → AllBytes s → readBody Lenient p s ≡ got t → SceneOK (length s) t
 unfolding readBody writeScene writeChunksOf
 body-fine p s t h e =
     by-got (row fileHead p s) _ e (λ v ev e₁. let f = row-fine fileHead p s v h ev in
     let one = head-one version (v .value) (f .ok) in
     let cs = inside BB3D 0 (v .place) (v .left) in
     by-got (readOne TEXS [] readTextures cs) _ e₁ (λ x ex e₂. let g = textures-found (length (v .left)) cs x (inside-fine BB3D 0 (v .place) (v .left) (f .bytes)) ex in
-    by-got (readOne BRUS (0, []) (readBrushes (length (x .value))) (x .rest)) _ e₂ (λ y ey e₃. let i = brushes-found (length (x .value)) (g .size) (x .rest) y (g .of) ey in
-    by-got (readOne NODE leaf (readRoot (length (y .value .1))) (y .rest)) _ e₃ (λ z ez e₄. let j = root-found (length (y .value .1)) (i .size) (y .rest) z (i .of) ez in
+    by-got (readOne BRUS (0, []) (readBrushes Lenient (length (x .value))) (x .rest)) _ e₂ (λ y ey e₃. let i = brushes-found (length (x .value)) (g .size) (x .rest) y (g .of) ey in
+    by-got (readOne NODE leaf (readRoot Lenient (length (y .value .1))) (y .rest)) _ e₃ (λ z ez e₄. let j = root-found (length (y .value .1)) (i .size) (y .rest) z (i .of) ez in
     let ns = nodeChunks (z .value) in
     let bs = brushChunks (Slots (y .value)) (y .value .1) ns in
     let k₀ = f .short (writeChunks (textureChunks (x .value) bs)) in
@@ -287,7 +288,7 @@ body-fine p s t h e =
     subst (SceneOK (length s)) (ended-fine (z .rest) _ t e₄)
     (record { version = subst (Fits fileHead) one (f .ok); textures = g .ok; slots = i .ok .0; brushes = i .ok .1; nodes = j .ok .0; root = j .ok .1 }, omega arith)))))
 
-pub parse-fine : (s : List ℕ) (t : Scene) → AllBytes s → parse s ≡ got t → Fit t × (length (encode t) ≤ length s)
+pub parse-fine : (s : List ℕ) (t : Scene) → AllBytes s → parse Lenient s ≡ got t → Fit t × (length (encode t) ≤ length s)
 unfolding parse
 parse-fine s t h e =
     by-check (fileSize (length s)) 1 0 _ e (λ z e₁. let lo = size-low (length s) z in
@@ -297,6 +298,6 @@ parse-fine s t h e =
     let n = length-fits header (x .value) (f .ok) in
     (g .0, omega (arith, g .1, f .short [], length-words (x .value) [], length-encode t))))))
 
-pub parse-size : (s : List ℕ) (t : Scene) → parse s ≡ got t → length s ≤ 16777216
+pub parse-size : (s : List ℕ) (t : Scene) → parse Lenient s ≡ got t → length s ≤ 16777216
 unfolding parse
 parse-size s t e = by-check (fileSize (length s)) 1 0 _ e (λ u e₁. size-bound (length s) u)

@@ -19,6 +19,7 @@ use Rattle.layout.proofs.Fitting.{Fits}
 use Rattle.layout.proofs.Lists.{All}
 use Rattle.layout.proofs.Outs.{by-got, bad-got, got-inj}
 use Rattle.layout.proofs.PartLaws.{Back, Fine, Item, length-words, length-fits, row-back, row-fine, row-item, length-text, named-back, named-fine, items-back, items-fine}
+use Rattle.b3d_scene.specs.declared.Mode.the-variants.{Lenient}
 use Rattle.b3d_scene.specs.Encode.{writeTexture, writeBrush, writeVertices, writeTriangles, setChunks, writeMesh, writeKeys}
 use Rattle.b3d_scene.specs.Names.{renameTexture, renameBrush, bareName}
 use Rattle.b3d_scene.specs.Nesting.{nesting, Reached, start, next, onward, order, inside}
@@ -47,7 +48,7 @@ pub rows-fine : (rs : List Rule) → 0 < length rs → (p : ℕ) (s : List ℕ) 
     → All (Fits rs) l × (length (writeItems writeWords l) ≤ length s)
 rows-fine rs n p s l h e = items-fine (row-item rs n) p s l h e
 
-pub vertex-some : (f s z : ℕ) → 0 < length (vertexRow f s z)
+pub vertex-some : (f s z : ℕ) → 0 < length (vertexRow Lenient f s z)
 unfolding vertexWords
 vertex-some f s z = omega (arith, length-replicate (vertexWords f s z) any)
 
@@ -107,11 +108,11 @@ fits-split (r ∷ rs) qs [] h = absurd h
 fits-split (r ∷ rs) qs (w ∷ ws) h = let x = fits-split rs qs ws (h .2) in ((h .0, h .1, x .0), x .1)
 
 module _ (n textures : ℕ) where
-  brush-back : (b : Brush) → FitBrush n textures b → (p : ℕ) (r : List ℕ) → Back (renameBrush bareName) (readBrush n textures p (writeBrush b r)) b r
+  brush-back : (b : Brush) → FitBrush n textures b → (p : ℕ) (r : List ℕ) → Back (renameBrush bareName) (readBrush Lenient n textures p (writeBrush b r)) b r
   unfolding readBrush
   brush-back b h p r =
-      let x = named-back (brushRow ++ brushIds n textures) (b .name .bytes) (b .words ++ b .ids) (h .0) (fits-append brushRow (brushIds n textures) (b .words) (b .ids) (h .1) (h .2)) p r in
-      let k = length-fits brushRow (b .words) (h .1) in
+      let x = named-back (brushRow Lenient ++ brushIds n textures) (b .name .bytes) (b .words ++ b .ids) (h .0) (fits-append (brushRow Lenient) (brushIds n textures) (b .words) (b .ids) (h .1) (h .2)) p r in
+      let k = length-fits (brushRow Lenient) (b .words) (h .1) in
       record {
         value = record { name = record { place = p; bytes = b .name .bytes }; words = b .words; ids = b .ids };
         place = x .0;
@@ -119,18 +120,18 @@ module _ (n textures : ℕ) where
         same = refl;
       }
 
-  brush-fine : (p : ℕ) (s : List ℕ) (x : Step Brush) → AllBytes s → readBrush n textures p s ≡ got x → Fine (FitBrush n textures) writeBrush s x
+  brush-fine : (p : ℕ) (s : List ℕ) (x : Step Brush) → AllBytes s → readBrush Lenient n textures p s ≡ got x → Fine (FitBrush n textures) writeBrush s x
   unfolding readBrush
   brush-fine p s x h e =
-      by-got (named (brushRow ++ brushIds n textures) p s) _ e (λ y ey e₁. let f = named-fine (brushRow ++ brushIds n textures) p s y h ey in
+      by-got (named (brushRow Lenient ++ brushIds n textures) p s) _ e (λ y ey e₁. let f = named-fine (brushRow Lenient ++ brushIds n textures) p s y h ey in
       let ws = y .value .1 in
-      let k = fits-split brushRow (brushIds n textures) ws (f .ok .1) in
+      let k = fits-split (brushRow Lenient) (brushIds n textures) ws (f .ok .1) in
       let again : (r : List ℕ) → writeWords (take 7 ws) (writeWords (drop 7 ws) r) ≡ writeWords ws r =
       (λ r. sym (words-append (take 7 ws) (drop 7 ws) r) ∙ ap (λ (v : List ℕ). writeWords v r) (take-append-drop 7 ws)) in
       subst (Fine (FitBrush n textures) writeBrush s) (got-inj e₁)
       (record { ok = (f .ok .0, k .0, k .1); bytes = f .bytes; short = λ r. rw (again r) (f .short r) }))
 
-  brush-item : Item (readBrush n textures) writeBrush (FitBrush n textures) (renameBrush bareName)
+  brush-item : Item (readBrush Lenient n textures) writeBrush (FitBrush n textures) (renameBrush bareName)
   brush-item = record {
     some = λ b h r. omega (arith, length-text (b .name .bytes) (writeWords (b .words) (writeWords (b .ids) r)), length-words (b .words) (writeWords (b .ids) r), length-words (b .ids) r);
     back = brush-back;
@@ -138,7 +139,7 @@ module _ (n textures : ℕ) where
   }
 
 pub brushes-back : (n textures : ℕ) (l : List Brush) → Fits brushesHead (n ∷ []) → All (FitBrush n textures) l → (p : ℕ)
-    → (m : List Brush) × (readBrushes textures p (writeWords (n ∷ []) (writeItems writeBrush l)) ≡ got (n, m)) × (map (renameBrush bareName) m ≡ map (renameBrush bareName) l)
+    → (m : List Brush) × (readBrushes Lenient textures p (writeWords (n ∷ []) (writeItems writeBrush l)) ≡ got (n, m)) × (map (renameBrush bareName) m ≡ map (renameBrush bareName) l)
 unfolding readBrushes
 brushes-back n textures l hn h p =
     let x = row-back brushesHead (n ∷ []) hn (p + 8) (writeItems writeBrush l) in
@@ -149,13 +150,13 @@ abbrev pub BrushesOK : ℕ → ℕ → ℕ × List Brush → Type 0
 BrushesOK textures n x =
     Fits brushesHead (x .0 ∷ []) × All (FitBrush (x .0) textures) (x .1) × (length (writeWords (x .0 ∷ []) (writeItems writeBrush (x .1))) ≤ n)
 
-pub brushes-fine : (textures p : ℕ) (s : List ℕ) (x : ℕ × List Brush) → AllBytes s → readBrushes textures p s ≡ got x → BrushesOK textures (length s) x
+pub brushes-fine : (textures p : ℕ) (s : List ℕ) (x : ℕ × List Brush) → AllBytes s → readBrushes Lenient textures p s ≡ got x → BrushesOK textures (length s) x
 unfolding readBrushes
 brushes-fine textures p s x h e =
     by-got (row brushesHead (p + 8) s) _ e (λ y ey e₁. let f = row-fine brushesHead (p + 8) s y h ey in
     let n = getD (y .value) 0 0 in
     let one = head-one slots (y .value) (f .ok) in
-    by-got (items (readBrush n textures) (y .place) (y .left)) _ e₁ (λ l el e₂. let g = items-fine (brush-item n textures) (y .place) (y .left) l (f .bytes) el in
+    by-got (items (readBrush Lenient n textures) (y .place) (y .left)) _ e₁ (λ l el e₂. let g = items-fine (brush-item n textures) (y .place) (y .left) l (f .bytes) el in
     let k = f .short (writeItems writeBrush l) in
     let k₁ = length-words (y .value) (writeItems writeBrush l) in
     let k₂ = ap (λ (v : List ℕ). length v) one in
@@ -213,18 +214,18 @@ anim-fine p s ws h e =
 -- ---- a mesh
 
 vertices-back : (brushes : ℕ) (m : Mesh) → FitMesh brushes m → (p : ℕ)
-    → readVertices p (writeVertices m) ≡ got (record { flags = m .flags; sets = m .sets; size = m .size; items = m .vertices })
+    → readVertices Lenient p (writeVertices m) ≡ got (record { flags = m .flags; sets = m .sets; size = m .size; items = m .vertices })
 unfolding readVertices writeVertices
 vertices-back brushes m h p =
     let x = row-back verticesHead (m .flags ∷ m .sets ∷ m .size ∷ []) (h .head) (p + 8) (writeItems writeWords (m .vertices)) in
-    rw (x .1, rows-back (vertexRow (m .flags) (m .sets) (m .size)) (vertex-some (m .flags) (m .sets) (m .size)) (m .vertices) (h .vertices) (x .0))
+    rw (x .1, rows-back (vertexRow Lenient (m .flags) (m .sets) (m .size)) (vertex-some (m .flags) (m .sets) (m .size)) (m .vertices) (h .vertices) (x .0))
 
 record VerticesOK (n : ℕ) (v : Vertices) : Type 0 where
   head : Fits verticesHead (v .flags ∷ v .sets ∷ v .size ∷ [])
-  all : All (Fits (vertexRow (v .flags) (v .sets) (v .size))) (v .items)
+  all : All (Fits (vertexRow Lenient (v .flags) (v .sets) (v .size))) (v .items)
   short : length (writeWords (v .flags ∷ v .sets ∷ v .size ∷ []) (writeItems writeWords (v .items))) ≤ n
 
-vertices-fine : (p : ℕ) (s : List ℕ) (v : Vertices) → AllBytes s → readVertices p s ≡ got v → VerticesOK (length s) v
+vertices-fine : (p : ℕ) (s : List ℕ) (v : Vertices) → AllBytes s → readVertices Lenient p s ≡ got v → VerticesOK (length s) v
 unfolding readVertices
 vertices-fine p s v h e =
     by-got (row verticesHead (p + 8) s) _ e (λ y ey e₁. let f = row-fine verticesHead (p + 8) s y h ey in
@@ -232,7 +233,7 @@ vertices-fine p s v h e =
     let b = getD (y .value) 1 0 in
     let c = getD (y .value) 2 0 in
     let three = head-three vertexFlags sets setSize (y .value) (f .ok) in
-    by-got (items (row (vertexRow a b c)) (y .place) (y .left)) _ e₁ (λ l el e₂. let g = rows-fine (vertexRow a b c) (vertex-some a b c) (y .place) (y .left) l (f .bytes) el in
+    by-got (items (row (vertexRow Lenient a b c)) (y .place) (y .left)) _ e₁ (λ l el e₂. let g = rows-fine (vertexRow Lenient a b c) (vertex-some a b c) (y .place) (y .left) l (f .bytes) el in
     let k₀ = f .short (writeItems writeWords l) in
     let k₁ = length-words (y .value) (writeItems writeWords l) in
     let k₂ = ap (λ (v : List ℕ). length v) three in
@@ -252,13 +253,13 @@ record VrtsFound (head size : ℕ) (x : Found Vertices) : Type 0 where
   of : Of (size - (8 + length body)) before
   rest-is : order MESH head vrtsRead before ≡ x .rest
 
-vrts-found : (head size : ℕ) (cs : Chunks) (x : Found Vertices) → Of size cs → readOne VRTS noVertices readVertices (order MESH head start cs) ≡ got x → VrtsFound head size x
+vrts-found : (head size : ℕ) (cs : Chunks) (x : Found Vertices) → Of size cs → readOne VRTS noVertices (readVertices Lenient) (order MESH head start cs) ≡ got x → VrtsFound head size x
 unfolding readOne order onward next if
 vrts-found head size done x h e = bad-got e
 vrts-found head size (stop i p) x h e = bad-got e
 vrts-found head size (chunk t p b r) x h e =
-    let P : Tag → Type 0 = λ k. readOne VRTS noVertices readVertices (order MESH head start (chunk k p b r)) ≡ got x → VrtsFound head size x in
-    let vrts : P VRTS = λ e. by-got (readVertices p b) _ e (λ v ev e₁.
+    let P : Tag → Type 0 = λ k. readOne VRTS noVertices (readVertices Lenient) (order MESH head start (chunk k p b r)) ≡ got x → VrtsFound head size x in
+    let vrts : P VRTS = λ e. by-got (readVertices Lenient p b) _ e (λ v ev e₁.
     subst (VrtsFound head size) (got-inj e₁)
     (record { body = b; before = r; fine = vertices-fine p b v (h .0) ev; fits = h .1; of = h .2; rest-is = refl })) in
     by-tag P (bad-got, bad-got, bad-got, bad-got, bad-got, vrts, bad-got, bad-got, bad-got, bad-got) t e
@@ -322,7 +323,7 @@ abbrev partChunks : Mesh → List Chunk
 partChunks m = record { tag = VRTS; body = writeVertices m } ∷ setChunks (m .triangleSets)
 
 module _ (brushes : ℕ) where
-  pub mesh-back : (m : Mesh) → FitMesh brushes m → length (writeMesh m) < 4294967296 → (p : ℕ) → readMesh brushes p (writeMesh m) ≡ got m
+  pub mesh-back : (m : Mesh) → FitMesh brushes m → length (writeMesh m) < 4294967296 → (p : ℕ) → readMesh Lenient brushes p (writeMesh m) ≡ got m
   unfolding readMesh writeMesh readOne if
   mesh-back m h n p =
       let x = row-back (meshHead brushes) (m .brush ∷ []) (h .brush) (p + 8) (writeChunks (partChunks m)) in
@@ -336,13 +337,13 @@ module _ (brushes : ℕ) where
   abbrev MeshOK : ℕ → Mesh → Type 0
   MeshOK n m = FitMesh brushes m × (length (writeMesh m) ≤ n)
 
-  pub mesh-fine : (p : ℕ) (s : List ℕ) (m : Mesh) → AllBytes s → readMesh brushes p s ≡ got m → MeshOK (length s) m
+  pub mesh-fine : (p : ℕ) (s : List ℕ) (m : Mesh) → AllBytes s → readMesh Lenient brushes p s ≡ got m → MeshOK (length s) m
   unfolding readMesh writeMesh writeChunksOf writeVertices inside
   mesh-fine p s m h e =
       by-got (row (meshHead brushes) (p + 8) s) _ e (λ y ey e₁. let f = row-fine (meshHead brushes) (p + 8) s y h ey in
       let one = head-one (brushId brushes) (y .value) (f .ok) in
       let cs = split (y .place) (y .left) in
-      by-got (readOne VRTS noVertices readVertices (order MESH p start cs)) _ e₁ (λ v ev e₂.
+      by-got (readOne VRTS noVertices (readVertices Lenient) (order MESH p start cs)) _ e₁ (λ v ev e₂.
       let g = vrts-found p (length (y .left)) cs v (split-fine tagOf (y .place) (y .left) (f .bytes)) ev in
       let size = length (y .left) - (8 + length (g .body)) in
       let k = length (v .value .items) in

@@ -13,6 +13,7 @@ use Rattle.layout.proofs.ChunkLaws.{length-chunk}
 use Rattle.layout.proofs.Lists.{All}
 use Rattle.layout.proofs.Outs.{got-inj}
 use Rattle.layout.proofs.PartLaws.{length-words, length-text}
+use Rattle.b3d_scene.specs.declared.Mode.the-variants.{Lenient}
 use Rattle.b3d_scene.specs.Encode.{writeTexture, writeBrush, writeMesh, writeKeys, kindChunks, keyChunks, animChunks, writeNode, nodeChunks, textureChunks, brushChunks, writeScene, encode}
 use Rattle.b3d_scene.specs.Names.{renameTexture, renameBrush, renameData, renameForest, rename, bareName, noName, bare, cleared}
 use Rattle.b3d_scene.specs.Parse.{parse}
@@ -224,11 +225,11 @@ cleared-short t =
 
 pub record Copied (t : Scene) : Type 0 where
   pub scene : Scene
-  pub accepted : parse (encode (cleared t)) ≡ got scene
+  pub accepted : parse Lenient (encode (cleared t)) ≡ got scene
   pub is-cleared : bare scene ≡ cleared t
   pub again : encode (cleared scene) ≡ encode (cleared t)
 
-pub copy-back : (s : List ℕ) (t : Scene) → AllBytes s → parse s ≡ got t → Copied t
+pub copy-back : (s : List ℕ) (t : Scene) → AllBytes s → parse Lenient s ≡ got t → Copied t
 copy-back s t h e =
     let f = parse-fine s t h e in
     let n = parse-size s t e in
@@ -243,7 +244,7 @@ copy-back s t h e =
     }
 
 -- the copy is no longer than the file
-pub copy-short : (s : List ℕ) (t : Scene) → AllBytes s → parse s ≡ got t → length (encode (cleared t)) ≤ length s
+pub copy-short : (s : List ℕ) (t : Scene) → AllBytes s → parse Lenient s ≡ got t → length (encode (cleared t)) ≤ length s
 copy-short s t h e = let f = parse-fine s t h e in omega (arith, f .1, cleared-short t)
 
 -- two scenes that fit have one copy exactly where they differ in names alone
@@ -251,11 +252,11 @@ pub same-copy : (t u : Scene) → Fit t → Fit u → length (encode (cleared t)
 same-copy t u ht hu n e =
     let x = parse-back (cleared t) (cleared-fits t ht) n in
     let y = parse-back (cleared u) (cleared-fits u hu) (subst (λ (l : List ℕ). length l ≤ 16777216) e n) in
-    let z : x .0 ≡ y .0 = got-inj (sym (x .1) ∙ ap (λ (l : List ℕ). parse l) e ∙ y .1) in
+    let z : x .0 ≡ y .0 = got-inj (sym (x .1) ∙ ap (λ (l : List ℕ). parse Lenient l) e ∙ y .1) in
     sym (bare-cleared t) ∙ sym (x .2) ∙ ap (λ (v : Scene). bare v) z ∙ y .2 ∙ bare-cleared u
 
 -- no file that holds this scene, name places aside, is shorter than what `encode` writes
-pub shortest : (s : List ℕ) (t u : Scene) → AllBytes s → parse s ≡ got u → bare u ≡ bare t → length (encode t) ≤ length s
+pub shortest : (s : List ℕ) (t u : Scene) → AllBytes s → parse Lenient s ≡ got u → bare u ≡ bare t → length (encode t) ≤ length s
 shortest s t u h e b =
     let f = parse-fine s u h e in
     subst (λ (l : List ℕ). length l ≤ length s) (sym (encode-bare u) ∙ ap (λ (v : Scene). encode v) b ∙ encode-bare t) (f .1)

@@ -17,6 +17,7 @@ use Rattle.layout.proofs.ChunkLaws.{length-chunk, lay, Of}
 use Rattle.layout.proofs.Lists.{All}
 use Rattle.layout.proofs.Outs.{if-no, by-if, by-got, bad-got, got-inj}
 use Rattle.layout.proofs.PartLaws.{length-words, length-text, named-back, named-fine}
+use Rattle.b3d_scene.specs.declared.Mode.the-variants.{Lenient}
 use Rattle.b3d_scene.specs.Encode.{writeMesh, writeKeys, kindChunks, keyChunks, animChunks, writeNode, nodeChunks}
 use Rattle.b3d_scene.specs.Names.{renameData, renameForest, bareName}
 use Rattle.b3d_scene.specs.Nesting.{inside}
@@ -44,7 +45,7 @@ no-kind [] still leaf = tt
 no-kind [] still (node d g h) = (tt, tt)
 
 kind-back : (brushes n : ℕ) (k : Kind) → FitKind brushes n k → (l : List Chunk) → NoKind l → length (writeChunks (kindChunks k l)) < 4294967296 → (p : ℕ)
-    → (q : ℕ) × (readKind brushes n (lay p (kindChunks k l)) ≡ got (record { value = k; rest = lay q l }))
+    → (q : ℕ) × (readKind Lenient brushes n (lay p (kindChunks k l)) ≡ got (record { value = k; rest = lay q l }))
 unfolding readKind aMesh aBone if writeChunksOf
 kind-back brushes n pivot h [] s m p = (p, refl)
 kind-back brushes n pivot h (c ∷ l) s m p = (p, if-no (is (c .tag) MESH) _ _ (s .0) ∙ if-no (is (c .tag) BONE) _ _ (s .1))
@@ -110,8 +111,8 @@ pub record BackNode (o : Out Inner) (d : Data) (f : Forest) : Type 0 where
   pub below : renameForest bareName (inner .below) ≡ renameForest bareName f
 
 pub node-back : (l brushes : ℕ) (above : Option ℕ) (d : Data) (f : Forest) → FitData brushes (boneVertices above) d → length (writeNode d (nodeChunks f)) < 4294967296
-    → ((q : ℕ) → BackNodes (readNodes (readNode l brushes (bonesBelow above d)) (lay q (nodeChunks f))) f)
-    → (p : ℕ) → BackNode (readNode (suc l) brushes above p (writeNode d (nodeChunks f))) d f
+    → ((q : ℕ) → BackNodes (readNodes (readNode Lenient l brushes (bonesBelow above d)) (lay q (nodeChunks f))) f)
+    → (p : ℕ) → BackNode (readNode Lenient (suc l) brushes above p (writeNode d (nodeChunks f))) d f
 unfolding readNode readBelow writeNode
 node-back l brushes above d f h n go p =
     let cs = kindChunks (d .kind) (keyChunks (d .keys) (animChunks (d .anim) (nodeChunks f))) in
@@ -153,12 +154,12 @@ unfolding readNodes nodeChunks
 none-back one p = record { nodes = leaf; is-got = refl; same = refl }
 
 pub nodes-back : (l brushes : ℕ) (above : Option ℕ) (f : Forest) → FitNodes l brushes above f → length (writeChunks (nodeChunks f)) < 4294967296
-    → (p : ℕ) → BackNodes (readNodes (readNode l brushes above) (lay p (nodeChunks f))) f
-nodes-back zero brushes above leaf h n p = none-back (readNode zero brushes above) p
+    → (p : ℕ) → BackNodes (readNodes (readNode Lenient l brushes above) (lay p (nodeChunks f))) f
+nodes-back zero brushes above leaf h n p = none-back (readNode Lenient zero brushes above) p
 nodes-back zero brushes above (node d f g) h n p = absurd h
-nodes-back (suc l) brushes above leaf h n p = none-back (readNode (suc l) brushes above) p
+nodes-back (suc l) brushes above leaf h n p = none-back (readNode Lenient (suc l) brushes above) p
 nodes-back (suc l) brushes above (node d f g) h n p =
-    more-back (readNode (suc l) brushes above) d f g p
+    more-back (readNode Lenient (suc l) brushes above) d f g p
     (node-back l brushes above d f (h .0) (first-short d f g 4294967296 n .0) (nodes-back l brushes (bonesBelow above d) f (h .1) (first-short d f g 4294967296 n .1)) p)
     (nodes-back (suc l) brushes above g (h .2) (first-short d f g 4294967296 n .2) (p + 8 + length (writeNode d (nodeChunks f))))
 
@@ -172,13 +173,13 @@ pub record FineS {A : Type 0} (Ok : A → Type 0) (put : A → List Chunk → Li
   pub short : (l : List Chunk) → length (writeChunks (put (x .value) l)) + size ≤ n + length (writeChunks l)
 
 module _ (brushes m : ℕ) where
-  kind-fine : (n : ℕ) (cs : Chunks) (x : Found Kind) → Of n cs → readKind brushes m cs ≡ got x → FineS (FitKind brushes m) kindChunks n x
+  kind-fine : (n : ℕ) (cs : Chunks) (x : Found Kind) → Of n cs → readKind Lenient brushes m cs ≡ got x → FineS (FitKind brushes m) kindChunks n x
   unfolding readKind aMesh aBone writeChunksOf
   kind-fine n done x h e = subst (FineS (FitKind brushes m) kindChunks n) (got-inj e) (record { ok = tt; size = n; of = tt; short = λ l. omega arith })
   kind-fine n (stop i p) x h e = bad-got e
   kind-fine n (chunk t p b r) x h e =
       by-if (is t MESH) _ _ e
-      (λ u e₁. by-got (readMesh brushes p b) _ e₁ (λ a ea e₂. let f = mesh-fine brushes p b a (h .0) ea in
+      (λ u e₁. by-got (readMesh Lenient brushes p b) _ e₁ (λ a ea e₂. let f = mesh-fine brushes p b a (h .0) ea in
       subst (FineS (FitKind brushes m) kindChunks n) (got-inj e₂)
       (record { ok = f .0; size = n - (8 + length b); of = h .2; short = λ l. omega (arith, h .1, f .1, length-chunk code MESH (writeMesh a) (writeChunks l)) })))
       (λ u e₁. by-if (is t BONE) _ _ e₁
@@ -255,19 +256,19 @@ nodes-fine l brushes above one go n (chunk t p b r) f h e =
     subst (NodesOK l brushes above n) (got-inj e₂)
     (one-more l brushes above n b x g (go p b x (h .0) ex) (h .1) (nodes-fine l brushes above one go (n - (8 + length b)) r g (h .2) eg))))
 
-pub node-fine : (l brushes : ℕ) (above : Option ℕ) (p : ℕ) (b : List ℕ) (x : Inner) → AllBytes b → readNode l brushes above p b ≡ got x → NodeOK l brushes above (length b) x
+pub node-fine : (l brushes : ℕ) (above : Option ℕ) (p : ℕ) (b : List ℕ) (x : Inner) → AllBytes b → readNode Lenient l brushes above p b ≡ got x → NodeOK l brushes above (length b) x
 unfolding readNode readBelow writeNode
 node-fine zero brushes above p b x h e = bad-got e
 node-fine (suc l) brushes above p b x h e =
     by-got (named nodeRow (p + 8) b) _ e (λ y ey e₁. let f = named-fine nodeRow (p + 8) b y h ey in
     let cs = inside NODE p (y .place) (y .left) in
-    by-got (readKind brushes (boneVertices above) cs) _ e₁ (λ k ek e₂.
+    by-got (readKind Lenient brushes (boneVertices above) cs) _ e₁ (λ k ek e₂.
     let g = kind-fine brushes (boneVertices above) (length (y .left)) cs k (inside-fine NODE p (y .place) (y .left) (f .bytes)) ek in
     by-got (readMoves still (k .rest)) _ e₂ (λ m em e₃.
     let i = moves-fine (g .size) (k .rest) still m tt (g .of) em in
     let d : Data = record { name = y .value .0; words = y .value .1; kind = k .value; keys = m .value .keys; anim = m .value .anim } in
-    by-got (readNodes (readNode l brushes (bonesBelow above d)) (m .rest)) _ e₃ (λ w ew e₄.
-    let j = nodes-fine l brushes (bonesBelow above d) (readNode l brushes (bonesBelow above d)) (node-fine l brushes (bonesBelow above d)) (i .size) (m .rest) w (i .of) ew in
+    by-got (readNodes (readNode Lenient l brushes (bonesBelow above d)) (m .rest)) _ e₃ (λ w ew e₄.
+    let j = nodes-fine l brushes (bonesBelow above d) (readNode Lenient l brushes (bonesBelow above d)) (node-fine l brushes (bonesBelow above d)) (i .size) (m .rest) w (i .of) ew in
     let ms = keyChunks (d .keys) (animChunks (d .anim) (nodeChunks w)) in
     subst (NodeOK (suc l) brushes above (length b)) (got-inj e₄) (
       record { name = f .ok .0; words = f .ok .1; kind = g .ok; keys = i .keys; anim = i .anim-fits },

@@ -12,6 +12,7 @@ use Rattle.layout.proofs.ChunkLaws.{length-chunk}
 use Rattle.layout.proofs.Fitting.{Fits}
 use Rattle.layout.proofs.Lists.{All}
 use Rattle.layout.proofs.PartLaws.{length-words, length-fits, length-text}
+use Rattle.b3d_scene.specs.declared.Mode.the-variants.{Lenient}
 use Rattle.b3d_scene.specs.Encode.{writeTexture, writeBrush, writeVertices, writeTriangles, setChunks, writeMesh, writeKeys, kindChunks, keyChunks, animChunks, writeNode, nodeChunks, textureChunks, brushChunks, writeScene, encode}
 use Rattle.b3d_scene.specs.Rules.{vertexWords, keyWords, textureRow, brushRow, brushIds, nodeRow, vertexRow, triangleRow, weightRow, keyRow, animRow, textureId, boneVertices, bonesBelow, levels}
 use Rattle.b3d_scene.specs.Scene.{Texture, Brush, TriangleSet, Mesh, Kind, pivot, mesh, bone, Keys, Anim, still, anim, Data, Forest, leaf, node, Scene}
@@ -43,7 +44,7 @@ brushes-size n textures (b ∷ l) h =
       length-fits (brushIds n textures) (b .ids) (h .0 .2),
       length-replicate n (textureId textures),
       length-words (b .words) (writeWords (b .ids) r),
-      length-fits brushRow (b .words) (h .0 .1),
+      length-fits (brushRow Lenient) (b .words) (h .0 .1),
       length-text (b .name .bytes) (writeWords (b .words) (writeWords (b .ids) r)),
     )
 
@@ -59,12 +60,12 @@ unfolding writeMesh writeChunksOf writeVertices
 mesh-size brushes m h =
     let k = vertexWords (m .flags) (m .sets) (m .size) in
     let b = writeWords (m .flags ∷ m .sets ∷ m .size ∷ []) (writeItems writeWords (m .vertices)) in
-    let e : length (m .vertices) * (4 * length (vertexRow (m .flags) (m .sets) (m .size))) ≡ length (m .vertices) * (4 * k) =
+    let e : length (m .vertices) * (4 * length (vertexRow Lenient (m .flags) (m .sets) (m .size))) ≡ length (m .vertices) * (4 * k) =
     ap (λ (n : ℕ). length (m .vertices) * (4 * n)) (length-replicate k any) in
     omega (
       arith,
       sets-size brushes (length (m .vertices)) (m .triangleSets) (h .triangles),
-      rows-size (vertexRow (m .flags) (m .sets) (m .size)) (m .vertices) (h .vertices),
+      rows-size (vertexRow Lenient (m .flags) (m .sets) (m .size)) (m .vertices) (h .vertices),
       length-chunk code VRTS b (writeChunks (setChunks (m .triangleSets))),
     )
 

@@ -8,6 +8,7 @@ use Rattle.wire.specs.Test.{if}
 use Rattle.layout.specs.Chunks.{done, stop, chunk}
 use Rattle.layout.specs.Out.{Out, got, _>>=_}
 use Rattle.layout.proofs.Outs.{by-got, bad-got, got-inj}
+use Rattle.b3d_scene.specs.declared.Mode.{Mode}
 use Rattle.b3d_scene.specs.Nesting.{Reached, start, next, onward, order, inside}
 use Rattle.b3d_scene.specs.Parse.{readOne, Vertices, readVertices, noVertices, readMesh, readBone, readKeys, readAnim, aMesh, aBone, readKind, Moves, withKeys, readMoves}
 use Rattle.b3d_scene.specs.Scene.{Kind, Anim, anim}
@@ -85,9 +86,9 @@ vrts-first head (stop n p) = tt
 vrts-first head (chunk t p b r) =
     by-tag (λ k. Then VRTS (Only TRIS) (order MESH head start (chunk k p b r))) (tt, tt, tt, tt, tt, tris-first head r, tt, tt, tt, tt) t
 
-pub mesh-tags : (head p : ℕ) (s : List ℕ) (x : Found Vertices) → readOne VRTS noVertices readVertices (inside MESH head p s) ≡ got x → Only TRIS (x .rest)
+pub mesh-tags : (mode : Mode) (head p : ℕ) (s : List ℕ) (x : Found Vertices) → readOne VRTS noVertices (readVertices mode) (inside MESH head p s) ≡ got x → Only TRIS (x .rest)
 unfolding inside
-mesh-tags head p s x e = one-then VRTS (Only TRIS) tt noVertices readVertices _ x (vrts-first head (split p s)) e
+mesh-tags mode head p s x e = one-then VRTS (Only TRIS) tt noVertices (readVertices mode) _ x (vrts-first head (split p s)) e
 
 -- ---- a NODE
 
@@ -114,15 +115,15 @@ late-kind head (stop n p) = tt
 late-kind head (chunk t p b r) =
     by-tag (λ k. Late (order NODE head (reached 1 true) (chunk k p b r))) (tt, tt, tt, node-more head r, tt, tt, tt, tt, late-moves false head r, late-moves true head r) t
 
-late-found : (brushes n head : ℕ) (cs : Chunks) (x : Found Kind) → readKind brushes n (order NODE head start cs) ≡ got x → Late (x .rest)
+late-found : (mode : Mode) (brushes n head : ℕ) (cs : Chunks) (x : Found Kind) → readKind mode brushes n (order NODE head start cs) ≡ got x → Late (x .rest)
 unfolding order onward next readKind aMesh aBone if
-late-found brushes n head done x e = subst (λ (y : Found Kind). Late (y .rest)) (got-inj e) tt
-late-found brushes n head (stop i p) x e = bad-got e
-late-found brushes n head (chunk t p b r) x e =
-    let P : Tag → Type 0 = λ k. readKind brushes n (order NODE head start (chunk k p b r)) ≡ got x → Late (x .rest) in
+late-found mode brushes n head done x e = subst (λ (y : Found Kind). Late (y .rest)) (got-inj e) tt
+late-found mode brushes n head (stop i p) x e = bad-got e
+late-found mode brushes n head (chunk t p b r) x e =
+    let P : Tag → Type 0 = λ k. readKind mode brushes n (order NODE head start (chunk k p b r)) ≡ got x → Late (x .rest) in
     let left : Found Kind → Type 0 = λ y. Late (y .rest) in
     let nodes : P NODE = λ e. subst left (got-inj e) (node-more head r) in
-    let mesh : P MESH = λ e. by-got (readMesh brushes p b) _ e (λ m em e₁. subst left (got-inj e₁) (late-kind head r)) in
+    let mesh : P MESH = λ e. by-got (readMesh mode brushes p b) _ e (λ m em e₁. subst left (got-inj e₁) (late-kind head r)) in
     let bone : P BONE = λ e. by-got (readBone n p b) _ e (λ m em e₁. subst left (got-inj e₁) (late-kind head r)) in
     let keys : P KEYS = λ e. subst left (got-inj e) (late-moves false head r) in
     let anim : P ANIM = λ e. subst left (got-inj e) (late-moves true head r) in
@@ -143,10 +144,10 @@ moves-found (chunk t p b r) seen x h e =
     let anims : P ANIM = λ h e. by-got (readAnim p b) _ e (λ ws ew e₁. moves-found r (anim ws) x h e₁) in
     by-tag P (never, never, never, nodes, never, never, never, never, keys, anims) t h e
 
-pub node-tags : (brushes n head p : ℕ) (s : List ℕ) (k : Found Kind) (seen : Anim) (m : Found Moves) → readKind brushes n (inside NODE head p s) ≡ got k
+pub node-tags : (mode : Mode) (brushes n head p : ℕ) (s : List ℕ) (k : Found Kind) (seen : Anim) (m : Found Moves) → readKind mode brushes n (inside NODE head p s) ≡ got k
     → readMoves seen (k .rest) ≡ got m → Only NODE (m .rest)
 unfolding inside
-node-tags brushes n head p s k seen m ek em = moves-found (k .rest) seen m (late-found brushes n head (split p s) k ek) em
+node-tags mode brushes n head p s k seen m ek em = moves-found (k .rest) seen m (late-found mode brushes n head (split p s) k ek) em
 
 -- ---- a BB3D
 

@@ -12,6 +12,8 @@ use Rattle.layout.specs.Rules.{NONE}
 use Rattle.layout.proofs.Lists.{All, all-pure, all-map, all-zip, all-append, all-left, all-right, all-of-map, all-from-map, map-back}
 use Rattle.layout.proofs.Outs.{if-yes, if-no, by-test}
 use Rattle.layout.proofs.Testing.{Tests, both, le-is, all-is}
+use Rattle.b3d_scene.specs.declared.Mode.{Mode}
+use Rattle.b3d_scene.specs.Colours.{passes}
 use Rattle.b3d_scene.specs.Rebuild.{Lent, cut, lentRows, roomy, textureFrom, brushFrom, Rows, Placed, walk, tree, together, nodeNames, names, stands, sound, rebuild}
 use Rattle.b3d_scene.specs.Rules.{bonesBelow, levels, rowLimit, boneVertices}
 use Rattle.b3d_scene.specs.Scene.{Texture, Brush, Forest, leaf, node, Scene}
@@ -22,7 +24,9 @@ use Rattle.b3d_scene.proofs.Rows.Nodes.{OwnWide, own-wide, From}
 use Rattle.b3d_scene.proofs.Rows.RowLists.{same-is, same-rows-is, cut-length, words-cut, cut-words}
 use Rattle.b3d_scene.proofs.Rows.RowParts.{Wide, Stands, texture-wide, texture-back, brush-wide, brush-back}
 use Rattle.b3d_scene.proofs.Rows.Trees.{flat, flatRows, flat-rows, tree-flat, Known, walk-back}
-use lib.Dec.{leb→le}
+use lib.Dec.{T as True, leb→le}
+use mir.Facts.{and-yes, yes-and}
+use mathlib.Core.Bool.{_&&_}
 
 -- ---- widths
 
@@ -176,16 +180,16 @@ sound-is ns T t = both (fits-is t) (both (all-is (stands-is ns) (names t)) (all-
 pub held-rows : (T : Lent) (t : Scene) → Fit t → All (Holds T t) tables → All (λ k. lentRows T k ≡ rows k t) tables
 held-rows T t f h = all-zip (Holds T t) (λ k. All (Wide (width k)) (rows k t)) (λ k. lentRows T k ≡ rows k t) (λ k a w. holds-rows T t k a w) tables h (rows-wide t f)
 
-pub rebuild-back : (ns : List ℕ) (T : Lent) (t : Scene) → Fit t → Agree ns T t → rebuild T ns ≡ some t
+pub rebuild-back : (mode : Mode) (ns : List ℕ) (T : Lent) (t : Scene) → Fit t → Agree ns T t → True (passes mode (lentRows T)) → rebuild mode T ns ≡ some t
 unfolding rebuild
-rebuild-back ns T t f a =
+rebuild-back mode ns T t f a c =
     let er = held-rows T t f (a .held) in
     let et : together ns T ≡ t = together-back ns T t f (a .version) (a .slots) (a .named) er in
     let room = all-is (roomy-is T) tables .holds (all-map (Holds T t) _ (λ k h. (h .few, h .room)) tables (a .held)) in
     let ok = sound-is ns T t .holds (f, (a .named, all-map (λ k. lentRows T k ≡ rows k t) _ (λ k e. sym e) tables er)) in
     if-yes (all (roomy T) tables) _ none room
-    ∙ ap (λ (x : Scene). if (sound ns T x) (some x) none) et
-    ∙ if-yes (sound ns T t) (some t) none ok
+    ∙ ap (λ (x : Scene). if (passes mode (lentRows T) && sound ns T x) (some x) none) et
+    ∙ if-yes (passes mode (lentRows T) && sound ns T t) (some t) none (yes-and (passes mode (lentRows T)) (sound ns T t) c ok)
 
 none-some : {A : Type 0} {y : Scene} → _≡_ {A = Option Scene} none (some y) → A
 none-some e = let z : _≡_ {A = ℕ} 0 1 = cc in absurd (omega arith)
@@ -214,15 +218,18 @@ fine-at ns T room h =
       },
     )
 
-pub rebuild-fine : (ns : List ℕ) (T : Lent) (t : Scene) → rebuild T ns ≡ some t → Fit t × Agree ns T t
+pub rebuild-fine : (mode : Mode) (ns : List ℕ) (T : Lent) (t : Scene) → rebuild mode T ns ≡ some t → Fit t × Agree ns T t × True (passes mode (lentRows T))
 unfolding rebuild
-rebuild-fine ns T t e =
+rebuild-fine mode ns T t e =
     let x = together ns T in
+    let c = passes mode (lentRows T) && sound ns T x in
     by-test (all (roomy T) tables)
-    (λ y. let e₁ = sym (if-yes (all (roomy T) tables) (if (sound ns T x) (some x) none) none y) ∙ e in
+    (λ y. let e₁ = sym (if-yes (all (roomy T) tables) (if c (some x) none) none y) ∙ e in
     let room = all-is (roomy-is T) tables .says y in
-    by-test (sound ns T x)
-    (λ z. let q : x ≡ t = some-inj (sym (if-yes (sound ns T x) (some x) none z) ∙ e₁) in
-    subst (λ (u : Scene). Fit u × Agree ns T u) q (fine-at ns T room (sound-is ns T x .says z)))
-    (λ z. none-some (sym (if-no (sound ns T x) (some x) none z) ∙ e₁)))
-    (λ y. none-some (sym (if-no (all (roomy T) tables) (if (sound ns T x) (some x) none) none y) ∙ e))
+    by-test c
+    (λ z. let q : x ≡ t = some-inj (sym (if-yes c (some x) none z) ∙ e₁) in
+    let (a, b) = and-yes (passes mode (lentRows T)) (sound ns T x) z in
+    let f = subst (λ (u : Scene). Fit u × Agree ns T u) q (fine-at ns T room (sound-is ns T x .says b)) in
+    (f .0, f .1, a))
+    (λ z. none-some (sym (if-no c (some x) none z) ∙ e₁)))
+    (λ y. none-some (sym (if-no (all (roomy T) tables) (if c (some x) none) none y) ∙ e))

@@ -12,6 +12,7 @@ use Rattle.wire.specs.Test.{if}
 use Rattle.layout.specs.Rules.{NONE}
 use Rattle.layout.proofs.Lists.{All, all-pure, all-map, all-append, all-of-map, map-back}
 use Rattle.layout.proofs.Outs.{if-yes, if-no}
+use Rattle.b3d_scene.specs.declared.Mode.the-variants.{Lenient}
 pub use Rattle.b3d_scene.specs.Fitting.{Stands}
 use Rattle.b3d_scene.specs.Mask.{mask, spread, squeeze, vertexMask, vertexHas, keyMask, keyHas}
 use Rattle.b3d_scene.specs.Rebuild.{nameFrom, textureFrom, brushFrom, setsFrom, meshFrom, mine, keysFrom, animFrom}
@@ -95,7 +96,7 @@ unfolding vertexRows
 vertices-back m n h =
     let k = vertexMask (m .flags) (m .sets) (m .size) in
     map-back (spread k) (squeeze k) (m .vertices)
-    (all-map (Fits (vertexRow (m .flags) (m .sets) (m .size))) (λ v. squeeze k (spread k v) ≡ v) (λ v f. squeeze-spread k v (vertex-ones n m h v f)) (m .vertices) (h .vertices))
+    (all-map (Fits (vertexRow Lenient (m .flags) (m .sets) (m .size))) (λ v. squeeze k (spread k v) ≡ v) (λ v f. squeeze-spread k v (vertex-ones n m h v f)) (m .vertices) (h .vertices))
 
 pub mesh-back : (n : ℕ) (m : Mesh) (c : Counts) (i r : ℕ) (vs ss ts : List (List ℕ)) → FitMesh n m
     → meshFrom (meshRow m c) (vertexRows m ++ vs) (setRows i r (m .triangleSets) ++ ss) (triangleRows (m .triangleSets) ++ ts) ≡ m

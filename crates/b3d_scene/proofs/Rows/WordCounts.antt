@@ -7,6 +7,7 @@ use lib.Dec.{leb→le}
 use Rattle.layout.specs.Rules.{any}
 use Rattle.layout.proofs.Fitting.{Fits}
 use Rattle.layout.proofs.PartLaws.{length-fits}
+use Rattle.b3d_scene.specs.declared.Mode.the-variants.{Lenient}
 use Rattle.b3d_scene.specs.Scene.{Mesh, Keys}
 use Rattle.b3d_scene.specs.Rules.{textureId, brushIds, vertexRow, vertexWords, keyRow, keyWords}
 use Rattle.b3d_scene.specs.Mask.{ones, vertexMask, keyMask}
@@ -20,7 +21,7 @@ pub ids-words : (slots textures : ℕ) (ws : List ℕ) → Fits (brushIds slots 
 ids-words slots textures ws h = length-fits (brushIds slots textures) ws h ∙ length-replicate slots (textureId textures)
 
 -- a vertex and a key have the words that their masks have
-pub vertex-ones : (n : ℕ) (m : Mesh) → FitMesh n m → (v : List ℕ) → Fits (vertexRow (m .flags) (m .sets) (m .size)) v → length v ≡ ones (vertexMask (m .flags) (m .sets) (m .size))
+pub vertex-ones : (n : ℕ) (m : Mesh) → FitMesh n m → (v : List ℕ) → Fits (vertexRow Lenient (m .flags) (m .sets) (m .size)) v → length v ≡ ones (vertexMask (m .flags) (m .sets) (m .size))
 vertex-ones n m h v f =
     any-words (vertexWords (m .flags) (m .sets) (m .size)) v f
     ∙ sym (vertex-words (m .flags) (m .sets) (m .size) (leb→le (m .flags) 3 (h .head .1)) (leb→le (m .sets) 8 (h .head .2 .1)) (leb→le (m .size) 4 (h .head .2 .2 .1)))

@@ -12,6 +12,7 @@ use Rattle.layout.proofs.Fitting.{Fits}
 use Rattle.layout.proofs.Lists.{All, all-map, all-of-map, map-back, cons-head, cons-tail}
 use Rattle.layout.proofs.Testing.{Tests, both, via, eq-is}
 use Rattle.b3d_scene.specs.Mask.{ones, spread, squeeze, vertexHas, vertexMask, keyHas, keyMask}
+use Rattle.b3d_scene.specs.declared.Mode.the-variants.{Lenient}
 use Rattle.b3d_scene.specs.Rules.{verticesHead, vertexRow, vertexWords, keysHead, keyRow, keyWords}
 use Rattle.b3d_scene.proofs.Rows.MaskLaws.{mask-length, vertex-words, key-words}
 use Rattle.b3d_sound.specs.Check.{clean}
@@ -61,7 +62,7 @@ pub key-wide : (f : ℕ) → length (keyMask f) ≡ 11
 unfolding keyMask
 key-wide f = mask-length (keyHas f) 11 0
 
-pub vertices-fit : (f s z : ℕ) (l : List (List ℕ)) → All (Full 42) l → Fits verticesHead (f ∷ s ∷ z ∷ []) → All (Fits (vertexRow f s z)) (map (squeeze (vertexMask f s z)) l)
+pub vertices-fit : (f s z : ℕ) (l : List (List ℕ)) → All (Full 42) l → Fits verticesHead (f ∷ s ∷ z ∷ []) → All (Fits (vertexRow Lenient f s z)) (map (squeeze (vertexMask f s z)) l)
 vertices-fit f s z l w h =
     masked-fit (vertexMask f s z) 42 (vertex-wide f s z) l w (vertexWords f s z) (vertex-words f s z (leb→le _ _ (h .1)) (leb→le _ _ (h .2 .1)) (leb→le _ _ (h .2 .2 .1)))
 

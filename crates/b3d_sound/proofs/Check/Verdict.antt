@@ -2,8 +2,8 @@
 use mathlib.Core.Path.{_≡_, refl, ap, ap₂, sym, _∙_, subst}
 use Prim.Native.Nat.{ℕ, zero, suc, _+_, _*_, _≤_}
 use native.Mathlib.Omega.{arith}
-use mathlib.Core.Bool.{Bool, _&&_}
-use mathlib.Core.Option.{none, some}
+use mathlib.Core.Bool.{Bool, true, false, _&&_}
+use mathlib.Core.Option.{Option, none, some}
 use mathlib.Core.List.{List, [], _∷_, map}
 use lib.ListN.{length, drop, length-drop, length-map}
 use lib.Seq.{length-take-le}
@@ -14,15 +14,19 @@ use Rattle.layout.specs.Rules.{holds}
 use Rattle.layout.proofs.Fitting.{Fits}
 use Rattle.layout.proofs.Lists.{All, all-zip, all-append, all-left, all-right}
 use Rattle.layout.proofs.Testing.{Tests, both, via, all-is}
+use Rattle.b3d_scene.specs.Colours.{passes}
+use Rattle.b3d_scene.specs.declared.Mode.{Mode}
+use Rattle.b3d_scene.specs.declared.Mode.the-variants.{Lenient}
 use Rattle.b3d_scene.specs.Rebuild.{Lent, cut, lentRows, roomy, textureFrom, brushFrom, Rows, walk, tree, together, names, sound, rebuild}
 use Rattle.b3d_scene.specs.Rules.{version, fileHead, rowLimit}
-use Rattle.b3d_scene.specs.Scene.{Texture, Brush, Forest}
+use Rattle.b3d_scene.specs.Scene.{Texture, Brush, Forest, Scene}
 use Rattle.b3d_scene.specs.Tables.{width, start, textureRow, brushRow, nodeTables, tables, rows}
 use Rattle.b3d_scene.proofs.Fitting.{FitTexture, FitBrush, FitSlots, Fit}
+use Rattle.b3d_scene.proofs.Modes.{rebuild-mode}
 use Rattle.b3d_scene.proofs.Rows.RebuildLaws.{roomy-is, sound-is}
 use Rattle.b3d_scene.proofs.Rows.RowLists.{cut-length}
 use Rattle.b3d_scene.proofs.Rows.RowParts.{Stands}
-use Rattle.b3d_sound.specs.Check.{nameHere, brushHere, treeHere, slotsHere, check}
+use Rattle.b3d_sound.specs.Check.{nameHere, brushHere, treeHere, slotsHere, check, checkIn}
 use Rattle.b3d_sound.proofs.Check.Testing.{then, same-test, if-and}
 use Rattle.b3d_sound.proofs.Check.Rows.{all-take, all-drop, Full, one-is}
 use Rattle.b3d_sound.proofs.Check.Kinds.{Whole}
@@ -139,9 +143,19 @@ module _ (T : Lent) (ns : List ℕ) where
     check-is = subst (λ (c : Bool). Tests c (All (Room T) tables × Sound)) (sym counted) (then (all-is (roomy-is T) tables) (λ room. via rest-to rest-from (rest-is room)))
 
     -- so `rebuild` is the row-by-row test, and then what the rows give
-    pub rebuild-check : rebuild T ns ≡ if (check T ns) (some (together ns T)) none
-    unfolding rebuild
+    pub rebuild-check : rebuild Lenient T ns ≡ if (check T ns) (some (together ns T)) none
+    unfolding rebuild passes
     rebuild-check =
         let t = together ns T in
         let e = same-test check-is (both (all-is (roomy-is T) tables) (sound-is ns T t)) in
         sym (ap (λ (c : Bool). if c (some t) none) e ∙ if-and (all (roomy T) tables) (sound ns T t) (some t) none)
+
+    pub rebuild-check-in : (mode : Mode) → rebuild mode T ns ≡ if (checkIn mode T ns) (some (together ns T)) none
+    unfolding checkIn if
+    rebuild-check-in mode = rebuild-mode mode T ns ∙ ap (λ (o : Option Scene). if (passes mode (lentRows T)) o none) rebuild-check ∙ by (passes mode (lentRows T)) (check T ns)
+      where
+        by : (a b : Bool) → if a (if b (some (together ns T)) none) none ≡ if (b && a) (some (together ns T)) none
+        by true true = refl
+        by true false = refl
+        by false true = refl
+        by false false = refl

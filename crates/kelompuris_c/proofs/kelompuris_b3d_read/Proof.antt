@@ -1,6 +1,6 @@
 -- `kelompuris_b3d_read` answers, and leaves in the tables, what `b3d_read::read` does.
 use borrow.Author.Needs.{needs}
-use Rattle.kelompuris_c.proofs.Laws.{outward-laws}
+use Rattle.kelompuris_c.proofs.Laws.{outward-reads}
 use Rattle.kelompuris_c.proofs.kelompuris_b3d_read.Statement.{statement}
 use Rattle.kelompuris_c.proofs.kelompuris_b3d_read.Tie as tie
 
@@ -10,6 +10,7 @@ kelompuris-b3d-read-spec =
     (tie.spec
     (λ c κs. search needs)
     (λ c κs. search needs)
+    (λ c κs. search needs)
     (λ c. search)
     (λ c. search)
     (λ c. search)
@@ -20,4 +21,4 @@ kelompuris-b3d-read-spec =
     (λ c. search)
     (λ c. search)
     (λ c. search)
-    (λ c. search outward-laws))
+    (λ c. outward-reads _ _ (c .before .before .before .before .before .before .before .before .before .before .before .before .before .before .before .before .before .before .before .before .before .before .before .before .before .before .before .before .before .before .before .before .mode-of .ensures) _ _ (c .outward .ensures) _ _ _ (c .before .before .before .before .before .before .before .before .before .before .before .before .before .before .before .before .before .before .before .before .before .read .ensures)))

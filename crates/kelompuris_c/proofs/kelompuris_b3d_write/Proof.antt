@@ -10,5 +10,6 @@ kelompuris-b3d-write-spec =
     (tie.spec
     (λ c κs. search needs)
     (λ c κs. search needs)
+    (λ c κs. search needs)
     (λ c. search needs)
-    (λ c. outward-writes _ _ (c .outward-written .ensures) _ _ _ _ (c .before .before .before .write .ensures)))
+    (λ c. outward-writes _ _ (c .before .before .before .before .before .mode-of .ensures) _ _ (c .outward-written .ensures) _ _ _ _ (c .before .before .before .write .ensures)))

@@ -90,11 +90,15 @@ pub fn names_in(folder: &Path) -> Vec<String> {
 
 /// The words of a file that the independent implementation accepts.
 pub fn sheet_of(file: &[u8]) -> Sheet {
-    let answer = reference::judge(file);
+    let answer = reference::judge(reference::Mode::Strict, file);
     assert_eq!(answer.number, 0, "refused: {answer:?}");
     let words = |table: usize| answer.counts[table] as usize * ROW_WORDS[table];
     let mut tables: [Vec<u32>; 10] = std::array::from_fn(|table| vec![0; words(table)]);
-    reference::read(file, &mut tables.each_mut().map(Vec::as_mut_slice));
+    reference::read(
+        reference::Mode::Strict,
+        file,
+        &mut tables.each_mut().map(Vec::as_mut_slice),
+    );
     Sheet {
         tables,
         counts: answer.counts,

@@ -93,8 +93,14 @@ fn mesh(brush: u32, flags: u32, sets: u32, vertices: u32, tris: &[(u32, &[[u32; 
     let mut vrts = Chunk::new(b"VRTS");
     vrts.words(&[flags, sets, 2]);
     let parts = [3, 3 * (flags & 1), 4 * (flags >> 1), 2 * sets];
+    let colour = parts[0] + parts[1]..parts[0] + parts[1] + parts[2];
     for vertex in 0..vertices {
-        let cells = (0..parts.iter().sum()).map(|cell| (vertex + cell) as f32 / 8.0);
+        // Colours go from 0 to 1.
+        let eighths = |cell: u32| match colour.contains(&cell) {
+            true => (vertex + cell) % 9,
+            false => vertex + cell,
+        };
+        let cells = (0..parts.iter().sum()).map(|cell| eighths(cell) as f32 / 8.0);
         floats(&mut vrts, &cells.collect::<Vec<_>>());
     }
     let mut chunk = Chunk::new(b"MESH");

@@ -2,9 +2,10 @@
 
 use crate::chunks::Chunk;
 use crate::limits::{MOST_SLOTS, NONE};
-use crate::numbers::{fits, id_or_none, ranged, text_then, words};
+use crate::numbers::{colours, fits, id_or_none, ranged, text_then, words};
 use crate::refusal::Refusal;
 use crate::scene::{Brush, Texture};
+use crate::Mode;
 
 /// Items of TEXS: text, flags, blend, 5 floats.
 pub fn texs(file: &[u8], chunk: &Chunk) -> Result<Vec<Texture>, Refusal> {
@@ -21,9 +22,14 @@ pub fn texs(file: &[u8], chunk: &Chunk) -> Result<Vec<Texture>, Refusal> {
     Ok(textures)
 }
 
-/// BRUS: n_texs, then items of text, 5 floats, blend, fx and n_texs ids. The
-/// number is judged also when no item follows.
-pub fn brus(file: &[u8], chunk: &Chunk, textures: usize) -> Result<(u32, Vec<Brush>), Refusal> {
+/// BRUS: n_texs, then items of text, red green blue alpha, shininess, blend, fx
+/// and n_texs ids. The number is judged also when no item follows.
+pub fn brus(
+    mode: Mode,
+    file: &[u8],
+    chunk: &Chunk,
+    textures: usize,
+) -> Result<(u32, Vec<Brush>), Refusal> {
     fits(chunk.body, 4, chunk.end)?;
     let n_texs = ranged(file, chunk.body, MOST_SLOTS)?;
     let size = 28 + 4 * n_texs as usize;
@@ -31,6 +37,7 @@ pub fn brus(file: &[u8], chunk: &Chunk, textures: usize) -> Result<(u32, Vec<Bru
     let mut at = chunk.body + 4;
     while at < chunk.end {
         let (name, numbers) = text_then(file, at, size, chunk.end)?;
+        colours(mode, file, numbers)?;
         brushes.push(Brush {
             name,
             numbers: words(file, numbers),

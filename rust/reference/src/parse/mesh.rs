@@ -3,13 +3,14 @@
 use crate::chunks::{chunk_at, Chunk};
 use crate::layout::vertex_cells;
 use crate::limits::{HIGHEST_VERTEX_FLAGS, LARGEST_SET, MOST_SETS};
-use crate::numbers::{any_numbers, fits, id, id_or_none, items, ranged};
+use crate::numbers::{colours, fits, id, id_or_none, items, ranged};
 use crate::refusal::{refuse, Refusal, NO_MESH_DATA, TAG};
 use crate::scene::{Mesh, TriangleSet, Vertices};
+use crate::Mode;
 
 /// MESH: brush id, then one VRTS, then one or more TRIS. 8 at the header if it
 /// ends without either.
-pub fn mesh(file: &[u8], chunk: &Chunk, brushes: usize) -> Result<Mesh, Refusal> {
+pub fn mesh(mode: Mode, file: &[u8], chunk: &Chunk, brushes: usize) -> Result<Mesh, Refusal> {
     fits(chunk.body, 4, chunk.end)?;
     let brush = id_or_none(file, chunk.body, brushes)?;
     let mut vertices: Option<Vertices> = None;
@@ -18,7 +19,7 @@ pub fn mesh(file: &[u8], chunk: &Chunk, brushes: usize) -> Result<Mesh, Refusal>
     while let Some(inner) = chunk_at(file, at, chunk.end)? {
         at = inner.end;
         match (&inner.tag, &vertices) {
-            (b"VRTS", None) => vertices = Some(vrts(file, &inner)?),
+            (b"VRTS", None) => vertices = Some(vrts(mode, file, &inner)?),
             (b"TRIS", Some(own)) => {
                 triangle_sets.push(tris(file, &inner, brushes, own.items.count)?);
             }
@@ -36,8 +37,9 @@ pub fn mesh(file: &[u8], chunk: &Chunk, brushes: usize) -> Result<Mesh, Refusal>
     }
 }
 
-/// VRTS: flags, sets, set size, then the vertices.
-fn vrts(file: &[u8], chunk: &Chunk) -> Result<Vertices, Refusal> {
+/// VRTS: flags, sets, set size, then the vertices. The colour stands behind
+/// position and normal.
+fn vrts(mode: Mode, file: &[u8], chunk: &Chunk) -> Result<Vertices, Refusal> {
     fits(chunk.body, 12, chunk.end)?;
     let flags = ranged(file, chunk.body, HIGHEST_VERTEX_FLAGS)?;
     let sets = ranged(file, chunk.body + 4, MOST_SETS)?;
@@ -47,7 +49,13 @@ fn vrts(file: &[u8], chunk: &Chunk) -> Result<Vertices, Refusal> {
         flags,
         sets,
         set_size,
-        items: items(chunk.body + 12, chunk.end, size, any_numbers)?,
+        items: items(chunk.body + 12, chunk.end, size, |item| {
+            match (flags & 1 != 0, flags & 2 != 0) {
+                (_, false) => Ok(()),
+                (false, true) => colours(mode, file, item + 12),
+                (true, true) => colours(mode, file, item + 24),
+            }
+        })?,
     })
 }
 

@@ -9,12 +9,13 @@ use crate::limits::{HIGHEST_VERSION, LARGEST_FILE, SMALLEST_FILE};
 use crate::numbers::{ranged, word};
 use crate::refusal::{refuse, Refusal, FILE_SIZE, FIRST_HEADER, TAG};
 use crate::scene::Scene;
+use crate::Mode;
 
 /// The scene of a file without faults 1 to 9, else the first fault.
-pub fn parse(file: &[u8]) -> Result<Scene, Refusal> {
+pub fn parse(mode: Mode, file: &[u8]) -> Result<Scene, Refusal> {
     check_size(file)?;
     check_first_header(file)?;
-    bb3d(file)
+    bb3d(mode, file)
 }
 
 /// 1 at 0: file size outside its limits.
@@ -38,7 +39,7 @@ fn check_first_header(file: &[u8]) -> Result<(), Refusal> {
 
 /// The inside of BB3D: version, then at most one each of TEXS, BRUS, NODE, in
 /// that order. A file of 12 bytes or more holds the version.
-fn bb3d(file: &[u8]) -> Result<Scene, Refusal> {
+fn bb3d(mode: Mode, file: &[u8]) -> Result<Scene, Refusal> {
     let mut scene = Scene {
         version: ranged(file, 8, HIGHEST_VERSION)?,
         n_texs: 0,
@@ -57,13 +58,13 @@ fn bb3d(file: &[u8]) -> Result<Scene, Refusal> {
                 last = 1;
             }
             b"BRUS" if last < 2 => {
-                let (n_texs, brushes) = materials::brus(file, &chunk, scene.textures.len())?;
+                let (n_texs, brushes) = materials::brus(mode, file, &chunk, scene.textures.len())?;
                 scene.n_texs = n_texs;
                 scene.brushes = brushes;
                 last = 2;
             }
             b"NODE" if last < 3 => {
-                scene.root = Some(node::root(file, &chunk, scene.brushes.len())?);
+                scene.root = Some(node::root(mode, file, &chunk, scene.brushes.len())?);
                 last = 3;
             }
             _ if chunk.is_known() => return refuse(TAG, chunk.header),

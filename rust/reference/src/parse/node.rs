@@ -7,9 +7,11 @@ use crate::numbers::{any_numbers, fits, id, items, ranged, text_then, words};
 use crate::parse::mesh::mesh;
 use crate::refusal::{refuse, Refusal, CUT, DEPTH, TAG};
 use crate::scene::{Items, KeyList, Kind, Node};
+use crate::Mode;
 
 /// What the inside of every node needs to know.
 struct Nodes<'a> {
+    mode: Mode,
     file: &'a [u8],
     brushes: usize,
     /// The nodes around the one that is read, the root first.
@@ -24,8 +26,9 @@ struct Level {
 }
 
 /// The root node, at depth 1.
-pub fn root(file: &[u8], chunk: &Chunk, brushes: usize) -> Result<Node, Refusal> {
+pub fn root(mode: Mode, file: &[u8], chunk: &Chunk, brushes: usize) -> Result<Node, Refusal> {
     let mut nodes = Nodes {
+        mode,
         file,
         brushes,
         above: Vec::new(),
@@ -64,7 +67,7 @@ impl Nodes<'_> {
             let no_child = node.children.is_empty();
             match &inner.tag {
                 b"MESH" if first => {
-                    node.kind = Kind::Mesh(mesh(self.file, &inner, self.brushes)?);
+                    node.kind = Kind::Mesh(mesh(self.mode, self.file, &inner, self.brushes)?);
                 }
                 b"BONE" if first => node.kind = Kind::Bone(self.bone(&inner)?),
                 b"KEYS" if no_child => node.key_lists.push(keys(self.file, &inner)?),

@@ -1,9 +1,12 @@
 //! Helpers of the tests.
 #![allow(dead_code)]
 
-use reference::{clear, judge, read, write, Answer, Written};
+use reference::{clear, judge, read, write, Answer, Mode, Written};
 use scenes::sheet::ROW_WORDS;
 use scenes::Sheet;
+
+/// Both modes. What helpers do without a mode, they do in the strict one.
+pub const MODES: [Mode; 2] = [Mode::Strict, Mode::Lenient];
 
 /// What lent words and bytes hold before a call.
 pub const WORD: u32 = 0xA5C3_0F1E;
@@ -28,8 +31,13 @@ pub fn lend(sizes: [usize; 10]) -> [Vec<u32>; 10] {
 
 /// Reads with lent tables.
 pub fn read_into(file: &[u8], tables: &mut [Vec<u32>; 10]) -> Answer {
+    read_in(Mode::Strict, file, tables)
+}
+
+/// The same in a mode.
+pub fn read_in(mode: Mode, file: &[u8], tables: &mut [Vec<u32>; 10]) -> Answer {
     let mut slices = tables.each_mut().map(|table| table.as_mut_slice());
-    read(file, &mut slices)
+    read(mode, file, &mut slices)
 }
 
 /// Words that a file with these counts fills.
@@ -39,11 +47,16 @@ pub fn sizes(counts: &[u32; 10]) -> [usize; 10] {
 
 /// Reads an accepted file; checks that words past the last row stay.
 pub fn sheet_of(file: &[u8]) -> Sheet {
-    let counts = judge(file).counts;
+    sheet_in(Mode::Strict, file)
+}
+
+/// The same in a mode.
+pub fn sheet_in(mode: Mode, file: &[u8]) -> Sheet {
+    let counts = judge(mode, file).counts;
     let mut tables = lend(sizes(&counts).map(|size| size + SPARE));
-    let answer = read_into(file, &mut tables);
+    let answer = read_in(mode, file, &mut tables);
     assert_eq!(answer.number, 0, "refused at {}", answer.place);
-    assert_eq!(answer, judge(file));
+    assert_eq!(answer, judge(mode, file));
     for (table, size) in sizes(&counts).into_iter().enumerate() {
         assert!(tables[table][size..].iter().all(|&word| word == WORD));
         tables[table].truncate(size);
@@ -59,8 +72,14 @@ pub fn sheet_of(file: &[u8]) -> Sheet {
 
 /// Writes to an output of this size; gives the answer and the output.
 pub fn write_to(sheet: &Sheet, size: usize) -> (Written, Vec<u8>) {
+    write_in(Mode::Strict, sheet, size)
+}
+
+/// The same in a mode.
+pub fn write_in(mode: Mode, sheet: &Sheet, size: usize) -> (Written, Vec<u8>) {
     let mut out = vec![BYTE; size];
     let written = write(
+        mode,
         &sheet.slices(),
         &sheet.counts,
         sheet.version,
@@ -102,14 +121,22 @@ pub fn untouched(out: &[u8]) -> bool {
     out.iter().all(|&byte| byte == BYTE)
 }
 
-/// Checks that judge, reader and clearer give this refusal, with lent words
-/// and bytes unchanged.
-pub fn assert_refused(file: &[u8], number: u32, place: u32, about: &str) {
+/// Checks that judge and reader give this refusal in a mode, with lent words
+/// unchanged.
+pub fn assert_refused_in(mode: Mode, file: &[u8], number: u32, place: u32, about: &str) {
     let expected = refusal(number, place);
-    assert_eq!(judge(file), expected, "judge: {about}");
+    assert_eq!(judge(mode, file), expected, "judge: {about}");
     let mut tables = lend([64; 10]);
-    assert_eq!(read_into(file, &mut tables), expected, "read: {about}");
+    assert_eq!(read_in(mode, file, &mut tables), expected, "read: {about}");
     assert_eq!(tables, lend([64; 10]), "words: {about}");
+}
+
+/// Checks that judge and reader in both modes, and the clearer, give this
+/// refusal, with lent words and bytes unchanged.
+pub fn assert_refused(file: &[u8], number: u32, place: u32, about: &str) {
+    for mode in MODES {
+        assert_refused_in(mode, file, number, place, about);
+    }
     let (answer, out) = clear_to(file, 64);
     let refused = Written {
         number,

@@ -44,10 +44,10 @@ judge-nodes-below t =
     and 1 judge-nodes-kinds.ps (falls 1 judge-nodes-kinds.ps _<_ μ-judge-nodes t) judge-nodes.Pre
 
 abbrev judge-nodes-Inv-loop : judge-nodes-lts.InvT-loop
-judge-nodes-Inv-loop s at levels brushes above c₀ q₀ m₀ c q m = Noding s at (readNode levels brushes (aboveOf above)) c₀ c q m
+judge-nodes-Inv-loop s at levels brushes above mode c₀ q₀ m₀ c q m = Noding s at (readNode mode levels brushes (aboveOf above)) c₀ c q m
 
 abbrev judge-nodes-μ-loop : judge-nodes-lts.MeasureT-loop
-judge-nodes-μ-loop s at levels brushes above c₀ q₀ m₀ c q m = c .end - c .at
+judge-nodes-μ-loop s at levels brushes above mode c₀ q₀ m₀ c q m = c .end - c .at
 
 pub +judge-node+judge-nodes-spec : {M : Type 1} → statement M
 +judge-node+judge-nodes-spec = close μ-judge-node μ-judge-nodes (λ t. judge-node-lts.spec (

@@ -1,0 +1,2 @@
+-- The laws of rows with colours.
+pub mod ColourRows

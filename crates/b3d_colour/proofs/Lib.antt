@@ -1,0 +1,2 @@
+-- The laws of colours.
+pub mod Unit
