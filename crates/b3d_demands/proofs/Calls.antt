@@ -31,7 +31,7 @@ use Rattle.b3d_scene.proofs.Rows.RowLists.{cut-length, cut-words}
 use Rattle.b3d_scene.proofs.Rows.RowParts.{Wide}
 use Rattle.b3d_demands.specs.Having.{namesOf, Has, filled, ReadBack, emptied}
 use Rattle.b3d_demands.specs.Demands.{Lowest, Alike}
-use Rattle.b3d_demands.specs.Calls.{ReaderSays, Leaves, WriterSays, ClearerSays, IsAlike, copyIn, OneCopy, Rewritten}
+use Rattle.b3d_demands.specs.Calls.{ReaderSays, Leaves, WriterSays, ClearerSays, IsAlike, copyIn, OneCopy, TellsApart, Rewritten}
 use Rattle.b3d_demands.proofs.Lowest.{lowest-is}
 use Rattle.b3d_demands.proofs.Having.{named-length, same-many}
 use Rattle.b3d_demands.proofs.Demand2.{demand-2, verdict, has-read}
@@ -471,6 +471,22 @@ module _ (s v : List ℕ) (bs : AllBytes s) (bv : AllBytes v) (out out′ : List
     answer = one-answer a l;
     bytes = λ z. begin-same a z (ap (λ (w : Written). w .number) (sym (one-answer a l)) ∙ z);
   }
+
+  module _ (t u : Scene) (et : judge Lenient s ≡ got t) (eu : judge Lenient v ≡ got u) (le : length (copy t) ≤ length out) (le′ : length (copy u) ≤ length out′) where
+    abbrev zero-one : (clearAnswer s out) .number ≡ 0
+    zero-one = clearer-says s bs out .enough t et le
+
+    abbrev zero-other : (clearAnswer v out′) .number ≡ 0
+    zero-other = clearer-says v bv out′ .enough u eu le′
+
+    apart-in : copyIn s out ≡ copyIn v out′ → Alike s v
+    apart-in e = demand-3 s bs .apart v bv t u et eu (sym (copy-in s bs out zero-one t et) ∙ e ∙ copy-in v bv out′ zero-other u eu)
+
+    same-in : Alike s v → copyIn s out ≡ copyIn v out′
+    same-in a = begin-same a zero-one zero-other
+
+  pub tells-apart : TellsApart s v out out′
+  tells-apart = record { equal = same-in; alike = apart-in }
 
 -- ---- read, then written
 

@@ -21,10 +21,11 @@ use Rattle.b3d_scene.specs.Rules.{rowLimit}
 use Rattle.b3d_scene.specs.Scene.{Scene}
 use Rattle.b3d_scene.specs.Tables.{width, rows, words, tables}
 use Rattle.b3d_scene.proofs.AnswerLaws.{judge-got, judge-yes, clear-first, read-yes}
-use Rattle.b3d_scene.proofs.Files.NameLaws.{Copied, cleared-fits, bare-cleared}
+use Rattle.b3d_scene.proofs.Files.FileLaws.{parse-size}
+use Rattle.b3d_scene.proofs.Files.NameLaws.{Copied, cleared-fits, bare-cleared, copy-short}
 use Rattle.b3d_scene.proofs.Files.PlaceLaws.{parse-names}
 use Rattle.b3d_scene.proofs.Join.{cells-copy, bare-version, bare-slots, stand, all-in}
-use Rattle.b3d_scene.proofs.Laws.{copy as copied, fine, file-bytes, file-bare}
+use Rattle.b3d_scene.proofs.Laws.{copy as copied, fine, file-bytes, file-bare, copy-differs}
 use Rattle.b3d_scene.proofs.Rows.RebuildLaws.{rows-wide}
 use Rattle.b3d_scene.proofs.Rows.Rename.{bare-rows, cleared-rows, bare-same, cleared-stands}
 use Rattle.b3d_scene.proofs.Rows.RowLists.{cut-words, words-length}
@@ -192,9 +193,19 @@ module _ (s v : List ℕ) (t u : Scene) (et : judge Lenient s ≡ got t) (eu : j
         (λ k a b. off-unnamed k (rows k t) (rows k u) (sym a ∙ ap (rows k) e ∙ b)) tables (cleared-rows t) (cleared-rows u);
   }
 
+copies-alike : (s v : List ℕ) (t u : Scene) → judge Lenient s ≡ got t → judge Lenient v ≡ got u → AllBytes s → AllBytes v → copy t ≡ copy u → Alike s v
+unfolding copy
+copies-alike s v t u et eu bs bv e =
+    let ps = judge-got Lenient s t et .0 in
+    let pv = judge-got Lenient v u eu .0 in
+    let n = parse-size s t ps in
+    let m = copy-short s t bs ps in
+    cleared-alike s v t u et eu (copy-differs t u (fine Lenient s t bs ps .0) (fine Lenient v u bv pv .0) (omega arith) e)
+
 pub demand-3 : (s : List ℕ) → AllBytes s → Clearing s
 demand-3 s b = record {
   same = λ v c a room. clear-is s (a .one) (a .one-is) room ∙ ap (roomFor room) (same-copy s v b c a) ∙ sym (clear-is v (a .other) (a .other-is) room);
+  apart = λ v c t u et eu e. copies-alike s v t u et eu b c e;
   enough = clear-enough s;
   short = clear-short s;
   as-written = λ t e L ns h room. copy-written s t e b L ns h room;

@@ -95,6 +95,12 @@ pub record OneCopy (s v out out′ : List ℕ) : Type 0 where
   pub answer : clearAnswer s out ≡ clearAnswer v out′
   pub bytes : (clearAnswer s out) .number ≡ 0 → copyIn s out ≡ copyIn v out′
 
+-- The other half of demand 3 (E10): for two accepted files and outputs with room for both copies, the copies there are equal, byte for byte,
+-- exactly when the files are alike.
+pub record TellsApart (s v out out′ : List ℕ) : Type 0 where
+  pub equal : (t u : Scene) → judge Lenient s ≡ got t → judge Lenient v ≡ got u → length (copy t) ≤ length out → length (copy u) ≤ length out′ → Alike s v → copyIn s out ≡ copyIn v out′
+  pub alike : (t u : Scene) → judge Lenient s ≡ got t → judge Lenient v ≡ got u → length (copy t) ≤ length out → length (copy u) ≤ length out′ → copyIn s out ≡ copyIn v out′ → Alike s v
+
 -- ---- read, then written
 
 -- what the reader fills of a file s that a mode accepts: s has it, with its own bytes for the names; so it is written, in no more bytes than s has

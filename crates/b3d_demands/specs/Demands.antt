@@ -100,6 +100,8 @@ pub record Alike (s v : List ℕ) : Type 0 where
 pub record Clearing (s : List ℕ) : Type 0 where
   -- clearing depends on nothing but those words: the same answer and the same copy
   pub same : (v : List ℕ) → AllBytes v → Alike s v → (room : ℕ) → clear s room ≡ clear v room
+  -- and on no fewer: accepted files with one copy are alike (E10)
+  pub apart : (v : List ℕ) → AllBytes v → (t u : Scene) → judge Lenient s ≡ got t → judge Lenient v ≡ got u → copy t ≡ copy u → Alike s v
   -- an accepted file is refused exactly when the output is shorter than its copy
   pub enough : (t : Scene) → judge Lenient s ≡ got t → (room : ℕ) → length (copy t) ≤ room → clear s room ≡ got (copy t)
   pub short : (t : Scene) → judge Lenient s ≡ got t → (room : ℕ) → room < length (copy t) → clear s room ≡ bad 11 (length (copy t))
