@@ -1,7 +1,3 @@
--- The laws of a table of an accepted file.
-pub mod FirstLaws
-pub mod ListLaws
-pub mod RootLaws
-pub mod RestLaws
-pub mod Opening
-pub mod TableLaws
+-- Tables without rows, and the ten tables one by one.
+pub mod Empty
+pub mod Each

@@ -1,3 +1,2 @@
--- Rows of what a file's chunks give, and what is asked for of those after the textures.
-pub mod Found
-pub mod Rest
+-- What it takes to fill the ten tables of a file, and what they hold then.
+pub mod Fills

@@ -1,165 +1,103 @@
-// One table of an accepted file, filled by one walk over it.
+// The ten tables of a file, filled. Of a table it is known how many rows it has: where it has none, the file need not be walked.
 ghost use mathlib.Core.Path.{_≡_};
-ghost use mathlib.Core.Bool.{true};
-ghost use mathlib.Core.Option.{none};
-ghost use mathlib.Core.List.{[], map};
-ghost use Prim.Native.Nat.{_≤_};
+ghost use Prim.Native.Nat.{ℕ, _<_, _≤_};
+ghost use mathlib.Core.List.{[], _∷_};
 ghost use lib.ListN.{length};
-ghost use Rattle.wire.specs.Bytes.{AllBytes};
-ghost use Rattle.b3d_scene.specs.declared.Mode.the-variants.{Lenient};
-ghost use Rattle.b3d_scene.specs.declared.Tag.the-variants.{BB3D, TEXS, BRUS, NODE};
-ghost use Rattle.b3d_scene.specs.Rules.{levels};
-ghost use Rattle.b3d_scene.specs.Scene.{leaf};
-ghost use Rattle.b3d_scene.specs.Nesting.{start};
-ghost use Rattle.b3d_scene.specs.Parse.{readOne, readTextures, readBrushes, readRoot};
-ghost use Rattle.b3d_scene.specs.Tables.{start as noRows, rows, textureRow};
-ghost use Rattle.b3d_scene.specs.Answers.{judge, tableAfter};
-ghost use Rattle.b3d_judge.specs.States.{reached, restIn, readRest};
-ghost use Rattle.b3d_judge.specs.Answers.{Among};
-ghost use Rattle.b3d_rows.specs.Puts.{putRows, Ready};
-ghost use Rattle.b3d_fill_nodes.specs.Walk.{Fillable};
-ghost use Rattle.b3d_fill.specs.Found.{foundRows, brushRows, nodeRows, forestIn};
-ghost use Rattle.b3d_fill.specs.Rest.{restRows, RestReady};
-use b3d_chunks::Next;
-use b3d_judge::Above;
-use b3d_judge::Brushed;
-use b3d_judge::Phase;
-use b3d_scene::Counts;
-use b3d_scene::Mode;
-use b3d_scene::Tag;
-use wire::Cursor;
+ghost use lib.Seq.{sets as stored};
+ghost use Rattle.b3d_scene.specs.Tables.{words};
+ghost use Rattle.b3d_file_rows.specs.Rows.{fileRows};
+ghost use Rattle.b3d_fill.specs.Fills.{Fillable, Filled};
 
-// Table 1: the textures, if TEXS comes first.
-fn fill_texs(file: &[u8], from: Cursor, out: &mut [u32])
-    requires { ⌜ Among 0 from (length (now file)) ⌝ }
-    requires { ⌜ Ready (foundRows (map textureRow)) (readOne TEXS [] readTextures (restIn (now file) BB3D 0 start from)) 0 (length (now out)) ⌝ }
-    ensures { λ _. ⌜ now (out .exit) ≡ putRows (foundRows (map textureRow)) (readOne TEXS [] readTextures (restIn (now (file .entry)) BB3D 0 start from)) 0 (now (out .entry)) ⌝ }
+// Table 1, of so many rows.
+fn textures(file: &[u8], rows: u32, out: &mut [u32])
+    requires { ⌜ (length (now file) < 0x100000000) × (rows ≡ length (fileRows 1 (now file))) × (length (words (fileRows 1 (now file))) ≤ length (now out)) ⌝ }
+    ensures { λ _. ⌜ (now (out .exit) ≡ stored (now (out .entry)) 0 (words (fileRows 1 (now (file .entry))))) ⌝ }
 {
-    match b3d_chunks::next_chunk(file, from) {
-        Next::Done => {}
-        // Not met: the textures can be read.
-        Next::Cut(_) => {}
-        Next::Chunk {
-            tag,
-            at,
-            body,
-            next: _,
-        } => match tag {
-            Tag::TEXS => {
-                b3d_fill_lists::fill_textures(file, at, body, out);
-            }
-            _ => {}
-        },
-    }
-}
-
-// Table 2: the brushes, if BRUS comes first.
-fn fill_brus(file: &[u8], from: Cursor, textures: usize, out: &mut [u32])
-    requires { ⌜ Among 0 from (length (now file)) ⌝ }
-    requires { ⌜ Ready (foundRows brushRows) (readOne BRUS (0, []) (readBrushes Lenient textures) (restIn (now file) BB3D 0 (reached 1 true) from)) 0 (length (now out)) ⌝ }
-    ensures { λ _. ⌜ now (out .exit) ≡ putRows (foundRows brushRows) (readOne BRUS (0, []) (readBrushes Lenient textures) (restIn (now (file .entry)) BB3D 0 (reached 1 true) from)) 0 (now (out .entry)) ⌝ }
-{
-    match b3d_chunks::next_chunk(file, from) {
-        Next::Done => {}
-        // Not met: the brushes can be read.
-        Next::Cut(_) => {}
-        Next::Chunk {
-            tag,
-            at,
-            body,
-            next: _,
-        } => match tag {
-            Tag::BRUS => {
-                b3d_fill_lists::fill_brushes(file, at, body, textures, out);
-            }
-            _ => {}
-        },
-    }
-}
-
-// Tables 3 to 10 by their number: the nodes, if NODE comes first.
-fn fill_root(file: &[u8], from: Cursor, brushes: usize, which: u32, out: &mut [u32])
-    requires { ⌜ Among 0 from (length (now file)) ⌝ }
-    requires { ⌜ Fillable forestIn (readOne NODE leaf (readRoot Lenient brushes) (restIn (now file) BB3D 0 (reached 2 true) from)) levels brushes none which noRows (length (now out)) ⌝ }
-    ensures { λ _. ⌜ now (out .exit) ≡ putRows (foundRows (nodeRows which)) (readOne NODE leaf (readRoot Lenient brushes) (restIn (now (file .entry)) BB3D 0 (reached 2 true) from)) 0 (now (out .entry)) ⌝ }
-{
-    match b3d_chunks::next_chunk(file, from) {
-        Next::Done => {}
-        // Not met: the nodes can be read.
-        Next::Cut(_) => {}
-        Next::Chunk {
-            tag,
-            at,
-            body,
-            next: _,
-        } => match tag {
-            Tag::NODE => {
-                let none = Counts {
-                    nodes: 0,
-                    meshes: 0,
-                    vertices: 0,
-                    sets: 0,
-                    triangles: 0,
-                    weights: 0,
-                    lists: 0,
-                    keys: 0,
-                };
-                b3d_fill_nodes::fill_node(
-                    file,
-                    at,
-                    body,
-                    16,
-                    brushes,
-                    Above::Root,
-                    which,
-                    0xFFFFFFFF,
-                    none,
-                    out,
-                );
-            }
-            _ => {}
-        },
-    }
-}
-
-// Tables 2 to 10 by their number: the brushes and the nodes.
-fn fill_rest(file: &[u8], from: Cursor, textures: usize, which: u32, out: &mut [u32])
-    requires { ⌜ Among 0 from (length (now file)) × (2 ≤ which) × (which ≤ 10) ⌝ }
-    requires { ⌜ RestReady which (readRest Lenient textures (restIn (now file) BB3D 0 (reached 1 true) from)) (length (now out)) ⌝ }
-    ensures { λ _. ⌜ now (out .exit) ≡ putRows (restRows which) (readRest Lenient textures (restIn (now (file .entry)) BB3D 0 (reached 1 true) from)) 0 (now (out .entry)) ⌝ }
-{
-    if which == 2 {
-        fill_brus(file, from, textures, out);
+    if rows == 0 {
         return;
     }
-    match b3d_judge::file::judge_brus(file, from, textures, Mode::Lenient) {
-        // Not met: the brushes can be read.
-        Brushed::Not(_, _) => {}
-        Brushed::To(_, b, c) => {
-            fill_root(file, c, b.brushes, which, out);
-        }
-    }
+    b3d_fill_texts::fill_textures(file, out);
 }
 
-// Table `which` of a file that was judged to be accepted, with room for it: its rows, then what stood there.
-pub fn fill_table(file: &[u8], which: u32, out: &mut [u32])
-    requires { ⌜ (1 ≤ which) × (which ≤ 10) × AllBytes (now file) ⌝ }
-    requires { ⌜ Ready (rows which) (judge Lenient (now file)) 0 (length (now out)) ⌝ }
-    ensures { λ _. ⌜ now (out .exit) ≡ tableAfter which (judge Lenient (now (file .entry))) (now (out .entry)) ⌝ }
+// Table 2, of so many rows.
+fn brushes(file: &[u8], rows: u32, out: &mut [u32])
+    requires { ⌜ (length (now file) < 0x100000000) × (rows ≡ length (fileRows 2 (now file))) × (length (words (fileRows 2 (now file))) ≤ length (now out)) ⌝ }
+    ensures { λ _. ⌜ (now (out .exit) ≡ stored (now (out .entry)) 0 (words (fileRows 2 (now (file .entry))))) ⌝ }
 {
-    let from = Cursor {
-        at: 12,
-        end: file.len(),
-    };
-    if which == 1 {
-        fill_texs(file, from, out);
+    if rows == 0 {
         return;
     }
-    match b3d_judge::file::judge_texs(file, from) {
-        // Not met: the textures can be read.
-        Phase::Not(_, _) => {}
-        Phase::To(t, c) => {
-            fill_rest(file, c, t.textures, which, out);
+    b3d_fill_texts::fill_brushes(file, out);
+}
+
+// Table 3, of so many rows.
+fn nodes(file: &[u8], rows: u32, out: &mut [u32])
+    requires { ⌜ (length (now file) < 0x100000000) × (rows ≡ length (fileRows 3 (now file))) × (length (words (fileRows 3 (now file))) ≤ length (now out)) ⌝ }
+    ensures { λ _. ⌜ (now (out .exit) ≡ stored (now (out .entry)) 0 (words (fileRows 3 (now (file .entry))))) ⌝ }
+{
+    if rows == 0 {
+        return;
+    }
+    b3d_fill_tree::fill_nodes(file, out);
+}
+
+// Tables 4 to 7, of so many meshes: where there are none, they all are without rows.
+fn meshes(file: &[u8], rows: u32, t4: &mut [u32], t5: &mut [u32], t6: &mut [u32], t7: &mut [u32])
+    requires { ⌜ (length (now file) < 0x100000000) × (rows ≡ length (fileRows 4 (now file)))
+        × (length (words (fileRows 4 (now file))) ≤ length (now t4)) × (length (words (fileRows 5 (now file))) ≤ length (now t5))
+        × (length (words (fileRows 6 (now file))) ≤ length (now t6)) × (length (words (fileRows 7 (now file))) ≤ length (now t7)) ⌝ }
+    ensures { λ _. ⌜ (now (t4 .exit) ≡ stored (now (t4 .entry)) 0 (words (fileRows 4 (now (file .entry)))))
+        × (now (t5 .exit) ≡ stored (now (t5 .entry)) 0 (words (fileRows 5 (now (file .entry)))))
+        × (now (t6 .exit) ≡ stored (now (t6 .entry)) 0 (words (fileRows 6 (now (file .entry)))))
+        × (now (t7 .exit) ≡ stored (now (t7 .entry)) 0 (words (fileRows 7 (now (file .entry))))) ⌝ }
+{
+    if rows == 0 {
+        return;
+    }
+    b3d_fill_parts::fill_meshes(file, t4, t5, t6, t7);
+}
+
+// Tables 8 to 10, of so many weights and key lists: where there are no lists, there are no keys.
+fn moves(file: &[u8], weights: u32, lists: u32, t8: &mut [u32], t9: &mut [u32], t10: &mut [u32])
+    requires { ⌜ (length (now file) < 0x100000000) × (weights ≡ length (fileRows 8 (now file))) × (lists ≡ length (fileRows 9 (now file)))
+        × (length (words (fileRows 8 (now file))) ≤ length (now t8)) × (length (words (fileRows 9 (now file))) ≤ length (now t9)) × (length (words (fileRows 10 (now file))) ≤ length (now t10)) ⌝ }
+    ensures { λ _. ⌜ (now (t8 .exit) ≡ stored (now (t8 .entry)) 0 (words (fileRows 8 (now (file .entry)))))
+        × (now (t9 .exit) ≡ stored (now (t9 .entry)) 0 (words (fileRows 9 (now (file .entry)))))
+        × (now (t10 .exit) ≡ stored (now (t10 .entry)) 0 (words (fileRows 10 (now (file .entry))))) ⌝ }
+{
+    if weights == 0 {
+        if lists == 0 {
+            return;
         }
     }
+    b3d_fill_parts::fill_moves(file, t8, t9, t10);
+}
+
+// The ten tables of a file, of so many rows.
+pub fn fill_tables(
+    file: &[u8],
+    rows: [u32; 10],
+    table1: &mut [u32],
+    table2: &mut [u32],
+    table3: &mut [u32],
+    table4: &mut [u32],
+    table5: &mut [u32],
+    table6: &mut [u32],
+    table7: &mut [u32],
+    table8: &mut [u32],
+    table9: &mut [u32],
+    table10: &mut [u32],
+)
+    requires { ⌜ Fillable (now file) rows (length (now table1) ∷ length (now table2) ∷ length (now table3) ∷ length (now table4) ∷ length (now table5) ∷ length (now table6) ∷ length (now table7) ∷ length (now table8) ∷ length (now table9) ∷ length (now table10) ∷ []) ⌝ }
+    ensures { λ _. ⌜ Filled (now (file .entry))
+        (now (table1 .entry) ∷ now (table2 .entry) ∷ now (table3 .entry) ∷ now (table4 .entry) ∷ now (table5 .entry)
+        ∷ now (table6 .entry) ∷ now (table7 .entry) ∷ now (table8 .entry) ∷ now (table9 .entry) ∷ now (table10 .entry) ∷ [])
+        (now (table1 .exit) ∷ now (table2 .exit) ∷ now (table3 .exit) ∷ now (table4 .exit) ∷ now (table5 .exit)
+        ∷ now (table6 .exit) ∷ now (table7 .exit) ∷ now (table8 .exit) ∷ now (table9 .exit) ∷ now (table10 .exit) ∷ []) ⌝ }
+{
+    textures(file, rows[0], table1);
+    brushes(file, rows[1], table2);
+    nodes(file, rows[2], table3);
+    meshes(file, rows[3], table4, table5, table6, table7);
+    moves(file, rows[7], rows[8], table8, table9, table10);
 }

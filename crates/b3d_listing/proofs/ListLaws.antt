@@ -5,16 +5,16 @@ use native.Mathlib.Nat.{add-zero}
 use native.Mathlib.Omega.{arith}
 use mathlib.Core.List.{List, [], _∷_, _++_, append-assoc}
 use lib.ListN.{length, drop, getD, length-append, length-drop}
-use lib.Seq.{getD-drop, drop-drop}
+use lib.Seq.{sets, length-sets, getD-drop, drop-drop}
 use borrow.Author.Tests.{lt-ltb, le-ltb}
 use Rattle.wire.specs.Test.{if}
-use Rattle.wire.specs.Bytes.{AllBytes, over}
+use Rattle.wire.specs.Bytes.{AllBytes}
 use Rattle.layout.specs.Out.{Out, got}
+use Rattle.b3d_scene.specs.declared.Mode.the-variants.{Strict}
 use Rattle.b3d_scene.specs.Answers.{judge, tableAfter}
-use Rattle.b3d_scene.specs.declared.Mode.the-variants.{Strict, Lenient}
 use Rattle.b3d_scene.specs.Parse.{parse}
 use Rattle.b3d_scene.specs.Scene.{Scene}
-use Rattle.b3d_scene.specs.Tables.{rows, table, counts, tables, nodeTables}
+use Rattle.b3d_scene.specs.Tables.{words, table, counts, tables, nodeTables}
 use Rattle.b3d_scene.proofs.AnswerLaws.{judge-got, judge-lenient}
 use Rattle.b3d_judge.specs.Answers.{verdictOf}
 use Rattle.b3d_judge.specs.declared.Summary.{Summary}
@@ -22,8 +22,9 @@ use Rattle.b3d_judge.specs.declared.Verdict.{Verdict}
 use Rattle.b3d_judge.specs.declared.Verdict.the-variants as verdict
 use Rattle.b3d_names.specs.Name.{nameOr}
 use Rattle.b3d_read.specs.Rooms.{countsIn}
-use Rattle.b3d_read.proofs.ReadLaws.{summaryOf, Good, was-bad, was-good}
-use Rattle.b3d_rows.specs.Puts.{Ready}
+use Rattle.b3d_read.proofs.ReadLaws.{summaryOf, Good, was-bad, was-good, stored-over}
+use Rattle.b3d_file_rows.specs.Rows.{fileRows}
+use Rattle.b3d_file_rows.proofs.Laws.{rows-law}
 use Rattle.b3d_text.specs.Puts.{Puts}
 use Rattle.b3d_text.specs.Text.{numberLine, textLine}
 use Rattle.b3d_text.proofs.Putting.{put-both, put-inside, Putting, putting-start, putting-part, putting-done}
@@ -82,38 +83,42 @@ pub ruleset names-laws = (names-start, names-inside, names-next, names-done)
 -- ---- `put_nodes`
 
 module _ (s : List ℕ) (n : ℕ) (l : Listable s n) (b : AllBytes s) where
-  -- the table is filled by the lenient reading, which has read the same
-  same : judge Lenient s ≡ got (l .scene)
-  same = judge-lenient Strict s (l .scene) (l .accepted)
-
   parsed : parse Strict s ≡ got (l .scene)
   parsed = judge-got Strict s (l .scene) (l .accepted) .0
 
-  pub table-ready : (room : ℕ) → 26740 ≡ room → Ready (rows 3) (judge Lenient s) 0 room
+  pub nodes-small : length s < 0x100000000
+  nodes-small = omega (arith, l .short)
+
+  -- the rows of its bytes are those of what was read
+  rows-are : words (fileRows 3 s) ≡ table 3 (l .scene)
   unfolding table
-  table-ready room e = record { value = l .scene; is = same; room = omega (arith, table-room s (l .scene) b parsed (l .short)) }
+  rows-are = ap words (rows-law s (l .scene) (judge-lenient Strict s (l .scene) (l .accepted)) 3 (omega arith) (omega arith))
+
+  pub table-ready : (room : ℕ) → 26740 ≡ room → length (words (fileRows 3 s)) ≤ room
+  table-ready room e = omega (arith, ap length rows-are, table-room s (l .scene) b parsed (l .short))
 
   -- the table after it was filled is as long as before
-  pub table-rows : (xs ws : List ℕ) → 26740 ≡ length xs → ws ≡ tableAfter 3 (judge Lenient s) xs → 20 * n ≤ length ws
-  unfolding tableAfter over
+  pub table-rows : (xs ws : List ℕ) → 26740 ≡ length xs → ws ≡ sets xs 0 (words (fileRows 3 s)) → 20 * n ≤ length ws
   table-rows xs ws e f =
-      let t = table 3 (l .scene) in
-      let r = table-room s (l .scene) b parsed (l .short) in
       let c : 20 * n ≤ 26740 = omega (arith, l .count, nodes-count s (l .scene) b parsed, l .short) in
-      let g : ws ≡ t ++ drop (length t) xs = f ∙ ap (λ (o : Out Scene). tableAfter 3 o xs) same in
-      omega (arith, ap length g, length-append t (drop (length t) xs), length-drop (length t) xs)
+      omega (arith, ap length f, length-sets xs 0 (words (fileRows 3 s)))
 
-  lines-are : (xs ws : List ℕ) → ws ≡ tableAfter 3 (judge Lenient s) xs → rowLines s ws n ≡ nodeLinesOf (judge Strict s)
+  lines-are : (xs ws : List ℕ) → ws ≡ tableAfter 3 (judge Strict s) xs → rowLines s ws n ≡ nodeLinesOf (judge Strict s)
   unfolding tableAfter nodeLinesOf
   lines-are xs ws e =
-      ap₂ (rowLines s) (e ∙ ap (λ (o : Out Scene). tableAfter 3 o xs) same) (l .count)
+      ap₂ (rowLines s) (e ∙ ap (λ (o : Out Scene). tableAfter 3 o xs) (l .accepted)) (l .count)
       ∙ table-lines s (l .scene) b parsed xs ∙ sym (ap nodeLinesOf (l .accepted))
 
-  pub nodes-done : (xs ws : List ℕ) → ws ≡ tableAfter 3 (judge Lenient s) xs → (out : List ℕ) (at : ℕ) (ys : List ℕ) (p : ℕ) → Puts (rowLines s ws n) out at ys p
+  pub nodes-done : (xs ws : List ℕ) → 26740 ≡ length xs → ws ≡ sets xs 0 (words (fileRows 3 s)) → (out : List ℕ) (at : ℕ) (ys : List ℕ) (p : ℕ) → Puts (rowLines s ws n) out at ys p
       → Puts (nodeLinesOf (judge Strict s)) out at ys p
-  nodes-done xs ws e out at ys p h = rw (← lines-are xs ws e) h
+  unfolding tableAfter
+  nodes-done xs ws e f out at ys p h =
+      let r = table-room s (l .scene) b parsed (l .short) in
+      let g : ws ≡ tableAfter 3 (judge Strict s) xs =
+      f ∙ ap (sets xs 0) rows-are ∙ stored-over (table 3 (l .scene)) xs (omega arith) ∙ sym (ap (λ (o : Out Scene). tableAfter 3 o xs) (l .accepted)) in
+      rw (← lines-are xs ws g) h
 
-pub ruleset nodes-laws = (table-ready, table-rows, nodes-done)
+pub ruleset nodes-laws = (nodes-small, table-ready, table-rows, nodes-done)
 
 -- ---- `put_listing`
 

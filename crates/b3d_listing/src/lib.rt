@@ -94,7 +94,7 @@ fn put_nodes(file: &[u8], nodes: usize, out: &mut [u8], at: usize) -> usize
     let mut space = table();
     let rows: &mut [u32] = &mut space;
     b3d_judge::are_bytes(file);
-    b3d_fill::fill_table(file, 3, rows);
+    b3d_fill_tree::fill_nodes(file, rows);
     put_names(file, rows, nodes, out, at)
 }
 

@@ -1,18 +1,24 @@
 -- A law for each way through `judge`, `answer_for` and `read`.
 use mathlib.Core.Path.{_≡_, refl, ap, sym, _∙_}
-use Prim.Native.Nat.{ℕ, _-_, _*_, _<_, _≤_}
+use Prim.Native.Nat.{ℕ, _+_, _-_, _*_, _<_, _≤_}
+use native.Mathlib.Nat.{zero-add}
 use native.Mathlib.Omega.{arith}
 use mathlib.Core.List.{List, [], _∷_}
 use lib.ListN.{length, getD}
-use lib.Dec.{leb}
+use lib.Seq.{sets, sets-eq}
+use lib.Dec.{leb, leb→le}
+use mir.Facts.{and-yes}
 use Rattle.wire.specs.Bytes.{AllBytes, over}
 use Rattle.layout.specs.Out.{Out, got, bad, _>>=_}
-use Rattle.layout.proofs.Lists.{All, all-zip}
+use Rattle.layout.specs.Lists.{All}
+use Rattle.layout.proofs.Lists.{all-zip}
+use Rattle.layout.proofs.Outs.{by-check}
 use Rattle.b3d_scene.specs.declared.Answer.{Answer}
 use Rattle.b3d_scene.specs.declared.Mode.{Mode}
 use Rattle.b3d_scene.specs.declared.Mode.the-variants.{Lenient}
 use Rattle.b3d_scene.specs.Answers.{eachTable, firstNot, judge, read, answer, readAnswer, readTable, tableAfter}
-use Rattle.b3d_scene.specs.Rules.{rowLimit}
+use Rattle.b3d_scene.specs.Parse.{parse}
+use Rattle.b3d_scene.specs.Rules.{rowLimit, fileSize}
 use Rattle.b3d_scene.specs.Scene.{Scene}
 use Rattle.b3d_scene.specs.Tables.{width, rows, words, table, tables, nodeTables, counts}
 use Rattle.b3d_scene.proofs.Refusals.{judge-place, read-number}
@@ -20,13 +26,15 @@ use Rattle.b3d_scene.proofs.Rows.Numbers.{each-table, table-each, ten-tables}
 use Rattle.b3d_scene.proofs.AnswerLaws.{first-none, first-some, judge-got, judge-lenient, judge-first, read-got}
 use Rattle.b3d_scene.proofs.Files.FileLaws.{parse-fine}
 use Rattle.b3d_scene.proofs.Rows.CountLaws.{table-length}
-use Rattle.b3d_rows.specs.Puts.{Ready}
+use Rattle.b3d_file_rows.specs.Rows.{fileRows}
+use Rattle.b3d_file_rows.proofs.Laws.{rows-law}
+use Rattle.b3d_fill.specs.Fills.{Fillable, Filled}
 use Rattle.b3d_judge.specs.Answers.{tallyOf, verdictOf}
 use Rattle.b3d_judge.specs.declared.Summary.{Summary}
 use Rattle.b3d_judge.specs.declared.Verdict.{Verdict}
 use Rattle.b3d_judge.specs.declared.Verdict.the-variants as verdict
 use Rattle.b3d_read.specs.Rooms.{numberOf, countsIn, firstShort, Limited}
-use Rattle.b3d_read.specs.Reads.{tableIn, roomIn, Reads, acceptedAs, CountsOf, Fits, Fills}
+use Rattle.b3d_read.specs.Reads.{tableIn, roomIn, Reads, acceptedAs}
 use Rattle.b3d_read.proofs.RoomLaws.{short-first, short-at-most}
 
 -- ---- what a verdict says of what was read
@@ -148,24 +156,10 @@ accepts mode room s = go (read mode room s) refl
     go (got t) e z = record { scene = t; is = e }
     go (bad n p) e z = absurd (omega (arith, read-number mode room s n p e))
 
--- a table without rows stays
-no-words : (t : Scene) (k : ℕ) → length (rows k t) ≡ 0 → table k t ≡ []
-unfolding table words
-no-words t k = go (rows k t)
-  where
-    go : (rs : List (List ℕ)) → length rs ≡ 0 → words rs ≡ []
-    go [] z = refl
-    go (r ∷ rs) z = absurd (omega (arith, z))
-
 count-at : (t : Scene) (k : ℕ) → 1 ≤ k → k ≤ 10 → getD (counts t) (k - 1) 0 ≡ length (rows k t)
 unfolding counts tables nodeTables
 count-at t =
     table-each (λ (k : ℕ). getD (counts t) (k - 1) 0 ≡ length (rows k t)) (ten-tables (λ (k : ℕ). getD (counts t) (k - 1) 0 ≡ length (rows k t)) refl refl refl refl refl refl refl refl refl refl)
-
-pub empty-stays : (o : Out Scene) (cs : List ℕ) → CountsOf o cs → (k : ℕ) → 1 ≤ k → k ≤ 10 → (n : ℕ) → n ≡ k → getD cs (n - 1) 0 ≡ 0 → (xs : List ℕ) → xs ≡ tableAfter k o xs
-unfolding tableAfter over
-empty-stays (bad e p) cs h k a b n i z xs = refl
-empty-stays (got t) cs h k a b n i z xs = ap (λ (w : List ℕ). over w xs) (sym (no-words t k (sym (count-at t k a b) ∙ ap (λ (c : List ℕ). getD c (k - 1) 0) (sym (h t refl)) ∙ ap (λ (m : ℕ). getD cs (m - 1) 0) (sym i) ∙ z)))
 
 -- where it is refused, a table stays
 stays : (mode : Mode) (room : ℕ → ℕ) (s : List ℕ) (k : ℕ) (xs : List ℕ) → (readAnswer mode room s .number ≡ 0 → ⊥) → xs ≡ readTable mode k room s xs
@@ -176,15 +170,24 @@ stays mode room s k xs = go (read mode room s)
     go (got t) d = absurd (d refl)
     go (bad n p) d = refl
 
--- where `read` accepts, it has read what the judge has, and each table has room
-fits : (mode : Mode) (s : List ℕ) (room : ℕ → ℕ) (t : Scene) → AllBytes s → read mode room s ≡ got t → All (λ k. Ready (rows k) (judge Lenient s) 0 (room k)) tables
-unfolding table words
+-- an accepted file is short
+few-bytes : (s : List ℕ) (t : Scene) → parse Lenient s ≡ got t → length s < 4294967296
+unfolding parse
+few-bytes s t e = by-check (fileSize (length s)) 1 0 _ e (λ z _. let (lo, hi) = and-yes (leb 12 (length s)) (leb (length s) 16777216) z in omega (arith, leb→le (length s) 16777216 hi))
+
+-- where `read` accepts, each table has room
+fits : (mode : Mode) (s : List ℕ) (room : ℕ → ℕ) (t : Scene) → AllBytes s → read mode room s ≡ got t → All (λ k. length (table k t) ≤ room k) tables
 fits mode s room t b e =
     let g = read-got mode room s t e in
     let j = judge-lenient mode s t (g .0) in
     all-zip (λ k. length (table k t) ≡ width k * length (rows k t)) (λ k. width k * length (rows k t) ≤ room k) _
-    (λ k l r. record { value = t; is = j; room = omega (arith, l, r) })
+    (λ k l r. omega (arith, l, r))
     tables (table-length t (parse-fine s t b (judge-got Lenient s t j .0) .0)) (g .1)
+
+-- the words of a table, stored from its start on
+pub stored-over : (ws out : List ℕ) → length ws ≤ length out → sets out 0 ws ≡ over ws out
+unfolding over
+stored-over ws out h = let z : 0 + length ws ≡ length ws = zero-add (length ws) in sets-eq ws out 0 (omega arith) ∙ rw z
 
 module _ (mode : Mode) (s : List ℕ) (t1 t2 t3 t4 t5 t6 t7 t8 t9 t10 : List ℕ) (y : Answer)
     (ey : y ≡ readAnswer mode (numberOf (length t1 ∷ length t2 ∷ length t3 ∷ length t4 ∷ length t5 ∷ length t6 ∷ length t7 ∷ length t8 ∷ length t9 ∷ length t10 ∷ [])) s) where
@@ -202,43 +205,42 @@ module _ (mode : Mode) (s : List ℕ) (t1 t2 t3 t4 t5 t6 t7 t8 t9 t10 : List ℕ
     accepted : Accepted mode (roomIn lent) s
     accepted = accepts mode (roomIn lent) s (sym (ap (λ (a : Answer). a .number) answer-is) ∙ z)
 
+    judged : judge Lenient s ≡ got (accepted .scene)
+    judged = judge-lenient mode s (accepted .scene) (read-got mode (roomIn lent) s (accepted .scene) (accepted .is) .0)
+
+    -- the rows of its bytes are those of what was read
+    table-is : (k : ℕ) → 1 ≤ k → k ≤ 10 → words (fileRows k s) ≡ table k (accepted .scene)
+    unfolding table
+    table-is k a b = ap words (rows-law s (accepted .scene) judged k a b)
+
     -- the answer has the counts of what was read
-    pub read-counts : CountsOf (judge Lenient s) (y .counts)
+    counts-are : y .counts ≡ counts (accepted .scene)
     unfolding readAnswer answer
-    read-counts t e =
-        let g = judge-lenient mode s (accepted .scene) (read-got mode (roomIn lent) s (accepted .scene) (accepted .is) .0) in
-        ap (λ (a : Answer). a .counts) answer-is ∙ ap (λ (o : Out Scene). answer o .counts) (accepted .is ∙ sym g ∙ e)
+    counts-are = ap (λ (a : Answer). a .counts) answer-is ∙ ap (λ (o : Out Scene). answer o .counts) (accepted .is)
 
-    pub first-fits : AllBytes s → Fits (judge Lenient s) 1 (length t1) (length t2) (length t3) (length t4) (length t5)
-    unfolding tables nodeTables
-    first-fits b =
-        let h = fits mode s (roomIn lent) (accepted .scene) b (accepted .is) in
-        record { first = h .0; second = h .1 .0; third = h .1 .1 .0; fourth = h .1 .1 .1 .0; fifth = h .1 .1 .1 .1 .0 }
+    module _ (b : AllBytes s) where
+      rooms : (k : ℕ) → 1 ≤ k → k ≤ 10 → length (table k (accepted .scene)) ≤ roomIn lent k
+      rooms = table-each (λ (k : ℕ). length (table k (accepted .scene)) ≤ roomIn lent k) (fits mode s (roomIn lent) (accepted .scene) b (accepted .is))
 
-    pub last-fits : AllBytes s → Fits (judge Lenient s) 6 (length t6) (length t7) (length t8) (length t9) (length t10)
-    unfolding tables nodeTables
-    last-fits b =
-        let h = fits mode s (roomIn lent) (accepted .scene) b (accepted .is) .1 .1 .1 .1 .1 in
-        record { first = h .0; second = h .1 .0; third = h .1 .1 .0; fourth = h .1 .1 .1 .0; fifth = h .1 .1 .1 .1 .0 }
+      pub read-fillable : Fillable s (y .counts) (length t1 ∷ length t2 ∷ length t3 ∷ length t4 ∷ length t5 ∷ length t6 ∷ length t7 ∷ length t8 ∷ length t9 ∷ length t10 ∷ [])
+      unfolding tables nodeTables
+      read-fillable = record {
+        small = few-bytes s (accepted .scene) (judge-got Lenient s (accepted .scene) judged .0);
+        rows = λ k lo hi.
+            ap (λ (c : List ℕ). getD c (k - 1) 0) counts-are ∙ count-at (accepted .scene) k lo hi ∙ ap length (sym (rows-law s (accepted .scene) judged k lo hi));
+        room = λ k lo hi.
+            rw (table-is k lo hi)
+            (table-each (λ (j : ℕ). length (table j (accepted .scene)) ≤ getD (length t1 ∷ length t2 ∷ length t3 ∷ length t4 ∷ length t5 ∷ length t6 ∷ length t7 ∷ length t8 ∷ length t9 ∷ length t10 ∷ []) (j - 1) 0)
+            (fits mode s (roomIn lent) (accepted .scene) b (accepted .is)) k lo hi);
+      }
 
-    module _ (u1 u2 u3 u4 u5 u6 u7 u8 u9 u10 : List ℕ)
-        (f : Fills (judge Lenient s) 1 t1 t2 t3 t4 t5 u1 u2 u3 u4 u5) (g : Fills (judge Lenient s) 6 t6 t7 t8 t9 t10 u6 u7 u8 u9 u10) where
-      abbrev Filled : ℕ → Type 0
-      Filled k = tableIn (u1 ∷ u2 ∷ u3 ∷ u4 ∷ u5 ∷ u6 ∷ u7 ∷ u8 ∷ u9 ∷ u10 ∷ []) k ≡ readTable mode k (roomIn lent) s (tableIn lent k)
+      pub read-filled : (after : List (List ℕ)) → Filled s lent after → Reads mode s lent after y
+      unfolding readTable tableAfter
+      read-filled after f = record {
+        answer = answer-is;
+        table = λ k lo hi.
+            f .table k lo hi ∙ ap (sets (tableIn lent k) 0) (table-is k lo hi) ∙ stored-over (table k (accepted .scene)) (tableIn lent k) (rooms k lo hi)
+            ∙ sym (ap (λ (o : Out Scene). tableAfter k o (tableIn lent k)) (accepted .is));
+      }
 
-      -- what the judge has read is what the definition of `read` has
-      same : (k : ℕ) (xs ys : List ℕ) → ys ≡ tableAfter k (judge Lenient s) xs → ys ≡ readTable mode k (roomIn lent) s xs
-      unfolding readTable
-      same k xs ys e = e ∙ ap (λ (o : Out Scene). tableAfter k o xs) (judge-lenient mode s (accepted .scene) (read-got mode (roomIn lent) s (accepted .scene) (accepted .is) .0) ∙ sym (accepted .is))
-
-      pub read-filled : Reads mode s lent (u1 ∷ u2 ∷ u3 ∷ u4 ∷ u5 ∷ u6 ∷ u7 ∷ u8 ∷ u9 ∷ u10 ∷ []) y
-      read-filled =
-          record {
-            answer = answer-is;
-            table =
-                table-each Filled
-                (ten-tables Filled (same 1 t1 u1 (f .first)) (same 2 t2 u2 (f .second)) (same 3 t3 u3 (f .third)) (same 4 t4 u4 (f .fourth)) (same 5 t5 u5 (f .fifth))
-                (same 6 t6 u6 (g .first)) (same 7 t7 u7 (g .second)) (same 8 t8 u8 (g .third)) (same 9 t9 u9 (g .fourth)) (same 10 t10 u10 (g .fifth)));
-          }
-
-pub ruleset read-laws = (read-refused, read-counts, first-fits, last-fits, read-filled)
+pub ruleset read-laws = (read-refused, read-fillable, read-filled)

@@ -1,18 +1,15 @@
 // The reader: a file's ten tables into lent slices, with the answer that 01 gives to every file and to tables of every length.
 ghost use mathlib.Core.Path.{_≡_};
 ghost use mathlib.Core.List.{[], _∷_};
-ghost use Prim.Native.Nat.{_*_, _<_, _≤_};
+ghost use Prim.Native.Nat.{_*_, _<_};
 ghost use lib.ListN.{length};
 ghost use lib.Dec.{ltb};
 ghost use Rattle.wire.specs.Test.{if};
-ghost use Rattle.wire.specs.Bytes.{AllBytes};
 ghost use Rattle.layout.specs.Out.{bad};
-ghost use Rattle.b3d_scene.specs.declared.Mode.the-variants.{Lenient};
-ghost use Rattle.b3d_scene.specs.Tables.{tables, rows};
-ghost use Rattle.b3d_scene.specs.Answers.{judge, answer, readAnswer, tableAfter};
-ghost use Rattle.b3d_rows.specs.Puts.{Ready};
+ghost use Rattle.b3d_scene.specs.Tables.{tables};
+ghost use Rattle.b3d_scene.specs.Answers.{judge, answer, readAnswer};
 ghost use Rattle.b3d_read.specs.Rooms.{numberOf, countsIn, firstShort, Limited};
-ghost use Rattle.b3d_read.specs.Reads.{Reads, acceptedAs, CountsOf, Fits, Fills};
+ghost use Rattle.b3d_read.specs.Reads.{Reads, acceptedAs};
 use b3d_bodies::Tally;
 use b3d_judge::Summary;
 use b3d_judge::Verdict;
@@ -132,44 +129,6 @@ fn answer_for(
     }
 }
 
-// Fills a table with an accepted file's, of which the counts are known: where there are no rows, the file need not be walked.
-fn fill_counted(file: &[u8], which: u32, counts: [u32; 10], out: &mut [u32])
-    requires { ⌜ (1 ≤ which) × (which ≤ 10) × AllBytes (now file) ⌝ }
-    requires { ⌜ CountsOf (judge Lenient (now file)) counts ⌝ }
-    requires { ⌜ Ready (rows which) (judge Lenient (now file)) 0 (length (now out)) ⌝ }
-    ensures { λ _. ⌜ now (out .exit) ≡ tableAfter which (judge Lenient (now (file .entry))) (now (out .entry)) ⌝ }
-{
-    if counts[wire::size(which) - 1] == 0 {
-        return;
-    }
-    b3d_fill::fill_table(file, which, out);
-}
-
-// Fills the tables k to k + 4 with an accepted file's, of which the counts are known.
-fn fill_five(
-    file: &[u8],
-    k: u32,
-    counts: [u32; 10],
-    a: &mut [u32],
-    b: &mut [u32],
-    c: &mut [u32],
-    d: &mut [u32],
-    e: &mut [u32],
-)
-    requires { ⌜ (1 ≤ k) × (k ≤ 6) × AllBytes (now file) ⌝ }
-    requires { ⌜ CountsOf (judge Lenient (now file)) counts ⌝ }
-    requires { ⌜ Fits (judge Lenient (now file)) k (length (now a)) (length (now b)) (length (now c)) (length (now d)) (length (now e)) ⌝ }
-    ensures { λ _. ⌜ Fills (judge Lenient (now (file .entry))) k
-        (now (a .entry)) (now (b .entry)) (now (c .entry)) (now (d .entry)) (now (e .entry))
-        (now (a .exit)) (now (b .exit)) (now (c .exit)) (now (d .exit)) (now (e .exit)) ⌝ }
-{
-    fill_counted(file, k, counts, a);
-    fill_counted(file, k + 1, counts, b);
-    fill_counted(file, k + 2, counts, c);
-    fill_counted(file, k + 3, counts, d);
-    fill_counted(file, k + 4, counts, e);
-}
-
 // Reads a file in a mode into ten lent tables: their rows are stored, and what stood behind them stays. Where the file is refused, or a table is too
 // short, each table stays as it was.
 pub fn read(
@@ -211,7 +170,6 @@ pub fn read(
     }
     b3d_judge::are_bytes(file);
     let counts = answer.counts;
-    fill_five(file, 1, counts, t1, t2, t3, t4, t5);
-    fill_five(file, 6, counts, t6, t7, t8, t9, t10);
+    b3d_fill::fill_tables(file, counts, t1, t2, t3, t4, t5, t6, t7, t8, t9, t10);
     answer
 }

@@ -1,7 +1,5 @@
--- The laws of stores into a table: a run of cells, words of the file, rows by a mask.
+-- The laws of stores into a table: a run of cells, one value, words of the file, a mask; and items that were read.
 pub mod Storing
-pub mod Filling
+pub mod Copies
 pub mod Masking
-pub mod Rows
-pub mod Putting
 pub mod ItemLaws

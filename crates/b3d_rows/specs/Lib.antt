@@ -1,2 +1,2 @@
--- Rows in a table.
-pub mod Puts
+-- Words of the file by their place.
+pub mod Words

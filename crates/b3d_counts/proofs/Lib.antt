@@ -1,3 +1,0 @@
--- The laws of the running counts.
-pub mod BeforeLaws
-pub mod CountLaws

@@ -1,2 +1,0 @@
--- The running counts of the walk over the nodes.
-pub mod Counting

@@ -1,0 +1,89 @@
+-- What the body of a chunk holds, on any bytes and with no rule: a number that is not there is 0, an item that is not all there is left out.
+use Prim.Native.Nat.{ℕ, zero, suc, _+_, _*_, _/_}
+use mathlib.Core.List.{List, [], _∷_}
+use lib.ListN.{length, take, drop, getD, replicate}
+use Rattle.wire.specs.Test.{if}
+use Rattle.layout.specs.Chunks.{done, stop, chunk}
+use Rattle.layout.specs.Out.{Out, got, bad}
+use Rattle.layout.specs.Parts.{Name, Step, named, wordsOf, itemsOf}
+use Rattle.layout.specs.Rules.{any}
+use Rattle.b3d_scene.specs.declared.Tag.the-variants.{VRTS, TRIS}
+use Rattle.b3d_scene.specs.Mask.{ones, vertexMask, keyMask}
+use Rattle.b3d_scene.specs.Parse.{Vertices, noVertices}
+use Rattle.b3d_scene.specs.Scene.{Texture, Brush, TriangleSet, Mesh, Keys}
+use Rattle.b3d_scene.specs.Tags.{Chunks, split, is}
+
+-- the items of n words that are all there
+unfoldable pub whole : ℕ → List ℕ → List (List ℕ)
+whole n s = itemsOf (length s / (4 * n)) n s
+
+-- ---- chunks of numbers
+
+abbrev pub keyFlagsOf : List ℕ → ℕ
+keyFlagsOf b = getD (wordsOf 1 b) 0 0
+
+unfoldable pub plainKeys : List ℕ → Keys
+plainKeys b = record { flags = keyFlagsOf b; items = whole (ones (keyMask (keyFlagsOf b))) (drop 4 b) }
+
+unfoldable pub plainWeights : List ℕ → List (List ℕ)
+plainWeights b = whole 2 b
+
+-- one of the first three numbers
+abbrev pub ofThree : List ℕ → ℕ → ℕ
+ofThree b i = getD (wordsOf 3 b) i 0
+
+unfoldable pub plainAnim : List ℕ → List ℕ
+plainAnim b = ofThree b 0 ∷ ofThree b 1 ∷ ofThree b 2 ∷ []
+
+unfoldable pub plainVertices : List ℕ → Vertices
+plainVertices b = record {
+  flags = ofThree b 0;
+  sets = ofThree b 1;
+  size = ofThree b 2;
+  items = whole (ones (vertexMask (ofThree b 0) (ofThree b 1) (ofThree b 2))) (drop 12 b);
+}
+
+unfoldable pub plainTriangles : List ℕ → TriangleSet
+plainTriangles b = record { brush = getD (wordsOf 1 b) 0 0; triangles = whole 3 (drop 4 b) }
+
+-- ---- a MESH
+
+-- the first VRTS
+unfoldable pub shapeOf : Chunks → Vertices
+shapeOf done = noVertices
+shapeOf (stop n p) = noVertices
+shapeOf (chunk t p b r) = if (is t VRTS) (plainVertices b) (shapeOf r)
+
+-- every TRIS
+unfoldable pub setsOf : Chunks → List TriangleSet
+setsOf done = []
+setsOf (stop n p) = []
+setsOf (chunk t p b r) = if (is t TRIS) (plainTriangles b ∷ setsOf r) (setsOf r)
+
+unfoldable pub meshOf : ℕ → Chunks → Mesh
+meshOf brush cs =
+    let v = shapeOf cs in
+    record { brush = brush; flags = v .flags; sets = v .sets; size = v .size; vertices = v .items; triangleSets = setsOf cs }
+
+unfoldable pub plainMesh : ℕ → List ℕ → Mesh
+plainMesh p b = meshOf (getD (wordsOf 1 b) 0 0) (split (p + 12) (drop 4 b))
+
+-- ---- items that are a text and words
+
+unfoldable pub nextItem : (ℕ → List ℕ → List (Name × List ℕ)) → Out (Step (Name × List ℕ)) → List (Name × List ℕ)
+nextItem rest (got x) = x .value ∷ rest (x .place) (x .left)
+nextItem rest (bad n p) = []
+
+-- items of so many words up to the first that is not all there, at most so many
+unfoldable pub namedIn : ℕ → ℕ → ℕ → List ℕ → List (Name × List ℕ)
+namedIn zero words p s = []
+namedIn (suc f) words p s = nextItem (namedIn f words) (named (replicate words any) p s)
+
+unfoldable pub namedItems : ℕ → ℕ → List ℕ → List (Name × List ℕ)
+namedItems words p s = namedIn (length s) words p s
+
+abbrev pub textureOf : Name × List ℕ → Texture
+textureOf x = record { name = x .0; words = x .1 }
+
+abbrev pub brushOf : Name × List ℕ → Brush
+brushOf x = record { name = x .0; words = take 7 (x .1); ids = drop 7 (x .1) }

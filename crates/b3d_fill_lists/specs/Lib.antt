@@ -1,2 +1,0 @@
--- Texts with words, and the rows that they make.
-pub mod Named

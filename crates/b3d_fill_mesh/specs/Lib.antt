@@ -1,2 +1,0 @@
--- The rows of the parts of a MESH.
-pub mod Parts

@@ -1,2 +1,0 @@
--- The rows of key lists.
-pub mod Moves

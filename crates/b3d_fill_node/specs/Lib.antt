@@ -1,2 +1,0 @@
--- The cells of a node's row.
-pub mod Cells

@@ -1,2 +1,0 @@
--- What the walk over the nodes asks for, and what it leaves.
-pub mod Walk

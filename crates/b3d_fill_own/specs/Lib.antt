@@ -1,3 +1,0 @@
--- Rows of what a node has.
-pub mod Own
-pub mod Parts

@@ -1,0 +1,2 @@
+-- The rows of a MESH in the four tables of meshes.
+pub mod Marks

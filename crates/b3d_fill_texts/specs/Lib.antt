@@ -1,0 +1,2 @@
+-- The row that a text with its words makes.
+pub mod Texts

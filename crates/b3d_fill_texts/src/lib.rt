@@ -1,0 +1,110 @@
+// Tables 1 and 2, the textures and the brushes: of the first TEXS and of the first BRUS of a file, a row for each text with its words.
+ghost use mathlib.Core.Path.{_≡_};
+ghost use Prim.Native.Nat.{ℕ, _+_, _*_, _<_, _≤_};
+ghost use mathlib.Core.List.{_∷_, _++_, map};
+ghost use lib.ListN.{length, replicate};
+ghost use lib.Seq.{sets as stored};
+ghost use Rattle.wire.specs.Cursors.{Inside, left};
+ghost use Rattle.layout.specs.Parts.{wordsOf};
+ghost use Rattle.layout.specs.Rules.{NONE};
+ghost use Rattle.b3d_scene.specs.Tables.{words};
+ghost use Rattle.b3d_file_rows.specs.Plain.{namedItems};
+ghost use Rattle.b3d_file_rows.specs.Rows.{fileRows};
+ghost use Rattle.b3d_fill_texts.specs.Texts.{namedRow};
+use b3d_chunks::Named;
+use b3d_scene::Tag;
+use b3d_walk::Sought;
+use wire::Cursor;
+
+// A row: the cells of a name, so many words of the file, so many cells that name nothing. Gives the place of the next row.
+fn put_row(
+    file: &[u8],
+    place: usize,
+    size: usize,
+    row: Cursor,
+    n: usize,
+    rest: usize,
+    base: usize,
+    out: &mut [u32],
+) -> usize
+    requires { ⌜ Inside row (length (now file)) × (row .at + 4 * n ≤ row .end) × (base + 2 + n + rest ≤ length (now out)) ⌝ }
+    requires { ⌜ (place < 0x100000000) × (size < 0x100000000) ⌝ }
+    ensures { λ r. ⌜ (r ≡ base + 2 + n + rest)
+        × (now (out .exit) ≡ stored (now (out .entry)) base (place ∷ size ∷ (wordsOf n (left row (now (file .entry))) ++ replicate rest NONE))) ⌝ }
+{
+    let cells = [b3d_rows::cell(place), b3d_rows::cell(size)];
+    b3d_rows::put_cells(out, base, &cells);
+    let from = base + 2;
+    b3d_rows::copy_words(file, row, n, from, out);
+    let after = from + n;
+    b3d_rows::put_same(0xFFFFFFFF, rest, after, out);
+    after + rest
+}
+
+// A row for each text with so many words, up to the first that is not all there.
+fn fill_named(file: &[u8], from: Cursor, n: usize, rest: usize, out: &mut [u32])
+    requires { ⌜ Inside from (length (now file)) × (length (now file) < 0x100000000) × (n ≤ 64) ⌝ }
+    requires { ⌜ length (words (map (namedRow rest) (namedItems n (from .at) (left from (now file))))) ≤ length (now out) ⌝ }
+    ensures { λ _. ⌜ now (out .exit) ≡ stored (now (out .entry)) 0 (words (map (namedRow rest) (namedItems n (from .at) (left from (now (file .entry)))))) ⌝ }
+{
+    let mut c = from;
+    let mut base: usize = 0;
+    loop {
+        match b3d_chunks::named_row(file, c, n) {
+            Named::Cut => {
+                return;
+            }
+            Named::Is { length, row, next } => {
+                base = put_row(file, c.at, length, row, n, rest, base, out);
+                c = next;
+            }
+        }
+    }
+}
+
+// Table 1 of a file.
+pub fn fill_textures(file: &[u8], out: &mut [u32])
+    requires { ⌜ (length (now file) < 0x100000000) × (length (words (fileRows 1 (now file))) ≤ length (now out)) ⌝ }
+    ensures { λ _. ⌜ now (out .exit) ≡ stored (now (out .entry)) 0 (words (fileRows 1 (now (file .entry)))) ⌝ }
+{
+    let end = file.len();
+    if end < 12 {
+        return;
+    }
+    match b3d_walk::seek(file, Cursor { at: 12, end }, Tag::TEXS) {
+        Sought::Nothing => {}
+        Sought::Found {
+            at: _,
+            body,
+            next: _,
+        } => {
+            fill_named(file, body, 7, 0, out);
+        }
+    }
+}
+
+// Table 2 of a file. A row has room for eight ids.
+pub fn fill_brushes(file: &[u8], out: &mut [u32])
+    requires { ⌜ (length (now file) < 0x100000000) × (length (words (fileRows 2 (now file))) ≤ length (now out)) ⌝ }
+    ensures { λ _. ⌜ now (out .exit) ≡ stored (now (out .entry)) 0 (words (fileRows 2 (now (file .entry)))) ⌝ }
+{
+    let end = file.len();
+    if end < 12 {
+        return;
+    }
+    match b3d_walk::seek(file, Cursor { at: 12, end }, Tag::BRUS) {
+        Sought::Nothing => {}
+        Sought::Found {
+            at: _,
+            body,
+            next: _,
+        } => {
+            let head = b3d_walk::first_word(file, body);
+            if 8 < head.word {
+                return;
+            }
+            let ids = wire::size(head.word);
+            fill_named(file, head.rest, 7 + ids, 8 - ids, out);
+        }
+    }
+}

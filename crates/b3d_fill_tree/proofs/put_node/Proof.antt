@@ -1,0 +1,24 @@
+-- `put_node` stores the cells of a row, part by part.
+use Rattle.b3d_fill_tree.proofs.Cells.{row-laws}
+use borrow.Author.Needs.{needs}
+use Rattle.b3d_fill_tree.proofs.put_node.Statement.{statement}
+use Rattle.b3d_fill_tree.proofs.put_node.Tie as tie
+
+pub put-node-spec : {M : Type 1} → statement M
+put-node-spec =
+    tie.close
+    (tie.spec
+    (λ c. search (row-laws, needs))
+    (λ c. search (row-laws, needs))
+    (λ c κs. search (row-laws, needs))
+    (λ c. search (row-laws, needs))
+    (λ c. search (row-laws, needs))
+    (λ c κs. search (row-laws, needs))
+    (λ c κs. search (row-laws, needs))
+    (λ c. search (row-laws, needs))
+    (λ c κs. search (row-laws, needs))
+    (λ c κs. search (row-laws, needs))
+    (λ c κs. search (row-laws, needs))
+    (λ c. search (row-laws, needs))
+    (λ c. search (row-laws, needs))
+    (λ c. search (row-laws, needs)))

@@ -1,0 +1,2 @@
+-- Rows of the items of a chunk.
+pub mod Items

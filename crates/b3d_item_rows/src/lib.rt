@@ -1,0 +1,108 @@
+// Rows of the items of one chunk, from its body: items that are copied as they stand, vertices, keys.
+ghost use mathlib.Core.Path.{_≡_};
+ghost use Prim.Native.Nat.{ℕ, _+_, _-_, _*_, _/_, _<_, _≤_};
+ghost use lib.ListN.{length};
+ghost use lib.Seq.{sets as stored};
+ghost use Rattle.wire.specs.Cursors.{Inside, left};
+ghost use Rattle.b3d_scene.specs.Mask.{ones, vertexMask, keyMask};
+ghost use Rattle.b3d_scene.specs.Tables.{words};
+ghost use Rattle.b3d_file_rows.specs.Plain.{whole, plainVertices};
+ghost use Rattle.b3d_item_rows.specs.Items.{Clipped, shapeRows, keyRowsOf};
+use b3d_walk::Three;
+use wire::Cursor;
+
+// The items of so many words that are all there, from word `base` of the table on; gives the word after them.
+pub fn put_items(file: &[u8], c: Cursor, width: usize, base: usize, out: &mut [u32]) -> usize
+    requires { ⌜ Inside c (length (now file)) × (0 < width) × (width ≤ 64) × (base + length (words (whole width (left c (now file)))) ≤ length (now out)) ⌝ }
+    ensures { λ r. ⌜ (r ≡ base + length (words (whole width (left c (now (file .entry))))))
+        × (now (out .exit) ≡ stored (now (out .entry)) base (words (whole width (left c (now (file .entry)))))) ⌝ }
+{
+    let at = c.at;
+    let end = c.end;
+    let n = (end - at) / (4 * width) * width;
+    b3d_rows::copy_words(file, Cursor { at, end }, n, base, out);
+    base + n
+}
+
+// A number, or the most that it may be.
+fn at_most(x: u32, most: u32) -> u32
+    ensures { λ r. ⌜ Clipped x most r ⌝ }
+{
+    if x < most { x } else { most }
+}
+
+// How many vertices stand behind the three numbers.
+pub fn shape_count(h: Three) -> usize
+    requires { ⌜ h .rest .at ≤ h .rest .end ⌝ }
+    ensures { λ r. ⌜ r ≡ (h .rest .end - h .rest .at) / (4 * ones (vertexMask (h .first) (h .second) (h .third))) ⌝ }
+{
+    let sets = at_most(h.second, 8);
+    let size = at_most(h.third, 4);
+    let width = b3d_chunks::vertex_words(h.first % 4, sets, size);
+    let rest = h.rest;
+    let at = rest.at;
+    let end = rest.end;
+    (end - at) / (4 * width)
+}
+
+// The rows of a VRTS with this body, from word `base` of the table on; gives the word after them. A row has room for 8 sets of 4, whatever the numbers say.
+pub fn put_shape(file: &[u8], body: Cursor, base: usize, out: &mut [u32]) -> usize
+    requires { ⌜ Inside body (length (now file)) × (base + length (words (shapeRows (plainVertices (left body (now file))))) ≤ length (now out)) ⌝ }
+    ensures { λ r. ⌜ (r ≡ base + length (words (shapeRows (plainVertices (left body (now (file .entry)))))))
+        × (now (out .exit) ≡ stored (now (out .entry)) base (words (shapeRows (plainVertices (left body (now (file .entry))))))) ⌝ }
+{
+    let h = b3d_walk::three_words(file, body);
+    let flags = h.first % 4;
+    let sets = at_most(h.second, 8);
+    let size = at_most(h.third, 4);
+    let width = b3d_chunks::vertex_words(flags, sets, size);
+    let rest = h.rest;
+    let at = rest.at;
+    let end = rest.end;
+    let count = (end - at) / (4 * width);
+    b3d_runs::fill_vertices(
+        file,
+        Cursor { at, end },
+        flags,
+        sets,
+        size,
+        count,
+        base,
+        out,
+    );
+    base + count * 42
+}
+
+// How many words a key has.
+pub fn key_width(flags: u32) -> usize
+    ensures { λ r. ⌜ (r ≡ ones (keyMask flags)) × (1 ≤ r) × (r ≤ 11) ⌝ }
+{
+    wire::size(1 + flags % 2 * 3 + flags / 2 % 2 * 3 + flags / 4 % 2 * 4)
+}
+
+// The rows of a KEYS with this body, from word `base` of the table on; gives the word after them.
+pub fn put_keys(file: &[u8], body: Cursor, base: usize, out: &mut [u32]) -> usize
+    requires { ⌜ Inside body (length (now file)) × (base + length (words (keyRowsOf (left body (now file)))) ≤ length (now out)) ⌝ }
+    ensures { λ r. ⌜ (r ≡ base + length (words (keyRowsOf (left body (now (file .entry))))))
+        × (now (out .exit) ≡ stored (now (out .entry)) base (words (keyRowsOf (left body (now (file .entry)))))) ⌝ }
+{
+    let at = body.at;
+    let end = body.end;
+    if end - at < 4 {
+        return base;
+    }
+    let flags = wire::number_at(file, at);
+    let width = key_width(flags);
+    let from = at + 4;
+    let count = (end - from) / (4 * width);
+    b3d_runs::fill_keys(
+        file,
+        Cursor { at: from, end },
+        flags,
+        width,
+        count,
+        base,
+        out,
+    );
+    base + count * 11
+}

@@ -1,0 +1,2 @@
+-- Rows of a MESH.
+pub mod Meshes

@@ -1,0 +1,230 @@
+// Rows of one MESH, from its body: its vertices and triangles, its row in the table of meshes, and its triangle sets.
+ghost use mathlib.Core.Path.{_≡_};
+ghost use Prim.Native.Nat.{ℕ, _+_, _-_, _*_, _<_, _≤_};
+ghost use lib.ListN.{length};
+ghost use lib.Seq.{sets as stored};
+ghost use Rattle.wire.specs.Cursors.{Inside, left};
+ghost use Rattle.b3d_scene.specs.Tables.{words};
+ghost use Rattle.b3d_file_rows.specs.Plain.{setsOf, plainTriangles};
+ghost use Rattle.b3d_walk.specs.Walks.{BodyAt};
+ghost use Rattle.b3d_walk.specs.Seeks.{ahead};
+ghost use Rattle.b3d_mesh_rows.specs.Meshes.{verticesIn, trianglesIn, setRow, setsIn, SetsPut, ShapeFound, MeshPut};
+use b3d_scene::Tag;
+use b3d_walk::Sought;
+use wire::Cursor;
+
+// The vertices of a MESH whose header is at p.
+pub fn put_vertices(file: &[u8], p: usize, body: Cursor, base: usize, out: &mut [u32]) -> usize
+    requires { ⌜ BodyAt (now file) p body × (base + length (words (verticesIn p (left body (now file)))) ≤ length (now out)) ⌝ }
+    ensures { λ r. ⌜ (r ≡ base + length (words (verticesIn p (left body (now (file .entry))))))
+        × (now (out .exit) ≡ stored (now (out .entry)) base (words (verticesIn p (left body (now (file .entry)))))) ⌝ }
+{
+    let head = b3d_walk::first_word(file, body);
+    match b3d_walk::seek(file, head.rest, Tag::VRTS) {
+        Sought::Nothing => base,
+        Sought::Found {
+            at: _,
+            body: b,
+            next: _,
+        } => b3d_item_rows::put_shape(file, b, base, out),
+    }
+}
+
+// The triangles of a MESH whose header is at p, from word `base` of the table on; gives the word after them.
+pub fn put_triangles(file: &[u8], p: usize, body: Cursor, base: usize, out: &mut [u32]) -> usize
+    requires { ⌜ BodyAt (now file) p body × (base + length (words (trianglesIn p (left body (now file)))) ≤ length (now out)) ⌝ }
+    ensures { λ r. ⌜ (r ≡ base + length (words (trianglesIn p (left body (now (file .entry))))))
+        × (now (out .exit) ≡ stored (now (out .entry)) base (words (trianglesIn p (left body (now (file .entry)))))) ⌝ }
+{
+    let head = b3d_walk::first_word(file, body);
+    let mut c = head.rest;
+    let mut o = base;
+    loop {
+        match b3d_walk::seek(file, c, Tag::TRIS) {
+            Sought::Nothing => {
+                return o;
+            }
+            Sought::Found {
+                at: _,
+                body: b,
+                next,
+            } => {
+                let set = b3d_walk::first_word(file, b);
+                o = b3d_item_rows::put_items(file, set.rest, 3, o, out);
+                c = next;
+            }
+        }
+    }
+}
+
+// The row of a TRIS of a mesh, the first triangle being number `first`; gives how many triangles it has.
+fn put_set(
+    file: &[u8],
+    body: Cursor,
+    mesh: usize,
+    first: usize,
+    base: usize,
+    out: &mut [u32],
+) -> usize
+    requires { ⌜ Inside body (length (now file)) × (length (now file) < 0x100000000) × (mesh < 0x100000000) × (first < 0x100000000) × (base + 4 ≤ length (now out)) ⌝ }
+    ensures { λ r. ⌜ (r ≡ length (plainTriangles (left body (now (file .entry))) .triangles))
+        × (now (out .exit) ≡ stored (now (out .entry)) base (setRow mesh first (plainTriangles (left body (now (file .entry)))))) ⌝ }
+{
+    let head = b3d_walk::first_word(file, body);
+    let brush = head.word;
+    let rest = head.rest;
+    let at = rest.at;
+    let end = rest.end;
+    let count = (end - at) / 12;
+    let cells = [
+        b3d_rows::cell(mesh),
+        brush,
+        b3d_rows::cell(first),
+        b3d_rows::cell(count),
+    ];
+    b3d_rows::put_cells(out, base, &cells);
+    count
+}
+
+// The word of the table and the number of the triangle that come next.
+pub struct After {
+    pub base: usize,
+    pub first: usize,
+}
+
+// The sets of a MESH whose header is at p.
+pub fn put_sets(
+    file: &[u8],
+    p: usize,
+    body: Cursor,
+    mesh: usize,
+    first: usize,
+    base: usize,
+    out: &mut [u32],
+) -> After
+    requires { ⌜ BodyAt (now file) p body × (length (now file) < 0x100000000) × (mesh < 0x100000000) × (first ≤ p) × (base ≤ 4 * p) × (base + length (words (setsIn p (left body (now file)) mesh first)) ≤ length (now out)) ⌝ }
+    ensures { λ r. ⌜ SetsPut (now (file .entry)) p body mesh first base (now (out .entry)) (now (out .exit)) r ⌝ }
+{
+    let head = b3d_walk::first_word(file, body);
+    let mut c = head.rest;
+    let mut o = base;
+    let mut n = first;
+    loop {
+        match b3d_walk::seek(file, c, Tag::TRIS) {
+            Sought::Nothing => {
+                return After { base: o, first: n };
+            }
+            Sought::Found {
+                at: _,
+                body: b,
+                next,
+            } => {
+                n += put_set(file, b, mesh, n, o, out);
+                o += 4;
+                c = next;
+            }
+        }
+    }
+}
+
+// How many TRIS stand from a cursor on.
+fn count_sets(file: &[u8], from: Cursor) -> usize
+    requires { ⌜ Inside from (length (now file)) ⌝ }
+    ensures { λ r. ⌜ (r ≡ length (setsOf (ahead (now (file .entry)) from))) × (r ≤ from .end - from .at) ⌝ }
+{
+    let mut c = from;
+    let mut n: usize = 0;
+    loop {
+        match b3d_walk::seek(file, c, Tag::TRIS) {
+            Sought::Nothing => {
+                return n;
+            }
+            Sought::Found {
+                at: _,
+                body: _,
+                next,
+            } => {
+                n += 1;
+                c = next;
+            }
+        }
+    }
+}
+
+// The numbers of the first VRTS, 0 where there is none, and how many vertices it has.
+pub struct Vertices {
+    pub flags: u32,
+    pub sets: u32,
+    pub size: u32,
+    pub count: usize,
+}
+
+fn find_shape(file: &[u8], from: Cursor) -> Vertices
+    requires { ⌜ Inside from (length (now file)) ⌝ }
+    ensures { λ r. ⌜ ShapeFound (now (file .entry)) from r ⌝ }
+{
+    match b3d_walk::seek(file, from, Tag::VRTS) {
+        Sought::Nothing => Vertices {
+            flags: 0,
+            sets: 0,
+            size: 0,
+            count: 0,
+        },
+        Sought::Found {
+            at: _,
+            body,
+            next: _,
+        } => {
+            let h = b3d_walk::three_words(file, body);
+            let count = b3d_item_rows::shape_count(h);
+            Vertices {
+                flags: h.first,
+                sets: h.second,
+                size: h.third,
+                count,
+            }
+        }
+    }
+}
+
+// What a MESH adds.
+pub struct Added {
+    pub vertices: usize,
+    pub sets: usize,
+}
+
+// The row of a MESH of a node, its first vertex and set being these numbers.
+pub fn put_mesh(
+    file: &[u8],
+    p: usize,
+    body: Cursor,
+    node: usize,
+    vertices: usize,
+    sets: usize,
+    base: usize,
+    out: &mut [u32],
+) -> Added
+    requires { ⌜ BodyAt (now file) p body × (length (now file) < 0x100000000) × (node < 0x100000000) × (vertices < 0x100000000) × (sets < 0x100000000) × (base + 9 ≤ length (now out)) ⌝ }
+    ensures { λ r. ⌜ MeshPut (now (file .entry)) p body node vertices sets base (now (out .entry)) (now (out .exit)) r ⌝ }
+{
+    let head = b3d_walk::first_word(file, body);
+    let v = find_shape(file, head.rest);
+    let n = count_sets(file, head.rest);
+    let count = v.count;
+    let cells = [
+        b3d_rows::cell(node),
+        head.word,
+        v.flags,
+        v.sets,
+        v.size,
+        b3d_rows::cell(vertices),
+        b3d_rows::cell(count),
+        b3d_rows::cell(sets),
+        b3d_rows::cell(n),
+    ];
+    b3d_rows::put_cells(out, base, &cells);
+    Added {
+        vertices: count,
+        sets: n,
+    }
+}

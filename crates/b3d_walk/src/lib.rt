@@ -1,0 +1,164 @@
+// The flat walk over a file's chunks, and the first chunk of a tag. Nothing is judged here.
+ghost use mathlib.Core.Path.{_≡_};
+ghost use Prim.Native.Nat.{ℕ, _-_, _≤_};
+ghost use lib.ListN.{length};
+ghost use Rattle.wire.specs.Cursors.{Inside};
+ghost use Rattle.b3d_walk.specs.Walks.{NodeAt, Steps};
+ghost use Rattle.b3d_walk.specs.Seeks.{Seeks, FirstWord, ThreeWords};
+use b3d_chunks::Named;
+use b3d_chunks::Next;
+use b3d_scene::Tag;
+use wire::Cursor;
+
+// The next chunk of the flat run: its tag, the place of its header, its body, and the place where the run goes on.
+pub enum Flat {
+    Chunk {
+        tag: Tag,
+        at: usize,
+        body: Cursor,
+        next: usize,
+    },
+    End,
+}
+
+// Into a NODE, behind its text and ten numbers.
+fn enter(file: &[u8], at: usize, p: usize, body: Cursor) -> Flat
+    requires { ⌜ NodeAt (now file) at p body ⌝ }
+    ensures { λ r. ⌜ Steps (now (file .entry)) at r ⌝ }
+{
+    match b3d_chunks::named_row(file, body, 10) {
+        Named::Cut => Flat::End,
+        Named::Is {
+            length: _,
+            row: _,
+            next,
+        } => Flat::Chunk {
+            tag: Tag::NODE,
+            at: p,
+            body,
+            next: next.at,
+        },
+    }
+}
+
+// The chunk of the flat run at a place.
+pub fn flat_next(file: &[u8], at: usize) -> Flat
+    requires { ⌜ at ≤ length (now file) ⌝ }
+    ensures { λ r. ⌜ Steps (now (file .entry)) at r ⌝ }
+{
+    let end = file.len();
+    match b3d_chunks::next_chunk(file, Cursor { at, end }) {
+        Next::Done => Flat::End,
+        Next::Cut(_) => Flat::End,
+        Next::Chunk {
+            tag,
+            at: p,
+            body,
+            next,
+        } => {
+            if b3d_copy::same(tag, Tag::NODE) {
+                return enter(file, at, p, body);
+            }
+            Flat::Chunk {
+                tag,
+                at: p,
+                body,
+                next: next.at,
+            }
+        }
+    }
+}
+
+// The first chunk of a tag: the place of its header, its body, the cursor after it.
+pub enum Sought {
+    Found {
+        at: usize,
+        body: Cursor,
+        next: Cursor,
+    },
+    Nothing,
+}
+
+// The first chunk of a tag among those that stand from a cursor on, none of them entered.
+pub fn seek(file: &[u8], from: Cursor, tag: Tag) -> Sought
+    requires { ⌜ Inside from (length (now file)) ⌝ }
+    ensures { λ r. ⌜ Seeks (now (file .entry)) from tag r ⌝ }
+{
+    let mut c = from;
+    loop {
+        match b3d_chunks::next_chunk(file, c) {
+            Next::Done => {
+                return Sought::Nothing;
+            }
+            Next::Cut(_) => {
+                return Sought::Nothing;
+            }
+            Next::Chunk {
+                tag: t,
+                at,
+                body,
+                next,
+            } => {
+                if b3d_copy::same(t, tag) {
+                    return Sought::Found { at, body, next };
+                }
+                c = next;
+            }
+        }
+    }
+}
+
+// The first number of a body, 0 where it is not there, and a cursor behind it.
+pub struct Headed {
+    pub word: u32,
+    pub rest: Cursor,
+}
+
+pub fn first_word(file: &[u8], body: Cursor) -> Headed
+    requires { ⌜ Inside body (length (now file)) ⌝ }
+    ensures { λ r. ⌜ FirstWord (now (file .entry)) body r ⌝ }
+{
+    let at = body.at;
+    let end = body.end;
+    if end - at < 4 {
+        return Headed {
+            word: 0,
+            rest: Cursor { at: end, end },
+        };
+    }
+    Headed {
+        word: wire::number_at(file, at),
+        rest: Cursor { at: at + 4, end },
+    }
+}
+
+// The first three numbers of a body, 0 where one is not there, and a cursor behind them.
+pub struct Three {
+    pub first: u32,
+    pub second: u32,
+    pub third: u32,
+    pub rest: Cursor,
+}
+
+pub fn three_words(file: &[u8], body: Cursor) -> Three
+    requires { ⌜ Inside body (length (now file)) ⌝ }
+    ensures { λ r. ⌜ ThreeWords (now (file .entry)) body r ⌝ }
+{
+    let a = first_word(file, body);
+    let b = first_word(file, a.rest);
+    let c = first_word(file, b.rest);
+    let rest = c.rest;
+    Three {
+        first: a.word,
+        second: b.word,
+        third: c.word,
+        rest,
+    }
+}
+
+// The number of the node that is being read, 0 before the first.
+pub fn current(nodes: usize) -> usize
+    ensures { λ r. ⌜ r ≡ nodes - 1 ⌝ }
+{
+    if nodes == 0 { 0 } else { nodes - 1 }
+}
