@@ -1,4 +1,4 @@
-# `make demo` lists a sample and clears it of names; `make test` is the gate.
+# `make demo` lists a sample, clears it of names and writes its slip; `make test` is the gate.
 CLI = rust/target/release/kelompuris
 
 .PHONY: demo cli test
@@ -8,6 +8,8 @@ demo: cli
 	$(CLI) list samples/kitchen.b3d
 	$(CLI) clear samples/kitchen.b3d target/kitchen_cleared.b3d
 	$(CLI) list target/kitchen_cleared.b3d
+	$(CLI) slip samples/kitchen.b3d target/kitchen.slip
+	$(CLI) slip --show target/kitchen.slip
 
 cli:
 	rust/build-lib

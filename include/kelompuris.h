@@ -1,7 +1,7 @@
-/* Kelompuris: B3D scene files for showroom terminals.
+/* Kelompuris: B3D scene files for showroom terminals, and slips beside them.
  *
  * The functions are in libkelompuris_c.a, for x86-64 Linux (`rt staticlib kelompuris_c`). They keep nothing between calls and use no heap.
- * Each takes every file and all tables: bytes that are no B3D file, and tables of no such file, are answered by a refusal.
+ * Each takes every file, slip and number and all tables: what is no B3D file, no slip or no table of such a file is answered by a refusal.
  *
  * A lent array is a pointer and its number of elements. The caller sees to this:
  *   - the pointer holds for that many elements, and is aligned as its type asks; with 0 elements it may be null;
@@ -85,7 +85,7 @@ kelompuris_answer kelompuris_b3d_read(
     uint32_t *t7, size_t t7_len, uint32_t *t8, size_t t8_len,
     uint32_t *t9, size_t t9_len, uint32_t *t10, size_t t10_len);
 
-/* What write and clear answer.
+/* What write, clear and the two writers of slips answer.
  *
  * number 0: written. place is 0; size is the number of bytes written, from the start of the output. Any other number is a refusal, and size
  * is 0. Numbers 1 to 10 are those above, with their places; then:
@@ -94,6 +94,7 @@ kelompuris_answer kelompuris_b3d_read(
  *   11  the output is too short                                          the size needed
  *   12  no file that the mode accepts has these tables,                  0
  *       name places aside
+ *   13  a number of a slip is out of its range                           its position, 0 to 11
  */
 typedef struct {
     uint32_t number, place, size;
@@ -129,6 +130,41 @@ kelompuris_written kelompuris_b3d_write(
  * The file is not written.
  */
 kelompuris_written kelompuris_b3d_clear(const uint8_t *file, size_t file_len, uint8_t *out, size_t out_len);
+
+/* Slips. A slip is twelve numbers, one behind the other: version (0 to 99), n_texs (0 to 8) and the rows of tables 1 to 10 (0 to 16,383
+ * each). A number is in groups of seven bits, the highest first, the top bit set on all bytes but its last, in the shortest form: 128 is
+ * 81 00. So a slip has 12 to 22 bytes, and twelve numbers have one slip. */
+enum {
+    KELOMPURIS_SLIP_NUMBERS = 12,
+    KELOMPURIS_SLIP_BYTES = 22
+};
+
+/* Writes the slip of a file: answers 0 or 1 to 11; 1 to 10 as kelompuris_b3d_judge does in lenient mode.
+ *
+ * The numbers are those that kelompuris_b3d_judge answers. Written: the output's bytes behind the size stay as they were. Refused, also
+ * by 11: the whole output stays as it was. The file is not written.
+ */
+kelompuris_written kelompuris_b3d_slip(const uint8_t *file, size_t file_len, uint8_t *out, size_t out_len);
+
+/* Writes the slip of twelve numbers: answers 0, 11 or 13; 13 comes before 11.
+ *
+ * numbers points to twelve words. Written: the output's bytes behind the size stay as they were. Refused: the whole output stays as it
+ * was. The numbers are not written.
+ */
+kelompuris_written kelompuris_slip_write(const uint32_t numbers[12], uint8_t *out, size_t out_len);
+
+/* What a slip is answered.
+ *
+ * number 0: accepted. place is 0; numbers are the slip's. number 13: refused, and numbers are 0. place is the first byte of the first number
+ * that its bytes so far make wrong, also where the slip ends right behind them; else the length of the slip, if it is cut; else
+ * the first byte behind the twelfth number.
+ */
+typedef struct {
+    uint32_t number, place, numbers[12];
+} kelompuris_slip;
+
+/* Reads a slip: answers 0 or 13. Writes nothing. */
+kelompuris_slip kelompuris_slip_read(const uint8_t *slip, size_t slip_len);
 
 #ifdef __cplusplus
 }

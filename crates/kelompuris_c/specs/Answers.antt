@@ -8,6 +8,8 @@ use Rattle.b3d_scene.specs.declared.Mode.the-variants.{Strict, Lenient}
 use Rattle.b3d_scene.specs.declared.Written.{Written}
 use Rattle.kelompuris_c.specs.declared.KelompurisAnswer.{KelompurisAnswer}
 use Rattle.kelompuris_c.specs.declared.KelompurisWritten.{KelompurisWritten}
+use Rattle.kelompuris_c.specs.declared.KelompurisSlip.{KelompurisSlip}
+use Rattle.slip.specs.declared.Slip.{Slip}
 
 -- the same numbers
 unfoldable pub answerIn : KelompurisAnswer → Answer
@@ -19,3 +21,6 @@ writtenIn r = record { number = r .number; place = r .place; size = r .size }
 -- KELOMPURIS_LENIENT is 1; any other number means strict
 unfoldable pub modeOf : ℕ → Mode
 modeOf n = if (eqb n 1) Lenient Strict
+
+unfoldable pub slipIn : KelompurisSlip → Slip
+slipIn r = record { number = r .number; place = r .place; numbers = r .numbers }

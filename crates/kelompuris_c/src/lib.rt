@@ -7,10 +7,13 @@ ghost use Rattle.b3d_read.specs.Reads.{Reads};
 ghost use Rattle.b3d_scene.specs.Answers.{clearAnswer, clearOutput};
 ghost use Rattle.b3d_check.specs.Lent.{lentOf};
 ghost use Rattle.b3d_write.specs.Writes.{Writes};
-ghost use Rattle.kelompuris_c.specs.Answers.{answerIn, writtenIn, modeOf};
+ghost use Rattle.slip.specs.Slips.{writeSlipAnswer, writeSlipOutput, readSlipAnswer};
+ghost use Rattle.b3d_slip.specs.FileSlips.{fileSlipAnswer, fileSlipOutput};
+ghost use Rattle.kelompuris_c.specs.Answers.{answerIn, writtenIn, modeOf, slipIn};
 use b3d_scene::Answer;
 use b3d_scene::Mode;
 use b3d_scene::Written;
+use slip::Slip;
 
 // The reader's answer as C lays it out.
 #[repr(C)]
@@ -22,12 +25,20 @@ pub struct KelompurisAnswer {
     pub counts: [u32; 10],
 }
 
-// What the writer and the clearer answer, as C lays it out.
+// What the functions that write into an output answer, as C lays it out.
 #[repr(C)]
 pub struct KelompurisWritten {
     pub number: u32,
     pub place: u32,
     pub size: u32,
+}
+
+// What the reader of slips answers, as C lays it out.
+#[repr(C)]
+pub struct KelompurisSlip {
+    pub number: u32,
+    pub place: u32,
+    pub numbers: [u32; 12],
 }
 
 // The mode that a number names: 1 the lenient one, any other the strict one.
@@ -89,7 +100,7 @@ pub extern "C" fn kelompuris_b3d_read(
     outward(b3d_read::read(m, file, t1, t2, t3, t4, t5, t6, t7, t8, t9, t10))
 }
 
-// What the writer or the clearer answers, in C's layout.
+// What a function that writes into an output answers, in C's layout.
 fn outward_written(w: Written) -> KelompurisWritten
     ensures { λ r. ⌜ writtenIn r ≡ w ⌝ }
 {
@@ -151,4 +162,42 @@ pub extern "C" fn kelompuris_b3d_clear(file: &[u8], out: &mut [u8]) -> Kelompuri
     ensures { λ _. ⌜ now (out .exit) ≡ clearOutput (now (file .entry)) (now (out .entry)) ⌝ }
 {
     outward_written(b3d_clear::clear(file, out))
+}
+
+// What the reader of slips answers, in C's layout.
+fn outward_slip(a: Slip) -> KelompurisSlip
+    ensures { λ r. ⌜ slipIn r ≡ a ⌝ }
+{
+    let numbers = a.numbers;
+    KelompurisSlip {
+        number: a.number,
+        place: a.place,
+        numbers,
+    }
+}
+
+// Writes the slip of twelve numbers.
+#[no_mangle]
+pub extern "C" fn kelompuris_slip_write(numbers: &[u32; 12], out: &mut [u8]) -> KelompurisWritten
+    ensures { λ r. ⌜ writtenIn r ≡ writeSlipAnswer (now (numbers .entry)) (now (out .entry)) ⌝ }
+    ensures { λ _. ⌜ now (out .exit) ≡ writeSlipOutput (now (numbers .entry)) (now (out .entry)) ⌝ }
+{
+    outward_written(slip::write_slip(*numbers, out))
+}
+
+// Reads a slip.
+#[no_mangle]
+pub extern "C" fn kelompuris_slip_read(slip: &[u8]) -> KelompurisSlip
+    ensures { λ r. ⌜ slipIn r ≡ readSlipAnswer (now (slip .entry)) ⌝ }
+{
+    outward_slip(slip::read_slip(slip))
+}
+
+// Writes the slip of a file.
+#[no_mangle]
+pub extern "C" fn kelompuris_b3d_slip(file: &[u8], out: &mut [u8]) -> KelompurisWritten
+    ensures { λ r. ⌜ writtenIn r ≡ fileSlipAnswer (now (file .entry)) (now (out .entry)) ⌝ }
+    ensures { λ _. ⌜ now (out .exit) ≡ fileSlipOutput (now (file .entry)) (now (out .entry)) ⌝ }
+{
+    outward_written(b3d_slip::slip_of(file, out))
 }

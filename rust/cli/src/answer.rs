@@ -23,7 +23,7 @@ impl Stop {
         Stop::Refused(about(path, refusal(number, place)))
     }
 
-    /// The same for an answer of writer or clearer.
+    /// The same for an answer of a function that writes.
     pub fn not_written(path: &Path, written: Written) -> Stop {
         Stop::refused(path, written.number, written.place)
     }
@@ -78,6 +78,7 @@ fn refusal(number: u32, place: u32) -> String {
         (10, _) => &table("more than 16,383 rows"),
         (SHORT, _) => &table("too few words lent"),
         (12, _) => "tables that no accepted file has",
+        (13, _) => "a slip with a number that is wrong, or that is cut or too long",
         _ => "a refusal without words",
     };
     format!("{number} at {place}: {words}")
@@ -103,8 +104,8 @@ mod tests {
     #[test]
     fn each_number_has_its_own_words() {
         let words = |number| refusal(number, 1).split_once(": ").unwrap().1.to_string();
-        let all: std::collections::BTreeSet<String> = (1..=12).map(words).collect();
-        assert_eq!(all.len(), 12);
-        assert!(!all.contains(&words(13)));
+        let all: std::collections::BTreeSet<String> = (1..=13).map(words).collect();
+        assert_eq!(all.len(), 13);
+        assert!(!all.contains(&words(14)));
     }
 }

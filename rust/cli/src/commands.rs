@@ -1,12 +1,12 @@
-//! The five commands, all but `clear` in a mode. What goes to standard output is added to `out`, by the two
-//! that print; the others say nothing unless they stop.
+//! The commands, those on scenes in a mode but for `clear` and `slip`. What goes to standard output is added to `out`, by those that
+//! print; the others say nothing unless they stop.
 
 use crate::answer::{about, in_words, Stop};
 use crate::columns::{Table, HEAD, NODES, TABLES};
 use crate::output::{put_file, put_folder};
 use crate::scene::{self, load, name, Scene};
 use crate::text;
-use kelompuris::{judge, Answer, Mode};
+use kelompuris::{judge, read_slip, Answer, Mode};
 use std::fs;
 use std::path::Path;
 
@@ -96,6 +96,26 @@ pub fn clear(path: &Path, target: &Path) -> Result<(), Stop> {
     let bytes = scene::clear(&file);
     let bytes = bytes.map_err(|written| Stop::not_written(path, written))?;
     put_file(target, &bytes)
+}
+
+/// The slip of a file.
+pub fn slip(path: &Path, target: &Path) -> Result<(), Stop> {
+    let file = load(path)?;
+    let bytes = scene::slip_of(&file);
+    let bytes = bytes.map_err(|written| Stop::not_written(path, written))?;
+    put_file(target, &bytes)
+}
+
+/// Number and place of a slip; if accepted version and n_texs, ten counts.
+pub fn show_slip(path: &Path, out: &mut Vec<u8>) -> Result<(), Stop> {
+    let slip = read_slip(&load(path)?);
+    add_numbers(out, &[slip.number, slip.place]);
+    if slip.number != 0 {
+        return Err(Stop::refused(path, slip.number, slip.place));
+    }
+    add_numbers(out, &slip.numbers[..2]);
+    add_numbers(out, &slip.numbers[2..]);
+    Ok(())
 }
 
 /// The scene of a file, unless it is refused.

@@ -1,5 +1,5 @@
 //! `kelompuris`: B3D scene files checked, listed, taken apart, put together and
-//! cleared of names, all by the proved functions.
+//! cleared of names, and their slips, all by the proved functions.
 
 mod answer;
 mod columns;
@@ -22,6 +22,8 @@ usage: kelompuris check [--lenient] FILE..
        kelompuris tables [--lenient] FILE DIR
        kelompuris build [--lenient] DIR OUT
        kelompuris clear FILE OUT
+       kelompuris slip FILE OUT
+       kelompuris slip --show SLIP
        kelompuris --help
 ";
 
@@ -34,6 +36,9 @@ tables  the ten tables of a file and scene.tsv (version, n_texs) as texts in
         DIR, which must be new or empty
 build   the shortest file with the tables in such a DIR
 clear   a copy without names and without chunks of other tags
+slip    the slip of a file: version, n_texs and the ten row counts in 12 to 22
+        bytes; with --show, number and place of a slip, and if it is accepted
+        its numbers, as `list` prints them
 
 A red, green, blue or alpha that is not a number or lies outside 0 to 1 is
 refused; with --lenient any is taken. `clear` takes any.
@@ -81,6 +86,10 @@ fn run(args: &[OsString], out: &mut Vec<u8>) -> Result<(), Stop> {
         (Some("tables"), [file, folder]) => commands::tables(mode, file, folder),
         (Some("build"), [folder, target]) => commands::build(mode, folder, target),
         (Some("clear"), [file, target]) => commands::clear(file, target),
+        (Some("slip"), [show, slip]) if *show == Path::new("--show") => {
+            commands::show_slip(slip, out)
+        }
+        (Some("slip"), [file, target]) => commands::slip(file, target),
         (Some("--help"), []) => {
             out.extend_from_slice(USAGE.as_bytes());
             out.extend_from_slice(HELP.as_bytes());

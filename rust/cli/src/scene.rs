@@ -51,6 +51,11 @@ pub fn clear(file: &[u8]) -> Result<Vec<u8>, Written> {
     exact(|out| kelompuris::clear(file, out))
 }
 
+/// The slip of a file.
+pub fn slip_of(file: &[u8]) -> Result<Vec<u8>, Written> {
+    exact(|out| kelompuris::slip_of(file, out))
+}
+
 /// Lends no output, to learn the size, then just that much.
 fn exact(write: impl Fn(&mut [u8]) -> Written) -> Result<Vec<u8>, Written> {
     let asked = write(&mut []);

@@ -8,7 +8,7 @@ use std::fs;
 #[test]
 fn wrong_use() {
     let folder = fresh("wrong_use");
-    let wrong: [&[&str]; 15] = [
+    let wrong: [&[&str]; 18] = [
         &[],
         &["check"],
         &["list"],
@@ -17,6 +17,9 @@ fn wrong_use() {
         &["build", "hall.b3d"],
         &["clear", "hall.b3d"],
         &["clear", "hall.b3d", "a", "b"],
+        &["slip", "hall.b3d"],
+        &["slip", "--show"],
+        &["slip", "--show", "a", "b"],
         &["Check", "hall.b3d"],
         &["--help", "hall.b3d"],
         &["hall.b3d"],
@@ -36,7 +39,7 @@ fn wrong_use() {
 fn help_names_all_commands() {
     let help = run(&fresh("help"), &["--help"]);
     assert_eq!((help.status, help.err.as_str()), (0, ""));
-    for command in ["check", "list", "tables", "build", "clear"] {
+    for command in ["check", "list", "tables", "build", "clear", "slip"] {
         let line = |line: &str| line.starts_with(&format!("{command} "));
         assert!(help.out.lines().any(line), "{command}");
     }
@@ -52,6 +55,8 @@ fn files_that_cannot_be_read() {
         run(&folder, &["tables", missing, "out"]).stops(2, missing);
         run(&folder, &["build", missing, "out"]).stops(2, missing);
         run(&folder, &["clear", missing, "out"]).stops(2, missing);
+        run(&folder, &["slip", missing, "out"]).stops(2, missing);
+        run(&folder, &["slip", "--show", missing]).stops(2, missing);
     }
     assert_eq!(names_in(&folder), before);
 }
@@ -65,6 +70,7 @@ fn places_that_cannot_be_written() {
     let before = names_in(&folder);
     for target in ["none/out", "full", ".."] {
         run(&folder, &["clear", "hall.b3d", target]).stops(2, target);
+        run(&folder, &["slip", "hall.b3d", target]).stops(2, target);
         run(&folder, &["build", "t", target]).stops(2, target);
         run(&folder, &["tables", "hall.b3d", target]).stops(2, target);
     }
@@ -85,6 +91,7 @@ fn a_failing_write_leaves_nothing() {
     let before = names_in(&folder);
     for target in ["new", "old"] {
         run_on_full_disk(&folder, &["clear", "kitchen.b3d", target]).stops(2, target);
+        run_on_full_disk(&folder, &["slip", "kitchen.b3d", target]).stops(2, target);
         run_on_full_disk(&folder, &["build", "parts", target]).stops(2, target);
         run_on_full_disk(&folder, &["tables", "kitchen.b3d", target]).stops(2, target);
     }

@@ -3,11 +3,13 @@
 //! changed.
 //!
 //! - here: judging and reading.
-//! - `output`: writing and clearing.
+//! - `output`: writing, clearing and slips of files.
+//! - `slip`: reading slips.
 //! - `run`: runs groups of comparisons and prints what was compared.
 
 mod output;
 mod run;
+mod slip;
 
 pub use output::{sheet_of, Call};
 pub use run::{run, Group};
@@ -25,12 +27,14 @@ pub struct Compared {
     pub reads: usize,
     /// Words of tables, those around the rows too.
     pub words: usize,
-    /// Calls of writer and clearer.
+    /// Calls with an output: writer, clearer, slips.
     pub outputs: usize,
     /// Bytes of outputs, those around them too.
     pub bytes: usize,
+    /// Slips that were read.
+    pub slips: usize,
     /// How often each number was answered.
-    pub numbers: [usize; 13],
+    pub numbers: [usize; 14],
 }
 
 /// Where the two differ, or both from what is known.
@@ -138,7 +142,7 @@ impl Compared {
     }
 
     fn count(&mut self, number: u32) {
-        self.numbers[number.min(12) as usize] += 1;
+        self.numbers[number.min(13) as usize] += 1;
     }
 
     fn same(

@@ -3,11 +3,15 @@ use reference::{Mode, Written};
 use scenes::sheet::ROW_WORDS;
 use scenes::{Rng, Sheet};
 
-/// A call of the writer or of the clearer, the output aside.
+/// A call of a function that writes, the output aside.
 #[derive(Clone, Copy)]
 pub enum Call<'a> {
     Write(Mode, &'a Sheet),
     Clear(&'a [u8]),
+    /// The slip of a file.
+    SlipOf(&'a [u8]),
+    /// The slip of these numbers.
+    Slip(&'a [u32; 12]),
 }
 
 impl Call<'_> {
@@ -23,6 +27,8 @@ impl Call<'_> {
                 out,
             ),
             Call::Clear(file) => kelompuris::clear(file, out),
+            Call::SlipOf(file) => kelompuris::slip_of(file, out),
+            Call::Slip(numbers) => kelompuris::write_slip(numbers, out),
         };
         Written {
             number: answer.number,
@@ -43,6 +49,8 @@ impl Call<'_> {
                 out,
             ),
             Call::Clear(file) => reference::clear(file, out),
+            Call::SlipOf(file) => reference::slip_of(file, out),
+            Call::Slip(numbers) => reference::write_slip(numbers, out),
         }
     }
 
@@ -53,6 +61,8 @@ impl Call<'_> {
                 disagree(about, &sheet.names)
             }
             Call::Clear(file) => disagree(format!("clear: {about}"), file),
+            Call::SlipOf(file) => disagree(format!("slip of a file: {about}"), file),
+            Call::Slip(numbers) => disagree(format!("slip of {numbers:?}: {about}"), &[]),
         }
     }
 }

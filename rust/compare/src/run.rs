@@ -10,7 +10,7 @@ pub type Group = fn(&mut Compared, &mut Rng) -> Result<(), Disagreement>;
 /// answered. Fails at the first disagreement, and if one of the numbers
 /// `needed` was never met.
 pub fn run(groups: &[(&str, Group)], needed: &[usize]) -> ExitCode {
-    let mut numbers = [0; 13];
+    let mut numbers = [0; 14];
     for (name, group) in groups {
         let start = Instant::now();
         let mut compared = Compared::default();
@@ -48,6 +48,7 @@ impl Compared {
             (self.words, "words"),
             (self.outputs, "outputs"),
             (self.bytes, "bytes"),
+            (self.slips, "slips"),
         ];
         let met = counts.iter().filter(|(count, _)| *count > 0);
         let parts: Vec<String> = met.map(|(count, what)| format!("{count} {what}")).collect();

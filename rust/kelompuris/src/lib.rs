@@ -20,7 +20,16 @@ pub struct Answer {
     pub counts: [u32; 10],
 }
 
-/// What writer and clearer answer. The size is 0 on refusal.
+/// What a slip is answered. The numbers are 0 on refusal.
+#[repr(C)]
+#[derive(Clone, Copy, Debug, Default, PartialEq, Eq)]
+pub struct Slip {
+    pub number: u32,
+    pub place: u32,
+    pub numbers: [u32; 12],
+}
+
+/// What the functions that write answer. The size is 0 on refusal.
 #[repr(C)]
 #[derive(Clone, Copy, Debug, Default, PartialEq, Eq)]
 pub struct Written {
@@ -56,6 +65,14 @@ extern "C" {
     fn kelompuris_b3d_clear(
         file: *const u8, file_len: usize, out: *mut u8, out_len: usize,
     ) -> Written;
+
+    fn kelompuris_b3d_slip(
+        file: *const u8, file_len: usize, out: *mut u8, out_len: usize,
+    ) -> Written;
+
+    fn kelompuris_slip_write(numbers: *const u32, out: *mut u8, out_len: usize) -> Written;
+
+    fn kelompuris_slip_read(slip: *const u8, slip_len: usize) -> Slip;
 }
 
 /// Judges a file without tables: refusals 1 to 10.
@@ -116,4 +133,25 @@ pub fn write(
 pub fn clear(file: &[u8], out: &mut [u8]) -> Written {
     // SAFETY: each pointer holds for its length, and the borrows are apart.
     unsafe { kelompuris_b3d_clear(file.as_ptr(), file.len(), out.as_mut_ptr(), out.len()) }
+}
+
+/// Writes the slip of a file: refusals 1 to 10, then 11. A refused call changes
+/// no byte, and bytes past the size stay as they were.
+pub fn slip_of(file: &[u8], out: &mut [u8]) -> Written {
+    // SAFETY: each pointer holds for its length, and the borrows are apart.
+    unsafe { kelompuris_b3d_slip(file.as_ptr(), file.len(), out.as_mut_ptr(), out.len()) }
+}
+
+/// Writes the slip of twelve numbers: refusals 13, then 11. A refused call
+/// changes no byte, and bytes past the size stay as they were.
+pub fn write_slip(numbers: &[u32; 12], out: &mut [u8]) -> Written {
+    // SAFETY: the pointers hold for twelve words and for the output's length,
+    // and the borrows are apart.
+    unsafe { kelompuris_slip_write(numbers.as_ptr(), out.as_mut_ptr(), out.len()) }
+}
+
+/// Reads a slip: refusal 13.
+pub fn read_slip(slip: &[u8]) -> Slip {
+    // SAFETY: the pointer holds for the length, and nothing is written.
+    unsafe { kelompuris_slip_read(slip.as_ptr(), slip.len()) }
 }

@@ -1,11 +1,11 @@
 //! The header as C11 and as C++17: builds the programs of `tests/c` with it and
-//! the archive, runs them and holds what they print to the answers of paper 01.
+//! the archive, runs them and holds what they print to the answers of the papers.
 
 use std::path::Path;
 use std::process::Command;
 
 /// Each program and what it prints.
-const SAMPLES: [(&str, &str); 2] = [
+const SAMPLES: [(&str, &str); 3] = [
     (
         "read_sample",
         "\
@@ -32,6 +32,21 @@ cut: 1 0 0, 70 bytes left
 no output: 11 61 0, 70 bytes left
 lengths: 53 41, name: 0
 clear: 0 0 61, 9 bytes left
+",
+    ),
+    (
+        "slip_sample",
+        "\
+hall: 0 0 12, 1 0 0 0 1 0 0 0 0 0 0 0 77 77 77 77 77 77 77 77 77 77 77
+no output: 11 12 0, 77 77 77 77 77 77 77 77 77 77 77 77 77 77 77 77 77 77 77 77 77 77 77
+cut hall: 1 0 0, 77 77 77 77 77 77 77 77 77 77 77 77 77 77 77 77 77 77 77 77 77 77 77
+version 100: 13 0 0, 77 77 77 77 77 77 77 77 77 77 77 77 77 77 77 77 77 77 77 77 77 77 77
+numbers: 0 0 14, 99 8 0 129 0 255 127 0 0 0 0 0 0 0 77 77 77 77 77 77 77 77 77
+read: 0 0, 99 8 0 128 16383 0 0 0 0 0 0 0
+cut slip: 13 13, 0 0 0 0 0 0 0 0 0 0 0 0
+spare byte: 13 14, 0 0 0 0 0 0 0 0 0 0 0 0
+three groups: 13 2, 0 0 0 0 0 0 0 0 0 0 0 0
+no slip: 13 0, 0 0 0 0 0 0 0 0 0 0 0 0
 ",
     ),
 ];

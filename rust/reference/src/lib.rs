@@ -1,5 +1,5 @@
-//! A plain reader, writer, clearer and lister of Blitz3D B3D files, written
-//! from the rules alone, for comparison with other code. It uses the heap
+//! A plain reader, writer, clearer and lister of Blitz3D B3D files, and of
+//! slips, written from the rules alone, for comparison with other code. It uses the heap
 //! freely and fills lent slices only after all checks.
 //!
 //! Reading: `parse` makes a `scene` (refusals 1 to 9), `tables` counts its rows
@@ -17,6 +17,7 @@ mod parse;
 pub mod refusal;
 mod scene;
 mod size;
+mod slip;
 mod soundness;
 mod tables;
 
@@ -43,7 +44,15 @@ pub struct Answer {
     pub counts: [u32; 10],
 }
 
-/// The answer of writer and clearer. The size is 0 on refusal.
+/// What a slip is answered. The numbers are 0 on refusal.
+#[derive(Clone, Copy, Debug, Default, PartialEq, Eq)]
+pub struct Slip {
+    pub number: u32,
+    pub place: u32,
+    pub numbers: [u32; 12],
+}
+
+/// The answer of writers and clearer. The size is 0 on refusal.
 #[derive(Clone, Copy, Debug, Default, PartialEq, Eq)]
 pub struct Written {
     pub number: u32,
@@ -114,6 +123,41 @@ pub fn clear(file: &[u8], out: &mut [u8]) -> Written {
         return refused_output(SHORT, copy.len());
     }
     put(&copy, out)
+}
+
+/// Writes the slip of twelve numbers: refusals 13, then 11.
+pub fn write_slip(numbers: &[u32; 12], out: &mut [u8]) -> Written {
+    match slip::write(numbers) {
+        Ok(slip) if out.len() < slip.len() => refused_output(SHORT, slip.len()),
+        Ok(slip) => put(&slip, out),
+        Err(refusal) => refused_output(refusal.number, refusal.place),
+    }
+}
+
+/// Reads a slip: refusal 13.
+pub fn read_slip(slip: &[u8]) -> Slip {
+    match slip::read(slip) {
+        Ok(numbers) => Slip {
+            numbers,
+            ..Slip::default()
+        },
+        Err(refusal) => Slip {
+            number: refusal.number,
+            place: refusal.place as u32,
+            ..Slip::default()
+        },
+    }
+}
+
+/// Writes the slip of a file, judged leniently: refusals 1 to 10, then 11.
+pub fn slip_of(file: &[u8], out: &mut [u8]) -> Written {
+    let answer = judge(Mode::Lenient, file);
+    if answer.number != 0 {
+        return refused_output(answer.number, answer.place as usize);
+    }
+    let mut numbers = [answer.version, answer.n_texs, 0, 0, 0, 0, 0, 0, 0, 0, 0, 0];
+    numbers[2..].copy_from_slice(&answer.counts);
+    write_slip(&numbers, out)
 }
 
 /// An accepted file's words: all that the reader gives.

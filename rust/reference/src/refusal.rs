@@ -24,6 +24,8 @@ pub const ROWS: u32 = 10;
 pub const SHORT: u32 = 11;
 /// 12: no accepted file has these tables.
 pub const UNSOUND: u32 = 12;
+/// 13: a number of a slip is wrong, or the slip is cut or too long.
+pub const SLIP: u32 = 13;
 
 /// Why a call was refused, and where.
 #[derive(Clone, Copy, Debug, PartialEq, Eq)]

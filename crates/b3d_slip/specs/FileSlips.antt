@@ -1,0 +1,26 @@
+-- The slip of a file: the reader's twelve numbers of it, in lenient mode. A file is refused by its 1 to 10; then the writer of slips has the word.
+use Prim.Native.Nat.{ℕ}
+use mathlib.Core.List.{List, _∷_}
+use lib.ListN.{length}
+use Rattle.layout.specs.Out.{Out, _>>=_}
+use Rattle.b3d_scene.specs.declared.Mode.the-variants.{Lenient}
+use Rattle.b3d_scene.specs.Answers.{judge, written, outputAfter}
+use Rattle.b3d_scene.specs.Scene.{Scene}
+use Rattle.b3d_scene.specs.Tables.{counts}
+use Rattle.b3d_scene.specs.declared.Written.{Written}
+use Rattle.slip.specs.Slips.{writeSlip}
+
+-- version, n_texs, ten row counts
+abbrev pub sceneNumbers : Scene → List ℕ
+sceneNumbers t = t .version ∷ t .slots ∷ counts t
+
+unfoldable pub fileSlip : List ℕ → ℕ → Out (List ℕ)
+fileSlip s room = do
+  t ← judge Lenient s
+  writeSlip (sceneNumbers t) room
+
+unfoldable pub fileSlipAnswer : List ℕ → List ℕ → Written
+fileSlipAnswer s out = written (fileSlip s (length out))
+
+unfoldable pub fileSlipOutput : List ℕ → List ℕ → List ℕ
+fileSlipOutput s out = outputAfter (fileSlip s (length out)) out

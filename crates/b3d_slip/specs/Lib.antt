@@ -1,0 +1,3 @@
+-- The slip of a file.
+pub mod FileSlips
+pub mod Carries

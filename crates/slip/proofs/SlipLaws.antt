@@ -1,0 +1,233 @@
+-- What holds of slips: `one-slip` has it all.
+use mathlib.Core.Path.{_≡_, refl, ap, sym, subst, _∙_}
+use mathlib.Core.Logic.{_⊎_, inl, inr}
+use Prim.Native.Nat.{ℕ, zero, suc, _+_, _*_, _<_, _≤_}
+use native.Mathlib.Omega.{arith}
+use mathlib.Core.Bool.{Bool, true, false, not}
+use mathlib.Core.List.{List, [], _∷_, _++_, map, append-nil}
+use lib.ListN.{length, take, getD, replicate, length-append}
+use lib.Dec.{T, leb, ltb, leb→le, ltb→lt, nltb→le}
+use borrow.Author.Tests.{le-leb, lt-leb, le-ltb}
+use Rattle.wire.specs.Bytes.{AllBytes}
+use Rattle.wire.specs.Test.{if}
+use Rattle.layout.specs.Out.{Out, got, bad, check, _>>=_}
+use Rattle.layout.specs.Parts.{Step}
+use Rattle.layout.specs.Rules.{Rule, upTo}
+use Rattle.layout.proofs.Outs.{by-test, by-check, by-got, bad-got, if-yes, if-no}
+use Rattle.groups.specs.Groups.{AtMost, frontIn, front, groups, groupsOf, writeNumbers, readNumbers}
+use Rattle.groups.proofs.Fronts.{count-is, groups-up, groups-length, numbers-bytes}
+use Rattle.groups.proofs.Laws.{numbers-back, Several, numbers-one}
+use Rattle.groups.proofs.Places.{numbers-to}
+use Rattle.groups.proofs.SoFar.{Wrong as Bad, Short, SoFar, numbers-so-far}
+use Rattle.b3d_scene.specs.Rules.{version, slots, rowLimit}
+use Rattle.b3d_scene.specs.Answers.{roomFor}
+use Rattle.slip.specs.Slips.{limits, limitAt, firstOver, slipFor, writeSlip, readSlip}
+use Rattle.slip.specs.OneSlip.{Wrong, Cut, FirstOut, OneSlip}
+
+-- ---- ranges
+
+-- each number obeys the range that 01 gives it
+pub ranges : map upTo limits ≡ version ∷ slots ∷ replicate 10 (upTo rowLimit)
+unfolding limits
+ranges = refl
+
+over-none : (ms ns : List ℕ) → AtMost ms ns → firstOver ms ns ≡ length ms
+unfolding firstOver if
+over-none [] [] h = refl
+over-none [] (n ∷ ns) h = absurd h
+over-none (m ∷ ms) [] h = absurd h
+over-none (m ∷ ms) (n ∷ ns) h = rw (le-ltb m n (h .0), over-none ms ns (h .1))
+
+none-over : (ms ns : List ℕ) → length ns ≡ length ms → length ms ≤ firstOver ms ns → AtMost ms ns
+unfolding firstOver
+none-over [] [] l h = tt
+none-over [] (n ∷ ns) l h = absurd (omega arith)
+none-over (m ∷ ms) [] l h = absurd (omega arith)
+none-over (m ∷ ms) (n ∷ ns) l h =
+    by-test (ltb m n)
+    (λ t. absurd (omega (arith, h, if-yes (ltb m n) 0 (suc (firstOver ms ns)) t)))
+    (λ t. (nltb→le m n t, none-over ms ns (omega arith) (omega (arith, h, if-no (ltb m n) 0 (suc (firstOver ms ns)) t))))
+
+-- the first that is over
+record Over (ms ns : List ℕ) (d i : ℕ) : Type 0 where
+  out : getD ms i d < getD ns i 0
+  before : AtMost (take i ms) (take i ns)
+
+some-over : (d : ℕ) (ms ns : List ℕ) → length ns ≡ length ms → firstOver ms ns < length ms → Over ms ns d (firstOver ms ns)
+unfolding firstOver
+some-over d [] ns l h = absurd (omega arith)
+some-over d (m ∷ ms) [] l h = absurd (omega arith)
+some-over d (m ∷ ms) (n ∷ ns) l h =
+    by-test (ltb m n)
+    (λ t. rw (if-yes (ltb m n) 0 (suc (firstOver ms ns)) t) (record { out = ltb→lt m n t; before = tt }))
+    (λ t. let e = if-no (ltb m n) 0 (suc (firstOver ms ns)) t in
+    let x = some-over d ms ns (omega arith) (omega (arith, h)) in
+    rw e (record { out = x .out; before = (nltb→le m n t, x .before) }))
+
+-- ---- writing
+
+twelve-limits : length limits ≡ 12
+unfolding limits
+twelve-limits = refl
+
+module _ (ns b : List ℕ) (e : slipFor ns ≡ got b) where
+  bytes-are : b ≡ writeNumbers ns []
+  unfolding slipFor
+  bytes-are = by-check _ 13 _ _ e (λ t e₁. cc)
+
+  pub obeys : length ns ≡ 12 → AtMost limits ns
+  unfolding slipFor
+  obeys l = by-check (leb 12 (firstOver limits ns)) 13 _ _ e
+      (λ t e₁. let h = leb→le 12 (firstOver limits ns) t in none-over limits ns (omega (arith, twelve-limits)) (omega (arith, twelve-limits)))
+
+slip-got : (ns : List ℕ) → 12 ≤ firstOver limits ns → slipFor ns ≡ got (writeNumbers ns [])
+unfolding slipFor check
+slip-got ns h = rw (le-leb 12 (firstOver limits ns) h)
+
+slip-bad : (ns : List ℕ) → firstOver limits ns < 12 → slipFor ns ≡ bad 13 (firstOver limits ns)
+unfolding slipFor check
+slip-bad ns h = rw (lt-leb 12 (firstOver limits ns) h)
+
+pub written : (ns : List ℕ) → AtMost limits ns → slipFor ns ≡ got (writeNumbers ns [])
+written ns h = slip-got ns (omega (arith, over-none limits ns h, twelve-limits))
+
+same-bad : (A : Type 0) (m p n q : ℕ) → _≡_ {A = Out A} (bad m p) (bad n q) → (n ≡ m) × (q ≡ p)
+same-bad A m p n q e = (cc, cc)
+
+out-of : (ns : List ℕ) (n i : ℕ) → length ns ≡ 12 → slipFor ns ≡ bad n i → (n ≡ 13) × FirstOut ns i
+out-of ns n i l e =
+    let k = firstOver limits ns in
+    by-test (ltb k 12)
+    (λ t. let small = ltb→lt k 12 t in
+    let same = same-bad (List ℕ) 13 k n i (sym (slip-bad ns small) ∙ e) in
+    let x = some-over rowLimit limits ns (omega (arith, twelve-limits)) (omega (arith, twelve-limits)) in
+    (same .0, rw (same .1) (record { one = small; out = x .out; before = x .before })))
+    (λ t. bad-got (sym e ∙ slip-got ns (nltb→le k 12 t)))
+
+first : (ns : List ℕ) (n i room : ℕ) → slipFor ns ≡ bad n i → writeSlip ns room ≡ bad n i
+unfolding writeSlip
+first ns n i room e = rw e
+
+then : (ns b : List ℕ) (room : ℕ) → slipFor ns ≡ got b → writeSlip ns room ≡ roomFor room b
+unfolding writeSlip
+then ns b room e = rw e
+
+-- ---- how long a slip is
+
+-- so many bytes at most
+unfoldable pub longest : List ℕ → ℕ
+longest [] = 0
+longest (m ∷ ms) = groupsOf m + longest ms
+
+-- each number takes a byte at least, and no more groups than the most that it may be
+pub numbers-length : (ms ns : List ℕ) → AtMost ms ns → (length ms ≤ length (writeNumbers ns [])) × (length (writeNumbers ns []) ≤ longest ms)
+unfolding writeNumbers longest
+numbers-length [] [] h = (omega arith, omega arith)
+numbers-length [] (n ∷ ns) h = absurd h
+numbers-length (m ∷ ms) [] h = absurd h
+numbers-length (m ∷ ms) (n ∷ ns) h =
+    let l = groups-length n (writeNumbers ns []) in
+    let (low, high) = numbers-length ms ns (h .1) in
+    (omega (arith, count-is n), omega (arith, groups-up n m (h .0)))
+
+-- one byte each for version and n_texs, two for each count
+pub longest-is : longest limits ≡ 22
+unfolding longest limits rowLimit groupsOf groups front frontIn
+longest-is = refl
+
+-- ---- reading
+
+module _ (s : List ℕ) where
+  -- a slip that was read
+  record Whole (ns : List ℕ) : Type 0 where
+    place : ℕ
+    is : readNumbers limits 0 s ≡ got (record { value = ns; place = place; left = [] })
+
+  empty : (l : List ℕ) → length l ≤ 0 → l ≡ []
+  empty [] h = refl
+  empty (x ∷ l) h = absurd (omega arith)
+
+  whole : (ns : List ℕ) → readSlip s ≡ got ns → Whole ns
+  unfolding readSlip
+  whole ns e =
+      by-got (readNumbers limits 0 s) _ e
+      (λ x e₁ e₂. by-check (leb (length (x .left)) 0) 13 (x .place) _ e₂
+      (λ t e₃. let g : x .value ≡ ns = cc in record { place = x .place; is = e₁ ∙ rw (← g, ← empty (x .left) (leb→le (length (x .left)) 0 t)) refl }))
+
+  read-whole : (ns : List ℕ) (q : ℕ) → readNumbers limits 0 s ≡ got (record { value = ns; place = q; left = [] }) → readSlip s ≡ got ns
+  unfolding readSlip check
+  read-whole ns q e = rw e
+
+  several : (ns : List ℕ) → AllBytes s → (e : readSlip s ≡ got ns) → (s ≡ writeNumbers ns []) × AtMost limits ns
+  several ns h e =
+      let w = whole ns e in
+      let x = numbers-one limits 0 s _ h (w .is) in
+      (x .is, x .fits)
+
+reads-back : (ns b : List ℕ) → length ns ≡ 12 → slipFor ns ≡ got b → readSlip b ≡ got ns
+reads-back ns b l e =
+    let (q, back) = numbers-back limits ns (obeys ns b e l) 0 [] in
+    read-whole b ns q (ap (readNumbers limits 0) (bytes-are ns b e) ∙ back)
+
+at-most-length : (ms ns : List ℕ) → AtMost ms ns → length ns ≡ length ms
+at-most-length [] [] h = refl
+at-most-length [] (n ∷ ns) h = absurd h
+at-most-length (m ∷ ms) [] h = absurd h
+at-most-length (m ∷ ms) (n ∷ ns) h = ap suc (at-most-length ms ns (h .1))
+
+-- ---- as soon as its bytes make it wrong
+
+still-bad : (s : List ℕ) (n p : ℕ) → readNumbers limits 0 s ≡ bad n p → readSlip s ≡ bad n p
+unfolding readSlip
+still-bad s n p e = rw e
+
+spare-is : (s v : List ℕ) (q : ℕ) (l : List ℕ) → readNumbers limits 0 s ≡ got (record { value = v; place = q; left = l }) → 0 < length l → readSlip s ≡ bad 13 q
+unfolding readSlip check
+spare-is s v q l e h = rw (e, lt-leb (length l) 0 h)
+
+module _ (s : List ℕ) where
+  refused : (o : Out (Step (List ℕ))) → readNumbers limits 0 s ≡ o → SoFar (readNumbers limits 0) s (0 + length s) o
+      → (n p : ℕ) → readSlip s ≡ bad n p → (n ≡ 13) × (Wrong s p ⊎ Cut s p)
+  refused (got x) e h n p f =
+      by-test (ltb 0 (length (x .left)))
+      (λ t. let some = ltb→lt 0 (length (x .left)) t in
+      let same = same-bad (List ℕ) 13 (x .place) n p (sym (spare-is s (x .value) (x .place) (x .left) e some) ∙ f) in (
+        same .0,
+        inl
+            (rw (same .1)
+            (record {
+              before = omega (arith, numbers-to limits 0 s x e);
+              stays = λ r. spare-is (s ++ r) (x .value) (x .place) (x .left ++ r) (h r) (omega (arith, length-append (x .left) r));
+            })),
+      ))
+      (λ t. let none = empty s (x .left) (nltb→le 0 (length (x .left)) t) in
+      bad-got (sym f ∙ read-whole s (x .value) (x .place) (e ∙ rw (← none))))
+  refused (bad k q) e (z, inl w) n p f =
+      let same = same-bad (List ℕ) k q n p (sym (still-bad s k q e) ∙ f) in
+      (same .0 ∙ z, inl (rw (same .1) (record { before = omega (arith, w .before); stays = λ r. still-bad (s ++ r) 13 q (w .stays r) })))
+  refused (bad k q) e (z, inr c) n p f =
+      let same = same-bad (List ℕ) k q n p (sym (still-bad s k q e) ∙ f) in (
+        same .0 ∙ z,
+        inr
+            (rw (same .1)
+            (record { at = omega (arith, c .at); rest = c .rest; numbers = c .value; whole = read-whole (s ++ c .rest) (c .value) (c .place) (c .goes) })),
+      )
+
+-- ---- all of it
+
+pub one-slip : OneSlip
+one-slip =
+    record {
+      reads-back = reads-back;
+      one = λ s ns h e. let x = several s ns h e in written ns (x .1) ∙ ap got (sym (x .0));
+      twelve = λ s ns h e. at-most-length limits ns (several s ns h e .1) ∙ twelve-limits;
+      least = λ ns b l e. let x = numbers-length limits ns (obeys ns b e l) in omega (arith, ap length (bytes-are ns b e), twelve-limits);
+      most = λ ns b l e. let x = numbers-length limits ns (obeys ns b e l) in omega (arith, ap length (bytes-are ns b e), longest-is);
+      bytes = λ ns b e. rw (bytes-are ns b e) (numbers-bytes ns [] tt);
+      obeys = λ ns b l e. obeys ns b e l;
+      written = λ ns h. (writeNumbers ns [], written ns h);
+      out = out-of;
+      first = first;
+      then = then;
+      refused = λ s n p e. refused s (readNumbers limits 0 s) refl (numbers-so-far limits 0 s) n p e;
+    }

@@ -1,0 +1,3 @@
+-- What slips are, and what their writer and reader answer.
+pub mod Slips
+pub mod OneSlip

@@ -1,0 +1,22 @@
+use crate::{disagree, Compared, Disagreement};
+use reference::Slip;
+
+impl Compared {
+    /// Reads a slip; the answer of both.
+    pub fn slip(&mut self, slip: &[u8]) -> Result<Slip, Disagreement> {
+        self.slips += 1;
+        let answer = kelompuris::read_slip(slip);
+        let answer = Slip {
+            number: answer.number,
+            place: answer.place,
+            numbers: answer.numbers,
+        };
+        self.count(answer.number);
+        let expected = reference::read_slip(slip);
+        if answer == expected {
+            return Ok(answer);
+        }
+        let values = format!("proved {answer:?}, reference {expected:?}");
+        disagree(format!("read a slip: {values}"), slip)
+    }
+}
