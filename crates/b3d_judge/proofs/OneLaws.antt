@@ -9,7 +9,7 @@ use denote.Enum.Declared.{tagOf}
 use Rattle.wire.specs.Test.{if}
 use Rattle.wire.specs.Cursors.{left}
 use Rattle.wire.specs.declared.Cursor.{Cursor}
-use Rattle.layout.specs.Out.{Out, got, bad, _>>=_}
+use Rattle.layout.specs.Out.{Out, got, _>>=_}
 use Rattle.layout.specs.Chunks.{done, chunk}
 use Rattle.layout.proofs.Outs.{if-yes, if-no}
 use Rattle.b3d_scene.specs.declared.Tag.{Tag}
@@ -22,7 +22,7 @@ use Rattle.b3d_chunks.specs.Chunks.{NextIs}
 use Rattle.b3d_chunks.specs.declared.Next.{Next}
 use Rattle.b3d_chunks.specs.declared.Next.the-variants as next
 use Rattle.b3d_judge.specs.States.{restIn}
-use Rattle.b3d_judge.proofs.Rests.{rest-chunk, rest-cut, rest-done}
+use Rattle.b3d_judge.proofs.Rests.{rest-chunk, rest-done}
 use Rattle.b3d_judge.proofs.TagTests.{plain, plain-here}
 
 -- nothing is owed at the end of a BB3D
@@ -35,10 +35,6 @@ module _ (s : List ℕ) (from : Cursor) (r : Next) (x : NextIs s from r) {A : Ty
   pub one-done : r ≡ next.Done → readOne k a one (restIn s BB3D 0 q from) ≡ got (record { value = a; rest = restIn s BB3D 0 z from })
   unfolding readOne
   one-done w = rw (rest-done s from r x BB3D 0 q w, rest-done s from r x BB3D 0 z w, file-done q, file-done z)
-
-  pub one-cut : (p : ℕ) → r ≡ next.Cut p → readOne k a one (restIn s BB3D 0 q from) ≡ bad 3 p
-  unfolding readOne
-  one-cut p w = rw (rest-cut s from r x BB3D 0 q p w)
 
   module _ (t : Tag) (p : ℕ) (b n : Cursor) (w : r ≡ next.Chunk t p b n) where
     pub one-plain : (ks : List ℕ) → OneOf ks (tagOf the-type t) → T (plain BB3D (λ u. is u k) q z ks) → (y : Reached) → nextTurn (nesting BB3D) (nesting BB3D) q t ≡ some y

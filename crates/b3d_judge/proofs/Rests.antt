@@ -12,7 +12,7 @@ use Rattle.b3d_scene.specs.Nesting.{nesting, Reached, next as nextTurn, onward,
 use Rattle.b3d_chunks.specs.Chunks.{NextIs}
 use Rattle.b3d_chunks.specs.declared.Next.{Next}
 use Rattle.b3d_chunks.specs.declared.Next.the-variants as next
-use Rattle.b3d_chunks.proofs.Nexts.{chunk-among, chunk-is, cut-is, done-is}
+use Rattle.b3d_chunks.proofs.Nexts.{chunk-is, done-is}
 use Rattle.b3d_bodies.specs.Answers.{Body}
 use Rattle.b3d_turns.specs.declared.Reached.{Reached as State}
 use Rattle.b3d_turns.specs.declared.Enclosed.{Enclosed}
@@ -30,19 +30,9 @@ module _ (s : List ℕ) (c : Cursor) (r : Next) (x : NextIs s c r) (k : Tag) (he
   unfolding restIn order
   rest-chunk t p b n w = ap (order k head q) (chunk-is s c r x t p b n w)
 
-  pub rest-cut : (p : ℕ) → r ≡ next.Cut p → restIn s k head q c ≡ stop 3 p
-  unfolding restIn order
-  rest-cut p w = ap (order k head q) (cut-is s c r x p w)
-
   pub rest-done : r ≡ next.Done → restIn s k head q c ≡ order k head q done
   unfolding restIn
   rest-done w = ap (order k head q) (done-is s c r x w)
-
--- the body of a chunk that was found
-pub chunk-body : (s : List ℕ) (at : ℕ) (c : Cursor) → Among at c (length s) → (r : Next) → NextIs s c r → (t : Tag) (p : ℕ) (b n : Cursor) → r ≡ next.Chunk t p b n → Body p b (length s)
-chunk-body s at c g r x t p b n w =
-    let f = chunk-among s c r x t p b n w in
-    record { head = f .body; room = f .room; within = omega (arith, g .within); small = g .small }
 
 -- the same, by what `first_inside` or `next_inside` makes of it
 module _ (s : List ℕ) (k : Tag) (head : ℕ) (q : State) (c : Cursor) (r : Enclosed) (x : EnclosedIs s k head q c r) where

@@ -48,11 +48,6 @@ use Rattle.b3d_judge.proofs.TagTests.{never, some-inj}
 
 -- ---- TRIS after TRIS
 
--- how far a mesh has come after its VRTS: with a TRIS or not yet
-abbrev pub come : Bool → Reached
-come true = reached 2 false
-come false = reached 1 true
-
 -- at c, after q, with the tally m of the sets before
 pub record Setting (s : List ℕ) (at brushes vertices : ℕ) (from c : Cursor) (q : State) (m : Tally) : Type 0 where
   pub among : Among at c (length s)
