@@ -1,7 +1,7 @@
 # `make demo` lists a sample, clears it of names and writes its slip; `make test` is the gate.
 CLI = rust/target/release/kelompuris
 
-.PHONY: demo cli test
+.PHONY: demo cli peers test
 
 demo: cli
 	$(CLI) check samples/*.b3d
@@ -14,6 +14,11 @@ demo: cli
 cli:
 	rust/build-lib
 	cd rust && cargo build --offline --release -p kelompuris-cli --target-dir target
+
+# Times beside Assimp's and Irrlicht's loaders, where libassimp-dev and libirrlicht-dev are installed.
+peers:
+	rust/build-lib
+	$(CXX) -O3 -Iinclude rust/bench/peers.cpp target/staticlib/libkelompuris_c.a -lassimp -lIrrlicht -o target/peers
 
 test:
 	bash .ci/run
