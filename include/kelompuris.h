@@ -166,6 +166,28 @@ typedef struct {
 /* Reads a slip: answers 0 or 13. Writes nothing. */
 kelompuris_slip kelompuris_slip_read(const uint8_t *slip, size_t slip_len);
 
+/* The tray label of a file.
+ *
+ * number 0: name_place and name_length are the byte place and the length of the root's name in the file, vertices is the number of vertices of
+ * its mesh, 0 without one. number 14: no label, and all else is 0.
+ */
+typedef struct {
+    uint32_t number, place;
+    size_t name_place, name_length, vertices;
+} kelompuris_label;
+
+/* Finds the label by a walk over chunk headers: answers 0 or 14.
+ *
+ * The walk steps over other chunks to BB3D's first NODE, reads its name, steps over unknown chunks to its first known one, and, where that is
+ * a MESH, steps over others to its first VRTS. For each file that kelompuris_b3d_judge accepts, in either mode, and that has a node, name and
+ * vertices are those of the tables. Other files are not refused for what the walk does not meet. 14 is the answer to a first tag that is not BB3D, a chunk header
+ * that is cut or whose length passes the chunk around it or the file, fixed data that is cut, no NODE, a MESH without VRTS, flags, sets or set
+ * size out of range, and vertices that do not fill their chunk.
+ *
+ * The name always lies in the file: name_place + name_length is at most file_len.
+ */
+kelompuris_label kelompuris_b3d_label(const uint8_t *file, size_t file_len);
+
 #ifdef __cplusplus
 }
 #endif

@@ -1,5 +1,5 @@
 /* Reads file H of paper 01 through the C interface: a scene of version 1 with one node, "Hall". Prints the answer and the node's row. Then judges
- * a file with a brush whose alpha is not a number, in both modes and in one that is none.
+ * a file with a brush whose alpha is not a number, in both modes and in one that is none. Then prints the label of H, and of H cut.
  * The test rust/kelompuris/tests/c_program.rs builds and runs it, as C and as C++. */
 #include "hall.h"
 #include "kelompuris.h"
@@ -28,6 +28,12 @@ static kelompuris_answer read_nodes(const uint8_t *file, size_t len, uint32_t *n
     return kelompuris_b3d_read(KELOMPURIS_STRICT, file, len, NULL, 0, NULL, 0, nodes, words, NULL, 0, NULL, 0, NULL, 0, NULL, 0, NULL, 0, NULL, 0, NULL, 0);
 }
 
+static void print_label(const char *about, const uint8_t *file, size_t len) {
+    kelompuris_label label = kelompuris_b3d_label(file, len);
+    printf("%s: %u %u, %u %u %u, %.*s\n", about, (unsigned)label.number, (unsigned)label.place, (unsigned)label.name_place,
+           (unsigned)label.name_length, (unsigned)label.vertices, (int)label.name_length, (const char *)(file + label.name_place));
+}
+
 int main(void) {
     uint32_t nodes[KELOMPURIS_NODE_WORDS + 1];
     int i;
@@ -47,5 +53,7 @@ int main(void) {
     print("strict", kelompuris_b3d_judge(KELOMPURIS_STRICT, brush, sizeof brush));
     print("lenient", kelompuris_b3d_judge(KELOMPURIS_LENIENT, brush, sizeof brush));
     print("mode 2", kelompuris_b3d_judge(2, brush, sizeof brush));
+    print_label("label", hall, sizeof hall);
+    print_label("no label", hall, 20);
     return 0;
 }

@@ -1,6 +1,6 @@
 -- What was promised of an answer holds of the same answer in C's layout; what was promised of a mode, of the number that names it.
 use mathlib.Core.Path.{_≡_, refl, sym, subst, _∙_, ap}
-use Prim.Native.Nat.{ℕ}
+use Prim.Native.Nat.{ℕ, _+_, _≤_}
 use mathlib.Core.List.{List}
 use borrow.Author.Tests.{ne-eqb}
 use Rattle.wire.specs.Test.{if}
@@ -12,9 +12,11 @@ use Rattle.b3d_scene.specs.Answers.{judge, answer}
 use Rattle.b3d_scene.specs.Rebuild.{Lent}
 use Rattle.b3d_write.specs.Writes.{Writes}
 use Rattle.b3d_read.specs.Reads.{Reads}
-use Rattle.kelompuris_c.specs.Answers.{answerIn, writtenIn, modeOf}
+use Rattle.b3d_label.specs.declared.TrayLabel.{TrayLabel}
+use Rattle.kelompuris_c.specs.Answers.{answerIn, writtenIn, modeOf, trayLabelIn}
 use Rattle.kelompuris_c.specs.declared.KelompurisAnswer.{KelompurisAnswer}
 use Rattle.kelompuris_c.specs.declared.KelompurisWritten.{KelompurisWritten}
+use Rattle.kelompuris_c.specs.declared.KelompurisLabel.{KelompurisLabel}
 
 pub one-lenient : (n : ℕ) → n ≡ 1 → Lenient ≡ modeOf n
 unfolding modeOf if
@@ -36,3 +38,13 @@ module _ (m k : Mode) (em : m ≡ k) where
 
   pub outward-writes : (r : KelompurisWritten) (w : Written) → writtenIn r ≡ w → (T : Lent) (ns out put : List ℕ) → Writes m T ns out put w → Writes k T ns out put (writtenIn r)
   outward-writes r w e T ns out put h = rw (← em, e) h
+
+module _ (r : KelompurisLabel) (l : TrayLabel) (e : trayLabelIn r ≡ l) where
+  pub label-is : (m : TrayLabel) → l ≡ m → trayLabelIn r ≡ m
+  label-is m h = e ∙ h
+
+  pub label-within : (n : ℕ) → l .«name_place» + l .«name_length» ≤ n → r .«name_place» + r .«name_length» ≤ n
+  unfolding trayLabelIn
+  label-within n h = rw (← e) at h
+
+pub ruleset label-laws = (label-is, label-within)

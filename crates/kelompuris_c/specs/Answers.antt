@@ -6,10 +6,12 @@ use Rattle.b3d_scene.specs.declared.Answer.{Answer}
 use Rattle.b3d_scene.specs.declared.Mode.{Mode}
 use Rattle.b3d_scene.specs.declared.Mode.the-variants.{Strict, Lenient}
 use Rattle.b3d_scene.specs.declared.Written.{Written}
+use Rattle.b3d_label.specs.declared.TrayLabel.{TrayLabel}
 use Rattle.kelompuris_c.specs.declared.KelompurisAnswer.{KelompurisAnswer}
 use Rattle.kelompuris_c.specs.declared.KelompurisWritten.{KelompurisWritten}
 use Rattle.kelompuris_c.specs.declared.KelompurisSlip.{KelompurisSlip}
 use Rattle.slip.specs.declared.Slip.{Slip}
+use Rattle.kelompuris_c.specs.declared.KelompurisLabel.{KelompurisLabel}
 
 -- the same numbers
 unfoldable pub answerIn : KelompurisAnswer → Answer
@@ -24,3 +26,6 @@ modeOf n = if (eqb n 1) Lenient Strict
 
 unfoldable pub slipIn : KelompurisSlip → Slip
 slipIn r = record { number = r .number; place = r .place; numbers = r .numbers }
+
+unfoldable pub trayLabelIn : KelompurisLabel → TrayLabel
+trayLabelIn r = record { number = r .number; place = r .place; «name_place» = r .«name_place»; «name_length» = r .«name_length»; vertices = r .vertices }

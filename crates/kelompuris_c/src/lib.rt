@@ -7,9 +7,13 @@ ghost use Rattle.b3d_read.specs.Reads.{Reads};
 ghost use Rattle.b3d_scene.specs.Answers.{clearAnswer, clearOutput};
 ghost use Rattle.b3d_check.specs.Lent.{lentOf};
 ghost use Rattle.b3d_write.specs.Writes.{Writes};
+ghost use Prim.Native.Nat.{_+_, _≤_};
+ghost use lib.ListN.{length};
 ghost use Rattle.slip.specs.Slips.{writeSlipAnswer, writeSlipOutput, readSlipAnswer};
 ghost use Rattle.b3d_slip.specs.FileSlips.{fileSlipAnswer, fileSlipOutput};
-ghost use Rattle.kelompuris_c.specs.Answers.{answerIn, writtenIn, modeOf, slipIn};
+ghost use Rattle.b3d_label.specs.Walk.{labelOf};
+ghost use Rattle.kelompuris_c.specs.Answers.{answerIn, writtenIn, modeOf, slipIn, trayLabelIn};
+use b3d_label::TrayLabel;
 use b3d_scene::Answer;
 use b3d_scene::Mode;
 use b3d_scene::Written;
@@ -200,4 +204,36 @@ pub extern "C" fn kelompuris_b3d_slip(file: &[u8], out: &mut [u8]) -> Kelompuris
     ensures { λ _. ⌜ now (out .exit) ≡ fileSlipOutput (now (file .entry)) (now (out .entry)) ⌝ }
 {
     outward_written(b3d_slip::slip_of(file, out))
+}
+
+// The label of a file, as C lays it out.
+#[repr(C)]
+pub struct KelompurisLabel {
+    pub number: u32,
+    pub place: u32,
+    pub name_place: usize,
+    pub name_length: usize,
+    pub vertices: usize,
+}
+
+// The same label in C's layout.
+fn outward_label(l: TrayLabel) -> KelompurisLabel
+    ensures { λ r. ⌜ trayLabelIn r ≡ l ⌝ }
+{
+    KelompurisLabel {
+        number: l.number,
+        place: l.place,
+        name_place: l.name_place,
+        name_length: l.name_length,
+        vertices: l.vertices,
+    }
+}
+
+// The name of a file's root and the vertices of its mesh, without judging the file. The name lies in the file.
+#[no_mangle]
+pub extern "C" fn kelompuris_b3d_label(file: &[u8]) -> KelompurisLabel
+    ensures { λ r. ⌜ trayLabelIn r ≡ labelOf (now (file .entry)) ⌝ }
+    ensures { λ r. ⌜ r .«name_place» + r .«name_length» ≤ length (now (file .entry)) ⌝ }
+{
+    outward_label(b3d_label::label(file))
 }

@@ -9,6 +9,7 @@
 //! last columns are ratios of medians.
 
 use kelompuris::Mode;
+use scenes::Chunk;
 use std::hint::black_box;
 use std::time::{Duration, Instant};
 
@@ -51,6 +52,7 @@ fn main() {
         }
     }
     colours();
+    label_line();
 }
 
 /// A file of vertices with colours, in both modes. The last column is a ratio
@@ -117,6 +119,33 @@ fn tables_for(file: &[u8]) -> (Vec<Vec<u32>>, kelompuris::Answer) {
 
 fn slices(tables: &[Vec<u32>]) -> [&[u32]; 10] {
     std::array::from_fn(|table| tables[table].as_slice())
+}
+
+/// The label beside the judge and a copy, of a file near the size limit: a
+/// root with a mesh, and 16,382 nodes each with an unknown chunk inside.
+fn label_line() {
+    let filler = Chunk::of_bytes(*b"XTRA", vec![7; 940]);
+    let mut tree = scenes::damage::file_of(vec![scenes::damage::node_of(Vec::new())]);
+    let children = vec![scenes::damage::node_of(vec![filler]); 16_382];
+    let mut root = vec![scenes::rows::mesh(16_383, &[0])];
+    root.extend(children);
+    tree.chunks[0].chunks = root;
+    let file = tree.bytes();
+    let mut out = vec![0; file.len()];
+    let label = median(|| kelompuris::label(black_box(&file)).number);
+    let judge = median(|| kelompuris::judge(Mode::Strict, black_box(&file)).number);
+    let copy = median(|| {
+        out.copy_from_slice(black_box(&file));
+        u32::from(out[out.len() - 1] & 0)
+    });
+    let ratio = |other: Duration| other.as_nanos() as f64 / label.as_nanos().max(1) as f64;
+    println!(
+        "label of {} bytes: {} ns; the judge takes {:.0} times as long, a copy {:.0} times",
+        file.len(),
+        label.as_nanos(),
+        ratio(judge),
+        ratio(copy),
+    );
 }
 
 fn line(table: usize, rows: usize) {

@@ -79,6 +79,9 @@ fn refusal(number: u32, place: u32) -> String {
         (SHORT, _) => &table("too few words lent"),
         (12, _) => "tables that no accepted file has",
         (13, _) => "a slip with a number that is wrong, or that is cut or too long",
+        (14, _) => {
+            "no label: the way to the root's name or to its vertices is cut or leads nowhere"
+        }
         _ => "a refusal without words",
     };
     format!("{number} at {place}: {words}")
@@ -104,8 +107,8 @@ mod tests {
     #[test]
     fn each_number_has_its_own_words() {
         let words = |number| refusal(number, 1).split_once(": ").unwrap().1.to_string();
-        let all: std::collections::BTreeSet<String> = (1..=13).map(words).collect();
-        assert_eq!(all.len(), 13);
-        assert!(!all.contains(&words(14)));
+        let all: std::collections::BTreeSet<String> = (1..=14).map(words).collect();
+        assert_eq!(all.len(), 14);
+        assert!(!all.contains(&words(15)));
     }
 }

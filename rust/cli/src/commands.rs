@@ -1,5 +1,5 @@
-//! The commands, those on scenes in a mode but for `clear` and `slip`. What goes to standard output is added to `out`, by those that
-//! print; the others say nothing unless they stop.
+//! The commands, those on scenes in a mode but for `clear`, `slip` and `label`. What goes to standard output is added to `out`, by those
+//! that print; the others say nothing unless they stop.
 
 use crate::answer::{about, in_words, Stop};
 use crate::columns::{Table, HEAD, NODES, TABLES};
@@ -46,6 +46,20 @@ pub fn list(mode: Mode, path: &Path, out: &mut Vec<u8>) -> Result<(), Stop> {
     for node in scene.tables[NODES].chunks(TABLES[NODES].words()) {
         add_line(out, shown(name(&scene.names, node)));
     }
+    Ok(())
+}
+
+/// Number and place; if found the root's name and the vertices of its mesh. No
+/// size limit holds here.
+pub fn label(path: &Path, out: &mut Vec<u8>) -> Result<(), Stop> {
+    let file = fs::read(path).map_err(|error| Stop::failed(path, error))?;
+    let label = kelompuris::label(&file);
+    add_numbers(out, &[label.number, label.place]);
+    if label.number != 0 {
+        return Err(Stop::refused(path, label.number, label.place));
+    }
+    add_line(out, shown(kelompuris::label_name(&file)));
+    add_line(out, label.vertices.to_string());
     Ok(())
 }
 

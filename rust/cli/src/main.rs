@@ -1,5 +1,5 @@
-//! `kelompuris`: B3D scene files checked, listed, taken apart, put together and
-//! cleared of names, and their slips, all by the proved functions.
+//! `kelompuris`: B3D scene files checked, listed, labelled, taken apart, put
+//! together and cleared of names, and their slips, all by the proved functions.
 
 mod answer;
 mod columns;
@@ -19,6 +19,7 @@ use std::process::ExitCode;
 const USAGE: &str = "\
 usage: kelompuris check [--lenient] FILE..
        kelompuris list [--lenient] FILE
+       kelompuris label FILE
        kelompuris tables [--lenient] FILE DIR
        kelompuris build [--lenient] DIR OUT
        kelompuris clear FILE OUT
@@ -32,6 +33,8 @@ check   one line for each file: accepted and what it holds, or the refusal's
         number, its place and what that means
 list    number and place; if accepted version and n_texs, the ten row counts
         and the name of each node
+label   number and place; if found the root's name and the vertices of its
+        mesh, by a walk over headers that does not check the file
 tables  the ten tables of a file and scene.tsv (version, n_texs) as texts in
         DIR, which must be new or empty
 build   the shortest file with the tables in such a DIR
@@ -83,6 +86,7 @@ fn run(args: &[OsString], out: &mut Vec<u8>) -> Result<(), Stop> {
     match (command, &paths[..]) {
         (Some("check"), [_, ..]) => commands::check(mode, &paths, out),
         (Some("list"), [file]) => commands::list(mode, file, out),
+        (Some("label"), [file]) => commands::label(file, out),
         (Some("tables"), [file, folder]) => commands::tables(mode, file, folder),
         (Some("build"), [folder, target]) => commands::build(mode, folder, target),
         (Some("clear"), [file, target]) => commands::clear(file, target),

@@ -1,4 +1,4 @@
-//! `check` and `list`.
+//! `check`, `list` and `label`.
 
 mod common;
 
@@ -147,4 +147,16 @@ fn list_takes_large_files() {
     fs::write(folder.join("f"), file).unwrap();
     let listed = run(&folder, &["list", "f"]);
     assert_eq!((listed.status, listed.out.lines().count()), (0, 3 + 16_383));
+}
+
+#[test]
+fn labels() {
+    let folder = fresh("labels");
+    run(&folder, &["label", "hall.b3d"]).is(0, "0 0\nHall\n0\n");
+    run(&folder, &["label", "table.b3d"]).is(0, "0 0\nunnamed\n3\n");
+    run(&folder, &["label", "kitchen.b3d"]).is(0, "0 0\ncupboard\n8\n");
+    fs::write(folder.join("bad.b3d"), with(worked::t(), 149, 3)).unwrap();
+    run(&folder, &["label", "bad.b3d"]).is(0, "0 0\nunnamed\n3\n");
+    fs::write(folder.join("p.b3d"), worked::p()).unwrap();
+    run(&folder, &["label", "p.b3d"]).is(1, "14 0\n");
 }

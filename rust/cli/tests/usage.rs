@@ -8,11 +8,13 @@ use std::fs;
 #[test]
 fn wrong_use() {
     let folder = fresh("wrong_use");
-    let wrong: [&[&str]; 18] = [
+    let wrong: [&[&str]; 21] = [
         &[],
         &["check"],
         &["list"],
         &["list", "hall.b3d", "table.b3d"],
+        &["label"],
+        &["label", "hall.b3d", "table.b3d"],
         &["tables", "hall.b3d"],
         &["build", "hall.b3d"],
         &["clear", "hall.b3d"],
@@ -26,6 +28,7 @@ fn wrong_use() {
         &["check", "--lenient"],
         &["list", "hall.b3d", "--lenient"],
         &["clear", "--lenient", "hall.b3d", "a"],
+        &["label", "--lenient", "hall.b3d"],
         &["--lenient", "check", "hall.b3d"],
     ];
     let before = names_in(&folder);
@@ -39,7 +42,7 @@ fn wrong_use() {
 fn help_names_all_commands() {
     let help = run(&fresh("help"), &["--help"]);
     assert_eq!((help.status, help.err.as_str()), (0, ""));
-    for command in ["check", "list", "tables", "build", "clear", "slip"] {
+    for command in ["check", "list", "label", "tables", "build", "clear", "slip"] {
         let line = |line: &str| line.starts_with(&format!("{command} "));
         assert!(help.out.lines().any(line), "{command}");
     }
@@ -52,6 +55,7 @@ fn files_that_cannot_be_read() {
     let before = names_in(&folder);
     for missing in ["none", "dir"] {
         run(&folder, &["list", missing]).stops(2, missing);
+        run(&folder, &["label", missing]).stops(2, missing);
         run(&folder, &["tables", missing, "out"]).stops(2, missing);
         run(&folder, &["build", missing, "out"]).stops(2, missing);
         run(&folder, &["clear", missing, "out"]).stops(2, missing);

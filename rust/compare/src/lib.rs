@@ -2,7 +2,7 @@
 //! the same words in all ten tables and bytes in the output, and nothing else
 //! changed.
 //!
-//! - here: judging and reading.
+//! - here: judging and reading; the tray label.
 //! - `output`: writing, clearing and slips of files.
 //! - `slip`: reading slips.
 //! - `run`: runs groups of comparisons and prints what was compared.
@@ -14,11 +14,14 @@ mod slip;
 pub use output::{sheet_of, Call};
 pub use run::{run, Group};
 
-use reference::{Answer, Mode};
+use reference::{Answer, Label, Mode};
 use scenes::sheet::ROW_WORDS;
 use scenes::Rng;
 use std::error::Error;
 use std::fmt;
+
+/// The numbers 0 to 16.
+pub const NUMBERS: usize = 17;
 
 /// What was compared so far.
 #[derive(Default)]
@@ -34,7 +37,7 @@ pub struct Compared {
     /// Slips that were read.
     pub slips: usize,
     /// How often each number was answered.
-    pub numbers: [usize; 14],
+    pub numbers: [usize; NUMBERS],
 }
 
 /// Where the two differ, or both from what is known.
@@ -116,6 +119,27 @@ impl Compared {
         Ok(answer)
     }
 
+    /// The label of a file, that of both.
+    pub fn label(&mut self, file: &[u8]) -> Result<Label, Disagreement> {
+        self.files += 1;
+        let label = kelompuris::label(file);
+        let label = Label {
+            number: label.number,
+            place: label.place,
+            name_place: label.name_place,
+            name_length: label.name_length,
+            vertices: label.vertices,
+        };
+        self.count(label.number);
+        match reference::label(file) {
+            expected if expected == label => Ok(label),
+            expected => disagree(
+                format!("label: proved {label:?}, reference {expected:?}"),
+                file,
+            ),
+        }
+    }
+
     /// Reads with tables of these sizes.
     fn read(&mut self, mode: Mode, file: &[u8], sizes: [usize; 10]) -> Result<(), Disagreement> {
         self.reads += 1;
@@ -142,7 +166,7 @@ impl Compared {
     }
 
     fn count(&mut self, number: u32) {
-        self.numbers[number.min(13) as usize] += 1;
+        self.numbers[(number as usize).min(NUMBERS - 1)] += 1;
     }
 
     fn same(

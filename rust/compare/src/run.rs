@@ -1,4 +1,4 @@
-use crate::{Compared, Disagreement};
+use crate::{Compared, Disagreement, NUMBERS};
 use scenes::Rng;
 use std::process::ExitCode;
 use std::time::Instant;
@@ -10,7 +10,7 @@ pub type Group = fn(&mut Compared, &mut Rng) -> Result<(), Disagreement>;
 /// answered. Fails at the first disagreement, and if one of the numbers
 /// `needed` was never met.
 pub fn run(groups: &[(&str, Group)], needed: &[usize]) -> ExitCode {
-    let mut numbers = [0; 14];
+    let mut numbers = [0; NUMBERS];
     for (name, group) in groups {
         let start = Instant::now();
         let mut compared = Compared::default();

@@ -38,6 +38,17 @@ pub struct Written {
     pub size: u32,
 }
 
+/// The tray label of a file. All but the number are 0 on refusal, which is 14.
+#[repr(C)]
+#[derive(Clone, Copy, Debug, Default, PartialEq, Eq)]
+pub struct Label {
+    pub number: u32,
+    pub place: u32,
+    pub name_place: usize,
+    pub name_length: usize,
+    pub vertices: usize,
+}
+
 #[rustfmt::skip]
 extern "C" {
     fn kelompuris_b3d_judge(mode: u32, file: *const u8, file_len: usize) -> Answer;
@@ -73,6 +84,8 @@ extern "C" {
     fn kelompuris_slip_write(numbers: *const u32, out: *mut u8, out_len: usize) -> Written;
 
     fn kelompuris_slip_read(slip: *const u8, slip_len: usize) -> Slip;
+
+    fn kelompuris_b3d_label(file: *const u8, file_len: usize) -> Label;
 }
 
 /// Judges a file without tables: refusals 1 to 10.
@@ -154,4 +167,17 @@ pub fn write_slip(numbers: &[u32; 12], out: &mut [u8]) -> Written {
 pub fn read_slip(slip: &[u8]) -> Slip {
     // SAFETY: the pointer holds for the length, and nothing is written.
     unsafe { kelompuris_slip_read(slip.as_ptr(), slip.len()) }
+}
+
+/// The name of a file's root and the vertices of its mesh, by a walk over
+/// headers that does not judge the file.
+pub fn label(file: &[u8]) -> Label {
+    // SAFETY: the pointer holds for the length, and nothing is written.
+    unsafe { kelompuris_b3d_label(file.as_ptr(), file.len()) }
+}
+
+/// The name on a file's label, a part of the file; empty where it is refused.
+pub fn label_name(file: &[u8]) -> &[u8] {
+    let label = label(file);
+    &file[label.name_place..][..label.name_length]
 }

@@ -19,6 +19,8 @@ name: Hall
 strict: 6 37, 0 0, 0 0 0 0 0 0 0 0 0 0
 lenient: 0 0, 1 0, 0 1 0 0 0 0 0 0 0 0
 mode 2: 6 37, 0 0, 0 0 0 0 0 0 0 0 0 0
+label: 0 0, 20 4 0, Hall
+no label: 14 0, 0 0 0, 
 ",
     ),
     (

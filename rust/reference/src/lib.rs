@@ -5,9 +5,11 @@
 //! Reading: `parse` makes a `scene` (refusals 1 to 9), `tables` counts its rows
 //! (10) and fills them. Writing: `soundness` judges lent tables (12), `encode`
 //! makes the bytes. Reader and writer take a mode: whether colours are judged.
+//! `label` walks headers by itself.
 
 mod chunks;
 mod encode;
+mod label;
 mod layout;
 mod lent;
 pub mod limits;
@@ -25,6 +27,7 @@ use lent::Lent;
 use limits::{BRUSHES, NODES, ROW_WORDS, TEXTURES};
 use refusal::{Refusal, SHORT, UNSOUND};
 
+pub use label::{label, Label};
 pub use lister::list;
 
 /// Whether a red, green, blue or alpha outside 0 to 1 is refused.

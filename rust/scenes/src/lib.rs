@@ -5,6 +5,7 @@
 //! - `damage`: files with one fault, and the refusal that it must bring.
 //! - `colour`: colours on and near the limits of the strict mode.
 //! - `change`: files changed without regard to the outcome.
+//! - `labels`: files for the tray label, with labels made by hand.
 //! - `rows`: files with a given number of rows in one table.
 //! - `nesting`: known chunks in any order inside one chunk.
 //! - `private`: files that differ only in what a clearer drops.
@@ -16,6 +17,7 @@ pub mod change;
 pub mod chunk;
 pub mod colour;
 pub mod damage;
+pub mod labels;
 pub mod make;
 pub mod nesting;
 pub mod private;

@@ -72,7 +72,7 @@ fn named_items(tag: &[u8; 4], fixed: &[u32], rows: usize) -> Chunk {
 }
 
 /// MESH with this many vertices, and a TRIS of each of these sizes.
-fn mesh(vertices: usize, triangles: &[usize]) -> Chunk {
+pub fn mesh(vertices: usize, triangles: &[usize]) -> Chunk {
     let mut vrts = Chunk::new(b"VRTS");
     vrts.words(&vec![0; 3 + 3 * vertices]);
     let mut chunk = Chunk::new(b"MESH");

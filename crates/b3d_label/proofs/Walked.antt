@@ -1,0 +1,253 @@
+-- Accepted files: what the walk finds is what the reader's definition reads. Steps of the walk beside those of `Parse`, from VRTS to the file.
+use Prim.Native.Nat.{ℕ, zero, suc, _+_, _*_, _/_, _%_, _<_, _≤_}
+use native.Mathlib.Omega.{arith}
+use native.Mathlib.Nat.{div-add-mod', mod-lt, le-refl}
+use mathlib.Core.Bool.{Bool, true, false}
+use mathlib.Core.Option.{Option, none}
+use mathlib.Core.Path.{_≡_, refl, ap, sym, subst, _∙_}
+use mathlib.Core.List.{List, [], _∷_}
+use lib.ListN.{length, take, replicate, length-replicate}
+use lib.Dec.{eqb, leb, eqb→eq, leb→le, nleb→lt, le→leb}
+use lib.Seq.{take-length}
+use mir.Facts.{eqb-no}
+use borrow.Author.Tests.{eq-eqb}
+use Rattle.wire.specs.Test.{if}
+use Rattle.layout.specs.Chunks.{done, stop, chunk, ended}
+use Rattle.layout.specs.Out.{Out, got, bad, check, _>>=_}
+use Rattle.layout.specs.Parts.{Name, Step, text, words, judged, row, number, named, items}
+use Rattle.layout.specs.Rules.{Rule, any}
+use Rattle.layout.proofs.ChunkLaws.{ended-fine}
+use Rattle.layout.proofs.Outs.{by-got, by-check, check-yes, by-test, bad-got, got-inj}
+use Rattle.layout.proofs.StepLaws.{length-words-of, words-enough, words-short, judged-got, judged-any, any-whole, any-cut, length-items-of}
+use Rattle.b3d_scene.specs.declared.Mode.the-variants.{Lenient}
+use Rattle.b3d_scene.specs.declared.Tag.{Tag}
+use Rattle.b3d_scene.specs.declared.Tag.the-variants.{BB3D, TEXS, BRUS, NODE, MESH, VRTS, TRIS, BONE, KEYS, ANIM}
+use Rattle.b3d_scene.specs.Tags.{code, Chunks, Found as FoundIn, split}
+use Rattle.b3d_scene.specs.Scene.{Texture, Brush, Mesh, Kind, mesh, Data, Forest, leaf, node, Scene}
+use Rattle.b3d_scene.specs.Rules.{nodeRow, meshHead, verticesHead, vertexRow, vertexWords, fileHead, fileSize, header, boneVertices, levels, ownVertices}
+use Rattle.b3d_scene.specs.Nesting.{Reached, start, next, onward, order, inside}
+use Rattle.b3d_scene.specs.Parse.{readOne, readTextures, readBrushes, Vertices, noVertices, readVertices, readSets, readMesh, aMesh, aBone, readBone, readKind, readMoves, Inner, readBelow, readNodes, readNode, readRoot, readBody, parse}
+use Rattle.b3d_label.specs.Walk.{oneNumber, firstWith, verticesIn, meshVertices, rootVertices, Printed, rootIn, fileIn, walk}
+use Rattle.b3d_label.specs.Answers.{Refused}
+
+-- fixed data that was read is all there
+row-free : (rs : List Rule) (n p : ℕ) (s : List ℕ) (x : Step (List ℕ)) → length rs ≡ n → row rs p s ≡ got x → row (replicate n any) p s ≡ got x
+unfolding row
+row-free rs n p s x l e =
+    by-got (words p (length rs) p s) _ e (λ y ey e₁.
+    let f : words p n p s ≡ got y = ap (λ (k : ℕ). words p k p s) (sym l) ∙ ey in
+    rw (length-replicate n any, f) (judged-any n p (y .value) y ∙ ap got (judged-got rs p (y .value) y x e₁)))
+
+-- ---- VRTS
+
+-- items that are not looked at fill what they were read from
+module _ (n : ℕ) (pos : 0 < n) (p : ℕ) (s : List ℕ) (l : List (List ℕ)) (e : items (row (replicate n any)) p s ≡ got l) where
+  fill : (eqb (length s % (4 * n)) 0 ≡ true) × (length s / (4 * n) ≡ length l)
+  fill =
+      let size = 4 * n in
+      let d : length s / size * size + length s % size ≡ length s = div-add-mod' (length s) size in
+      let m : length s % size < size = mod-lt (length s) (omega arith) in
+      by-test (eqb (length s % size) 0)
+      (λ t. let z = eqb→eq (length s % size) 0 t in
+      let a = any-whole n pos (length s / size) p s (omega arith) in
+      (eq-eqb (length s % size) 0 z, sym (length-items-of (length s / size) n s) ∙ ap (λ (x : List (List ℕ)). length x) (got-inj (sym a ∙ e))))
+      (λ t. let z = eqb-no {a = length s % size} {b = 0} t in
+      bad-got (sym (any-cut n pos (length s / size) (length s % size) p s (omega arith) (omega arith) m) ∙ e))
+
+some-words : (f s z : ℕ) → 0 < vertexWords f s z
+unfolding vertexWords
+some-words f s z = omega arith
+
+vertices-same : (p : ℕ) (b : List ℕ) (v : Vertices) → readVertices Lenient p b ≡ got v → verticesIn (p + 8) b ≡ got (length (v .items))
+unfolding readVertices verticesIn check
+vertices-same p b v e =
+    by-got (row verticesHead (p + 8) b) _ e (λ h eh e₁.
+    by-got (items (row (vertexRow Lenient (number h 0) (number h 1) (number h 2))) (h .place) (h .left)) _ e₁ (λ l el e₂.
+    let w = vertexWords (number h 0) (number h 1) (number h 2) in
+    let f = fill w (some-words (number h 0) (number h 1) (number h 2)) (h .place) (h .left) l el in
+    rw (eh, f .0, f .1) (ap (λ (x : Vertices). got (length (x .items))) (got-inj e₂))))
+
+-- ---- MESH
+
+-- the first chunk of a MESH that was read is its VRTS
+first-vrts : (head : ℕ) (cs : Chunks) (v : FoundIn Vertices) → readOne VRTS noVertices (readVertices Lenient) (order MESH head start cs) ≡ got v
+    → (firstWith (code VRTS) cs >>= λ x. verticesIn (x .0) (x .1)) ≡ got (length (v .value .items))
+unfolding order onward next readOne if firstWith
+first-vrts head done v e = bad-got e
+first-vrts head (stop n p) v e = bad-got e
+first-vrts head (chunk VRTS p b r) v e =
+    by-got (readVertices Lenient p b) _ e (λ x ex e₁. vertices-same p b x ex ∙ ap (λ (y : FoundIn Vertices). got (length (y .value .items))) (got-inj e₁))
+first-vrts head (chunk BB3D p b r) v e = bad-got e
+first-vrts head (chunk TEXS p b r) v e = bad-got e
+first-vrts head (chunk BRUS p b r) v e = bad-got e
+first-vrts head (chunk NODE p b r) v e = bad-got e
+first-vrts head (chunk MESH p b r) v e = bad-got e
+first-vrts head (chunk TRIS p b r) v e = bad-got e
+first-vrts head (chunk BONE p b r) v e = bad-got e
+first-vrts head (chunk KEYS p b r) v e = bad-got e
+first-vrts head (chunk ANIM p b r) v e = bad-got e
+
+mesh-same : (brushes p : ℕ) (b : List ℕ) (m : Mesh) → readMesh Lenient brushes p b ≡ got m → meshVertices (p + 8) b ≡ got (length (m .vertices))
+unfolding readMesh meshVertices inside
+mesh-same brushes p b m e =
+    by-got (row (meshHead brushes) (p + 8) b) _ e (λ h eh e₁.
+    by-got (readOne VRTS noVertices (readVertices Lenient) (order MESH p start (split (h .place) (h .left)))) _ e₁ (λ v ev e₂.
+    by-got (readSets brushes (length (v .value .items)) (v .rest)) _ e₂ (λ l el e₃.
+    rw (row-free (meshHead brushes) 1 (p + 8) b h refl eh)
+    (first-vrts p (split (h .place) (h .left)) v ev ∙ ap (λ (x : Mesh). got (length (x .vertices))) (got-inj e₃)))))
+
+-- ---- a root
+
+-- the first known chunk of a node that was read
+kind-same : (brushes vertices head : ℕ) (cs : Chunks) (k : FoundIn Kind) → readKind Lenient brushes vertices (order NODE head start cs) ≡ got k
+    → rootVertices cs ≡ got (ownVertices (k .value))
+unfolding order onward next readKind aMesh aBone if rootVertices
+kind-same brushes vertices head done k e = ap (λ (x : FoundIn Kind). got (ownVertices (x .value))) (got-inj e)
+kind-same brushes vertices head (stop n p) k e = bad-got e
+kind-same brushes vertices head (chunk MESH p b r) k e =
+    by-got (readMesh Lenient brushes p b) _ e (λ m em e₁. mesh-same brushes p b m em ∙ ap (λ (x : FoundIn Kind). got (ownVertices (x .value))) (got-inj e₁))
+kind-same brushes vertices head (chunk BONE p b r) k e =
+    by-got (readBone vertices p b) _ e (λ ws ew e₁. ap (λ (x : FoundIn Kind). got (ownVertices (x .value))) (got-inj e₁))
+kind-same brushes vertices head (chunk KEYS p b r) k e = ap (λ (x : FoundIn Kind). got (ownVertices (x .value))) (got-inj e)
+kind-same brushes vertices head (chunk ANIM p b r) k e = ap (λ (x : FoundIn Kind). got (ownVertices (x .value))) (got-inj e)
+kind-same brushes vertices head (chunk NODE p b r) k e = ap (λ (x : FoundIn Kind). got (ownVertices (x .value))) (got-inj e)
+kind-same brushes vertices head (chunk BB3D p b r) k e = bad-got e
+kind-same brushes vertices head (chunk TEXS p b r) k e = bad-got e
+kind-same brushes vertices head (chunk BRUS p b r) k e = bad-got e
+kind-same brushes vertices head (chunk VRTS p b r) k e = bad-got e
+kind-same brushes vertices head (chunk TRIS p b r) k e = bad-got e
+
+-- what the label has of a node
+abbrev pub printedOf : Data → Printed
+printedOf d = record { name = d .name; vertices = ownVertices (d .kind) }
+
+-- o is what the label has of a node, which has ten numbers
+pub record OfRoot (o : Out Printed) (d : Data) : Type 0 where
+  pub is : o ≡ got (printedOf d)
+  pub ten : length (d .words) ≡ 10
+
+-- of the first node, where there is one; refused where there is none
+abbrev pub Tells : Out Printed → Forest → Type 0
+Tells o leaf = Refused o
+Tells o (node d f g) = OfRoot o d
+
+words-long : (start n p : ℕ) (s : List ℕ) (x : Step (List ℕ)) → words start n p s ≡ got x → length (x .value) ≡ n
+words-long start n p s x e =
+    by-test (leb (4 * n) (length s))
+    (λ t. let h = leb→le (4 * n) (length s) t in ap (λ (y : Step (List ℕ)). length (y .value)) (got-inj (sym e ∙ words-enough start n p s h)) ∙ length-words-of n s h)
+    (λ t. let h = nleb→lt (4 * n) (length s) t in bad-got (sym (words-short start n p s h) ∙ e))
+
+named-long : (rs : List Rule) (p : ℕ) (s : List ℕ) (x : Step (Name × List ℕ)) → named rs p s ≡ got x → length (x .value .1) ≡ length rs
+unfolding named
+named-long rs p s x e =
+    by-got (text p p s) _ e (λ n en e₁. by-got (words p (length rs) (n .place) (n .left)) _ e₁ (λ y ey e₂.
+    ap (λ (z : Step (Name × List ℕ)). length (z .value .1)) (sym (judged-got rs (n .place) (y .value) _ x e₂)) ∙ words-long p (length rs) (n .place) (n .left) y ey))
+
+below-self : (one : Option ℕ → ℕ → List ℕ → Out Inner) (above : Option ℕ) (d : Data) (cs : Chunks) (x : Inner) → readBelow one above d cs ≡ got x → d ≡ x .self
+unfolding readBelow
+below-self one above d cs x e = by-got (readNodes (one _) cs) _ e (λ f ef e₁. ap (λ (y : Inner). y .self) (got-inj e₁))
+
+node-same : (brushes p : ℕ) (b : List ℕ) (x : Inner) → readNode Lenient levels brushes none p b ≡ got x → OfRoot (rootIn (p + 8) b) (x .self)
+unfolding readNode rootIn inside
+node-same brushes p b x e =
+    by-got (named nodeRow (p + 8) b) _ e (λ h eh e₁.
+    by-got (readKind Lenient brushes 0 (order NODE p start (split (h .place) (h .left)))) _ e₁ (λ k ek e₂.
+    by-got (readMoves _ (k .rest)) _ e₂ (λ m em e₃.
+    subst (OfRoot (rootIn (p + 8) b)) (below-self _ none _ (m .rest) x e₃)
+    (record { is = rw (eh, kind-same brushes 0 p (split (h .place) (h .left)) k ek); ten = named-long nodeRow (p + 8) b h eh }))))
+
+root-same : (brushes p : ℕ) (b : List ℕ) (f : Forest) → readRoot Lenient brushes p b ≡ got f → Tells (rootIn (p + 8) b) f
+unfolding readRoot
+root-same brushes p b f e = by-got (readNode Lenient levels brushes none p b) _ e (λ x ex e₁. subst (Tells (rootIn (p + 8) b)) (got-inj e₁) (node-same brushes p b x ex))
+
+-- ---- the chunks of a file: TEXS and BRUS are stepped over, then comes the root
+
+abbrev reached : ℕ → Reached
+reached turn = record { turn = turn; spent = true }
+
+-- the walk from chunks on to the first NODE
+abbrev toRoot : Chunks → Out Printed
+toRoot cs = firstWith (code NODE) cs >>= λ x. rootIn (x .0) (x .1)
+
+-- what is left after a phase: the chunks of ds, held to the rule from a turn on; the first NODE among them is that of cs
+record Onto (turn : ℕ) (cs rest : Chunks) : Type 0 where
+  others : Chunks
+  is : rest ≡ order BB3D 0 (reached turn) others
+  same : toRoot cs ≡ toRoot others
+
+module _ {A : Type 0} (a : A) (one : ℕ → List ℕ → Out A) where
+  after-texs : (cs : Chunks) (x : FoundIn A) → readOne TEXS a one (order BB3D 0 start cs) ≡ got x → Onto 1 cs (x .rest)
+  unfolding order onward next readOne if firstWith
+  after-texs done x e = record { others = done; is = ap (λ (y : FoundIn A). y .rest) (sym (got-inj e)); same = refl }
+  after-texs (stop n p) x e = bad-got e
+  after-texs (chunk TEXS p b r) x e = by-got (one p b) _ e (λ y ey e₁. record { others = r; is = ap (λ (y : FoundIn A). y .rest) (sym (got-inj e₁)); same = refl })
+  after-texs (chunk BRUS p b r) x e = record { others = chunk BRUS p b r; is = ap (λ (y : FoundIn A). y .rest) (sym (got-inj e)); same = refl }
+  after-texs (chunk NODE p b r) x e = record { others = chunk NODE p b r; is = ap (λ (y : FoundIn A). y .rest) (sym (got-inj e)); same = refl }
+  after-texs (chunk BB3D p b r) x e = bad-got e
+  after-texs (chunk MESH p b r) x e = bad-got e
+  after-texs (chunk VRTS p b r) x e = bad-got e
+  after-texs (chunk TRIS p b r) x e = bad-got e
+  after-texs (chunk BONE p b r) x e = bad-got e
+  after-texs (chunk KEYS p b r) x e = bad-got e
+  after-texs (chunk ANIM p b r) x e = bad-got e
+
+  after-brus : (cs : Chunks) (x : FoundIn A) → readOne BRUS a one (order BB3D 0 (reached 1) cs) ≡ got x → Onto 2 cs (x .rest)
+  unfolding order onward next readOne if firstWith
+  after-brus done x e = record { others = done; is = ap (λ (y : FoundIn A). y .rest) (sym (got-inj e)); same = refl }
+  after-brus (stop n p) x e = bad-got e
+  after-brus (chunk BRUS p b r) x e = by-got (one p b) _ e (λ y ey e₁. record { others = r; is = ap (λ (y : FoundIn A). y .rest) (sym (got-inj e₁)); same = refl })
+  after-brus (chunk NODE p b r) x e = record { others = chunk NODE p b r; is = ap (λ (y : FoundIn A). y .rest) (sym (got-inj e)); same = refl }
+  after-brus (chunk TEXS p b r) x e = bad-got e
+  after-brus (chunk BB3D p b r) x e = bad-got e
+  after-brus (chunk MESH p b r) x e = bad-got e
+  after-brus (chunk VRTS p b r) x e = bad-got e
+  after-brus (chunk TRIS p b r) x e = bad-got e
+  after-brus (chunk BONE p b r) x e = bad-got e
+  after-brus (chunk KEYS p b r) x e = bad-got e
+  after-brus (chunk ANIM p b r) x e = bad-got e
+
+at-root : (brushes : ℕ) (cs : Chunks) (x : FoundIn Forest) → readOne NODE leaf (readRoot Lenient brushes) (order BB3D 0 (reached 2) cs) ≡ got x → Tells (toRoot cs) (x .value)
+unfolding order onward next readOne if firstWith
+at-root brushes done x e = subst (λ (y : FoundIn Forest). Tells (toRoot done) (y .value)) (got-inj e) (14, 0, refl)
+at-root brushes (stop n p) x e = bad-got e
+at-root brushes (chunk NODE p b r) x e =
+    by-got (readRoot Lenient brushes p b) _ e (λ f ef e₁. subst (λ (y : FoundIn Forest). Tells (rootIn (p + 8) b) (y .value)) (got-inj e₁) (root-same brushes p b f ef))
+at-root brushes (chunk TEXS p b r) x e = bad-got e
+at-root brushes (chunk BRUS p b r) x e = bad-got e
+at-root brushes (chunk BB3D p b r) x e = bad-got e
+at-root brushes (chunk MESH p b r) x e = bad-got e
+at-root brushes (chunk VRTS p b r) x e = bad-got e
+at-root brushes (chunk TRIS p b r) x e = bad-got e
+at-root brushes (chunk BONE p b r) x e = bad-got e
+at-root brushes (chunk KEYS p b r) x e = bad-got e
+at-root brushes (chunk ANIM p b r) x e = bad-got e
+
+-- ---- the file
+
+body-same : (p : ℕ) (b : List ℕ) (t : Scene) → readBody Lenient p b ≡ got t → Tells (fileIn p b) (t .nodes)
+unfolding readBody fileIn inside
+body-same p b t e =
+    by-got (row fileHead p b) _ e (λ h eh e₁.
+    let cs = split (h .place) (h .left) in
+    by-got (readOne TEXS [] readTextures (order BB3D 0 start cs)) _ e₁ (λ x ex e₂.
+    let f = after-texs [] readTextures cs x ex in
+    by-got (readOne BRUS (0, []) (readBrushes Lenient (length (x .value))) (x .rest)) _ e₂ (λ y ey e₃.
+    let g = after-brus (0, []) (readBrushes Lenient (length (x .value))) (f .others) y (subst (λ (r : Chunks). readOne BRUS (0, []) (readBrushes Lenient (length (x .value))) r ≡ got y) (f .is) ey) in
+    by-got (readOne NODE leaf (readRoot Lenient (length (y .value .1))) (y .rest)) _ e₃ (λ z ez e₄.
+    let i = at-root (length (y .value .1)) (g .others) z (subst (λ (r : Chunks). readOne NODE leaf (readRoot Lenient (length (y .value .1))) r ≡ got z) (g .is) ez) in
+    let o : toRoot cs ≡ toRoot (g .others) = f .same ∙ g .same in
+    rw (row-free fileHead 1 p b h refl eh)
+    (subst (λ (u : Scene). Tells (toRoot cs) (u .nodes)) (ended-fine (z .rest) _ t e₄) (subst (λ (u : Out Printed). Tells u (z .value)) (sym o) i))))))
+
+-- the label of an accepted file is that of its first node
+pub walk-same : (s : List ℕ) (t : Scene) → parse Lenient s ≡ got t → Tells (walk s) (t .nodes)
+unfolding parse walk
+walk-same s t e =
+    by-check (fileSize (length s)) 1 0 _ e (λ _ e₁.
+    by-got (row header 0 s) _ e₁ (λ h eh e₂.
+    by-check (eqb (number h 0) (code BB3D)) 2 0 _ e₂ (λ b e₃.
+    by-check (eqb (number h 1) (length (h .left))) 2 4 _ e₃ (λ l e₄.
+    let n : number h 1 ≡ length (h .left) = eqb→eq (number h 1) (length (h .left)) l in
+    let le : number h 1 ≤ length (h .left) = omega arith in
+    rw (eh, check-yes (eqb (number h 0) (code BB3D)) 2 0 b, check-yes (leb (number h 1) (length (h .left))) 3 0 (le→leb _ _ le), n, take-length (h .left))
+    (body-same (h .place) (h .left) t e₄)))))

@@ -1,0 +1,3 @@
+-- What the tray label says of a file, on every input; and what its functions promise.
+pub mod Walk
+pub mod Answers

@@ -1,0 +1,234 @@
+// The tray label: the name of a file's root and the vertices of its mesh, by a walk over headers that judges nothing else. Its cost is that of the
+// headers stepped over and of the name.
+ghost use mathlib.Core.Path.{_≡_};
+ghost use Prim.Native.Nat.{_+_, _≤_};
+ghost use lib.ListN.{length};
+ghost use Rattle.wire.specs.Cursors.{Inside, left};
+ghost use Rattle.b3d_scene.specs.Tags.{code, split};
+ghost use Rattle.b3d_label.specs.Walk.{verticesIn, meshVertices, rootVertices, rootIn, fileIn, noLabel, labelOf, nameOn};
+ghost use Rattle.b3d_label.specs.Answers.{Seeks, manyOf, Labels};
+use b3d_chunks::Counted;
+use b3d_chunks::Named;
+use b3d_chunks::Next;
+use b3d_scene::Tag;
+use wire::Cursor;
+use wire::Header;
+use wire::Number;
+
+// What the label says: 0 and 0 with the name's place and length in the file and the vertices; or 14 and zeros.
+pub struct TrayLabel {
+    pub number: u32,
+    pub place: u32,
+    pub name_place: usize,
+    pub name_length: usize,
+    pub vertices: usize,
+}
+
+// The body of the chunk looked for.
+pub enum Sought {
+    Is(Cursor),
+    Not,
+}
+
+// So many vertices.
+pub enum Many {
+    Are(usize),
+    Not,
+}
+
+// The four letters of a tag as a number.
+fn letters(tag: Tag) -> u32
+    ensures { λ r. ⌜ r ≡ code tag ⌝ }
+{
+    match tag {
+        Tag::BB3D => 0x44334242,
+        Tag::TEXS => 0x53584554,
+        Tag::BRUS => 0x53555242,
+        Tag::NODE => 0x45444F4E,
+        Tag::MESH => 0x4853454D,
+        Tag::VRTS => 0x53545256,
+        Tag::TRIS => 0x53495254,
+        Tag::BONE => 0x454E4F42,
+        Tag::KEYS => 0x5359454B,
+        Tag::ANIM => 0x4D494E41,
+    }
+}
+
+// The first chunk with these letters; others are stepped over.
+fn first_with(s: &[u8], from: Cursor, wanted: u32) -> Sought
+    requires { ⌜ Inside from (length (now s)) ⌝ }
+    ensures { λ r. ⌜ Seeks (now (s .entry)) from wanted r ⌝ }
+{
+    let mut c = from;
+    loop {
+        match b3d_chunks::next_chunk(s, c) {
+            Next::Done => {
+                return Sought::Not;
+            }
+            Next::Cut(_) => {
+                return Sought::Not;
+            }
+            Next::Chunk {
+                tag,
+                at: _,
+                body,
+                next,
+            } => {
+                if letters(tag) == wanted {
+                    return Sought::Is(body);
+                }
+                c = next;
+            }
+        }
+    }
+}
+
+// The vertices of a VRTS.
+fn vrts_vertices(s: &[u8], body: Cursor) -> Many
+    requires { ⌜ Inside body (length (now s)) ⌝ }
+    ensures { λ r. ⌜ r ≡ manyOf (verticesIn (body .at) (left body (now (s .entry)))) ⌝ }
+{
+    let start = body.at;
+    let end = body.end;
+    if end - start < 12 {
+        return Many::Not;
+    }
+    let flags = wire::number_at(s, start);
+    let sets = wire::number_at(s, start + 4);
+    let size = wire::number_at(s, start + 8);
+    if 3 < flags {
+        return Many::Not;
+    }
+    if 8 < sets {
+        return Many::Not;
+    }
+    if 4 < size {
+        return Many::Not;
+    }
+    let words = b3d_chunks::vertex_words(flags, sets, size);
+    let items = Cursor {
+        at: start + 12,
+        end,
+    };
+    match b3d_chunks::whole_items(items, words) {
+        Counted::Not(_, _) => Many::Not,
+        Counted::Is(count) => Many::Are(count),
+    }
+}
+
+// The vertices of a MESH.
+fn mesh_vertices(s: &[u8], body: Cursor) -> Many
+    requires { ⌜ Inside body (length (now s)) ⌝ }
+    ensures { λ r. ⌜ r ≡ manyOf (meshVertices (body .at) (left body (now (s .entry)))) ⌝ }
+{
+    match body.number(s) {
+        Number::Cut => Many::Not,
+        Number::Is(_, inside) => match first_with(s, inside, 0x53545256) {
+            Sought::Not => Many::Not,
+            Sought::Is(vrts) => vrts_vertices(s, vrts),
+        },
+    }
+}
+
+// The vertices of a root whose chunks a cursor has left: those of its mesh, 0 without one.
+fn root_vertices(s: &[u8], from: Cursor) -> Many
+    requires { ⌜ Inside from (length (now s)) ⌝ }
+    ensures { λ r. ⌜ r ≡ manyOf (rootVertices (split (from .at) (left from (now (s .entry))))) ⌝ }
+{
+    match b3d_chunks::next_chunk(s, from) {
+        Next::Done => Many::Are(0),
+        Next::Cut(_) => Many::Not,
+        Next::Chunk {
+            tag,
+            at: _,
+            body,
+            next: _,
+        } => {
+            if letters(tag) == 0x4853454D {
+                return mesh_vertices(s, body);
+            }
+            Many::Are(0)
+        }
+    }
+}
+
+fn refused() -> TrayLabel
+    ensures { λ r. ⌜ r ≡ noLabel ⌝ }
+{
+    TrayLabel {
+        number: 14,
+        place: 0,
+        name_place: 0,
+        name_length: 0,
+        vertices: 0,
+    }
+}
+
+// The label of a root.
+fn root_label(s: &[u8], body: Cursor) -> TrayLabel
+    requires { ⌜ Inside body (length (now s)) ⌝ }
+    ensures { λ r. ⌜ Labels (rootIn (body .at) (left body (now (s .entry)))) (length (now (s .entry))) r ⌝ }
+{
+    match b3d_chunks::named_row(s, body, 10) {
+        Named::Cut => refused(),
+        Named::Is {
+            length,
+            row: _,
+            next,
+        } => match root_vertices(s, next) {
+            Many::Not => refused(),
+            Many::Are(vertices) => TrayLabel {
+                number: 0,
+                place: 0,
+                name_place: body.at,
+                name_length: length,
+                vertices,
+            },
+        },
+    }
+}
+
+// The label of a BB3D.
+fn file_label(s: &[u8], body: Cursor) -> TrayLabel
+    requires { ⌜ Inside body (length (now s)) ⌝ }
+    ensures { λ r. ⌜ Labels (fileIn (body .at) (left body (now (s .entry)))) (length (now (s .entry))) r ⌝ }
+{
+    match body.number(s) {
+        Number::Cut => refused(),
+        Number::Is(_, inside) => match first_with(s, inside, 0x45444F4E) {
+            Sought::Not => refused(),
+            Sought::Is(root) => root_label(s, root),
+        },
+    }
+}
+
+// The label of a file. A name on it lies in the file.
+pub fn label(file: &[u8]) -> TrayLabel
+    ensures { λ r. ⌜ r ≡ labelOf (now (file .entry)) ⌝ }
+    ensures { λ r. ⌜ r .«name_place» + r .«name_length» ≤ length (now (file .entry)) ⌝ }
+{
+    let all = Cursor {
+        at: 0,
+        end: file.len(),
+    };
+    match all.header(file) {
+        Header::End => refused(),
+        Header::Cut => refused(),
+        Header::Whole { tag, body, next: _ } => {
+            if tag != 0x44334242 {
+                return refused();
+            }
+            file_label(file, body)
+        }
+    }
+}
+
+// The name on a file's label, as a part of the file; the empty part where it is refused.
+pub fn label_name(file: &[u8]) -> &[u8]
+    ensures { λ r. ⌜ now r ≡ nameOn (labelOf (now (file .entry))) (now (file .entry)) ⌝ }
+{
+    let found = label(file);
+    let place = found.name_place;
+    let end = place + found.name_length;
+    &file[place..end]
+}
