@@ -11,7 +11,7 @@ use lib.Dec.{T}
 use lib.Seq.{getD-drop}
 use Rattle.wire.specs.Bytes.{word, wordAt}
 use Rattle.layout.specs.Out.{Out, got, bad, check, _>>=_}
-use Rattle.layout.specs.Rules.{Rule, any, upTo, names, namesOrNone, unit, holds, refusal}
+use Rattle.layout.specs.Rules.{Rule, any, upTo, exactly, names, namesOrNone, unit, holds, refusal}
 use Rattle.layout.specs.Parts.{Name, Step, text, words, judged, row, named, itemsIn, items}
 use Rattle.layout.specs.Fit.{all}
 use Rattle.layout.proofs.Outs.{by-got, bad-got, got-inj}
@@ -24,6 +24,7 @@ use Rattle.layout.proofs.StepLaws.{judged-got}
 abbrev pub loose : Rule → Rule
 loose any = any
 loose (upTo m) = upTo m
+loose (exactly m) = exactly m
 loose (names n) = names n
 loose (namesOrNone n) = namesOrNone n
 loose unit = any
@@ -32,6 +33,7 @@ loose unit = any
 abbrev pub strictly : Rule → ℕ → Bool
 strictly any w = true
 strictly (upTo m) w = true
+strictly (exactly m) w = true
 strictly (names n) w = true
 strictly (namesOrNone n) w = true
 strictly unit w = holds unit w
@@ -174,6 +176,7 @@ module _ (file : List ℕ) where
   judged-held (r ∷ rs) p [] a i = (refl, refl)
   judged-held (any ∷ rs) p (w ∷ ws) a i = judged-held rs (p + 4) ws a (i .1)
   judged-held (upTo m ∷ rs) p (w ∷ ws) a i = first-held _ (check (holds (upTo m) w) 6 p) _ _ (λ _ e. judged-held rs (p + 4) ws a (i .1))
+  judged-held (exactly m ∷ rs) p (w ∷ ws) a i = first-held _ (check (holds (exactly m) w) 6 p) _ _ (λ _ e. judged-held rs (p + 4) ws a (i .1))
   judged-held (names n ∷ rs) p (w ∷ ws) a i = first-held _ (check (holds (names n) w) 7 p) _ _ (λ _ e. judged-held rs (p + 4) ws a (i .1))
   judged-held (namesOrNone n ∷ rs) p (w ∷ ws) a i = first-held _ (check (holds (namesOrNone n) w) 7 p) _ _ (λ _ e. judged-held rs (p + 4) ws a (i .1))
   judged-held (unit ∷ rs) p (w ∷ ws) a i = unit-held (holds unit w) (passes rs ws) p _ _ (ap (holds unit) (i .0)) (judged-held rs (p + 4) ws a (i .1))

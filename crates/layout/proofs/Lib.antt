@@ -4,6 +4,7 @@ pub mod Testing
 pub mod Fitting
 pub mod PartLaws
 pub mod StepLaws
+pub mod CountLaws
 pub mod ChunkLaws
 pub mod PlaceLaws
 pub mod RefusalLaws

@@ -9,7 +9,7 @@ use lib.Dec.{leb}
 use Rattle.wire.specs.Test.{if}
 use Rattle.wire.specs.Bytes.{word}
 use Rattle.layout.specs.Out.{Out, got, bad, check, _>>=_}
-use Rattle.layout.specs.Rules.{Rule, any, upTo, names, namesOrNone, unit, holds, refusal}
+use Rattle.layout.specs.Rules.{Rule, any, upTo, exactly, names, namesOrNone, unit, holds, refusal}
 use Rattle.layout.specs.Parts.{Step, text, words, judged, row, named, itemsIn, items}
 use Rattle.layout.specs.Chunks.{Chunks, done, stop, chunk, keep, splitIn, split, Found, ended}
 
@@ -63,6 +63,7 @@ words-fair start (suc n) p (a ∷ b ∷ c ∷ d ∷ s) = bind-fair _ (words star
 refusal-range : (r : Rule) → OneToNine (refusal r)
 refusal-range any = (omega arith, omega arith)
 refusal-range (upTo m) = (omega arith, omega arith)
+refusal-range (exactly m) = (omega arith, omega arith)
 refusal-range (names n) = (omega arith, omega arith)
 refusal-range (namesOrNone n) = (omega arith, omega arith)
 refusal-range unit = (omega arith, omega arith)

@@ -7,3 +7,5 @@ pub mod Chunks
 pub mod Write
 pub mod Fit
 pub mod Fitting
+pub mod Counted
+pub mod Rows

@@ -13,6 +13,8 @@ pub data Rule : Type 0 where
   any : Rule
   -- 0 to this
   upTo : ℕ → Rule
+  -- this and no other
+  exactly : ℕ → Rule
   -- an id of so many things, from 0 on
   names : ℕ → Rule
   -- such an id, or -1
@@ -23,6 +25,7 @@ pub data Rule : Type 0 where
 abbrev pub holds : Rule → ℕ → Bool
 holds any w = true
 holds (upTo m) w = leb w m
+holds (exactly m) w = eqb w m
 holds (names n) w = ltb w n
 holds (namesOrNone n) w = eqb w NONE || ltb w n
 holds unit w = leb w 0x3F800000 || eqb w 0x80000000
@@ -31,6 +34,11 @@ holds unit w = leb w 0x3F800000 || eqb w 0x80000000
 abbrev pub refusal : Rule → ℕ
 refusal any = 6
 refusal (upTo m) = 6
+refusal (exactly m) = 6
 refusal (names n) = 7
 refusal (namesOrNone n) = 7
 refusal unit = 6
+
+-- a count or a length: any number that is not negative
+abbrev pub count : Rule
+count = upTo 2147483647

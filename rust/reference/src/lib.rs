@@ -6,7 +6,9 @@
 //! (10) and fills them. Writing: `soundness` judges lent tables (12), `encode`
 //! makes the bytes. Reader and writer take a mode: whether colours are judged.
 //! `label` walks headers by itself.
+//! `cal3d` reads skeletons and meshes of another format.
 
+pub mod cal3d;
 mod chunks;
 mod encode;
 mod label;

@@ -12,7 +12,9 @@
 //! - `words`: damaged tables for a writer.
 //! - `worked`: the worked files and cases of paper 01.
 //! - `rebuild`: a file from tables, as far as that goes.
+//! - `cal3d`: skeletons and meshes of cal3d, valid and with one fault.
 
+pub mod cal3d;
 pub mod change;
 pub mod chunk;
 pub mod colour;

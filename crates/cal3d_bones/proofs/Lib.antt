@@ -1,0 +1,5 @@
+pub mod BoneLaws
+pub mod LinkLaws
+pub mod WalkLaws
+pub mod LayLaws
+pub mod Walked

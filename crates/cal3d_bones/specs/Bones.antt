@@ -1,0 +1,86 @@
+-- What the readings of bones answer.
+use Prim.Native.Nat.{ℕ, _+_, _-_, _*_, _<_, _≤_}
+use mathlib.Core.Path.{_≡_}
+use mathlib.Core.List.{List, [], _∷_}
+use lib.ListN.{length}
+use Rattle.wire.specs.Bytes.{wordAt}
+use Rattle.wire.specs.Cursors.{left}
+use Rattle.wire.specs.declared.Cursor.{Cursor}
+use Rattle.layout.specs.Out.{Out, got, bad, _>>=_}
+use Rattle.layout.specs.Parts.{Step, wordsOf, row, number}
+use Rattle.layout.specs.Counted.{times}
+use Rattle.layout.specs.Rows.{nameCells}
+use Rattle.layout.proofs.Lists.{All}
+use Rattle.cal3d_scene.specs.Rules.{boneNumbers, childrenAt, childNumbers}
+use Rattle.cal3d_scene.specs.Skeletons.{Bone, parentOf, listOf}
+use Rattle.cal3d_scene.specs.Tables.{childRows}
+use Rattle.cal3d_bones.specs.declared.Boned.{Boned}
+use Rattle.cal3d_bones.specs.declared.Boned.the-variants as boned
+use Rattle.cal3d_bones.specs.declared.Laid.{Laid}
+use Rattle.cal3d_bones.specs.declared.Laid.the-variants as laid
+
+-- a bone's numbers and its children
+unfoldable pub readLinks : ℕ → ℕ → List ℕ → Out (Step (List ℕ × List (List ℕ)))
+readLinks bones p s = do
+  x ← row (boneNumbers bones) p s
+  l ← times (number x childrenAt) (row (childNumbers bones)) (x .place) (x .left)
+  got (record { value = (x .value, l .value); place = l .place; left = l .left })
+
+-- how many children
+abbrev pub linkCount : List ℕ × List (List ℕ) → ℕ
+linkCount x = length (x .1)
+
+abbrev pub childCount : Bone → ℕ
+childCount b = length (b .children)
+
+unfoldable pub childrenIn : List Bone → ℕ
+childrenIn bs = length (childRows bs)
+
+-- how many children, and the cursor after what was read, up to the same end; or the refusal
+abbrev pub bonedOf : {A : Type 0} → (A → ℕ) → ℕ → Out (Step A) → Boned
+bonedOf count end (got x) = boned.To (count (x .value)) (record { at = x .place; end = end })
+bonedOf count end (bad n p) = boned.Not n p
+
+-- at least so many bytes were passed, and four for each child; a refusal's place is before the end
+abbrev pub Passes : Cursor → ℕ → Boned → Type 0
+Passes c k (boned.To j n) = (c .at + k + 4 * j ≤ n .at) × (n .at ≤ n .end) × (n .end ≡ c .end)
+Passes c k (boned.Not e p) = p ≤ c .end
+
+-- r is the answer to what was read at c
+pub record Bones {A : Type 0} (count : A → ℕ) (o : Out (Step A)) (c : Cursor) (k : ℕ) (r : Boned) : Type 0 where
+  pub is : r ≡ bonedOf count (c .end) o
+  pub passes : Passes c k r
+
+-- a bone was read at c: its numbers stand at a place behind its name, and so many children behind them, up to `next`
+pub record LaidAt (s : List ℕ) (bones : ℕ) (o : Out (Step Bone)) (c : Cursor) (numbers count : ℕ) (next : Cursor) : Type 0 where
+  pub bone : Bone
+  pub is : o ≡ got (record { value = bone; place = next .at; left = left next s })
+  pub place : bone .place ≡ c .at
+  pub label : nameCells (bone .name) ≡ (c .at + 4) ∷ (numbers - (c .at + 4)) ∷ []
+  pub words : bone .numbers ≡ wordsOf 20 (left (record { at = numbers; end = c .end }) s)
+  pub parent : parentOf bone ≡ wordAt s (numbers + 56)
+  pub many : length (bone .children) ≡ count
+  pub kids : listOf bone ≡ wordsOf count (left (record { at = numbers + 80; end = c .end }) s)
+  pub named : All (λ (k : ℕ). k < bones) (listOf bone)
+  pub behind : c .at + 4 ≤ numbers
+  pub room : numbers + 80 + 4 * count ≤ next .at
+  pub inside : next .at ≤ next .end
+  pub same : next .end ≡ c .end
+
+-- no bone stands there
+pub record NoBone (o : Out (Step Bone)) : Type 0 where
+  pub none : (x : Step Bone) → o ≡ got x → ⊥
+
+abbrev pub Lays : List ℕ → ℕ → Out (Step Bone) → Cursor → Laid → Type 0
+Lays s bones o c (laid.At numbers count next) = LaidAt s bones o c numbers count next
+Lays s bones o c laid.Gone = NoBone o
+
+-- bones that were read
+pub record Whole (o : Out (Step (List Bone))) : Type 0 where
+  pub read : Step (List Bone)
+  pub is : o ≡ got read
+
+-- those bones
+unfoldable pub bonesIn : Out (Step (List Bone)) → List Bone
+bonesIn (got x) = x .value
+bonesIn (bad n p) = []

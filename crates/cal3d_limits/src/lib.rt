@@ -1,0 +1,67 @@
+// A skeleton file up to the row limits, in one walk and without any table: a refusal (1 to 10) with its place, or the header's numbers and how
+// many children there are. Whether its lists and parents tell the same trees is not asked here.
+ghost use mathlib.Core.Path.{_≡_};
+ghost use Rattle.cal3d_scene.specs.Answers.{limitedSkeleton};
+ghost use Rattle.cal3d_limits.specs.Verdicts.{verdictOf};
+use cal3d_bones::Boned;
+use wire::Cursor;
+
+// The header's numbers behind the version, and how many children there are.
+pub struct Summary {
+    pub bones: u32,
+    pub red: u32,
+    pub green: u32,
+    pub blue: u32,
+    pub children: usize,
+}
+
+pub enum Verdict {
+    Good(Summary),
+    Bad(u32, u32),
+}
+
+pub fn limited(file: &[u8]) -> Verdict
+    ensures { λ r. ⌜ r ≡ verdictOf (limitedSkeleton (now (file .entry))) ⌝ }
+{
+    let n = file.len();
+    if n < 12 {
+        return Verdict::Bad(1, 0);
+    }
+    if 16777216 < n {
+        return Verdict::Bad(1, 0);
+    }
+    if wire::number_at(file, 0) != 0x00465343 {
+        return Verdict::Bad(2, 0);
+    }
+    if n < 24 {
+        return Verdict::Bad(5, 4);
+    }
+    if wire::number_at(file, 4) != 1300 {
+        return Verdict::Bad(6, 4);
+    }
+    let bones = wire::number_at(file, 8);
+    if 2147483647 < bones {
+        return Verdict::Bad(6, 8);
+    }
+    match cal3d_bones::judge_bones(file, Cursor { at: 24, end: n }, wire::size(bones)) {
+        Boned::Not(e, p) => Verdict::Bad(e, p as u32),
+        Boned::To(children, c) => {
+            if c.at < n {
+                return Verdict::Bad(5, c.at as u32);
+            }
+            if 16383 < bones {
+                return Verdict::Bad(10, 1);
+            }
+            if 16383 < children {
+                return Verdict::Bad(10, 2);
+            }
+            Verdict::Good(Summary {
+                bones,
+                red: wire::number_at(file, 12),
+                green: wire::number_at(file, 16),
+                blue: wire::number_at(file, 20),
+                children,
+            })
+        }
+    }
+}

@@ -1,0 +1,4 @@
+pub mod Gathers
+pub mod Tells
+pub mod Places
+pub mod Answers

@@ -1,0 +1,3 @@
+pub mod JudgeLaws
+pub mod FillLaws
+pub mod ReadLaws
