@@ -52,10 +52,11 @@ pub lenient-vertices : map (λ a. says Lenient (vertices (vertex a))) alphas ≡
 unfolding computing alphas
 lenient-vertices = refl
 
--- a bad colour comes before a later vertex that is cut, and after that its own is; before the end of a MESH without TRIS
-pub strict-order : says Strict (vertices (vertex NONE ++ zeros 39)) ∷ says Strict (vertices (vertex 0 ++ (zeros 36 ++ 255 ∷ []))) ∷ says Lenient (vertices (vertex NONE ++ zeros 39))
+-- of two bad colours the first is named; one comes before a later vertex that is cut, after that its own is, and before the end of a MESH without TRIS
+pub strict-order : says Strict (vertices (ws (NONE ∷ NONE ∷ NONE ∷ NONE ∷ NONE ∷ NONE ∷ 0 ∷ NONE ∷ 0 ∷ NONE ∷ [])))
+    ∷ says Strict (vertices (vertex NONE ++ zeros 39)) ∷ says Strict (vertices (vertex 0 ++ (zeros 24 ++ (ws (NONE ∷ []) ++ zeros 9)))) ∷ says Lenient (vertices (vertex NONE ++ zeros 39))
     ∷ says Strict (file (aNode [] (part MESH (ws (NONE ∷ []) ++ part VRTS (ws (2 ∷ 0 ∷ 0 ∷ 0 ∷ 0 ∷ 0 ∷ 0 ∷ NONE ∷ 0 ∷ 0 ∷ [])))))) ∷ []
-    ≡ (6, 129) ∷ (5, 133) ∷ (5, 133) ∷ (6, 109) ∷ []
+    ≡ (6, 121) ∷ (6, 129) ∷ (5, 133) ∷ (5, 133) ∷ (6, 109) ∷ []
 unfolding computing
 strict-order = refl
 
