@@ -40,7 +40,7 @@ enum {
  *    7  an id that names nothing (-1 is allowed for brush and texture)   byte of the number
  *    8  a MESH without VRTS or TRIS                                      byte of the MESH header
  *    9  a node nested 17 deep                                            byte of the header
- *   10  a table would have more than 16,383 rows                         lowest such table, 1 to 10
+ *   10  a table would have more than 2,097,151 rows                      lowest such table, 1 to 10
  *   11  a lent table is too short for its rows                           lowest such table, 1 to 10
  */
 typedef struct {
@@ -104,7 +104,7 @@ typedef struct {
  *
  * The tables and their lengths in words are as for kelompuris_b3d_read; counts points to ten words, the rows of tables 1 to 10, and words
  * behind those rows are not looked at. Name places are byte places in names; these bytes may be the file that was read.
- * 12 is also the answer to a count of more rows than its table has or than 16,383, to a name that passes the end of names (a place past
+ * 12 is also the answer to a count of more rows than its table has or than 2,097,151, to a name that passes the end of names (a place past
  * the end too, with length 0) or has a zero byte, to a version or n_texs that no file with these rows has, to a texture slot from n_texs
  * on that is not 0xFFFFFFFF (one below n_texs may be), and to a file of more than 16,777,216 bytes.
  *
@@ -131,12 +131,12 @@ kelompuris_written kelompuris_b3d_write(
  */
 kelompuris_written kelompuris_b3d_clear(const uint8_t *file, size_t file_len, uint8_t *out, size_t out_len);
 
-/* Slips. A slip is twelve numbers, one behind the other: version (0 to 99), n_texs (0 to 8) and the rows of tables 1 to 10 (0 to 16,383
+/* Slips. A slip is twelve numbers, one behind the other: version (0 to 99), n_texs (0 to 8) and the rows of tables 1 to 10 (0 to 2,097,151
  * each). A number is in groups of seven bits, the highest first, the top bit set on all bytes but its last, in the shortest form: 128 is
- * 81 00. So a slip has 12 to 22 bytes, and twelve numbers have one slip. */
+ * 81 00. So a slip has 12 to 32 bytes, and twelve numbers have one slip. */
 enum {
     KELOMPURIS_SLIP_NUMBERS = 12,
-    KELOMPURIS_SLIP_BYTES = 22
+    KELOMPURIS_SLIP_BYTES = 32
 };
 
 /* Writes the slip of a file: answers 0 or 1 to 11; 1 to 10 as kelompuris_b3d_judge does in lenient mode.

@@ -222,7 +222,7 @@ int main(int count, char **names) {
     irr::IrrlichtDevice *device = irr::createDeviceEx(how);
     if (!device) return 1;
     printf("%-24s %9s | %9s %9s %10s %10s %9s %8s | %8s %9s %9s\n", "file", "bytes", "judge", "ours", "Assimp", "Irrlicht", "fill", "copy", "Assimp/", "Irrlicht/", "ours/fill");
-    for (uint32_t n : {16u, 64u, 256u, 1024u, 4096u, 16383u}) line(device, "mesh " + std::to_string(n), mesh_scene(n));
+    for (uint32_t n : {16u, 64u, 256u, 1024u, 4096u, 16384u, 163840u}) line(device, "mesh " + std::to_string(n), mesh_scene(n));
     for (uint32_t n : {16u, 128u, 1000u}) line(device, "nodes " + std::to_string(n) + ", 16 keys", node_scene(n, 16));
     line(device, "nodes 5000", node_scene(5000, 0));
     for (int i = 1; i < count; i++) {

@@ -35,9 +35,9 @@ static void print_read(const char *about, const uint8_t *slip, size_t len) {
 }
 
 int main(void) {
-    static const uint32_t numbers[KELOMPURIS_SLIP_NUMBERS] = {99, 8, 0, 128, 16383};
+    static const uint32_t numbers[KELOMPURIS_SLIP_NUMBERS] = {99, 8, 0, 128, 16384};
     static const uint32_t version_100[KELOMPURIS_SLIP_NUMBERS] = {100};
-    static const uint8_t three_groups[] = {1, 0, 0x81, 0x80};
+    static const uint8_t four_groups[] = {1, 0, 0x81, 0x80, 0x80};
     uint8_t slip[OUT];
     memset(out, MARK, sizeof out);
     print_written("hall", kelompuris_b3d_slip(hall, sizeof hall, out, OUT));
@@ -46,10 +46,10 @@ int main(void) {
     print_written("version 100", kelompuris_slip_write(version_100, out, OUT));
     (void)kelompuris_slip_write(numbers, slip, OUT);
     print_written("numbers", kelompuris_slip_write(numbers, out, OUT));
-    print_read("read", slip, 14);
-    print_read("cut slip", slip, 13);
-    print_read("spare byte", slip, 15);
-    print_read("three groups", three_groups, sizeof three_groups);
+    print_read("read", slip, 15);
+    print_read("cut slip", slip, 14);
+    print_read("spare byte", slip, 16);
+    print_read("four groups", four_groups, sizeof four_groups);
     print_read("no slip", NULL, 0);
     return 0;
 }

@@ -33,22 +33,22 @@ use Rattle.b3d_check.proofs.SameRows.{Agree, same-tree}
 -- ---- rooms
 
 module _ (c w l n : ℕ) (e : n ≡ c) where
-  pub fits-past : 16383 < n → false ≡ fitsIn c w l
-  unfolding fitsIn rowLimit
-  fits-past h = rw (← e, lt-leb n 16383 h)
+  pub fits-past : rowLimit < n → false ≡ fitsIn c w l
+  unfolding fitsIn
+  fits-past h = rw (← e, lt-leb n rowLimit h)
 
-  pub fits-in : n ≤ 16383 → leb (w * n) l ≡ fitsIn c w l
-  unfolding fitsIn rowLimit
-  fits-in h = rw (← e, le-leb n 16383 h)
+  pub fits-in : n ≤ rowLimit → leb (w * n) l ≡ fitsIn c w l
+  unfolding fitsIn
+  fits-in h = rw (← e, le-leb n rowLimit h)
 
-  pub fits-product : w ≤ 42 → n ≤ 16383 → Fits w64 (w * n)
-  fits-product h k = let p : w * n ≤ 42 * 16383 = mul-le-mul h k in record { fits = omega arith }
+  pub fits-product : w ≤ 42 → n ≤ rowLimit → Fits w64 (w * n)
+  fits-product h k = let p : w * n ≤ 42 * rowLimit = mul-le-mul h k in record { fits = omega arith }
 
 pub ruleset fits-laws = (fits-past, fits-in, fits-product)
 
-fits-says : (c w l : ℕ) → T (fitsIn c w l) → (c ≤ 16383) × (w * c ≤ l)
-unfolding fitsIn rowLimit
-fits-says c w l t = let u = and-yes (leb c 16383) _ t in (leb→le c 16383 (u .0), leb→le (w * c) l (u .1))
+fits-says : (c w l : ℕ) → T (fitsIn c w l) → (c ≤ rowLimit) × (w * c ≤ l)
+unfolding fitsIn
+fits-says c w l t = let u = and-yes (leb c rowLimit) _ t in (leb→le c rowLimit (u .0), leb→le (w * c) l (u .1))
 
 module _ (counts : List ℕ) (l₁ l₂ l₃ l₄ l₅ l₆ l₇ l₈ l₉ l₁₀ : ℕ) where
   pub rooms-are : (b₁ b₂ b₃ b₄ b₅ b₆ b₇ b₈ b₉ b₁₀ : Bool)

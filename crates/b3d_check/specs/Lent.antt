@@ -69,16 +69,16 @@ rooms counts l₁ l₂ l₃ l₄ l₅ l₆ l₇ l₈ l₉ l₁₀ =
 
 -- the same, as facts
 pub record Rooms (counts : List ℕ) (l₁ l₂ l₃ l₄ l₅ l₆ l₇ l₈ l₉ l₁₀ : ℕ) : Type 0 where
-  pub few₁ : getD counts 0 0 ≤ 16383
-  pub few₂ : getD counts 1 0 ≤ 16383
-  pub few₃ : getD counts 2 0 ≤ 16383
-  pub few₄ : getD counts 3 0 ≤ 16383
-  pub few₅ : getD counts 4 0 ≤ 16383
-  pub few₆ : getD counts 5 0 ≤ 16383
-  pub few₇ : getD counts 6 0 ≤ 16383
-  pub few₈ : getD counts 7 0 ≤ 16383
-  pub few₉ : getD counts 8 0 ≤ 16383
-  pub few₁₀ : getD counts 9 0 ≤ 16383
+  pub few₁ : getD counts 0 0 ≤ rowLimit
+  pub few₂ : getD counts 1 0 ≤ rowLimit
+  pub few₃ : getD counts 2 0 ≤ rowLimit
+  pub few₄ : getD counts 3 0 ≤ rowLimit
+  pub few₅ : getD counts 4 0 ≤ rowLimit
+  pub few₆ : getD counts 5 0 ≤ rowLimit
+  pub few₇ : getD counts 6 0 ≤ rowLimit
+  pub few₈ : getD counts 7 0 ≤ rowLimit
+  pub few₉ : getD counts 8 0 ≤ rowLimit
+  pub few₁₀ : getD counts 9 0 ≤ rowLimit
   pub room₁ : 9 * getD counts 0 0 ≤ l₁
   pub room₂ : 17 * getD counts 1 0 ≤ l₂
   pub room₃ : 20 * getD counts 2 0 ≤ l₃

@@ -16,7 +16,7 @@ fn fits_in(count: u32, width: usize, words: usize) -> bool
     ensures { λ r. ⌜ r ≡ fitsIn count width words ⌝ }
 {
     let n = wire::size(count);
-    if 16383 < n {
+    if b3d_scene::ROW_LIMIT < n {
         return false;
     }
     width * n <= words

@@ -5,6 +5,7 @@ use lib.ListN.{getD}
 use lib.Dec.{eqb}
 use Rattle.wire.specs.Test.{if}
 use Rattle.b3d_scene.specs.Rebuild.{cut, Rows}
+use Rattle.b3d_scene.specs.Rules.{rowLimit}
 use Rattle.b3d_scene.specs.declared.Counts.{Counts}
 use Rattle.b3d_sound.specs.CellCounts.{endOf}
 use Rattle.b3d_check_rows.specs.Rows.{rowsAt}
@@ -33,14 +34,14 @@ pub record Below (n a : Counts) : Type 0 where
 
 -- no count is above the limit of rows
 pub record Limited (a : Counts) : Type 0 where
-  pub nodes : a .nodes ≤ 16383
-  pub meshes : a .meshes ≤ 16383
-  pub vertices : a .vertices ≤ 16383
-  pub sets : a .sets ≤ 16383
-  pub triangles : a .triangles ≤ 16383
-  pub weights : a .weights ≤ 16383
-  pub lists : a .lists ≤ 16383
-  pub keys : a .keys ≤ 16383
+  pub nodes : a .nodes ≤ rowLimit
+  pub meshes : a .meshes ≤ rowLimit
+  pub vertices : a .vertices ≤ rowLimit
+  pub sets : a .sets ≤ rowLimit
+  pub triangles : a .triangles ≤ rowLimit
+  pub weights : a .weights ≤ rowLimit
+  pub lists : a .lists ≤ rowLimit
+  pub keys : a .keys ≤ rowLimit
 
 -- the rows of the tables 4 to 8 are there: these have so many words
 pub record KindRoom (a : Counts) (words₄ words₅ words₆ words₇ words₈ : ℕ) : Type 0 where

@@ -49,13 +49,13 @@ module _ (a : Above) (own : ℕ) where
 
 pub ruleset below-laws = (below-root, below-own, below-told)
 
-pub over-yes : (k rows later : ℕ) → 16383 < rows → k ≡ if (ltb rowLimit rows) k later
-unfolding rowLimit if
-over-yes k rows later h = simp (lt-ltb 16383 rows h)
+pub over-yes : (k rows later : ℕ) → rowLimit < rows → k ≡ if (ltb rowLimit rows) k later
+unfolding if
+over-yes k rows later h = simp (lt-ltb rowLimit rows h)
 
-pub over-no : (k rows later : ℕ) → rows ≤ 16383 → later ≡ if (ltb rowLimit rows) k later
-unfolding rowLimit if
-over-no k rows later h = simp (le-ltb 16383 rows h)
+pub over-no : (k rows later : ℕ) → rows ≤ rowLimit → later ≡ if (ltb rowLimit rows) k later
+unfolding if
+over-no k rows later h = simp (le-ltb rowLimit rows h)
 
 -- the ten tables one after the other, from the last to the first
 pub over-ten : (t : Tally) (r1 r2 r3 r4 r5 r6 r7 r8 r9 r10 : ℕ)

@@ -74,7 +74,7 @@ pub enum Verdict {
 fn over_or(k: usize, rows: usize, later: usize) -> usize
     ensures { λ r. ⌜ r ≡ if (ltb rowLimit rows) k later ⌝ }
 {
-    if 16383 < rows {
+    if b3d_scene::ROW_LIMIT < rows {
         return k;
     }
     later

@@ -66,7 +66,7 @@ slots-word n [] h = omega arith
 slots-word n (b ∷ l) h = h .0
 
 counts-words : (t : Scene) → All (λ k. length (rows k t) ≤ rowLimit) tables → All IsWord (counts t)
-unfolding counts tables nodeTables rowLimit
+unfolding counts tables nodeTables
 counts-words t h = all-map (λ k. length (rows k t) ≤ rowLimit) (λ k. IsWord (length (rows k t))) (λ k l. omega arith) tables h
 
 -- a refusal has a number from 1 to 10

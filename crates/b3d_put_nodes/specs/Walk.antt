@@ -9,6 +9,7 @@ use Rattle.emit.specs.Writing.{Room, Put}
 use Rattle.b3d_scene.specs.declared.Counts.{Counts}
 use Rattle.b3d_scene.specs.Encode.{nodeChunks, writeNode}
 use Rattle.b3d_scene.specs.Rebuild.{Rows, nodeNames}
+use Rattle.b3d_scene.specs.Rules.{rowLimit}
 use Rattle.b3d_scene.specs.Scene.{Data, Forest, leaf, node}
 use Rattle.b3d_scene.specs.Tables.{reached, withNode, withForest, forestRows, nodeTables}
 use Rattle.b3d_scene.specs.Tags.{writeChunks}
@@ -36,14 +37,14 @@ pub record Sized (a : Counts) (t₃ t₄ t₅ t₆ t₇ t₈ t₉ t₁₀ : List
   pub weights : length t₈ ≡ 2 * a .weights
   pub lists : length t₉ ≡ 4 * a .lists
   pub keys : length t₁₀ ≡ 11 * a .keys
-  pub few-nodes : a .nodes ≤ 16383
-  pub few-meshes : a .meshes ≤ 16383
-  pub few-vertices : a .vertices ≤ 16383
-  pub few-sets : a .sets ≤ 16383
-  pub few-triangles : a .triangles ≤ 16383
-  pub few-weights : a .weights ≤ 16383
-  pub few-lists : a .lists ≤ 16383
-  pub few-keys : a .keys ≤ 16383
+  pub few-nodes : a .nodes ≤ rowLimit
+  pub few-meshes : a .meshes ≤ rowLimit
+  pub few-vertices : a .vertices ≤ rowLimit
+  pub few-sets : a .sets ≤ rowLimit
+  pub few-triangles : a .triangles ≤ rowLimit
+  pub few-weights : a .weights ≤ rowLimit
+  pub few-lists : a .lists ≤ rowLimit
+  pub few-keys : a .keys ≤ rowLimit
 
 -- ---- nodes in tables
 

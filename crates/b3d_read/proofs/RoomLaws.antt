@@ -22,7 +22,6 @@ use Rattle.b3d_read.specs.Rooms.{numberOf, countsIn, firstShort}
 
 -- a count within the limit fits a cell
 pub cell-fits : {n : ℕ} → n ≤ rowLimit → Fits w32 n
-unfolding rowLimit
 cell-fits h = record { fits = omega arith }
 
 -- ---- one table

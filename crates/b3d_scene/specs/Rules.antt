@@ -163,5 +163,5 @@ abbrev pub fileSize : ℕ → Bool
 fileSize n = leb 12 n && leb n mostBytes
 
 -- the rows of a table
-unfoldable pub rowLimit : ℕ
-rowLimit = 16383
+abbrev pub rowLimit : ℕ
+rowLimit = 2097151

@@ -1,6 +1,9 @@
 // The meaning of B3D files: what a file says (parse), what its tables hold (table), which file is written (encode), which tables a
 // file can have (rebuild), and what reader, writer and clearer answer. Definitions in specs/, their laws in proofs/; no function.
 
+// The most rows of a table, as `Rules.rowLimit` has it: each function that cites this is held to that.
+pub const ROW_LIMIT: usize = 2097151;
+
 // The ten known tags.
 pub enum Tag {
     BB3D,

@@ -16,7 +16,7 @@ use Rattle.layout.proofs.Lists.{All}
 use Rattle.b3d_scene.specs.Rebuild.{cut}
 use Rattle.b3d_scene.proofs.Rows.RowLists.{cut-length}
 use Rattle.b3d_scene.specs.Rules.{vertexWords, keyWords, rowLimit}
-use Rattle.b3d_size.specs.LentSize.{sum, nodeBytes, meshBytes, listBytes, namedBytes, rowBytes, rowsBytes, Sizable, Wide, Adds, Sums}
+use Rattle.b3d_size.specs.LentSize.{rowMost, tableMost, sum, nodeBytes, meshBytes, listBytes, namedBytes, rowBytes, rowsBytes, Sizable, Wide, Adds, Sums}
 
 -- ---- a row
 
@@ -148,7 +148,7 @@ pub record Summed (k more w c : ℕ) (ws : List ℕ) (n i : ℕ) : Type 0 where
   pub there : w * c ≤ length ws
   pub sizable : All (Sizable k) (drop i (cut w c ws))
   pub so-far : n + sum (rowBytes k more) (drop i (cut w c ws)) ≡ rowsBytes k more (cut w c ws)
-  pub low : n ≤ i * 0x20000000000
+  pub low : n ≤ i * rowMost
 
 module _ (k more w c : ℕ) (ws : List ℕ) where
   pub sum-none : w * c ≤ length ws → c ≤ rowLimit → All (Sizable k) (cut w c ws) → Summed k more w c ws 0 0
@@ -164,11 +164,10 @@ module _ (k more w c : ℕ) (ws : List ℕ) where
         let q : sum (rowBytes k more) (drop i (cut w c ws)) ≡ 0 = ap (sum (rowBytes k more)) z in
         omega (arith, v .so-far)
 
-    sum-low : n ≤ 0x80000000000000
-    unfolding rowLimit
+    sum-low : n ≤ tableMost
     sum-low = omega (arith, v .low, v .some, v .few)
 
-    pub sum-done : c ≤ i → Sums 0x80000000000000 (rowsBytes k more (cut w c ws)) n
+    pub sum-done : c ≤ i → Sums tableMost (rowsBytes k more (cut w c ws)) n
     sum-done le = record { is = all-added le; low = omega (arith, sum-low) }
 
     module _ (h : i < c) where
@@ -198,7 +197,6 @@ module _ (k more w c : ℕ) (ws : List ℕ) where
         }
 
 pub product-index : (w i c : ℕ) → w ≤ 42 → i < c → c ≤ rowLimit → Fits w64 (w * i)
-unfolding rowLimit
 product-index w i c h l k = let p : w * i ≤ 42 * rowLimit = (let b : i ≤ rowLimit = omega arith in mul-le-mul h b) in record { fits = omega arith }
 
 pub ruleset sum-laws = (sum-none, sum-done, sum-inside, sum-sizable, sum-fits, sum-more, product-index)

@@ -14,7 +14,7 @@ use Rattle.layout.proofs.Lists.{All, all-pure}
 use Rattle.b3d_scene.specs.declared.Counts.{Counts}
 use Rattle.b3d_scene.specs.Rebuild.{cut}
 use Rattle.b3d_scene.specs.Rules.{rowLimit}
-use Rattle.b3d_size.specs.LentSize.{around, rowsBytes, listsBytes, nodesBytes, fileBytes, Sizable, Wide, Sums, NodesSizable}
+use Rattle.b3d_size.specs.LentSize.{tableMost, partMost, around, rowsBytes, listsBytes, nodesBytes, fileBytes, Sizable, Wide, Sums, NodesSizable}
 
 -- ---- a chunk around rows
 
@@ -75,26 +75,26 @@ pub more-low : (slots n : ℕ) → slots ≤ 8 → n ≡ slots → 29 + 4 * n �
 more-low slots n h e = omega arith
 
 module _ (slots c₁ c₂ : ℕ) (r₁ r₂ : List (List ℕ)) (n : ℕ) (en : n ≡ slots) (x texs y brus : ℕ)
-    (ex : x ≡ around c₁ 8) (et : Sums 0x80000000000000 (rowsBytes 1 29 r₁) texs) (ey : y ≡ around c₂ 12) (eb : Sums 0x80000000000000 (rowsBytes 2 (29 + 4 * n) r₂) brus) where
+    (ex : x ≡ around c₁ 8) (et : Sums tableMost (rowsBytes 1 29 r₁) texs) (ey : y ≡ around c₂ 12) (eb : Sums tableMost (rowsBytes 2 (29 + 4 * n) r₂) brus) where
   pub lists-fit : Fits w64 (x + texs + (y + brus))
   lists-fit = record { fits = omega (arith, around-low c₁ 8, around-low c₂ 12, et .low, eb .low) }
 
-  pub lists-sum : Sums 0x400000000000000 (listsBytes slots c₁ c₂ r₁ r₂) (x + texs + (y + brus))
+  pub lists-sum : Sums partMost (listsBytes slots c₁ c₂ r₁ r₂) (x + texs + (y + brus))
   unfolding listsBytes
   lists-sum = record { is = rw (ex, et .is, ey, eb .is, en); low = omega (arith, around-low c₁ 8, around-low c₂ 12, et .low, eb .low) }
 
-pub first-fits : (c₁ x texs : ℕ) (w : ℕ) → x ≡ around c₁ 8 → Sums 0x80000000000000 w texs → Fits w64 (x + texs)
+pub first-fits : (c₁ x texs : ℕ) (w : ℕ) → x ≡ around c₁ 8 → Sums tableMost w texs → Fits w64 (x + texs)
 first-fits c₁ x texs w e s = record { fits = omega (arith, around-low c₁ 8, s .low) }
 
-pub second-fits : (c₂ y brus : ℕ) (w : ℕ) → y ≡ around c₂ 12 → Sums 0x80000000000000 w brus → Fits w64 (y + brus)
+pub second-fits : (c₂ y brus : ℕ) (w : ℕ) → y ≡ around c₂ 12 → Sums tableMost w brus → Fits w64 (y + brus)
 second-fits c₂ y brus w e s = record { fits = omega (arith, around-low c₂ 12, s .low) }
 
 pub ruleset lists-laws = (sizable-1, sizable-2, wide-1, wide-2, more-low, first-fits, second-fits, lists-fit, lists-sum)
 
 -- ---- NODE, MESH and KEYS
 
-pub nodes-sum : (r₃ r₄ r₉ : List (List ℕ)) (a b c : ℕ) → Sums 0x80000000000000 (rowsBytes 3 0 r₃) a → Sums 0x80000000000000 (rowsBytes 4 0 r₄) b → Sums 0x80000000000000 (rowsBytes 9 0 r₉) c
-    → Sums 0x400000000000000 (nodesBytes r₃ r₄ r₉) (a + b + c)
+pub nodes-sum : (r₃ r₄ r₉ : List (List ℕ)) (a b c : ℕ) → Sums tableMost (rowsBytes 3 0 r₃) a → Sums tableMost (rowsBytes 4 0 r₄) b → Sums tableMost (rowsBytes 9 0 r₉) c
+    → Sums partMost (nodesBytes r₃ r₄ r₉) (a + b + c)
 unfolding nodesBytes
 nodes-sum r₃ r₄ r₉ a b c x y z = record { is = rw (x .is, y .is, z .is); low = omega (arith, x .low, y .low, z .low) }
 
@@ -104,32 +104,26 @@ pub ruleset nodes-laws = (sizable-3, wide-3, wide-4, wide-9, nodes-sum)
 
 module _ (n : Counts) (t₃ t₄ t₉ : List ℕ) (h : NodesSizable n t₃ t₄ t₉) where
   pub sets-fit : Fits w64 (12 * n .sets)
-  unfolding rowLimit
   sets-fit = record { fits = omega (arith, h .sets) }
 
   pub triangles-fit : Fits w64 (12 * n .triangles)
-  unfolding rowLimit
   triangles-fit = record { fits = omega (arith, h .triangles) }
 
   pub weights-fit : Fits w64 (8 * n .weights)
-  unfolding rowLimit
   weights-fit = record { fits = omega (arith, h .weights) }
 
-  module _ (a b v w : ℕ) (ea : Sums 0x400000000000000 v a) (eb : Sums 0x400000000000000 w b) where
+  module _ (a b v w : ℕ) (ea : Sums partMost v a) (eb : Sums partMost w b) where
     pub sum-sets : Fits w64 (12 + a + b + 12 * n .sets)
-    unfolding rowLimit
     sum-sets = record { fits = omega (arith, ea .low, eb .low, h .sets) }
 
     pub sum-triangles : Fits w64 (12 + a + b + 12 * n .sets + 12 * n .triangles)
-    unfolding rowLimit
     sum-triangles = record { fits = omega (arith, ea .low, eb .low, h .sets, h .triangles) }
 
     pub sum-weights : Fits w64 (12 + a + b + 12 * n .sets + 12 * n .triangles + 8 * n .weights)
-    unfolding rowLimit
     sum-weights = record { fits = omega (arith, ea .low, eb .low, h .sets, h .triangles, h .weights) }
 
 pub file-sum : (slots c₁ c₂ : ℕ) (n : Counts) (t₁ t₂ t₃ t₄ t₉ : List ℕ) (a b : ℕ)
-    → Sums 0x400000000000000 (listsBytes slots c₁ c₂ (cut 9 c₁ t₁) (cut 17 c₂ t₂)) a → Sums 0x400000000000000 (nodesBytes (cut 20 (n .nodes) t₃) (cut 9 (n .meshes) t₄) (cut 4 (n .lists) t₉)) b
+    → Sums partMost (listsBytes slots c₁ c₂ (cut 9 c₁ t₁) (cut 17 c₂ t₂)) a → Sums partMost (nodesBytes (cut 20 (n .nodes) t₃) (cut 9 (n .meshes) t₄) (cut 4 (n .lists) t₉)) b
     → 12 + a + b + 12 * n .sets + 12 * n .triangles + 8 * n .weights ≡ fileBytes slots c₁ c₂ n t₁ t₂ t₃ t₄ t₉
 unfolding fileBytes
 file-sum slots c₁ c₂ n t₁ t₂ t₃ t₄ t₉ a b x y = rw (x .is, y .is)

@@ -64,10 +64,21 @@ pub record Sizable (k : ℕ) (r : List ℕ) : Type 0 where
   pub size : k ≡ 4 → getD r 4 0 ≤ 4
   pub keys : k ≡ 9 → getD r 1 0 ≤ 7
 
--- a row adds w bytes, far fewer than a number of eight bytes can say
+-- more bytes than any row adds: a mesh counts fewer than 2^32 vertices, of 168 bytes at most
+abbrev pub rowMost : ℕ
+rowMost = 0x10000000000
+
+-- no table adds more, and neither TEXS with BRUS nor the nodes, which add up three tables at most; two such sums are below 2^64
+abbrev pub tableMost : ℕ
+tableMost = rowLimit * rowMost
+
+abbrev pub partMost : ℕ
+partMost = 3 * tableMost
+
+-- a row adds w bytes
 pub record Adds (w r : ℕ) : Type 0 where
   pub is : r ≡ w
-  pub low : r ≤ 0x20000000000
+  pub low : r ≤ rowMost
 
 -- how wide the rows of tables 3, 4 and 9 are
 pub record Wide (k w : ℕ) : Type 0 where

@@ -7,7 +7,7 @@ ghost use Rattle.wire.specs.Test.{if};
 ghost use Rattle.layout.specs.Lists.{All};
 ghost use Rattle.b3d_scene.specs.Rebuild.{cut};
 ghost use Rattle.b3d_scene.specs.Rules.{rowLimit, vertexWords, keyWords};
-ghost use Rattle.b3d_size.specs.LentSize.{around, listsBytes, nodesBytes, fileBytes, NodesSizable, Sums, nodeBytes, meshBytes, listBytes, rowBytes, rowsBytes, Sizable, Wide, Adds};
+ghost use Rattle.b3d_size.specs.LentSize.{tableMost, partMost, around, listsBytes, nodesBytes, fileBytes, NodesSizable, Sums, nodeBytes, meshBytes, listBytes, rowBytes, rowsBytes, Sizable, Wide, Adds};
 use b3d_scene::Counts;
 
 // So many bytes, if a cell has this value.
@@ -99,7 +99,7 @@ fn row_bytes(table: &[u32], at: usize, which: u32, width: usize, more: usize) ->
 fn rows_bytes(table: &[u32], which: u32, width: usize, count: usize, more: usize) -> usize
     requires { ⌜ (width * count ≤ length (now table)) × (count ≤ rowLimit) × (2 ≤ width) × (width ≤ 42) × (more ≤ 64) × Wide which width ⌝ }
     requires { ⌜ All (Sizable which) (cut width count (now table)) ⌝ }
-    ensures { λ r. ⌜ Sums 0x80000000000000 (rowsBytes which more (cut width count (now (table .entry)))) r ⌝ }
+    ensures { λ r. ⌜ Sums tableMost (rowsBytes which more (cut width count (now (table .entry)))) r ⌝ }
 {
     let mut n: usize = 0;
     let mut i: usize = 0;
@@ -123,7 +123,7 @@ fn chunk_around(rows: usize, bytes: usize) -> usize
 // TEXS and BRUS.
 fn lists_bytes(slots: u32, textures: usize, brushes: usize, t1: &[u32], t2: &[u32]) -> usize
     requires { ⌜ (slots ≤ 8) × (9 * textures ≤ length (now t1)) × (17 * brushes ≤ length (now t2)) × (textures ≤ rowLimit) × (brushes ≤ rowLimit) ⌝ }
-    ensures { λ r. ⌜ Sums 0x400000000000000 (listsBytes slots textures brushes (cut 9 textures (now (t1 .entry))) (cut 17 brushes (now (t2 .entry)))) r ⌝ }
+    ensures { λ r. ⌜ Sums partMost (listsBytes slots textures brushes (cut 9 textures (now (t1 .entry))) (cut 17 brushes (now (t2 .entry)))) r ⌝ }
 {
     let texs = rows_bytes(t1, 1, 9, textures, 29);
     let brus = rows_bytes(t2, 2, 17, brushes, 29 + 4 * wire::size(slots));
@@ -133,7 +133,7 @@ fn lists_bytes(slots: u32, textures: usize, brushes: usize, t1: &[u32], t2: &[u3
 // NODE, MESH and KEYS without what their other rows add.
 fn nodes_bytes(all: Counts, t3: &[u32], t4: &[u32], t9: &[u32]) -> usize
     requires { ⌜ NodesSizable all (now t3) (now t4) (now t9) ⌝ }
-    ensures { λ r. ⌜ Sums 0x400000000000000 (nodesBytes (cut 20 (all .nodes) (now (t3 .entry))) (cut 9 (all .meshes) (now (t4 .entry))) (cut 4 (all .lists) (now (t9 .entry)))) r ⌝ }
+    ensures { λ r. ⌜ Sums partMost (nodesBytes (cut 20 (all .nodes) (now (t3 .entry))) (cut 9 (all .meshes) (now (t4 .entry))) (cut 4 (all .lists) (now (t9 .entry)))) r ⌝ }
 {
     let nodes = rows_bytes(t3, 3, 20, all.nodes, 0);
     let meshes = rows_bytes(t4, 4, 9, all.meshes, 0);

@@ -7,7 +7,7 @@ use Rattle.groups.specs.Groups.{frontIn, front, groups, writeNumbers}
 use Rattle.b3d_scene.specs.declared.Written.{Written}
 use Rattle.b3d_scene.proofs.Computing.{computing}
 use Rattle.b3d_scene.proofs.Cases.{P, H, T}
-use Rattle.slip.specs.Slips.{limits, firstOver, slipFor, writeSlip}
+use Rattle.slip.specs.Slips.{firstOver, limitsWithin, slipWithin, writeWithin}
 use Rattle.slip.proofs.Cases.{nines, zeros, wrote, refused}
 use Rattle.b3d_slip.specs.FileSlips.{fileSlip, fileSlipAnswer, fileSlipOutput}
 
@@ -32,5 +32,5 @@ cases =
 
 pub cases-hold : map {B = Written × List ℕ} (λ c. (fileSlipAnswer (c .file) (nines (c .room)), fileSlipOutput (c .file) (nines (c .room)))) cases
     ≡ map {B = Written × List ℕ} (λ c. (c .answer, c .leaves)) cases
-unfolding computing frontIn front groups writeNumbers limits firstOver slipFor writeSlip fileSlip fileSlipAnswer fileSlipOutput
+unfolding computing frontIn front groups writeNumbers limitsWithin firstOver slipWithin writeWithin fileSlip fileSlipAnswer fileSlipOutput
 cases-hold = refl

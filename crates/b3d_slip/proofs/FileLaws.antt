@@ -19,7 +19,7 @@ use Rattle.b3d_scene.proofs.AnswerLaws.{Small, judge-got, judge-lenient, read-g
 use Rattle.b3d_scene.proofs.Files.FileLaws.{parse-fine}
 use Rattle.b3d_scene.specs.Fitting.{FitSlots}
 use Rattle.b3d_scene.proofs.Refusals.{read-number}
-use Rattle.slip.specs.Slips.{limits, slipFor, writeSlip, readSlip}
+use Rattle.slip.specs.Slips.{limits, slipFor, readSlip, limitsWithin}
 use Rattle.slip.specs.OneSlip.{OneSlip}
 use Rattle.slip.proofs.SlipLaws.{written, one-slip}
 use Rattle.b3d_slip.specs.FileSlips.{sceneNumbers, fileSlip}
@@ -41,21 +41,21 @@ twelve t = refl
 
 module _ (s : List ℕ) (all : AllBytes s) where
   in-range : (t : Scene) → judge Lenient s ≡ got t → AtMost limits (sceneNumbers t)
-  unfolding limits
+  unfolding limitsWithin
   in-range t e =
       let j = judge-got Lenient s t e in
       let f = parse-fine s t all (j .0) .0 in
       (leb→le (t .version) 99 (f .version .1), (slots-low (t .slots) (t .brushes) (f .slots), counts-low t (j .1)))
 
   the-slip : (t : Scene) (e : judge Lenient s ≡ got t) → slipFor (sceneNumbers t) ≡ got (writeNumbers (sceneNumbers t) [])
-  the-slip t e = written (sceneNumbers t) (in-range t e)
+  the-slip t e = written rowLimit (sceneNumbers t) (in-range t e)
 
   numbers : (t : Scene) (e : judge Lenient s ≡ got t) → readSlip (writeNumbers (sceneNumbers t) []) ≡ got (sceneNumbers t)
-  numbers t e = one-slip .reads-back (sceneNumbers t) (writeNumbers (sceneNumbers t) []) (twelve t) (the-slip t e)
+  numbers t e = one-slip rowLimit .reads-back (sceneNumbers t) (writeNumbers (sceneNumbers t) []) (twelve t) (the-slip t e)
 
   then : (t : Scene) (e : judge Lenient s ≡ got t) (room : ℕ) → fileSlip s room ≡ roomFor room (writeNumbers (sceneNumbers t) [])
   unfolding fileSlip
-  then t e room = rw e (one-slip .then (sceneNumbers t) (writeNumbers (sceneNumbers t) []) room (the-slip t e))
+  then t e room = rw e (one-slip rowLimit .then (sceneNumbers t) (writeNumbers (sceneNumbers t) []) room (the-slip t e))
 
   room-got : (room : ℕ) (b c : List ℕ) → roomFor room b ≡ got c → c ≡ b
   unfolding roomFor

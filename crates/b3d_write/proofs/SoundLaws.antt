@@ -45,7 +45,7 @@ module _ (mode : Mode) (v slots : ℕ) (counts t₁ t₂ t₃ t₄ t₅ t₆ t�
     agree = rebuild-fine mode ns L t e .1
 
     pub sound-rooms : Rooms counts (length t₁) (length t₂) (length t₃) (length t₄) (length t₅) (length t₆) (length t₇) (length t₈) (length t₉) (length t₁₀)
-    unfolding lentOf tables nodeTables width if rowLimit
+    unfolding lentOf tables nodeTables width if
     sound-rooms =
         let h = agree .held in
         let h₅ = h .1 .1 .1 .1 in
@@ -90,7 +90,7 @@ module _ (mode : Mode) (v slots : ℕ) (counts t₁ t₂ t₃ t₄ t₅ t₆ t�
     sizable-9 = subst (All (Sizable 9)) (sym (sound-rows .1 .1 .1 .1 .1 .1 .1 .1 .0)) (nodes-sizable levels (length (t .brushes)) none (t .nodes) NONE start (fit .nodes) .1)
 
     pub sound-sizable : NodesSizable (partCounts counts) t₃ t₄ t₉
-    unfolding partCounts rowLimit
+    unfolding partCounts
     sound-sizable =
         let r = sound-rooms in
         record {
@@ -134,11 +134,9 @@ module _ (mode : Mode) (v slots : ℕ) (counts t₁ t₂ t₃ t₄ t₅ t₆ t�
         needed-room₂ = rw e₂ (sound-rooms (together ns L) scene-is .room₂)
 
         pub needed-few₁ : c₁ ≤ rowLimit
-        unfolding rowLimit
         needed-few₁ = rw e₁ (sound-rooms (together ns L) scene-is .few₁)
 
         pub needed-few₂ : c₂ ≤ rowLimit
-        unfolding rowLimit
         needed-few₂ = rw e₂ (sound-rooms (together ns L) scene-is .few₂)
 
         pub needed-sizable : NodesSizable all t₃ t₄ t₉

@@ -9,6 +9,7 @@ use Rattle.b3d_scene.specs.declared.Mode.{Mode}
 use Rattle.b3d_scene.specs.declared.Written.{Written}
 use Rattle.b3d_scene.specs.Answers.{writeAnswer, writeOutput}
 use Rattle.b3d_scene.specs.Rebuild.{Lent}
+use Rattle.b3d_scene.specs.Rules.{rowLimit}
 
 -- the answer for lent tables with names in ns, and the output afterwards
 pub record Writes (mode : Mode) (T : Lent) (ns out put : List ℕ) (r : Written) : Type 0 where
@@ -27,11 +28,11 @@ pub record HighRooms (a : Counts) (l₆ l₇ l₈ l₉ l₁₀ : ℕ) : Type 0 w
   pub weights : 2 * a .weights ≤ l₈
   pub lists : 4 * a .lists ≤ l₉
   pub keys : 11 * a .keys ≤ l₁₀
-  pub few-sets : a .sets ≤ 16383
-  pub few-triangles : a .triangles ≤ 16383
-  pub few-weights : a .weights ≤ 16383
-  pub few-lists : a .lists ≤ 16383
-  pub few-keys : a .keys ≤ 16383
+  pub few-sets : a .sets ≤ rowLimit
+  pub few-triangles : a .triangles ≤ rowLimit
+  pub few-weights : a .weights ≤ rowLimit
+  pub few-lists : a .lists ≤ rowLimit
+  pub few-keys : a .keys ≤ rowLimit
 
 -- and those of the tables 1 to 5
 pub record LowRooms (c₁ c₂ : ℕ) (a : Counts) (l₁ l₂ l₃ l₄ l₅ : ℕ) : Type 0 where
@@ -40,8 +41,8 @@ pub record LowRooms (c₁ c₂ : ℕ) (a : Counts) (l₁ l₂ l₃ l₄ l₅ : �
   pub nodes : 20 * a .nodes ≤ l₃
   pub meshes : 9 * a .meshes ≤ l₄
   pub vertices : 42 * a .vertices ≤ l₅
-  pub few-textures : c₁ ≤ 16383
-  pub few-brushes : c₂ ≤ 16383
-  pub few-nodes : a .nodes ≤ 16383
-  pub few-meshes : a .meshes ≤ 16383
-  pub few-vertices : a .vertices ≤ 16383
+  pub few-textures : c₁ ≤ rowLimit
+  pub few-brushes : c₂ ≤ rowLimit
+  pub few-nodes : a .nodes ≤ rowLimit
+  pub few-meshes : a .meshes ≤ rowLimit
+  pub few-vertices : a .vertices ≤ rowLimit

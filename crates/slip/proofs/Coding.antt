@@ -14,7 +14,7 @@ use Rattle.groups.specs.Puts.{PutAt}
 use Rattle.groups.proofs.Fronts.{groups-append, groups-length}
 use Rattle.b3d_scene.specs.Rules.{rowLimit}
 use Rattle.b3d_scene.proofs.Rows.FillLaws.{sets-append}
-use Rattle.slip.specs.Slips.{limits, limitAt, firstOver}
+use Rattle.slip.specs.Slips.{limits, limitAt, firstOver, limitsWithin}
 
 -- ---- `most`
 
@@ -24,22 +24,22 @@ all-same (suc k) zero a = refl
 all-same (suc k) (suc i) a = all-same k i a
 
 pub limit-version : (i : ℕ) → i ≡ 0 → 99 ≡ limitAt i
-unfolding limits
+unfolding limitsWithin
 limit-version i e = rw e
 
 pub limit-slots : (i : ℕ) → i ≡ 1 → 8 ≡ limitAt i
-unfolding limits
+unfolding limitsWithin
 limit-slots i e = rw e
 
 pub limit-count : (i : ℕ) → (i ≡ 0 → ⊥) → (i ≡ 1 → ⊥) → rowLimit ≡ limitAt i
-unfolding limits
+unfolding limitsWithin
 limit-count zero d e = absurd (d refl)
 limit-count (suc zero) d e = absurd (e refl)
 limit-count (suc (suc i)) d e = sym (all-same 10 i rowLimit)
 
 -- a number of four bytes
 pub limit-word : (i : ℕ) → limitAt i < 4294967296
-unfolding limits rowLimit
+unfolding limitsWithin
 limit-word zero = omega arith
 limit-word (suc zero) = omega arith
 limit-word (suc (suc i)) = omega (arith, all-same 10 i rowLimit)
@@ -49,11 +49,11 @@ pub ruleset limit-laws = (limit-version, limit-slots, limit-count)
 -- ---- the numbers from i on
 
 pub limits-next : (i : ℕ) → i < 12 → drop i limits ≡ limitAt i ∷ drop (i + 1) limits
-unfolding limits
+unfolding limitsWithin
 limits-next i h = rw add-one (drop-cons limits i rowLimit h)
 
 pub limits-end : (i : ℕ) → 12 ≤ i → drop i limits ≡ []
-unfolding limits
+unfolding limitsWithin
 limits-end i h = drop-of-length-le limits h
 
 numbers-next : (ns : List ℕ) (i : ℕ) → length ns ≡ 12 → i < 12 → drop i ns ≡ getD ns i 0 ∷ drop (i + 1) ns

@@ -15,7 +15,7 @@ use Rattle.groups.specs.declared.Grouped.{Grouped}
 use Rattle.groups.specs.declared.Grouped.the-variants as number
 use Rattle.groups.proofs.Coding.{word-groups}
 use Rattle.groups.proofs.Places.{Moved, Placed, number-placed}
-use Rattle.slip.specs.Slips.{limits, limitAt, readSlip, slipOf, readSlipAnswer}
+use Rattle.slip.specs.Slips.{limits, limitAt, readSlip, slipOf, readSlipAnswer, readWithin}
 use Rattle.slip.specs.declared.Slip.{Slip}
 use Rattle.slip.proofs.Coding.{limit-word, limits-next, limits-end}
 
@@ -75,11 +75,11 @@ module _ (s : List ℕ) where
   answers o e r h = h ∙ ap slipOf (sym e)
 
   read-bad : (n p : ℕ) → readNumbers limits 0 s ≡ bad n p → readSlip s ≡ bad n p
-  unfolding readSlip
+  unfolding readWithin
   read-bad n p e = rw e
 
   read-all : (x : Step (List ℕ)) → readNumbers limits 0 s ≡ got x → readSlip s ≡ (check (leb (length (x .left)) 0) 13 (x .place) >>= λ _. got (x .value))
-  unfolding readSlip
+  unfolding readWithin
   read-all x e = rw e
 
   module _ (numbers : List ℕ) (at i : ℕ) (g : SlipLeft s numbers at i) where

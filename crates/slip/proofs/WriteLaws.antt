@@ -10,7 +10,7 @@ use Rattle.layout.specs.Out.{Out, got, bad, check, _>>=_}
 use Rattle.groups.specs.Groups.{writeNumbers}
 use Rattle.b3d_scene.specs.Answers.{roomFor, written, outputAfter}
 use Rattle.b3d_scene.specs.declared.Written.{Written}
-use Rattle.slip.specs.Slips.{limits, firstOver, slipFor, writeSlip, writeSlipAnswer, writeSlipOutput}
+use Rattle.slip.specs.Slips.{limits, firstOver, writeSlip, writeSlipAnswer, writeSlipOutput, slipWithin, writeWithin}
 
 of-size : (m n : ℕ) → m ≡ n → _≡_ {A = Written} (record { number = 0; place = 0; size = m }) (record { number = 0; place = 0; size = n })
 of-size m n e = rw e
@@ -28,7 +28,7 @@ module _ (ns out : List ℕ) where
     -- a number is out of its range
     module _ (h : k < 12) where
       bad-number : writeSlip ns (length out) ≡ bad 13 k
-      unfolding writeSlip slipFor check
+      unfolding writeWithin slipWithin check
       bad-number = rw (← e, lt-leb 12 k h)
 
       pub slip-over : record { number = 13; place = k; size = 0 } ≡ writeSlipAnswer ns out
@@ -42,7 +42,7 @@ module _ (ns out : List ℕ) where
     -- none is
     module _ (h : 12 ≤ k) (size : ℕ) (l : size ≡ length (writeNumbers ns [])) where
       room-for : writeSlip ns (length out) ≡ roomFor (length out) (writeNumbers ns [])
-      unfolding writeSlip slipFor check
+      unfolding writeWithin slipWithin check
       room-for = rw (← e, le-leb 12 k h)
 
       -- the output is too short

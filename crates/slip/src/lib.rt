@@ -28,7 +28,7 @@ fn most(i: usize) -> u32
     if i == 1 {
         return 8;
     }
-    16383
+    b3d_scene::ROW_LIMIT as u32
 }
 
 // The position of the first number that is more than it may be; 12 where none is.

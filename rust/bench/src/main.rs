@@ -47,7 +47,7 @@ fn main() {
         "read/copy"
     );
     for table in 1..=10 {
-        for rows in [64, 1024, 16383] {
+        for rows in [64, 1024, 16_384, 131_072] {
             line(table, rows);
         }
     }
@@ -63,7 +63,7 @@ fn colours() {
         "{:<18} {:>6} {:>9} | {:>9} {:>9} | {:>14}",
         "with colours", "rows", "bytes", "strict", "lenient", "strict/lenient"
     );
-    for rows in [1024, 16383] {
+    for rows in [1024, 131_072] {
         let file = scenes::rows::file_with_colours(rows);
         let (mut tables, answer) = tables_for(&file);
         let judge = |mode| median(|| kelompuris::judge(mode, black_box(&file)).number);

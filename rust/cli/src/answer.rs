@@ -75,7 +75,7 @@ fn refusal(number: u32, place: u32) -> String {
         (7, _) => "an id that names nothing",
         (8, _) => "a MESH that ends without VRTS or TRIS",
         (9, _) => "a node nested 17 deep",
-        (10, _) => &table("more than 16,383 rows"),
+        (10, _) => &table("more than 2,097,151 rows"),
         (SHORT, _) => &table("too few words lent"),
         (12, _) => "tables that no accepted file has",
         (13, _) => "a slip with a number that is wrong, or that is cut or too long",
@@ -95,7 +95,7 @@ mod tests {
     fn places_are_tables_for_ten_and_eleven() {
         assert_eq!(
             refusal(10, 3),
-            "10 at 3: more than 16,383 rows in table 3, nodes"
+            "10 at 3: more than 2,097,151 rows in table 3, nodes"
         );
         assert_eq!(
             refusal(11, 10),

@@ -39,7 +39,7 @@ tables  the ten tables of a file and scene.tsv (version, n_texs) as texts in
         DIR, which must be new or empty
 build   the shortest file with the tables in such a DIR
 clear   a copy without names and without chunks of other tags
-slip    the slip of a file: version, n_texs and the ten row counts in 12 to 22
+slip    the slip of a file: version, n_texs and the ten row counts in 12 to 32
         bytes; with --show, number and place of a slip, and if it is accepted
         its numbers, as `list` prints them
 

@@ -7,7 +7,7 @@ use scenes::change::changed;
 use scenes::colour::{outside, outside_and_cut};
 use scenes::damage::{aimed, node_of};
 use scenes::nesting::orders;
-use scenes::rows::keys;
+use scenes::rows::{keys, MOST_ROWS};
 use scenes::worked::{self, with};
 use scenes::{scene, Profile, Rng};
 use std::process::ExitCode;
@@ -116,13 +116,13 @@ fn colours(compared: &mut Compared, rng: &mut Rng) -> Result<(), Disagreement> {
 /// Generated files with one row too many, and the same with a fault behind
 /// those rows: 10 comes after all faults of the file.
 fn too_many_rows(compared: &mut Compared, rng: &mut Rng) -> Result<(), Disagreement> {
-    for _ in 0..100 {
+    for _ in 0..3 {
         let mut tree = scene(rng, Profile::SMALL).tree;
         let Some(root) = tree.chunks.iter_mut().find(|chunk| &chunk.tag == b"NODE") else {
             continue;
         };
-        root.chunks.push(node_of(vec![keys(16_384)]));
-        compared.known("16,384 keys", &tree.bytes(), (10, 10), rng)?;
+        root.chunks.push(node_of(vec![keys(MOST_ROWS + 1)]));
+        compared.known("2,097,152 keys", &tree.bytes(), (10, 10), rng)?;
         let end = tree.size() as u32;
         tree.tail = rng.bytes(5);
         compared.known("spare bytes behind", &tree.bytes(), (3, end), rng)?;

@@ -13,7 +13,8 @@ use std::process::ExitCode;
 
 /// The highest value of each number.
 const HIGHEST: [u32; 12] = [
-    99, 8, 16_383, 16_383, 16_383, 16_383, 16_383, 16_383, 16_383, 16_383, 16_383, 16_383,
+    99, 8, 2_097_151, 2_097_151, 2_097_151, 2_097_151, 2_097_151, 2_097_151, 2_097_151, 2_097_151,
+    2_097_151, 2_097_151,
 ];
 
 /// Bytes at which something changes.
@@ -24,7 +25,19 @@ const BYTES: [u8; 17] = [
 
 /// A number up to a highest value, often near an edge.
 fn number(highest: u32, rng: &mut Rng) -> u32 {
-    let edges = [0, 1, 2, 127, 128, 129, 300, highest - 1, highest];
+    let edges = [
+        0,
+        1,
+        2,
+        127,
+        128,
+        129,
+        300,
+        16_383,
+        16_384,
+        highest - 1,
+        highest,
+    ];
     match rng.percent(60) {
         true => rng.pick(&edges).min(highest),
         false => rng.below(highest as usize + 1) as u32,
@@ -39,7 +52,12 @@ fn numbers(rng: &mut Rng) -> [u32; 12] {
 fn bytes(number: u32) -> Vec<u8> {
     match number {
         0..=0x7F => vec![number as u8],
-        _ => vec![0x80 | (number >> 7) as u8, number as u8 & 0x7F],
+        0x80..=0x3FFF => vec![0x80 | (number >> 7) as u8, number as u8 & 0x7F],
+        _ => vec![
+            0x80 | (number >> 14) as u8,
+            0x80 | (number >> 7) as u8,
+            number as u8 & 0x7F,
+        ],
     }
 }
 
@@ -109,8 +127,8 @@ fn there_and_back(
     if compared.slip(&slip)?.numbers != *numbers {
         return disagree(format!("not {numbers:?}"), &slip);
     }
-    if !(12..=22).contains(&slip.len()) {
-        return disagree("not 12 to 22 bytes", &slip);
+    if !(12..=32).contains(&slip.len()) {
+        return disagree("not 12 to 32 bytes", &slip);
     }
     for cut in 0..slip.len() {
         let answer = compared.slip(&slip[..cut])?;

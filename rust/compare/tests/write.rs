@@ -4,6 +4,8 @@
 use compare::{disagree, run, sheet_of, Call, Compared, Disagreement, Group};
 use reference::Mode;
 use scenes::colour::outside;
+use scenes::rows::MOST_ROWS;
+use scenes::sheet::ROW_WORDS;
 use scenes::words::{each_cell, each_header_word, each_name_byte, each_slice_length, reshaped};
 use scenes::worked;
 use scenes::{scene, Profile, Rng, Sheet};
@@ -148,6 +150,16 @@ fn nodes(rows: usize, name_length: usize) -> Sheet {
     sheet
 }
 
+/// Tables of a root with one list of so many keys without parts.
+fn keys(rows: usize) -> Sheet {
+    let mut sheet = nodes(1, 0);
+    sheet.tables[8] = vec![0, 0, 0, rows as u32];
+    let key = [0; ROW_WORDS[9]];
+    sheet.tables[9] = key.repeat(rows);
+    sheet.count_rows();
+    sheet
+}
+
 /// Tables at the limits of rows and of the file's size, and past them. Both are
 /// held to the answer.
 fn limits(compared: &mut Compared, rng: &mut Rng) -> Result<(), Disagreement> {
@@ -155,9 +167,10 @@ fn limits(compared: &mut Compared, rng: &mut Rng) -> Result<(), Disagreement> {
     let cases = [
         (nodes(1, LONGEST), Some(16_777_216)),
         (nodes(1, LONGEST + 1), None),
-        (nodes(16_383, 3), Some(12 + 16_383 * 52)),
-        (nodes(16_383, 2000), None),
-        (nodes(16_384, 3), None),
+        (nodes(16_384, 3), Some(12 + 16_384 * 52)),
+        (nodes(16_384, 2000), None),
+        (keys(MOST_ROWS), Some(73 + 4 * MOST_ROWS)),
+        (keys(MOST_ROWS + 1), None),
     ];
     for (sheet, size) in cases {
         let written = compared.call(Call::Write(Mode::Strict, &sheet), rng)?;

@@ -7,7 +7,7 @@ pub const LARGEST_FILE: usize = 16_777_216;
 /// Most bytes of input that the lister takes.
 pub const LARGEST_LISTED: usize = 65_536;
 /// Most rows of a table.
-pub const MOST_ROWS: usize = 16_383;
+pub const MOST_ROWS: usize = 2_097_151;
 /// Deepest node, the root being 1.
 pub const DEEPEST_NODE: usize = 16;
 

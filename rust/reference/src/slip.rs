@@ -38,22 +38,29 @@ enum Right {
     First,
 }
 
-/// All bytes that are right for a number up to this.
-fn right(highest: u32) -> HashMap<Vec<u8>, Right> {
+/// Bytes as one number that no other bytes have.
+fn code(bytes: &[u8]) -> u64 {
+    bytes
+        .iter()
+        .fold(1, |code, &byte| code << 8 | u64::from(byte))
+}
+
+/// All bytes that are right for a number up to this, by their codes.
+fn right(highest: u32) -> HashMap<u64, Right> {
     let mut list = HashMap::new();
     for number in 0..=highest {
         let bytes = groups(number);
         for end in 1..bytes.len() {
-            list.insert(bytes[..end].to_vec(), Right::First);
+            list.insert(code(&bytes[..end]), Right::First);
         }
-        list.insert(bytes, Right::All(number));
+        list.insert(code(&bytes), Right::All(number));
     }
     list
 }
 
 /// The list for the number at a position, made once.
-fn right_at(position: usize) -> &'static HashMap<Vec<u8>, Right> {
-    static LISTS: [OnceLock<HashMap<Vec<u8>, Right>>; 3] = [const { OnceLock::new() }; 3];
+fn right_at(position: usize) -> &'static HashMap<u64, Right> {
+    static LISTS: [OnceLock<HashMap<u64, Right>>; 3] = [const { OnceLock::new() }; 3];
     let kind = position.min(2);
     LISTS[kind].get_or_init(|| right(highest(kind)))
 }
@@ -70,7 +77,7 @@ pub fn read(slip: &[u8]) -> Result<[u32; 12], Refusal> {
                 return refuse(SLIP, slip.len());
             }
             end += 1;
-            match list.get(&slip[start..end]) {
+            match list.get(&code(&slip[start..end])) {
                 Some(Right::All(number)) => break *number,
                 Some(Right::First) => {}
                 None => return refuse(SLIP, start),

@@ -26,12 +26,14 @@ fn written(numbers: [u32; 12], room: usize) -> (Written, Vec<u8>) {
 
 #[test]
 fn numbers_in_groups() {
-    let bytes: [(u32, &[u8]); 5] = [
+    let bytes: [(u32, &[u8]); 7] = [
         (0, &[0]),
         (127, &[0x7F]),
         (128, &[0x81, 0x00]),
         (300, &[0x82, 0x2C]),
         (16_383, &[0xFF, 0x7F]),
+        (16_384, &[0x81, 0x80, 0x00]),
+        (2_097_151, &[0xFF, 0xFF, 0x7F]),
     ];
     for (number, groups) in bytes {
         let slip = [&[1, 2], groups, &[0; 9]].concat();
@@ -52,17 +54,17 @@ fn numbers_in_groups() {
 }
 
 #[test]
-fn twelve_to_twenty_two_bytes() {
-    let mut most = [16_383; 12];
+fn twelve_to_thirty_two_bytes() {
+    let mut most = [2_097_151; 12];
     (most[0], most[1]) = (99, 8);
     assert_eq!(written([0; 12], 11).0, refused(11, 12));
-    assert_eq!(written(most, 21), (refused(11, 22), vec![9; 21]));
-    assert_eq!(written(most, 22).0.size, 22);
+    assert_eq!(written(most, 31), (refused(11, 32), vec![9; 31]));
+    assert_eq!(written(most, 32).0.size, 32);
 }
 
 #[test]
 fn the_first_number_out_of_range() {
-    for (position, most) in [(0, 99), (1, 8), (2, 16_383), (11, 16_383)] {
+    for (position, most) in [(0, 99), (1, 8), (2, 2_097_151), (11, 2_097_151)] {
         let mut all = [0; 12];
         all[position] = most;
         assert_eq!(written(all, 22).0.number, 0);
@@ -71,7 +73,7 @@ fn the_first_number_out_of_range() {
             let refusal = refused(13, position as u32);
             assert_eq!(written(all, 22), (refusal, vec![9; 22]));
             assert_eq!(written(all, 0).0, refusal);
-            all[11] = 16_384;
+            all[11] = 2_097_152;
             assert_eq!(written(all, 22).0, refusal);
             all[11] = 0;
         }
@@ -93,8 +95,8 @@ fn places_of_thirteen() {
         (&[1, 9], 1),
         (&[1, 0x81, 0], 1),
         (&[1, 0, 0x80, 0x05], 2),
-        (&[1, 0, 0x81, 0x80], 2),
-        (&[1, 0, 0xFF, 0xFF, 0x7F], 2),
+        (&[1, 0, 0x81, 0x80, 0x80], 2),
+        (&[1, 0, 0xFF, 0xFF, 0xFF, 0x7F], 2),
     ];
     for (slip, place) in cases {
         let refusal = Slip {

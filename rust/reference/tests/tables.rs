@@ -7,6 +7,7 @@ mod common;
 use common::*;
 use reference::{judge, Mode, Written};
 use scenes::rebuild::rebuild;
+use scenes::rows::MOST_ROWS;
 use scenes::words::{each_cell, each_header_word, each_name_byte, reshaped};
 use scenes::{scene, Profile, Rng, Sheet};
 
@@ -160,7 +161,7 @@ fn the_same_long_name_many_times() {
     sheet.names.resize(100_000, b'n');
     let mut child = sheet.row(2, 0).to_vec();
     child[2] = 0;
-    for _ in 1..16_383 {
+    for _ in 1..16_384 {
         sheet.tables[2].extend_from_slice(&child);
     }
     sheet.count_rows();
@@ -168,22 +169,19 @@ fn the_same_long_name_many_times() {
     for row in sheet.tables[2].chunks_mut(20) {
         row[1] = 3;
     }
-    let size = 12 + 16_383 * 52;
+    let size = 12 + 16_384 * 52;
     assert_eq!(written(&sheet, size).len(), size);
 }
 
 #[test]
 fn row_limit_of_the_writer() {
     let mut sheet = long_name(0);
-    let mut child = sheet.row(2, 0).to_vec();
-    child[2] = 0;
-    for _ in 1..16_384 {
-        sheet.tables[2].extend_from_slice(&child);
+    for (rows, answer) in [(MOST_ROWS, 0), (MOST_ROWS + 1, UNSOUND.number)] {
+        sheet.tables[8] = vec![0, 0, 0, rows as u32];
+        sheet.tables[9] = vec![0; 11 * rows];
+        sheet.count_rows();
+        assert_eq!(write_to(&sheet, 16_777_216).0.number, answer);
     }
-    sheet.counts[2] = 16_383;
-    assert_eq!(write_to(&sheet, 16_777_216).0.number, 0);
-    sheet.counts[2] = 16_384;
-    assert_eq!(write_to(&sheet, 16_777_216).0, UNSOUND);
 }
 
 #[test]

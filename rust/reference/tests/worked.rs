@@ -6,7 +6,7 @@ use common::*;
 use reference::{clear, judge, list, Mode, Written};
 use scenes::chunk::Chunk;
 use scenes::damage::file_of;
-use scenes::rows::file_with_rows;
+use scenes::rows::{file_with_rows, MOST_ROWS};
 use scenes::worked::*;
 
 const NONE: u32 = 0xFFFF_FFFF;
@@ -22,10 +22,13 @@ fn cases_of_paper_01() {
 }
 
 #[test]
-fn counts_at_the_row_limit() {
-    for table in 1..=10 {
-        let answer = judge(Mode::Strict, &file_with_rows(table, 16_383));
-        assert_eq!(answer.counts[table - 1], 16_383, "table {table}");
+fn counts_of_many_rows() {
+    for (table, rows) in (1..=9)
+        .map(|table| (table, 16_384))
+        .chain([(10, MOST_ROWS)])
+    {
+        let answer = judge(Mode::Strict, &file_with_rows(table, rows));
+        assert_eq!(answer.counts[table - 1] as usize, rows, "table {table}");
     }
 }
 

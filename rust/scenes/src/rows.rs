@@ -5,6 +5,15 @@ use crate::damage::{file_of, node_of};
 
 const MINUS_ONE: u32 = 0xFFFF_FFFF;
 
+/// The most rows of a table.
+pub const MOST_ROWS: usize = 2_097_151;
+
+/// The most weights of one BONE that a file has room for: BB3D 12, two nodes of
+/// 49, a mesh of one vertex 56, the BONE's header 8, and 8 for each. Of all
+/// rows but keys a weight takes the fewest bytes, so no other table but the
+/// last can pass the limit.
+pub const MOST_WEIGHTS: usize = (16_777_216 - 12 - 2 * 49 - 56 - 8) / 8;
+
 /// A file with this many rows in the table with this number (1 to 10), and as
 /// few as may be in the others. A row of table 4 also takes one of 3 and 6.
 pub fn file_with_rows(table: usize, rows: usize) -> Vec<u8> {

@@ -3,7 +3,7 @@
 
 use crate::chunk::Chunk;
 use crate::damage::{file_of, node_of, too_large};
-use crate::rows::{file_with_rows, file_with_rows_and_keys, keys};
+use crate::rows::{file_with_rows, file_with_rows_and_keys, keys, MOST_ROWS, MOST_WEIGHTS};
 
 const NONE: u32 = 0xFFFF_FFFF;
 
@@ -213,25 +213,29 @@ fn spare_bytes() -> Vec<u8> {
 /// More keys than the limit, then a child without any data. The keys stand
 /// from 73 on, the child behind them.
 fn keys_then_cut_node() -> Vec<u8> {
-    file_of(vec![node_of(vec![keys(16_384), Chunk::new(b"NODE")])]).bytes()
+    file_of(vec![node_of(vec![
+        keys(MOST_ROWS + 1),
+        Chunk::new(b"NODE"),
+    ])])
+    .bytes()
 }
 
-/// Files at the row limit, counts and sizes made by hand. The first: a root of
+/// Files of many rows, counts and sizes made by hand. The first: a root of
 /// 49 bytes behind 12, and its KEYS of 12 + 4 for each key. The second: beside
 /// them a mesh of one vertex (44 + 12 bytes) and a child of 49 whose BONE has
 /// 8 + 8 for each weight.
 pub fn counted() -> Vec<Counted> {
     let keys = Counted {
-        about: "16,383 keys",
-        file: file_with_rows(10, 16_383),
-        counts: [0, 0, 1, 0, 0, 0, 0, 0, 1, 16_383],
-        copy: 73 + 16_383 * 4,
+        about: "2,097,151 keys",
+        file: file_with_rows(10, 2_097_151),
+        counts: [0, 0, 1, 0, 0, 0, 0, 0, 1, 2_097_151],
+        copy: 73 + 2_097_151 * 4,
     };
     let weights = Counted {
-        about: "16,383 weights and keys",
-        file: file_with_rows_and_keys(8, 16_383),
-        counts: [0, 0, 2, 1, 1, 1, 0, 16_383, 1, 16_383],
-        copy: 12 + 49 + 56 + 12 + 16_383 * 4 + 49 + 8 + 16_383 * 8,
+        about: "16,384 weights and keys",
+        file: file_with_rows_and_keys(8, 16_384),
+        counts: [0, 0, 2, 1, 1, 1, 0, 16_384, 1, 16_384],
+        copy: 12 + 49 + 56 + 12 + 16_384 * 4 + 49 + 8 + 16_384 * 8,
     };
     vec![keys, weights]
 }
@@ -276,16 +280,19 @@ pub fn cases() -> Vec<Case> {
     add("largest file", largest(), 0, 0);
     add("one byte too many", too_large().file, 1, 0);
     for table in 1..=10 {
-        // Each mesh needs a node, and 3 is below 4.
-        let lowest = if table == 4 { 3 } else { table as u32 };
-        let about = format!("table {table}, 16,38x rows");
-        add(&about, file_with_rows(table, 16_383), 0, 0);
-        add(&about, file_with_rows(table, 16_384), 10, lowest);
+        // One more than a table could have before 02's E12.
+        let about = format!("table {table}, 16,384 rows");
+        add(&about, file_with_rows(table, 16_384), 0, 0);
         let two = file_with_rows_and_keys(table, 16_384);
-        add(&about, two, 10, lowest);
+        add(&about, two, 0, 0);
     }
+    add("a lobby", file_with_rows(5, 40_000), 0, 0);
+    add("2,097,151 keys", file_with_rows(10, MOST_ROWS), 0, 0);
+    add("2,097,152 keys", file_with_rows(10, MOST_ROWS + 1), 10, 10);
+    add("most weights", file_with_rows(8, MOST_WEIGHTS), 0, 0);
     let cut = keys_then_cut_node();
-    add("16,384 keys, then a cut node", cut, 5, 73 + 65_536 + 8);
+    let place = 73 + 4 * (MOST_ROWS as u32 + 1) + 8;
+    add("2,097,152 keys, then a cut node", cut, 5, place);
     add("id of its own mesh", two_meshes(0), 0, 0);
     add("id of another mesh", two_meshes(1), 7, 202 + 64);
     let keys = || Chunk::of_bytes(*b"KEYS", vec![0; 4]);

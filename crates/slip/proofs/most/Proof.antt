@@ -6,8 +6,7 @@ use Rattle.slip.proofs.most.Statement.{statement}
 use Rattle.slip.proofs.most.Tie as tie
 
 returns-3 : tie.Need-returns-3
-unfolding rowLimit
 returns-3 c = search (limit-laws, needs)
 
 pub most-spec : {M : Type 1} → statement M
-most-spec = tie.close (tie.spec (λ c. search (limit-laws, needs)) (λ c. search (limit-laws, needs)) returns-3)
+most-spec = tie.close (tie.spec (λ c. search (limit-laws, needs)) (λ c. search (limit-laws, needs)) (λ c. search needs) returns-3)

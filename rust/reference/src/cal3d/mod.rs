@@ -11,8 +11,10 @@ mod trees;
 pub use mesh::{judge as judge_mesh, read as read_mesh, MeshAnswer};
 pub use skeleton::{judge as judge_skeleton, read as read_skeleton, SkeletonAnswer};
 
-use crate::limits::MOST_ROWS;
 use crate::refusal::{refuse, Refusal, ROWS, SHORT};
+
+/// Most rows of a table of a skeleton or a mesh.
+const MOST_ROWS: usize = 16_383;
 
 /// 2: the magic token is another.
 const MAGIC: u32 = 2;
