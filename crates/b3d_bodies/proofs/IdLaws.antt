@@ -1,8 +1,8 @@
 -- BONE and TRIS: what each step of `judge_bone` and `judge_triangles` says of the items, which begin with ids.
+use mathlib.Core.Path.{_≡_}
 use Prim.Native.Nat.{ℕ, _-_}
 use native.Mathlib.Omega.{arith}
 use mathlib.Core.Bool.{Bool, true, false, not}
-use mathlib.Core.Path.{_≡_}
 use mathlib.Core.List.{List}
 use lib.ListN.{length}
 use Rattle.wire.specs.Cursors.{left, numberAt}
@@ -16,13 +16,14 @@ use Rattle.b3d_chunks.specs.Items.{idItems, counted, CountedIn}
 use Rattle.b3d_chunks.specs.declared.Counted.{Counted}
 use Rattle.b3d_chunks.specs.declared.Counted.the-variants as counts
 use Rattle.b3d_chunks.proofs.Divided.{counted-room, counted-before}
-use Rattle.b3d_bodies.specs.Answers.{Body, Judges}
-use Rattle.b3d_bodies.specs.Tally.{weightsTally, boneTally, trianglesTally, setTally}
-use Rattle.b3d_bodies.specs.declared.Judged.the-variants as judge
-use Rattle.b3d_bodies.specs.declared.Tally.{Tally}
-use Rattle.b3d_bodies.proofs.Heads.{head-cut, head-numbered, head-refused, head-kept}
+use Rattle.b3d_inside.specs.Places.{Body}
+use Rattle.b3d_tally.specs.Answers.{Judges}
+use Rattle.b3d_tally.specs.Tally.{weightsTally, boneTally, trianglesTally, setTally}
+use Rattle.b3d_tally.specs.declared.Judged.the-variants as judge
+use Rattle.b3d_tally.specs.declared.Tally.{Tally}
+use Rattle.b3d_inside.proofs.Heads.{head-cut, head-numbered, head-refused, head-kept}
 use Rattle.b3d_bodies.proofs.Judging.{judges-bad, items-bad, items-good}
-use Rattle.b3d_bodies.proofs.Tallies.{within-weights, within-triangles}
+use Rattle.b3d_tally.proofs.Tallies.{within-weights, within-triangles}
 
 module _ (s : List ℕ) (at : ℕ) (b : Cursor) (body : Body at b (length s)) (vertices : ℕ) where
   -- ---- BONE

@@ -1,8 +1,8 @@
 -- Answers from what was read: a refusal and its place, or a value and the bytes that its tally is within.
-use Prim.Native.Nat.{ℕ, _-_, _≤_}
+use Prim.Native.Nat.{ℕ, _≤_, _-_}
 use native.Mathlib.Omega.{arith}
 use native.Mathlib.Nat.{mul-le-mul-left}
-use mathlib.Core.Path.{_≡_, sym, _∙_}
+use mathlib.Core.Path.{sym, _≡_, _∙_}
 use mathlib.Core.List.{List}
 use lib.ListN.{length}
 use Rattle.wire.specs.Cursors.{Inside}
@@ -13,10 +13,10 @@ use Rattle.b3d_chunks.specs.Items.{counted, CountedIn}
 use Rattle.b3d_chunks.specs.declared.Counted.{Counted}
 use Rattle.b3d_chunks.specs.declared.Counted.the-variants as counts
 use Rattle.b3d_chunks.proofs.Divided.{counted-room, counted-got, counted-bad}
-use Rattle.b3d_bodies.specs.Answers.{Judges}
-use Rattle.b3d_bodies.specs.Tally.{Within}
-use Rattle.b3d_bodies.specs.declared.Judged.the-variants as judge
-use Rattle.b3d_bodies.specs.declared.Tally.{Tally}
+use Rattle.b3d_tally.specs.Answers.{Judges}
+use Rattle.b3d_tally.specs.Tally.{Within}
+use Rattle.b3d_tally.specs.declared.Judged.the-variants as judge
+use Rattle.b3d_tally.specs.declared.Tally.{Tally}
 
 module _ {A : Type 0} (tally : A → Tally) (o : Out A) (from to : ℕ) where
   pub judges-bad : (n p : ℕ) → o ≡ bad n p → p ≤ to → Judges tally o from to (judge.Bad n p)

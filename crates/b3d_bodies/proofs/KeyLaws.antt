@@ -1,8 +1,8 @@
 -- KEYS: what each step of `judge_keys` says of the keys that the body holds.
-use Prim.Native.Nat.{ℕ, _-_, _<_, _≤_}
+use mathlib.Core.Path.{_≡_, _∙_}
+use Prim.Native.Nat.{ℕ, _≤_, _<_, _-_}
 use native.Mathlib.Omega.{arith}
 use native.Mathlib.Nat.{mul-le-mul-left}
-use mathlib.Core.Path.{_≡_, _∙_}
 use mathlib.Core.List.{List}
 use lib.ListN.{length}
 use Rattle.wire.specs.Cursors.{left, numberAt}
@@ -17,13 +17,14 @@ use Rattle.b3d_chunks.specs.Items.{counted, dividedAt, CountedIn}
 use Rattle.b3d_chunks.specs.declared.Counted.{Counted}
 use Rattle.b3d_chunks.specs.declared.Counted.the-variants as counts
 use Rattle.b3d_chunks.proofs.Divided.{divided-is, counted-room, counted-before}
-use Rattle.b3d_bodies.specs.Answers.{Body, Judges}
-use Rattle.b3d_bodies.specs.Tally.{keysTally, listTally}
-use Rattle.b3d_bodies.specs.declared.Judged.the-variants as judge
-use Rattle.b3d_bodies.specs.declared.Tally.{Tally}
-use Rattle.b3d_bodies.proofs.Heads.{head-cut, head-numbered, head-inside, head-over, head-within}
+use Rattle.b3d_inside.specs.Places.{Body}
+use Rattle.b3d_tally.specs.Answers.{Judges}
+use Rattle.b3d_tally.specs.Tally.{keysTally, listTally}
+use Rattle.b3d_tally.specs.declared.Judged.the-variants as judge
+use Rattle.b3d_tally.specs.declared.Tally.{Tally}
+use Rattle.b3d_inside.proofs.Heads.{head-cut, head-numbered, head-inside, head-over, head-within}
 use Rattle.b3d_bodies.proofs.Judging.{judges-bad, items-bad, items-good}
-use Rattle.b3d_bodies.proofs.Tallies.{within-keys}
+use Rattle.b3d_tally.proofs.Tallies.{within-keys}
 
 -- the keys from a cursor on
 abbrev keysAt : List ℕ → Cursor → ℕ → Out (List (List ℕ))

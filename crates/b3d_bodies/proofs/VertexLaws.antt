@@ -1,7 +1,7 @@
 -- VRTS: what each step of `judge_vertices` says of the vertices that the body holds.
-use Prim.Native.Nat.{ℕ, zero, suc, _+_, _-_, _*_, _/_, _%_, _<_, _≤_}
+use Prim.Native.Nat.{ℕ, zero, suc, _≤_, _<_, _+_, _-_, _*_, _/_, _%_}
 use native.Mathlib.Omega.{arith}
-use mathlib.Core.Path.{_≡_, refl, sym, ap, ap₂, _∙_}
+use mathlib.Core.Path.{refl, sym, ap, ap₂, _≡_, _∙_}
 use mathlib.Core.List.{List, [], _∷_, _++_}
 use lib.ListN.{length, replicate}
 use borrow.Author.Tests.{le-leb, lt-leb}
@@ -21,10 +21,11 @@ use Rattle.b3d_chunks.specs.Items.{partRow, colourItems, counted, dividedAt, Co
 use Rattle.b3d_chunks.specs.declared.Counted.{Counted}
 use Rattle.b3d_chunks.specs.declared.Counted.the-variants as counts
 use Rattle.b3d_chunks.proofs.Divided.{divided-is, counted-room, counted-before, counted-got, counted-bad}
-use Rattle.b3d_bodies.specs.Answers.{Body, Shapes}
+use Rattle.b3d_inside.specs.Places.{Body}
+use Rattle.b3d_bodies.specs.Answers.{Shapes}
 use Rattle.b3d_bodies.specs.Colours.{beforeColour, coloursOf}
 use Rattle.b3d_bodies.specs.declared.Shaped.the-variants as shape
-use Rattle.b3d_bodies.proofs.Heads.{body-inside}
+use Rattle.b3d_inside.proofs.Heads.{body-inside}
 
 -- ---- a vertex's rules: words that are not looked at, the colours that the mode looks at, and others
 

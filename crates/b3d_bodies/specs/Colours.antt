@@ -1,12 +1,7 @@
--- The colours that a mode looks at.
+-- The colours of a vertex that a mode looks at.
 use Prim.Native.Nat.{ℕ, _+_, _*_, _/_, _%_}
 use Rattle.b3d_scene.specs.declared.Mode.{Mode}
 use Rattle.b3d_scene.specs.declared.Mode.the-variants.{Strict, Lenient}
-
--- of a brush: its first words
-abbrev pub brushColours : Mode → ℕ
-brushColours Strict = 4
-brushColours Lenient = 0
 
 -- the words of a vertex before its colour
 abbrev pub beforeColour : ℕ → ℕ

@@ -1,4 +1,3 @@
 -- What the judge of a body answers, in the terms of b3d_scene's definitions.
-pub mod Tally
 pub mod Answers
 pub mod Colours

@@ -1,53 +1,26 @@
-// Judges the bodies of chunks that hold items only: TEXS, BRUS, VRTS, TRIS, BONE, KEYS. An answer is a refusal with its place, or what
-// the body adds to the row counts and to the size of the cleared copy.
-pub mod rows;
-
+// Judges the bodies of chunks that hold items only, of vertices, triangles, weights and keys: VRTS, TRIS, BONE, KEYS. An answer is a refusal with its place,
+// or what the body adds to the row counts and to the size of the cleared copy.
+ghost use Prim.Native.Nat.{_≤_, _<_, _+_, _-_};
 ghost use mathlib.Core.Path.{_≡_};
-ghost use Prim.Native.Nat.{ℕ, _≤_, _+_, _-_, _<_};
 ghost use lib.ListN.{length};
 ghost use Rattle.wire.specs.Cursors.{Inside, left};
 ghost use Rattle.layout.specs.Parts.{items};
-ghost use Rattle.b3d_scene.specs.Parse.{readTextures, readBrush, readBrushes, readVertices, readTriangles, readBone, readKeys};
+ghost use Rattle.b3d_scene.specs.Parse.{readVertices, readTriangles, readBone, readKeys};
 ghost use Rattle.b3d_chunks.specs.Items.{colourItems, counted, CountedIn};
-ghost use Rattle.b3d_bodies.specs.Colours.{brushColours, beforeColour, coloursOf};
-ghost use Rattle.b3d_bodies.specs.Tally.{listTally, boneTally, setTally, texsTally};
-ghost use Rattle.b3d_bodies.specs.Answers.{Body, Judges, Shapes, SlotsAre, countedBrushes, BrushesIn};
+ghost use Rattle.b3d_bodies.specs.Colours.{beforeColour, coloursOf};
+ghost use Rattle.b3d_tally.specs.Tally.{listTally, boneTally, setTally};
+ghost use Rattle.b3d_inside.specs.Places.{Body};
+ghost use Rattle.b3d_tally.specs.Answers.{Judges};
+ghost use Rattle.b3d_bodies.specs.Answers.{Shapes};
 use b3d_chunks::Counted;
-use b3d_chunks::Named;
 use b3d_scene::Mode;
+use b3d_tally::Judged;
 use wire::Cursor;
 use wire::Number;
-
-// Rows of the ten tables, and bytes of the cleared copy.
-pub struct Tally {
-    pub textures: usize,
-    pub brushes: usize,
-    pub nodes: usize,
-    pub meshes: usize,
-    pub vertices: usize,
-    pub sets: usize,
-    pub triangles: usize,
-    pub weights: usize,
-    pub lists: usize,
-    pub keys: usize,
-    pub copy: usize,
-}
-
-// What a body adds, or a refusal with its place.
-pub enum Judged {
-    Good(Tally),
-    Bad(u32, usize),
-}
 
 // How many vertices, and how many words each has.
 pub enum Shaped {
     Is(usize, usize),
-    Not(u32, usize),
-}
-
-// Texture slots of a brush, 0 without one.
-pub enum Slotted {
-    Is(u32, Tally),
     Not(u32, usize),
 }
 
@@ -65,7 +38,7 @@ pub fn judge_keys(s: &[u8], at: usize, body: Cursor) -> Judged
             let words = b3d_chunks::key_words(flags);
             match b3d_chunks::whole_items(items, words) {
                 Counted::Not(n, p) => Judged::Bad(n, p),
-                Counted::Is(count) => Judged::Good(rows::keys(count, words)),
+                Counted::Is(count) => Judged::Good(b3d_tally::keys(count, words)),
             }
         }
     }
@@ -78,7 +51,7 @@ pub fn judge_bone(s: &[u8], at: usize, body: Cursor, vertices: usize) -> Judged
 {
     match b3d_chunks::id_items(s, body, 2, 1, vertices) {
         Counted::Not(n, p) => Judged::Bad(n, p),
-        Counted::Is(count) => Judged::Good(rows::weights(count)),
+        Counted::Is(count) => Judged::Good(b3d_tally::weights(count)),
     }
 }
 
@@ -152,105 +125,7 @@ pub fn judge_triangles(s: &[u8], at: usize, body: Cursor, brushes: usize, vertic
             }
             match b3d_chunks::id_items(s, items, 3, 3, vertices) {
                 Counted::Not(n, p) => Judged::Bad(n, p),
-                Counted::Is(count) => Judged::Good(rows::triangles(count)),
-            }
-        }
-    }
-}
-
-// A TEXS: textures to the end.
-pub fn judge_textures(s: &[u8], at: usize, body: Cursor) -> Judged
-    requires { ⌜ Body at body (length (now s)) ⌝ }
-    ensures { λ r. ⌜ Judges texsTally (readTextures at (left body (now (s .entry)))) at (body .end) r ⌝ }
-{
-    let mut c = body;
-    let mut count: usize = 0;
-    while c.at < c.end {
-        match b3d_chunks::named_row(s, c, 7) {
-            Named::Cut => {
-                return Judged::Bad(5, c.at);
-            }
-            Named::Is {
-                length: _,
-                row: _,
-                next,
-            } => {
-                count += 1;
-                c = next;
-            }
-        }
-    }
-    Judged::Good(rows::texs(count))
-}
-
-// The colours of a brush that the mode looks at.
-fn brush_colours(mode: Mode) -> usize
-    ensures { λ r. ⌜ (r ≡ brushColours mode) × (r ≤ 4) ⌝ }
-{
-    match mode {
-        Mode::Strict => 4,
-        Mode::Lenient => 0,
-    }
-}
-
-// How many brushes of so many slots, each empty or naming one of so many textures.
-fn brush_items(s: &[u8], from: Cursor, slots: usize, textures: usize, mode: Mode) -> Counted
-    requires { ⌜ Inside from (length (now s)) × (slots ≤ 8) ⌝ }
-    ensures { λ r. ⌜ (r ≡ countedBrushes (items (readBrush mode slots textures) (from .at) (left from (now (s .entry))))) × BrushesIn from slots r ⌝ }
-{
-    let mut c = from;
-    let mut count: usize = 0;
-    while c.at < c.end {
-        match b3d_chunks::named_row(s, c, 7 + slots) {
-            Named::Cut => {
-                return Counted::Not(5, c.at);
-            }
-            Named::Is {
-                length: _,
-                row,
-                next,
-            } => {
-                let colours = brush_colours(mode);
-                let passed = b3d_chunks::first_bad_colour(s, row, colours);
-                if passed < colours {
-                    return Counted::Not(6, row.at + 4 * passed);
-                }
-                let ids = Cursor {
-                    at: row.at + 28,
-                    end: row.end,
-                };
-                let good = b3d_chunks::first_bad(s, ids, slots, textures, true);
-                if good < slots {
-                    return Counted::Not(7, ids.at + 4 * good);
-                }
-                count += 1;
-                c = next;
-            }
-        }
-    }
-    Counted::Is(count)
-}
-
-// Brushes beside so many textures.
-pub fn judge_brushes(s: &[u8], at: usize, body: Cursor, textures: usize, mode: Mode) -> Slotted
-    requires { ⌜ Body at body (length (now s)) ⌝ }
-    ensures { λ r. ⌜ SlotsAre (readBrushes mode textures at (left body (now (s .entry)))) at (body .end) r ⌝ }
-{
-    match body.number(s) {
-        Number::Cut => Slotted::Not(5, body.at),
-        Number::Is(slots, items) => {
-            if 8 < slots {
-                return Slotted::Not(6, body.at);
-            }
-            let n = wire::size(slots);
-            match brush_items(s, items, n, textures, mode) {
-                Counted::Not(e, p) => Slotted::Not(e, p),
-                Counted::Is(count) => {
-                    if count == 0 {
-                        return Slotted::Is(0, rows::none());
-                    }
-                    Slotted::Is(slots, rows::brus(n, count))
-                }
+                Counted::Is(count) => Judged::Good(b3d_tally::triangles(count)),
             }
         }
     }

@@ -5,9 +5,9 @@ mod limits;
 mod order;
 mod slips;
 
-use b3d_bodies::Tally;
 use b3d_judge::Verdict;
 use b3d_scene::Mode;
+use b3d_tally::Tally;
 
 fn print(n: usize) {
     io::write_all(1, b" ");

@@ -21,11 +21,13 @@ use Rattle.b3d_scene.specs.declared.Written.{Written}
 use Rattle.b3d_scene.proofs.AnswerLaws.{judge-got, clear-first}
 use Rattle.b3d_scene.proofs.Files.FileLaws.{size-low, size-bound}
 use Rattle.b3d_scene.proofs.Files.NameLaws.{copy-short}
-use Rattle.b3d_bodies.specs.declared.Tally.{Tally}
-use Rattle.b3d_judge.specs.Answers.{tallyOf, verdictOf}
+use Rattle.b3d_tally.specs.declared.Tally.{Tally}
+use Rattle.b3d_tally.specs.Tally.{tallyOf}
+use Rattle.b3d_judge.specs.Answers.{verdictOf}
 use Rattle.b3d_judge.specs.declared.Summary.{Summary}
 use Rattle.b3d_judge.specs.declared.Verdict.{Verdict}
 use Rattle.b3d_judge.specs.declared.Verdict.the-variants as verdict
+use Rattle.b3d_judge.proofs.Verdicts.{was-bad}
 use Rattle.b3d_copy.specs.Copies.{chunksAt, inFile, fileCopy}
 use Rattle.b3d_copy.proofs.Files.{file-copied}
 use Rattle.b3d_clear_parts.proofs.Chunking.{open-fits, open-room, open-asks, open-done}
@@ -47,10 +49,6 @@ file-done s out r ys n w v e zs h = open-done (code BB3D) (wordAt s 8) (inFile (
 pub ruleset file-laws = (file-inside, file-number, open-fits, open-room, open-asks, file-done)
 
 -- ---- what the judge says
-
-was-bad : (o : Out Scene) (n p : ℕ) → verdictOf o ≡ verdict.Bad n p → o ≡ bad n p
-was-bad (got t) n p e = let z : _≡_ {A = ℕ} 0 1 = cc in absurd (omega arith)
-was-bad (bad m q) n p e = cc
 
 -- a scene was read, and its copy has this size
 record Gave (o : Out Scene) (size : ℕ) : Type 0 where

@@ -16,7 +16,7 @@ use Rattle.b3d_chunks.specs.Chunks.{namedAt, NamedIn}
 use Rattle.b3d_chunks.specs.declared.Named.{Named}
 use Rattle.b3d_chunks.specs.declared.Named.the-variants as named
 use Rattle.b3d_chunks.proofs.Names.{named-cut, named-any, named-among}
-use Rattle.b3d_bodies.specs.Answers.{Body}
+use Rattle.b3d_inside.specs.Places.{Body}
 use Rattle.b3d_copy.specs.Copies.{chunkOf, each, chunksAt, ownCopy, nodeOf, nodeCopy}
 
 -- with a level left a node goes by its text and words

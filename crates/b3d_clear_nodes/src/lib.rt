@@ -9,7 +9,7 @@ ghost use Rattle.emit.specs.Writing.{Room, Put};
 ghost use Rattle.b3d_scene.specs.Rules.{mostBytes};
 ghost use Rattle.b3d_scene.specs.Tags.{code};
 ghost use Rattle.b3d_scene.specs.declared.Tag.the-variants.{NODE, BONE, KEYS, ANIM};
-ghost use Rattle.b3d_bodies.specs.Answers.{Body};
+ghost use Rattle.b3d_inside.specs.Places.{Body};
 ghost use Rattle.b3d_copy.specs.Copies.{chunkOf, each, chunksAt, asIs, inNode, ownCopy, nodeCopy};
 use b3d_chunks::Named;
 use b3d_chunks::Next;

@@ -19,7 +19,7 @@ use Rattle.b3d_chunks.specs.Chunks.{NextIs}
 use Rattle.b3d_chunks.specs.declared.Next.{Next}
 use Rattle.b3d_chunks.specs.declared.Next.the-variants as next
 use Rattle.b3d_chunks.proofs.Nexts.{chunk-is, chunk-among, cut-is, done-is}
-use Rattle.b3d_bodies.specs.Answers.{Body}
+use Rattle.b3d_inside.specs.Places.{Body}
 use Rattle.b3d_copy.specs.Copies.{each, chunksAt}
 
 -- of the chunks of tag k from `from` on those before c are written, up to n

@@ -16,8 +16,8 @@ use Rattle.emit.proofs.Joining.{none-put}
 use Rattle.b3d_scene.specs.Rules.{mostBytes}
 use Rattle.b3d_scene.specs.Tags.{code}
 use Rattle.b3d_scene.specs.declared.Tag.the-variants.{TEXS, BRUS, MESH}
-use Rattle.b3d_bodies.specs.Answers.{Body}
-use Rattle.b3d_bodies.proofs.Heads.{body-inside, head-cut, head-inside, head-got, head-over, head-within}
+use Rattle.b3d_inside.specs.Places.{Body}
+use Rattle.b3d_inside.proofs.Heads.{body-inside, head-cut, head-inside, head-got, head-over, head-within}
 use Rattle.b3d_copy.specs.Copies.{chunkOf, chunksAt, inMesh, meshOf, meshCopy, unnamedItems, ifAny, texsCopy, brusOf, brusCopy}
 
 some-bytes : (b w : List ℕ) → 0 < length b → ifAny b w ≡ w

@@ -12,7 +12,7 @@ use Rattle.b3d_scene.specs.Tags.{code, is}
 use Rattle.b3d_scene.specs.declared.Tag.{Tag}
 use Rattle.b3d_scene.specs.declared.Tag.the-variants.{BB3D, TEXS, BRUS, NODE, MESH, VRTS, TRIS, BONE, KEYS, ANIM}
 use Rattle.b3d_scene.proofs.Tag.{the-type}
-use Rattle.b3d_judge.proofs.TagTests.{ten, one-of}
+use Rattle.b3d_inside.proofs.TagTests.{ten, one-of}
 use Rattle.b3d_copy.specs.Copies.{chunkOf, texsCopy, brusCopy, meshCopy, partCopy}
 use Rattle.b3d_clear_parts.proofs.ListLaws.{texs-inside}
 

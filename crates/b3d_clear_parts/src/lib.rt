@@ -10,7 +10,7 @@ ghost use Rattle.emit.specs.Writing.{Room, Put};
 ghost use Rattle.b3d_scene.specs.Rules.{mostBytes};
 ghost use Rattle.b3d_scene.specs.Tags.{code};
 ghost use Rattle.b3d_scene.specs.declared.Tag.the-variants.{TEXS, BRUS, MESH};
-ghost use Rattle.b3d_bodies.specs.Answers.{Body};
+ghost use Rattle.b3d_inside.specs.Places.{Body};
 ghost use Rattle.b3d_copy.specs.Copies.{chunkOf, each, chunksAt, asIs, inMesh, meshCopy, unnamed, unnamedItems, texsCopy, brusCopy, partCopy};
 use b3d_chunks::Named;
 use b3d_chunks::Next;

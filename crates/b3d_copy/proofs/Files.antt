@@ -32,8 +32,8 @@ use Rattle.b3d_scene.specs.Scene.{Texture, Brush, Forest, leaf, Scene}
 use Rattle.b3d_scene.specs.Tags.{Chunks, Found, split, tagOf, code}
 use Rattle.b3d_scene.proofs.Files.FileLaws.{size-low}
 use Rattle.b3d_chunks.proofs.Ids.{word-at}
-use Rattle.b3d_judge.specs.States.{reached}
-use Rattle.b3d_judge.proofs.JudgeLaws.{head-is}
+use Rattle.b3d_inside.specs.Places.{reached}
+use Rattle.b3d_inside.proofs.Heads.{head-is}
 use Rattle.b3d_copy.specs.Copies.{chunkOf, each, chunksAt, texsCopy, brusCopy, nodeCopy, inFile, fileCopy}
 use Rattle.b3d_copy.proofs.Lists.{texs-copied, brus-copied}
 use Rattle.b3d_copy.proofs.Nodes.{node-copied}

@@ -22,8 +22,8 @@ use Rattle.b3d_scene.specs.Parse.{readMesh, readBone, readKeys, readAnim, aMesh
 use Rattle.b3d_scene.specs.Rules.{nodeRow, boneVertices, bonesBelow}
 use Rattle.b3d_scene.specs.Scene.{Kind, pivot, mesh, bone, Keys, Anim, still, anim, Data, Forest, leaf}
 use Rattle.b3d_scene.specs.Tags.{Chunks, Found, split, tagOf, code}
-use Rattle.b3d_judge.specs.States.{reached}
-use Rattle.b3d_judge.proofs.Turns.{kind-order}
+use Rattle.b3d_inside.specs.Places.{reached}
+use Rattle.b3d_inside.proofs.Turns.{kind-order}
 use Rattle.b3d_copy.specs.Copies.{chunkOf, each, asIs, meshCopy, ownCopy, nodeOf, nodeCopy}
 use Rattle.b3d_copy.proofs.Leaves.{bone-exact, keys-exact, anim-exact}
 use Rattle.b3d_copy.proofs.Meshes.{mesh-copied}

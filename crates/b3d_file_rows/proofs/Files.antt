@@ -25,8 +25,8 @@ use Rattle.b3d_scene.specs.Scene.{Texture, Brush, Forest, leaf, node, Scene}
 use Rattle.b3d_scene.specs.Tables.{textureRow, brushRow}
 use Rattle.b3d_scene.specs.Tags.{Chunks, Found, split, tagOf, code, is}
 use Rattle.b3d_scene.proofs.Files.FileLaws.{size-low}
-use Rattle.b3d_judge.specs.States.{reached}
-use Rattle.b3d_judge.proofs.JudgeLaws.{head-is}
+use Rattle.b3d_inside.specs.Places.{reached}
+use Rattle.b3d_inside.proofs.Heads.{head-is}
 use Rattle.b3d_rows.proofs.ItemLaws.{row-read}
 use Rattle.b3d_file_rows.specs.Flat.{rest, flatAt}
 use Rattle.b3d_file_rows.specs.Rows.{textureRows, brushRows, firstOf}

@@ -22,8 +22,8 @@ use Rattle.b3d_scene.specs.Rules.{nodeRow, boneVertices, bonesBelow}
 use Rattle.b3d_scene.specs.Scene.{Mesh, Kind, pivot, mesh, bone, Keys, Anim, still, anim, Data, Forest, leaf, node}
 use Rattle.b3d_scene.specs.Tables.{ownRows, withNode, withForest, forestRows}
 use Rattle.b3d_scene.specs.Tags.{Chunks, Found, split}
-use Rattle.b3d_judge.specs.States.{reached}
-use Rattle.b3d_judge.proofs.Turns.{kind-order}
+use Rattle.b3d_inside.specs.Places.{reached}
+use Rattle.b3d_inside.proofs.Turns.{kind-order}
 use Rattle.b3d_file_rows.specs.Flat.{rest, flatAt}
 use Rattle.b3d_file_rows.specs.Rows.{addNode, addKeys, current, keyListRows, counted, chunkRows, flatRows}
 use Rattle.b3d_file_rows.proofs.Ahead.{named-ahead}

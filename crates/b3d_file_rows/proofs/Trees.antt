@@ -23,8 +23,8 @@ use Rattle.b3d_scene.specs.Rules.{nodeRow as nodeWords, boneVertices, bonesBelo
 use Rattle.b3d_scene.specs.Scene.{Mesh, Kind, pivot, mesh, bone, Keys, Anim, still, anim, Data, Forest, leaf, node}
 use Rattle.b3d_scene.specs.Tables.{nodeRow, ownRows, withNode, withForest, forestRows}
 use Rattle.b3d_scene.specs.Tags.{Chunks, Found, split, is}
-use Rattle.b3d_judge.specs.States.{reached}
-use Rattle.b3d_judge.proofs.Turns.{kind-order}
+use Rattle.b3d_inside.specs.Places.{reached}
+use Rattle.b3d_inside.proofs.Turns.{kind-order}
 use Rattle.b3d_file_rows.specs.Flat.{rest, flatAt}
 use Rattle.b3d_file_rows.specs.Plain.{plainAnim}
 use Rattle.b3d_file_rows.specs.Rows.{Open, addNode, addKeys, counted, kindOf, animOf, parentAt, rowOf, opened, nodeRows}

@@ -1,30 +1,29 @@
--- A law for each way through `judge_body` and `judge`.
+-- A law for each way through `are_bytes`, `judge_body` and `judge`.
 use mathlib.Core.Path.{_≡_, refl, ap, sym, subst, _∙_}
-use Prim.Native.Nat.{ℕ, zero, suc, _+_, _-_, _*_, _<_, _≤_}
+use Prim.Native.Nat.{ℕ, suc, _≤_, _<_, _-_}
 use native.Mathlib.Omega.{arith}
-use mathlib.Core.Bool.{Bool, true, false}
+use mathlib.Core.Bool.{true, false}
 use mathlib.Core.List.{List, [], _∷_}
 use lib.ListN.{length, drop, getD, length-drop}
 use lib.Seq.{take-all}
-use lib.Dec.{T, leb, ltb, eqb, leb→le, ltb→lt, nltb→le}
-use borrow.Author.Tests.{lt-leb, le-leb, lt-ltb, le-ltb, eq-eqb, ne-eqb}
+use lib.Dec.{leb, ltb}
+use borrow.Author.Tests.{lt-leb, le-leb, eq-eqb, ne-eqb}
 use Rattle.wire.specs.Test.{if}
-use Rattle.wire.specs.Bytes.{word, wordAt, AllBytes}
-use Rattle.wire.specs.Cursors.{Inside, left, numberAt}
+use Rattle.wire.specs.Bytes.{wordAt, AllBytes}
+use Rattle.wire.specs.Cursors.{left, numberAt}
 use Rattle.wire.specs.declared.Cursor.{Cursor}
 use Rattle.wire.specs.declared.Number.{Number}
 use Rattle.wire.specs.declared.Number.the-variants as number
 use Rattle.layout.specs.Out.{Out, got, bad, check, _>>=_}
-use Rattle.layout.specs.Parts.{wordsOf, row}
-use Rattle.layout.proofs.Outs.{by-test, if-yes, if-no, bind-cong, bind-bind}
-use Rattle.layout.proofs.Lists.{All}
-use Rattle.layout.proofs.StepLaws.{row-any, word-of}
+use Rattle.layout.specs.Parts.{wordsOf}
+use Rattle.layout.proofs.Outs.{bind-cong, bind-bind}
+use Rattle.layout.proofs.StepLaws.{word-of}
 use Rattle.b3d_scene.specs.declared.Mode.{Mode}
 use Rattle.b3d_scene.specs.declared.Tag.the-variants.{BB3D, TEXS, BRUS, NODE}
 use Rattle.layout.specs.Chunks.{done, stop, chunk, ended}
-use Rattle.b3d_scene.specs.Tags.{Chunks, Found, code}
+use Rattle.b3d_scene.specs.Tags.{Chunks, Found}
 use Rattle.b3d_scene.specs.Scene.{Texture, Brush, Forest, leaf, Scene}
-use Rattle.b3d_scene.specs.Rules.{version, header, fileSize, mostBytes, rowLimit}
+use Rattle.b3d_scene.specs.Rules.{version, fileSize, mostBytes, rowLimit}
 use Rattle.b3d_scene.specs.Nesting.{start, inside}
 use Rattle.b3d_scene.specs.Parse.{readOne, readTextures, readBrushes, readRoot, slotsOf, readBody, parse}
 use Rattle.b3d_scene.specs.Tables.{rows, tables, nodeTables}
@@ -32,16 +31,26 @@ use Rattle.b3d_scene.specs.Answers.{eachTable, firstNot, judge}
 use Rattle.b3d_scene.proofs.AnswerLaws.{first-none, first-some, over-not}
 use Rattle.b3d_scene.proofs.Rows.Numbers.{each-table}
 use Rattle.b3d_scene.proofs.Laws.{fine}
-use Rattle.b3d_bodies.specs.Tally.{sceneTally, Within}
-use Rattle.b3d_bodies.specs.Answers.{Body}
-use Rattle.b3d_bodies.specs.declared.Tally.{Tally}
-use Rattle.b3d_bodies.proofs.Heads.{head-cut, head-numbered, head-over, head-within}
-use Rattle.b3d_judge.specs.States.{restIn, readLast, readRest, readChunks}
-use Rattle.b3d_judge.specs.Answers.{Among, walked, WalkedIn, Walks, tallyOf, overLimit, verdictOf}
+use Rattle.b3d_tally.specs.Tally.{sceneTally, tallyOf}
+use Rattle.b3d_inside.specs.Places.{Body, restIn, Among}
+use Rattle.b3d_inside.proofs.Heads.{head-cut, head-numbered, head-over, head-within, head-is}
+use Rattle.b3d_judge_file.specs.Answers.{readLast, readRest}
+use Rattle.b3d_judge.specs.Answers.{readChunks, walked, WalkedIn, Walks, verdictOf}
+use Rattle.b3d_limits.specs.Limits.{overLimit}
 use Rattle.b3d_judge.specs.declared.Summary.{Summary}
 use Rattle.b3d_judge.specs.declared.Verdict.{Verdict}
 use Rattle.b3d_judge.specs.declared.Verdict.the-variants as verdict
-use Rattle.b3d_judge.proofs.Totals.{total}
+use Rattle.b3d_tally.proofs.Totals.{total}
+
+-- ---- a slice's bytes
+
+pub all-bytes : (s : List ℕ) → ((i : ℕ) → getD s i 0 < 256) → AllBytes s
+all-bytes [] h = tt
+all-bytes (x ∷ s) h = (h 0, all-bytes s (λ i. h (suc i)))
+
+pub no-bytes : (s : List ℕ) → length s ≡ 0 → AllBytes s
+no-bytes [] h = tt
+no-bytes (x ∷ s) h = absurd (omega arith)
 
 -- ---- the body
 
@@ -147,10 +156,6 @@ unfolding overLimit over tables nodeTables
 over-is t = refl
 
 -- ---- the whole
-
--- the two words of a file's header, and what follows it
-pub head-is : (s : List ℕ) → 8 ≤ length s → row header 0 s ≡ got (record { value = wordsOf 2 s; place = 8; left = drop 8 s })
-head-is s h = row-any 2 0 s h
 
 pub first-word : (s : List ℕ) → 8 ≤ length s → getD (wordsOf 2 s) 0 0 ≡ wordAt s 0
 unfolding wordAt

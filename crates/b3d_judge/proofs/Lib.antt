@@ -1,18 +1,4 @@
-pub mod SmallLaws
-pub mod Rests
-pub mod TagTests
-pub mod Answered
-pub mod Turns
-pub mod KindLaws
-pub mod MoveLaws
-pub mod Moving
-pub mod OwnLaws
-pub mod Chains
-pub mod NodeLaws
-pub mod SetLaws
-pub mod OneLaws
-pub mod FileLaws
+-- The laws of the judge's ways, and what its verdict says.
 pub mod ChunksLaws
-pub mod MeshLaws
-pub mod Totals
 pub mod JudgeLaws
+pub mod Verdicts

@@ -1,3 +1,2 @@
--- What the judge's functions answer, in the terms of b3d_scene's definitions.
-pub mod States
+-- What the judge answers, in the terms of b3d_scene's definitions.
 pub mod Answers

@@ -1,61 +1,23 @@
 // The judge: one walk over a file, which answers the refusal (1 to 10) with its place, or version, n_texs, the ten row counts and the
 // size of the cleared copy. Nothing is written; reader, clearer and lister start from it.
-pub mod file;
-pub mod meshes;
-pub mod nodes;
-
+ghost use Prim.Native.Nat.{_≤_};
 ghost use mathlib.Core.Path.{_≡_};
-ghost use lib.Dec.{ltb};
-ghost use Rattle.wire.specs.Test.{if};
+ghost use lib.ListN.{length, drop};
+ghost use Rattle.b3d_scene.specs.declared.Tag.the-variants.{BB3D};
+ghost use Rattle.b3d_scene.specs.Rules.{mostBytes};
+ghost use Rattle.b3d_scene.specs.Nesting.{start};
+ghost use Rattle.b3d_scene.specs.Parse.{readBody};
+ghost use Rattle.b3d_tally.specs.Tally.{bytesTally, plus, Within};
+ghost use Rattle.b3d_inside.specs.Places.{restIn, Among};
+ghost use Rattle.b3d_judge.specs.Answers.{readChunks, Walks, verdictOf};
 ghost use Rattle.wire.specs.Bytes.{AllBytes};
-ghost use Rattle.b3d_scene.specs.Rules.{rowLimit};
 ghost use Rattle.b3d_scene.specs.Answers.{judge};
-ghost use Rattle.b3d_judge.specs.Answers.{overLimit, verdictOf};
-use b3d_bodies::Tally;
+use b3d_judge_file::Phase;
+use b3d_judge_lists::Slotted;
 use b3d_scene::Mode;
+use b3d_tally::Tally;
 use wire::Cursor;
-
-// A mesh's vertices and its tally.
-pub enum Meshed {
-    Is(usize, Tally),
-    Not(u32, usize),
-}
-
-// The tally of chunks that were judged, and the cursor after them.
-pub enum Phase {
-    To(Tally, Cursor),
-    Not(u32, usize),
-}
-
-// The vertices of a node's own mesh, the tally of its kind, and the cursor after it.
-pub enum Kinded {
-    To(usize, Tally, Cursor),
-    Not(u32, usize),
-}
-
-// Whether a node has an ANIM, the tally of its KEYS and ANIM, and the cursor after them.
-pub enum Motion {
-    To(bool, Tally, Cursor),
-    Not(u32, usize),
-}
-
-// Which vertices the bones of a node may name: so many, by what the nodes above say; the root's own none.
-pub enum Above {
-    Root,
-    Of(usize),
-}
-
-// What a node says of bones to those below, its own tally, and the cursor at its children.
-pub enum Owned {
-    To(Above, Tally, Cursor),
-    Not(u32, usize),
-}
-
-// The slots of a brush, the tally of the brushes, and the cursor after them.
-pub enum Brushed {
-    To(u32, Tally, Cursor),
-    Not(u32, usize),
-}
+use wire::Number;
 
 // What is answered of a file that keeps the layout rules, and the size of its cleared copy.
 pub struct Summary {
@@ -70,25 +32,50 @@ pub enum Verdict {
     Bad(u32, usize),
 }
 
-// The table k where it has more rows than the limit, else what is found later.
-fn over_or(k: usize, rows: usize, later: usize) -> usize
-    ensures { λ r. ⌜ r ≡ if (ltb rowLimit rows) k later ⌝ }
+// The rows of a file: its header and version, its textures, the rest.
+fn file_rows(textures: Tally, rest: Tally) -> Tally
+    requires { ⌜ Within textures mostBytes × Within (plus (bytesTally 12) textures) mostBytes × Within rest mostBytes ⌝ }
+    ensures { λ r. ⌜ r ≡ plus (plus (bytesTally 12) textures) rest ⌝ }
 {
-    if b3d_scene::ROW_LIMIT < rows {
-        return k;
-    }
-    later
+    b3d_tally::plus(b3d_tally::plus(b3d_tally::bytes(12), textures), rest)
 }
 
-// The first table with more rows than the limit, by its number; 0 where there is none.
-fn over_limit(t: Tally) -> usize
-    ensures { λ r. ⌜ r ≡ overLimit t ⌝ }
+// TEXS, BRUS and NODE.
+fn judge_chunks(s: &[u8], version: u32, from: Cursor, mode: Mode) -> Verdict
+    requires { ⌜ Among 0 from (length (now s)) × (from .at ≡ 12) ⌝ }
+    ensures { λ r. ⌜ Walks (readChunks mode version (restIn (now (s .entry)) BB3D 0 start from)) (from .end) r ⌝ }
 {
-    let from9 = over_or(9, t.lists, over_or(10, t.keys, 0));
-    let from7 = over_or(7, t.triangles, over_or(8, t.weights, from9));
-    let from5 = over_or(5, t.vertices, over_or(6, t.sets, from7));
-    let from3 = over_or(3, t.nodes, over_or(4, t.meshes, from5));
-    over_or(1, t.textures, over_or(2, t.brushes, from3))
+    match b3d_judge_file::judge_texs(s, from) {
+        Phase::Not(e, p) => Verdict::Bad(e, p),
+        Phase::To(t, c) => match b3d_judge_file::judge_rest(s, c, t.textures, mode) {
+            Slotted::Not(e, p) => Verdict::Bad(e, p),
+            Slotted::Is(slots, r) => Verdict::Good(Summary {
+                version,
+                n_texs: slots,
+                tally: file_rows(t, r),
+            }),
+        },
+    }
+}
+
+// All that follows the header of a file.
+pub fn judge_body(s: &[u8], mode: Mode) -> Verdict
+    requires { ⌜ (8 ≤ length (now s)) × (length (now s) ≤ mostBytes) ⌝ }
+    ensures { λ r. ⌜ Walks (readBody mode 8 (drop 8 (now (s .entry)))) (length (now (s .entry))) r ⌝ }
+{
+    let behind = Cursor {
+        at: 8,
+        end: s.len(),
+    };
+    match behind.number(s) {
+        Number::Cut => Verdict::Bad(5, 8),
+        Number::Is(version, c) => {
+            if 99 < version {
+                return Verdict::Bad(6, 8);
+            }
+            judge_chunks(s, version, c, mode)
+        }
+    }
 }
 
 // Called for its promise alone: the elements of a slice of bytes are bytes. The result says nothing and is not used.
@@ -118,11 +105,11 @@ pub fn judge(mode: Mode, file: &[u8]) -> Verdict
     if wire::size(wire::number_at(file, 4)) != n - 8 {
         return Verdict::Bad(2, 4);
     }
-    match file::judge_body(file, mode) {
+    match judge_body(file, mode) {
         Verdict::Bad(e, p) => Verdict::Bad(e, p),
         Verdict::Good(x) => {
             are_bytes(file);
-            let over = over_limit(x.tally);
+            let over = b3d_limits::over_limit(x.tally);
             if over != 0 {
                 return Verdict::Bad(10, over);
             }

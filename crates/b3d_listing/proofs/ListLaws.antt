@@ -21,8 +21,9 @@ use Rattle.b3d_judge.specs.declared.Summary.{Summary}
 use Rattle.b3d_judge.specs.declared.Verdict.{Verdict}
 use Rattle.b3d_judge.specs.declared.Verdict.the-variants as verdict
 use Rattle.b3d_names.specs.Name.{nameOr}
-use Rattle.b3d_read.specs.Rooms.{countsIn}
-use Rattle.b3d_read.proofs.ReadLaws.{summaryOf, Good, was-bad, was-good, stored-over}
+use Rattle.b3d_limits.specs.Rooms.{countsIn}
+use Rattle.b3d_judge.proofs.Verdicts.{summaryOf, Good, was-bad, was-good}
+use Rattle.b3d_limits.proofs.RoomLaws.{stored-over}
 use Rattle.b3d_file_rows.specs.Rows.{fileRows}
 use Rattle.b3d_file_rows.proofs.Laws.{rows-law}
 use Rattle.b3d_text.specs.Puts.{Puts}

@@ -10,7 +10,7 @@ use Rattle.b3d_scene.specs.Scene.{Scene}
 use Rattle.b3d_scene.specs.Tables.{rows}
 use Rattle.b3d_judge.specs.declared.Summary.{Summary}
 use Rattle.b3d_names.specs.Name.{nameOr}
-use Rattle.b3d_read.specs.Rooms.{countsIn}
+use Rattle.b3d_limits.specs.Rooms.{countsIn}
 use Rattle.b3d_text.specs.Text.{numberLine, textLine}
 use Rattle.b3d_listing.specs.Listing.{mostListed, unnamed, nodeLines}
 

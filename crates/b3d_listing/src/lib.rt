@@ -7,13 +7,13 @@ ghost use Rattle.b3d_scene.specs.Answers.{judge};
 ghost use Rattle.b3d_scene.specs.declared.Mode.the-variants.{Strict};
 ghost use Rattle.b3d_text.specs.Puts.{Puts};
 ghost use Rattle.b3d_text.specs.Text.{numberLine};
-ghost use Rattle.b3d_read.specs.Rooms.{countsIn};
+ghost use Rattle.b3d_limits.specs.Rooms.{countsIn};
 ghost use Rattle.b3d_listing.specs.Listing.{listing, Lists};
 ghost use Rattle.b3d_listing.specs.Parts.{headLines, nodeLinesOf, rowLine, rowLines, Listable};
-use b3d_bodies::Tally;
 use b3d_judge::Summary;
 use b3d_judge::Verdict;
 use b3d_scene::Mode;
+use b3d_tally::Tally;
 
 // A line of two numbers.
 fn put_pair(a: usize, b: usize, out: &mut [u8], at: usize) -> usize

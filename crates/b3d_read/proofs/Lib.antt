@@ -1,2 +1,2 @@
-pub mod RoomLaws
+-- The laws of its ways.
 pub mod ReadLaws

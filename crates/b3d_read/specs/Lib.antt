@@ -1,3 +1,2 @@
--- What the reader promises, and the promises of its parts.
-pub mod Rooms
+-- What the reader promises.
 pub mod Reads

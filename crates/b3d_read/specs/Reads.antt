@@ -6,8 +6,6 @@ use lib.ListN.{length, getD}
 use Rattle.b3d_scene.specs.declared.Answer.{Answer}
 use Rattle.b3d_scene.specs.declared.Mode.{Mode}
 use Rattle.b3d_scene.specs.Answers.{readAnswer, readTable}
-use Rattle.b3d_judge.specs.declared.Summary.{Summary}
-use Rattle.b3d_read.specs.Rooms.{countsIn}
 
 -- table k of the tables 1, 2 and so on
 abbrev pub tableIn : List (List ℕ) → ℕ → List ℕ
@@ -21,9 +19,3 @@ roomIn ts k = length (tableIn ts k)
 pub record Reads (mode : Mode) (s : List ℕ) (before after : List (List ℕ)) (r : Answer) : Type 0 where
   pub answer : r ≡ readAnswer mode (roomIn before) s
   pub table : (k : ℕ) → 1 ≤ k → k ≤ 10 → tableIn after k ≡ readTable mode k (roomIn before) s (tableIn before k)
-
--- ---- the parts of `read`
-
--- what is answered for a file that was accepted
-unfoldable pub acceptedAs : Summary → Answer
-acceptedAs x = record { number = 0; place = 0; version = x .version; «n_texs» = x .«n_texs»; counts = countsIn (x .tally) }

@@ -1,32 +1,19 @@
--- What was promised of an answer holds of the same answer in C's layout; what was promised of a mode, of the number that names it.
+-- What was promised of an answer holds of the same answer in C's layout.
 use mathlib.Core.Path.{_≡_, refl, sym, subst, _∙_, ap}
 use Prim.Native.Nat.{ℕ, _+_, _≤_}
 use mathlib.Core.List.{List}
-use borrow.Author.Tests.{ne-eqb}
-use Rattle.wire.specs.Test.{if}
 use Rattle.b3d_scene.specs.declared.Answer.{Answer}
 use Rattle.b3d_scene.specs.declared.Mode.{Mode}
-use Rattle.b3d_scene.specs.declared.Mode.the-variants.{Strict, Lenient}
 use Rattle.b3d_scene.specs.declared.Written.{Written}
 use Rattle.b3d_scene.specs.Answers.{judge, answer}
 use Rattle.b3d_scene.specs.Rebuild.{Lent}
 use Rattle.b3d_write.specs.Writes.{Writes}
 use Rattle.b3d_read.specs.Reads.{Reads}
 use Rattle.b3d_label.specs.declared.TrayLabel.{TrayLabel}
-use Rattle.kelompuris_c.specs.Answers.{answerIn, writtenIn, modeOf, trayLabelIn}
-use Rattle.kelompuris_c.specs.declared.KelompurisAnswer.{KelompurisAnswer}
-use Rattle.kelompuris_c.specs.declared.KelompurisWritten.{KelompurisWritten}
-use Rattle.kelompuris_c.specs.declared.KelompurisLabel.{KelompurisLabel}
-
-pub one-lenient : (n : ℕ) → n ≡ 1 → Lenient ≡ modeOf n
-unfolding modeOf if
-one-lenient n e = rw e
-
-pub other-strict : (n : ℕ) → (n ≡ 1 → ⊥) → Strict ≡ modeOf n
-unfolding modeOf if
-other-strict n e = rw (ne-eqb n 1 e)
-
-pub ruleset mode-laws = (one-lenient, other-strict)
+use Rattle.kelompuris_answers.specs.Answers.{answerIn, writtenIn, trayLabelIn}
+use Rattle.kelompuris_answers.specs.declared.KelompurisAnswer.{KelompurisAnswer}
+use Rattle.kelompuris_answers.specs.declared.KelompurisWritten.{KelompurisWritten}
+use Rattle.kelompuris_answers.specs.declared.KelompurisLabel.{KelompurisLabel}
 
 module _ (m k : Mode) (em : m ≡ k) where
   module _ (r : KelompurisAnswer) (a : Answer) (e : answerIn r ≡ a) where

@@ -1,6 +1,6 @@
 -- `judge_keys` answers what `readKeys` reads.
 use borrow.Author.Needs.{needs}
-use Rattle.b3d_bodies.proofs.Heads.{heads}
+use Rattle.b3d_inside.proofs.Heads.{heads}
 use Rattle.b3d_bodies.proofs.KeyLaws.{key-laws}
 use Rattle.b3d_bodies.proofs.Judging.{counted-few}
 use Rattle.b3d_bodies.proofs.judge_keys.Statement.{statement}

@@ -1,6 +1,6 @@
 -- A slice of bytes holds bytes.
 use native.Mathlib.Omega.{arith}
-use Rattle.b3d_judge.proofs.SmallLaws.{all-bytes, no-bytes}
+use Rattle.b3d_judge.proofs.JudgeLaws.{all-bytes, no-bytes}
 use borrow.Author.Needs.{needs}
 use Rattle.b3d_judge.proofs.are_bytes.Statement.{statement}
 use Rattle.b3d_judge.proofs.are_bytes.Tie as tie

@@ -1,5 +1,5 @@
 -- `put_counts` puts the ten counts of the tally.
-use Rattle.b3d_read.specs.Rooms.{countsIn}
+use Rattle.b3d_limits.specs.Rooms.{countsIn}
 use borrow.Author.Needs.{needs}
 use Rattle.b3d_listing.proofs.put_counts.Statement.{statement}
 use Rattle.b3d_listing.proofs.put_counts.Tie as tie

@@ -1,4 +1,4 @@
--- `kelompuris_b3d_judge` answers what `b3d_read::judge` does.
+-- `kelompuris_b3d_judge` answers what `b3d_answers::judge` does.
 use borrow.Author.Needs.{needs}
 use Rattle.kelompuris_c.proofs.Laws.{outward-judge}
 use Rattle.kelompuris_c.proofs.kelompuris_b3d_judge.Statement.{statement}

@@ -1,0 +1,2 @@
+-- The reader's answers.
+pub mod Answers

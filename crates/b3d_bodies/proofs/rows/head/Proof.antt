@@ -1,9 +1,0 @@
--- `head` answers `headTally`.
-use borrow.Author.Needs.{needs}
-use Rattle.b3d_bodies.specs.Tally.{noTally, headTally}
-use Rattle.b3d_bodies.proofs.rows.head.Statement.{statement}
-use Rattle.b3d_bodies.proofs.rows.head.Tie as tie
-
-pub head-spec : {M : Type 1} → statement M
-unfolding noTally headTally
-head-spec = tie.close (tie.spec (λ c κs. search needs) (λ c. rw (c .none .ensures)))

@@ -1,9 +1,0 @@
--- `triangles` answers `trianglesTally`.
-use borrow.Author.Needs.{needs}
-use Rattle.b3d_bodies.specs.Tally.{noTally, trianglesTally}
-use Rattle.b3d_bodies.proofs.rows.triangles.Statement.{statement}
-use Rattle.b3d_bodies.proofs.rows.triangles.Tie as tie
-
-pub triangles-spec : {M : Type 1} → statement M
-unfolding noTally trianglesTally
-triangles-spec = tie.close (tie.spec (λ c κs. search needs) (λ c. search needs) (λ c. search needs) (λ c. rw (c .none .ensures)))

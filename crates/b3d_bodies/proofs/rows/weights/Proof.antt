@@ -1,9 +1,0 @@
--- `weights` answers `weightsTally`.
-use borrow.Author.Needs.{needs}
-use Rattle.b3d_bodies.specs.Tally.{noTally, weightsTally}
-use Rattle.b3d_bodies.proofs.rows.weights.Statement.{statement}
-use Rattle.b3d_bodies.proofs.rows.weights.Tie as tie
-
-pub weights-spec : {M : Type 1} → statement M
-unfolding noTally weightsTally
-weights-spec = tie.close (tie.spec (λ c κs. search needs) (λ c. search needs) (λ c. search needs) (λ c. rw (c .none .ensures)))

@@ -1,0 +1,5 @@
+-- Laws of places inside a chunk.
+pub mod Heads
+pub mod Rests
+pub mod TagTests
+pub mod Turns

@@ -1,0 +1,2 @@
+-- Where a cursor stands.
+pub mod Places

@@ -1,0 +1,33 @@
+-- Where a cursor stands, in the body of a chunk or among the chunks inside one, and the chunks that it has left there.
+use mathlib.Core.Path.{_≡_}
+use Prim.Native.Nat.{ℕ, _≤_, _+_}
+use mathlib.Core.Bool.{Bool}
+use mathlib.Core.List.{List}
+use Rattle.wire.specs.Cursors.{left}
+use Rattle.wire.specs.declared.Cursor.{Cursor}
+use Rattle.b3d_scene.specs.declared.Tag.{Tag}
+use Rattle.b3d_scene.specs.Tags.{Chunks, split}
+use Rattle.b3d_scene.specs.Nesting.{Reached, order}
+use Rattle.b3d_scene.specs.Rules.{mostBytes}
+
+-- the body of a chunk whose header stands at `at`, in a file of n bytes
+pub record Body (at : ℕ) (b : Cursor) (n : ℕ) : Type 0 where
+  pub head : b .at ≡ at + 8
+  pub room : b .at ≤ b .end
+  pub within : b .end ≤ n
+  pub small : n ≤ mostBytes
+
+-- a cursor among the chunks inside a chunk whose header stands at `at`, in a file of n bytes
+pub record Among (at : ℕ) (c : Cursor) (n : ℕ) : Type 0 where
+  pub head : at + 8 ≤ c .at
+  pub room : c .at ≤ c .end
+  pub within : c .end ≤ n
+  pub small : n ≤ mostBytes
+
+-- the turn of the last chunk, and whether one stood there that may not be repeated
+abbrev pub reached : ℕ → Bool → Reached
+reached turn spent = record { turn = turn; spent = spent }
+
+-- the chunks from a cursor on, inside a chunk of tag k whose header is at `head`
+unfoldable pub restIn : List ℕ → Tag → ℕ → Reached → Cursor → Chunks
+restIn s k head r c = order k head r (split (c .at) (left c s))

@@ -1,0 +1,26 @@
+-- What a verdict says of what was read.
+use mathlib.Core.Path.{_≡_, refl}
+use Prim.Native.Nat.{ℕ}
+use native.Mathlib.Omega.{arith}
+use Rattle.layout.specs.Out.{Out, got, bad}
+use Rattle.b3d_scene.specs.Scene.{Scene}
+use Rattle.b3d_tally.specs.Tally.{tallyOf}
+use Rattle.b3d_judge.specs.Answers.{verdictOf}
+use Rattle.b3d_judge.specs.declared.Summary.{Summary}
+use Rattle.b3d_judge.specs.declared.Verdict.the-variants as verdict
+
+abbrev pub summaryOf : Scene → Summary
+summaryOf t = record { version = t .version; «n_texs» = t .slots; tally = tallyOf t }
+
+pub record Good (o : Out Scene) (x : Summary) : Type 0 where
+  pub scene : Scene
+  pub is : o ≡ got scene
+  pub same : x ≡ summaryOf scene
+
+pub was-bad : (o : Out Scene) (e p : ℕ) → verdictOf o ≡ verdict.Bad e p → o ≡ bad e p
+was-bad (got t) e p h = let z : _≡_ {A = ℕ} 0 1 = cc in absurd (omega arith)
+was-bad (bad n q) e p h = cc
+
+pub was-good : (o : Out Scene) (x : Summary) → verdictOf o ≡ verdict.Good x → Good o x
+was-good (got t) x h = record { scene = t; is = refl; same = cc }
+was-good (bad n p) x h = let z : _≡_ {A = ℕ} 0 1 = cc in absurd (omega arith)

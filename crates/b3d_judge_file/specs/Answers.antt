@@ -1,0 +1,79 @@
+-- The chunks inside a BB3D by phases, textures, brushes, nodes, and what is answered of each: its tally, and the chunks left.
+use mathlib.Core.Path.{_≡_}
+use Prim.Native.Nat.{ℕ, _≤_}
+use mathlib.Core.List.{List, []}
+use lib.ListN.{length}
+use Rattle.wire.specs.declared.Cursor.{Cursor}
+use Rattle.layout.specs.Out.{Out, got, bad, _>>=_}
+use Rattle.layout.specs.Chunks.{ended}
+use Rattle.b3d_scene.specs.declared.Mode.{Mode}
+use Rattle.b3d_scene.specs.declared.Tag.the-variants.{BRUS, NODE}
+use Rattle.b3d_scene.specs.Tags.{Chunks, Found}
+use Rattle.b3d_scene.specs.Scene.{Brush, Forest, leaf}
+use Rattle.b3d_scene.specs.Parse.{readOne, readBrushes, readRoot, slotsOf}
+use Rattle.b3d_tally.specs.Tally.{plus, brusTally, forestTally}
+use Rattle.b3d_tally.specs.declared.Tally.{Tally}
+use Rattle.b3d_judge_lists.specs.Answers.{SlottedIn}
+use Rattle.b3d_judge_lists.specs.declared.Slotted.{Slotted}
+use Rattle.b3d_judge_lists.specs.declared.Slotted.the-variants as slots
+use Rattle.b3d_judge_file.specs.declared.Phase.{Phase}
+use Rattle.b3d_judge_file.specs.declared.Phase.the-variants as phase
+use Rattle.b3d_judge_file.specs.declared.Brushed.{Brushed}
+use Rattle.b3d_judge_file.specs.declared.Brushed.the-variants as brushed
+use Rattle.b3d_tally.specs.Answers.{Onward}
+
+-- the nodes, if NODE comes first, and nothing known after it
+unfoldable pub readLast : Mode → ℕ → Chunks → Out Forest
+readLast mode brushes cs = do
+  n ← readOne NODE leaf (readRoot mode brushes) cs
+  ended (n .rest) (n .value)
+
+-- the chunks inside a BB3D after its textures: how many slots a brush has, its brushes, its nodes
+unfoldable pub readRest : Mode → ℕ → Chunks → Out ((ℕ × List Brush) × Forest)
+readRest mode textures cs = do
+  u ← readOne BRUS (0, []) (readBrushes mode textures) cs
+  f ← readLast mode (length (u .value .1)) (u .rest)
+  got ((slotsOf (u .value .0) (u .value .1), u .value .1), f)
+
+-- the tally of what was read, and the chunks left
+abbrev pub tallied : {A : Type 0} → (A → Tally) → Out (Found A) → Out (Tally × Chunks)
+tallied f (got x) = got (f (x .value), x .rest)
+tallied f (bad n p) = bad n p
+
+abbrev pub phased : (Cursor → Chunks) → Phase → Out (Tally × Chunks)
+phased rest (phase.To t c) = got (t, rest c)
+phased rest (phase.Not n p) = bad n p
+
+abbrev pub PhasedIn : Cursor → Phase → Type 0
+PhasedIn from (phase.To t c) = Onward from c t
+PhasedIn from (phase.Not n p) = p ≤ from .end
+
+pub record Phases {A : Type 0} (tally : A → Tally) (o : Out (Found A)) (rest : Cursor → Chunks) (from : Cursor) (r : Phase) : Type 0 where
+  pub is : phased rest r ≡ tallied tally o
+  pub within : PhasedIn from r
+
+-- brushes: the slots of a brush beside their tally
+abbrev pub brushes : Out (Found (ℕ × List Brush)) → Out (ℕ × Tally × Chunks)
+brushes (got x) = let k = slotsOf (x .value .0) (x .value .1) in got (k, brusTally k (x .value .1), x .rest)
+brushes (bad n p) = bad n p
+
+abbrev pub brushedBy : (Cursor → Chunks) → Brushed → Out (ℕ × Tally × Chunks)
+brushedBy rest (brushed.To k t c) = got (k, t, rest c)
+brushedBy rest (brushed.Not n p) = bad n p
+
+abbrev pub BrushedIn : Cursor → Brushed → Type 0
+BrushedIn from (brushed.To k t c) = Onward from c t
+BrushedIn from (brushed.Not n p) = p ≤ from .end
+
+pub record Brushes (o : Out (Found (ℕ × List Brush))) (rest : Cursor → Chunks) (from : Cursor) (r : Brushed) : Type 0 where
+  pub is : brushedBy rest r ≡ brushes o
+  pub within : BrushedIn from r
+
+-- brushes and nodes: the slots of a brush beside their tally
+abbrev pub rested : Out ((ℕ × List Brush) × Forest) → Slotted
+rested (got x) = slots.Is (x .0 .0) (plus (brusTally (x .0 .0) (x .0 .1)) (forestTally (x .1)))
+rested (bad n p) = slots.Not n p
+
+pub record Rests (o : Out ((ℕ × List Brush) × Forest)) (from to : ℕ) (r : Slotted) : Type 0 where
+  pub is : r ≡ rested o
+  pub within : SlottedIn from to r

@@ -1,0 +1,2 @@
+-- What the judge of a file's chunks answers.
+pub mod Answers

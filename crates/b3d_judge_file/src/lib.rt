@@ -1,0 +1,160 @@
+// Judges the chunks of a file: at most one each of TEXS, BRUS and NODE, in that order.
+ghost use mathlib.Core.Bool.{true};
+ghost use mathlib.Core.List.{[]};
+ghost use lib.ListN.{length};
+ghost use Rattle.b3d_scene.specs.declared.Tag.the-variants.{BB3D, TEXS, BRUS, NODE};
+ghost use Rattle.b3d_scene.specs.Scene.{leaf};
+ghost use Rattle.b3d_scene.specs.Nesting.{start};
+ghost use Rattle.b3d_scene.specs.Parse.{readOne, readTextures, readBrushes, readRoot};
+ghost use Rattle.b3d_tally.specs.Tally.{texsTally, forestTally};
+ghost use Rattle.b3d_tally.specs.Answers.{Judges};
+ghost use Rattle.b3d_inside.specs.Places.{reached, restIn, Among};
+ghost use Rattle.b3d_judge_file.specs.Answers.{readLast, readRest, Phases, Brushes, Rests};
+use b3d_judge_lists::Slotted;
+use b3d_judge_node::Above;
+use b3d_scene::Mode;
+use b3d_scene::Tag;
+use b3d_tally::Judged;
+use b3d_tally::Tally;
+use b3d_turns::Enclosed;
+use b3d_turns::Reached;
+use wire::Cursor;
+
+// The tally of chunks that were judged, and the cursor after them.
+pub enum Phase {
+    To(Tally, Cursor),
+    Not(u32, usize),
+}
+
+// The slots of a brush, the tally of the brushes, and the cursor after them.
+pub enum Brushed {
+    To(u32, Tally, Cursor),
+    Not(u32, usize),
+}
+
+// How far the chunks of a file have come after its textures, its brushes and its root, with them or without.
+const TEXS_READ: Reached = Reached {
+    turn: 1,
+    spent: true,
+};
+
+const BRUS_READ: Reached = Reached {
+    turn: 2,
+    spent: true,
+};
+
+const ROOT_READ: Reached = Reached {
+    turn: 3,
+    spent: true,
+};
+
+// The textures, if TEXS comes first.
+pub fn judge_texs(s: &[u8], from: Cursor) -> Phase
+    requires { ⌜ Among 0 from (length (now s)) ⌝ }
+    ensures { λ r. ⌜ Phases texsTally (readOne TEXS [] readTextures (restIn (now (s .entry)) BB3D 0 start from)) (restIn (now (s .entry)) BB3D 0 (reached 1 true)) from r ⌝ }
+{
+    let found = b3d_chunks::next_chunk(s, from);
+    match b3d_turns::first_inside(s, from, found, Tag::BB3D, 0) {
+        Enclosed::End => Phase::To(b3d_tally::none(), from),
+        Enclosed::Not(e, p) => Phase::Not(e, p),
+        Enclosed::Chunk {
+            tag,
+            at,
+            body,
+            next,
+            reached: _,
+        } => match tag {
+            Tag::TEXS => match b3d_judge_lists::judge_textures(s, at, body) {
+                Judged::Bad(e, p) => Phase::Not(e, p),
+                Judged::Good(t) => Phase::To(t, next),
+            },
+            _ => Phase::To(b3d_tally::none(), from),
+        },
+    }
+}
+
+// The brushes, if BRUS comes first.
+pub fn judge_brus(s: &[u8], from: Cursor, textures: usize, mode: Mode) -> Brushed
+    requires { ⌜ Among 0 from (length (now s)) ⌝ }
+    ensures { λ r. ⌜ Brushes (readOne BRUS (0, []) (readBrushes mode textures) (restIn (now (s .entry)) BB3D 0 (reached 1 true) from)) (restIn (now (s .entry)) BB3D 0 (reached 2 true)) from r ⌝ }
+{
+    let found = b3d_chunks::next_chunk(s, from);
+    match b3d_turns::next_inside(s, from, found, Tag::BB3D, 0, TEXS_READ) {
+        Enclosed::End => Brushed::To(0, b3d_tally::none(), from),
+        Enclosed::Not(e, p) => Brushed::Not(e, p),
+        Enclosed::Chunk {
+            tag,
+            at,
+            body,
+            next,
+            reached: _,
+        } => match tag {
+            Tag::BRUS => match b3d_judge_lists::judge_brushes(s, at, body, textures, mode) {
+                Slotted::Not(e, p) => Brushed::Not(e, p),
+                Slotted::Is(slots, t) => Brushed::To(slots, t, next),
+            },
+            _ => Brushed::To(0, b3d_tally::none(), from),
+        },
+    }
+}
+
+// The nodes, if NODE comes first.
+fn judge_root(s: &[u8], from: Cursor, brushes: usize, mode: Mode) -> Phase
+    requires { ⌜ Among 0 from (length (now s)) ⌝ }
+    ensures { λ r. ⌜ Phases forestTally (readOne NODE leaf (readRoot mode brushes) (restIn (now (s .entry)) BB3D 0 (reached 2 true) from)) (restIn (now (s .entry)) BB3D 0 (reached 3 true)) from r ⌝ }
+{
+    let found = b3d_chunks::next_chunk(s, from);
+    match b3d_turns::next_inside(s, from, found, Tag::BB3D, 0, BRUS_READ) {
+        Enclosed::End => Phase::To(b3d_tally::none(), from),
+        Enclosed::Not(e, p) => Phase::Not(e, p),
+        Enclosed::Chunk {
+            tag: _,
+            at,
+            body,
+            next,
+            reached: _,
+        } => match b3d_judge_tree::judge_node(s, at, body, 16, brushes, Above::Root, mode) {
+            Judged::Bad(e, p) => Phase::Not(e, p),
+            Judged::Good(t) => Phase::To(t, next),
+        },
+    }
+}
+
+// The nodes, if NODE comes first, and nothing known after it.
+fn judge_last(s: &[u8], from: Cursor, brushes: usize, mode: Mode) -> Judged
+    requires { ⌜ Among 0 from (length (now s)) ⌝ }
+    ensures { λ r. ⌜ Judges forestTally (readLast mode brushes (restIn (now (s .entry)) BB3D 0 (reached 2 true) from)) (from .at) (from .end) r ⌝ }
+{
+    match judge_root(s, from, brushes, mode) {
+        Phase::Not(e, p) => Judged::Bad(e, p),
+        Phase::To(t, end) => {
+            let found = b3d_chunks::next_chunk(s, end);
+            match b3d_turns::next_inside(s, end, found, Tag::BB3D, 0, ROOT_READ) {
+                Enclosed::End => Judged::Good(t),
+                Enclosed::Not(e, p) => Judged::Bad(e, p),
+                // Nothing may stand here.
+                Enclosed::Chunk {
+                    tag: _,
+                    at: _,
+                    body: _,
+                    next: _,
+                    reached: _,
+                } => Judged::Good(t),
+            }
+        }
+    }
+}
+
+// BRUS and NODE.
+pub fn judge_rest(s: &[u8], from: Cursor, textures: usize, mode: Mode) -> Slotted
+    requires { ⌜ Among 0 from (length (now s)) ⌝ }
+    ensures { λ r. ⌜ Rests (readRest mode textures (restIn (now (s .entry)) BB3D 0 (reached 1 true) from)) (from .at) (from .end) r ⌝ }
+{
+    match judge_brus(s, from, textures, mode) {
+        Brushed::Not(e, p) => Slotted::Not(e, p),
+        Brushed::To(slots, b, c) => match judge_last(s, c, b.brushes, mode) {
+            Judged::Bad(e, p) => Slotted::Not(e, p),
+            Judged::Good(f) => Slotted::Is(slots, b3d_tally::plus(b, f)),
+        },
+    }
+}

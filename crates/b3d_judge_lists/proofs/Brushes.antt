@@ -1,0 +1,265 @@
+-- The brushes of a BRUS: what the loop of `brush_items` has counted, and what the answers say of `readBrushes`.
+use Prim.Native.Nat.{ℕ, zero, suc, _≤_, _<_, _+_, _-_, _*_}
+use native.Mathlib.Omega.{arith}
+use native.Mathlib.Nat.{mul-le-mul-left}
+use mathlib.Core.Path.{_≡_, refl, sym, ap, subst, _∙_}
+use mathlib.Core.List.{List, [], _∷_, _++_}
+use lib.ListN.{length, take, drop, replicate, length-replicate}
+use mir.Val.{Fits}
+use mir.Syntax.{w64}
+use borrow.Author.Tests.{lt-leb, le-leb}
+use Rattle.wire.specs.Bytes.{wordAt}
+use Rattle.wire.specs.Cursors.{Inside, left, numberAt}
+use Rattle.wire.specs.declared.Cursor.{Cursor}
+use Rattle.wire.specs.declared.Number.{Number}
+use Rattle.wire.specs.declared.Number.the-variants as number
+use Rattle.wire.proofs.Left.{span, left-length, left-four, left-drop}
+use Rattle.wire.proofs.Found.{numbered, number-cut}
+use Rattle.layout.specs.Out.{Out, got, bad, check, _>>=_}
+use Rattle.layout.specs.Parts.{Name, words, wordsOf, judged, row, items}
+use Rattle.layout.specs.Rules.{Rule, any, unit, holds, refusal}
+use Rattle.layout.proofs.StepLaws.{length-words-of, row-short}
+use Rattle.b3d_scene.specs.declared.Mode.{Mode}
+use Rattle.b3d_scene.specs.declared.Mode.the-variants.{Strict, Lenient}
+use Rattle.b3d_scene.specs.Scene.{Brush}
+use Rattle.b3d_scene.specs.Rules.{slots, brushRow, textureId, brushIds, mostBytes}
+use Rattle.b3d_scene.specs.Parse.{readBrush, readBrushes, slotsOf}
+use Rattle.b3d_chunks.specs.Chunks.{namedAt, NamedIn}
+use Rattle.b3d_chunks.specs.Items.{firstBad}
+use Rattle.b3d_chunks.specs.declared.Named.{Named}
+use Rattle.b3d_chunks.specs.declared.Named.the-variants as named
+use Rattle.b3d_chunks.specs.declared.Counted.{Counted}
+use Rattle.b3d_chunks.specs.declared.Counted.the-variants as counts
+use Rattle.b3d_chunks.proofs.Names.{named-among}
+use Rattle.b3d_chunks.proofs.Ids.{words-add, ids-pass, ids-stop, after-good, after-bad}
+use Rattle.b3d_tally.specs.Tally.{noTally, brusOf, brusTally, Within}
+use Rattle.b3d_inside.specs.Places.{Body}
+use Rattle.b3d_judge_lists.specs.Answers.{countedBrushes, BrushesIn, slotted, SlotsAre, brushColours}
+use Rattle.b3d_tally.specs.declared.Tally.{Tally}
+use Rattle.b3d_judge_lists.specs.declared.Slotted.{Slotted}
+use Rattle.b3d_judge_lists.specs.declared.Slotted.the-variants as slot
+use Rattle.b3d_tally.proofs.Tallies.{within-none}
+use Rattle.b3d_judge_lists.proofs.Counting.{countedFrom, Counting, count-none, count-done, count-cut, count-bad, count-one}
+
+-- ---- the loop
+
+brush : Name × List ℕ → Brush
+brush x = record { name = x .0; words = take 7 (x .1); ids = drop 7 (x .1) }
+
+-- so many brushes have been passed, each the zero of a text, seven words and its slots at least
+abbrev pub Brushes : Mode → ℕ → ℕ → List ℕ → Cursor → Cursor → ℕ → Type 0
+Brushes mode slots textures s from c count = Counting (readBrush mode slots textures) (29 + 4 * slots) s from c count
+
+from-none : (o : Out (List Brush)) (x : Counted) → countedFrom 0 o ≡ x → x ≡ countedBrushes o
+from-none (got l) x e = let z : 0 + length l ≡ length l = omega arith in sym e ∙ ap counts.Is z
+from-none (bad n p) x e = sym e
+
+brush-long : (mode : Mode) (n t : ℕ) → length (brushRow mode ++ brushIds n t) ≡ 7 + n
+brush-long Strict n t = simp length-replicate (omega arith)
+brush-long Lenient n t = simp length-replicate (omega arith)
+
+-- a brush's rules: the colours that the mode looks at, and others
+brush-rules : (mode : Mode) (n t k : ℕ) → k ≡ brushColours mode → (brushRow mode ++ brushIds n t ≡ replicate k unit ++ (replicate (7 - k) any ++ brushIds n t)) × (k ≤ 4)
+brush-rules Strict n t k e = (subst (λ (j : ℕ). brushRow Strict ++ brushIds n t ≡ replicate j unit ++ (replicate (7 - j) any ++ brushIds n t)) (sym e) refl, omega arith)
+brush-rules Lenient n t k e = (subst (λ (j : ℕ). brushRow Lenient ++ brushIds n t ≡ replicate j unit ++ (replicate (7 - j) any ++ brushIds n t)) (sym e) refl, omega arith)
+
+module _ (mode : Mode) (slots textures : ℕ) (s : List ℕ) (from : Cursor) where
+  abbrev rules : List Rule
+  rules = brushRow mode ++ brushIds slots textures
+
+  abbrev all : Out (List Brush)
+  all = items (readBrush mode slots textures) (from .at) (left from s)
+
+  long : length rules ≡ 7 + slots
+  long = brush-long mode slots textures
+
+  pub brushes-none : Inside from (length s) → Brushes mode slots textures s from from 0
+  brushes-none i = count-none (readBrush mode slots textures) (29 + 4 * slots) s from i
+
+  module _ (c : Cursor) (count : ℕ) (k₀ : Brushes mode slots textures s from c count) where
+    pub brushes-done : c .end ≤ c .at → counts.Is count ≡ countedBrushes all
+    unfolding readBrush brush
+    brushes-done h = from-none all _ (count-done brush rules k₀ h)
+
+    pub brushes-room : count * (29 + 4 * slots) ≤ from .end - from .at
+    brushes-room = omega arith
+
+    module _ (h : c .at < c .end) (r : Named) (e : r ≡ namedAt s c (7 + slots)) where
+      pub brushes-cut : r ≡ named.Cut → counts.Not 5 (c .at) ≡ countedBrushes all
+      unfolding readBrush brush
+      brushes-cut q = from-none all _ (count-cut brush rules k₀ h long e q)
+
+      module _ (len : ℕ) (w n : Cursor) (q : r ≡ named.Is len w n) (b : NamedIn c (7 + slots) r) where
+        abbrev ids : Cursor
+        ids = record { at = w .at + 28; end = w .end }
+
+        pub ids-room : ids .at + 4 * slots ≤ ids .end
+        ids-room = let f = named-among c (7 + slots) r b len w n q in omega arith
+
+        pub ids-inside : Inside ids (length s)
+        ids-inside = let f = named-among c (7 + slots) r b len w n q in omega arith
+
+        pub ids-fit : Fits w64 (w .end) → Fits w64 (ids .at)
+        ids-fit z = omega (arith, ids-room)
+
+        pub id-fits : (g : ℕ) → g < slots → Fits w64 (w .end) → Fits w64 (ids .at + 4 * g)
+        id-fits g z y = omega (arith, ids-room)
+
+        pub id-before : (g : ℕ) → g < slots → ids .at + 4 * g ≤ from .end
+        id-before g z = let f = named-among c (7 + slots) r b len w n q in omega arith
+
+        pub row-inside : Inside w (length s)
+        row-inside = omega (arith, ids-inside)
+
+        module _ (k : ℕ) (ek : k ≡ brushColours mode) where
+          few : k ≤ 4
+          few = brush-rules mode slots textures k ek .1
+
+          pub colours-few : k ≤ 64
+          colours-few = omega (arith, few)
+
+          pub colours-room : w .at + 4 * k ≤ w .end
+          colours-room = omega (arith, few, ids-room)
+
+          pub colour-fits : (d : ℕ) → d < k → Fits w64 (w .end) → Fits w64 (w .at + 4 * d)
+          colour-fits d z y = omega (arith, colours-room)
+
+          pub colour-before : (d : ℕ) → d < k → w .at + 4 * d ≤ from .end
+          colour-before d z = let f = named-among c (7 + slots) r b len w n q in omega (arith, few)
+
+          -- what is left of the row after its colours
+          abbrev past : Cursor
+          past = span (w .at + 4 * k) (w .end)
+
+          in-two : {A : Type 0} (a : A) → judged rules (w .at) (wordsOf (7 + slots) (left w s)) a
+              ≡ judged (replicate k unit ++ (replicate (7 - k) any ++ brushIds slots textures)) (w .at) (wordsOf k (left w s) ++ wordsOf (7 - k + slots) (left past s)) a
+          in-two a =
+              let e : 7 + slots ≡ k + (7 - k + slots) = omega (arith, few) in
+              let room : 4 * k ≤ length (left w s) = omega (arith, left-length s w row-inside, colours-room) in
+              rw (e, words-add k (7 - k + slots) (left w s) room, left-drop s w (4 * k) past refl refl)
+              (ap (λ (rs : List Rule). judged rs (w .at) (wordsOf k (left w s) ++ wordsOf (7 - k + slots) (drop (4 * k) (left w s))) a) (brush-rules mode slots textures k ek .0))
+
+          long-colours : length (wordsOf k (left w s)) ≡ k
+          long-colours = length-words-of k (left w s) (omega (arith, left-length s w row-inside, colours-room))
+
+          module _ (d : ℕ) (ed : d ≡ firstBad unit (wordsOf k (left w s))) where
+            pub brushes-colour : d < k → counts.Not 6 (w .at + 4 * d) ≡ countedBrushes all
+            unfolding readBrush brush
+            brushes-colour z =
+                from-none all _ (count-bad brush rules k₀ h long e q (λ a. rw ed (in-two a
+                ∙ ids-stop unit k (w .at) (wordsOf k (left w s)) (wordsOf (7 - k + slots) (left past s)) _ a long-colours (omega arith))))
+
+            module _ (kd : k ≤ d) (dk : d ≤ k) (g : ℕ) (f : g ≡ firstBad (textureId textures) (wordsOf slots (left ids s))) where
+              passed : {A : Type 0} (a : A) → judged rules (w .at) (wordsOf (7 + slots) (left w s)) a ≡ judged (replicate (7 - k) any ++ brushIds slots textures) (w .at + 4 * k) (wordsOf (7 - k + slots) (left past s)) a
+              passed a = in-two a ∙ ids-pass unit k (w .at) (wordsOf k (left w s)) (wordsOf (7 - k + slots) (left past s)) _ a long-colours (omega arith)
+
+              past-inside : Inside past (length s)
+              past-inside = omega (arith, row-inside, colours-room)
+
+              past-room : past .at + 4 * (7 - k + slots) ≤ past .end
+              past-room = omega (arith, few, ids-room)
+
+              past-to : ids .at ≡ past .at + 4 * (7 - k)
+              past-to = omega (arith, few)
+
+              pub brushes-bad : g < slots → counts.Not 7 (ids .at + 4 * g) ≡ countedBrushes all
+              unfolding readBrush brush
+              brushes-bad z =
+                  from-none all _ (count-bad brush rules k₀ h long e q (λ a. passed a ∙ after-bad s past ids (textureId textures) (7 - k) slots a past-inside past-room past-to refl g f z))
+
+              pub brushes-one : slots ≤ g → g ≤ slots → Brushes mode slots textures s from n (count + 1)
+              unfolding readBrush brush
+              brushes-one y z =
+                  count-one brush rules k₀ h long e q b (omega arith) (λ a. passed a ∙ after-good s past ids (textureId textures) (7 - k) slots a past-inside past-room past-to refl g f y z)
+
+pub ruleset brushes =
+    (brushes-none, brushes-done, brushes-room, brushes-cut, ids-room, ids-inside, ids-fit, id-fits, id-before, row-inside, colours-few, colours-room, colour-fits, colour-before, brushes-colour, brushes-bad, brushes-one)
+
+-- ---- a head of one number
+
+module _ (s : List ℕ) (c : Cursor) (i : Inside c (length s)) (rule : Rule) (r : Number) (e : r ≡ numberAt s c) where
+  head-short : r ≡ number.Cut → row (rule ∷ []) (c .at) (left c s) ≡ bad 5 (c .at)
+  head-short q = row-short (rule ∷ []) (c .at) (left c s) (omega (arith, left-length s c i, number-cut s c (sym e ∙ q)))
+
+  head-is : (k : ℕ) (n : Cursor) → r ≡ number.Is k n
+      → row (rule ∷ []) (c .at) (left c s) ≡ (check (holds rule k) (refusal rule) (c .at) >>= λ _. got (record { value = k ∷ []; place = n .at; left = left n s }))
+  unfolding row words judged wordAt
+  head-is k n q = let f = numbered s c k n (sym e ∙ q) in rw (left-four s c n i (f .room) (f .to) (f .same), f .is, f .to)
+
+-- ---- answers
+
+within-brus : (slots k n : ℕ) → 12 + k * (29 + 4 * slots) ≤ n → Within (brusOf slots k) n
+unfolding brusOf
+within-brus slots zero n le = within-none n
+within-brus slots (suc k) n le =
+    let h : 29 ≤ 29 + 4 * slots = omega arith in
+    let m = mul-le-mul-left (suc k) h in
+    record { rows = omega arith; copy = omega arith }
+
+module _ (k : ℕ) where
+  slots-not : (o : Out (List Brush)) (x p : ℕ) → counts.Not x p ≡ countedBrushes o → slot.Not x p ≡ slotted (o >>= λ l. got (k, l))
+  slots-not (got l) x p e = let z : _≡_ {A = ℕ} 0 1 = cc in absurd (omega arith)
+  slots-not (bad n q) x p e = cc
+
+  -- without a brush there are no slots
+  slots-none : (o : Out (List Brush)) → counts.Is 0 ≡ countedBrushes o → slot.Is 0 noTally ≡ slotted (o >>= λ l. got (k, l))
+  unfolding slotsOf brusTally brusOf
+  slots-none (got []) e = refl
+  slots-none (got (b ∷ l)) e = let z : 0 ≡ suc (length l) = cc in absurd (omega arith)
+  slots-none (bad n q) e = let z : _≡_ {A = ℕ} 0 1 = cc in absurd (omega arith)
+
+  slots-some : (o : Out (List Brush)) (count : ℕ) → (count ≡ 0 → ⊥) → counts.Is count ≡ countedBrushes o → slot.Is k (brusOf k count) ≡ slotted (o >>= λ l. got (k, l))
+  unfolding slotsOf brusTally
+  slots-some (got []) count h e = let z : count ≡ 0 = cc in absurd (h z)
+  slots-some (got (b ∷ l)) count h e = let z : count ≡ suc (length l) = cc in ap (λ (i : ℕ). slot.Is k (brusOf k i)) z
+  slots-some (bad n q) count h e = let z : _≡_ {A = ℕ} 0 1 = cc in absurd (omega arith)
+
+module _ (mode : Mode) (textures at : ℕ) (s : List ℕ) (body : Cursor) (b : Body at body (length s)) (r : Number) (e : r ≡ numberAt s body) where
+  abbrev Answer : Slotted → Type 0
+  Answer x = SlotsAre (readBrushes mode textures at (left body s)) at (body .end) x
+
+  inside : Inside body (length s)
+  inside = record { before = b .room; within = b .within }
+
+  pub head-cut : r ≡ number.Cut → Answer (slot.Not 5 (body .at))
+  unfolding readBrushes
+  head-cut q = record { is = rw (← b .head, head-short s body inside slots r e q); within = b .room }
+
+  module _ (k : ℕ) (n : Cursor) (q : r ≡ number.Is k n) where
+    pub head-over : 8 < k → Answer (slot.Not 6 (body .at))
+    unfolding readBrushes check
+    head-over h = record { is = rw (← b .head, head-is s body inside slots r e k n q, lt-leb _ _ h); within = b .room }
+
+    module _ (h : k ≤ 8) (m : ℕ) (y : m ≡ k) (t : Counted) (f : t ≡ countedBrushes (items (readBrush mode m textures) (n .at) (left n s))) (w : BrushesIn n m t) where
+      abbrev all-k : Out (List Brush)
+      all-k = items (readBrush mode k textures) (n .at) (left n s)
+
+      after-head : readBrushes mode textures at (left body s) ≡ (all-k >>= λ l. got (k, l))
+      unfolding readBrushes check
+      after-head = rw (← b .head, head-is s body inside slots r e k n q, le-leb _ _ h)
+
+      pub brushes-not : (x p : ℕ) → t ≡ counts.Not x p → Answer (slot.Not x p)
+      brushes-not x p v =
+          let a = numbered s body k n (sym e ∙ q) in
+          let z : p ≤ n .end = subst (BrushesIn n m) v w in
+          record { is = rw after-head (slots-not k all-k x p (sym v ∙ rw y at f)); within = omega arith }
+
+      module _ (count : ℕ) (v : t ≡ counts.Is count) where
+        room : count * (29 + 4 * m) ≤ n .end - n .at
+        room = subst (BrushesIn n m) v w
+
+        pub brushes-few : count ≤ mostBytes
+        brushes-few =
+            let a = numbered s body k n (sym e ∙ q) in
+            let z : 1 ≤ 29 + 4 * m = omega arith in
+            omega (arith, room, mul-le-mul-left count z)
+
+        pub no-brush : count ≡ 0 → (u : Tally) → u ≡ noTally → Answer (slot.Is 0 u)
+        no-brush z u g = record { is = rw (g, after-head) (slots-none k all-k (rw z at (sym v ∙ rw y at f))); within = rw g (within-none _) }
+
+        pub some-brush : (count ≡ 0 → ⊥) → (u : Tally) → u ≡ brusOf m count → Answer (slot.Is k u)
+        some-brush z u g =
+            let a = numbered s body k n (sym e ∙ q) in
+            record { is = rw (g, y, after-head) (slots-some k all-k count z (sym v ∙ rw y at f)); within = rw g (within-brus m count (body .end - at) (omega (arith, room))) }
+
+pub ruleset brus = (head-cut, head-over, brushes-not, brushes-few, no-brush, some-brush)

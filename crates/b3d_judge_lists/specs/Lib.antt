@@ -1,0 +1,2 @@
+-- What the judge of brushes answers.
+pub mod Answers

@@ -1,0 +1,39 @@
+-- A mesh from parts that were read, and what is answered of it: its vertices and its tally.
+use mathlib.Core.Path.{_≡_}
+use Prim.Native.Nat.{ℕ, _≤_, _-_}
+use lib.ListN.{length}
+use Rattle.layout.specs.Out.{Out, got, bad, _>>=_}
+use Rattle.b3d_scene.specs.declared.Mode.{Mode}
+use Rattle.b3d_scene.specs.declared.Tag.the-variants.{VRTS}
+use Rattle.b3d_scene.specs.Tags.{Chunks}
+use Rattle.b3d_scene.specs.Scene.{Mesh}
+use Rattle.b3d_scene.specs.Parse.{readOne, Vertices, noVertices, readVertices, readSets}
+use Rattle.b3d_tally.specs.Tally.{meshTally, Within}
+use Rattle.b3d_judge_mesh.specs.declared.Meshed.{Meshed}
+use Rattle.b3d_judge_mesh.specs.declared.Meshed.the-variants as mesh
+
+-- a mesh of this brush, of vertices that were read and the TRIS chunks after them
+unfoldable pub readAfter : ℕ → ℕ → Out Vertices → Chunks → Out Mesh
+readAfter brushes brush o cs = do
+  v ← o
+  l ← readSets brushes (length (v .items)) cs
+  got (record { brush = brush; flags = v .flags; sets = v .sets; size = v .size; vertices = v .items; triangleSets = l })
+
+-- the chunks inside a MESH of this brush, from the first on
+unfoldable pub readInside : Mode → ℕ → ℕ → Chunks → Out Mesh
+readInside mode brushes brush cs = do
+  v ← readOne VRTS noVertices (readVertices mode) cs
+  readAfter brushes brush (got (v .value)) (v .rest)
+
+-- its vertices and its tally
+abbrev pub meshed : Out Mesh → Meshed
+meshed (got m) = mesh.Is (length (m .vertices)) (meshTally m)
+meshed (bad n p) = mesh.Not n p
+
+abbrev pub MeshedIn : ℕ → ℕ → Meshed → Type 0
+MeshedIn from to (mesh.Is k t) = Within t (to - from)
+MeshedIn from to (mesh.Not n p) = p ≤ to
+
+pub record Meshes (o : Out Mesh) (from to : ℕ) (r : Meshed) : Type 0 where
+  pub is : r ≡ meshed o
+  pub within : MeshedIn from to r

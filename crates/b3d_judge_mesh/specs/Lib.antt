@@ -1,0 +1,2 @@
+-- What the judge of a MESH answers.
+pub mod Answers

@@ -1,0 +1,138 @@
+// Judges a MESH: its brush, its VRTS, its TRIS.
+ghost use Prim.Native.Nat.{_≤_, _+_};
+ghost use mathlib.Core.Path.{_≡_};
+ghost use mathlib.Core.Bool.{true};
+ghost use lib.ListN.{length};
+ghost use Rattle.wire.specs.Cursors.{left};
+ghost use Rattle.b3d_scene.specs.declared.Tag.the-variants.{MESH};
+ghost use Rattle.b3d_scene.specs.Parse.{readVertices, readSets, readMesh};
+ghost use Rattle.b3d_scene.specs.Rules.{mostBytes};
+ghost use Rattle.b3d_tally.specs.Tally.{plus, setsTally, verticesTally, Within};
+ghost use Rattle.b3d_inside.specs.Places.{Body, reached, restIn, Among};
+ghost use Rattle.b3d_tally.specs.Answers.{Judges};
+ghost use Rattle.b3d_scene.specs.Nesting.{start};
+ghost use Rattle.b3d_judge_mesh.specs.Answers.{readAfter, readInside, Meshes};
+use b3d_bodies::Shaped;
+use b3d_scene::Mode;
+use b3d_scene::Tag;
+use b3d_tally::Judged;
+use b3d_tally::Tally;
+use b3d_turns::Enclosed;
+use b3d_turns::Reached;
+use wire::Cursor;
+use wire::Number;
+
+// A mesh's vertices and its tally.
+pub enum Meshed {
+    Is(usize, Tally),
+    Not(u32, usize),
+}
+
+// How far the chunks of a mesh have come after its VRTS.
+const VRTS_READ: Reached = Reached {
+    turn: 1,
+    spent: true,
+};
+
+// The TRIS chunks of a mesh whose header is at `at`, with so many vertices: one or more.
+pub fn judge_sets(s: &[u8], at: usize, from: Cursor, brushes: usize, vertices: usize) -> Judged
+    requires { ⌜ Among at from (length (now s)) ⌝ }
+    ensures { λ r. ⌜ Judges setsTally (readSets brushes vertices (restIn (now (s .entry)) MESH at (reached 1 true) from)) (from .at) (from .end) r ⌝ }
+{
+    let mut c = from;
+    let mut q = VRTS_READ;
+    let mut m = b3d_tally::none();
+    loop {
+        let found = b3d_chunks::next_chunk(s, c);
+        match b3d_turns::next_inside(s, c, found, Tag::MESH, at, q) {
+            Enclosed::End => {
+                return Judged::Good(m);
+            }
+            Enclosed::Not(e, p) => {
+                return Judged::Bad(e, p);
+            }
+            Enclosed::Chunk {
+                tag: _,
+                at: p,
+                body,
+                next,
+                reached,
+            } => match b3d_bodies::judge_triangles(s, p, body, brushes, vertices) {
+                Judged::Bad(e, i) => {
+                    return Judged::Bad(e, i);
+                }
+                Judged::Good(t) => {
+                    m = b3d_tally::plus(m, t);
+                    q = reached;
+                    c = next;
+                }
+            },
+        }
+    }
+}
+
+// The rows of a mesh of n vertices of so many words each, and of its TRIS.
+fn mesh_rows(n: usize, words: usize, sets: Tally) -> Tally
+    requires { ⌜ (n ≤ mostBytes) × (words ≤ 42) × Within (verticesTally n words) mostBytes × Within sets mostBytes ⌝ }
+    ensures { λ r. ⌜ r ≡ plus (verticesTally n words) sets ⌝ }
+{
+    b3d_tally::plus(b3d_tally::vertices(n, words), sets)
+}
+
+// A VRTS whose header is at p, and the TRIS after it, of a mesh whose header is at `at`.
+fn judge_shape(
+    s: &[u8],
+    at: usize,
+    p: usize,
+    body: Cursor,
+    next: Cursor,
+    brushes: usize,
+    mode: Mode,
+) -> Meshed
+    requires { ⌜ Body p body (length (now s)) × Among at next (length (now s)) × (at + 12 ≤ p) × (body .end ≡ next .at) ⌝ }
+    ensures { λ r. ⌜ Meshes (readAfter brushes 0 (readVertices mode p (left body (now (s .entry)))) (restIn (now (s .entry)) MESH at (reached 1 true) next)) at (next .end) r ⌝ }
+{
+    match b3d_bodies::judge_vertices(s, p, body, mode) {
+        Shaped::Not(e, q) => Meshed::Not(e, q),
+        Shaped::Is(n, words) => match judge_sets(s, at, next, brushes, n) {
+            Judged::Bad(e, q) => Meshed::Not(e, q),
+            Judged::Good(t) => Meshed::Is(n, mesh_rows(n, words, t)),
+        },
+    }
+}
+
+// The VRTS of a mesh and its TRIS, from the first chunk on.
+fn judge_inside(s: &[u8], at: usize, from: Cursor, brushes: usize, mode: Mode) -> Meshed
+    requires { ⌜ Among at from (length (now s)) × (at + 12 ≤ from .at) ⌝ }
+    ensures { λ r. ⌜ Meshes (readInside mode brushes 0 (restIn (now (s .entry)) MESH at start from)) at (from .end) r ⌝ }
+{
+    let found = b3d_chunks::next_chunk(s, from);
+    match b3d_turns::first_inside(s, from, found, Tag::MESH, at) {
+        // No mesh ends here: it owes its VRTS.
+        Enclosed::End => Meshed::Is(0, b3d_tally::none()),
+        Enclosed::Not(e, p) => Meshed::Not(e, p),
+        Enclosed::Chunk {
+            tag: _,
+            at: p,
+            body,
+            next,
+            reached: _,
+        } => judge_shape(s, at, p, body, next, brushes, mode),
+    }
+}
+
+// A MESH: its brush id, then the chunks inside it.
+pub fn judge_mesh(s: &[u8], at: usize, body: Cursor, brushes: usize, mode: Mode) -> Meshed
+    requires { ⌜ Body at body (length (now s)) ⌝ }
+    ensures { λ r. ⌜ Meshes (readMesh mode brushes at (left body (now (s .entry)))) at (body .end) r ⌝ }
+{
+    match body.number(s) {
+        Number::Cut => Meshed::Not(5, body.at),
+        Number::Is(brush, c) => {
+            if !b3d_chunks::id_named(brush, brushes, true) {
+                return Meshed::Not(7, body.at);
+            }
+            judge_inside(s, at, c, brushes, mode)
+        }
+    }
+}

@@ -1,0 +1,2 @@
+-- What the judge of KEYS and ANIM answers.
+pub mod Answers

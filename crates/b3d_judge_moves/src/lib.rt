@@ -1,0 +1,89 @@
+// Judges what moves a node: its KEYS and its ANIM.
+ghost use mathlib.Core.Path.{_≡_};
+ghost use mathlib.Core.Bool.{false};
+ghost use lib.ListN.{length};
+ghost use Rattle.b3d_scene.specs.declared.Tag.the-variants.{NODE};
+ghost use Rattle.b3d_scene.specs.Scene.{still};
+ghost use Rattle.b3d_scene.specs.Rules.{mostBytes};
+ghost use Rattle.b3d_scene.specs.Parse.{readMoves};
+ghost use Rattle.b3d_tally.specs.Tally.{plus, animTally, Within};
+ghost use Rattle.b3d_inside.specs.Places.{reached, restIn, Among};
+ghost use Rattle.b3d_judge_moves.specs.Answers.{animOf, Motions};
+use b3d_scene::Tag;
+use b3d_tally::Judged;
+use b3d_tally::Tally;
+use b3d_turns::Enclosed;
+use b3d_turns::Reached;
+use wire::Cursor;
+
+// Whether a node has an ANIM, the tally of its KEYS and ANIM, and the cursor after them.
+pub enum Motion {
+    To(bool, Tally, Cursor),
+    Not(u32, usize),
+}
+
+// How far the chunks of a node have come after its kind, with one or without.
+const KIND_READ: Reached = Reached {
+    turn: 2,
+    spent: false,
+};
+
+// The tally of keys, with an ANIM where one was seen.
+fn with_anim(m: Tally, seen: bool) -> Tally
+    requires { ⌜ Within m mostBytes ⌝ }
+    ensures { λ r. ⌜ r ≡ plus m (animTally (animOf seen)) ⌝ }
+{
+    if seen {
+        return b3d_tally::plus(m, b3d_tally::bytes(20));
+    }
+    b3d_tally::plus(m, b3d_tally::none())
+}
+
+// KEYS and ANIM, in any mix, up to the first NODE.
+pub fn judge_moves(s: &[u8], at: usize, from: Cursor) -> Motion
+    requires { ⌜ Among at from (length (now s)) ⌝ }
+    ensures { λ r. ⌜ Motions (readMoves still (restIn (now (s .entry)) NODE at (reached 2 false) from)) (restIn (now (s .entry)) NODE at (reached 3 false)) from r ⌝ }
+{
+    let mut c = from;
+    let mut q = KIND_READ;
+    let mut m = b3d_tally::none();
+    loop {
+        let found = b3d_chunks::next_chunk(s, c);
+        match b3d_turns::next_inside(s, c, found, Tag::NODE, at, q) {
+            Enclosed::End => {
+                return Motion::To(q.spent, with_anim(m, q.spent), c);
+            }
+            Enclosed::Not(e, p) => {
+                return Motion::Not(e, p);
+            }
+            Enclosed::Chunk {
+                tag,
+                at: p,
+                body,
+                next,
+                reached,
+            } => match tag {
+                Tag::KEYS => match b3d_bodies::judge_keys(s, p, body) {
+                    Judged::Bad(e, i) => {
+                        return Motion::Not(e, i);
+                    }
+                    Judged::Good(t) => {
+                        m = b3d_tally::plus(m, t);
+                        q = reached;
+                        c = next;
+                    }
+                },
+                Tag::ANIM => {
+                    if body.end - body.at != 12 {
+                        return Motion::Not(5, body.at);
+                    }
+                    q = reached;
+                    c = next;
+                }
+                _ => {
+                    return Motion::To(q.spent, with_anim(m, q.spent), c);
+                }
+            },
+        }
+    }
+}

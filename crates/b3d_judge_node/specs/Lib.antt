@@ -1,0 +1,2 @@
+-- What the judge of a node's own chunks answers.
+pub mod Answers

@@ -1,0 +1,145 @@
+// Judges a NODE without the nodes below it: its name and place, its kind (a MESH, a BONE or neither), its KEYS and ANIM.
+ghost use Prim.Native.Nat.{_≤_, _+_};
+ghost use mathlib.Core.Path.{_≡_};
+ghost use mathlib.Core.Bool.{false};
+ghost use lib.ListN.{length};
+ghost use Rattle.wire.specs.Cursors.{left};
+ghost use Rattle.b3d_scene.specs.declared.Tag.the-variants.{NODE};
+ghost use Rattle.b3d_scene.specs.Rules.{boneVertices, bonesFrom, mostBytes};
+ghost use Rattle.b3d_scene.specs.Nesting.{start};
+ghost use Rattle.b3d_scene.specs.Parse.{readKind};
+ghost use Rattle.b3d_tally.specs.Tally.{plus, headTally, Within};
+ghost use Rattle.b3d_inside.specs.Places.{Body, reached, restIn, Among};
+ghost use Rattle.b3d_judge_node.specs.Answers.{readParts, readOwn, Kinds, Parted, Owns, aboveOf};
+use b3d_chunks::Named;
+use b3d_judge_mesh::Meshed;
+use b3d_judge_moves::Motion;
+use b3d_scene::Mode;
+use b3d_scene::Tag;
+use b3d_tally::Judged;
+use b3d_tally::Tally;
+use b3d_turns::Enclosed;
+use wire::Cursor;
+
+// The vertices of a node's own mesh, the tally of its kind, and the cursor after it.
+pub enum Kinded {
+    To(usize, Tally, Cursor),
+    Not(u32, usize),
+}
+
+// Which vertices the bones of a node may name: so many, by what the nodes above say; the root's own none.
+pub enum Above {
+    Root,
+    Of(usize),
+}
+
+// What a node says of bones to those below, its own tally, and the cursor at its children.
+pub enum Owned {
+    To(Above, Tally, Cursor),
+    Not(u32, usize),
+}
+
+// How many vertices a bone of this node may name.
+pub fn bone_vertices(a: Above) -> usize
+    ensures { λ r. ⌜ r ≡ boneVertices (aboveOf a) ⌝ }
+{
+    match a {
+        Above::Root => 0,
+        Above::Of(n) => n,
+    }
+}
+
+// What a node with so many vertices of its own, and with an ANIM or without, says to those below.
+fn bones_below(a: Above, anim: bool, own: usize) -> Above
+    ensures { λ r. ⌜ aboveOf r ≡ bonesFrom (aboveOf a) anim own ⌝ }
+{
+    match a {
+        Above::Root => Above::Of(own),
+        Above::Of(n) => {
+            if anim {
+                return Above::Of(own);
+            }
+            Above::Of(n)
+        }
+    }
+}
+
+// A MESH or a BONE, if it comes first.
+pub fn judge_kind(
+    s: &[u8],
+    at: usize,
+    from: Cursor,
+    brushes: usize,
+    bones: usize,
+    mode: Mode,
+) -> Kinded
+    requires { ⌜ Among at from (length (now s)) ⌝ }
+    ensures { λ r. ⌜ Kinds (readKind mode brushes bones (restIn (now (s .entry)) NODE at start from)) (restIn (now (s .entry)) NODE at (reached 2 false)) from r ⌝ }
+{
+    let found = b3d_chunks::next_chunk(s, from);
+    match b3d_turns::first_inside(s, from, found, Tag::NODE, at) {
+        Enclosed::End => Kinded::To(0, b3d_tally::none(), from),
+        Enclosed::Not(e, p) => Kinded::Not(e, p),
+        Enclosed::Chunk {
+            tag,
+            at: p,
+            body,
+            next,
+            reached: _,
+        } => match tag {
+            Tag::MESH => match b3d_judge_mesh::judge_mesh(s, p, body, brushes, mode) {
+                Meshed::Not(e, q) => Kinded::Not(e, q),
+                Meshed::Is(own, t) => Kinded::To(own, t, next),
+            },
+            Tag::BONE => match b3d_bodies::judge_bone(s, p, body, bones) {
+                Judged::Bad(e, q) => Kinded::Not(e, q),
+                Judged::Good(t) => Kinded::To(0, t, next),
+            },
+            _ => Kinded::To(0, b3d_tally::none(), from),
+        },
+    }
+}
+
+// The rows of a node without those below it: its NODE, its kind, its KEYS and ANIM.
+fn own_rows(kind: Tally, moves: Tally) -> Tally
+    requires { ⌜ Within kind mostBytes × Within (plus headTally kind) mostBytes × Within moves mostBytes ⌝ }
+    ensures { λ r. ⌜ r ≡ plus (plus headTally kind) moves ⌝ }
+{
+    b3d_tally::plus(b3d_tally::plus(b3d_tally::head(), kind), moves)
+}
+
+// The chunks inside a NODE up to the nodes below it.
+fn judge_parts(s: &[u8], at: usize, from: Cursor, brushes: usize, above: Above, mode: Mode) -> Owned
+    requires { ⌜ Among at from (length (now s)) × (at + 49 ≤ from .at) ⌝ }
+    ensures { λ r. ⌜ Parted (aboveOf above) (readParts mode brushes (boneVertices (aboveOf above)) (restIn (now (s .entry)) NODE at start from)) (restIn (now (s .entry)) NODE at (reached 3 false)) at from r ⌝ }
+{
+    match judge_kind(s, at, from, brushes, bone_vertices(above), mode) {
+        Kinded::Not(e, q) => Owned::Not(e, q),
+        Kinded::To(own, k, c) => match b3d_judge_moves::judge_moves(s, at, c) {
+            Motion::Not(e, q) => Owned::Not(e, q),
+            Motion::To(anim, m, d) => Owned::To(bones_below(above, anim, own), own_rows(k, m), d),
+        },
+    }
+}
+
+// A NODE whose header is at `at`, without the nodes below it.
+pub fn judge_own(
+    s: &[u8],
+    at: usize,
+    body: Cursor,
+    brushes: usize,
+    above: Above,
+    mode: Mode,
+) -> Owned
+    requires { ⌜ Body at body (length (now s)) ⌝ }
+    ensures { λ r. ⌜ Owns (aboveOf above) (readOwn mode brushes (aboveOf above) at (left body (now (s .entry)))) (restIn (now (s .entry)) NODE at (reached 3 false)) at body r ⌝ }
+{
+    match b3d_chunks::named_row(s, body, 10) {
+        Named::Cut => Owned::Not(5, body.at),
+        Named::Is {
+            length: _,
+            row: _,
+            next,
+        } => judge_parts(s, at, next, brushes, above, mode),
+    }
+}

@@ -1,0 +1,3 @@
+-- Their laws.
+pub mod Limits
+pub mod RoomLaws

@@ -1,0 +1,3 @@
+-- The tests on numbers, as definitions.
+pub mod Limits
+pub mod Rooms

@@ -1,0 +1,66 @@
+// Tests on row counts alone: the first table with more rows than the limit, and the first lent table that is too short for its rows.
+ghost use mathlib.Core.Path.{_≡_};
+ghost use lib.Dec.{ltb};
+ghost use Rattle.wire.specs.Test.{if};
+ghost use Rattle.b3d_scene.specs.Rules.{rowLimit};
+ghost use Rattle.b3d_limits.specs.Limits.{overLimit};
+ghost use mathlib.Core.List.{[], _∷_};
+ghost use Prim.Native.Nat.{_*_, _<_};
+ghost use Rattle.b3d_scene.specs.Tables.{tables};
+ghost use Rattle.b3d_limits.specs.Rooms.{numberOf, countsIn, firstShort};
+use b3d_tally::Tally;
+
+// The table k where it has more rows than the limit, else what is found later.
+fn over_or(k: usize, rows: usize, later: usize) -> usize
+    ensures { λ r. ⌜ r ≡ if (ltb rowLimit rows) k later ⌝ }
+{
+    if b3d_scene::ROW_LIMIT < rows {
+        return k;
+    }
+    later
+}
+
+// The first table with more rows than the limit, by its number; 0 where there is none.
+pub fn over_limit(t: Tally) -> usize
+    ensures { λ r. ⌜ r ≡ overLimit t ⌝ }
+{
+    let from9 = over_or(9, t.lists, over_or(10, t.keys, 0));
+    let from7 = over_or(7, t.triangles, over_or(8, t.weights, from9));
+    let from5 = over_or(5, t.vertices, over_or(6, t.sets, from7));
+    let from3 = over_or(3, t.nodes, over_or(4, t.meshes, from5));
+    over_or(1, t.textures, over_or(2, t.brushes, from3))
+}
+
+// The table k where so many rows of this width have no room in it, else what is found later.
+fn short_or(k: usize, width: usize, rows: usize, room: usize, later: usize) -> usize
+    requires { ⌜ 0 < width ⌝ }
+    ensures { λ r. ⌜ r ≡ if (ltb room (width * rows)) k later ⌝ }
+{
+    if room / width < rows {
+        return k;
+    }
+    later
+}
+
+// The first of ten tables, of these lengths, that is too short for its rows, by its number; 0 where there is none.
+pub fn first_short(
+    t: Tally,
+    l1: usize,
+    l2: usize,
+    l3: usize,
+    l4: usize,
+    l5: usize,
+    l6: usize,
+    l7: usize,
+    l8: usize,
+    l9: usize,
+    l10: usize,
+) -> usize
+    ensures { λ r. ⌜ r ≡ firstShort (numberOf (countsIn t)) (numberOf (l1 ∷ l2 ∷ l3 ∷ l4 ∷ l5 ∷ l6 ∷ l7 ∷ l8 ∷ l9 ∷ l10 ∷ [])) tables ⌝ }
+{
+    let from9 = short_or(9, 4, t.lists, l9, short_or(10, 11, t.keys, l10, 0));
+    let from7 = short_or(7, 3, t.triangles, l7, short_or(8, 2, t.weights, l8, from9));
+    let from5 = short_or(5, 42, t.vertices, l5, short_or(6, 4, t.sets, l6, from7));
+    let from3 = short_or(3, 20, t.nodes, l3, short_or(4, 9, t.meshes, l4, from5));
+    short_or(1, 9, t.textures, l1, short_or(2, 17, t.brushes, l2, from3))
+}
