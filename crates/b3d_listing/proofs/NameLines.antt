@@ -26,8 +26,8 @@ use Rattle.b3d_scene.proofs.Rows.CountLaws.{table-length, words-append}
 use Rattle.b3d_scene.proofs.Rows.RowParts.{node-wide}
 use Rattle.b3d_names.specs.Name.{nameOr}
 use Rattle.b3d_text.specs.Text.{textLine}
-use Rattle.b3d_listing.specs.Listing.{mostListed, unnamed, nameOrWord, nodeLines}
-use Rattle.b3d_listing.specs.Parts.{rowLine, rowLines}
+use Rattle.b3d_listing.specs.Listing.{mostListed, nameOrWord, nodeLines}
+use Rattle.b3d_lines.specs.Lines.{unnamed, rowLine, rowLines}
 
 -- a name that stands in the file is found there
 name-found : (s : List ℕ) (p : ℕ) (b : List ℕ) → At s p (b ++ 0 ∷ []) → nameOr s unnamed p (length b) ≡ nameOrWord b

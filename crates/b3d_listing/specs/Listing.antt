@@ -12,6 +12,7 @@ use Rattle.b3d_scene.specs.declared.Mode.the-variants.{Strict}
 use Rattle.b3d_scene.specs.Scene.{Forest, leaf, node, Scene}
 use Rattle.b3d_scene.specs.Tables.{counts}
 use Rattle.b3d_text.specs.Text.{numberLine, textLine}
+use Rattle.b3d_lines.specs.Lines.{unnamed}
 
 -- the most bytes that the lister reads
 abbrev pub mostListed : ℕ
@@ -20,10 +21,6 @@ mostListed = 65536
 -- the most bytes that it prints: 14 words of ten digits and what follows each, and for the nodes no more than their bytes of the file
 abbrev pub mostPrinted : ℕ
 mostPrinted = 65678
-
--- the word `unnamed`
-abbrev pub unnamed : List ℕ
-unnamed = 117 ∷ 110 ∷ 110 ∷ 97 ∷ 109 ∷ 101 ∷ 100 ∷ []
 
 -- a name, or that word where it is empty
 unfoldable pub nameOrWord : List ℕ → List ℕ

@@ -1,18 +1,17 @@
 -- The parts that the lister's text is put together of.
 use mathlib.Core.Path.{_≡_}
-use Prim.Native.Nat.{ℕ, zero, suc, _≤_}
+use Prim.Native.Nat.{ℕ, _≤_}
 use mathlib.Core.List.{List, [], _∷_, _++_}
-use lib.ListN.{length, drop, getD}
+use lib.ListN.{length}
 use Rattle.layout.specs.Out.{Out, got, bad}
 use Rattle.b3d_scene.specs.Answers.{judge}
 use Rattle.b3d_scene.specs.declared.Mode.the-variants.{Strict}
 use Rattle.b3d_scene.specs.Scene.{Scene}
 use Rattle.b3d_scene.specs.Tables.{rows}
 use Rattle.b3d_judge.specs.declared.Summary.{Summary}
-use Rattle.b3d_names.specs.Name.{nameOr}
 use Rattle.b3d_limits.specs.Rooms.{countsIn}
-use Rattle.b3d_text.specs.Text.{numberLine, textLine}
-use Rattle.b3d_listing.specs.Listing.{mostListed, unnamed, nodeLines}
+use Rattle.b3d_text.specs.Text.{numberLine}
+use Rattle.b3d_listing.specs.Listing.{mostListed, nodeLines}
 
 -- the first three lines, from what the judge answers
 unfoldable pub headLines : Summary → List ℕ
@@ -22,15 +21,6 @@ headLines x = numberLine (0 ∷ 0 ∷ []) ++ (numberLine (x .version ∷ x .«n_
 unfoldable pub nodeLinesOf : Out Scene → List ℕ
 nodeLinesOf (got t) = nodeLines (t .nodes)
 nodeLinesOf (bad n p) = []
-
--- the line of the row that words begin with: its first two cells are place and length of a name in s
-unfoldable pub rowLine : List ℕ → List ℕ → List ℕ
-rowLine s ws = textLine (nameOr s unnamed (getD ws 0 0) (getD ws 1 0))
-
--- the lines of so many rows of 20 words
-unfoldable pub rowLines : List ℕ → List ℕ → ℕ → List ℕ
-rowLines s ws zero = []
-rowLines s ws (suc n) = rowLine s ws ++ rowLines s (drop 20 ws) n
 
 -- an accepted file of so many nodes, no longer than the lister reads
 pub record Listable (s : List ℕ) (nodes : ℕ) : Type 0 where

@@ -1,9 +1,9 @@
 -- `put_names` puts one line a turn: those of the rows from i on are left.
 use Prim.Native.Nat.{_-_}
-use Rattle.b3d_listing.proofs.ListLaws.{Naming, names-laws}
 use borrow.Author.Needs.{needs}
-use Rattle.b3d_listing.proofs.put_names.Statement.{statement}
-use Rattle.b3d_listing.proofs.put_names.Tie as tie
+use Rattle.b3d_lines.proofs.put_names.Statement.{statement}
+use Rattle.b3d_lines.proofs.put_names.Tie as tie
+use Rattle.b3d_lines.proofs.LineLaws.{Naming, names-laws}
 
 abbrev Inv-loop : tie.InvT-loop
 Inv-loop file rows nodes out₀ at next₀ i₀ out next i = Naming file rows nodes out₀ at out next i

@@ -1,8 +1,8 @@
 -- `put_name` puts the name that the row of a node names.
-use Rattle.b3d_listing.proofs.ListLaws.{name-done}
 use borrow.Author.Needs.{needs}
-use Rattle.b3d_listing.proofs.put_name.Statement.{statement}
-use Rattle.b3d_listing.proofs.put_name.Tie as tie
+use Rattle.b3d_lines.proofs.put_name.Statement.{statement}
+use Rattle.b3d_lines.proofs.put_name.Tie as tie
+use Rattle.b3d_lines.proofs.LineLaws.{name-done}
 
 pub put-name-spec : {M : Type 1} → statement M
 put-name-spec =

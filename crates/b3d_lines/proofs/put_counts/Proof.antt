@@ -1,8 +1,8 @@
 -- `put_counts` puts the ten counts of the tally.
 use Rattle.b3d_limits.specs.Rooms.{countsIn}
 use borrow.Author.Needs.{needs}
-use Rattle.b3d_listing.proofs.put_counts.Statement.{statement}
-use Rattle.b3d_listing.proofs.put_counts.Tie as tie
+use Rattle.b3d_lines.proofs.put_counts.Statement.{statement}
+use Rattle.b3d_lines.proofs.put_counts.Tie as tie
 
 returns : tie.Need-returns
 unfolding countsIn

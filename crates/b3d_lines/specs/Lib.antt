@@ -1,0 +1,2 @@
+-- The lines of nodes.
+pub mod Lines

@@ -1,0 +1,19 @@
+-- Lines that the lister prints, from the rows of a table of nodes.
+use Prim.Native.Nat.{ℕ, zero, suc}
+use mathlib.Core.List.{List, [], _∷_, _++_}
+use lib.ListN.{drop, getD}
+use Rattle.b3d_names.specs.Name.{nameOr}
+use Rattle.b3d_text.specs.Text.{textLine}
+
+-- the word `unnamed`
+abbrev pub unnamed : List ℕ
+unnamed = 117 ∷ 110 ∷ 110 ∷ 97 ∷ 109 ∷ 101 ∷ 100 ∷ []
+
+-- the line of the row that words begin with: its first two cells are place and length of a name in s
+unfoldable pub rowLine : List ℕ → List ℕ → List ℕ
+rowLine s ws = textLine (nameOr s unnamed (getD ws 0 0) (getD ws 1 0))
+
+-- the lines of so many rows of 20 words
+unfoldable pub rowLines : List ℕ → List ℕ → ℕ → List ℕ
+rowLines s ws zero = []
+rowLines s ws (suc n) = rowLine s ws ++ rowLines s (drop 20 ws) n

@@ -1,0 +1,64 @@
+// Lines of the lister's text, put into an output: numbers, and the names of nodes from the rows of their table.
+ghost use mathlib.Core.List.{[], _∷_};
+ghost use Prim.Native.Nat.{_+_, _*_, _≤_};
+ghost use lib.ListN.{length, drop};
+ghost use Rattle.b3d_text.specs.Puts.{Puts};
+ghost use Rattle.b3d_text.specs.Text.{numberLine};
+ghost use Rattle.b3d_limits.specs.Rooms.{countsIn};
+ghost use Rattle.b3d_lines.specs.Lines.{rowLine, rowLines};
+use b3d_tally::Tally;
+
+// A line of two numbers.
+pub fn put_pair(a: usize, b: usize, out: &mut [u8], at: usize) -> usize
+    requires { ⌜ at ≤ length (now out) ⌝ }
+    ensures { λ r. ⌜ Puts (numberLine (a ∷ b ∷ [])) (now (out .entry)) at (now (out .exit)) r ⌝ }
+{
+    let numbers = [a, b];
+    b3d_text::put_numbers(&numbers, out, at)
+}
+
+// The line of the ten counts.
+pub fn put_counts(t: Tally, out: &mut [u8], at: usize) -> usize
+    requires { ⌜ at ≤ length (now out) ⌝ }
+    ensures { λ r. ⌜ Puts (numberLine (countsIn t)) (now (out .entry)) at (now (out .exit)) r ⌝ }
+{
+    let numbers = [
+        t.textures,
+        t.brushes,
+        t.nodes,
+        t.meshes,
+        t.vertices,
+        t.sets,
+        t.triangles,
+        t.weights,
+        t.lists,
+        t.keys,
+    ];
+    b3d_text::put_numbers(&numbers, out, at)
+}
+
+// The line of node i, whose row stands in a table of nodes.
+fn put_name(file: &[u8], rows: &[u32], i: usize, out: &mut [u8], at: usize) -> usize
+    requires { ⌜ (20 * i + 2 ≤ length (now rows)) × (at ≤ length (now out)) ⌝ }
+    ensures { λ r. ⌜ Puts (rowLine (now (file .entry)) (drop (20 * i) (now (rows .entry)))) (now (out .entry)) at (now (out .exit)) r ⌝ }
+{
+    let cell = 20 * i;
+    let place = wire::size(rows[cell]);
+    let size = wire::size(rows[cell + 1]);
+    let name = b3d_names::name_or(file, b"unnamed", place, size);
+    b3d_text::put_line(name, out, at)
+}
+
+// The lines of the nodes, so many, whose rows stand in a table.
+pub fn put_names(file: &[u8], rows: &[u32], nodes: usize, out: &mut [u8], at: usize) -> usize
+    requires { ⌜ (20 * nodes ≤ length (now rows)) × (at ≤ length (now out)) ⌝ }
+    ensures { λ r. ⌜ Puts (rowLines (now (file .entry)) (now (rows .entry)) nodes) (now (out .entry)) at (now (out .exit)) r ⌝ }
+{
+    let mut next = at;
+    let mut i = 0;
+    while i < nodes {
+        next = put_name(file, rows, i, out, next);
+        i += 1;
+    }
+    next
+}
