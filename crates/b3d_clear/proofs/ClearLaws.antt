@@ -30,7 +30,7 @@ use Rattle.b3d_judge.specs.declared.Verdict.the-variants as verdict
 use Rattle.b3d_judge.proofs.Verdicts.{was-bad}
 use Rattle.b3d_copy.specs.Copies.{chunksAt, inFile, fileCopy}
 use Rattle.b3d_copy.proofs.Files.{file-copied}
-use Rattle.b3d_clear_parts.proofs.Chunking.{open-fits, open-room, open-asks, open-done}
+use Rattle.b3d_clear_copies.proofs.Chunking.{open-fits, open-room, open-asks, open-done}
 use Rattle.b3d_scene.proofs.Refusals.{judge-place}
 
 -- ---- the file

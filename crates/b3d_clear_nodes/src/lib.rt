@@ -22,8 +22,8 @@ fn clear_moves(file: &[u8], from: Cursor, out: &mut [u8]) -> usize
     requires { ⌜ Room (each BONE (asIs BONE) (chunksAt (now file) from) ++ (each KEYS (asIs KEYS) (chunksAt (now file) from) ++ each ANIM (asIs ANIM) (chunksAt (now file) from))) (now out) ⌝ }
     ensures { λ r. ⌜ Put (each BONE (asIs BONE) (chunksAt (now (file .entry)) from) ++ (each KEYS (asIs KEYS) (chunksAt (now (file .entry)) from) ++ each ANIM (asIs ANIM) (chunksAt (now (file .entry)) from))) (now (out .entry)) (now (out .exit)) r ⌝ }
 {
-    let n = b3d_clear_parts::copy_each(file, from, Tag::BONE, out);
-    let m = b3d_clear_parts::copy_two(file, from, Tag::KEYS, Tag::ANIM, &mut out[n..]);
+    let n = b3d_clear_copies::copy_each(file, from, Tag::BONE, out);
+    let m = b3d_clear_copies::copy_two(file, from, Tag::KEYS, Tag::ANIM, &mut out[n..]);
     n + m
 }
 
@@ -45,7 +45,7 @@ fn clear_own(file: &[u8], row: Cursor, next: Cursor, out: &mut [u8]) -> usize
     requires { ⌜ Room (ownCopy (wordsOf 10 (left row (now file))) (chunksAt (now file) next)) (now out) ⌝ }
     ensures { λ r. ⌜ Put (ownCopy (wordsOf 10 (left row (now (file .entry)))) (chunksAt (now (file .entry)) next)) (now (out .entry)) (now (out .exit)) r ⌝ }
 {
-    let n = b3d_clear_parts::put_unnamed(file, row, 10, out);
+    let n = b3d_clear_lists::put_unnamed(file, row, 10, out);
     let m = clear_inside(file, next, &mut out[n..]);
     n + m
 }

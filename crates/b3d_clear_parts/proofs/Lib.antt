@@ -1,6 +1,3 @@
--- The laws of writing the chunks of the copy.
-pub mod Chunking
-pub mod Each
-pub mod ItemLaws
-pub mod ListLaws
+-- The laws of writing MESH, and a chunk by its tag.
+pub mod MeshLaws
 pub mod PartLaws

@@ -14,7 +14,7 @@ use Rattle.b3d_scene.specs.declared.Tag.the-variants.{BB3D, TEXS, BRUS, NODE, M
 use Rattle.b3d_scene.proofs.Tag.{the-type}
 use Rattle.b3d_inside.proofs.TagTests.{ten, one-of}
 use Rattle.b3d_copy.specs.Copies.{chunkOf, texsCopy, brusCopy, meshCopy, partCopy}
-use Rattle.b3d_clear_parts.proofs.ListLaws.{texs-inside}
+use Rattle.b3d_clear_lists.proofs.ListLaws.{texs-inside}
 
 -- ---- a tag by itself
 

@@ -21,8 +21,8 @@ use Rattle.b3d_clear_nodes.proofs.+clear_node+clear_nodes+node_chunk.Ti
 use Rattle.b3d_scene.specs.declared.Tag.the-variants.{NODE}
 use Rattle.b3d_scene.specs.Tags.{code}
 use Rattle.b3d_copy.specs.Copies.{nodeCopy}
-use Rattle.b3d_clear_parts.proofs.Chunking.{pair-laws, pair-sum-2, pair-sum-3, pair-asks, pair-done}
-use Rattle.b3d_clear_parts.proofs.Each.{EachLeft, each-laws}
+use Rattle.b3d_clear_copies.proofs.Chunking.{pair-laws, pair-sum-2, pair-sum-3, pair-asks, pair-done}
+use Rattle.b3d_clear_copies.proofs.Each.{EachLeft, each-laws}
 use Rattle.b3d_clear_nodes.proofs.NodeLaws.{node-laws}
 use borrow.Author.Needs.{needs}
 

@@ -1,5 +1,5 @@
 -- `clear_mesh` goes by the number that stands first.
-use Rattle.b3d_clear_parts.proofs.ListLaws.{mesh-laws}
+use Rattle.b3d_clear_parts.proofs.MeshLaws.{mesh-laws}
 use borrow.Author.Needs.{needs}
 use Rattle.b3d_clear_parts.proofs.clear_mesh.Statement.{statement}
 use Rattle.b3d_clear_parts.proofs.clear_mesh.Tie as tie

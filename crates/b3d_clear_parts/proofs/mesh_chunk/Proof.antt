@@ -1,5 +1,5 @@
 -- `mesh_chunk` writes the body behind the header and the first word.
-use Rattle.b3d_clear_parts.proofs.Chunking.{open-laws}
+use Rattle.b3d_clear_copies.proofs.Chunking.{open-laws}
 use borrow.Author.Needs.{needs}
 use Rattle.b3d_clear_parts.proofs.mesh_chunk.Statement.{statement}
 use Rattle.b3d_clear_parts.proofs.mesh_chunk.Tie as tie

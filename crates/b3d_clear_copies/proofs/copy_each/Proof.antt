@@ -1,10 +1,10 @@
 -- `copy_each` goes from chunk to chunk. Its measure is what is left.
 use Prim.Native.Nat.{_-_}
 use Rattle.b3d_copy.specs.Copies.{asIs}
-use Rattle.b3d_clear_parts.proofs.Each.{EachLeft, each-laws}
+use Rattle.b3d_clear_copies.proofs.Each.{EachLeft, each-laws}
 use borrow.Author.Needs.{needs}
-use Rattle.b3d_clear_parts.proofs.copy_each.Statement.{statement}
-use Rattle.b3d_clear_parts.proofs.copy_each.Tie as tie
+use Rattle.b3d_clear_copies.proofs.copy_each.Statement.{statement}
+use Rattle.b3d_clear_copies.proofs.copy_each.Tie as tie
 
 abbrev Inv-loop : tie.InvT-loop
 Inv-loop file tag out₀ c₀ n₀ out c n = EachLeft file tag (asIs tag) c₀ out₀ out c n

@@ -1,8 +1,8 @@
 -- `brus_chunk` writes the items behind the header and the slots.
-use Rattle.b3d_clear_parts.proofs.Chunking.{open-laws}
+use Rattle.b3d_clear_copies.proofs.Chunking.{open-laws}
 use borrow.Author.Needs.{needs}
-use Rattle.b3d_clear_parts.proofs.brus_chunk.Statement.{statement}
-use Rattle.b3d_clear_parts.proofs.brus_chunk.Tie as tie
+use Rattle.b3d_clear_lists.proofs.brus_chunk.Statement.{statement}
+use Rattle.b3d_clear_lists.proofs.brus_chunk.Tie as tie
 
 pub brus-chunk-spec : {M : Type 1} → statement M
 brus-chunk-spec =

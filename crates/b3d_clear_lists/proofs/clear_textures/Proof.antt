@@ -1,8 +1,8 @@
 -- `clear_textures` writes a chunk where there are items.
-use Rattle.b3d_clear_parts.proofs.ListLaws.{texs-laws}
+use Rattle.b3d_clear_lists.proofs.ListLaws.{texs-laws}
 use borrow.Author.Needs.{needs}
-use Rattle.b3d_clear_parts.proofs.clear_textures.Statement.{statement}
-use Rattle.b3d_clear_parts.proofs.clear_textures.Tie as tie
+use Rattle.b3d_clear_lists.proofs.clear_textures.Statement.{statement}
+use Rattle.b3d_clear_lists.proofs.clear_textures.Tie as tie
 
 pub clear-textures-spec : {M : Type 1} → statement M
 clear-textures-spec =

@@ -25,7 +25,7 @@ use Rattle.b3d_chunks.proofs.Names.{named-cut, named-any, named-among}
 use Rattle.b3d_copy.specs.Copies.{unnamed, itemOf, unnamedItems}
 use Rattle.b3d_copy.proofs.Exact.{words-of-exact}
 use Rattle.b3d_copy.proofs.Items.{items-step}
-use Rattle.b3d_clear_parts.proofs.Chunking.{left-part}
+use Rattle.b3d_clear_copies.proofs.Chunking.{left-part}
 
 -- ---- an item
 

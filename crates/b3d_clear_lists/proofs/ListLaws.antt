@@ -1,4 +1,4 @@
--- A law for each way through `clear_textures`, `clear_brushes` and `clear_mesh`.
+-- A law for each way through `clear_textures` and `clear_brushes`.
 use mathlib.Core.Path.{_≡_, refl, ap, sym, subst, _∙_}
 use Prim.Native.Nat.{ℕ, _+_, _<_, _≤_}
 use native.Mathlib.Omega.{arith}
@@ -10,15 +10,14 @@ use Rattle.wire.specs.declared.Cursor.{Cursor}
 use Rattle.wire.specs.declared.Number.{Number}
 use Rattle.wire.specs.declared.Number.the-variants as number
 use Rattle.wire.proofs.Left.{left-length, left-nil}
-use Rattle.layout.specs.Rules.{any, upTo}
+use Rattle.layout.specs.Rules.{upTo}
 use Rattle.emit.specs.Writing.{Room, Put}
 use Rattle.emit.proofs.Joining.{none-put}
-use Rattle.b3d_scene.specs.Rules.{mostBytes}
 use Rattle.b3d_scene.specs.Tags.{code}
-use Rattle.b3d_scene.specs.declared.Tag.the-variants.{TEXS, BRUS, MESH}
+use Rattle.b3d_scene.specs.declared.Tag.the-variants.{TEXS, BRUS}
 use Rattle.b3d_inside.specs.Places.{Body}
-use Rattle.b3d_inside.proofs.Heads.{body-inside, head-cut, head-inside, head-got, head-over, head-within}
-use Rattle.b3d_copy.specs.Copies.{chunkOf, chunksAt, inMesh, meshOf, meshCopy, unnamedItems, ifAny, texsCopy, brusOf, brusCopy}
+use Rattle.b3d_inside.proofs.Heads.{body-inside, head-cut, head-inside, head-over, head-within}
+use Rattle.b3d_copy.specs.Copies.{chunkOf, unnamedItems, ifAny, texsCopy, brusOf, brusCopy}
 
 some-bytes : (b w : List ℕ) → 0 < length b → ifAny b w ≡ w
 unfolding ifAny
@@ -48,16 +47,12 @@ module _ (s : List ℕ) (at : ℕ) (b : Cursor) (body : Body at b (length s)) (o
 
 pub ruleset texs-laws = (texs-inside, texs-none, texs-room, texs-done)
 
--- ---- BRUS and MESH, by the number that stands first
+-- ---- BRUS, by the number that stands first
 
 module _ (s : List ℕ) (at : ℕ) (b : Cursor) (body : Body at b (length s)) (out : List ℕ) (r : Number) (e : r ≡ numberAt s b) where
   pub brus-cut : r ≡ number.Cut → Put (brusCopy at (left b s)) out out 0
   unfolding brusCopy brusOf
   brus-cut w = none-put (brusCopy at (left b s)) out (ap brusOf (head-cut s at b body r e (upTo 8) w))
-
-  pub mesh-cut : r ≡ number.Cut → Put (meshCopy at (left b s)) out out 0
-  unfolding meshCopy meshOf
-  mesh-cut w = none-put (meshCopy at (left b s)) out (ap meshOf (head-cut s at b body r e any w))
 
   module _ (k : ℕ) (c : Cursor) (w : r ≡ number.Is k c) where
     pub list-inside : Inside c (length s)
@@ -90,19 +85,4 @@ module _ (s : List ℕ) (at : ℕ) (b : Cursor) (body : Body at b (length s)) (o
           pub brus-done : (ys : List ℕ) (n : ℕ) → Put (chunkOf (code BRUS) (bytes k (unnamedItems (7 + slots) (c .at) (left c s)))) out ys n → Put (brusCopy at (left b s)) out ys n
           brus-done ys n q = subst (λ (x : List ℕ). Put x out ys n) (sym same) q
 
-    mesh-is : meshCopy at (left b s) ≡ chunkOf (code MESH) (bytes k (inMesh (chunksAt s c)))
-    unfolding meshCopy meshOf
-    mesh-is = ap meshOf (head-got s at b body r e k c w any refl)
-
-    pub mesh-small : length s ≤ mostBytes
-    mesh-small = body .small
-
-    pub mesh-room : Room (meshCopy at (left b s)) out → Room (chunkOf (code MESH) (bytes k (inMesh (chunksAt s c)))) out
-    mesh-room q = subst (λ (x : List ℕ). Room x out) mesh-is q
-
-    pub mesh-done : (ys : List ℕ) (n : ℕ) → Put (chunkOf (code MESH) (bytes k (inMesh (chunksAt s c)))) out ys n → Put (meshCopy at (left b s)) out ys n
-    mesh-done ys n q = subst (λ (x : List ℕ). Put x out ys n) (sym mesh-is) q
-
 pub ruleset brus-laws = (texs-inside, brus-cut, list-inside, brus-over, brus-none, brus-few, brus-room, brus-done)
-
-pub ruleset mesh-laws = (texs-inside, mesh-cut, list-inside, mesh-small, mesh-room, mesh-done)

@@ -1,9 +1,9 @@
 -- `clear_items` goes from item to item. Its measure is what is left.
 use Prim.Native.Nat.{_-_}
-use Rattle.b3d_clear_parts.proofs.ItemLaws.{ItemsLeft, item-laws}
+use Rattle.b3d_clear_lists.proofs.ItemLaws.{ItemsLeft, item-laws}
 use borrow.Author.Needs.{needs}
-use Rattle.b3d_clear_parts.proofs.clear_items.Statement.{statement}
-use Rattle.b3d_clear_parts.proofs.clear_items.Tie as tie
+use Rattle.b3d_clear_lists.proofs.clear_items.Statement.{statement}
+use Rattle.b3d_clear_lists.proofs.clear_items.Tie as tie
 
 abbrev Inv-loop : tie.InvT-loop
 Inv-loop file words out₀ c₀ n₀ out c n = ItemsLeft file words c₀ out₀ out c n

@@ -1,8 +1,8 @@
 -- `copy_chunk` copies the body behind its header.
-use Rattle.b3d_clear_parts.proofs.Chunking.{copy-laws}
+use Rattle.b3d_clear_copies.proofs.Chunking.{copy-laws}
 use borrow.Author.Needs.{needs}
-use Rattle.b3d_clear_parts.proofs.copy_chunk.Statement.{statement}
-use Rattle.b3d_clear_parts.proofs.copy_chunk.Tie as tie
+use Rattle.b3d_clear_copies.proofs.copy_chunk.Statement.{statement}
+use Rattle.b3d_clear_copies.proofs.copy_chunk.Tie as tie
 
 pub copy-chunk-spec : {M : Type 1} → statement M
 copy-chunk-spec =

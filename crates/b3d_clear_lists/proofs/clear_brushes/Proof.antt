@@ -1,8 +1,8 @@
 -- `clear_brushes` goes by the number that stands first.
-use Rattle.b3d_clear_parts.proofs.ListLaws.{brus-laws}
+use Rattle.b3d_clear_lists.proofs.ListLaws.{brus-laws}
 use borrow.Author.Needs.{needs}
-use Rattle.b3d_clear_parts.proofs.clear_brushes.Statement.{statement}
-use Rattle.b3d_clear_parts.proofs.clear_brushes.Tie as tie
+use Rattle.b3d_clear_lists.proofs.clear_brushes.Statement.{statement}
+use Rattle.b3d_clear_lists.proofs.clear_brushes.Tie as tie
 
 pub clear-brushes-spec : {M : Type 1} → statement M
 clear-brushes-spec =

@@ -1,8 +1,8 @@
 -- `copy_two` writes two parts, one after the other. Facts that lie far back are named.
-use Rattle.b3d_clear_parts.proofs.Chunking.{join-laws, join-sum, join-long, join-done}
+use Rattle.b3d_clear_copies.proofs.Chunking.{join-laws, join-sum, join-long, join-done}
 use borrow.Author.Needs.{needs}
-use Rattle.b3d_clear_parts.proofs.copy_two.Statement.{statement}
-use Rattle.b3d_clear_parts.proofs.copy_two.Tie as tie
+use Rattle.b3d_clear_copies.proofs.copy_two.Statement.{statement}
+use Rattle.b3d_clear_copies.proofs.copy_two.Tie as tie
 
 pub copy-two-spec : {M : Type 1} → statement M
 copy-two-spec =

@@ -1,8 +1,8 @@
 -- `texs_chunk` writes the items behind the header.
-use Rattle.b3d_clear_parts.proofs.Chunking.{chunk-laws}
+use Rattle.b3d_clear_copies.proofs.Chunking.{chunk-laws}
 use borrow.Author.Needs.{needs}
-use Rattle.b3d_clear_parts.proofs.texs_chunk.Statement.{statement}
-use Rattle.b3d_clear_parts.proofs.texs_chunk.Tie as tie
+use Rattle.b3d_clear_lists.proofs.texs_chunk.Statement.{statement}
+use Rattle.b3d_clear_lists.proofs.texs_chunk.Tie as tie
 
 pub texs-chunk-spec : {M : Type 1} → statement M
 texs-chunk-spec =

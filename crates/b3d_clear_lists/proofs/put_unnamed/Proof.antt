@@ -1,8 +1,8 @@
 -- `put_unnamed` writes a zero and copies the words.
-use Rattle.b3d_clear_parts.proofs.ItemLaws.{unnamed-laws}
+use Rattle.b3d_clear_lists.proofs.ItemLaws.{unnamed-laws}
 use borrow.Author.Needs.{needs}
-use Rattle.b3d_clear_parts.proofs.put_unnamed.Statement.{statement}
-use Rattle.b3d_clear_parts.proofs.put_unnamed.Tie as tie
+use Rattle.b3d_clear_lists.proofs.put_unnamed.Statement.{statement}
+use Rattle.b3d_clear_lists.proofs.put_unnamed.Tie as tie
 
 pub put-unnamed-spec : {M : Type 1} → statement M
 put-unnamed-spec =

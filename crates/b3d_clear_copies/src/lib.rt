@@ -1,0 +1,71 @@
+// Chunks that stay as they stand in the copy without names, written into a lent output. Each function is lent the output from where it is to write; a
+// chunk's header is written last, when the length of its body is known.
+ghost use Prim.Native.Nat.{_≤_};
+ghost use mathlib.Core.List.{_++_};
+ghost use lib.ListN.{length};
+ghost use Rattle.wire.specs.Cursors.{Inside, left};
+ghost use Rattle.emit.specs.Writing.{Room, Put};
+ghost use Rattle.b3d_scene.specs.Rules.{mostBytes};
+ghost use Rattle.b3d_scene.specs.Tags.{code};
+ghost use Rattle.b3d_copy.specs.Copies.{chunkOf, each, chunksAt, asIs};
+use b3d_chunks::Next;
+use b3d_scene::Tag;
+use wire::Cursor;
+
+// A chunk of this tag whose body is the bytes of a cursor.
+pub fn copy_chunk(file: &[u8], body: Cursor, tag: Tag, out: &mut [u8]) -> usize
+    requires { ⌜ Inside body (length (now file)) ⌝ }
+    requires { ⌜ Room (chunkOf (code tag) (left body (now file))) (now out) ⌝ }
+    ensures { λ r. ⌜ Put (chunkOf (code tag) (left body (now (file .entry)))) (now (out .entry)) (now (out .exit)) r ⌝ }
+{
+    let at = body.at;
+    let count = body.end - at;
+    emit::copy_bytes(file, at, count, &mut out[8..]);
+    emit::put_header(out, b3d_copy::letters(tag), count);
+    count + 8
+}
+
+// Each chunk of this tag among those that a cursor has left.
+pub fn copy_each(file: &[u8], from: Cursor, tag: Tag, out: &mut [u8]) -> usize
+    requires { ⌜ Inside from (length (now file)) × (length (now file) ≤ mostBytes) ⌝ }
+    requires { ⌜ Room (each tag (asIs tag) (chunksAt (now file) from)) (now out) ⌝ }
+    ensures { λ r. ⌜ Put (each tag (asIs tag) (chunksAt (now (file .entry)) from)) (now (out .entry)) (now (out .exit)) r ⌝ }
+{
+    let mut c = from;
+    let mut n: usize = 0;
+    loop {
+        match b3d_chunks::next_chunk(file, c) {
+            Next::Done => {
+                return n;
+            }
+            Next::Cut(_) => {
+                return n;
+            }
+            Next::Chunk {
+                tag: t,
+                at: _,
+                body,
+                next,
+            } => {
+                if b3d_copy::same(t, tag) {
+                    let m = copy_chunk(file, body, tag, &mut out[n..]);
+                    n += m;
+                    c = next;
+                } else {
+                    c = next;
+                }
+            }
+        }
+    }
+}
+
+// Each chunk of one tag, then each of another.
+pub fn copy_two(file: &[u8], from: Cursor, first: Tag, second: Tag, out: &mut [u8]) -> usize
+    requires { ⌜ Inside from (length (now file)) × (length (now file) ≤ mostBytes) ⌝ }
+    requires { ⌜ Room (each first (asIs first) (chunksAt (now file) from) ++ each second (asIs second) (chunksAt (now file) from)) (now out) ⌝ }
+    ensures { λ r. ⌜ Put (each first (asIs first) (chunksAt (now (file .entry)) from) ++ each second (asIs second) (chunksAt (now (file .entry)) from)) (now (out .entry)) (now (out .exit)) r ⌝ }
+{
+    let n = copy_each(file, from, first, out);
+    let m = copy_each(file, from, second, &mut out[n..]);
+    n + m
+}
