@@ -12,10 +12,10 @@ use Rattle.wire.specs.declared.Number.the-variants as number
 use Rattle.layout.specs.Rules.{holds}
 use Rattle.b3d_scene.specs.Parse.{readBone, readTriangles}
 use Rattle.b3d_scene.specs.Rules.{brushId}
-use Rattle.b3d_chunks.specs.Items.{idItems, counted, CountedIn}
-use Rattle.b3d_chunks.specs.declared.Counted.{Counted}
-use Rattle.b3d_chunks.specs.declared.Counted.the-variants as counts
-use Rattle.b3d_chunks.proofs.Divided.{counted-room, counted-before}
+use Rattle.b3d_items.specs.Items.{idItems, counted, CountedIn}
+use Rattle.b3d_items.specs.declared.Counted.{Counted}
+use Rattle.b3d_items.specs.declared.Counted.the-variants as counts
+use Rattle.b3d_items.proofs.Divided.{counted-room, counted-before}
 use Rattle.b3d_inside.specs.Places.{Body}
 use Rattle.b3d_tally.specs.Answers.{Judges}
 use Rattle.b3d_tally.specs.Tally.{weightsTally, boneTally, trianglesTally, setTally}

@@ -9,10 +9,10 @@ use Rattle.wire.specs.Cursors.{Inside}
 use Rattle.wire.specs.declared.Cursor.{Cursor}
 use Rattle.layout.specs.Out.{Out, got, bad}
 use Rattle.b3d_scene.specs.Rules.{mostBytes}
-use Rattle.b3d_chunks.specs.Items.{counted, CountedIn}
-use Rattle.b3d_chunks.specs.declared.Counted.{Counted}
-use Rattle.b3d_chunks.specs.declared.Counted.the-variants as counts
-use Rattle.b3d_chunks.proofs.Divided.{counted-room, counted-got, counted-bad}
+use Rattle.b3d_items.specs.Items.{counted, CountedIn}
+use Rattle.b3d_items.specs.declared.Counted.{Counted}
+use Rattle.b3d_items.specs.declared.Counted.the-variants as counts
+use Rattle.b3d_items.proofs.Divided.{counted-room, counted-got, counted-bad}
 use Rattle.b3d_tally.specs.Answers.{Judges}
 use Rattle.b3d_tally.specs.Tally.{Within}
 use Rattle.b3d_tally.specs.declared.Judged.the-variants as judge

@@ -13,10 +13,10 @@ use Rattle.layout.specs.Out.{Out}
 use Rattle.layout.specs.Parts.{row, items}
 use Rattle.b3d_scene.specs.Parse.{readKeys}
 use Rattle.b3d_scene.specs.Rules.{keyFlags, keyRow, keyWords}
-use Rattle.b3d_chunks.specs.Items.{counted, dividedAt, CountedIn}
-use Rattle.b3d_chunks.specs.declared.Counted.{Counted}
-use Rattle.b3d_chunks.specs.declared.Counted.the-variants as counts
-use Rattle.b3d_chunks.proofs.Divided.{divided-is, counted-room, counted-before}
+use Rattle.b3d_items.specs.Items.{counted, dividedAt, CountedIn}
+use Rattle.b3d_items.specs.declared.Counted.{Counted}
+use Rattle.b3d_items.specs.declared.Counted.the-variants as counts
+use Rattle.b3d_items.proofs.Divided.{divided-is, counted-room, counted-before}
 use Rattle.b3d_inside.specs.Places.{Body}
 use Rattle.b3d_tally.specs.Answers.{Judges}
 use Rattle.b3d_tally.specs.Tally.{keysTally, listTally}

@@ -17,10 +17,10 @@ use Rattle.b3d_scene.specs.declared.Mode.{Mode}
 use Rattle.b3d_scene.specs.declared.Mode.the-variants.{Strict, Lenient}
 use Rattle.b3d_scene.specs.Parse.{Vertices, readVertices}
 use Rattle.b3d_scene.specs.Rules.{verticesHead, vertexRow, vertexWords}
-use Rattle.b3d_chunks.specs.Items.{partRow, colourItems, counted, dividedAt, CountedIn}
-use Rattle.b3d_chunks.specs.declared.Counted.{Counted}
-use Rattle.b3d_chunks.specs.declared.Counted.the-variants as counts
-use Rattle.b3d_chunks.proofs.Divided.{divided-is, counted-room, counted-before, counted-got, counted-bad}
+use Rattle.b3d_items.specs.Items.{partRow, colourItems, counted, dividedAt, CountedIn}
+use Rattle.b3d_items.specs.declared.Counted.{Counted}
+use Rattle.b3d_items.specs.declared.Counted.the-variants as counts
+use Rattle.b3d_items.proofs.Divided.{divided-is, counted-room, counted-before, counted-got, counted-bad}
 use Rattle.b3d_inside.specs.Places.{Body}
 use Rattle.b3d_bodies.specs.Answers.{Shapes}
 use Rattle.b3d_bodies.specs.Colours.{beforeColour, coloursOf}

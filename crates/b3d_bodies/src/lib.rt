@@ -6,13 +6,13 @@ ghost use lib.ListN.{length};
 ghost use Rattle.wire.specs.Cursors.{Inside, left};
 ghost use Rattle.layout.specs.Parts.{items};
 ghost use Rattle.b3d_scene.specs.Parse.{readVertices, readTriangles, readBone, readKeys};
-ghost use Rattle.b3d_chunks.specs.Items.{colourItems, counted, CountedIn};
+ghost use Rattle.b3d_items.specs.Items.{colourItems, counted, CountedIn};
 ghost use Rattle.b3d_bodies.specs.Colours.{beforeColour, coloursOf};
 ghost use Rattle.b3d_tally.specs.Tally.{listTally, boneTally, setTally};
 ghost use Rattle.b3d_inside.specs.Places.{Body};
 ghost use Rattle.b3d_tally.specs.Answers.{Judges};
 ghost use Rattle.b3d_bodies.specs.Answers.{Shapes};
-use b3d_chunks::Counted;
+use b3d_items::Counted;
 use b3d_scene::Mode;
 use b3d_tally::Judged;
 use wire::Cursor;
@@ -35,8 +35,8 @@ pub fn judge_keys(s: &[u8], at: usize, body: Cursor) -> Judged
             if 7 < flags {
                 return Judged::Bad(6, body.at);
             }
-            let words = b3d_chunks::key_words(flags);
-            match b3d_chunks::whole_items(items, words) {
+            let words = b3d_items::key_words(flags);
+            match b3d_items::whole_items(items, words) {
                 Counted::Not(n, p) => Judged::Bad(n, p),
                 Counted::Is(count) => Judged::Good(b3d_tally::keys(count, words)),
             }
@@ -49,7 +49,7 @@ pub fn judge_bone(s: &[u8], at: usize, body: Cursor, vertices: usize) -> Judged
     requires { ⌜ Body at body (length (now s)) ⌝ }
     ensures { λ r. ⌜ Judges boneTally (readBone vertices at (left body (now (s .entry)))) at (body .end) r ⌝ }
 {
-    match b3d_chunks::id_items(s, body, 2, 1, vertices) {
+    match b3d_items::id_items(s, body, 2, 1, vertices) {
         Counted::Not(n, p) => Judged::Bad(n, p),
         Counted::Is(count) => Judged::Good(b3d_tally::weights(count)),
     }
@@ -73,10 +73,10 @@ fn vertex_items(s: &[u8], items: Cursor, words: usize, flags: u32, mode: Mode) -
 {
     let n = colours_of(mode, flags);
     if n == 0 {
-        return b3d_chunks::whole_items(items, words);
+        return b3d_items::whole_items(items, words);
     }
     let before = wire::size(3 + flags / 1 % 2 * 3);
-    b3d_chunks::colour_items(s, items, words, before, n)
+    b3d_items::colour_items(s, items, words, before, n)
 }
 
 // A VRTS: its flags, sets and set size, then vertices to the end.
@@ -101,7 +101,7 @@ pub fn judge_vertices(s: &[u8], at: usize, body: Cursor, mode: Mode) -> Shaped
     if 4 < size {
         return Shaped::Not(6, start + 8);
     }
-    let words = b3d_chunks::vertex_words(flags, sets, size);
+    let words = b3d_items::vertex_words(flags, sets, size);
     let items = Cursor {
         at: start + 12,
         end,
@@ -120,10 +120,10 @@ pub fn judge_triangles(s: &[u8], at: usize, body: Cursor, brushes: usize, vertic
     match body.number(s) {
         Number::Cut => Judged::Bad(5, body.at),
         Number::Is(brush, items) => {
-            if !b3d_chunks::id_named(brush, brushes, true) {
+            if !b3d_items::id_named(brush, brushes, true) {
                 return Judged::Bad(7, body.at);
             }
-            match b3d_chunks::id_items(s, items, 3, 3, vertices) {
+            match b3d_items::id_items(s, items, 3, 3, vertices) {
                 Counted::Not(n, p) => Judged::Bad(n, p),
                 Counted::Is(count) => Judged::Good(b3d_tally::triangles(count)),
             }

@@ -3,6 +3,3 @@ pub mod Tagging
 pub mod Passing
 pub mod Nexts
 pub mod Names
-pub mod Divided
-pub mod Ids
-pub mod ItemLaws

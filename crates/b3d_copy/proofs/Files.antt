@@ -31,7 +31,7 @@ use Rattle.b3d_scene.specs.Rules.{header, fileHead, fileSize, levels}
 use Rattle.b3d_scene.specs.Scene.{Texture, Brush, Forest, leaf, Scene}
 use Rattle.b3d_scene.specs.Tags.{Chunks, Found, split, tagOf, code}
 use Rattle.b3d_scene.proofs.Files.FileLaws.{size-low}
-use Rattle.b3d_chunks.proofs.Ids.{word-at}
+use Rattle.b3d_items.proofs.Ids.{word-at}
 use Rattle.b3d_inside.specs.Places.{reached}
 use Rattle.b3d_inside.proofs.Heads.{head-is}
 use Rattle.b3d_copy.specs.Copies.{chunkOf, each, chunksAt, texsCopy, brusCopy, nodeCopy, inFile, fileCopy}

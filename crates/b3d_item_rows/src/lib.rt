@@ -38,7 +38,7 @@ pub fn shape_count(h: Three) -> usize
 {
     let sets = at_most(h.second, 8);
     let size = at_most(h.third, 4);
-    let width = b3d_chunks::vertex_words(h.first % 4, sets, size);
+    let width = b3d_items::vertex_words(h.first % 4, sets, size);
     let rest = h.rest;
     let at = rest.at;
     let end = rest.end;
@@ -55,7 +55,7 @@ pub fn put_shape(file: &[u8], body: Cursor, base: usize, out: &mut [u32]) -> usi
     let flags = h.first % 4;
     let sets = at_most(h.second, 8);
     let size = at_most(h.third, 4);
-    let width = b3d_chunks::vertex_words(flags, sets, size);
+    let width = b3d_items::vertex_words(flags, sets, size);
     let rest = h.rest;
     let at = rest.at;
     let end = rest.end;

@@ -25,13 +25,13 @@ use Rattle.b3d_scene.specs.Scene.{Brush}
 use Rattle.b3d_scene.specs.Rules.{slots, brushRow, textureId, brushIds, mostBytes}
 use Rattle.b3d_scene.specs.Parse.{readBrush, readBrushes, slotsOf}
 use Rattle.b3d_chunks.specs.Chunks.{namedAt, NamedIn}
-use Rattle.b3d_chunks.specs.Items.{firstBad}
+use Rattle.b3d_items.specs.Items.{firstBad}
 use Rattle.b3d_chunks.specs.declared.Named.{Named}
 use Rattle.b3d_chunks.specs.declared.Named.the-variants as named
-use Rattle.b3d_chunks.specs.declared.Counted.{Counted}
-use Rattle.b3d_chunks.specs.declared.Counted.the-variants as counts
+use Rattle.b3d_items.specs.declared.Counted.{Counted}
+use Rattle.b3d_items.specs.declared.Counted.the-variants as counts
 use Rattle.b3d_chunks.proofs.Names.{named-among}
-use Rattle.b3d_chunks.proofs.Ids.{words-add, ids-pass, ids-stop, after-good, after-bad}
+use Rattle.b3d_items.proofs.Ids.{words-add, ids-pass, ids-stop, after-good, after-bad}
 use Rattle.b3d_tally.specs.Tally.{noTally, brusOf, brusTally, Within}
 use Rattle.b3d_inside.specs.Places.{Body}
 use Rattle.b3d_judge_lists.specs.Answers.{countedBrushes, BrushesIn, slotted, SlotsAre, brushColours}

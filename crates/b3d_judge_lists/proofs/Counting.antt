@@ -16,8 +16,8 @@ use Rattle.layout.proofs.StepLaws.{items-none, items-step, Shrinks, named-shrin
 use Rattle.b3d_chunks.specs.Chunks.{namedAt, NamedIn}
 use Rattle.b3d_chunks.specs.declared.Named.{Named}
 use Rattle.b3d_chunks.specs.declared.Named.the-variants as named
-use Rattle.b3d_chunks.specs.declared.Counted.{Counted}
-use Rattle.b3d_chunks.specs.declared.Counted.the-variants as counts
+use Rattle.b3d_items.specs.declared.Counted.{Counted}
+use Rattle.b3d_items.specs.declared.Counted.the-variants as counts
 use Rattle.b3d_chunks.proofs.Names.{named-cut, named-is, named-among}
 
 -- how many items there are after so many others, or the refusal

@@ -15,7 +15,7 @@ use Rattle.b3d_scene.specs.Parse.{readTexture, readTextures}
 use Rattle.b3d_chunks.specs.Chunks.{namedAt, NamedIn}
 use Rattle.b3d_chunks.specs.declared.Named.{Named}
 use Rattle.b3d_chunks.specs.declared.Named.the-variants as named
-use Rattle.b3d_chunks.specs.declared.Counted.the-variants as counts
+use Rattle.b3d_items.specs.declared.Counted.the-variants as counts
 use Rattle.b3d_tally.specs.Tally.{texsOf, texsTally, Within}
 use Rattle.b3d_inside.specs.Places.{Body}
 use Rattle.b3d_tally.specs.Answers.{judged, Judges}

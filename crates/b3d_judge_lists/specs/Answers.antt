@@ -7,8 +7,8 @@ use Rattle.wire.specs.declared.Cursor.{Cursor}
 use Rattle.layout.specs.Out.{Out, got, bad}
 use Rattle.b3d_scene.specs.Scene.{Brush}
 use Rattle.b3d_scene.specs.Parse.{slotsOf}
-use Rattle.b3d_chunks.specs.declared.Counted.{Counted}
-use Rattle.b3d_chunks.specs.declared.Counted.the-variants as counts
+use Rattle.b3d_items.specs.declared.Counted.{Counted}
+use Rattle.b3d_items.specs.declared.Counted.the-variants as counts
 use Rattle.b3d_tally.specs.Tally.{brusTally, Within}
 use Rattle.b3d_judge_lists.specs.declared.Slotted.{Slotted}
 use Rattle.b3d_judge_lists.specs.declared.Slotted.the-variants as slots

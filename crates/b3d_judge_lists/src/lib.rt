@@ -9,8 +9,8 @@ ghost use Rattle.b3d_judge_lists.specs.Answers.{brushColours, SlotsAre, 
 ghost use Rattle.b3d_tally.specs.Tally.{texsTally};
 ghost use Rattle.b3d_inside.specs.Places.{Body};
 ghost use Rattle.b3d_tally.specs.Answers.{Judges};
-use b3d_chunks::Counted;
 use b3d_chunks::Named;
+use b3d_items::Counted;
 use b3d_scene::Mode;
 use b3d_tally::Judged;
 use b3d_tally::Tally;
@@ -76,7 +76,7 @@ fn brush_items(s: &[u8], from: Cursor, slots: usize, textures: usize, mode: Mode
                 next,
             } => {
                 let colours = brush_colours(mode);
-                let passed = b3d_chunks::first_bad_colour(s, row, colours);
+                let passed = b3d_items::first_bad_colour(s, row, colours);
                 if passed < colours {
                     return Counted::Not(6, row.at + 4 * passed);
                 }
@@ -84,7 +84,7 @@ fn brush_items(s: &[u8], from: Cursor, slots: usize, textures: usize, mode: Mode
                     at: row.at + 28,
                     end: row.end,
                 };
-                let good = b3d_chunks::first_bad(s, ids, slots, textures, true);
+                let good = b3d_items::first_bad(s, ids, slots, textures, true);
                 if good < slots {
                     return Counted::Not(7, ids.at + 4 * good);
                 }

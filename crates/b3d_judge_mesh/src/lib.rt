@@ -129,7 +129,7 @@ pub fn judge_mesh(s: &[u8], at: usize, body: Cursor, brushes: usize, mode: Mode)
     match body.number(s) {
         Number::Cut => Meshed::Not(5, body.at),
         Number::Is(brush, c) => {
-            if !b3d_chunks::id_named(brush, brushes, true) {
+            if !b3d_items::id_named(brush, brushes, true) {
                 return Meshed::Not(7, body.at);
             }
             judge_inside(s, at, c, brushes, mode)

@@ -24,9 +24,9 @@ use Rattle.b3d_scene.specs.declared.Tag.the-variants.{MESH, VRTS}
 use Rattle.b3d_scene.specs.Tags.{code, split}
 use Rattle.b3d_scene.specs.Rules.{verticesHead, vertexWords}
 use Rattle.b3d_chunks.specs.Chunks.{NextIs}
-use Rattle.b3d_chunks.specs.Items.{dividedAt}
-use Rattle.b3d_chunks.specs.declared.Counted.{Counted}
-use Rattle.b3d_chunks.specs.declared.Counted.the-variants as counts
+use Rattle.b3d_items.specs.Items.{dividedAt}
+use Rattle.b3d_items.specs.declared.Counted.{Counted}
+use Rattle.b3d_items.specs.declared.Counted.the-variants as counts
 use Rattle.b3d_chunks.specs.declared.Next.{Next}
 use Rattle.b3d_chunks.specs.declared.Next.the-variants as next
 use Rattle.b3d_chunks.proofs.Nexts.{chunk-is, chunk-among, body-inside, cut-is, done-is}

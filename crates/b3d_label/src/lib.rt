@@ -7,9 +7,9 @@ ghost use Rattle.wire.specs.Cursors.{Inside, left};
 ghost use Rattle.b3d_scene.specs.Tags.{code, split};
 ghost use Rattle.b3d_label.specs.Walk.{verticesIn, meshVertices, rootVertices, rootIn, fileIn, noLabel, labelOf, nameOn};
 ghost use Rattle.b3d_label.specs.Answers.{Seeks, manyOf, Labels};
-use b3d_chunks::Counted;
 use b3d_chunks::Named;
 use b3d_chunks::Next;
+use b3d_items::Counted;
 use b3d_scene::Tag;
 use wire::Cursor;
 use wire::Header;
@@ -105,12 +105,12 @@ fn vrts_vertices(s: &[u8], body: Cursor) -> Many
     if 4 < size {
         return Many::Not;
     }
-    let words = b3d_chunks::vertex_words(flags, sets, size);
+    let words = b3d_items::vertex_words(flags, sets, size);
     let items = Cursor {
         at: start + 12,
         end,
     };
-    match b3d_chunks::whole_items(items, words) {
+    match b3d_items::whole_items(items, words) {
         Counted::Not(_, _) => Many::Not,
         Counted::Is(count) => Many::Are(count),
     }

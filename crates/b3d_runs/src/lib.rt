@@ -151,7 +151,7 @@ pub fn fill_vertices(
     let b = wire::size(flags / 2 % 2 * 4);
     let n = wire::size(sets);
     let z = wire::size(size);
-    let words = b3d_chunks::vertex_words(flags, sets, size);
+    let words = b3d_items::vertex_words(flags, sets, size);
     put_vertices(file, c.at, a, b, n, z, words, count, base, out);
 }
 

@@ -32,7 +32,7 @@ fn mesh_bytes(flags: u32, sets: u32, size: u32, many: u32) -> usize
     requires { ⌜ (flags ≤ 3) × (sets ≤ 8) × (size ≤ 4) ⌝ }
     ensures { λ r. ⌜ Adds (32 + many * (4 * vertexWords flags sets size)) r ⌝ }
 {
-    let words = b3d_chunks::vertex_words(flags, sets, size);
+    let words = b3d_items::vertex_words(flags, sets, size);
     32 + wire::size(many) * (4 * words)
 }
 
@@ -41,7 +41,7 @@ fn list_bytes(flags: u32, many: u32) -> usize
     requires { ⌜ flags ≤ 7 ⌝ }
     ensures { λ r. ⌜ Adds (12 + many * (4 * keyWords flags)) r ⌝ }
 {
-    let words = b3d_chunks::key_words(flags);
+    let words = b3d_items::key_words(flags);
     12 + wire::size(many) * (4 * words)
 }
 

@@ -1,8 +1,8 @@
 -- `key_words` answers `keyWords`.
 use borrow.Author.Needs.{needs}
 use Rattle.b3d_scene.specs.Rules.{keyWords}
-use Rattle.b3d_chunks.proofs.key_words.Statement.{statement}
-use Rattle.b3d_chunks.proofs.key_words.Tie as tie
+use Rattle.b3d_items.proofs.key_words.Statement.{statement}
+use Rattle.b3d_items.proofs.key_words.Tie as tie
 
 pub key-words-spec : {M : Type 1} → statement M
 unfolding keyWords

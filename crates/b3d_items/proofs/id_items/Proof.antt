@@ -3,11 +3,11 @@ use Prim.Native.Nat.{_-_}
 use Rattle.wire.specs.Cursors.{left}
 use Rattle.wire.proofs.Left.{span}
 use Rattle.layout.specs.Rules.{names}
-use Rattle.b3d_chunks.specs.Items.{idItems, counted}
+use Rattle.b3d_items.specs.Items.{idItems, counted}
 use borrow.Author.Needs.{needs}
-use Rattle.b3d_chunks.proofs.ItemLaws.{Counting, id-counting}
-use Rattle.b3d_chunks.proofs.id_items.Statement.{statement}
-use Rattle.b3d_chunks.proofs.id_items.Tie as tie
+use Rattle.b3d_items.proofs.ItemLaws.{Counting, id-counting}
+use Rattle.b3d_items.proofs.id_items.Statement.{statement}
+use Rattle.b3d_items.proofs.id_items.Tie as tie
 
 abbrev Inv-loop : tie.InvT-loop
 Inv-loop s words ids limit end size at₀ count₀ at count =

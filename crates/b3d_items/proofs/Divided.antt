@@ -17,9 +17,9 @@ use Rattle.layout.specs.Parts.{row, items}
 use Rattle.layout.specs.Rules.{any}
 use Rattle.layout.proofs.Outs.{by-test}
 use Rattle.layout.proofs.StepLaws.{length-items-of, any-whole, any-cut}
-use Rattle.b3d_chunks.specs.Items.{counted, dividedAt, CountedIn}
-use Rattle.b3d_chunks.specs.declared.Counted.{Counted}
-use Rattle.b3d_chunks.specs.declared.Counted.the-variants as counts
+use Rattle.b3d_items.specs.Items.{counted, dividedAt, CountedIn}
+use Rattle.b3d_items.specs.declared.Counted.{Counted}
+use Rattle.b3d_items.specs.declared.Counted.the-variants as counts
 
 module _ (c : Cursor) (words : ℕ) where
   -- ---- the answers

@@ -3,8 +3,8 @@ use native.Mathlib.Omega.{arith}
 use native.Mathlib.Nat.{mul-le-mul}
 use borrow.Author.Needs.{needs}
 use Rattle.b3d_scene.specs.Rules.{vertexWords}
-use Rattle.b3d_chunks.proofs.vertex_words.Statement.{statement}
-use Rattle.b3d_chunks.proofs.vertex_words.Tie as tie
+use Rattle.b3d_items.proofs.vertex_words.Statement.{statement}
+use Rattle.b3d_items.proofs.vertex_words.Tie as tie
 
 pub vertex-words-spec : {M : Type 1} → statement M
 unfolding vertexWords

@@ -2,10 +2,10 @@
 use Prim.Native.Nat.{_-_, _≤_}
 use native.Mathlib.Nat.{le-of-lt}
 use borrow.Author.Needs.{needs}
-use Rattle.b3d_chunks.specs.Items.{idRule}
-use Rattle.b3d_chunks.proofs.Ids.{Before, firsts}
-use Rattle.b3d_chunks.proofs.first_bad.Statement.{statement}
-use Rattle.b3d_chunks.proofs.first_bad.Tie as tie
+use Rattle.b3d_items.specs.Items.{idRule}
+use Rattle.b3d_items.proofs.Ids.{Before, firsts}
+use Rattle.b3d_items.proofs.first_bad.Statement.{statement}
+use Rattle.b3d_items.proofs.first_bad.Tie as tie
 
 abbrev Inv-loop : tie.InvT-loop
 Inv-loop s n limit absent start i₀ i = (i ≤ n) × Before s start (idRule absent limit) i

@@ -9,8 +9,8 @@ use Rattle.wire.specs.declared.Cursor.{Cursor}
 use Rattle.layout.specs.Out.{Out, got, bad}
 use Rattle.layout.specs.Rules.{Rule, any, names, namesOrNone, unit, holds}
 use Rattle.layout.specs.Parts.{row, items}
-use Rattle.b3d_chunks.specs.declared.Counted.{Counted}
-use Rattle.b3d_chunks.specs.declared.Counted.the-variants as counts
+use Rattle.b3d_items.specs.declared.Counted.{Counted}
+use Rattle.b3d_items.specs.declared.Counted.the-variants as counts
 
 -- an id of so many things; where it may be absent, -1 too
 abbrev pub idRule : Bool → ℕ → Rule

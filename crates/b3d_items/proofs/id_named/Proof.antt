@@ -1,8 +1,8 @@
 -- `id_named` answers whether an id keeps its rule.
 use borrow.Author.Needs.{needs}
-use Rattle.b3d_chunks.proofs.Ids.{id-laws}
-use Rattle.b3d_chunks.proofs.id_named.Statement.{statement}
-use Rattle.b3d_chunks.proofs.id_named.Tie as tie
+use Rattle.b3d_items.proofs.Ids.{id-laws}
+use Rattle.b3d_items.proofs.id_named.Statement.{statement}
+use Rattle.b3d_items.proofs.id_named.Tie as tie
 
 pub id-named-spec : {M : Type 1} → statement M
 id-named-spec =

@@ -1,9 +1,9 @@
 -- `whole_items` answers what `dividedAt` finds.
 use native.Mathlib.Omega.{arith}
 use borrow.Author.Needs.{needs}
-use Rattle.b3d_chunks.proofs.Divided.{divided-room, dividing}
-use Rattle.b3d_chunks.proofs.whole_items.Statement.{statement}
-use Rattle.b3d_chunks.proofs.whole_items.Tie as tie
+use Rattle.b3d_items.proofs.Divided.{divided-room, dividing}
+use Rattle.b3d_items.proofs.whole_items.Statement.{statement}
+use Rattle.b3d_items.proofs.whole_items.Tie as tie
 
 pub whole-items-spec : {M : Type 1} → statement M
 whole-items-spec =

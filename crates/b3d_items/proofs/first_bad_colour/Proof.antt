@@ -3,9 +3,9 @@ use Prim.Native.Nat.{_-_, _≤_}
 use native.Mathlib.Nat.{le-of-lt}
 use borrow.Author.Needs.{needs}
 use Rattle.layout.specs.Rules.{unit}
-use Rattle.b3d_chunks.proofs.Ids.{Before, firsts}
-use Rattle.b3d_chunks.proofs.first_bad_colour.Statement.{statement}
-use Rattle.b3d_chunks.proofs.first_bad_colour.Tie as tie
+use Rattle.b3d_items.proofs.Ids.{Before, firsts}
+use Rattle.b3d_items.proofs.first_bad_colour.Statement.{statement}
+use Rattle.b3d_items.proofs.first_bad_colour.Tie as tie
 
 abbrev Inv-loop : tie.InvT-loop
 Inv-loop s n start i₀ i = (i ≤ n) × Before s start unit i

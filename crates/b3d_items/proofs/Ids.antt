@@ -18,7 +18,7 @@ use Rattle.layout.specs.Out.{got, bad, check}
 use Rattle.layout.specs.Parts.{wordsOf, judged}
 use Rattle.layout.specs.Rules.{NONE, Rule, any, names, holds, refusal}
 use Rattle.layout.proofs.StepLaws.{word-of, length-words-of, judged-any}
-use Rattle.b3d_chunks.specs.Items.{idRule, firstBad}
+use Rattle.b3d_items.specs.Items.{idRule, firstBad}
 
 or-true : (a b : Bool) → b ≡ true → (a || b) ≡ true
 or-true true b e = refl

@@ -4,11 +4,11 @@ use Prim.Native.Nat.{_-_, _+_}
 use Rattle.wire.specs.Cursors.{left}
 use Rattle.wire.proofs.Left.{span}
 use Rattle.layout.specs.Rules.{unit}
-use Rattle.b3d_chunks.specs.Items.{colourItems, counted}
+use Rattle.b3d_items.specs.Items.{colourItems, counted}
 use borrow.Author.Needs.{needs}
-use Rattle.b3d_chunks.proofs.ItemLaws.{Counting, colour-counting}
-use Rattle.b3d_chunks.proofs.colour_items.Statement.{statement}
-use Rattle.b3d_chunks.proofs.colour_items.Tie as tie
+use Rattle.b3d_items.proofs.ItemLaws.{Counting, colour-counting}
+use Rattle.b3d_items.proofs.colour_items.Statement.{statement}
+use Rattle.b3d_items.proofs.colour_items.Tie as tie
 
 abbrev Inv-loop : tie.InvT-loop
 Inv-loop s words before n end item at₀ count₀ at count =
