@@ -55,7 +55,7 @@ kelompuris_answer kelompuris_b3d_judge(uint32_t mode, const uint8_t *file, size_
 enum {
     KELOMPURIS_TEXTURE_WORDS = 9,
     KELOMPURIS_BRUSH_WORDS = 17,
-    KELOMPURIS_NODE_WORDS = 20,
+    KELOMPURIS_NODE_WORDS = 21,
     KELOMPURIS_MESH_WORDS = 9,
     KELOMPURIS_VERTEX_WORDS = 42,
     KELOMPURIS_TRIANGLE_SET_WORDS = 4,
@@ -75,6 +75,7 @@ enum {
  *   t6 triangle sets   t7 triangles   t8 weights   t9 key lists   t10 keys
  *
  * A brush's eight texture slots hold 0xFFFFFFFF where its layer is empty (texture id -1), and from n_texs on.
+ * A node's last word is the number of nodes below it at all depths: these are the next so many rows.
  * A weight's vertex id is of the mesh of the nearest node above its bone with an ANIM; if no node above has one, of the root's mesh.
  */
 kelompuris_answer kelompuris_b3d_read(
@@ -106,7 +107,8 @@ typedef struct {
  * behind those rows are not looked at. Name places are byte places in names; these bytes may be the file that was read.
  * 12 is also the answer to a count of more rows than its table has or than 2,097,151, to a name that passes the end of names (a place past
  * the end too, with length 0) or has a zero byte, to a version or n_texs that no file with these rows has, to a texture slot from n_texs
- * on that is not 0xFFFFFFFF (one below n_texs may be), and to a file of more than 16,777,216 bytes.
+ * on that is not 0xFFFFFFFF (one below n_texs may be), to a node whose last word is not the number of nodes below it, and to a file of
+ * more than 16,777,216 bytes.
  *
  * Written: the output's bytes behind the size stay as they were. Refused, also by 11: the whole output stays as it was.
  * Tables, counts and names are not written.

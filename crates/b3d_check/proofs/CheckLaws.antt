@@ -16,7 +16,7 @@ use Rattle.layout.specs.Fit.{all}
 use Rattle.b3d_scene.specs.Colours.{coloured, passes}
 use Rattle.b3d_scene.specs.Rebuild.{lentRows, roomy, cut}
 use Rattle.b3d_scene.specs.Rules.{rowLimit}
-use Rattle.b3d_scene.specs.Tables.{width, tables, nodeTables}
+use Rattle.b3d_scene.specs.Tables.{width, tables, nodeTables, nodeWidth}
 use Rattle.b3d_scene.specs.declared.Counts.{Counts}
 use Rattle.b3d_scene.specs.declared.Mode.{Mode}
 use Rattle.b3d_scene.specs.declared.Mode.the-variants.{Strict, Lenient}
@@ -54,7 +54,7 @@ module _ (counts : List ℕ) (l₁ l₂ l₃ l₄ l₅ l₆ l₇ l₈ l₉ l₁�
   pub rooms-are : (b₁ b₂ b₃ b₄ b₅ b₆ b₇ b₈ b₉ b₁₀ : Bool)
       → b₁ ≡ fitsIn (getD counts 0 0) 9 l₁
       → b₂ ≡ fitsIn (getD counts 1 0) 17 l₂
-      → b₃ ≡ fitsIn (getD counts 2 0) 20 l₃
+      → b₃ ≡ fitsIn (getD counts 2 0) nodeWidth l₃
       → b₄ ≡ fitsIn (getD counts 3 0) 9 l₄
       → b₅ ≡ fitsIn (getD counts 4 0) 42 l₅
       → b₆ ≡ fitsIn (getD counts 5 0) 4 l₆
@@ -72,7 +72,7 @@ module _ (counts : List ℕ) (l₁ l₂ l₃ l₄ l₅ l₆ l₇ l₈ l₉ l₁�
   rooms-facts t₀ =
       let s₁ = and-yes (fitsIn (getD counts 0 0) 9 l₁) _ t₀ in
       let s₂ = and-yes (fitsIn (getD counts 1 0) 17 l₂) _ (s₁ .1) in
-      let s₃ = and-yes (fitsIn (getD counts 2 0) 20 l₃) _ (s₂ .1) in
+      let s₃ = and-yes (fitsIn (getD counts 2 0) nodeWidth l₃) _ (s₂ .1) in
       let s₄ = and-yes (fitsIn (getD counts 3 0) 9 l₄) _ (s₃ .1) in
       let s₅ = and-yes (fitsIn (getD counts 4 0) 42 l₅) _ (s₄ .1) in
       let s₆ = and-yes (fitsIn (getD counts 5 0) 4 l₆) _ (s₅ .1) in
@@ -81,7 +81,7 @@ module _ (counts : List ℕ) (l₁ l₂ l₃ l₄ l₅ l₆ l₇ l₈ l₉ l₁�
       let s₉ = and-yes (fitsIn (getD counts 8 0) 4 l₉) _ (s₈ .1) in
       let f₁ = fits-says (getD counts 0 0) 9 l₁ (s₁ .0) in
       let f₂ = fits-says (getD counts 1 0) 17 l₂ (s₂ .0) in
-      let f₃ = fits-says (getD counts 2 0) 20 l₃ (s₃ .0) in
+      let f₃ = fits-says (getD counts 2 0) nodeWidth l₃ (s₃ .0) in
       let f₄ = fits-says (getD counts 3 0) 9 l₄ (s₄ .0) in
       let f₅ = fits-says (getD counts 4 0) 42 l₅ (s₅ .0) in
       let f₆ = fits-says (getD counts 5 0) 4 l₆ (s₆ .0) in
@@ -106,7 +106,7 @@ module _ (counts : List ℕ) (l₁ l₂ l₃ l₄ l₅ l₆ l₇ l₈ l₉ l₁�
     unfolding partCounts
     tree-kinds = rw e (record { room₄ = h .room₄; room₅ = h .room₅; room₆ = h .room₆; room₇ = h .room₇; room₈ = h .room₈ })
 
-    pub tree-nodes : 20 * a .nodes ≤ l₃
+    pub tree-nodes : nodeWidth * a .nodes ≤ l₃
     unfolding partCounts
     tree-nodes = rw e (h .room₃)
 
@@ -145,7 +145,7 @@ module _ (ns : List ℕ) (v slots : ℕ) (counts : List ℕ) (t₁ t₂ t₃ t�
     brushes = all (brushHere ns slots (getD counts 0 0)) (cut 17 (getD counts 1 0) t₂)
 
     abbrev tree : Bool
-    tree = treeHere ns (getD counts 1 0) (partRows (partCounts counts) t₄ t₅ t₆ t₇ t₈ t₉ t₁₀) (cut 20 (getD counts 2 0) t₃)
+    tree = treeHere ns (getD counts 1 0) (partRows (partCounts counts) t₄ t₅ t₆ t₇ t₈ t₉ t₁₀) (cut nodeWidth (getD counts 2 0) t₃)
 
     pub rows-slots : not b ≡ true → false ≡ rowsPart ns v slots counts t₁ t₂ t₃ t₄ t₅ t₆ t₇ t₈ t₉ t₁₀
     unfolding rowsPart
@@ -171,10 +171,10 @@ module _ (ns : List ℕ) (v slots : ℕ) (counts : List ℕ) (t₁ t₂ t₃ t�
         rows-brushes h = on false (and-go c names (brushes && tree) false names-are g (and-stop d brushes tree brushes-are h))
 
         pub rows-tree : not d ≡ false → (a : Counts) → a ≡ partCounts counts → (r : Bool)
-            → r ≡ treeHere ns (getD counts 1 0) (partRows a t₄ t₅ t₆ t₇ t₈ t₉ t₁₀) (cut 20 (a .nodes) t₃) → r ≡ rowsPart ns v slots counts t₁ t₂ t₃ t₄ t₅ t₆ t₇ t₈ t₉ t₁₀
+            → r ≡ treeHere ns (getD counts 1 0) (partRows a t₄ t₅ t₆ t₇ t₈ t₉ t₁₀) (cut nodeWidth (a .nodes) t₃) → r ≡ rowsPart ns v slots counts t₁ t₂ t₃ t₄ t₅ t₆ t₇ t₈ t₉ t₁₀
         unfolding partCounts
         rows-tree h a ea r e = on r (and-go c names (brushes && tree) r names-are g (and-go d brushes tree r brushes-are h
-            (e ∙ ap (λ (x : Counts). treeHere ns (getD counts 1 0) (partRows x t₄ t₅ t₆ t₇ t₈ t₉ t₁₀) (cut 20 (x .nodes) t₃)) ea)))
+            (e ∙ ap (λ (x : Counts). treeHere ns (getD counts 1 0) (partRows x t₄ t₅ t₆ t₇ t₈ t₉ t₁₀) (cut nodeWidth (x .nodes) t₃)) ea)))
 
 -- ---- a law for each way through `colours_here`
 
@@ -209,7 +209,7 @@ module _ (ns : List ℕ) (v slots : ℕ) (counts : List ℕ) (t₁ t₂ t₃ t�
 
   check-parts : (rooms counts (length t₁) (length t₂) (length t₃) (length t₄) (length t₅) (length t₆) (length t₇) (length t₈) (length t₉) (length t₁₀) && rowsPart ns v slots counts t₁ t₂ t₃ t₄ t₅ t₆ t₇ t₈ t₉ t₁₀) ≡ check (lentOf v slots counts t₁ t₂ t₃ t₄ t₅ t₆ t₇ t₈ t₉ t₁₀) ns
   unfolding check rowsPart lentOf lentRows width if
-  check-parts = rw (roomy-all, ← same-tree _ _ agree ns (getD counts 1 0) (cut 20 (getD counts 2 0) t₃))
+  check-parts = rw (roomy-all, ← same-tree _ _ agree ns (getD counts 1 0) (cut nodeWidth (getD counts 2 0) t₃))
 
   colours-part : (mode : Mode) → coloursPart mode counts t₂ t₅ ≡ passes mode (lentRows (lentOf v slots counts t₁ t₂ t₃ t₄ t₅ t₆ t₇ t₈ t₉ t₁₀))
   unfolding coloursPart passes lentOf lentRows width if

@@ -12,7 +12,7 @@ use Rattle.b3d_scene.specs.Rules.{boneVertices, levels}
 use Rattle.b3d_scene.specs.Tables.{start}
 use Rattle.b3d_scene.specs.declared.Counts.{Counts}
 use Rattle.b3d_sound.specs.CellCounts.{kindCounts, cellCounts, cellBones}
-use Rattle.b3d_sound.specs.Check.{kindHere, nodeHere, spent, Level, upTo, toldBy, nodesHere, treeHere}
+use Rattle.b3d_sound.specs.Check.{kindHere, nodeHere, spent, Level, upTo, toldBy, nodesHere, treeHere, endHere, endFrom}
 
 pub record Agree (R S : Rows) : Type 0 where
   pub meshes : R 4 ≡ S 4
@@ -42,11 +42,11 @@ module _ (R S : Rows) (e : Agree R S) (ns : List ℕ) where
 
   same-nodes : (brushes : ℕ) (path : List Level) (xs : List (List ℕ)) (n : Counts) → nodesHere ns brushes R path xs n ≡ nodesHere ns brushes S path xs n
   unfolding nodesHere
-  same-nodes brushes path [] n = same-spent n
+  same-nodes brushes path [] n = ap (λ (b : Bool). endHere (n .nodes) path && b) (same-spent n)
   same-nodes brushes path (x ∷ xs) n =
-      let q = upTo (getD x 2 0) path in
+      let q = upTo (n .nodes) (getD x 2 0) path in
       let told = toldBy q in
-      let level : ℕ → Level = λ v. record { node = n .nodes; bones = v } in
+      let level : ℕ → Level = λ v. record { node = n .nodes; end = endFrom (n .nodes) x; bones = v } in
       ap₂ (λ (a b : Bool). ltb 0 (length q) && (ltb (length q) levels && (a && b))) (same-node brushes told x n)
       (ap₂ (λ (v : ℕ) (m : Counts). nodesHere ns brushes R (level v ∷ q) xs m) (same-bones told x n) (same-counts x n) ∙ same-nodes brushes (level (cellBones told S x n) ∷ q) xs (cellCounts S x n))
 
@@ -54,6 +54,6 @@ module _ (R S : Rows) (e : Agree R S) (ns : List ℕ) where
   unfolding treeHere
   same-tree brushes [] = same-spent start
   same-tree brushes (x ∷ xs) =
-      let path : Counts → List Level = λ m. record { node = 0; bones = m .vertices } ∷ [] in
+      let path : Counts → List Level = λ m. record { node = 0; end = endFrom 0 x; bones = m .vertices } ∷ [] in
       ap₂ (λ (a b : Bool). eqb (getD x 2 0) NONE && (a && b)) (same-node brushes (boneVertices none) x start)
       (ap (λ (m : Counts). nodesHere ns brushes R (path m) xs m) (same-counts x start) ∙ same-nodes brushes (path (cellCounts S x start)) xs (cellCounts S x start))

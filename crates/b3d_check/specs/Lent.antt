@@ -12,6 +12,7 @@ use Rattle.b3d_scene.specs.Rebuild.{Lent, cut}
 use Rattle.b3d_scene.specs.Rules.{version, rowLimit}
 use Rattle.b3d_scene.specs.declared.Counts.{Counts}
 use Rattle.b3d_scene.specs.declared.Mode.{Mode}
+use Rattle.b3d_scene.specs.Tables.{nodeWidth}
 use Rattle.b3d_sound.specs.Check.{nameHere, brushHere, slotsHere, treeHere}
 use Rattle.b3d_check_node.specs.Parts.{partRows}
 
@@ -58,7 +59,7 @@ unfoldable pub rooms : List ℕ → ℕ → ℕ → ℕ → ℕ → ℕ → ℕ 
 rooms counts l₁ l₂ l₃ l₄ l₅ l₆ l₇ l₈ l₉ l₁₀ =
     fitsIn (getD counts 0 0) 9 l₁
     && (fitsIn (getD counts 1 0) 17 l₂
-    && (fitsIn (getD counts 2 0) 20 l₃
+    && (fitsIn (getD counts 2 0) nodeWidth l₃
     && (fitsIn (getD counts 3 0) 9 l₄
     && (fitsIn (getD counts 4 0) 42 l₅
     && (fitsIn (getD counts 5 0) 4 l₆
@@ -81,7 +82,7 @@ pub record Rooms (counts : List ℕ) (l₁ l₂ l₃ l₄ l₅ l₆ l₇ l₈ l�
   pub few₁₀ : getD counts 9 0 ≤ rowLimit
   pub room₁ : 9 * getD counts 0 0 ≤ l₁
   pub room₂ : 17 * getD counts 1 0 ≤ l₂
-  pub room₃ : 20 * getD counts 2 0 ≤ l₃
+  pub room₃ : nodeWidth * getD counts 2 0 ≤ l₃
   pub room₄ : 9 * getD counts 3 0 ≤ l₄
   pub room₅ : 42 * getD counts 4 0 ≤ l₅
   pub room₆ : 4 * getD counts 5 0 ≤ l₆
@@ -97,7 +98,7 @@ rowsPart ns v slots counts t₁ t₂ t₃ t₄ t₅ t₆ t₇ t₈ t₉ t₁₀ 
     && (slotsHere slots (getD counts 1 0)
     && (all (nameHere ns) (cut 9 (getD counts 0 0) t₁)
     && (all (brushHere ns slots (getD counts 0 0)) (cut 17 (getD counts 1 0) t₂)
-    && treeHere ns (getD counts 1 0) (partRows (partCounts counts) t₄ t₅ t₆ t₇ t₈ t₉ t₁₀) (cut 20 (getD counts 2 0) t₃))))
+    && treeHere ns (getD counts 1 0) (partRows (partCounts counts) t₄ t₅ t₆ t₇ t₈ t₉ t₁₀) (cut nodeWidth (getD counts 2 0) t₃))))
 
 -- what a mode asks of colours: the rows of brushes and of vertices
 unfoldable pub coloursPart : Mode → List ℕ → List ℕ → List ℕ → Bool

@@ -9,6 +9,7 @@ ghost use Rattle.b3d_sound.specs.Check.{checkIn};
 ghost use Rattle.b3d_check.specs.Lent.{lentOf, partCounts, fitsIn, rooms, Rooms, rowsPart, coloursPart};
 use b3d_scene::Counts;
 use b3d_scene::Mode;
+use b3d_scene::NODE_WIDTH;
 
 // So many rows of a width are no more than the limit, and than so many words.
 fn fits_in(count: u32, width: usize, words: usize) -> bool
@@ -40,7 +41,7 @@ fn rooms_here(
 {
     let b1 = fits_in(counts[0], 9, t1.len());
     let b2 = fits_in(counts[1], 17, t2.len());
-    let b3 = fits_in(counts[2], 20, t3.len());
+    let b3 = fits_in(counts[2], NODE_WIDTH, t3.len());
     let b4 = fits_in(counts[3], 9, t4.len());
     let b5 = fits_in(counts[4], 42, t5.len());
     let b6 = fits_in(counts[5], 4, t6.len());

@@ -10,6 +10,7 @@ use mir.Val.{Fits}
 use Rattle.wire.specs.Test.{if}
 use Rattle.b3d_scene.specs.Rebuild.{Rows, mine}
 use Rattle.b3d_scene.specs.declared.Counts.{Counts}
+use Rattle.b3d_scene.specs.Tables.{nodeWidth}
 use Rattle.b3d_sound.specs.CellCounts.{endOf, meshCounts, weightCounts, kindCounts, nodeCounts, cellCounts}
 use Rattle.b3d_sound.proofs.Check.Testing.{if-case}
 use Rattle.b3d_check_rows.specs.Rows.{rowAt, rowsAt}
@@ -30,17 +31,17 @@ kind-keeps R n y =
     if-case (Keeps n) (eqb (getD y 0 0) 1) _ _ (λ t. record { nodes = refl; lists = refl; keys = refl })
     (λ t. if-case (Keeps n) (eqb (getD y 0 0) 2) _ _ (λ u. record { nodes = refl; lists = refl; keys = refl }) (λ u. record { nodes = refl; lists = refl; keys = refl }))
 
-module _ (n a : Counts) (t₃ t₄ t₆ t₉ : List ℕ) (h : Below n a) (count : ℕ) (ec : count ≡ getD t₃ (20 * n .nodes + 15) 0) where
+module _ (n a : Counts) (t₃ t₄ t₆ t₉ : List ℕ) (h : Below n a) (count : ℕ) (ec : count ≡ getD t₃ (nodeWidth * n .nodes + 15) 0) where
   abbrev kinds : Counts
-  kinds = kindCounts (partRows a t₄ [] t₆ [] [] [] []) n (getD t₃ (20 * n .nodes + 13) 0 ∷ 0 ∷ count ∷ [])
+  kinds = kindCounts (partRows a t₄ [] t₆ [] [] [] []) n (getD t₃ (nodeWidth * n .nodes + 13) 0 ∷ 0 ∷ count ∷ [])
 
   abbrev ls : List (List ℕ)
   ls = mine (n .nodes) (rowsAt 4 (n .lists) (a .lists - n .lists) t₉)
 
   abbrev whole : Counts
-  whole = cellCounts (partRows a t₄ [] t₆ [] [] t₉ []) (rowAt 20 (n .nodes) t₃) n
+  whole = cellCounts (partRows a t₄ [] t₆ [] [] t₉ []) (rowAt nodeWidth (n .nodes) t₃) n
 
-  same-kind : kindCounts (partRows a t₄ [] t₆ [] [] t₉ []) n (drop 13 (rowAt 20 (n .nodes) t₃)) ≡ kinds
+  same-kind : kindCounts (partRows a t₄ [] t₆ [] [] t₉ []) n (drop 13 (rowAt nodeWidth (n .nodes) t₃)) ≡ kinds
   unfolding kindCounts partRows if
   same-kind = rw (kind-cell (n .nodes) 0 t₃ (omega arith), kind-cell (n .nodes) 2 t₃ (omega arith), ec)
 
@@ -48,14 +49,14 @@ module _ (n a : Counts) (t₃ t₄ t₆ t₉ : List ℕ) (h : Below n a) (count 
   unfolding cellCounts partRows if
   parts = ap₂ (λ (r : List (List ℕ)) (k : Counts). nodeCounts (n .lists + length (mine (n .nodes) r)) (endOf (n .keys) (mine (n .nodes) r)) k) (rows-from 4 (a .lists) (n .lists) t₉ (h .lists)) same-kind
 
-  module _ (b : Below (cellCounts (partRows a t₄ [] t₆ [] [] t₉ []) (rowAt 20 (n .nodes) t₃) n) a) where
+  module _ (b : Below (cellCounts (partRows a t₄ [] t₆ [] [] t₉ []) (rowAt nodeWidth (n .nodes) t₃) n) a) where
     after : Below (nodeCounts (n .lists + length ls) (endOf (n .keys) ls) kinds) a
     after = subst (λ (x : Counts). Below x a) parts b
 
-    pub kind-below : Below (kindCounts (partRows a t₄ [] t₆ [] [] [] []) n (getD t₃ (20 * n .nodes + 13) 0 ∷ 0 ∷ count ∷ [])) a
+    pub kind-below : Below (kindCounts (partRows a t₄ [] t₆ [] [] [] []) n (getD t₃ (nodeWidth * n .nodes + 13) 0 ∷ 0 ∷ count ∷ [])) a
     unfolding nodeCounts
     kind-below =
-        let k = kind-keeps (partRows a t₄ [] t₆ [] [] [] []) n (getD t₃ (20 * n .nodes + 13) 0 ∷ 0 ∷ count ∷ []) in
+        let k = kind-keeps (partRows a t₄ [] t₆ [] [] [] []) n (getD t₃ (nodeWidth * n .nodes + 13) 0 ∷ 0 ∷ count ∷ []) in
         record {
           nodes = omega (arith, after .nodes);
           meshes = after .meshes;
@@ -75,14 +76,14 @@ module _ (n a : Counts) (t₃ t₄ t₆ t₉ : List ℕ) (h : Below n a) (count 
       unfolding nodeCounts
       keys-low l = rw (← mine-is) (omega (arith, after .keys, l .keys))
 
-      module _ (k : Counts) (ek : k ≡ kindCounts (partRows a t₄ [] t₆ [] [] [] []) n (getD t₃ (20 * n .nodes + 13) 0 ∷ 0 ∷ count ∷ [])) where
+      module _ (k : Counts) (ek : k ≡ kindCounts (partRows a t₄ [] t₆ [] [] [] []) n (getD t₃ (nodeWidth * n .nodes + 13) 0 ∷ 0 ∷ count ∷ [])) where
         pub nodes-fit : Limited a → Fits w64 (k .nodes + 1)
         unfolding nodeCounts
         nodes-fit l = record { fits = rw ek (omega (arith, after .nodes, l .nodes)) }
 
         pub node-count : (keys : ℕ) → keys ≡ endOf (n .keys) (rowsAt 4 (n .lists) (end - n .lists) t₉) → (x : Counts)
             → x ≡ record { nodes = k .nodes + 1; meshes = k .meshes; vertices = k .vertices; sets = k .sets; triangles = k .triangles; weights = k .weights; lists = end; keys = keys }
-            → x ≡ cellCounts (partRows a t₄ [] t₆ [] [] t₉ []) (rowAt 20 (n .nodes) t₃) n
+            → x ≡ cellCounts (partRows a t₄ [] t₆ [] [] t₉ []) (rowAt nodeWidth (n .nodes) t₃) n
         unfolding nodeCounts
         node-count keys e x q =
             let d : end ≡ n .lists + length ls = rw (mine-is, rows-length 4 (n .lists) (end - n .lists) t₉) (omega (arith, m .low)) in

@@ -4,14 +4,15 @@ use Prim.Native.Nat.{ℕ, _+_, _-_, _*_, _≤_, _<_}
 use native.Mathlib.Omega.{arith}
 use mathlib.Core.Bool.{Bool, true, _&&_}
 use mathlib.Core.List.{List, [], _∷_}
-use lib.ListN.{length, drop, getD, length-drop}
-use lib.Seq.{getD-drop}
+use lib.ListN.{length, take, drop, getD, length-take, length-drop}
+use lib.Seq.{getD-drop, getD-take}
 use lib.Dec.{eqb}
 use borrow.Author.Tests.{eq-eqb, ne-eqb}
 use Rattle.wire.specs.Test.{if}
 use Rattle.layout.specs.Fit.{all}
 use Rattle.b3d_scene.specs.Rebuild.{mine}
 use Rattle.b3d_scene.specs.declared.Counts.{Counts}
+use Rattle.b3d_scene.specs.Tables.{nodeWidth}
 use Rattle.b3d_sound.specs.Check.{runsHere, nameHere, kindHere, listHere, animHere, nodeHere}
 use Rattle.b3d_sound.proofs.Check.Rows.{cells, cells-are}
 use Rattle.b3d_check_rows.specs.Rows.{rowAt, rowsAt}
@@ -21,8 +22,8 @@ use Rattle.b3d_check_mesh.specs.Parts.{MineTo}
 use Rattle.b3d_check_node.specs.Parts.{partRows, Below}
 
 -- the cells from kind on
-pub kind-cell : (i j : ℕ) (t : List ℕ) → 13 + j < 20 → getD (drop 13 (rowAt 20 i t)) j 0 ≡ getD t (20 * i + (13 + j)) 0
-kind-cell i j t h = getD-drop 13 (rowAt 20 i t) j 0 ∙ row-cell 20 i (13 + j) t h
+pub kind-cell : (i j : ℕ) (t : List ℕ) → 13 + j < nodeWidth → getD (drop 13 (rowAt nodeWidth i t)) j 0 ≡ getD t (nodeWidth * i + (13 + j)) 0
+kind-cell i j t h = getD-drop 13 (rowAt nodeWidth i t) j 0 ∙ row-cell nodeWidth i (13 + j) t h
 
 -- ---- key lists
 
@@ -34,36 +35,36 @@ lists-mine node first total t end m r ks b e = rw (m .is) e
 
 module _ (i : ℕ) (t : List ℕ) where
   abbrev y : List ℕ
-  y = drop 3 (drop 13 (rowAt 20 i t))
+  y = take 4 (drop 3 (drop 13 (rowAt nodeWidth i t)))
 
-  anim-cell : (j : ℕ) → 16 + j < 20 → getD y j 0 ≡ getD t (20 * i + (16 + j)) 0
+  anim-cell : (j : ℕ) → j < 4 → getD y j 0 ≡ getD t (nodeWidth * i + (16 + j)) 0
   anim-cell j h =
       let e : 13 + (3 + j) ≡ 16 + j = omega arith in
-      getD-drop 3 (drop 13 (rowAt 20 i t)) j 0 ∙ kind-cell i (3 + j) t (omega arith) ∙ ap (λ (k : ℕ). getD t (20 * i + k) 0) e
+      getD-take 4 (drop 3 (drop 13 (rowAt nodeWidth i t))) j 0 h ∙ getD-drop 3 (drop 13 (rowAt nodeWidth i t)) j 0 ∙ kind-cell i (3 + j) t (omega arith) ∙ ap (λ (k : ℕ). getD t (nodeWidth * i + k) 0) e
 
-  pub anim-there : getD t (20 * i + 16) 0 ≡ 1 → true ≡ animHere (drop 3 (drop 13 (rowAt 20 i t)))
+  pub anim-there : getD t (nodeWidth * i + 16) 0 ≡ 1 → true ≡ animHere (take 4 (drop 3 (drop 13 (rowAt nodeWidth i t))))
   unfolding animHere if
-  anim-there e = rw (anim-cell 0 (omega arith), eq-eqb (getD t (20 * i + 16) 0) 1 e)
+  anim-there e = rw (anim-cell 0 (omega arith), eq-eqb (getD t (nodeWidth * i + 16) 0) 1 e)
 
-  pub anim-none : 20 * i + 20 ≤ length t → (getD t (20 * i + 16) 0 ≡ 1 → ⊥)
-      → (eqb (getD t (20 * i + 16) 0) 0 && (eqb (getD t (20 * i + 17) 0) 0 && (eqb (getD t (20 * i + 18) 0) 0 && eqb (getD t (20 * i + 19) 0) 0))) ≡ animHere (drop 3 (drop 13 (rowAt 20 i t)))
+  pub anim-none : nodeWidth * i + nodeWidth ≤ length t → (getD t (nodeWidth * i + 16) 0 ≡ 1 → ⊥)
+      → (eqb (getD t (nodeWidth * i + 16) 0) 0 && (eqb (getD t (nodeWidth * i + 17) 0) 0 && (eqb (getD t (nodeWidth * i + 18) 0) 0 && eqb (getD t (nodeWidth * i + 19) 0) 0))) ≡ animHere (take 4 (drop 3 (drop 13 (rowAt nodeWidth i t))))
   unfolding animHere if cells
   anim-none h e =
-      let l : length y ≡ 4 = omega (arith, length-drop 3 (drop 13 (rowAt 20 i t)), length-drop 13 (rowAt 20 i t), row-length 20 i t h) in
+      let l : length y ≡ 4 = omega (arith, length-take 4 (drop 3 (drop 13 (rowAt nodeWidth i t))), length-drop 3 (drop 13 (rowAt nodeWidth i t)), length-drop 13 (rowAt nodeWidth i t), row-length nodeWidth i t h) in
       let c₀ = anim-cell 0 (omega arith) in
       let c₁ = anim-cell 1 (omega arith) in
       let c₂ = anim-cell 2 (omega arith) in
       let c₃ = anim-cell 3 (omega arith) in
       let q : all (λ x. eqb x 0) (cells y 0 4) ≡ all (λ x. eqb x 0) y = ap (all (λ x. eqb x 0)) (cells-are y 4 l) in
-      rw (c₀, ne-eqb (getD t (20 * i + 16) 0) 1 e)
-      (ap (λ (b : Bool). eqb (getD t (20 * i + 16) 0) 0 && (eqb (getD t (20 * i + 17) 0) 0 && (eqb (getD t (20 * i + 18) 0) 0 && b))) (sym (and-true (eqb (getD t (20 * i + 19) 0) 0)))
+      rw (c₀, ne-eqb (getD t (nodeWidth * i + 16) 0) 1 e)
+      (ap (λ (b : Bool). eqb (getD t (nodeWidth * i + 16) 0) 0 && (eqb (getD t (nodeWidth * i + 17) 0) 0 && (eqb (getD t (nodeWidth * i + 18) 0) 0 && b))) (sym (and-true (eqb (getD t (nodeWidth * i + 19) 0) 0)))
       ∙ rw (c₀, c₁, c₂, c₃) at q)
 
 -- ---- the whole
 
-pub kind-row : (brushes bones : ℕ) (n a : Counts) (t₃ t₄ t₅ t₆ t₇ t₈ : List ℕ) (first count : ℕ) → first ≡ getD t₃ (20 * n .nodes + 14) 0 → count ≡ getD t₃ (20 * n .nodes + 15) 0
-    → (r : Bool) → r ≡ kindHere brushes bones (partRows a t₄ t₅ t₆ t₇ t₈ [] []) n (getD t₃ (20 * n .nodes + 13) 0 ∷ first ∷ count ∷ [])
-    → r ≡ kindHere brushes bones (partRows a t₄ t₅ t₆ t₇ t₈ [] []) n (drop 13 (rowAt 20 (n .nodes) t₃))
+pub kind-row : (brushes bones : ℕ) (n a : Counts) (t₃ t₄ t₅ t₆ t₇ t₈ : List ℕ) (first count : ℕ) → first ≡ getD t₃ (nodeWidth * n .nodes + 14) 0 → count ≡ getD t₃ (nodeWidth * n .nodes + 15) 0
+    → (r : Bool) → r ≡ kindHere brushes bones (partRows a t₄ t₅ t₆ t₇ t₈ [] []) n (getD t₃ (nodeWidth * n .nodes + 13) 0 ∷ first ∷ count ∷ [])
+    → r ≡ kindHere brushes bones (partRows a t₄ t₅ t₆ t₇ t₈ [] []) n (drop 13 (rowAt nodeWidth (n .nodes) t₃))
 unfolding kindHere
 kind-row brushes bones n a t₃ t₄ t₅ t₆ t₇ t₈ first count ef ec r e =
     e ∙ rw (kind-cell (n .nodes) 0 t₃ (omega arith), kind-cell (n .nodes) 1 t₃ (omega arith), kind-cell (n .nodes) 2 t₃ (omega arith), ef, ec)
@@ -75,13 +76,13 @@ unfolding kindHere partRows if
 kind-few brushes bones n a y t₄ t₅ t₆ t₇ t₈ t₉ t₁₀ = refl
 
 pub node-parts : (ns : List ℕ) (brushes bones : ℕ) (n a : Counts) (t₃ t₄ t₅ t₆ t₇ t₈ t₉ t₁₀ : List ℕ) → Below n a → (r : Bool)
-    → r ≡ (nameHere ns (getD t₃ (20 * n .nodes) 0 ∷ getD t₃ (20 * n .nodes + 1) 0 ∷ [])
-    && (kindHere brushes bones (partRows a t₄ t₅ t₆ t₇ t₈ [] []) n (drop 13 (rowAt 20 (n .nodes) t₃))
+    → r ≡ (nameHere ns (getD t₃ (nodeWidth * n .nodes) 0 ∷ getD t₃ (nodeWidth * n .nodes + 1) 0 ∷ [])
+    && (kindHere brushes bones (partRows a t₄ t₅ t₆ t₇ t₈ [] []) n (drop 13 (rowAt nodeWidth (n .nodes) t₃))
     && (runsHere listHere (n .keys) (mine (n .nodes) (rowsAt 4 (n .lists) (a .lists - n .lists) t₉)) (rowsAt 11 (n .keys) (a .keys - n .keys) t₁₀)
-    && animHere (drop 3 (drop 13 (rowAt 20 (n .nodes) t₃))))))
-    → r ≡ nodeHere ns brushes bones (partRows a t₄ t₅ t₆ t₇ t₈ t₉ t₁₀) (rowAt 20 (n .nodes) t₃) n
+    && animHere (take 4 (drop 3 (drop 13 (rowAt nodeWidth (n .nodes) t₃)))))))
+    → r ≡ nodeHere ns brushes bones (partRows a t₄ t₅ t₆ t₇ t₈ t₉ t₁₀) (rowAt nodeWidth (n .nodes) t₃) n
 unfolding nodeHere partRows if
 node-parts ns brushes bones n a t₃ t₄ t₅ t₆ t₇ t₈ t₉ t₁₀ h r e =
-    e ∙ ap₂ _&&_ (name-cells ns 20 (n .nodes) t₃ (omega arith))
-    (ap₂ _&&_ (kind-few brushes bones n a (drop 13 (rowAt 20 (n .nodes) t₃)) t₄ t₅ t₆ t₇ t₈ t₉ t₁₀)
+    e ∙ ap₂ _&&_ (name-cells ns nodeWidth (n .nodes) t₃ (omega arith))
+    (ap₂ _&&_ (kind-few brushes bones n a (drop 13 (rowAt nodeWidth (n .nodes) t₃)) t₄ t₅ t₆ t₇ t₈ t₉ t₁₀)
     (rw (rows-from 4 (a .lists) (n .lists) t₉ (h .lists), rows-from 11 (a .keys) (n .keys) t₁₀ (h .keys))))

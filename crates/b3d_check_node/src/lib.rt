@@ -2,13 +2,15 @@
 ghost use mathlib.Core.Path.{_≡_};
 ghost use mathlib.Core.List.{[], _∷_};
 ghost use Prim.Native.Nat.{_+_, _-_, _*_, _<_, _≤_};
-ghost use lib.ListN.{length, drop};
+ghost use lib.ListN.{length, take, drop};
 ghost use Rattle.b3d_scene.specs.Rebuild.{mine};
+ghost use Rattle.b3d_scene.specs.Tables.{nodeWidth};
 ghost use Rattle.b3d_sound.specs.CellCounts.{meshCounts, kindCounts, cellCounts};
 ghost use Rattle.b3d_sound.specs.Check.{runsHere, listHere, kindHere, animHere, nodeHere};
 ghost use Rattle.b3d_check_rows.specs.Rows.{rowAt, rowsAt};
 ghost use Rattle.b3d_check_node.specs.Parts.{partRows, Below, Limited, KindRoom, ListRoom, MeshEnds};
 use b3d_scene::Counts;
+use b3d_scene::NODE_WIDTH;
 
 // The kind, first and count of the node that comes after n rows, of those that `all` counts; a weight may name so many vertices at most.
 fn kind_here(
@@ -60,10 +62,10 @@ fn own_kind(
     t8: &[u32],
 ) -> bool
     requires { ⌜ Below n all × KindRoom all (length (now t4)) (length (now t5)) (length (now t6)) (length (now t7)) (length (now t8)) ⌝ }
-    requires { ⌜ (n .nodes < all .nodes) × (20 * all .nodes ≤ length (now t3)) ⌝ }
-    ensures { λ r. ⌜ r ≡ kindHere brushes most (partRows all (now (t4 .entry)) (now (t5 .entry)) (now (t6 .entry)) (now (t7 .entry)) (now (t8 .entry)) [] []) n (drop 13 (rowAt 20 (n .nodes) (now (t3 .entry)))) ⌝ }
+    requires { ⌜ (n .nodes < all .nodes) × (nodeWidth * all .nodes ≤ length (now t3)) ⌝ }
+    ensures { λ r. ⌜ r ≡ kindHere brushes most (partRows all (now (t4 .entry)) (now (t5 .entry)) (now (t6 .entry)) (now (t7 .entry)) (now (t8 .entry)) [] []) n (drop 13 (rowAt nodeWidth (n .nodes) (now (t3 .entry)))) ⌝ }
 {
-    let o = 20 * n.nodes;
+    let o = NODE_WIDTH * n.nodes;
     let kind = t3[o + 13];
     let first = b3d_check_rows::cell(t3, o + 14);
     let count = b3d_check_rows::cell(t3, o + 15);
@@ -94,10 +96,10 @@ fn own_lists(n: Counts, all: Counts, t9: &[u32], t10: &[u32]) -> bool
 
 // Row i, a node: is ANIM there, and its values.
 fn anim_here(t: &[u32], i: usize) -> bool
-    requires { ⌜ 20 * i + 20 ≤ length (now t) ⌝ }
-    ensures { λ r. ⌜ r ≡ animHere (drop 3 (drop 13 (rowAt 20 i (now (t .entry))))) ⌝ }
+    requires { ⌜ nodeWidth * i + nodeWidth ≤ length (now t) ⌝ }
+    ensures { λ r. ⌜ r ≡ animHere (take 4 (drop 3 (drop 13 (rowAt nodeWidth i (now (t .entry)))))) ⌝ }
 {
-    let o = 20 * i;
+    let o = NODE_WIDTH * i;
     let there = t[o + 16];
     if there == 1 {
         return true;
@@ -123,12 +125,12 @@ pub fn node_here(
     t10: &[u32],
 ) -> bool
     requires { ⌜ Below n all × KindRoom all (length (now t4)) (length (now t5)) (length (now t6)) (length (now t7)) (length (now t8)) ⌝ }
-    requires { ⌜ (n .nodes < all .nodes) × (20 * all .nodes ≤ length (now t3)) × ListRoom all (length (now t9)) (length (now t10)) ⌝ }
+    requires { ⌜ (n .nodes < all .nodes) × (nodeWidth * all .nodes ≤ length (now t3)) × ListRoom all (length (now t9)) (length (now t10)) ⌝ }
     ensures { λ r. ⌜ r ≡ nodeHere (now (text .entry)) brushes most (partRows all (now (t4 .entry)) (now (t5 .entry)) (now (t6 .entry)) (now (t7 .entry)) (now (t8 .entry)) (now (t9 .entry)) (now (t10 .entry)))
-        (rowAt 20 (n .nodes) (now (t3 .entry))) n ⌝ }
+        (rowAt nodeWidth (n .nodes) (now (t3 .entry))) n ⌝ }
 {
     let i = n.nodes;
-    let o = 20 * i;
+    let o = NODE_WIDTH * i;
     if !b3d_check_rows::name_here(text, t3[o], t3[o + 1]) {
         return false;
     }
@@ -191,12 +193,12 @@ fn kind_counts(n: Counts, all: Counts, kind: u32, count: usize, t4: &[u32], t6: 
 
 // After the node that comes after n rows, where that is sound.
 pub fn node_counts(n: Counts, all: Counts, t3: &[u32], t4: &[u32], t6: &[u32], t9: &[u32]) -> Counts
-    requires { ⌜ Below n all × Limited all × (n .nodes < all .nodes) × (20 * all .nodes ≤ length (now t3)) ⌝ }
+    requires { ⌜ Below n all × Limited all × (n .nodes < all .nodes) × (nodeWidth * all .nodes ≤ length (now t3)) ⌝ }
     requires { ⌜ (9 * all .meshes ≤ length (now t4)) × (4 * all .sets ≤ length (now t6)) × (4 * all .lists ≤ length (now t9)) ⌝ }
-    requires { ⌜ Below (cellCounts (partRows all (now t4) [] (now t6) [] [] (now t9) []) (rowAt 20 (n .nodes) (now t3)) n) all ⌝ }
-    ensures { λ r. ⌜ r ≡ cellCounts (partRows all (now (t4 .entry)) [] (now (t6 .entry)) [] [] (now (t9 .entry)) []) (rowAt 20 (n .nodes) (now (t3 .entry))) n ⌝ }
+    requires { ⌜ Below (cellCounts (partRows all (now t4) [] (now t6) [] [] (now t9) []) (rowAt nodeWidth (n .nodes) (now t3)) n) all ⌝ }
+    ensures { λ r. ⌜ r ≡ cellCounts (partRows all (now (t4 .entry)) [] (now (t6 .entry)) [] [] (now (t9 .entry)) []) (rowAt nodeWidth (n .nodes) (now (t3 .entry))) n ⌝ }
 {
-    let o = 20 * n.nodes;
+    let o = NODE_WIDTH * n.nodes;
     let count = b3d_check_rows::cell(t3, o + 15);
     let m = kind_counts(n, all, t3[o + 13], count, t4, t6);
     let end = b3d_check_mesh::lists_of(n.nodes, t9, n.lists, all.lists);

@@ -1,4 +1,3 @@
--- The laws of the path, of nodes one after the other, and of the whole tree.
-pub mod PathLaws
+-- The laws of nodes one after the other, and of the whole tree.
 pub mod NodesLaws
 pub mod TreeLaws

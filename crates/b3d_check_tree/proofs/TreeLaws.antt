@@ -1,6 +1,6 @@
 -- The root, and then the nodes below it.
 use mathlib.Core.Path.{_≡_, refl, ap, sym, _∙_}
-use Prim.Native.Nat.{ℕ, suc, _+_, _-_, _≤_, _<_}
+use Prim.Native.Nat.{ℕ, suc, _+_, _-_, _*_, _≤_, _<_}
 use native.Mathlib.Omega.{arith}
 use mathlib.Core.Bool.{Bool, true, false, not, _&&_}
 use mathlib.Core.List.{List, [], _∷_}
@@ -8,10 +8,10 @@ use lib.ListN.{drop, getD}
 use lib.Dec.{eqb}
 use Rattle.layout.specs.Rules.{NONE}
 use Rattle.b3d_scene.specs.Rebuild.{Rows, cut}
-use Rattle.b3d_scene.specs.Tables.{start}
+use Rattle.b3d_scene.specs.Tables.{start, nodeWidth}
 use Rattle.b3d_scene.specs.declared.Counts.{Counts}
 use Rattle.b3d_sound.specs.CellCounts.{nodeCounts, cellCounts}
-use Rattle.b3d_sound.specs.Check.{nodeHere, nodesHere, treeHere}
+use Rattle.b3d_sound.specs.Check.{nodeHere, endFrom, nodesHere, treeHere}
 use Rattle.b3d_check_rows.specs.Rows.{rowAt, rowsAt}
 use Rattle.b3d_check_rows.proofs.Ands.{and-stop, and-go}
 use Rattle.b3d_check_rows.proofs.Rows.{row-cell, rows-next, rows-whole}
@@ -33,36 +33,36 @@ module _ (ns : List ℕ) (brushes : ℕ) (a : Counts) (t₃ t₄ t₅ t₆ t₇ 
   few = partRows a t₄ [] t₆ [] [] t₉ []
 
   abbrev x : List ℕ
-  x = rowAt 20 0 t₃
+  x = rowAt nodeWidth 0 t₃
 
-  pub tree-empty : a .nodes ≤ 0 → (r : Bool) → r ≡ ended none-before a → r ≡ treeHere ns brushes (partRows a t₄ t₅ t₆ t₇ t₈ t₉ t₁₀) (cut 20 (a .nodes) t₃)
+  pub tree-empty : a .nodes ≤ 0 → (r : Bool) → r ≡ ended none-before a → r ≡ treeHere ns brushes (partRows a t₄ t₅ t₆ t₇ t₈ t₉ t₁₀) (cut nodeWidth (a .nodes) t₃)
   unfolding treeHere cut start
-  tree-empty h r e = let z : a .nodes ≡ 0 = omega arith in e ∙ ended-spent none-before a t₄ t₅ t₆ t₇ t₈ t₉ t₁₀ ∙ sym (ap (λ (k : ℕ). treeHere ns brushes R (cut 20 k t₃)) z)
+  tree-empty h r e = let z : a .nodes ≡ 0 = omega arith in e ∙ ended-spent none-before a t₄ t₅ t₆ t₇ t₈ t₉ t₁₀ ∙ sym (ap (λ (k : ℕ). treeHere ns brushes R (cut nodeWidth k t₃)) z)
 
   module _ (h : 0 < a .nodes) where
-    whole : treeHere ns brushes R (cut 20 (a .nodes) t₃)
+    whole : treeHere ns brushes R (cut nodeWidth (a .nodes) t₃)
         ≡ (eqb (getD t₃ 2 0) NONE && (nodeHere ns brushes 0 R x none-before
-        && nodesHere ns brushes R (record { node = 0; bones = (cellCounts R x none-before) .vertices } ∷ []) (rowsAt 20 1 (a .nodes - 1) t₃) (cellCounts R x none-before)))
+        && nodesHere ns brushes R (record { node = 0; end = endFrom 0 x; bones = (cellCounts R x none-before) .vertices } ∷ []) (rowsAt nodeWidth 1 (a .nodes - 1) t₃) (cellCounts R x none-before)))
     unfolding treeHere start
     whole =
         let c : a .nodes ≡ suc (a .nodes - 1) = omega arith in
-        let g : cut 20 (a .nodes) t₃ ≡ x ∷ rowsAt 20 1 (a .nodes - 1) t₃ = rows-whole 20 (a .nodes) t₃ ∙ ap (λ (k : ℕ). rowsAt 20 0 k t₃) c ∙ rows-next 20 0 (a .nodes - 1) t₃ in
-        ap (treeHere ns brushes R) g ∙ rw (row-cell 20 0 2 t₃ (omega arith))
+        let g : cut nodeWidth (a .nodes) t₃ ≡ x ∷ rowsAt nodeWidth 1 (a .nodes - 1) t₃ = rows-whole nodeWidth (a .nodes) t₃ ∙ ap (λ (k : ℕ). rowsAt nodeWidth 0 k t₃) c ∙ rows-next nodeWidth 0 (a .nodes - 1) t₃ in
+        ap (treeHere ns brushes R) g ∙ rw (row-cell nodeWidth 0 2 t₃ (omega arith))
 
-    pub tree-wrong : not (eqb (getD t₃ 2 0) NONE) ≡ true → false ≡ treeHere ns brushes (partRows a t₄ t₅ t₆ t₇ t₈ t₉ t₁₀) (cut 20 (a .nodes) t₃)
+    pub tree-wrong : not (eqb (getD t₃ 2 0) NONE) ≡ true → false ≡ treeHere ns brushes (partRows a t₄ t₅ t₆ t₇ t₈ t₉ t₁₀) (cut nodeWidth (a .nodes) t₃)
     tree-wrong k = and-stop (eqb (getD t₃ 2 0) NONE) _ _ refl k ∙ sym whole
 
-    module _ (b : Bool) (e : b ≡ nodeHere ns brushes 0 (partRows a t₄ t₅ t₆ t₇ t₈ t₉ t₁₀) (rowAt 20 0 t₃) none-before) where
-      pub tree-node : not (eqb (getD t₃ 2 0) NONE) ≡ false → not b ≡ true → false ≡ treeHere ns brushes (partRows a t₄ t₅ t₆ t₇ t₈ t₉ t₁₀) (cut 20 (a .nodes) t₃)
+    module _ (b : Bool) (e : b ≡ nodeHere ns brushes 0 (partRows a t₄ t₅ t₆ t₇ t₈ t₉ t₁₀) (rowAt nodeWidth 0 t₃) none-before) where
+      pub tree-node : not (eqb (getD t₃ 2 0) NONE) ≡ false → not b ≡ true → false ≡ treeHere ns brushes (partRows a t₄ t₅ t₆ t₇ t₈ t₉ t₁₀) (cut nodeWidth (a .nodes) t₃)
       tree-node k f = and-go (eqb (getD t₃ 2 0) NONE) _ _ false refl k (and-stop b (nodeHere ns brushes 0 R x none-before) _ e f) ∙ sym whole
 
       module _ (f : not b ≡ false) where
-        pub root-after : Below (cellCounts (partRows a t₄ [] t₆ [] [] t₉ []) (rowAt 20 0 t₃) none-before) a
+        pub root-after : Below (cellCounts (partRows a t₄ [] t₆ [] [] t₉ []) (rowAt nodeWidth 0 t₃) none-before) a
         root-after =
             let z : Below none-before a = record { nodes = omega arith; meshes = omega arith; vertices = omega arith; sets = omega arith; triangles = omega arith; weights = omega arith; lists = omega arith; keys = omega arith } in
             after-below ns brushes 0 none-before a t₃ t₄ t₅ t₆ t₇ t₈ t₉ t₁₀ x z h b e f
 
-        module _ (m : Counts) (em : m ≡ cellCounts (partRows a t₄ [] t₆ [] [] t₉ []) (rowAt 20 0 t₃) none-before) where
+        module _ (m : Counts) (em : m ≡ cellCounts (partRows a t₄ [] t₆ [] [] t₉ []) (rowAt nodeWidth 0 t₃) none-before) where
           pub root-below : Below m a
           root-below = rw em root-after
 
@@ -73,13 +73,14 @@ module _ (ns : List ℕ) (brushes : ℕ) (a : Counts) (t₃ t₄ t₅ t₆ t₇ 
           unfolding cellCounts nodeCounts
           one = ap (λ (k : Counts). k .nodes) em ∙ ap (λ (k : ℕ). k + 1) (kind-keeps few none-before (drop 13 x) .nodes)
 
-          pub tree-nodes : (k : not (eqb (getD t₃ 2 0) NONE) ≡ false) (bones : ℕ) → bones ≡ m .vertices → (c : Bool)
-              → c ≡ nodesHere ns brushes (partRows a t₄ t₅ t₆ t₇ t₈ t₉ t₁₀) (record { node = 0; bones = bones } ∷ []) (rowsAt 20 (m .nodes) (a .nodes - m .nodes) t₃) m
-              → c ≡ treeHere ns brushes (partRows a t₄ t₅ t₆ t₇ t₈ t₉ t₁₀) (cut 20 (a .nodes) t₃)
-          tree-nodes k bones eb c ec =
+          pub tree-nodes : (k : not (eqb (getD t₃ 2 0) NONE) ≡ false) (bones : ℕ) → bones ≡ m .vertices → (end : ℕ) → end ≡ 0 + 1 + getD t₃ (nodeWidth * 0 + 20) 0 → (c : Bool)
+              → c ≡ nodesHere ns brushes (partRows a t₄ t₅ t₆ t₇ t₈ t₉ t₁₀) (record { node = 0; end = end; bones = bones } ∷ []) (rowsAt nodeWidth (m .nodes) (a .nodes - m .nodes) t₃) m
+              → c ≡ treeHere ns brushes (partRows a t₄ t₅ t₆ t₇ t₈ t₉ t₁₀) (cut nodeWidth (a .nodes) t₃)
+          tree-nodes k bones eb end ee c ec =
               let w : m ≡ cellCounts R x none-before = em ∙ counts-few none-before a x t₄ t₅ t₆ t₇ t₈ t₉ t₁₀ in
               let told : bones ≡ (cellCounts R x none-before) .vertices = eb ∙ ap (λ (q : Counts). q .vertices) w in
-              let is = ec ∙ (λ i. nodesHere ns brushes R (record { node = 0; bones = told i } ∷ []) (rowsAt 20 (one i) (a .nodes - one i) t₃) (w i)) in
+              let at : end ≡ endFrom 0 x = ee ∙ ap (λ (j : ℕ). 0 + 1 + j) (sym (row-cell nodeWidth 0 20 t₃ (omega arith))) in
+              let is = ec ∙ (λ i. nodesHere ns brushes R (record { node = 0; end = at i; bones = told i } ∷ []) (rowsAt nodeWidth (one i) (a .nodes - one i) t₃) (w i)) in
               and-go (eqb (getD t₃ 2 0) NONE) _ _ c refl k (and-go b (nodeHere ns brushes 0 R x none-before) _ c e f is) ∙ sym whole
 
 pub ruleset tree-laws = (tree-empty, tree-wrong, tree-node, root-after, root-below, root-small, tree-nodes)

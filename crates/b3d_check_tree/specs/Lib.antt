@@ -1,3 +1,2 @@
--- The nodes of lent tables, their parents, and what is left over.
-pub mod Path
+-- What is left over of lent tables.
 pub mod Ended

@@ -1,18 +1,17 @@
 // The nodes of lent tables: each with what is its own, its parent and what the nodes above say of bones, and that no row is left over.
 ghost use mathlib.Core.Path.{_≡_};
 ghost use mathlib.Core.List.{[], _∷_};
-ghost use Prim.Native.Nat.{_+_, _-_, _*_, _<_, _≤_};
-ghost use lib.ListN.{length, getD};
-ghost use lib.Dec.{eqb};
-ghost use Rattle.wire.specs.Test.{if};
+ghost use Prim.Native.Nat.{_-_, _*_, _≤_};
+ghost use lib.ListN.{length};
 ghost use Rattle.b3d_scene.specs.Rebuild.{cut};
+ghost use Rattle.b3d_scene.specs.Tables.{nodeWidth};
 ghost use Rattle.b3d_sound.specs.Check.{nodesHere, treeHere};
 ghost use Rattle.b3d_check_rows.specs.Rows.{rowsAt};
 ghost use Rattle.b3d_check_node.specs.Parts.{partRows, Below, Limited, KindRoom, ListRoom};
 ghost use Rattle.b3d_check_tree.specs.Ended.{ended};
-ghost use Rattle.b3d_check_tree.specs.Path.{CutTo};
 use b3d_check_node::node_here;
 use b3d_scene::Counts;
+use b3d_scene::NODE_WIDTH;
 
 // No row came before.
 const START: Counts = Counts {
@@ -26,27 +25,6 @@ const START: Counts = Counts {
     keys: 0,
 };
 
-// ---- the path
-
-// How much of the path is left when it ends in p; 0 where p is not on it.
-fn up_to(path: &[usize], depth: usize, p: usize) -> usize
-    requires { ⌜ depth ≤ length (now path) ⌝ }
-    ensures { λ r. ⌜ CutTo (now (path .entry)) depth p r ⌝ }
-{
-    let mut d = depth;
-    while 0 < d {
-        let one = path[d - 1];
-        if !(p == one) {
-            d -= 1;
-        } else {
-            return d;
-        }
-    }
-    0
-}
-
-// ---- nodes
-
 // No row that `all` counts is left over after n rows.
 fn ended(n: Counts, all: Counts) -> bool
     ensures { λ r. ⌜ r ≡ ended n all ⌝ }
@@ -56,23 +34,13 @@ fn ended(n: Counts, all: Counts) -> bool
     (all.meshes <= n.meshes) & ((all.vertices <= n.vertices) & rest)
 }
 
-// What a node says of bones to those below, where it was told so many vertices: rows are counted before it and after it.
-fn bones_below(told: u32, before: Counts, after: Counts, t3: &[u32]) -> u32
-    requires { ⌜ (20 * before .nodes + 16 < length (now t3)) × (before .vertices ≤ after .vertices) × (after .vertices < 0x100000000) ⌝ }
-    ensures { λ r. ⌜ r ≡ if (eqb (getD (now (t3 .entry)) (20 * before .nodes + 16) 0) 1) (after .vertices - before .vertices) told ⌝ }
-{
-    if t3[20 * before.nodes + 16] == 1 {
-        return b3d_rows::cell(after.vertices - before.vertices);
-    }
-    told
-}
-
 // The nodes after the rows `from`, of those that `all` counts, in the tables 3 to 10. The names are in `text`; the root says to those
-// below it that a weight may name so many vertices. The path has 16 levels: each its node, and what that says of bones.
+// below it that a weight may name so many vertices, and ends at this row. The path has 16 levels: each its node, where that ends, and what it says of bones.
 fn nodes_here(
     text: &[u8],
     brushes: u32,
     root: u32,
+    end: usize,
     from: Counts,
     all: Counts,
     t3: &[u32],
@@ -85,18 +53,20 @@ fn nodes_here(
     t10: &[u32],
 ) -> bool
     requires { ⌜ Below from all × KindRoom all (length (now t4)) (length (now t5)) (length (now t6)) (length (now t7)) (length (now t8)) ⌝ }
-    requires { ⌜ Limited all × (20 * all .nodes ≤ length (now t3)) × ListRoom all (length (now t9)) (length (now t10)) ⌝ }
+    requires { ⌜ Limited all × (nodeWidth * all .nodes ≤ length (now t3)) × ListRoom all (length (now t9)) (length (now t10)) ⌝ }
     ensures { λ r. ⌜ r ≡ nodesHere (now (text .entry)) brushes (partRows all (now (t4 .entry)) (now (t5 .entry)) (now (t6 .entry)) (now (t7 .entry)) (now (t8 .entry)) (now (t9 .entry)) (now (t10 .entry)))
-        (record { node = 0; bones = root } ∷ []) (rowsAt 20 (from .nodes) (all .nodes - from .nodes) (now (t3 .entry))) from ⌝ }
+        (record { node = 0; end = end; bones = root } ∷ []) (rowsAt nodeWidth (from .nodes) (all .nodes - from .nodes) (now (t3 .entry))) from ⌝ }
 {
     let mut path: [usize; 16] = [0; 16];
+    let mut ends: [usize; 16] = [0; 16];
+    ends[0] = end;
     let mut bones: [u32; 16] = [0; 16];
     bones[0] = root;
     let mut depth: usize = 1;
     let mut n = from;
     while n.nodes < all.nodes {
-        let p = b3d_check_rows::cell(t3, 20 * n.nodes + 2);
-        let d = up_to(&path, depth, p);
+        let p = b3d_check_rows::cell(t3, NODE_WIDTH * n.nodes + 2);
+        let d = b3d_check_path::up_to(&path, &ends, depth, n.nodes, p);
         if d <= 0 {
             return false;
         }
@@ -109,9 +79,13 @@ fn nodes_here(
         }
         let m = b3d_check_node::node_counts(n, all, t3, t4, t6, t9);
         path[d] = n.nodes;
-        bones[d] = bones_below(told, n, m, t3);
+        ends[d] = b3d_check_path::branch_end(n.nodes, t3[NODE_WIDTH * n.nodes + 20]);
+        bones[d] = b3d_check_path::bones_below(told, n, m, t3);
         depth = d + 1;
         n = m;
+    }
+    if !b3d_check_path::all_end(&ends, depth, n.nodes) {
+        return false;
     }
     ended(n, all)
 }
@@ -131,9 +105,9 @@ pub fn tree_here(
     t10: &[u32],
 ) -> bool
     requires { ⌜ Limited all × KindRoom all (length (now t4)) (length (now t5)) (length (now t6)) (length (now t7)) (length (now t8)) ⌝ }
-    requires { ⌜ (20 * all .nodes ≤ length (now t3)) × ListRoom all (length (now t9)) (length (now t10)) ⌝ }
+    requires { ⌜ (nodeWidth * all .nodes ≤ length (now t3)) × ListRoom all (length (now t9)) (length (now t10)) ⌝ }
     ensures { λ r. ⌜ r ≡ treeHere (now (text .entry)) brushes (partRows all (now (t4 .entry)) (now (t5 .entry)) (now (t6 .entry)) (now (t7 .entry)) (now (t8 .entry)) (now (t9 .entry)) (now (t10 .entry)))
-        (cut 20 (all .nodes) (now (t3 .entry))) ⌝ }
+        (cut nodeWidth (all .nodes) (now (t3 .entry))) ⌝ }
 {
     let n = START;
     if all.nodes <= 0 {
@@ -147,5 +121,21 @@ pub fn tree_here(
     }
     let m = b3d_check_node::node_counts(n, all, t3, t4, t6, t9);
     let root = b3d_rows::cell(m.vertices);
-    nodes_here(text, brushes, root, m, all, t3, t4, t5, t6, t7, t8, t9, t10)
+    let end = b3d_check_path::branch_end(0, t3[20]);
+    nodes_here(
+        text,
+        brushes,
+        root,
+        end,
+        m,
+        all,
+        t3,
+        t4,
+        t5,
+        t6,
+        t7,
+        t8,
+        t9,
+        t10,
+    )
 }

@@ -14,3 +14,4 @@ pub mod Calls
 pub mod Privacy
 pub mod Worked
 pub mod ModesHold
+pub mod Branching

@@ -16,7 +16,7 @@ use Rattle.b3d_scene.specs.Names.{renameData, renameForest, bareName}
 use Rattle.b3d_scene.specs.Rebuild.{nodeNames}
 use Rattle.b3d_scene.specs.Rules.{bonesBelow, boneVertices}
 use Rattle.b3d_scene.specs.Scene.{Data, Forest, leaf, node}
-use Rattle.b3d_scene.specs.Tables.{nameCells, nodeRow, ownRows, withNode, withForest, forestRows}
+use Rattle.b3d_scene.specs.Tables.{nameCells, nodeRow, ownRows, withNode, withForest, forestRows, nodesIn}
 use Rattle.b3d_scene.proofs.Fitting.{FitData, FitNodes}
 use Rattle.b3d_scene.proofs.Rows.RebuildLaws.{names-rest}
 use Rattle.b3d_scene.proofs.Rows.RowParts.{Stands}
@@ -125,11 +125,12 @@ module _ (s ns : List ℕ) where
     pub alike : Alikes s ns S rest
     pub same : renameForest bareName forest ≡ renameForest bareName t
     pub counts : (m : Counts) → withForest forest m ≡ withForest t m
+    pub many : nodesIn forest ≡ nodesIn t
     pub fit : (l b : ℕ) (above : Option ℕ) → FitNodes l b above t → FitNodes l b above forest
     pub stand : (r : List Name) → All (Stands ns) r → All (Stands ns) (nodeNames forest r)
 
   pub place-forest : (t : Forest) (p : ℕ) (n : Counts) (S ys : List (List ℕ)) (r : List Name) → All (Stands s) (nodeNames t r) → Alikes s ns (forestRows 3 t p n ++ S) ys → PlacedForest t p n S ys
-  unfolding forestRows withForest nodeNames ownRows if nodeRow
+  unfolding forestRows withForest nodesIn nodeNames ownRows if nodeRow
   place-forest leaf p n S ys r h a = record {
     forest = leaf;
     rest = ys;
@@ -137,6 +138,7 @@ module _ (s ns : List ℕ) where
     alike = a;
     same = refl;
     counts = λ m. refl;
+    many = refl;
     fit = λ l b above f. f;
     stand = λ q k. k;
   }
@@ -155,13 +157,14 @@ module _ (s ns : List ℕ) where
         forest = node (put-data i d) (u .forest) (v .forest);
         rest = v .rest;
         rows =
-            ap₂ _∷_ (row-placed s ns (d .name) (h .0) _ y (a .0))
+            ap₂ _∷_ (ap (λ (j : ℕ). nodeRow (put-data i d) p j n) (u .many) ∙ row-placed s ns (d .name) (h .0) _ y (a .0))
             (append-assoc (forestRows 3 (u .forest) (n .nodes) (withNode (put-data i d) n)) _ (v .rest)
             ∙ ap₂ (λ (e f : Counts). forestRows 3 (u .forest) (n .nodes) e ++ (forestRows 3 (v .forest) p f ++ v .rest)) same-m same-q
             ∙ ap (λ (l : List (List ℕ)). forestRows 3 (u .forest) (n .nodes) m ++ l) (v .rows) ∙ u .rows);
         alike = v .alike;
         same = ap₂ (node (renameData bareName d)) (u .same) (v .same);
         counts = λ e. ap (withForest (v .forest)) (u .counts (withNode (put-data i d) e)) ∙ v .counts (withForest ch (withNode (put-data i d) e)) ∙ ap (λ (f : Counts). withForest sib (withForest ch f)) (same-counts i d e);
+        many = ap₂ (λ (k l : ℕ). suc (k + l)) (u .many) (v .many);
         fit = fits u v;
         stand = λ k hk. (stands-placed s ns (d .name) (h .0) _ y (a .0), u .stand (nodeNames (v .forest) k) (v .stand k hk));
       }

@@ -3,3 +3,4 @@ pub mod Having
 pub mod Demands
 pub mod Calls
 pub mod Private
+pub mod Branches

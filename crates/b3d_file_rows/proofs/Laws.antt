@@ -17,7 +17,7 @@ use Rattle.b3d_scene.specs.Answers.{judge}
 use Rattle.b3d_scene.specs.Parse.{readNode, parse, Inner}
 use Rattle.b3d_scene.specs.Rules.{levels}
 use Rattle.b3d_scene.specs.Scene.{Forest, leaf, node, Scene}
-use Rattle.b3d_scene.specs.Tables.{start, ownRows, withNode, withForest, forestRows, rows, tables}
+use Rattle.b3d_scene.specs.Tables.{start, nodesIn, ownRows, withNode, withForest, forestRows, rows, tables}
 use Rattle.b3d_scene.specs.Tags.{split, tagOf}
 use Rattle.b3d_scene.proofs.AnswerLaws.{judge-got}
 use Rattle.b3d_file_rows.specs.Flat.{rest, flatAt, flat}
@@ -47,7 +47,7 @@ module _ (s : List ℕ) (k : ℕ) (lo : 4 ≤ k) (hi : k ≤ 10) where
   unfolding forestRows
   root-part brushes at p b x h e more n =
       node-flat s k lo hi levels brushes none p b x e at h n NONE
-      ∙ ap (λ (l : List (List ℕ)). ownRows k (x .self) NONE n ++ (forestRows k (x .below) (n .nodes) (withNode (x .self) n) ++ l)) (more (withForest (x .below) (withNode (x .self) n)))
+      ∙ ap (λ (l : List (List ℕ)). ownRows k (x .self) NONE (nodesIn (x .below)) n ++ (forestRows k (x .below) (n .nodes) (withNode (x .self) n) ++ l)) (more (withForest (x .below) (withNode (x .self) n)))
 
   says : Says s Part
   says = record {
@@ -98,7 +98,7 @@ module _ (s : List ℕ) where
   root-tree brushes at p b x h e more = record {
     rows = λ l n o.
         let w = tree-flat s levels brushes none p b x e at h (more .clean refl) l n NONE (o p (h .from)) in
-        let own = ownRows 3 (x .self) NONE n in
+        let own = ownRows 3 (x .self) NONE (nodesIn (x .below)) n in
         let below = forestRows 3 (x .below) (n .nodes) (withNode (x .self) n) in
         w .is ∙ ap (λ (y : List (List ℕ)). (own ++ below) ++ y) (more .rows (w .now) (withForest (x .below) (withNode (x .self) n)) (λ q k. w .closed q k ∙ o q (omega (arith, h .from)))) ∙ append-assoc own below [];
     clean = λ z. let y : _≡_ {A = ℕ} 0 1 = cc in absurd (omega arith);

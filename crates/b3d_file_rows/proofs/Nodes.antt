@@ -20,7 +20,7 @@ use Rattle.b3d_scene.specs.Nesting.{start, next, onward, order, inside}
 use Rattle.b3d_scene.specs.Parse.{readMesh, readBone, readKeys, readAnim, aMesh, aBone, readKind, Moves, withKeys, readMoves, Inner, readNodes, readBelow, readNode}
 use Rattle.b3d_scene.specs.Rules.{nodeRow, boneVertices, bonesBelow}
 use Rattle.b3d_scene.specs.Scene.{Mesh, Kind, pivot, mesh, bone, Keys, Anim, still, anim, Data, Forest, leaf, node}
-use Rattle.b3d_scene.specs.Tables.{ownRows, withNode, withForest, forestRows}
+use Rattle.b3d_scene.specs.Tables.{nodesIn, ownRows, withNode, withForest, forestRows}
 use Rattle.b3d_scene.specs.Tags.{Chunks, Found, split}
 use Rattle.b3d_inside.specs.Places.{reached}
 use Rattle.b3d_inside.proofs.Turns.{kind-order}
@@ -50,7 +50,7 @@ module _ (s : List ℕ) (k : ℕ) where
 
   -- a node's own rows, those of the nodes below it, and those of what follows
   abbrev pub nodeThen : Data → Forest → ℕ → Counts → ℕ → List (List ℕ)
-  nodeThen d f parent n e = ownRows k d parent n ++ nodesThen f (n .nodes) (withNode d n) e
+  nodeThen d f parent n e = ownRows k d parent (nodesIn f) n ++ nodesThen f (n .nodes) (withNode d n) e
 
   pub past : (at : ℕ) (t : Tag) (p : ℕ) (b : List ℕ) (h : Here s at t p b) → flatAt s at ≡ chunk t p b (flatAt s (p + 8 + length b)) → (n : Counts) → from n at ≡ chunkRows k t p b n ++ from (counted t p b n) (p + 8 + length b)
   unfolding flatRows
@@ -72,7 +72,7 @@ module _ (s : List ℕ) (k : ℕ) where
         by-got (readNodes read (order NODE head (reached 3 false) r)) _ g₁ (λ y ey g₂.
         let m = withNode (x .self) n in
         let q = withForest (x .below) m in
-        let own = ownRows k (x .self) parent n in
+        let own = ownRows k (x .self) parent (nodesIn (x .below)) n in
         let below = forestRows k (x .below) (n .nodes) m in
         let later = forestRows k y parent q in
         let end = from (withForest y q) e in
@@ -220,7 +220,7 @@ module _ (s : List ℕ) (k : ℕ) where
         ∙ ap₂ (λ (i j : ℕ). kindRows k kind n ++ (moveRows k i j ks ++ nodesThen f (n .nodes) (withLists ks m) e)) (kind-node kind n) (kind-keys kind n)
         ∙ ap (λ (c : Counts). kindRows k kind n ++ (moveRows k (n .nodes) (n .keys) ks ++ nodesThen f (n .nodes) c e)) (node-counted d n)
         ∙ sym (append-assoc (kindRows k kind n) (moveRows k (n .nodes) (n .keys) ks) (nodesThen f (n .nodes) (withNode d n) e))
-        ∙ ap (λ (l : List (List ℕ)). l ++ nodesThen f (n .nodes) (withNode d n) e) (sym (own-parts k lo hi d parent n))
+        ∙ ap (λ (l : List (List ℕ)). l ++ nodesThen f (n .nodes) (withNode d n) e) (sym (own-parts k lo hi d parent (nodesIn f) n))
 
     into : (at p : ℕ) (b : List ℕ) → Here s at NODE p b → (x : Step (Name × List ℕ)) → named nodeRow (p + 8) b ≡ got x → (n : Counts) → from n at ≡ from (addNode n) (x .place)
     unfolding flatRows

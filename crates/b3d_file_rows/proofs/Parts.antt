@@ -33,7 +33,7 @@ withLists (x ∷ xs) n = withLists xs (addKeys x n)
 -- ---- rows
 
 abbrev Own : ℕ → Type 0
-Own k = (d : Data) (p : ℕ) (n : Counts) → ownRows k d p n ≡ kindRows k (d .kind) n ++ moveRows k (n .nodes) (n .keys) (d .keys)
+Own k = (d : Data) (p below : ℕ) (n : Counts) → ownRows k d p below n ≡ kindRows k (d .kind) n ++ moveRows k (n .nodes) (n .keys) (d .keys)
 
 -- no rows of key lists
 abbrev NoMoves : ℕ → Type 0
@@ -60,7 +60,7 @@ by-kind k h kind n i j xs r e = e ∙ sym (append-nil (kindRows k kind n)) ∙ a
 
 own-4 : Own 4
 unfolding ownRows if kindRows weightRows meshRows meshesOf keyListRows
-own-4 d p n = by-kind 4 (λ i j x. refl) (d .kind) n (n .nodes) (n .keys) (d .keys) _ (go (d .kind))
+own-4 d p below n = by-kind 4 (λ i j x. refl) (d .kind) n (n .nodes) (n .keys) (d .keys) _ (go (d .kind))
   where
     go : (kind : Kind) → meshRows 4 (meshesOf kind) n ≡ kindRows 4 kind n
     go pivot = refl
@@ -69,7 +69,7 @@ own-4 d p n = by-kind 4 (λ i j x. refl) (d .kind) n (n .nodes) (n .keys) (d .ke
 
 own-5 : Own 5
 unfolding ownRows if kindRows weightRows meshRows meshesOf keyListRows
-own-5 d p n = by-kind 5 (λ i j x. refl) (d .kind) n (n .nodes) (n .keys) (d .keys) _ (go (d .kind))
+own-5 d p below n = by-kind 5 (λ i j x. refl) (d .kind) n (n .nodes) (n .keys) (d .keys) _ (go (d .kind))
   where
     go : (kind : Kind) → meshRows 5 (meshesOf kind) n ≡ kindRows 5 kind n
     go pivot = refl
@@ -78,7 +78,7 @@ own-5 d p n = by-kind 5 (λ i j x. refl) (d .kind) n (n .nodes) (n .keys) (d .ke
 
 own-6 : Own 6
 unfolding ownRows if kindRows weightRows meshRows meshesOf keyListRows
-own-6 d p n = by-kind 6 (λ i j x. refl) (d .kind) n (n .nodes) (n .keys) (d .keys) _ (go (d .kind))
+own-6 d p below n = by-kind 6 (λ i j x. refl) (d .kind) n (n .nodes) (n .keys) (d .keys) _ (go (d .kind))
   where
     go : (kind : Kind) → meshRows 6 (meshesOf kind) n ≡ kindRows 6 kind n
     go pivot = refl
@@ -87,7 +87,7 @@ own-6 d p n = by-kind 6 (λ i j x. refl) (d .kind) n (n .nodes) (n .keys) (d .ke
 
 own-7 : Own 7
 unfolding ownRows if kindRows weightRows meshRows meshesOf keyListRows
-own-7 d p n = by-kind 7 (λ i j x. refl) (d .kind) n (n .nodes) (n .keys) (d .keys) _ (go (d .kind))
+own-7 d p below n = by-kind 7 (λ i j x. refl) (d .kind) n (n .nodes) (n .keys) (d .keys) _ (go (d .kind))
   where
     go : (kind : Kind) → meshRows 7 (meshesOf kind) n ≡ kindRows 7 kind n
     go pivot = refl
@@ -96,7 +96,7 @@ own-7 d p n = by-kind 7 (λ i j x. refl) (d .kind) n (n .nodes) (n .keys) (d .ke
 
 own-8 : Own 8
 unfolding ownRows if kindRows weightRows meshRows weightsOf keyListRows
-own-8 d p n = by-kind 8 (λ i j x. refl) (d .kind) n (n .nodes) (n .keys) (d .keys) _ (go (d .kind))
+own-8 d p below n = by-kind 8 (λ i j x. refl) (d .kind) n (n .nodes) (n .keys) (d .keys) _ (go (d .kind))
   where
     go : (kind : Kind) → weightsOf kind ≡ kindRows 8 kind n
     go pivot = refl
@@ -109,7 +109,7 @@ by-moves k kind n i j xs r e f = sym f ∙ ap (λ (l : List (List ℕ)). l ++ mo
 
 own-9 : Own 9
 unfolding ownRows if kindRows weightRows meshRows
-own-9 d p n = by-moves 9 (d .kind) n (n .nodes) (n .keys) (d .keys) _ (go (d .kind)) (lists-are (n .nodes) (n .keys) (d .keys))
+own-9 d p below n = by-moves 9 (d .kind) n (n .nodes) (n .keys) (d .keys) _ (go (d .kind)) (lists-are (n .nodes) (n .keys) (d .keys))
   where
     go : (kind : Kind) → kindRows 9 kind n ≡ []
     go pivot = refl
@@ -118,7 +118,7 @@ own-9 d p n = by-moves 9 (d .kind) n (n .nodes) (n .keys) (d .keys) _ (go (d .ki
 
 own-10 : Own 10
 unfolding ownRows if kindRows weightRows meshRows
-own-10 d p n = by-moves 10 (d .kind) n (n .nodes) (n .keys) (d .keys) _ (go (d .kind)) (keys-are (n .nodes) (n .keys) (d .keys))
+own-10 d p below n = by-moves 10 (d .kind) n (n .nodes) (n .keys) (d .keys) _ (go (d .kind)) (keys-are (n .nodes) (n .keys) (d .keys))
   where
     go : (kind : Kind) → kindRows 10 kind n ≡ []
     go pivot = refl

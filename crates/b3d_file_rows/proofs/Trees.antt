@@ -1,5 +1,5 @@
 -- Table 3: the rows of the flat run through nodes that were read are those of these nodes. A node's parent is the last one before it that
--- is still open; its kind and its ANIM stand before the next NODE.
+-- is still open; its kind and its ANIM stand before the next NODE; the nodes below it are the NODEs before its end.
 use mathlib.Core.Path.{_≡_, refl, ap, ap₂, sym, subst, _∙_}
 use Prim.Native.Nat.{ℕ, zero, suc, _+_, _-_, _≤_, _<_}
 use native.Mathlib.Omega.{arith}
@@ -21,17 +21,17 @@ use Rattle.b3d_scene.specs.Nesting.{start, next, onward, order, inside}
 use Rattle.b3d_scene.specs.Parse.{readMesh, readBone, readKeys, readAnim, aMesh, aBone, readKind, Moves, withKeys, readMoves, Inner, readNodes, readBelow, readNode}
 use Rattle.b3d_scene.specs.Rules.{nodeRow as nodeWords, boneVertices, bonesBelow}
 use Rattle.b3d_scene.specs.Scene.{Mesh, Kind, pivot, mesh, bone, Keys, Anim, still, anim, Data, Forest, leaf, node}
-use Rattle.b3d_scene.specs.Tables.{nodeRow, ownRows, withNode, withForest, forestRows}
+use Rattle.b3d_scene.specs.Tables.{nodesIn, nodeRow, ownRows, withNode, withForest, forestRows}
 use Rattle.b3d_scene.specs.Tags.{Chunks, Found, split, is}
 use Rattle.b3d_inside.specs.Places.{reached}
 use Rattle.b3d_inside.proofs.Turns.{kind-order}
 use Rattle.b3d_file_rows.specs.Flat.{rest, flatAt}
 use Rattle.b3d_file_rows.specs.Plain.{plainAnim}
-use Rattle.b3d_file_rows.specs.Rows.{Open, addNode, addKeys, counted, kindOf, animOf, parentAt, rowOf, opened, nodeRows}
+use Rattle.b3d_file_rows.specs.Rows.{Open, addNode, addKeys, counted, kindOf, animOf, parentAt, nodesBefore, rowOf, opened, nodeRows}
 use Rattle.b3d_file_rows.proofs.Ahead.{named-ahead}
 use Rattle.b3d_file_rows.proofs.Leaves.{keys-plain, bone-plain, anim-plain, mesh-plain}
 use Rattle.b3d_file_rows.proofs.Parts.{withKind, withLists, node-counted}
-use Rattle.b3d_file_rows.proofs.Run.{Here, Laid, run-same, run-node, run-past, run-into, inside-laid}
+use Rattle.b3d_file_rows.proofs.Run.{Here, Laid, rest-laid, run-same, run-done, run-stop, run-node, run-past, run-into, inside-laid}
 
 -- a NODE, or nothing, comes first
 pub record Clean (cs : Chunks) : Type 0 where
@@ -51,11 +51,33 @@ unfolding kindOf animOf
 stop-clean n p = record { kind = refl; anim = refl }
 
 module _ (s : List ℕ) where
-  -- the rows from `at` on are these, and then those from e on, under the nodes that are open there
-  pub record Went (l : List Open) (n : Counts) (at e : ℕ) (rows : List (List ℕ)) (m : Counts) : Type 0 where
+  -- ---- the NODEs before a place
+
+  none-in : (f e at : ℕ) → length s - at ≤ f → e ≤ at → (cs : Chunks) → rest s at ≡ cs → Laid s (length s) at cs → nodesBefore e (flatAt s at) ≡ 0
+  unfolding nodesBefore if
+  none-in zero e at m le done h k = ap (nodesBefore e) (run-done s at h)
+  none-in zero e at m le (stop n p) h k = ap (nodesBefore e) (run-stop s at n p h)
+  none-in zero e at m le (chunk t p b r) h k = absurd (omega (arith, k .0 .from, k .0 .to))
+  none-in (suc f) e at m le done h k = ap (nodesBefore e) (run-done s at h)
+  none-in (suc f) e at m le (stop n p) h k = ap (nodesBefore e) (run-stop s at n p h)
+  none-in (suc f) e at m le (chunk t p b r) h k =
+      by-test (is t NODE)
+      (λ y. run-node s at t p b (k .0) y (λ c. nodesBefore e c ≡ 0) (λ c. if-yes (leb e p) 0 (suc (nodesBefore e c)) (le→leb e p (omega (arith, k .0 .from)))) (λ n q. refl))
+      (λ y. ap (nodesBefore e) (run-past s at t p b (k .0) y) ∙ if-no (is t NODE) _ (nodesBefore e (flatAt s (p + 8 + length b))) y
+      ∙ none-in f e (p + 8 + length b) (omega (arith, k .0 .from)) (omega (arith, k .0 .from)) (rest s (p + 8 + length b)) refl (rest-laid s (p + 8 + length b)))
+
+  -- none stands from a place on
+  none-before : (e at : ℕ) → e ≤ at → nodesBefore e (flatAt s at) ≡ 0
+  none-before e at le = none-in (length s - at) e at (omega arith) le (rest s at) refl (rest-laid s at)
+
+  -- ---- rows
+
+  -- the rows from `at` on are these, and then those from e on, under the nodes that are open there; so many NODEs stand between
+  pub record Went (l : List Open) (n : Counts) (at e : ℕ) (rows : List (List ℕ)) (m : Counts) (k : ℕ) : Type 0 where
     pub now : List Open
     pub closed : (p : ℕ) → e ≤ p → parentAt p now ≡ parentAt p l
     pub is : nodeRows l n (flatAt s at) ≡ rows ++ nodeRows now m (flatAt s e)
+    pub before : (q : ℕ) → e ≤ q → nodesBefore q (flatAt s at) ≡ k + nodesBefore q (flatAt s e)
 
   -- between two places nodes stand under this one
   abbrev Under : List Open → ℕ → ℕ → ℕ → Type 0
@@ -63,30 +85,32 @@ module _ (s : List ℕ) where
 
   -- of nodes, wherever they stand
   abbrev Nodes : ℕ → ℕ → Forest → Type 0
-  Nodes at e f = (l : List Open) (n : Counts) (parent : ℕ) → Under l at e parent → Went l n at e (forestRows 3 f parent n) (withForest f n)
+  Nodes at e f = (l : List Open) (n : Counts) (parent : ℕ) → Under l at e parent → Went l n at e (forestRows 3 f parent n) (withForest f n) (nodesIn f)
 
   -- past a chunk that is no NODE
-  went-past : (t : Tag) (at p e : ℕ) (b : List ℕ) → Here s at t p b → T (not (is t NODE)) → (l : List Open) (n : Counts) (rows : List (List ℕ)) (m : Counts)
-      → Went l (counted t p b n) (p + 8 + length b) e rows m → Went l n at e rows m
-  unfolding nodeRows
-  went-past t at p e b h other l n rows m w = record {
+  went-past : (t : Tag) (at p e : ℕ) (b : List ℕ) → Here s at t p b → T (not (is t NODE)) → (l : List Open) (n : Counts) (rows : List (List ℕ)) (m : Counts) (k : ℕ)
+      → Went l (counted t p b n) (p + 8 + length b) e rows m k → Went l n at e rows m k
+  unfolding nodeRows nodesBefore
+  went-past t at p e b h other l n rows m k w = record {
     now = w .now;
     closed = w .closed;
     is = ap (nodeRows l n) (run-past s at t p b h other) ∙ if-no (is t NODE) _ (nodeRows l (counted t p b n) (flatAt s (p + 8 + length b))) other ∙ w .is;
+    before = λ q le. ap (nodesBefore q) (run-past s at t p b h other) ∙ if-no (is t NODE) _ (nodesBefore q (flatAt s (p + 8 + length b))) other ∙ w .before q le;
   }
 
   -- one run after another
-  went-on : (l : List Open) (n : Counts) (at q e : ℕ) (xs ys : List (List ℕ)) (m m′ : Counts) → q ≤ e → (w : Went l n at q xs m) → Went (w .now) m q e ys m′ → Went l n at e (xs ++ ys) m′
-  went-on l n at q e xs ys m m′ le w v = record {
+  went-on : (l : List Open) (n : Counts) (at q e : ℕ) (xs ys : List (List ℕ)) (m m′ : Counts) (k k′ : ℕ) → q ≤ e → (w : Went l n at q xs m k) → Went (w .now) m q e ys m′ k′ → Went l n at e (xs ++ ys) m′ (k + k′)
+  went-on l n at q e xs ys m m′ k k′ le w v = record {
     now = v .now;
     closed = λ p h. v .closed p h ∙ w .closed p (omega arith);
     is = w .is ∙ ap (λ (r : List (List ℕ)). xs ++ r) (v .is) ∙ sym (append-assoc xs ys (nodeRows (v .now) m′ (flatAt s e)));
+    before = λ i h. omega (arith, w .before i (omega arith), v .before i h);
   }
 
   -- a node, where nodes or nothing follow it
   abbrev pub NodeWent : ℕ → ℕ → List ℕ → Data → Forest → Type 0
   NodeWent at p b d f = Clean (flatAt s (p + 8 + length b)) → (l : List Open) (n : Counts) (parent : ℕ) → parentAt p l ≡ parent
-      → Went l n at (p + 8 + length b) (ownRows 3 d parent n ++ forestRows 3 f (n .nodes) (withNode d n)) (withForest f (withNode d n))
+      → Went l n at (p + 8 + length b) (ownRows 3 d parent (nodesIn f) n ++ forestRows 3 f (n .nodes) (withNode d n)) (withForest f (withNode d n)) (suc (nodesIn f))
 
   module _ (read : ℕ → List ℕ → Out Inner)
       (same : (p : ℕ) (b : List ℕ) (x : Inner) → read p b ≡ got x → (at : ℕ) → Here s at NODE p b → NodeWent at p b (x .self) (x .below)) (head e : ℕ) (follows : Clean (flatAt s e)) where
@@ -111,17 +135,19 @@ module _ (s : List ℕ) where
     nodes-clean (chunk ANIM p b r) at h f g = bad-got g
 
     no-nodes : (at : ℕ) → rest s at ≡ rest s e → Nodes at e leaf
-    unfolding forestRows withForest
-    no-nodes at h l n parent u = record { now = l; closed = λ p k. refl; is = ap (nodeRows l n) (run-same s at e h) }
+    unfolding forestRows withForest nodesIn
+    no-nodes at h l n parent u = record { now = l; closed = λ p k. refl; is = ap (nodeRows l n) (run-same s at e h); before = λ q k. omega (arith, ap (nodesBefore q) (run-same s at e h)) }
 
     more-nodes : (at p : ℕ) (b : List ℕ) (d : Data) (f g : Forest) → Here s at NODE p b → p + 8 + length b ≤ e → Clean (flatAt s (p + 8 + length b)) → NodeWent at p b d f → Nodes (p + 8 + length b) e g → Nodes at e (node d f g)
-    unfolding forestRows withForest
+    unfolding forestRows withForest nodesIn
     more-nodes at p b d f g h le c one more l n parent u =
         let w = one c l n parent (u p (h .from) (omega arith)) in
         let m = withForest f (withNode d n) in
         let v = more (w .now) m parent (λ q lo hi. w .closed q lo ∙ u q (omega (arith, h .from)) hi) in
-        subst (λ (r : List (List ℕ)). Went l n at e r (withForest g m)) (append-assoc (ownRows 3 d parent n) (forestRows 3 f (n .nodes) (withNode d n)) (forestRows 3 g parent m))
-        (went-on l n at (p + 8 + length b) e _ _ m (withForest g m) le w v)
+        let many : suc (nodesIn f) + nodesIn g ≡ suc (nodesIn f + nodesIn g) = omega arith in
+        subst (Went l n at e (forestRows 3 (node d f g) parent n) (withForest g m)) many
+        (subst (λ (r : List (List ℕ)). Went l n at e r (withForest g m) (suc (nodesIn f) + nodesIn g)) (append-assoc (ownRows 3 d parent (nodesIn f) n) (forestRows 3 f (n .nodes) (withNode d n)) (forestRows 3 g parent m))
+        (went-on l n at (p + 8 + length b) e _ _ m (withForest g m) (suc (nodesIn f)) (nodesIn g) le w v))
 
     nodes-flat : (cs : Chunks) (at : ℕ) → Laid s e at cs → (f : Forest) → readNodes read (order NODE head (reached 3 false) cs) ≡ got f → Nodes at e f
     unfolding readNodes order onward next if
@@ -151,7 +177,7 @@ module _ (s : List ℕ) where
 
     -- under the counts after these key lists
     abbrev After : ℕ → List Keys → Forest → Type 0
-    After at ks f = (l : List Open) (n : Counts) (parent : ℕ) → Under l at e parent → Went l n at e (forestRows 3 f parent (withLists ks n)) (withForest f (withLists ks n))
+    After at ks f = (l : List Open) (n : Counts) (parent : ℕ) → Under l at e parent → Went l n at e (forestRows 3 f parent (withLists ks n)) (withForest f (withLists ks n)) (nodesIn f)
 
     record Lists (spent : Bool) (seen : Anim) (at : ℕ) (m : Moves) (f : Forest) : Type 0 where
       kind : kindOf (flatAt s at) ≡ pivot
@@ -179,8 +205,8 @@ module _ (s : List ℕ) where
         record {
           kind = ap kindOf r ∙ more .kind;
           anims = subst (λ (cs : Chunks). AnimIs spent seen cs (m .anim)) (sym r) (keys-anim spent seen (m .anim) p b (flatAt s (p + 8 + length b)) (more .anims));
-          went = λ l n parent u. went-past KEYS at p e b h tt l n _ _
-              (subst (λ (y : Keys). Went l (addKeys y n) (p + 8 + length b) e (forestRows 3 f parent (withLists (m .keys) (addKeys x n))) (withForest f (withLists (m .keys) (addKeys x n)))) (sym (keys-plain p b x g))
+          went = λ l n parent u. went-past KEYS at p e b h tt l n _ _ _
+              (subst (λ (y : Keys). Went l (addKeys y n) (p + 8 + length b) e (forestRows 3 f parent (withLists (m .keys) (addKeys x n))) (withForest f (withLists (m .keys) (addKeys x n))) (nodesIn f)) (sym (keys-plain p b x g))
               (more .went l (addKeys x n) parent (λ q lo hi. u q (omega (arith, h .from)) hi)));
         }
 
@@ -204,7 +230,7 @@ module _ (s : List ℕ) where
         record {
           kind = ap kindOf r ∙ m .kind;
           anims = λ _. ap animOf r ∙ ap anim (anim-plain p b ws ew) ∙ sym (m .anims);
-          went = λ l n parent u. went-past ANIM at p e b h tt l n _ _ (m .went l n parent (λ q lo hi. u q (omega (arith, h .from)) hi));
+          went = λ l n parent u. went-past ANIM at p e b h tt l n _ _ _ (m .went l n parent (λ q lo hi. u q (omega (arith, h .from)) hi));
         })
 
     by-none : (spent : Bool) (seen : Anim) (at : ℕ) (o : Chunks) (y : Found Moves) → got (record { value = record { keys = []; anim = seen }; rest = o }) ≡ got y → (f : Forest) → readNodes read (y .rest) ≡ got f
@@ -242,7 +268,7 @@ module _ (s : List ℕ) where
       kinds : kindOf (flatAt s at) ≡ kind
       anims : animOf (flatAt s at) ≡ m .anim
       went : (l : List Open) (n : Counts) (parent : ℕ) → Under l at e parent
-          → Went l n at e (forestRows 3 f parent (withLists (m .keys) (withKind kind n))) (withForest f (withLists (m .keys) (withKind kind n)))
+          → Went l n at e (forestRows 3 f parent (withLists (m .keys) (withKind kind n))) (withForest f (withLists (m .keys) (withKind kind n))) (nodesIn f)
 
     no-kind : (at : ℕ) (cs o : Chunks) → Laid s e at cs → (x : Found Kind) → got (record { value = pivot; rest = o }) ≡ got x → order NODE head (reached 2 false) cs ≡ o
         → (y : Found Moves) → readMoves still (x .rest) ≡ got y → (f : Forest) → readNodes read (y .rest) ≡ got f → Kinds at (x .value) (y .value) f
@@ -264,8 +290,8 @@ module _ (s : List ℕ) where
         (record {
           kinds = ek;
           anims = ea ∙ m .anims refl;
-          went = λ l n parent u. went-past t at p e b h other l n _ _
-              (subst (λ (c : Counts). Went l c (p + 8 + length b) e (forestRows 3 f parent (withLists (y .value .keys) (withKind kind n))) (withForest f (withLists (y .value .keys) (withKind kind n)))) (sym (ec n))
+          went = λ l n parent u. went-past t at p e b h other l n _ _ _
+              (subst (λ (c : Counts). Went l c (p + 8 + length b) e (forestRows 3 f parent (withLists (y .value .keys) (withKind kind n))) (withForest f (withLists (y .value .keys) (withKind kind n))) (nodesIn f)) (sym (ec n))
               (m .went l (withKind kind n) parent (λ q lo hi. u q (omega (arith, h .from)) hi)));
         })
 
@@ -314,31 +340,36 @@ module _ (s : List ℕ) where
   unfolding parentAt
   behind-it q i l p h = if-yes (leb q p) (parentAt p l) i (le→leb q p h)
 
-  same-row : (name : Name) (ws : List ℕ) (kind kind′ : Kind) (a a′ : Anim) (ks : List Keys) (parent parent′ : ℕ) (n : Counts) → kind′ ≡ kind → a′ ≡ a → parent′ ≡ parent
-      → nodeRow (record { name = name; words = ws; kind = kind′; keys = []; anim = a′ }) parent′ n ≡ nodeRow (record { name = name; words = ws; kind = kind; keys = ks; anim = a }) parent n
+  same-row : (name : Name) (ws : List ℕ) (kind kind′ : Kind) (a a′ : Anim) (ks : List Keys) (parent parent′ below below′ : ℕ) (n : Counts) → kind′ ≡ kind → a′ ≡ a → parent′ ≡ parent → below′ ≡ below
+      → nodeRow (record { name = name; words = ws; kind = kind′; keys = []; anim = a′ }) parent′ below′ n ≡ nodeRow (record { name = name; words = ws; kind = kind; keys = ks; anim = a }) parent below n
   unfolding nodeRow
-  same-row name ws kind kind′ a a′ ks parent parent′ n e f g = rw (e, f, g)
+  same-row name ws kind kind′ a a′ ks parent parent′ below below′ n e f g h = rw (e, f, g, h)
 
   node-went : (at p : ℕ) (b : List ℕ) (h : Step (Name × List ℕ)) (kind : Kind) (m : Moves) (f : Forest) → Here s at NODE p b → named nodeWords (p + 8) b ≡ got h
       → kindOf (flatAt s (h .place)) ≡ kind → animOf (flatAt s (h .place)) ≡ m .anim
       → ((l : List Open) (n : Counts) (parent : ℕ) → Under l (h .place) (p + 8 + length b) parent
-      → Went l n (h .place) (p + 8 + length b) (forestRows 3 f parent (withLists (m .keys) (withKind kind n))) (withForest f (withLists (m .keys) (withKind kind n))))
+      → Went l n (h .place) (p + 8 + length b) (forestRows 3 f parent (withLists (m .keys) (withKind kind n))) (withForest f (withLists (m .keys) (withKind kind n))) (nodesIn f))
       → NodeWent at p b (record { name = h .value .0; words = h .value .1; kind = kind; keys = m .keys; anim = m .anim }) f
-  unfolding nodeRows rowOf ownRows if
+  unfolding nodeRows nodesBefore rowOf ownRows if
   node-went at p b h kind m f here eh ek ea inner clean l n parent pe =
       let q = p + 8 + length b in
       let d : Data = record { name = h .value .0; words = h .value .1; kind = kind; keys = m .keys; anim = m .anim } in
       let o = opened p b (n .nodes) l in
       let w = inner o (addNode n) (n .nodes) (λ i lo hi. in-it q (n .nodes) l i hi) in
       let c : withLists (m .keys) (withKind kind (addNode n)) ≡ withNode d n = node-counted d n in
+      let inside : nodesBefore q (flatAt s (h .place)) ≡ nodesIn f = omega (arith, w .before q (omega arith), none-before q q (omega arith)) in
+      let run = run-into s at NODE p b here h tt eh in
       record {
         now = w .now;
         closed = λ i k. w .closed i k ∙ behind-it q (n .nodes) l i k;
         is =
-            ap (nodeRows l n) (run-into s at NODE p b here h tt eh)
-            ∙ ap (λ (z : Out (Step (Name × List ℕ))). rowOf z (flatAt s (h .place)) (parentAt p l) n ∷ nodeRows o (addNode n) (flatAt s (h .place))) eh
-            ∙ ap₂ (λ (x : List ℕ) (y : List (List ℕ)). x ∷ y) (same-row (h .value .0) (h .value .1) kind (kindOf (flatAt s (h .place))) (m .anim) (animOf (flatAt s (h .place))) (m .keys) parent (parentAt p l) n ek ea pe) (w .is)
-            ∙ ap (λ (z : Counts). nodeRow d parent n ∷ (forestRows 3 f (n .nodes) z ++ nodeRows (w .now) (withForest f z) (flatAt s q))) c;
+            ap (nodeRows l n) run
+            ∙ ap (λ (z : Out (Step (Name × List ℕ))). rowOf z (flatAt s (h .place)) (parentAt p l) q n ∷ nodeRows o (addNode n) (flatAt s (h .place))) eh
+            ∙ ap₂ (λ (x : List ℕ) (y : List (List ℕ)). x ∷ y) (same-row (h .value .0) (h .value .1) kind (kindOf (flatAt s (h .place))) (m .anim) (animOf (flatAt s (h .place))) (m .keys) parent (parentAt p l) (nodesIn f) (nodesBefore q (flatAt s (h .place))) n ek ea pe inside) (w .is)
+            ∙ ap (λ (z : Counts). nodeRow d parent (nodesIn f) n ∷ (forestRows 3 f (n .nodes) z ++ nodeRows (w .now) (withForest f z) (flatAt s q))) c;
+        before = λ i le.
+            ap (nodesBefore i) run
+            ∙ by-test (leb i p) (λ t. absurd (omega (arith, leb→le i p t))) (λ t. if-no (leb i p) 0 (suc (nodesBefore i (flatAt s (h .place)))) t ∙ omega (arith, w .before i le));
       }
 
   pub node-flat : (l brushes : ℕ) (above : Option ℕ) (p : ℕ) (b : List ℕ) (x : Inner) → readNode Lenient l brushes above p b ≡ got x → (at : ℕ) → Here s at NODE p b → NodeWent at p b (x .self) (x .below)

@@ -1,5 +1,5 @@
 -- The rows of the ten tables, from the flat run of a file's chunks and running counts. Cells are as `Tables` has them.
-use Prim.Native.Nat.{ℕ, _+_, _-_}
+use Prim.Native.Nat.{ℕ, suc, _+_, _-_}
 use mathlib.Core.List.{List, [], _∷_, _++_, map}
 use lib.ListN.{length, drop, getD}
 use lib.Dec.{eqb, leb}
@@ -101,10 +101,16 @@ unfoldable pub parentAt : ℕ → List Open → ℕ
 parentAt p [] = NONE
 parentAt p (o ∷ l) = if (leb (o .end) p) (parentAt p l) (o .index)
 
--- a row by a node's text and numbers, and the chunks after them
-unfoldable pub rowOf : Out (Step (Name × List ℕ)) → Chunks → ℕ → Counts → List ℕ
-rowOf (got x) cs parent n = nodeRow (record { name = x .value .0; words = x .value .1; kind = kindOf cs; keys = []; anim = animOf cs }) parent n
-rowOf (bad i p) cs parent n = []
+-- how many NODEs come up to the first that does not begin before a place
+unfoldable pub nodesBefore : ℕ → Chunks → ℕ
+nodesBefore e done = 0
+nodesBefore e (stop n p) = 0
+nodesBefore e (chunk t p b r) = if (is t NODE) (if (leb e p) 0 (suc (nodesBefore e r))) (nodesBefore e r)
+
+-- a row by a node's text and numbers, the chunks after them, its parent and its end
+unfoldable pub rowOf : Out (Step (Name × List ℕ)) → Chunks → ℕ → ℕ → Counts → List ℕ
+rowOf (got x) cs parent end n = nodeRow (record { name = x .value .0; words = x .value .1; kind = kindOf cs; keys = []; anim = animOf cs }) parent (nodesBefore end cs) n
+rowOf (bad i p) cs parent end n = []
 
 -- with the node at p that has this body
 abbrev pub opened : ℕ → List ℕ → ℕ → List Open → List Open
@@ -114,7 +120,7 @@ unfoldable pub nodeRows : List Open → Counts → Chunks → List (List ℕ)
 nodeRows l n done = []
 nodeRows l n (stop i p) = []
 nodeRows l n (chunk t p b r) =
-    if (is t NODE) (rowOf (named nodeWords (p + 8) b) r (parentAt p l) n ∷ nodeRows (opened p b (n .nodes) l) (counted t p b n) r)
+    if (is t NODE) (rowOf (named nodeWords (p + 8) b) r (parentAt p l) (p + 8 + length b) n ∷ nodeRows (opened p b (n .nodes) l) (counted t p b n) r)
     (nodeRows l (counted t p b n) r)
 
 -- ---- tables 1 and 2

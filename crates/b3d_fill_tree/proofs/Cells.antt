@@ -1,5 +1,5 @@
--- The cells of a node's row: kind and ANIM by its own chunks, and the row put together.
-use mathlib.Core.Path.{_≡_, refl, ap, sym, subst, _∙_}
+-- The cells of a node's row: kind and ANIM by its own chunks, how many nodes are below it, and the row put together.
+use mathlib.Core.Path.{_≡_, refl, ap, ap₂, sym, subst, _∙_}
 use Prim.Native.Nat.{ℕ, suc, _+_, _-_, _*_, _/_, _<_, _≤_}
 use native.Mathlib.Nat.{div-le-self}
 use native.Mathlib.Omega.{arith}
@@ -31,7 +31,7 @@ use Rattle.b3d_chunks.specs.declared.Named.the-variants as named
 use Rattle.b3d_chunks.proofs.Names.{named-cut, named-any, named-among, row-inside, row-room}
 use Rattle.b3d_file_rows.specs.Flat.{flatAt}
 use Rattle.b3d_file_rows.specs.Plain.{whole, plainWeights, plainAnim}
-use Rattle.b3d_file_rows.specs.Rows.{kindOf, animOf, rowOf}
+use Rattle.b3d_file_rows.specs.Rows.{kindOf, animOf, nodesBefore, rowOf}
 use Rattle.b3d_walk.specs.Seeks.{ThreeWords}
 use Rattle.b3d_walk.specs.Walks.{BodyAt, ChunkIs}
 use Rattle.b3d_walk.specs.declared.Flat.{Flat}
@@ -159,11 +159,11 @@ module _ (s : List ℕ) (p : ℕ) (b : Cursor) (y : BodyAt s p b) where
     node-size r i len w n q = let f = named-among b 10 r i len w n q in omega (arith, y .within, f .row, f .after, f .to, f .same)
 
   module _ (r : Named) (e : r ≡ namedAt s b 10) where
-    pub node-cut : r ≡ named.Cut → (cs : Chunks) (parent : ℕ) (k : Counts) (base : ℕ) (out : List ℕ) → out ≡ sets out base (rowOf (namedOf nodeWords (p + 8) (left b s)) cs parent k)
+    pub node-cut : r ≡ named.Cut → (cs : Chunks) (parent end : ℕ) (k : Counts) (base : ℕ) (out : List ℕ) → out ≡ sets out base (rowOf (namedOf nodeWords (p + 8) (left b s)) cs parent end k)
     unfolding rowOf
-    node-cut q cs parent k base out =
+    node-cut q cs parent end k base out =
         let c : namedOf nodeWords (p + 8) (left b s) ≡ bad 5 (b .at) = ap (λ (j : ℕ). namedOf nodeWords j (left b s)) (sym (y .head)) ∙ named-cut s b 10 node-inside nodeWords refl r e q in
-        sym (ap (λ (o : Out (Step (Name × List ℕ))). sets out base (rowOf o cs parent k)) c)
+        sym (ap (λ (o : Out (Step (Name × List ℕ))). sets out base (rowOf o cs parent end k)) c)
 
     module _ (i : NamedIn b 10 r) (len : ℕ) (w n : Cursor) (q : r ≡ named.Is len w n) where
       pub node-row : Inside w (length s)
@@ -175,38 +175,44 @@ module _ (s : List ℕ) (p : ℕ) (b : Cursor) (y : BodyAt s p b) where
       ten-long : length (wordsOf 10 (left w s)) ≡ 10
       ten-long = length-words-of 10 (left w s) (omega (arith, left-length s w node-row, node-ten))
 
-      row-is : (cs : Chunks) (parent : ℕ) (k : Counts)
-          → rowOf (namedOf nodeWords (p + 8) (left b s)) cs parent k ≡ (b .at ∷ len ∷ parent ∷ []) ++ (wordsOf 10 (left w s) ++ partCells cs k)
+      row-is : (cs : Chunks) (parent end : ℕ) (k : Counts)
+          → rowOf (namedOf nodeWords (p + 8) (left b s)) cs parent end k ≡ (b .at ∷ len ∷ parent ∷ []) ++ (wordsOf 10 (left w s) ++ partCells cs end k)
       unfolding rowOf nodeRow nameCells partCells
-      row-is cs parent k =
+      row-is cs parent end k =
           let c = ap (λ (j : ℕ). namedOf nodeWords j (left b s)) (sym (y .head)) ∙ named-any s b 10 node-inside r e len w n q in
           let f = named-among b 10 r i len w n q in
           let l : length (take len (left b s)) ≡ len = length-take-le len (left b s) (omega (arith, left-length s b node-inside, f .row, f .after, f .to, f .same)) in
-          ap (λ (o : Out (Step (Name × List ℕ))). rowOf o cs parent k) c
-          ∙ ap (λ (j : ℕ). b .at ∷ j ∷ parent ∷ (wordsOf 10 (left w s) ++ partCells cs k)) l
+          ap (λ (o : Out (Step (Name × List ℕ))). rowOf o cs parent end k) c
+          ∙ ap (λ (j : ℕ). b .at ∷ j ∷ parent ∷ (wordsOf 10 (left w s) ++ partCells cs end k)) l
 
-      pub node-put : (cs : Chunks) (parent : ℕ) (k : Counts) (base : ℕ) (out : List ℕ) (i₀ i₁ : ℕ) → i₀ ≡ b .at → i₁ ≡ len
-          → (o₁ o₂ o₃ : List ℕ) → o₁ ≡ sets out base (i₀ ∷ i₁ ∷ parent ∷ []) → o₂ ≡ sets o₁ (base + 3) (wordsOf 10 (left w s)) → o₃ ≡ sets o₂ (base + 13) (partCells cs k)
-          → o₃ ≡ sets out base (rowOf (namedOf nodeWords (p + 8) (left b s)) cs parent k)
-      node-put cs parent k base out i₀ i₁ e₀ e₁ o₁ o₂ o₃ f₁ f₂ f₃ =
+      pub node-put : (cs : Chunks) (parent end : ℕ) (k : Counts) (base : ℕ) (out : List ℕ) (i₀ i₁ : ℕ) → i₀ ≡ b .at → i₁ ≡ len
+          → (o₁ o₂ o₃ : List ℕ) → o₁ ≡ sets out base (i₀ ∷ i₁ ∷ parent ∷ []) → o₂ ≡ sets o₁ (base + 3) (wordsOf 10 (left w s)) → o₃ ≡ sets o₂ (base + 13) (partCells cs end k)
+          → o₃ ≡ sets out base (rowOf (namedOf nodeWords (p + 8) (left b s)) cs parent end k)
+      node-put cs parent end k base out i₀ i₁ e₀ e₁ o₁ o₂ o₃ f₁ f₂ f₃ =
           let ws = wordsOf 10 (left w s) in
           let h = b .at ∷ len ∷ parent ∷ [] in
           let g₁ : o₁ ≡ sets out base h = rw (← e₀, ← e₁) f₁ in
           let p₁ : base + 3 + length ws ≡ base + 13 = omega (arith, ten-long) in
-          f₃ ∙ ap (λ (l : List ℕ). sets l (base + 13) (partCells cs k)) f₂ ∙ ap (λ (j : ℕ). sets (sets o₁ (base + 3) ws) j (partCells cs k)) (sym p₁)
-          ∙ sym (sets-append ws (partCells cs k) o₁ (base + 3)) ∙ ap (λ (l : List ℕ). sets l (base + 3) (ws ++ partCells cs k)) g₁ ∙ sym (sets-append h (ws ++ partCells cs k) out base)
-          ∙ ap (sets out base) (sym (row-is cs parent k))
+          f₃ ∙ ap (λ (l : List ℕ). sets l (base + 13) (partCells cs end k)) f₂ ∙ ap (λ (j : ℕ). sets (sets o₁ (base + 3) ws) j (partCells cs end k)) (sym p₁)
+          ∙ sym (sets-append ws (partCells cs end k) o₁ (base + 3)) ∙ ap (λ (l : List ℕ). sets l (base + 3) (ws ++ partCells cs end k)) g₁ ∙ sym (sets-append h (ws ++ partCells cs end k) out base)
+          ∙ ap (sets out base) (sym (row-is cs parent end k))
 
 pub ruleset row-laws = (node-inside, node-place, node-size, node-cut, node-row, node-ten, node-put)
 
-pub parts-put : (cs : Chunks) (k : Counts) (base : ℕ) (out ks an o₁ o₂ : List ℕ) → ks ≡ kindCells (kindOf cs) k → an ≡ animCells (animOf cs) → o₁ ≡ sets out base ks → o₂ ≡ sets o₁ (base + 3) an
-    → o₂ ≡ sets out base (partCells cs k)
+pub parts-put : (cs : Chunks) (end : ℕ) (k : Counts) (base : ℕ) (out ks an : List ℕ) (below : ℕ) (o₁ o₂ o₃ : List ℕ) → ks ≡ kindCells (kindOf cs) k → an ≡ animCells (animOf cs) → below ≡ nodesBefore end cs
+    → o₁ ≡ sets out base ks → o₂ ≡ sets o₁ (base + 3) an → o₃ ≡ sets o₂ (base + 7) (below ∷ []) → o₃ ≡ sets out base (partCells cs end k)
 unfolding partCells
-parts-put cs k base out ks an o₁ o₂ ek ea f₁ f₂ =
+parts-put cs end k base out ks an below o₁ o₂ o₃ ek ea eb f₁ f₂ f₃ =
     let kc = kindCells (kindOf cs) k in
+    let ac = animCells (animOf cs) in
+    let last = nodesBefore end cs ∷ [] in
     let p₁ : base + length kc ≡ base + 3 = omega (arith, kind-long (kindOf cs) k) in
-    f₂ ∙ ap (sets o₁ (base + 3)) ea ∙ ap (λ (l : List ℕ). sets l (base + 3) (animCells (animOf cs))) (f₁ ∙ ap (sets out base) ek)
-    ∙ ap (λ (j : ℕ). sets (sets out base kc) j (animCells (animOf cs))) (sym p₁) ∙ sym (sets-append kc (animCells (animOf cs)) out base)
+    let p₂ : base + 3 + length ac ≡ base + 7 = omega (arith, anim-long cs) in
+    let g₁ : o₁ ≡ sets out base kc = f₁ ∙ ap (sets out base) ek in
+    let g₂ : o₂ ≡ sets o₁ (base + 3) ac = f₂ ∙ ap (sets o₁ (base + 3)) ea in
+    let g₃ : o₃ ≡ sets o₁ (base + 3) (ac ++ last) =
+    f₃ ∙ ap₂ (λ (l : List ℕ) (v : ℕ). sets l (base + 7) (v ∷ [])) g₂ eb ∙ ap (λ (j : ℕ). sets (sets o₁ (base + 3) ac) j last) (sym p₂) ∙ sym (sets-append ac last o₁ (base + 3)) in
+    g₃ ∙ ap₂ (λ (l : List ℕ) (j : ℕ). sets l j (ac ++ last)) g₁ (sym p₁) ∙ sym (sets-append kc (ac ++ last) out base)
 
 pub cells-fit : (cs : Chunks) (k : Counts) (ks : List ℕ) → ks ≡ kindCells (kindOf cs) k → length ks ≡ 3
 cells-fit cs k ks e = ap length e ∙ kind-long (kindOf cs) k

@@ -14,6 +14,7 @@ use Rattle.wire.specs.Test.{if}
 use Rattle.wire.specs.Bytes.{wordAt}
 use Rattle.layout.specs.Rules.{NONE}
 use Rattle.layout.proofs.Outs.{if-yes, if-no, by-test}
+use Rattle.b3d_scene.specs.Tables.{nodeWidth}
 use Rattle.b3d_file_rows.specs.Rows.{Open, parentAt}
 use Rattle.b3d_fill_tree.specs.Links.{Link, Linked, Climbable, ParentIs}
 
@@ -100,19 +101,19 @@ module _ (s rows : List ℕ) (nodes p : ℕ) where
       nth : (l : List Open) (f : Found s rows p (nodes - i) l) → length l ≡ nodes → length (f .before) ≡ i - 1
       nth l f e = omega (arith, f .long, v .low)
 
-      pub climb-row : 20 * (i - 1) < length rows
+      pub climb-row : nodeWidth * (i - 1) < length rows
       climb-row = omega (arith, v .low, v .some .room)
 
-      pub climb-cell : 20 * (i - 1) + 2 < length rows
+      pub climb-cell : nodeWidth * (i - 1) + 2 < length rows
       climb-cell = omega (arith, v .low, v .some .room)
 
       pub climb-index : i - 1 < 0x100000000
       climb-index = omega (arith, v .low, v .some .few)
 
-      module _ (name : ℕ) (en : name ≡ getD rows (20 * (i - 1)) 0) where
+      module _ (name : ℕ) (en : name ≡ getD rows (nodeWidth * (i - 1)) 0) where
         -- the row of node i - 1, whichever the nodes are
         name-of : (l : List Open) (f : Found s rows p (nodes - i) l) → length l ≡ nodes → name ≡ f .link .head + 8
-        name-of l f e = en ∙ ap (λ (j : ℕ). getD rows (20 * j) 0) (sym (nth l f e)) ∙ f .link .name-is
+        name-of l f e = en ∙ ap (λ (j : ℕ). getD rows (nodeWidth * j) 0) (sym (nth l f e)) ∙ f .link .name-is
 
         pub name-low : 4 ≤ name
         name-low = omega (arith, name-of (v .some .opens) last (v .some .long))
@@ -138,9 +139,9 @@ module _ (s rows : List ℕ) (nodes p : ℕ) where
                 er ∙ sym (nth l f e) ∙ sym (f .link .index-is) ∙ sym (still-open p (f .node) (f .before) (omega (arith, end-of l f e))) ∙ ap (parentAt p) (sym (f .is)) ∙ sym (v .same l x e);
           }
 
-          module _ (h : name + long ≤ p) (above-cell : ℕ) (ea : above-cell ≡ getD rows (20 * (i - 1) + 2) 0) where
+          module _ (h : name + long ≤ p) (above-cell : ℕ) (ea : above-cell ≡ getD rows (nodeWidth * (i - 1) + 2) 0) where
             cell-of : (l : List Open) (f : Found s rows p (nodes - i) l) → length l ≡ nodes → parentAt (f .link .head) (f .before) ≡ above-cell
-            cell-of l f e = sym (f .link .above-is) ∙ ap (λ (j : ℕ). getD rows (20 * j + 2) 0) (nth l f e) ∙ sym ea
+            cell-of l f e = sym (f .link .above-is) ∙ ap (λ (j : ℕ). getD rows (nodeWidth * j + 2) 0) (nth l f e) ∙ sym ea
 
             passed : (l : List Open) (x : Linked s rows p l) (e : length l ≡ nodes) → parentAt p l ≡ parentAt p (at-node l x e .before)
             passed l x e = let f = at-node l x e in v .same l x e ∙ ap (parentAt p) (f .is) ∙ closed p (f .node) (f .before) (omega (arith, end-of l f e))

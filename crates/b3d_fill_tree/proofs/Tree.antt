@@ -26,12 +26,12 @@ use Rattle.b3d_scene.specs.declared.Tag.{Tag}
 use Rattle.b3d_scene.specs.declared.Tag.the-variants.{NODE, MESH, BONE}
 use Rattle.b3d_scene.specs.Rules.{nodeRow as nodeWords}
 use Rattle.b3d_scene.specs.Scene.{Kind, pivot, mesh, bone}
-use Rattle.b3d_scene.specs.Tables.{start, words, nameCells, kindCells, animCells, nodeRow}
+use Rattle.b3d_scene.specs.Tables.{start, words, nameCells, kindCells, animCells, nodeRow, nodeWidth}
 use Rattle.b3d_scene.specs.Tags.{Chunks, is, split, tagOf}
 use Rattle.b3d_rows.proofs.Storing.{Storing, store-run, store-done}
 use Rattle.b3d_file_rows.specs.Flat.{rest, flatAt, flat}
 use Rattle.b3d_file_rows.specs.Plain.{plainWeights}
-use Rattle.b3d_file_rows.specs.Rows.{Open, parentAt, counted, opened, kindOf, animOf, rowOf, nodeRows, fileRows}
+use Rattle.b3d_file_rows.specs.Rows.{Open, parentAt, counted, opened, kindOf, animOf, nodesBefore, rowOf, nodeRows, fileRows}
 use Rattle.b3d_file_rows.proofs.Run.{run-done}
 use Rattle.b3d_walk.specs.Walks.{BodyAt, NodeRead, ChunkIs, Ends, FlatIs, Steps}
 use Rattle.b3d_walk.specs.declared.Flat.{Flat}
@@ -56,7 +56,7 @@ third-cell a b c vs l i h =
     rw e (first-cell c vs (set (set l i a) (suc i) b) (suc (suc i)) (omega (arith, length-set (set l i a) (suc i) b, length-set l i a)))
 
 -- rows that stand before what is stored, and at a later place
-linked-after : (s rows put : List ℕ) (p q : ℕ) → p ≤ q → (l : List Open) → ((j : ℕ) → j < 20 * length l → getD put j 0 ≡ getD rows j 0) → Linked s rows p l → Linked s put q l
+linked-after : (s rows put : List ℕ) (p q : ℕ) → p ≤ q → (l : List Open) → ((j : ℕ) → j < nodeWidth * length l → getD put j 0 ≡ getD rows j 0) → Linked s rows p l → Linked s put q l
 linked-after s rows put p q le [] same h = tt
 linked-after s rows put p q le (o ∷ l) same h =
     let k = h .0 in (
@@ -65,9 +65,9 @@ linked-after s rows put p q le (o ∷ l) same h =
         before = omega (arith, k .before);
         within = k .within;
         index-is = k .index-is;
-        name-is = same (20 * length l) (omega arith) ∙ k .name-is;
+        name-is = same (nodeWidth * length l) (omega arith) ∙ k .name-is;
         end-is = k .end-is;
-        above-is = same (20 * length l + 2) (omega arith) ∙ k .above-is;
+        above-is = same (nodeWidth * length l + 2) (omega arith) ∙ k .above-is;
       },
       linked-after s rows put p q le l (λ j x. same j (omega arith)) (h .1),
     )
@@ -75,35 +75,36 @@ linked-after s rows put p q le (o ∷ l) same h =
 -- ---- a row
 
 -- it tells of two counts alone
-row-told : (o : Out (Step (Name × List ℕ))) (cs : Chunks) (parent : ℕ) (n : Counts) → rowOf o cs parent n ≡ rowOf o cs parent (told (n .meshes) (n .weights))
+row-told : (o : Out (Step (Name × List ℕ))) (cs : Chunks) (parent end : ℕ) (n : Counts) → rowOf o cs parent end n ≡ rowOf o cs parent end (told (n .meshes) (n .weights))
 unfolding rowOf nodeRow kindCells told
-row-told (bad i p) cs parent n = refl
-row-told (got x) cs parent n = ap (λ (l : List ℕ). nameCells (x .value .0) ++ (parent ∷ (x .value .1 ++ (l ++ animCells (animOf cs))))) (cells (kindOf cs))
+row-told (bad i p) cs parent end n = refl
+row-told (got x) cs parent end n = ap (λ (l : List ℕ). nameCells (x .value .0) ++ (parent ∷ (x .value .1 ++ (l ++ (animCells (animOf cs) ++ (nodesBefore end cs ∷ [])))))) (cells (kindOf cs))
   where
     cells : (k : Kind) → kindCells k n ≡ kindCells k (told (n .meshes) (n .weights))
     cells pivot = refl
     cells (mesh m) = refl
     cells (bone ws) = refl
 
--- a row of twenty cells, the first and the third being these
+-- a row of all its cells, the first and the third being these
 record Row (place parent : ℕ) (row : List ℕ) : Type 0 where
   size : ℕ
   others : List ℕ
   is : row ≡ place ∷ size ∷ parent ∷ others
-  long : length row ≡ 20
+  long : length row ≡ nodeWidth
 
-row-of : (s : List ℕ) (p : ℕ) (b : Cursor) → NodeRead s p b → (cs : Chunks) (parent : ℕ) (n : Counts) → Row (p + 8) parent (rowOf (named nodeWords (p + 8) (left b s)) cs parent n)
+row-of : (s : List ℕ) (p : ℕ) (b : Cursor) → NodeRead s p b → (cs : Chunks) (parent end : ℕ) (n : Counts) → Row (p + 8) parent (rowOf (named nodeWords (p + 8) (left b s)) cs parent end n)
 unfolding rowOf nodeRow nameCells
-row-of s p b x cs parent n =
+row-of s p b x cs parent end n =
     let ws = x .step .value .1 in
     let ks = kindCells (kindOf cs) n in
     let ac = animCells (animOf cs) in
-    subst (λ (o : Out (Step (Name × List ℕ))). Row (p + 8) parent (rowOf o cs parent n)) (sym (x .is))
+    let last = nodesBefore end cs ∷ [] in
+    subst (λ (o : Out (Step (Name × List ℕ))). Row (p + 8) parent (rowOf o cs parent end n)) (sym (x .is))
     (record {
       size = length (x .step .value .0 .bytes);
-      others = ws ++ (ks ++ ac);
-      is = ap (λ (k : ℕ). k ∷ length (x .step .value .0 .bytes) ∷ parent ∷ (ws ++ (ks ++ ac))) (x .name);
-      long = omega (arith, length-append ws (ks ++ ac), length-append ks ac, x .ten, kind-long (kindOf cs) n, anim-long cs);
+      others = ws ++ (ks ++ (ac ++ last));
+      is = ap (λ (k : ℕ). k ∷ length (x .step .value .0 .bytes) ∷ parent ∷ (ws ++ (ks ++ (ac ++ last)))) (x .name);
+      long = omega (arith, length-append ws (ks ++ (ac ++ last)), length-append ks (ac ++ last), length-append ac last, x .ten, kind-long (kindOf cs) n, anim-long cs);
     })
 
 -- ---- the loop
@@ -124,8 +125,8 @@ pub record TreeLeft (s out₀ out : List ℕ) (at nodes meshes weights : ℕ) : 
   pub few-meshes : meshes ≤ at
   pub few-weights : weights ≤ at
   pub inside : at ≤ length s
-  pub room : 20 * nodes + length (nodesFrom s opens counts at) ≤ length out₀
-  pub stores : Storing out₀ 0 (words (fileRows 3 s)) out (20 * nodes) (nodesFrom s opens counts at)
+  pub room : nodeWidth * nodes + length (nodesFrom s opens counts at) ≤ length out₀
+  pub stores : Storing out₀ 0 (words (fileRows 3 s)) out (nodeWidth * nodes) (nodesFrom s opens counts at)
 
 module _ (s out₀ : List ℕ) where
   file-is : fileRows 3 s ≡ nodeRows [] start (flatAt s 12)
@@ -175,7 +176,7 @@ module _ (s out₀ : List ℕ) where
       pub more-nodes : Fits w64 (nodes + 1)
       more-nodes = record { fits = omega (arith, v .few-nodes, v .inside) }
 
-      pub more-words : Fits w64 (20 * nodes)
+      pub more-words : Fits w64 (nodeWidth * nodes)
       more-words = record { fits = omega (arith, v .few-nodes, v .inside) }
 
       pub more-meshes : Fits w64 (meshes + 1)
@@ -215,6 +216,9 @@ module _ (s out₀ : List ℕ) where
         body-long : length (left b s) ≡ b .end - b .at
         body-long = left-length s b (record { before = it .body .room; within = it .body .within })
 
+        end-is : p + 8 + length (left b s) ≡ b .end
+        end-is = omega (arith, body-long, it .body .head, it .body .room)
+
         -- the counts and the open nodes stay, but for those of one tag
         module _ (m : ℕ) (no : T (not (is t NODE))) where
           others : nodesFrom s (v .opens) (v .counts) at ≡ nodesFrom s (v .opens) (counted t p (left b s) (v .counts)) q
@@ -253,10 +257,10 @@ module _ (s out₀ : List ℕ) where
             is-node = subst T (sym z ∙ en) tt
 
             abbrev rowFor : ℕ → List ℕ
-            rowFor parent = rowOf (named nodeWords (p + 8) (left b s)) (flatAt s q) parent (told meshes weights)
+            rowFor parent = rowOf (named nodeWords (p + 8) (left b s)) (flatAt s q) parent (b .end) (told meshes weights)
 
             row-is : (parent : ℕ) → Row (p + 8) parent (rowFor parent)
-            row-is parent = row-of s p b (it .node is-node) (flatAt s q) parent (told meshes weights)
+            row-is parent = row-of s p b (it .node is-node) (flatAt s q) parent (b .end) (told meshes weights)
 
             -- a row, and those after it
             one : nodesFrom s (v .opens) (v .counts) at ≡ rowFor (parentAt p (v .opens)) ++ nodesFrom s (opened p (left b s) nodes (v .opens)) (counted t p (left b s) (v .counts)) q
@@ -264,27 +268,28 @@ module _ (s out₀ : List ℕ) where
             one =
                 ap (λ c. words (nodeRows (v .opens) (v .counts) c)) (it .run) ∙ ap words (if-yes (is t NODE) _ _ is-node)
                 ∙ ap (λ (l : List ℕ). l ++ nodesFrom s (opened p (left b s) (v .counts .nodes) (v .opens)) (counted t p (left b s) (v .counts)) q)
-                (row-told (named nodeWords (p + 8) (left b s)) (flatAt s q) (parentAt p (v .opens)) (v .counts)
-                ∙ ap₂ (λ (m k : ℕ). rowOf (named nodeWords (p + 8) (left b s)) (flatAt s q) (parentAt p (v .opens)) (told m k)) (v .meshes-are) (v .weights-are))
+                (ap (λ (e : ℕ). rowOf (named nodeWords (p + 8) (left b s)) (flatAt s q) (parentAt p (v .opens)) e (v .counts)) end-is
+                ∙ row-told (named nodeWords (p + 8) (left b s)) (flatAt s q) (parentAt p (v .opens)) (b .end) (v .counts)
+                ∙ ap₂ (λ (m k : ℕ). rowOf (named nodeWords (p + 8) (left b s)) (flatAt s q) (parentAt p (v .opens)) (b .end) (told m k)) (v .meshes-are) (v .weights-are))
                 ∙ ap (λ (k : ℕ). rowFor (parentAt p (v .opens)) ++ nodesFrom s (opened p (left b s) k (v .opens)) (counted t p (left b s) (v .counts)) q) (v .nodes-are)
 
-            pub tree-room : 20 * nodes + 20 ≤ length out
+            pub tree-room : nodeWidth * nodes + nodeWidth ≤ length out
             tree-room =
                 let row = rowFor (parentAt p (v .opens)) in
                 omega (arith, v .room, v .stores .long, ap length one, length-append row (nodesFrom s (opened p (left b s) nodes (v .opens)) (counted t p (left b s) (v .counts)) q), row-is (parentAt p (v .opens)) .long)
 
-            pub tree-node : (parent : ℕ) → ParentIs s out nodes p parent → (put : List ℕ) → put ≡ sets out (20 * nodes) (rowFor parent) → TreeLeft s out₀ put q (nodes + 1) meshes weights
+            pub tree-node : (parent : ℕ) → ParentIs s out nodes p parent → (put : List ℕ) → put ≡ sets out (nodeWidth * nodes) (rowFor parent) → TreeLeft s out₀ put q (nodes + 1) meshes weights
             tree-node parent h put ep =
                 let l = v .opens in
                 let from-here : Linked s out p l = linked-after s out out at p (it .from) l (λ j i. refl) (v .linked) in
                 let pe : parent ≡ parentAt p l = h .is l from-here (v .long) in
                 let x = row-is parent in
-                let cells : put ≡ sets out (20 * nodes) ((p + 8) ∷ x .size ∷ parent ∷ x .others) = ep ∙ ap (sets out (20 * nodes)) (x .is) in
-                let next : 20 * nodes + 20 ≡ 20 * (nodes + 1) = omega arith in
+                let cells : put ≡ sets out (nodeWidth * nodes) ((p + 8) ∷ x .size ∷ parent ∷ x .others) = ep ∙ ap (sets out (nodeWidth * nodes)) (x .is) in
+                let next : nodeWidth * nodes + nodeWidth ≡ nodeWidth * (nodes + 1) = omega arith in
                 let rows = nodesFrom s (opened p (left b s) nodes l) (counted t p (left b s) (v .counts)) q in
                 let split-rows : nodesFrom s l (v .counts) at ≡ rowFor parent ++ rows = one ∙ ap (λ (k : ℕ). rowFor k ++ rows) (sym pe) in
                 let stored = store-run (v .stores) (rowFor parent) split-rows in
-                let to : 20 * nodes + length (rowFor parent) ≡ 20 * (nodes + 1) = omega (arith, x .long) in
+                let to : nodeWidth * nodes + length (rowFor parent) ≡ nodeWidth * (nodes + 1) = omega (arith, x .long) in
                 let tag = sym (tag-same t NODE is-node) in
                 let link : Link s put q l (record { end = p + 8 + length (left b s); index = nodes }) =
                 record {
@@ -292,13 +297,13 @@ module _ (s out₀ : List ℕ) where
                   before = omega (arith, it .behind);
                   within = omega (arith, body-long, it .body .head, it .body .room, it .body .within);
                   index-is = sym (v .long);
-                  name-is = ap (λ (k : ℕ). getD put (20 * k) 0) (v .long) ∙ ap (λ (y : List ℕ). getD y (20 * nodes) 0) cells ∙ first-cell (p + 8) (x .size ∷ parent ∷ x .others) out (20 * nodes) (omega (arith, tree-room));
+                  name-is = ap (λ (k : ℕ). getD put (nodeWidth * k) 0) (v .long) ∙ ap (λ (y : List ℕ). getD y (nodeWidth * nodes) 0) cells ∙ first-cell (p + 8) (x .size ∷ parent ∷ x .others) out (nodeWidth * nodes) (omega (arith, tree-room));
                   end-is = ap (λ (k : ℕ). p + 8 + k) (sym (it .size));
-                  above-is = ap (λ (k : ℕ). getD put (20 * k + 2) 0) (v .long) ∙ ap (λ (y : List ℕ). getD y (20 * nodes + 2) 0) cells
-                      ∙ third-cell (p + 8) (x .size) parent (x .others) out (20 * nodes) (omega (arith, tree-room)) ∙ pe;
+                  above-is = ap (λ (k : ℕ). getD put (nodeWidth * k + 2) 0) (v .long) ∙ ap (λ (y : List ℕ). getD y (nodeWidth * nodes + 2) 0) cells
+                      ∙ third-cell (p + 8) (x .size) parent (x .others) out (nodeWidth * nodes) (omega (arith, tree-room)) ∙ pe;
                 } in
-                let before : (j : ℕ) → j < 20 * length l → getD put j 0 ≡ getD out j 0 =
-                λ j i. ap (λ (y : List ℕ). getD y j 0) ep ∙ below (rowFor parent) out (20 * nodes) j (omega (arith, v .long)) in
+                let before : (j : ℕ) → j < nodeWidth * length l → getD put j 0 ≡ getD out j 0 =
+                λ j i. ap (λ (y : List ℕ). getD y j 0) ep ∙ below (rowFor parent) out (nodeWidth * nodes) j (omega (arith, v .long)) in
                 record {
                   opens = opened p (left b s) nodes l;
                   counts = counted t p (left b s) (v .counts);

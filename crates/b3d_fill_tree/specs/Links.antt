@@ -5,6 +5,7 @@ use mathlib.Core.List.{List, [], _∷_}
 use lib.ListN.{length, getD}
 use Rattle.wire.specs.Bytes.{wordAt}
 use Rattle.layout.specs.Rules.{NONE}
+use Rattle.b3d_scene.specs.Tables.{nodeWidth}
 use Rattle.b3d_file_rows.specs.Rows.{Open, parentAt}
 
 -- the row of node o, l being those before it: it begins before p
@@ -13,9 +14,9 @@ pub record Link (s rows : List ℕ) (p : ℕ) (l : List Open) (o : Open) : Type 
   pub before : head ≤ p
   pub within : o .end ≤ length s
   pub index-is : o .index ≡ length l
-  pub name-is : getD rows (20 * length l) 0 ≡ head + 8
+  pub name-is : getD rows (nodeWidth * length l) 0 ≡ head + 8
   pub end-is : o .end ≡ head + 8 + wordAt s (head + 4)
-  pub above-is : getD rows (20 * length l + 2) 0 ≡ parentAt head l
+  pub above-is : getD rows (nodeWidth * length l + 2) 0 ≡ parentAt head l
 
 -- the rows of these nodes, the last first
 abbrev pub Linked : List ℕ → List ℕ → ℕ → List Open → Type 0
@@ -27,7 +28,7 @@ pub record Climbable (s rows : List ℕ) (nodes p : ℕ) : Type 0 where
   pub opens : List Open
   pub linked : Linked s rows p opens
   pub long : length opens ≡ nodes
-  pub room : 20 * nodes ≤ length rows
+  pub room : nodeWidth * nodes ≤ length rows
   pub few : nodes < NONE
   pub small : length s < 0x100000000
 

@@ -2,7 +2,7 @@
 use mathlib.Core.Path.{_≡_}
 use Prim.Native.Nat.{ℕ}
 use mathlib.Core.Bool.{not}
-use mathlib.Core.List.{List, _++_}
+use mathlib.Core.List.{List, [], _∷_, _++_}
 use lib.Dec.{T}
 use Rattle.wire.specs.declared.Cursor.{Cursor}
 use Rattle.b3d_scene.specs.declared.Counts.{Counts}
@@ -12,7 +12,7 @@ use Rattle.b3d_scene.specs.Scene.{pivot, still}
 use Rattle.b3d_scene.specs.Tables.{kindCells, animCells}
 use Rattle.b3d_scene.specs.Tags.{Chunks, is}
 use Rattle.b3d_file_rows.specs.Flat.{flatAt}
-use Rattle.b3d_file_rows.specs.Rows.{kindOf, animOf}
+use Rattle.b3d_file_rows.specs.Rows.{kindOf, animOf, nodesBefore}
 use Rattle.b3d_walk.specs.Walks.{ChunkIs}
 use Rattle.b3d_walk.specs.declared.Flat.{Flat}
 use Rattle.b3d_walk.specs.declared.Flat.the-variants as flat
@@ -37,6 +37,6 @@ pub record OwnSteps (s : List ℕ) (at : ℕ) (r : Flat) : Type 0 where
 unfoldable pub told : ℕ → ℕ → Counts
 told meshes weights = record { nodes = 0; meshes = meshes; vertices = 0; sets = 0; triangles = 0; weights = weights; lists = 0; keys = 0 }
 
--- the cells of the chunks that a node has
-unfoldable pub partCells : Chunks → Counts → List ℕ
-partCells cs n = kindCells (kindOf cs) n ++ animCells (animOf cs)
+-- the cells of the chunks that a node has, up to its end
+unfoldable pub partCells : Chunks → ℕ → Counts → List ℕ
+partCells cs end n = kindCells (kindOf cs) n ++ (animCells (animOf cs) ++ (nodesBefore end cs ∷ []))

@@ -7,7 +7,7 @@ ghost use lib.Seq.{sets as stored};
 ghost use Rattle.wire.specs.Cursors.{Inside, left};
 ghost use Rattle.layout.specs.Parts.{named};
 ghost use Rattle.b3d_scene.specs.Rules.{nodeRow};
-ghost use Rattle.b3d_scene.specs.Tables.{words, kindCells, animCells};
+ghost use Rattle.b3d_scene.specs.Tables.{words, kindCells, animCells, nodeWidth};
 ghost use Rattle.b3d_file_rows.specs.Flat.{flatAt};
 ghost use Rattle.b3d_file_rows.specs.Rows.{fileRows, kindOf, animOf, rowOf};
 ghost use Rattle.b3d_walk.specs.Walks.{BodyAt};
@@ -15,6 +15,7 @@ ghost use Rattle.b3d_fill_tree.specs.Own.{OwnSteps, told, partCells};
 ghost use Rattle.b3d_fill_tree.specs.Links.{Climbable, ParentIs};
 use b3d_chunks::Named;
 use b3d_chunks::Next;
+use b3d_scene::NODE_WIDTH;
 use b3d_scene::Tag;
 use b3d_walk::Flat;
 use wire::Cursor;
@@ -107,15 +108,25 @@ fn anim_cells(file: &[u8], from: usize) -> [u32; 4]
     }
 }
 
-// The last seven cells of a row, of the chunks that begin at a place.
-fn put_parts(file: &[u8], from: usize, meshes: usize, weights: usize, base: usize, out: &mut [u32])
-    requires { ⌜ (from ≤ length (now file)) × (length (now file) < 0x100000000) × (meshes < 0x100000000) × (weights < 0x100000000) × (base + 7 ≤ length (now out)) ⌝ }
-    ensures { λ _. ⌜ now (out .exit) ≡ stored (now (out .entry)) base (partCells (flatAt (now (file .entry)) from) (told meshes weights)) ⌝ }
+// The last eight cells of a row, of the chunks that begin at a place and of the node's end.
+fn put_parts(
+    file: &[u8],
+    from: usize,
+    end: usize,
+    meshes: usize,
+    weights: usize,
+    base: usize,
+    out: &mut [u32],
+)
+    requires { ⌜ (from ≤ length (now file)) × (length (now file) < 0x100000000) × (meshes < 0x100000000) × (weights < 0x100000000) × (base + 8 ≤ length (now out)) ⌝ }
+    ensures { λ _. ⌜ now (out .exit) ≡ stored (now (out .entry)) base (partCells (flatAt (now (file .entry)) from) end (told meshes weights)) ⌝ }
 {
     let kind = kind_cells(file, from, meshes, weights);
     b3d_rows::put_cells(out, base, &kind);
     let anim = anim_cells(file, from);
     b3d_rows::put_cells(out, base + 3, &anim);
+    let below = [b3d_branch::nodes_before(file, from, end)];
+    b3d_rows::put_cells(out, base + 7, &below);
 }
 
 // The row of a NODE whose own chunks begin at `next`, from word `base` of the table on.
@@ -130,8 +141,8 @@ fn put_node(
     base: usize,
     out: &mut [u32],
 )
-    requires { ⌜ BodyAt (now file) p body × (next ≤ length (now file)) × (length (now file) < 0x100000000) × (meshes < 0x100000000) × (weights < 0x100000000) × (base + 20 ≤ length (now out)) ⌝ }
-    ensures { λ _. ⌜ now (out .exit) ≡ stored (now (out .entry)) base (rowOf (named nodeRow (p + 8) (left body (now (file .entry)))) (flatAt (now (file .entry)) next) parent (told meshes weights)) ⌝ }
+    requires { ⌜ BodyAt (now file) p body × (next ≤ length (now file)) × (length (now file) < 0x100000000) × (meshes < 0x100000000) × (weights < 0x100000000) × (base + nodeWidth ≤ length (now out)) ⌝ }
+    ensures { λ _. ⌜ now (out .exit) ≡ stored (now (out .entry)) base (rowOf (named nodeRow (p + 8) (left body (now (file .entry)))) (flatAt (now (file .entry)) next) parent (body .end) (told meshes weights)) ⌝ }
 {
     let numbers = base + 3;
     let parts = base + 13;
@@ -145,7 +156,7 @@ fn put_node(
             let head = [b3d_rows::cell(body.at), b3d_rows::cell(length), parent];
             b3d_rows::put_cells(out, base, &head);
             b3d_rows::copy_words(file, row, 10, numbers, out);
-            put_parts(file, next, meshes, weights, parts, out);
+            put_parts(file, next, body.end, meshes, weights, parts, out);
         }
     }
 }
@@ -158,7 +169,7 @@ fn parent_at(file: &[u8], rows: &[u32], nodes: usize, p: usize) -> u32
 {
     let mut i = nodes;
     while 0 < i {
-        let row = 20 * (i - 1);
+        let row = NODE_WIDTH * (i - 1);
         let name = wire::size(rows[row]);
         let long = wire::size(wire::number_at(file, name - 4));
         if p < name + long {
@@ -206,7 +217,7 @@ pub fn fill_nodes(file: &[u8], out: &mut [u32])
                         parent,
                         meshes,
                         weights,
-                        20 * nodes,
+                        NODE_WIDTH * nodes,
                         out,
                     );
                     nodes += 1;

@@ -12,7 +12,7 @@ use Rattle.layout.specs.Rules.{NONE}
 use Rattle.b3d_scene.specs.declared.Mode.the-variants.{Lenient}
 use Rattle.b3d_scene.specs.Rules.{ownVertices}
 use Rattle.b3d_scene.specs.Scene.{Anim, Kind, pivot, mesh, bone, Data, Forest, leaf, node, Scene}
-use Rattle.b3d_scene.specs.Tables.{start, meshesOf, nameCells, kindCells, animCells, nodeRow, meshRow, meshRows, ownRows, withNode, withForest, forestRows, rows}
+use Rattle.b3d_scene.specs.Tables.{start, meshesOf, nameCells, kindCells, animCells, nodeRow, meshRow, meshRows, ownRows, withNode, withForest, forestRows, rows, nodesIn}
 use Rattle.b3d_scene.specs.Answers.{judge}
 use Rattle.b3d_scene.proofs.AnswerLaws.{judge-got}
 use Rattle.b3d_label.specs.Walk.{Printed, walk, noLabel, labelled, labelOf, labelIn}
@@ -25,15 +25,15 @@ cell-after [] r i = let e : 0 + i ≡ i = omega arith in rw e
 cell-after (w ∷ ws) r i = let e : suc (length ws) + i ≡ suc (length ws + i) = omega arith in rw e (cell-after ws r i)
 
 -- a root's vertices by its row: name, parent, ten numbers, kind; and by the mesh that it names first
-module _ (ws : List ℕ) (w : length ws ≡ 10) (a : Anim) (p l : ℕ) (others : List (List ℕ)) where
+module _ (ws : List ℕ) (w : length ws ≡ 10) (a : List ℕ) (p l : ℕ) (others : List (List ℕ)) where
   abbrev row : Kind → List ℕ
-  row k = p ∷ l ∷ NONE ∷ (ws ++ (kindCells k start ++ animCells a))
+  row k = p ∷ l ∷ NONE ∷ (ws ++ (kindCells k start ++ a))
 
   abbrev meshes : Kind → List (List ℕ)
   meshes k = meshRows 4 (meshesOf k) start ++ others
 
-  cell : (k : Kind) (i : ℕ) → getD (ws ++ (kindCells k start ++ animCells a)) (10 + i) 0 ≡ getD (kindCells k start ++ animCells a) i 0
-  cell k i = rw (← w) (cell-after ws (kindCells k start ++ animCells a) i)
+  cell : (k : Kind) (i : ℕ) → getD (ws ++ (kindCells k start ++ a)) (10 + i) 0 ≡ getD (kindCells k start ++ a) i 0
+  cell k i = rw (← w) (cell-after ws (kindCells k start ++ a) i)
 
   vertices-cell : (k : Kind) → ownVertices k ≡ if (eqb (getD (row k) 13 0) 1) (getD (getD (meshes k) (getD (row k) 14 0) []) 6 0) 0
   unfolding kindCells if start meshRows meshesOf meshRow
@@ -42,19 +42,19 @@ module _ (ws : List ℕ) (w : length ws ≡ 10) (a : Anim) (p l : ℕ) (others :
   vertices-cell (bone b) = rw (cell (bone b) 0)
 
 -- the tables of a scene with a node tell what the label has of it
-tables-tell : (d : Data) (f g : Forest) → length (d .words) ≡ 10 → labelled (got (printedOf d)) ≡ labelIn (nodeRow d NONE start) (forestRows 4 (node d f g) NONE start)
+tables-tell : (d : Data) (f g : Forest) → length (d .words) ≡ 10 → labelled (got (printedOf d)) ≡ labelIn (nodeRow d NONE (nodesIn f) start) (forestRows 4 (node d f g) NONE start)
 unfolding labelled labelIn nodeRow nameCells forestRows ownRows if
 tables-tell d f g w =
     let others = forestRows 4 f (start .nodes) (withNode d start) ++ forestRows 4 g NONE (withForest f (withNode d start)) in
     ap (λ (n : ℕ). record { number = 0; place = 0; «name_place» = d .name .place; «name_length» = length (d .name .bytes); vertices = n })
-    (vertices-cell (d .words) w (d .anim) (d .name .place) (length (d .name .bytes)) others (d .kind))
+    (vertices-cell (d .words) w (animCells (d .anim) ++ (nodesIn f ∷ [])) (d .name .place) (length (d .name .bytes)) others (d .kind))
 
 -- by the nodes of an accepted file
 of-nodes : (o : Out Printed) (n : Forest) → Tells o n → (root : List ℕ) (others : List (List ℕ)) → forestRows 3 n NONE start ≡ root ∷ others
     → labelled o ≡ labelIn root (forestRows 4 n NONE start)
 unfolding forestRows ownRows if
 of-nodes o leaf h root others q = let z : _≡_ {A = ℕ} 0 1 = cc in absurd (omega arith)
-of-nodes o (node d f g) h root others q = let z : nodeRow d NONE start ≡ root = cc in rw (h .is, ← z) (tables-tell d f g (h .ten))
+of-nodes o (node d f g) h root others q = let z : nodeRow d NONE (nodesIn f) start ≡ root = cc in rw (h .is, ← z) (tables-tell d f g (h .ten))
 
 of-none : (o : Out Printed) (n : Forest) → Tells o n → forestRows 3 n NONE start ≡ [] → labelled o ≡ noLabel
 unfolding forestRows ownRows if labelled

@@ -12,7 +12,7 @@ use Rattle.layout.proofs.Lists.{All}
 use Rattle.layout.proofs.Outs.{by-test, if-yes, if-no}
 use Rattle.b3d_scene.specs.Answers.{firstNot}
 use Rattle.b3d_scene.proofs.AnswerLaws.{over-not}
-use Rattle.b3d_scene.specs.Tables.{width, tables, nodeTables, rows}
+use Rattle.b3d_scene.specs.Tables.{width, tables, nodeTables, nodeWidth, rows}
 use Rattle.b3d_tally.specs.declared.Tally.{Tally}
 use Rattle.b3d_limits.specs.Rooms.{numberOf, countsIn, firstShort}
 use lib.ListN.{length}
@@ -64,7 +64,7 @@ pub short-ten : (t : Tally) (l1 l2 l3 l4 l5 l6 l7 l8 l9 l10 : ℕ)
     → firstShort (numberOf (countsIn t)) (numberOf (l1 ∷ l2 ∷ l3 ∷ l4 ∷ l5 ∷ l6 ∷ l7 ∷ l8 ∷ l9 ∷ l10 ∷ [])) tables
     ≡ if (ltb l1 (9 * t .textures)) 1
     (if (ltb l2 (17 * t .brushes)) 2
-    (if (ltb l3 (20 * t .nodes)) 3
+    (if (ltb l3 (nodeWidth * t .nodes)) 3
     (if (ltb l4 (9 * t .meshes)) 4
     (if (ltb l5 (42 * t .vertices)) 5
     (if (ltb l6 (4 * t .sets)) 6

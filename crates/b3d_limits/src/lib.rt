@@ -8,6 +8,7 @@ ghost use mathlib.Core.List.{[], _∷_};
 ghost use Prim.Native.Nat.{_*_, _<_};
 ghost use Rattle.b3d_scene.specs.Tables.{tables};
 ghost use Rattle.b3d_limits.specs.Rooms.{numberOf, countsIn, firstShort};
+use b3d_scene::NODE_WIDTH;
 use b3d_tally::Tally;
 
 // The table k where it has more rows than the limit, else what is found later.
@@ -61,6 +62,12 @@ pub fn first_short(
     let from9 = short_or(9, 4, t.lists, l9, short_or(10, 11, t.keys, l10, 0));
     let from7 = short_or(7, 3, t.triangles, l7, short_or(8, 2, t.weights, l8, from9));
     let from5 = short_or(5, 42, t.vertices, l5, short_or(6, 4, t.sets, l6, from7));
-    let from3 = short_or(3, 20, t.nodes, l3, short_or(4, 9, t.meshes, l4, from5));
+    let from3 = short_or(
+        3,
+        NODE_WIDTH,
+        t.nodes,
+        l3,
+        short_or(4, 9, t.meshes, l4, from5),
+    );
     short_or(1, 9, t.textures, l1, short_or(2, 17, t.brushes, l2, from3))
 }

@@ -2,6 +2,7 @@
 use Prim.Native.Nat.{ℕ, zero, suc}
 use mathlib.Core.List.{List, [], _∷_, _++_}
 use lib.ListN.{drop, getD}
+use Rattle.b3d_scene.specs.Tables.{nodeWidth}
 use Rattle.b3d_names.specs.Name.{nameOr}
 use Rattle.b3d_text.specs.Text.{textLine}
 
@@ -13,7 +14,7 @@ unnamed = 117 ∷ 110 ∷ 110 ∷ 97 ∷ 109 ∷ 101 ∷ 100 ∷ []
 unfoldable pub rowLine : List ℕ → List ℕ → List ℕ
 rowLine s ws = textLine (nameOr s unnamed (getD ws 0 0) (getD ws 1 0))
 
--- the lines of so many rows of 20 words
+-- the lines of so many rows of nodes
 unfoldable pub rowLines : List ℕ → List ℕ → ℕ → List ℕ
 rowLines s ws zero = []
-rowLines s ws (suc n) = rowLine s ws ++ rowLines s (drop 20 ws) n
+rowLines s ws (suc n) = rowLine s ws ++ rowLines s (drop nodeWidth ws) n

@@ -2,10 +2,12 @@
 ghost use mathlib.Core.List.{[], _∷_};
 ghost use Prim.Native.Nat.{_+_, _*_, _≤_};
 ghost use lib.ListN.{length, drop};
+ghost use Rattle.b3d_scene.specs.Tables.{nodeWidth};
 ghost use Rattle.b3d_text.specs.Puts.{Puts};
 ghost use Rattle.b3d_text.specs.Text.{numberLine};
 ghost use Rattle.b3d_limits.specs.Rooms.{countsIn};
 ghost use Rattle.b3d_lines.specs.Lines.{rowLine, rowLines};
+use b3d_scene::NODE_WIDTH;
 use b3d_tally::Tally;
 
 // A line of two numbers.
@@ -39,10 +41,10 @@ pub fn put_counts(t: Tally, out: &mut [u8], at: usize) -> usize
 
 // The line of node i, whose row stands in a table of nodes.
 fn put_name(file: &[u8], rows: &[u32], i: usize, out: &mut [u8], at: usize) -> usize
-    requires { ⌜ (20 * i + 2 ≤ length (now rows)) × (at ≤ length (now out)) ⌝ }
-    ensures { λ r. ⌜ Puts (rowLine (now (file .entry)) (drop (20 * i) (now (rows .entry)))) (now (out .entry)) at (now (out .exit)) r ⌝ }
+    requires { ⌜ (nodeWidth * i + 2 ≤ length (now rows)) × (at ≤ length (now out)) ⌝ }
+    ensures { λ r. ⌜ Puts (rowLine (now (file .entry)) (drop (nodeWidth * i) (now (rows .entry)))) (now (out .entry)) at (now (out .exit)) r ⌝ }
 {
-    let cell = 20 * i;
+    let cell = NODE_WIDTH * i;
     let place = wire::size(rows[cell]);
     let size = wire::size(rows[cell + 1]);
     let name = b3d_names::name_or(file, b"unnamed", place, size);
@@ -51,7 +53,7 @@ fn put_name(file: &[u8], rows: &[u32], i: usize, out: &mut [u8], at: usize) -> u
 
 // The lines of the nodes, so many, whose rows stand in a table.
 pub fn put_names(file: &[u8], rows: &[u32], nodes: usize, out: &mut [u8], at: usize) -> usize
-    requires { ⌜ (20 * nodes ≤ length (now rows)) × (at ≤ length (now out)) ⌝ }
+    requires { ⌜ (nodeWidth * nodes ≤ length (now rows)) × (at ≤ length (now out)) ⌝ }
     ensures { λ r. ⌜ Puts (rowLines (now (file .entry)) (now (rows .entry)) nodes) (now (out .entry)) at (now (out .exit)) r ⌝ }
 {
     let mut next = at;

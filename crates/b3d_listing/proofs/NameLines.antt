@@ -17,7 +17,7 @@ use Rattle.b3d_scene.specs.declared.Mode.the-variants.{Strict}
 use Rattle.b3d_scene.specs.Rules.{boneVertices, bonesBelow, levels}
 use Rattle.b3d_scene.specs.Scene.{Data, Forest, leaf, node, Scene}
 use Rattle.b3d_scene.specs.Sizes.{nodesSize, sizeOf}
-use Rattle.b3d_scene.specs.Tables.{width, tables, nodeTables, nameCells, nodeRow, start, ownRows, withNode, withForest, forestRows, rows, words, table}
+use Rattle.b3d_scene.specs.Tables.{width, tables, nodeTables, nameCells, nodeRow, start, ownRows, withNode, withForest, forestRows, rows, words, table, nodeWidth, nodesIn}
 use Rattle.b3d_scene.specs.declared.Counts.{Counts}
 use Rattle.b3d_scene.proofs.Fitting.{Fit, FitNodes}
 use Rattle.b3d_scene.proofs.Laws.{fine, file-length, names-stand}
@@ -39,13 +39,13 @@ name-found s p (c ∷ b) h =
     rw (lt-ltb 0 (length (c ∷ b)) (omega arith), le-leb (p + length (c ∷ b)) (length s) (omega arith), e) (take-append-seam (c ∷ b) (0 ∷ h .after))
 
 -- the line of a node's row, with what follows the row
-row-first : (s : List ℕ) (d : Data) (p : ℕ) (n : Counts) (more : List ℕ) → NameIn s (d .name) → rowLine s (nodeRow d p n ++ more) ≡ textLine (nameOrWord (d .name .bytes))
+row-first : (s : List ℕ) (d : Data) (p below : ℕ) (n : Counts) (more : List ℕ) → NameIn s (d .name) → rowLine s (nodeRow d p below n ++ more) ≡ textLine (nameOrWord (d .name .bytes))
 unfolding rowLine nodeRow nameCells
-row-first s d p n more h = ap textLine (name-found s (d .name .place) (d .name .bytes) h)
+row-first s d p below n more h = ap textLine (name-found s (d .name .place) (d .name .bytes) h)
 
-lines-next : (s r more : List ℕ) (k : ℕ) → length r ≡ 20 → rowLines s (r ++ more) (suc k) ≡ rowLine s (r ++ more) ++ rowLines s more k
+lines-next : (s r more : List ℕ) (k : ℕ) → length r ≡ nodeWidth → rowLines s (r ++ more) (suc k) ≡ rowLine s (r ++ more) ++ rowLines s more k
 unfolding rowLines
-lines-next s r more k e = rw (drop-at r more 20 e)
+lines-next s r more k e = rw (drop-at r more nodeWidth e)
 
 -- the lines of the rows of nodes, before those of rows that follow
 forest-lines : (s : List ℕ) (l brushes : ℕ) (above : Option ℕ) (f : Forest) (p : ℕ) (n : Counts) (rest : List ℕ) (m : ℕ) → NodeNames s f → FitNodes l brushes above f
@@ -55,15 +55,15 @@ forest-lines s zero brushes above leaf p n rest m h k = let z : 0 + m ≡ m = om
 forest-lines s zero brushes above (node d f g) p n rest m h k = absurd k
 forest-lines s (suc l) brushes above leaf p n rest m h k = let z : 0 + m ≡ m = omega arith in rw z
 forest-lines s (suc l) brushes above (node d f g) p n rest m h k =
-    let r = nodeRow d p n in
+    let r = nodeRow d p (nodesIn f) n in
     let a = forestRows 3 f (n .nodes) (withNode d n) in
     let b = forestRows 3 g p (withForest f (withNode d n)) in
     let more = words a ++ (words b ++ rest) in
     let e : (r ++ words (a ++ b)) ++ rest ≡ r ++ more = rw words-append (simp append-assoc) in
     let c : suc (length (a ++ b)) + m ≡ suc (length a + (length b + m)) = omega (arith, length-append a b) in
     ap₂ (rowLines s) e c
-    ∙ lines-next s r more (length a + (length b + m)) (node-wide brushes (boneVertices above) d p n (k .0))
-    ∙ ap₂ _++_ (row-first s d p n more (h .0))
+    ∙ lines-next s r more (length a + (length b + m)) (node-wide brushes (boneVertices above) d p (nodesIn f) n (k .0))
+    ∙ ap₂ _++_ (row-first s d p (nodesIn f) n more (h .0))
     (forest-lines s l brushes (bonesBelow above d) f (n .nodes) (withNode d n) (words b ++ rest) (length b + m) (h .1) (k .1)
     ∙ ap (λ (w : List ℕ). nodeLines f ++ w) (forest-lines s (suc l) brushes above g p (withForest f (withNode d n)) rest m (h .2) (k .2)))
     ∙ simp append-assoc
@@ -90,7 +90,7 @@ module _ (s : List ℕ) (t : Scene) (h : AllBytes s) (e : parse Strict s ≡ got
   unfolding rows if
   nodes-count = omega (arith, nodes-bytes, forest-count (t .nodes) NONE start)
 
-  pub table-room : length s ≤ mostListed → length (table 3 t) ≤ 26740
+  pub table-room : length s ≤ mostListed → length (table 3 t) ≤ 28077
   unfolding tables nodeTables width if
   table-room k = omega (arith, table-length t fits .1 .1 .0, nodes-count)
 

@@ -21,10 +21,10 @@ fn put_heads(x: Summary, out: &mut [u8]) -> usize
 }
 
 // Room for the rows of 1337 nodes: a file of 65536 bytes has no more, for a NODE takes 49 bytes or more.
-fn table() -> [u32; 26740]
-    ensures { λ r. ⌜ 26740 ≡ length r ⌝ }
+fn table() -> [u32; 28077]
+    ensures { λ r. ⌜ 28077 ≡ length r ⌝ }
 {
-    [0; 26740]
+    [0; 28077]
 }
 
 // The lines of the nodes of an accepted file.

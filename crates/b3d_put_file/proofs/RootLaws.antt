@@ -15,7 +15,7 @@ use Rattle.b3d_scene.specs.declared.Counts.{Counts}
 use Rattle.b3d_scene.specs.Encode.{nodeChunks}
 use Rattle.b3d_scene.specs.Rebuild.{Rows, nodeNames}
 use Rattle.b3d_scene.specs.Scene.{Data, Forest, leaf, node}
-use Rattle.b3d_scene.specs.Tables.{start, reached, ownRows, forestRows, nodeTables}
+use Rattle.b3d_scene.specs.Tables.{start, reached, ownRows, forestRows, nodeTables, nodeWidth}
 use Rattle.b3d_scene.proofs.Rows.RowLists.{cut-length}
 use Rattle.b3d_sound.proofs.Below.{Here, here-scene, here-root}
 use Rattle.b3d_put_own.specs.Own.{tableRows}
@@ -42,7 +42,7 @@ module _ (ns : List ℕ) (a : Counts) (t₃ t₄ t₅ t₆ t₇ t₈ t₉ t₁�
 
   many-nodes : (f : Forest) → OfNodes ns R b f → length (forestRows 3 f NONE start) ≡ a .nodes
   unfolding nodeTables
-  many-nodes f h = ap length (sym (h .rows .0)) ∙ ap length (rows-3 a t₃ t₄ t₅ t₆ t₇ t₈ t₉ t₁₀ z) ∙ cut-length 20 (a .nodes) t₃
+  many-nodes f h = ap length (sym (h .rows .0)) ∙ ap length (rows-3 a t₃ t₄ t₅ t₆ t₇ t₈ t₉ t₁₀ z) ∙ cut-length nodeWidth (a .nodes) t₃
 
   -- without a node row there is no node
   no-root : a .nodes ≡ 0 → (f : Forest) → OfNodes ns R b f → nodesBytes f ≡ []

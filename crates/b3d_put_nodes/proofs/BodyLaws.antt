@@ -16,7 +16,7 @@ use Rattle.b3d_scene.specs.Encode.{writeNode}
 use Rattle.b3d_scene.specs.Rebuild.{Rows, dataFrom}
 use Rattle.b3d_scene.specs.Rules.{bonesBelow, boneVertices}
 use Rattle.b3d_scene.specs.Scene.{Data, Forest, leaf, node}
-use Rattle.b3d_scene.specs.Tables.{nameCells, nodeRow, withNode, withForest, forestRows}
+use Rattle.b3d_scene.specs.Tables.{nameCells, nodeRow, withNode, withForest, forestRows, nodeWidth, nodesIn}
 use Rattle.b3d_scene.specs.Tags.{code}
 use Rattle.b3d_scene.proofs.Rows.Nodes.{nodes-step}
 use Rattle.b3d_sound.specs.CellCounts.{cellCounts}
@@ -34,7 +34,7 @@ pub sum-fits : (o size : ℕ) → o < 4294967296 → size < 4294967296 → Fits 
 sum-fits o size h k = record { fits = omega arith }
 
 module _ (a : Counts) (t₃ t₄ t₅ t₆ t₇ t₈ t₉ t₁₀ : List ℕ) (z : Sized a t₃ t₄ t₅ t₆ t₇ t₈ t₉ t₁₀) where
-  pub room-nodes : 20 * a .nodes ≤ length t₃
+  pub room-nodes : nodeWidth * a .nodes ≤ length t₃
   room-nodes = omega (arith, z .nodes)
 
   pub room-meshes : 9 * a .meshes ≤ length t₄
@@ -53,10 +53,10 @@ module _ (ns : List ℕ) (a : Counts) (t₃ t₄ t₅ t₆ t₇ t₈ t₉ t₁�
   -- ---- a node that stands after n rows
 
   module _ (b : ℕ) (above : Option ℕ) (d : Data) (ch sib : Forest) (p : ℕ) (S : Rows) (f : First ns R l b above d ch sib p n S) where
-    row-is : getD (R 3) (n .nodes) [] ≡ nodeRow d p n
+    row-is : getD (R 3) (n .nodes) [] ≡ nodeRow d p (nodesIn ch) n
     row-is = sym (first-of (n .nodes) (R 3)) ∙ here-more R d ch sib p n S (f .here) .0
 
-    counts-are : withNode d n ≡ cellCounts R (nodeRow d p n) n
+    counts-are : withNode d n ≡ cellCounts R (nodeRow d p (nodesIn ch) n) n
     counts-are = here-counts R d ch sib p n S (f .here) ns b (boneVertices above) (first-fits ns R l b above d ch sib p n S f) (first-name ns R l b above d ch sib p n S f)
 
     after-below : Below (withNode d n) a
@@ -68,15 +68,15 @@ module _ (ns : List ℕ) (a : Counts) (t₃ t₄ t₅ t₆ t₇ t₈ t₉ t₁�
     one-node : n .nodes < a .nodes
     one-node = omega (arith, after-below .nodes, nodes-step d n)
 
-    cells-below : Below (cellCounts R (nodeRow d p n) n) a
+    cells-below : Below (cellCounts R (nodeRow d p (nodesIn ch) n) n) a
     cells-below = subst (λ (c : Counts). Below c a) counts-are after-below
 
-    name-fits : getD (nodeRow d p n) 0 0 + getD (nodeRow d p n) 1 0 ≤ length ns
+    name-fits : getD (nodeRow d p (nodesIn ch) n) 0 0 + getD (nodeRow d p (nodesIn ch) n) 1 0 ≤ length ns
     unfolding nodeRow nameCells
     name-fits = first-name ns R l b above d ch sib p n S f .0
 
     is-there : OwnThere ns t₃ t₄ t₅ t₆ t₇ t₈ t₉ t₁₀ n
-    is-there = own-there a t₃ t₄ t₅ t₆ t₇ t₈ t₉ t₁₀ z n (nodeRow d p n) one-node row-is before-below cells-below ns name-fits
+    is-there = own-there a t₃ t₄ t₅ t₆ t₇ t₈ t₉ t₁₀ z n (nodeRow d p (nodesIn ch) n) one-node row-is before-below cells-below ns name-fits
 
     own-is : ownBytes ns t₃ t₄ t₅ t₆ t₇ t₈ t₉ t₁₀ n ≡ writeNode d []
     unfolding ownBytes tableRows if
@@ -84,8 +84,8 @@ module _ (ns : List ℕ) (a : Counts) (t₃ t₄ t₅ t₆ t₇ t₈ t₉ t₁�
         ap (λ (x : List ℕ). writeNode (dataFrom ns R x n) []) row-is
         ∙ ap (λ (e : Data). writeNode e []) (here-data R d ch sib p n S (f .here) ns b (boneVertices above) (first-fits ns R l b above d ch sib p n S f) (first-name ns R l b above d ch sib p n S f))
 
-    counted : (m : Counts) → m ≡ cellCounts (partRows a t₄ [] t₆ [] [] t₉ []) (rowAt 20 (n .nodes) t₃) n → m ≡ withNode d n
-    counted m e = e ∙ counts-same a t₃ t₄ t₅ t₆ t₇ t₈ t₉ t₁₀ z n (nodeRow d p n) one-node row-is ∙ sym counts-are
+    counted : (m : Counts) → m ≡ cellCounts (partRows a t₄ [] t₆ [] [] t₉ []) (rowAt nodeWidth (n .nodes) t₃) n → m ≡ withNode d n
+    counted m e = e ∙ counts-same a t₃ t₄ t₅ t₆ t₇ t₈ t₉ t₁₀ z n (nodeRow d p (nodesIn ch) n) one-node row-is ∙ sym counts-are
 
     both : Both (bodyBytes d ch) (ownBytes ns t₃ t₄ t₅ t₆ t₇ t₈ t₉ t₁₀ n) (nodesBytes ch)
     both = record { is = body-both d ch ∙ ap (λ (w : List ℕ). w ++ nodesBytes ch) (sym own-is) }
@@ -118,17 +118,17 @@ module _ (ns : List ℕ) (a : Counts) (t₃ t₄ t₅ t₆ t₇ t₈ t₉ t₁�
     pub body-one : n .nodes < a .nodes
     body-one = one-node (w .brushes) (w .above) (w .own) (w .children) (w .siblings) (w .parent) (w .after) (w .stand)
 
-    pub body-after : Below (cellCounts (partRows a t₄ [] t₆ [] [] t₉ []) (rowAt 20 (n .nodes) t₃) n) a
+    pub body-after : Below (cellCounts (partRows a t₄ [] t₆ [] [] t₉ []) (rowAt nodeWidth (n .nodes) t₃) n) a
     body-after =
         subst (λ (c : Counts). Below c a)
-        (sym (counted (w .brushes) (w .above) (w .own) (w .children) (w .siblings) (w .parent) (w .after) (w .stand) (cellCounts (partRows a t₄ [] t₆ [] [] t₉ []) (rowAt 20 (n .nodes) t₃) n) refl))
+        (sym (counted (w .brushes) (w .above) (w .own) (w .children) (w .siblings) (w .parent) (w .after) (w .stand) (cellCounts (partRows a t₄ [] t₆ [] [] t₉ []) (rowAt nodeWidth (n .nodes) t₃) n) refl))
         (after-below (w .brushes) (w .above) (w .own) (w .children) (w .siblings) (w .parent) (w .after) (w .stand))
 
     module _ (ys : List ℕ) (o : ℕ) (po : Put (ownBytes ns t₃ t₄ t₅ t₆ t₇ t₈ t₉ t₁₀ n) out ys o) where
       pub body-inside : o ≤ length ys
       body-inside = both-inside (bodyBytes (w .own) (w .children)) out (w .room) (ownBytes ns t₃ t₄ t₅ t₆ t₇ t₈ t₉ t₁₀ n) ys o po (both-begins w-both)
 
-      module _ (m : Counts) (em : m ≡ cellCounts (partRows a t₄ [] t₆ [] [] t₉ []) (rowAt 20 (n .nodes) t₃) n) where
+      module _ (m : Counts) (em : m ≡ cellCounts (partRows a t₄ [] t₆ [] [] t₉ []) (rowAt nodeWidth (n .nodes) t₃) n) where
         pub body-below : Writable ns R (l - 1) (n .nodes) m (take (length ys - o) (drop o ys))
         body-below =
             let e = counted (w .brushes) (w .above) (w .own) (w .children) (w .siblings) (w .parent) (w .after) (w .stand) m em in

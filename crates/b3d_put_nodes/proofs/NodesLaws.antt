@@ -16,7 +16,7 @@ use Rattle.b3d_scene.specs.declared.Counts.{Counts}
 use Rattle.b3d_scene.specs.Encode.{nodeChunks}
 use Rattle.b3d_scene.specs.Rebuild.{Rows, cut}
 use Rattle.b3d_scene.specs.Scene.{Data, Forest, leaf, node}
-use Rattle.b3d_scene.specs.Tables.{reached, withNode, withForest, nodeTables}
+use Rattle.b3d_scene.specs.Tables.{reached, withNode, withForest, nodeTables, nodeWidth}
 use Rattle.b3d_scene.specs.Tags.{writeChunks}
 use Rattle.layout.specs.Write.{writeChunks as writeChunksOf}
 use Rattle.b3d_scene.proofs.Rows.Nodes.{nodes-step}
@@ -77,20 +77,20 @@ module _ (ns : List ℕ) (a : Counts) (t₃ t₄ t₅ t₆ t₇ t₈ t₉ t₁�
     pub nodes-inside : at ≤ length out
     nodes-inside = ours .pieces .inside
 
-    pub nodes-index : m .nodes < a .nodes → 20 * m .nodes + 2 < length t₃
+    pub nodes-index : m .nodes < a .nodes → nodeWidth * m .nodes + 2 < length t₃
     nodes-index h = omega (arith, z .nodes)
 
     -- the parent cell of the row at m
-    parent-cell : m .nodes < a .nodes → getD (getD (drop (m .nodes) (R 3)) 0 []) 2 0 ≡ getD t₃ (20 * m .nodes + 2) 0
+    parent-cell : m .nodes < a .nodes → getD (getD (drop (m .nodes) (R 3)) 0 []) 2 0 ≡ getD t₃ (nodeWidth * m .nodes + 2) 0
     parent-cell h =
         ap (λ (r : List ℕ). getD r 2 0) (first-of (m .nodes) (R 3) ∙ ap (λ (q : List (List ℕ)). getD q (m .nodes) []) (rows-3 a t₃ t₄ t₅ t₆ t₇ t₈ t₉ t₁₀ z))
-        ∙ cut-cell 20 (a .nodes) (m .nodes) 2 t₃ h (omega arith)
+        ∙ cut-cell nodeWidth (a .nodes) (m .nodes) 2 t₃ h (omega arith)
 
     table-length : length (R 3) ≡ a .nodes
-    table-length = ap length (rows-3 a t₃ t₄ t₅ t₆ t₇ t₈ t₉ t₁₀ z) ∙ cut-length 20 (a .nodes) t₃
+    table-length = ap length (rows-3 a t₃ t₄ t₅ t₆ t₇ t₈ t₉ t₁₀ z) ∙ cut-length nodeWidth (a .nodes) t₃
 
     -- no node is left where the table ends, or where the next row is under another node
-    ended : a .nodes ≤ m .nodes ⊎ ((m .nodes < a .nodes) × (getD t₃ (20 * m .nodes + 2) 0 ≢ p)) → (b : ℕ) (above : Option ℕ) (S : Rows) (t : Forest) → Stand ns R l b above t p m S → t ≡ leaf
+    ended : a .nodes ≤ m .nodes ⊎ ((m .nodes < a .nodes) × (getD t₃ (nodeWidth * m .nodes + 2) 0 ≢ p)) → (b : ℕ) (above : Option ℕ) (S : Rows) (t : Forest) → Stand ns R l b above t p m S → t ≡ leaf
     ended e b above S leaf s = refl
     ended e b above S (node d ch sib) s =
         let f = stand-first ns R l b above d ch sib p m S s in
@@ -100,7 +100,7 @@ module _ (ns : List ℕ) (a : Counts) (t₃ t₄ t₅ t₆ t₇ t₈ t₉ t₁�
           | inr h ↦ h .1 (sym (parent-cell (h .0)) ∙ here-more R d ch sib p m S (s .here) .1)
         ])
 
-    whole : a .nodes ≤ m .nodes ⊎ ((m .nodes < a .nodes) × (getD t₃ (20 * m .nodes + 2) 0 ≢ p)) → Writes ns R l p n out₀ out at m
+    whole : a .nodes ≤ m .nodes ⊎ ((m .nodes < a .nodes) × (getD t₃ (nodeWidth * m .nodes + 2) 0 ≢ p)) → Writes ns R l p n out₀ out at m
     unfolding withForest
     whole e = record {
       small = ours .pieces .below;
@@ -116,10 +116,10 @@ module _ (ns : List ℕ) (a : Counts) (t₃ t₄ t₅ t₆ t₇ t₈ t₉ t₁�
     pub nodes-end : a .nodes ≤ m .nodes → Writes ns R l p n out₀ out at m
     nodes-end h = whole (inl h)
 
-    pub nodes-other : m .nodes < a .nodes → (c : ℕ) → c ≡ getD t₃ (20 * m .nodes + 2) 0 → (c ≡ p → ⊥) → Writes ns R l p n out₀ out at m
+    pub nodes-other : m .nodes < a .nodes → (c : ℕ) → c ≡ getD t₃ (nodeWidth * m .nodes + 2) 0 → (c ≡ p → ⊥) → Writes ns R l p n out₀ out at m
     nodes-other h c e d = whole (inr (h, (λ q. d (e ∙ q))))
 
-    module _ (h : m .nodes < a .nodes) (c : ℕ) (ec : c ≡ getD t₃ (20 * m .nodes + 2) 0) (same : c ≡ p) where
+    module _ (h : m .nodes < a .nodes) (c : ℕ) (ec : c ≡ getD t₃ (nodeWidth * m .nodes + 2) 0) (same : c ≡ p) where
       -- the first of those left
       record Next (b : ℕ) (above : Option ℕ) (t : Forest) (S : Rows) : Type 0 where
         own : Data
@@ -193,13 +193,13 @@ pub ruleset nodes-laws = (nodes-start, nodes-long, nodes-inside, nodes-index, no
 
 module _ {ns : List ℕ} {a : Counts} {t₃ t₄ t₅ t₆ t₇ t₈ t₉ t₁₀ : List ℕ} (z : Sized a t₃ t₄ t₅ t₆ t₇ t₈ t₉ t₁₀) {l p : ℕ} {n : Counts} {out₀ out : List ℕ} {at : ℕ} {m : Counts}
     (v : NodesLeft ns (tableRows t₃ t₄ t₅ t₆ t₇ t₈ t₉ t₁₀) l p n out₀ out at m) where
-  pub at-other : m .nodes < a .nodes → {c : ℕ} → c ≡ getD t₃ (20 * m .nodes + 2) 0 → (c ≡ p → ⊥) → Writes ns (tableRows t₃ t₄ t₅ t₆ t₇ t₈ t₉ t₁₀) l p n out₀ out at m
+  pub at-other : m .nodes < a .nodes → {c : ℕ} → c ≡ getD t₃ (nodeWidth * m .nodes + 2) 0 → (c ≡ p → ⊥) → Writes ns (tableRows t₃ t₄ t₅ t₆ t₇ t₈ t₉ t₁₀) l p n out₀ out at m
   at-other h {c} e d = nodes-other ns a t₃ t₄ t₅ t₆ t₇ t₈ t₉ t₁₀ z l p n out₀ out at m v h c e d
 
   pub at-end : a .nodes ≤ m .nodes → Writes ns (tableRows t₃ t₄ t₅ t₆ t₇ t₈ t₉ t₁₀) l p n out₀ out at m
   at-end h = nodes-end ns a t₃ t₄ t₅ t₆ t₇ t₈ t₉ t₁₀ z l p n out₀ out at m v h
 
-  module _ (h : m .nodes < a .nodes) {c : ℕ} (e : c ≡ getD t₃ (20 * m .nodes + 2) 0) (d : c ≡ p) where
+  module _ (h : m .nodes < a .nodes) {c : ℕ} (e : c ≡ getD t₃ (nodeWidth * m .nodes + 2) 0) (d : c ≡ p) where
     pub at-first : WritableFirst nodeBytes ns (tableRows t₃ t₄ t₅ t₆ t₇ t₈ t₉ t₁₀) l m (take (length out - at) (drop at out))
     at-first = nodes-first ns a t₃ t₄ t₅ t₆ t₇ t₈ t₉ t₁₀ z l p n out₀ out at m v h c e d
 

@@ -13,7 +13,7 @@ use Rattle.b3d_scene.specs.declared.Counts.{Counts}
 use Rattle.b3d_scene.specs.Rebuild.{Rows, nodeNames}
 use Rattle.b3d_scene.specs.Rules.{bonesBelow, boneVertices}
 use Rattle.b3d_scene.specs.Scene.{Data, Forest, leaf, node}
-use Rattle.b3d_scene.specs.Tables.{reached, nodeRow, ownRows, withNode, withForest, forestRows, nodeTables}
+use Rattle.b3d_scene.specs.Tables.{reached, nodeRow, ownRows, withNode, withForest, forestRows, nodeTables, nodesIn}
 use Rattle.b3d_scene.proofs.Fitting.{FitData, FitNodes}
 use Rattle.b3d_scene.proofs.Rows.Nodes.{From, Step, steps, nodes-step}
 use Rattle.b3d_scene.proofs.Rows.RebuildLaws.{names-rest}
@@ -64,12 +64,12 @@ module _ (ns : List ℕ) (R : Rows) (l b : ℕ) (above : Option ℕ) (d : Data) 
   -- the counts after the first node, and after those below it
   module _ (h : Here R (node d ch sib) p n S) (t : There R n) where
     there-own : There R (withNode d n)
-    there-own = there-after R n (withNode d n) (λ k. ownRows k d p n) (afterOwn d ch sib p n S) t (here-own R d ch sib p n S h) (steps d p n)
+    there-own = there-after R n (withNode d n) (λ k. ownRows k d p (nodesIn ch) n) (afterOwn d ch sib p n S) t (here-own R d ch sib p n S h) (steps d p (nodesIn ch) n)
 
     there-below : There R (withForest ch (withNode d n))
     there-below =
         there-after R (withNode d n) (withForest ch (withNode d n)) (λ k. forestRows k ch (n .nodes) (withNode d n)) (λ k. forestRows k sib p (withForest ch (withNode d n)) ++ S k) there-own
-        (from-after R n d p (afterOwn d ch sib p n S) (here-own R d ch sib p n S h)) (rises ch (n .nodes) (withNode d n))
+        (from-after R n d p (nodesIn ch) (afterOwn d ch sib p n S) (here-own R d ch sib p n S h)) (rises ch (n .nodes) (withNode d n))
 
   pub stand-first : Stand ns R l b above (node d ch sib) p n S → First ns R l b above d ch sib p n S
   unfolding nodeNames

@@ -12,7 +12,7 @@ use Rattle.wire.specs.Test.{if}
 use Rattle.layout.proofs.Lists.{All}
 use Rattle.b3d_scene.specs.declared.Counts.{Counts}
 use Rattle.b3d_scene.specs.Rebuild.{Rows, cut, mine}
-use Rattle.b3d_scene.specs.Tables.{reached, nodeTables}
+use Rattle.b3d_scene.specs.Tables.{reached, nodeTables, nodeWidth}
 use Rattle.b3d_scene.proofs.Rows.RowLists.{cut-length}
 use Rattle.b3d_sound.specs.CellCounts.{endOf, meshCounts, weightCounts, kindCounts, nodeCounts, cellCounts}
 use Rattle.b3d_sound.proofs.Places.{cut-cell}
@@ -57,9 +57,9 @@ module _ (a : Counts) (t₃ t₄ t₅ t₆ t₇ t₈ t₉ t₁₀ : List ℕ) (z
   limited = record { nodes = z .few-nodes; meshes = z .few-meshes; vertices = z .few-vertices; sets = z .few-sets; triangles = z .few-triangles; weights = z .few-weights; lists = z .few-lists; keys = z .few-keys }
 
   -- the rows of each table
-  pub rows-3 : R 3 ≡ cut 20 (a .nodes) t₃
+  pub rows-3 : R 3 ≡ cut nodeWidth (a .nodes) t₃
   unfolding tableRows if
-  rows-3 = rows-are 20 (a .nodes) t₃ (omega arith) (z .nodes)
+  rows-3 = rows-are nodeWidth (a .nodes) t₃ (omega arith) (z .nodes)
 
   rows-4 : R 4 ≡ cut 9 (a .meshes) t₄
   unfolding tableRows if
@@ -80,7 +80,7 @@ module _ (a : Counts) (t₃ t₄ t₅ t₆ t₇ t₈ t₉ t₁₀ : List ℕ) (z
       let c : (w c : ℕ) (ws : List ℕ) → 0 < w → length ws ≡ w * c → length (cut w (length ws / w) ws) ≡ c = λ w c ws p e. cut-length w (length ws / w) ws ∙ quotient w c (length ws) p e in
       let r = h .1 .1 .1 .1 in
       record {
-        nodes = omega (arith, h .0, c 20 (a .nodes) t₃ (omega arith) (z .nodes));
+        nodes = omega (arith, h .0, c nodeWidth (a .nodes) t₃ (omega arith) (z .nodes));
         meshes = omega (arith, h .1 .0, c 9 (a .meshes) t₄ (omega arith) (z .meshes));
         vertices = omega (arith, h .1 .1 .0, c 42 (a .vertices) t₅ (omega arith) (z .vertices));
         sets = omega (arith, h .1 .1 .1 .0, c 4 (a .sets) t₆ (omega arith) (z .sets));
@@ -92,25 +92,25 @@ module _ (a : Counts) (t₃ t₄ t₅ t₆ t₇ t₈ t₉ t₁₀ : List ℕ) (z
 
   module _ (n : Counts) (x : List ℕ) (lt : n .nodes < a .nodes) (ex : getD (R 3) (n .nodes) [] ≡ x) where
     -- the row of the node after n rows
-    pub row-at : rowAt 20 (n .nodes) t₃ ≡ x
+    pub row-at : rowAt nodeWidth (n .nodes) t₃ ≡ x
     unfolding rowAt
-    row-at = sym (row-is 20 (a .nodes) (n .nodes) t₃ lt) ∙ ap (λ (l : List (List ℕ)). getD l (n .nodes) []) (sym rows-3) ∙ ex
+    row-at = sym (row-is nodeWidth (a .nodes) (n .nodes) t₃ lt) ∙ ap (λ (l : List (List ℕ)). getD l (n .nodes) []) (sym rows-3) ∙ ex
 
-    cell-at : (j : ℕ) → j < 20 → getD x j 0 ≡ getD t₃ (20 * n .nodes + j) 0
+    cell-at : (j : ℕ) → j < nodeWidth → getD x j 0 ≡ getD t₃ (nodeWidth * n .nodes + j) 0
     unfolding rowAt
-    cell-at j h = ap (λ (l : List ℕ). getD l j 0) (sym row-at) ∙ row-cell 20 (n .nodes) j t₃ h
+    cell-at j h = ap (λ (l : List ℕ). getD l j 0) (sym row-at) ∙ row-cell nodeWidth (n .nodes) j t₃ h
 
     -- the counts after it depend on the tables 3, 4, 6 and 9 alone
-    pub counts-same : cellCounts (partRows a t₄ [] t₆ [] [] t₉ []) (rowAt 20 (n .nodes) t₃) n ≡ cellCounts R x n
+    pub counts-same : cellCounts (partRows a t₄ [] t₆ [] [] t₉ []) (rowAt nodeWidth (n .nodes) t₃) n ≡ cellCounts R x n
     unfolding cellCounts kindCounts partRows if
     counts-same = rw (row-at, rows-4, rows-6, rows-9)
 
     -- where the counts after the node do not pass those of a, all that it names is there
     module _ (h : Below n a) (b : Below (cellCounts R x n) a) where
-      kind-cell : (j : ℕ) → j < 7 → getD (drop 13 x) j 0 ≡ getD t₃ (20 * n .nodes + (13 + j)) 0
+      kind-cell : (j : ℕ) → j < 7 → getD (drop 13 x) j 0 ≡ getD t₃ (nodeWidth * n .nodes + (13 + j)) 0
       kind-cell j l = getD-drop 13 x j 0 ∙ cell-at (13 + j) (omega arith)
 
-      module _ (e : getD t₃ (20 * n .nodes + 13) 0 ≡ 1) where
+      module _ (e : getD t₃ (nodeWidth * n .nodes + 13) 0 ≡ 1) where
         abbrev mesh : List ℕ
         mesh = getD (drop (n .meshes) (R 4)) 0 []
 
@@ -139,18 +139,18 @@ module _ (a : Counts) (t₃ t₄ t₅ t₆ t₇ t₈ t₉ t₁₀ : List ℕ) (z
           triangles = rw (quotient 3 (a .triangles) (length t₇) (omega arith) (z .triangles), ← mesh-cell 8 (omega arith)) (mesh-below .triangles);
         }
 
-      module _ (e : getD t₃ (20 * n .nodes + 13) 0 ≡ 2) where
+      module _ (e : getD t₃ (nodeWidth * n .nodes + 13) 0 ≡ 2) where
         after-bone : cellCounts R x n ≡ nodeCounts (n .lists + length (mine (n .nodes) (drop (n .lists) (R 9)))) (endOf (n .keys) (mine (n .nodes) (drop (n .lists) (R 9)))) (weightCounts (getD (drop 13 x) 2 0) n)
         unfolding cellCounts kindCounts if
         after-bone = rw (kind-cell 0 (omega arith) ∙ e)
 
-        bone-there : n .weights + getD t₃ (20 * n .nodes + 15) 0 ≤ length t₈ / 2
+        bone-there : n .weights + getD t₃ (nodeWidth * n .nodes + 15) 0 ≤ length t₈ / 2
         unfolding nodeCounts weightCounts
         bone-there =
             let q = subst (λ (c : Counts). Below c a) after-bone b in
             omega (arith, q .weights, kind-cell 2 (omega arith), quotient 2 (a .weights) (length t₈) (omega arith) (z .weights))
 
-      pub kind-there : KindThere t₄ t₅ t₆ t₇ t₈ n (getD t₃ (20 * n .nodes + 13) 0) (getD t₃ (20 * n .nodes + 15) 0)
+      pub kind-there : KindThere t₄ t₅ t₆ t₇ t₈ n (getD t₃ (nodeWidth * n .nodes + 13) 0) (getD t₃ (nodeWidth * n .nodes + 15) 0)
       kind-there = record { mesh = mesh-there; bone = bone-there }
 
       pub moves-there : MovesThere t₉ t₁₀ n
@@ -162,10 +162,10 @@ module _ (a : Counts) (t₃ t₄ t₅ t₆ t₇ t₈ t₉ t₁₀ : List ℕ) (z
 
       pub own-there : (ns : List ℕ) → getD x 0 0 + getD x 1 0 ≤ length ns → OwnThere ns t₃ t₄ t₅ t₆ t₇ t₈ t₉ t₁₀ n
       own-there ns l = record {
-        row = omega (arith, quotient 20 (a .nodes) (length t₃) (omega arith) (z .nodes));
+        row = omega (arith, quotient nodeWidth (a .nodes) (length t₃) (omega arith) (z .nodes));
         name = record {
           there =
-              let e : 20 * n .nodes + 0 ≡ 20 * n .nodes = omega arith in
+              let e : nodeWidth * n .nodes + 0 ≡ nodeWidth * n .nodes = omega arith in
               omega (arith, cell-at 0 (omega arith) ∙ ap (λ (i : ℕ). getD t₃ i 0) e, cell-at 1 (omega arith));
         };
         kind = kind-there;

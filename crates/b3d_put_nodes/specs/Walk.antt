@@ -11,7 +11,7 @@ use Rattle.b3d_scene.specs.Encode.{nodeChunks, writeNode}
 use Rattle.b3d_scene.specs.Rebuild.{Rows, nodeNames}
 use Rattle.b3d_scene.specs.Rules.{rowLimit}
 use Rattle.b3d_scene.specs.Scene.{Data, Forest, leaf, node}
-use Rattle.b3d_scene.specs.Tables.{reached, withNode, withForest, forestRows, nodeTables}
+use Rattle.b3d_scene.specs.Tables.{reached, withNode, withForest, forestRows, nodeTables, nodeWidth}
 use Rattle.b3d_scene.specs.Tags.{writeChunks}
 use Rattle.b3d_scene.specs.Fitting.{FitNodes, Stands}
 use Rattle.b3d_sound.specs.Below.{Here}
@@ -29,7 +29,7 @@ bodyBytes d ch = writeNode d (nodeChunks ch)
 
 -- tables of just the rows that a counts, no more than the limit
 pub record Sized (a : Counts) (t₃ t₄ t₅ t₆ t₇ t₈ t₉ t₁₀ : List ℕ) : Type 0 where
-  pub nodes : length t₃ ≡ 20 * a .nodes
+  pub nodes : length t₃ ≡ nodeWidth * a .nodes
   pub meshes : length t₄ ≡ 9 * a .meshes
   pub vertices : length t₅ ≡ 42 * a .vertices
   pub sets : length t₆ ≡ 4 * a .sets

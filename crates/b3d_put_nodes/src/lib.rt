@@ -3,6 +3,7 @@ ghost use mathlib.Core.Path.{_≡_};
 ghost use Rattle.b3d_put_own.specs.Own.{tableRows};
 ghost use Rattle.b3d_put_nodes.specs.Walk.{bodyBytes, nodeBytes, Sized, Writable, Writes, WritableFirst, WritesFirst};
 use b3d_scene::Counts;
+use b3d_scene::NODE_WIDTH;
 
 // Bytes written, and the counts after the nodes that were.
 pub struct Walked {
@@ -118,7 +119,7 @@ pub fn put_nodes(
     let mut at: usize = 0;
     let mut m = n;
     while m.nodes < all.nodes {
-        if b3d_put::number(t3, 20 * m.nodes + 2) != parent {
+        if b3d_put::number(t3, NODE_WIDTH * m.nodes + 2) != parent {
             return Walked {
                 size: at,
                 counts: m,

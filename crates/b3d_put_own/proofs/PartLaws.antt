@@ -17,9 +17,10 @@ use Rattle.b3d_scene.specs.Tags.{code}
 use Rattle.b3d_scene.specs.declared.Counts.{Counts}
 use Rattle.b3d_scene.specs.declared.Tag.{Tag}
 use Rattle.b3d_scene.specs.declared.Tag.the-variants.{KEYS}
+use Rattle.b3d_scene.specs.Tables.{nodeWidth}
 use Rattle.b3d_put.specs.Lent.{rowsIn}
 use Rattle.b3d_put_lists.specs.Named.{namedBytes}
-use Rattle.b3d_put.proofs.Cutting.{part-take, cell-take, row-end}
+use Rattle.b3d_put.proofs.Cutting.{part-take, cell-take}
 use Rattle.b3d_put_own.specs.Own.{tableRows, kindBytes, moveChunks, movesBytes, partsBytes, ownBytes}
 use Rattle.b3d_put_own.proofs.Cells.{rows-row}
 use Rattle.b3d_put_own.proofs.KindLaws.{kind-append}
@@ -46,38 +47,37 @@ node-split d below =
     before-append (writeText (d .name .bytes)) (writeWords (d .words)) (text-append (d .name .bytes)) (words-append (d .words))
     (writeChunks code (kindChunks (d .kind) (keyChunks (d .keys) (animChunks (d .anim) below))))
 
-module _ (ns ds ms vs ss ts ws ls ks : List ℕ) (n : Counts) (h : n .nodes < length ds / 20) where
+module _ (ns ds ms vs ss ts ws ls ks : List ℕ) (n : Counts) (h : n .nodes < length ds / nodeWidth) where
   -- the row of the node
   abbrev x : List ℕ
-  x = getD (rowsIn 20 ds) (n .nodes) []
+  x = getD (rowsIn nodeWidth ds) (n .nodes) []
 
   abbrev row : List ℕ
-  row = drop (20 * n .nodes) ds
+  row = drop (nodeWidth * n .nodes) ds
 
-  cell : (j : ℕ) → j < 20 → getD x j 0 ≡ getD ds (20 * n .nodes + j) 0
-  cell j k = rw (rows-row 20 ds (n .nodes) h) (cell-take 20 (20 * n .nodes) j ds k)
+  cell : (j : ℕ) → j < nodeWidth → getD x j 0 ≡ getD ds (nodeWidth * n .nodes + j) 0
+  cell j k = rw (rows-row nodeWidth ds (n .nodes) h) (cell-take nodeWidth (nodeWidth * n .nodes) j ds k)
 
-  front : writeText (nameFrom ns x .bytes) (writeWords (take 10 (drop 3 x)) []) ≡ namedBytes ns ds (20 * n .nodes) (20 * n .nodes + 3) 10
+  front : writeText (nameFrom ns x .bytes) (writeWords (take 10 (drop 3 x)) []) ≡ namedBytes ns ds (nodeWidth * n .nodes) (nodeWidth * n .nodes + 3) 10
   unfolding nameFrom namedBytes
   front =
-      let name : take (getD x 1 0) (drop (getD x 0 0) ns) ≡ take (getD ds (20 * n .nodes + 1) 0) (drop (getD ds (20 * n .nodes) 0) ns) =
-      rw (cell 0 (omega arith), cell 1 (omega arith), add-zero (20 * n .nodes)) in
-      let words : take 10 (drop 3 x) ≡ take 10 (drop (20 * n .nodes + 3) ds) =
-      rw (rows-row 20 ds (n .nodes) h, part-take 3 10 20 row (omega arith), drop-drop 3 (20 * n .nodes) ds) in
+      let name : take (getD x 1 0) (drop (getD x 0 0) ns) ≡ take (getD ds (nodeWidth * n .nodes + 1) 0) (drop (getD ds (nodeWidth * n .nodes) 0) ns) =
+      rw (cell 0 (omega arith), cell 1 (omega arith), add-zero (nodeWidth * n .nodes)) in
+      let words : take 10 (drop 3 x) ≡ take 10 (drop (nodeWidth * n .nodes + 3) ds) =
+      rw (rows-row nodeWidth ds (n .nodes) h, part-take 3 10 nodeWidth row (omega arith), drop-drop 3 (nodeWidth * n .nodes) ds) in
       ap₂ (λ (a b : List ℕ). writeText a (writeWords b [])) name words
 
-  last : drop 3 (drop 13 x) ≡ take 4 (drop (20 * n .nodes + 16) ds)
-  last =
-      rw (drop-drop 3 13 x, rows-row 20 ds (n .nodes) h, row-end 20 16 row (omega arith), drop-drop 16 (20 * n .nodes) ds)
+  last : take 4 (drop 3 (drop 13 x)) ≡ take 4 (drop (nodeWidth * n .nodes + 16) ds)
+  last = rw (drop-drop 3 13 x, rows-row nodeWidth ds (n .nodes) h, part-take 16 4 nodeWidth row (omega arith), drop-drop 16 (nodeWidth * n .nodes) ds)
 
-  pub own-both : Both (ownBytes ns ds ms vs ss ts ws ls ks n) (namedBytes ns ds (20 * n .nodes) (20 * n .nodes + 3) 10) (partsBytes ds (20 * n .nodes) ms vs ss ts ws ls ks n)
+  pub own-both : Both (ownBytes ns ds ms vs ss ts ws ls ks n) (namedBytes ns ds (nodeWidth * n .nodes) (nodeWidth * n .nodes + 3) 10) (partsBytes ds (nodeWidth * n .nodes) ms vs ss ts ws ls ks n)
   unfolding ownBytes dataFrom partsBytes kindFrom tableRows if
   own-both =
-      let k : getD (drop 13 x) 0 0 ≡ getD ds (20 * n .nodes + 13) 0 = getD-drop 13 x 0 0 ∙ cell 13 (omega arith) in
-      let c : getD (drop 13 x) 2 0 ≡ getD ds (20 * n .nodes + 15) 0 = getD-drop 13 x 2 0 ∙ cell 15 (omega arith) in
+      let k : getD (drop 13 x) 0 0 ≡ getD ds (nodeWidth * n .nodes + 13) 0 = getD-drop 13 x 0 0 ∙ cell 13 (omega arith) in
+      let c : getD (drop 13 x) 2 0 ≡ getD ds (nodeWidth * n .nodes + 15) 0 = getD-drop 13 x 2 0 ∙ cell 15 (omega arith) in
       record { is = node-split (dataFrom ns (tableRows ds ms vs ss ts ws ls ks) x n) [] ∙ rw (front, k, c, last) }
 
-  pub own-begin : Begins (ownBytes ns ds ms vs ss ts ws ls ks n) (namedBytes ns ds (20 * n .nodes) (20 * n .nodes + 3) 10)
+  pub own-begin : Begins (ownBytes ns ds ms vs ss ts ws ls ks n) (namedBytes ns ds (nodeWidth * n .nodes) (nodeWidth * n .nodes + 3) 10)
   own-begin = both-begins own-both
 
 pub ruleset own-laws = (own-both, own-begin)

@@ -9,6 +9,7 @@ use Rattle.b3d_scene.specs.Encode.{kindChunks, keyChunks, animChunks, writeNode
 use Rattle.b3d_scene.specs.Rebuild.{Rows, mine, keysFrom, animFrom, kindFrom, dataFrom}
 use Rattle.b3d_scene.specs.Tags.{Chunk, writeChunks}
 use Rattle.b3d_scene.specs.declared.Counts.{Counts}
+use Rattle.b3d_scene.specs.Tables.{nodeWidth}
 use Rattle.b3d_sound.specs.CellCounts.{endOf}
 use Rattle.b3d_put.specs.Lent.{rowsIn}
 use Rattle.b3d_put_lists.specs.Named.{NameThere}
@@ -17,7 +18,7 @@ use Rattle.b3d_put.specs.Chunks.{MeshThere}
 -- the rows of tables 3 to 10, each by its words
 unfoldable pub tableRows : List ℕ → List ℕ → List ℕ → List ℕ → List ℕ → List ℕ → List ℕ → List ℕ → Rows
 tableRows ds ms vs ss ts ws ls ks k =
-    if (eqb k 3) (rowsIn 20 ds)
+    if (eqb k 3) (rowsIn nodeWidth ds)
     (if (eqb k 4) (rowsIn 9 ms)
     (if (eqb k 5) (rowsIn 42 vs)
     (if (eqb k 6) (rowsIn 4 ss)
@@ -52,7 +53,7 @@ partsBytes ds i ms vs ss ts ws ls ks n =
 
 -- all that the body of the node after n rows holds before the nodes below it
 unfoldable pub ownBytes : List ℕ → List ℕ → List ℕ → List ℕ → List ℕ → List ℕ → List ℕ → List ℕ → List ℕ → Counts → List ℕ
-ownBytes ns ds ms vs ss ts ws ls ks n = writeNode (dataFrom ns (tableRows ds ms vs ss ts ws ls ks) (getD (rowsIn 20 ds) (n .nodes) []) n) []
+ownBytes ns ds ms vs ss ts ws ls ks n = writeNode (dataFrom ns (tableRows ds ms vs ss ts ws ls ks) (getD (rowsIn nodeWidth ds) (n .nodes) []) n) []
 
 -- ---- what must be there
 
@@ -68,9 +69,9 @@ pub record MovesThere (ls ks : List ℕ) (n : Counts) : Type 0 where
 
 -- the row of the node and all that it names
 pub record OwnThere (ns ds ms vs ss ts ws ls ks : List ℕ) (n : Counts) : Type 0 where
-  pub row : n .nodes < length ds / 20
-  pub name : NameThere ns ds (20 * n .nodes)
-  pub kind : KindThere ms vs ss ts ws n (getD ds (20 * n .nodes + 13) 0) (getD ds (20 * n .nodes + 15) 0)
+  pub row : n .nodes < length ds / nodeWidth
+  pub name : NameThere ns ds (nodeWidth * n .nodes)
+  pub kind : KindThere ms vs ss ts ws n (getD ds (nodeWidth * n .nodes + 13) 0) (getD ds (nodeWidth * n .nodes + 15) 0)
   pub moves : MovesThere ls ks n
 
 -- no count of n is past the rows of its table

@@ -4,6 +4,7 @@ ghost use Prim.Native.Nat.{_+_, _*_, _/_, _<_, _≤_};
 ghost use lib.ListN.{length, drop, getD};
 ghost use Rattle.emit.specs.Writing.{Room, Put};
 ghost use Rattle.b3d_scene.specs.Rebuild.{mine};
+ghost use Rattle.b3d_scene.specs.Tables.{nodeWidth};
 ghost use Rattle.b3d_put.specs.Lent.{rowsIn};
 ghost use Rattle.b3d_put_own.specs.Own.{kindBytes, animPart, movesBytes, partsBytes, ownBytes, KindThere, MovesThere, OwnThere};
 use b3d_put::number;
@@ -13,6 +14,7 @@ use b3d_put::put_values;
 use b3d_put::put_weights;
 use b3d_put_lists::named::put_named;
 use b3d_scene::Counts;
+use b3d_scene::NODE_WIDTH;
 
 // The chunk of the kind of the node whose row begins at word `row`: a MESH, a BONE, or none.
 fn put_kind(
@@ -26,7 +28,7 @@ fn put_kind(
     n: Counts,
     out: &mut [u8],
 ) -> usize
-    requires { ⌜ row + 20 ≤ length (now nodes) ⌝ }
+    requires { ⌜ row + nodeWidth ≤ length (now nodes) ⌝ }
     requires { ⌜ KindThere (now meshes) (now vertices) (now sets) (now triangles) (now weights) n (getD (now nodes) (row + 13) 0) (getD (now nodes) (row + 15) 0) ⌝ }
     requires { ⌜ Room (kindBytes (now meshes) (now vertices) (now sets) (now triangles) (now weights) n (getD (now nodes) (row + 13) 0) (getD (now nodes) (row + 15) 0)) (now out) ⌝ }
     ensures { λ r. ⌜ Put (kindBytes (now (meshes .entry)) (now (vertices .entry)) (now (sets .entry)) (now (triangles .entry)) (now (weights .entry)) n (getD (now (nodes .entry)) (row + 13) 0) (getD (now (nodes .entry)) (row + 15) 0)) (now (out .entry)) (now (out .exit)) r ⌝ }
@@ -87,7 +89,7 @@ fn put_moves(
     n: Counts,
     out: &mut [u8],
 ) -> usize
-    requires { ⌜ row + 20 ≤ length (now nodes) ⌝ }
+    requires { ⌜ row + nodeWidth ≤ length (now nodes) ⌝ }
     requires { ⌜ MovesThere (now lists) (now keys) n ⌝ }
     requires { ⌜ Room (movesBytes (now nodes) row (now lists) (now keys) n) (now out) ⌝ }
     ensures { λ r. ⌜ Put (movesBytes (now (nodes .entry)) row (now (lists .entry)) (now (keys .entry)) n) (now (out .entry)) (now (out .exit)) r ⌝ }
@@ -112,7 +114,7 @@ fn put_parts(
     n: Counts,
     out: &mut [u8],
 ) -> usize
-    requires { ⌜ row + 20 ≤ length (now nodes) ⌝ }
+    requires { ⌜ row + nodeWidth ≤ length (now nodes) ⌝ }
     requires { ⌜ KindThere (now meshes) (now vertices) (now sets) (now triangles) (now weights) n (getD (now nodes) (row + 13) 0) (getD (now nodes) (row + 15) 0) ⌝ }
     requires { ⌜ MovesThere (now lists) (now keys) n ⌝ }
     requires { ⌜ Room (partsBytes (now nodes) row (now meshes) (now vertices) (now sets) (now triangles) (now weights) (now lists) (now keys) n) (now out) ⌝ }
@@ -151,7 +153,7 @@ pub fn put_own(
     requires { ⌜ Room (ownBytes (now names) (now nodes) (now meshes) (now vertices) (now sets) (now triangles) (now weights) (now lists) (now keys) n) (now out) ⌝ }
     ensures { λ r. ⌜ Put (ownBytes (now (names .entry)) (now (nodes .entry)) (now (meshes .entry)) (now (vertices .entry)) (now (sets .entry)) (now (triangles .entry)) (now (weights .entry)) (now (lists .entry)) (now (keys .entry)) n) (now (out .entry)) (now (out .exit)) r ⌝ }
 {
-    let row = 20 * n.nodes;
+    let row = NODE_WIDTH * n.nodes;
     let a = put_named(names, nodes, row, row + 3, 10, out);
     let b = put_parts(
         nodes,

@@ -127,9 +127,9 @@ accepted bytes size version counts words copy = record {
   };
 }
 
--- of a node with this name place and length, kind, first and count
+-- of a node with this name place and length, kind, first and count, and no node below it
 abbrev nodeWords : ℕ → ℕ → List ℕ → List ℕ
-nodeWords place long kind = (place ∷ long ∷ NONE ∷ []) ++ zeros 10 ++ kind ++ zeros 4
+nodeWords place long kind = (place ∷ long ∷ NONE ∷ []) ++ zeros 10 ++ kind ++ zeros 5
 
 -- one pivot with a name of this length, at 20
 abbrev pivotTables : ℕ → List (List ℕ)

@@ -15,7 +15,7 @@ use Rattle.b3d_scene.specs.Tags.{code}
 use Rattle.b3d_scene.specs.Tables.{tables}
 use Rattle.b3d_scene.specs.Scene.{Scene}
 use Rattle.b3d_scene.specs.Fit.{fits}
-use Rattle.b3d_scene.specs.Rebuild.{Lent, cut, lentRows, roomy, nameFrom, textureFrom, brushFrom, walk, tree, together, same, sameRows, nodeNames, names, stands, sound, rebuild}
+use Rattle.b3d_scene.specs.Rebuild.{Lent, cut, lentRows, roomy, nameFrom, textureFrom, brushFrom, mine, keysFrom, animFrom, kindFrom, dataFrom, off, groups, walk, tree, together, same, sameRows, nodeNames, names, stands, sound, rebuild}
 use Rattle.b3d_scene.specs.Answers.{judge, readAnswer, readTable, shortest, write, clearOutput}
 use Rattle.b3d_scene.proofs.Computing.{computing}
 use Rattle.b3d_scene.proofs.Cases.{zeros}
@@ -73,19 +73,19 @@ full = file (textures (116 ∷ []) ++ brushes ++ aNode (114 ∷ []) (kind ++ ani
 pub full-copy : List ℕ
 full-copy = file (textures [] ++ brushes ++ aNode [] (kind ++ keys ++ anim ++ children))
 
-pub full-read : readAnswer Strict (λ k. 80) full ≡ record { number = 0; place = 0; version = 1; «n_texs» = 1; counts = 1 ∷ 1 ∷ 4 ∷ 2 ∷ 1 ∷ 2 ∷ 1 ∷ 1 ∷ 2 ∷ 1 ∷ [] }
+pub full-read : readAnswer Strict (λ k. 84) full ≡ record { number = 0; place = 0; version = 1; «n_texs» = 1; counts = 1 ∷ 1 ∷ 4 ∷ 2 ∷ 1 ∷ 2 ∷ 1 ∷ 1 ∷ 2 ∷ 1 ∷ [] }
 unfolding computing full
 full-read = refl
 
--- words of a node: name place and length, parent; ten zeros; then kind, first, count and ANIM
+-- words of a node: name place and length, parent; ten zeros; then kind, first, count, ANIM and how many nodes are below it
 abbrev nodeWords : List ℕ → List ℕ → List ℕ
 nodeWords name kind = name ++ zeros 10 ++ kind
 
-pub full-tables : map (λ k. readTable Strict k (λ j. 80) full []) tables
+pub full-tables : map (λ k. readTable Strict k (λ j. 84) full []) tables
     ≡ (20 ∷ 1 ∷ 1 ∷ 2 ∷ 3 ∷ 4 ∷ 5 ∷ 6 ∷ 7 ∷ [])
     ∷ (62 ∷ 0 ∷ 11 ∷ 12 ∷ 13 ∷ 14 ∷ 15 ∷ 16 ∷ 17 ∷ 0 ∷ replicate 7 NONE)
-    ∷ (nodeWords (103 ∷ 1 ∷ NONE ∷ []) (1 ∷ 0 ∷ 1 ∷ 1 ∷ 9 ∷ 10 ∷ 11 ∷ []) ++ nodeWords (293 ∷ 0 ∷ 0 ∷ []) (2 ∷ 0 ∷ 1 ∷ zeros 4)
-    ++ nodeWords (358 ∷ 0 ∷ 0 ∷ []) (2 ∷ 1 ∷ 0 ∷ zeros 4) ++ nodeWords (415 ∷ 0 ∷ 2 ∷ []) (1 ∷ 1 ∷ 1 ∷ zeros 4))
+    ∷ (nodeWords (103 ∷ 1 ∷ NONE ∷ []) (1 ∷ 0 ∷ 1 ∷ 1 ∷ 9 ∷ 10 ∷ 11 ∷ 3 ∷ []) ++ nodeWords (293 ∷ 0 ∷ 0 ∷ []) (2 ∷ 0 ∷ 1 ∷ zeros 5)
+    ++ nodeWords (358 ∷ 0 ∷ 0 ∷ []) (2 ∷ 1 ∷ 0 ∷ zeros 4 ++ (1 ∷ [])) ++ nodeWords (415 ∷ 0 ∷ 2 ∷ []) (1 ∷ 1 ∷ 1 ∷ zeros 5))
     ∷ (0 ∷ 0 ∷ 1 ∷ 1 ∷ 2 ∷ 0 ∷ 1 ∷ 0 ∷ 1 ∷ 3 ∷ NONE ∷ 0 ∷ 0 ∷ 0 ∷ 1 ∷ 0 ∷ 1 ∷ 1 ∷ [])
     ∷ ((1 ∷ 2 ∷ 3 ∷ 4 ∷ 5 ∷ 6 ∷ zeros 4) ++ (7 ∷ 8 ∷ zeros 30))
     ∷ (0 ∷ NONE ∷ 0 ∷ 1 ∷ 1 ∷ NONE ∷ 1 ∷ 0 ∷ [])
@@ -141,6 +141,31 @@ pub layers-written : map (λ slots. write Strict (lent slots) (zeros 61) 200) (
     ≡ got layers ∷ bad 12 0 ∷ bad 12 0 ∷ bad 12 0 ∷ []
 unfolding computing write shortest rebuild coloured passes cut lentRows roomy nameFrom textureFrom brushFrom walk tree together same sameRows nodeNames names stands sound fits layers
 layers-written = refl
+
+-- ---- how many nodes are below a node
+
+-- three nodes, each in the one before
+pub branch : List ℕ
+branch = file (aNode [] (aNode [] (aNode [] [])))
+
+pub branch-read : readTable Strict 3 (λ j. 84) branch []
+    ≡ nodeWords (20 ∷ 0 ∷ NONE ∷ []) (zeros 7 ++ (2 ∷ [])) ++ nodeWords (69 ∷ 0 ∷ 0 ∷ []) (zeros 7 ++ (1 ∷ [])) ++ nodeWords (118 ∷ 0 ∷ 1 ∷ []) (zeros 8)
+unfolding computing branch
+branch-read = refl
+
+-- the tables of such a file, with these words for how many are below
+abbrev below : ℕ → ℕ → ℕ → Lent
+below a b c = record {
+  version = 1;
+  slots = 0;
+  count = λ k. getD (0 ∷ 0 ∷ 0 ∷ 3 ∷ []) k 0;
+  words = λ k. getD ([] ∷ [] ∷ [] ∷ (nodeWords (20 ∷ 0 ∷ NONE ∷ []) (zeros 7 ++ (a ∷ [])) ++ nodeWords (69 ∷ 0 ∷ 0 ∷ []) (zeros 7 ++ (b ∷ [])) ++ nodeWords (118 ∷ 0 ∷ 1 ∷ []) (zeros 7 ++ (c ∷ []))) ∷ []) k [];
+}
+
+-- the writer: 12 where the children alone are counted, where the node itself is, or where it is any other number
+pub branch-written : map (λ T. write Strict T (zeros 118) 200) (below 2 1 0 ∷ below 1 1 0 ∷ below 3 2 1 ∷ below 2 0 0 ∷ below 2 1 1 ∷ []) ≡ got branch ∷ bad 12 0 ∷ bad 12 0 ∷ bad 12 0 ∷ bad 12 0 ∷ []
+unfolding computing write shortest rebuild coloured passes cut lentRows roomy nameFrom dataFrom kindFrom keysFrom animFrom mine off groups walk tree together same sameRows nodeNames names stands sound fits branch
+branch-written = refl
 
 -- ---- refusals
 

@@ -102,20 +102,21 @@ dataFrom ns R x n =
       words = take 10 (drop 3 x);
       kind = kindFrom R n (getD y 0 0) (getD y 2 0);
       keys = keysFrom (mine (n .nodes) (drop (n .lists) (R 9))) (drop (n .keys) (R 10));
-      anim = animFrom (drop 3 y);
+      anim = animFrom (take 4 (drop 3 y));
     }
 
--- ---- nodes in file order, each with its parent, and their tree
+-- ---- nodes in file order, each with its parent and how many are below it, and their tree
 
 pub record Placed : Type 0 where
   pub parent : ℕ
+  pub below : ℕ
   pub item : Data
 
 unfoldable pub walk : List ℕ → Rows → List (List ℕ) → Counts → List Placed
 walk ns R [] n = []
 walk ns R (x ∷ xs) n =
     let d = dataFrom ns R x n in
-    record { parent = getD x 2 0; item = d } ∷ walk ns R xs (withNode d n)
+    record { parent = getD x 2 0; below = getD x 20 0; item = d } ∷ walk ns R xs (withNode d n)
 
 -- the nodes of one parent
 pub record Group : Type 0 where

@@ -1,5 +1,5 @@
 -- The ten tables of a scene: `rows k t` the rows of table k, `table k t` their words one after the other.
-use Prim.Native.Nat.{ℕ, _+_, _-_}
+use Prim.Native.Nat.{ℕ, suc, _+_, _-_}
 use mathlib.Core.List.{List, [], _∷_, _++_, map}
 use lib.ListN.{length, replicate}
 use lib.Dec.{eqb}
@@ -10,12 +10,16 @@ use Rattle.b3d_scene.specs.declared.Counts.{Counts}
 use Rattle.b3d_scene.specs.Mask.{spread, vertexMask, keyMask}
 use Rattle.b3d_scene.specs.Scene.{Texture, Brush, TriangleSet, Mesh, Kind, pivot, mesh, bone, Keys, Anim, still, anim, Data, Forest, leaf, node, Scene}
 
+-- how many words a node's row has
+abbrev pub nodeWidth : ℕ
+nodeWidth = 21
+
 -- how many words a row of table k has
 unfoldable pub width : ℕ → ℕ
 width k =
     if (eqb k 1) 9
     (if (eqb k 2) 17
-    (if (eqb k 3) 20
+    (if (eqb k 3) nodeWidth
     (if (eqb k 4) 9
     (if (eqb k 5) 42
     (if (eqb k 6) 4
@@ -73,9 +77,9 @@ unfoldable pub animCells : Anim → List ℕ
 animCells still = 0 ∷ 0 ∷ 0 ∷ 0 ∷ []
 animCells (anim vs) = 1 ∷ vs
 
--- of a node under parent p, when n rows came before
-unfoldable pub nodeRow : Data → ℕ → Counts → List ℕ
-nodeRow d p n = nameCells (d .name) ++ (p ∷ (d .words ++ (kindCells (d .kind) n ++ animCells (d .anim))))
+-- of a node under parent p with so many nodes below it, when n rows came before
+unfoldable pub nodeRow : Data → ℕ → ℕ → Counts → List ℕ
+nodeRow d p below n = nameCells (d .name) ++ (p ∷ (d .words ++ (kindCells (d .kind) n ++ (animCells (d .anim) ++ (below ∷ [])))))
 
 unfoldable pub meshRow : Mesh → Counts → List ℕ
 meshRow m n = n .nodes ∷ m .brush ∷ m .flags ∷ m .sets ∷ m .size ∷ n .vertices ∷ length (m .vertices) ∷ n .sets ∷ length (m .triangleSets) ∷ []
@@ -105,6 +109,11 @@ keyRows (x ∷ xs) = map (spread (keyMask (x .flags))) (x .items) ++ keyRows xs
 
 -- ---- a node, then the nodes in it, then those after it
 
+-- how many nodes, at all depths
+unfoldable pub nodesIn : Forest → ℕ
+nodesIn leaf = 0
+nodesIn (node d ch sib) = suc (nodesIn ch + nodesIn sib)
+
 -- table k's rows of a mesh, when n rows came before its node
 unfoldable pub meshRows : ℕ → List Mesh → Counts → List (List ℕ)
 meshRows k [] n = []
@@ -114,10 +123,10 @@ meshRows k (m ∷ ms) n =
     (if (eqb k 6) (setRows (n .meshes) (n .triangles) (m .triangleSets))
     (if (eqb k 7) (triangleRows (m .triangleSets)) [])))
 
--- table k's rows of a node itself
-unfoldable pub ownRows : ℕ → Data → ℕ → Counts → List (List ℕ)
-ownRows k d p n =
-    if (eqb k 3) (nodeRow d p n ∷ [])
+-- table k's rows of a node itself, under parent p with so many nodes below it
+unfoldable pub ownRows : ℕ → Data → ℕ → ℕ → Counts → List (List ℕ)
+ownRows k d p below n =
+    if (eqb k 3) (nodeRow d p below n ∷ [])
     (if (eqb k 8) (weightsOf (d .kind))
     (if (eqb k 9) (listRows (n .nodes) (n .keys) (d .keys))
     (if (eqb k 10) (keyRows (d .keys)) (meshRows k (meshesOf (d .kind)) n))))
@@ -160,7 +169,7 @@ unfoldable pub forestRows : ℕ → Forest → ℕ → Counts → List (List ℕ
 forestRows k leaf p n = []
 forestRows k (node d ch sib) p n =
     let m = withNode d n in
-    ownRows k d p n ++ (forestRows k ch (n .nodes) m ++ forestRows k sib p (withForest ch m))
+    ownRows k d p (nodesIn ch) n ++ (forestRows k ch (n .nodes) m ++ forestRows k sib p (withForest ch m))
 
 -- ---- the tables
 

@@ -24,6 +24,9 @@ pub enum Mode {
     Lenient,
 }
 
+// How many words a node's row has.
+pub const NODE_WIDTH: usize = 21;
+
 // How many rows of tables 3 to 10 came before.
 pub struct Counts {
     pub nodes: usize,

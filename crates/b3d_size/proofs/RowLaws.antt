@@ -16,6 +16,7 @@ use Rattle.layout.proofs.Lists.{All}
 use Rattle.b3d_scene.specs.Rebuild.{cut}
 use Rattle.b3d_scene.proofs.Rows.RowLists.{cut-length}
 use Rattle.b3d_scene.specs.Rules.{vertexWords, keyWords, rowLimit}
+use Rattle.b3d_scene.specs.Tables.{nodeWidth}
 use Rattle.b3d_size.specs.LentSize.{rowMost, tableMost, sum, nodeBytes, meshBytes, listBytes, namedBytes, rowBytes, rowsBytes, Sizable, Wide, Adds, Sums}
 
 -- ---- a row
@@ -67,9 +68,9 @@ cell : (w at j : ℕ) (ws : List ℕ) → j < w → getD (take w (drop at ws)) j
 cell w at j ws h = getD-take w (drop at ws) j 0 h ∙ getD-drop at ws j 0
 
 module _ (at : ℕ) (ws : List ℕ) where
-  pub node-cells : (r : ℕ) → Adds (getD ws (at + 1) 0 + 49 + if (eqb (getD ws (at + 13) 0) 2) 8 0 + if (eqb (getD ws (at + 16) 0) 1) 20 0) r → Adds (nodeBytes (take 20 (drop at ws))) r
+  pub node-cells : (r : ℕ) → Adds (getD ws (at + 1) 0 + 49 + if (eqb (getD ws (at + 13) 0) 2) 8 0 + if (eqb (getD ws (at + 16) 0) 1) 20 0) r → Adds (nodeBytes (take nodeWidth (drop at ws))) r
   unfolding nodeBytes
-  node-cells r a = rw (cell 20 at 1 ws (omega arith), cell 20 at 13 ws (omega arith), cell 20 at 16 ws (omega arith)) a
+  node-cells r a = rw (cell nodeWidth at 1 ws (omega arith), cell nodeWidth at 13 ws (omega arith), cell nodeWidth at 16 ws (omega arith)) a
 
   pub mesh-cells : (r : ℕ) → Adds (32 + getD ws (at + 6) 0 * (4 * vertexWords (getD ws (at + 2) 0) (getD ws (at + 3) 0) (getD ws (at + 4) 0))) r → Adds (meshBytes (take 9 (drop at ws))) r
   unfolding meshBytes
@@ -96,7 +97,7 @@ pub ruleset cell-laws = (node-cells, mesh-cells, list-cells, size-flags, size-se
 
 module _ (at : ℕ) (ws : List ℕ) (k w more : ℕ) (v : Wide k w) where
   module _ (n : ℕ) (h : at + w ≤ n) where
-    pub inside-node : k ≡ 3 → at + 20 ≤ n
+    pub inside-node : k ≡ 3 → at + nodeWidth ≤ n
     inside-node e = omega (arith, v .nodes e)
 
     pub inside-mesh : k ≡ 4 → at + 9 ≤ n
@@ -112,7 +113,7 @@ module _ (at : ℕ) (ws : List ℕ) (k w more : ℕ) (v : Wide k w) where
     pub sizable-list : k ≡ 9 → Sizable 9 (take 4 (drop at ws))
     sizable-list e = rw (e, v .lists e) at s
 
-  pub row-node : k ≡ 3 → (r : ℕ) → Adds (nodeBytes (take 20 (drop at ws))) r → Adds (rowBytes k more (take w (drop at ws))) r
+  pub row-node : k ≡ 3 → (r : ℕ) → Adds (nodeBytes (take nodeWidth (drop at ws))) r → Adds (rowBytes k more (take w (drop at ws))) r
   unfolding rowBytes if
   row-node e r a = rw (e, v .nodes e) a
 

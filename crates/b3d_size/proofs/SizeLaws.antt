@@ -19,7 +19,7 @@ use Rattle.b3d_scene.specs.Rebuild.{Lent, cut, lentRows, rebuild}
 use Rattle.b3d_scene.specs.Rules.{vertexWords, keyWords, bonesBelow, boneVertices, levels}
 use Rattle.b3d_scene.specs.Scene.{Texture, Brush, TriangleSet, Kind, pivot, mesh, bone, Keys, Anim, still, anim, Data, Forest, leaf, node, Scene}
 use Rattle.b3d_scene.specs.Sizes.{textureSize, texsSize, brushSize, brusSize, setsSize, kindSize, keysSize, animSize, nodesSize, sizeOf}
-use Rattle.b3d_scene.specs.Tables.{start, nameCells, textureRow, brushRow, kindCells, animCells, nodeRow, meshRow, setRows, triangleRows, listRows, meshesOf, weightsOf, meshRows, ownRows, withNode, withForest, forestRows, rows, tables, nodeTables}
+use Rattle.b3d_scene.specs.Tables.{start, nameCells, textureRow, brushRow, kindCells, animCells, nodeRow, meshRow, setRows, triangleRows, listRows, meshesOf, weightsOf, meshRows, ownRows, withNode, withForest, forestRows, rows, tables, nodeTables, nodesIn}
 use Rattle.b3d_scene.proofs.Fitting.{FitKind, FitKeys, FitNodes, Fit}
 use Rattle.b3d_scene.proofs.Laws.{file-length}
 use Rattle.b3d_scene.proofs.Rows.RebuildLaws.{Holds, rebuild-fine, held-rows}
@@ -77,27 +77,27 @@ abbrev Parts : (ℕ → List (List ℕ)) → ℕ
 Parts R = sum nodeBytes (R 3) + sum meshBytes (R 4) + 12 * length (R 6) + 12 * length (R 7) + 8 * length (R 8) + sum listBytes (R 9)
 
 -- kind and ANIM stand behind a node's name, parent and ten words
-node-sum : (d : Data) (p : ℕ) (n : Counts) → length (d .words) ≡ 10
-    → nodeBytes (nodeRow d p n) ≡ length (d .name .bytes) + 49 + if (eqb (getD (kindCells (d .kind) n ++ animCells (d .anim)) 0 0) 2) 8 0 + if (eqb (getD (kindCells (d .kind) n ++ animCells (d .anim)) 3 0) 1) 20 0
+node-sum : (d : Data) (p below : ℕ) (n : Counts) → length (d .words) ≡ 10
+    → nodeBytes (nodeRow d p below n) ≡ length (d .name .bytes) + 49 + if (eqb (getD (kindCells (d .kind) n ++ (animCells (d .anim) ++ (below ∷ []))) 0 0) 2) 8 0 + if (eqb (getD (kindCells (d .kind) n ++ (animCells (d .anim) ++ (below ∷ []))) 3 0) 1) 20 0
 unfolding nodeBytes nodeRow nameCells
-node-sum d p n e =
-    let cells = kindCells (d .kind) n ++ animCells (d .anim) in
+node-sum d p below n e =
+    let cells = kindCells (d .kind) n ++ (animCells (d .anim) ++ (below ∷ [])) in
     let at : (i : ℕ) → getD (d .words ++ cells) (10 + i) 0 ≡ getD cells i 0 = λ i. rw (← e) (getD-append-add (d .words) cells i 0) in
     ap₂ (λ (a b : ℕ). length (d .name .bytes) + 49 + if (eqb a 2) 8 0 + if (eqb b 1) 20 0) (at 0) (at 3)
 
-kind-anim : (k : Kind) (a : Anim) (n : Counts) → if (eqb (getD (kindCells k n ++ animCells a) 0 0) 2) 8 0 + if (eqb (getD (kindCells k n ++ animCells a) 3 0) 1) 20 0
+kind-anim : (k : Kind) (a : Anim) (below : ℕ) (n : Counts) → if (eqb (getD (kindCells k n ++ (animCells a ++ (below ∷ []))) 0 0) 2) 8 0 + if (eqb (getD (kindCells k n ++ (animCells a ++ (below ∷ []))) 3 0) 1) 20 0
     + sum meshBytes (meshRows 4 (meshesOf k) n) + 12 * length (meshRows 6 (meshesOf k) n) + 12 * length (meshRows 7 (meshesOf k) n) + 8 * length (weightsOf k) ≡ kindSize k + animSize a
 unfolding if kindCells animCells sum meshRows meshesOf weightsOf meshBytes meshRow
-kind-anim pivot still n = refl
-kind-anim pivot (anim ws) n = refl
-kind-anim (mesh m) still n = omega (arith, sets-sum (m .triangleSets), sets-length (n .meshes) (n .triangles) (m .triangleSets))
-kind-anim (mesh m) (anim ws) n = omega (arith, sets-sum (m .triangleSets), sets-length (n .meshes) (n .triangles) (m .triangleSets))
-kind-anim (bone ws) still n = omega arith
-kind-anim (bone ws) (anim vs) n = omega arith
+kind-anim pivot still below n = refl
+kind-anim pivot (anim ws) below n = refl
+kind-anim (mesh m) still below n = omega (arith, sets-sum (m .triangleSets), sets-length (n .meshes) (n .triangles) (m .triangleSets))
+kind-anim (mesh m) (anim ws) below n = omega (arith, sets-sum (m .triangleSets), sets-length (n .meshes) (n .triangles) (m .triangleSets))
+kind-anim (bone ws) still below n = omega arith
+kind-anim (bone ws) (anim vs) below n = omega arith
 
-own-sum : (d : Data) (p : ℕ) (n : Counts) → length (d .words) ≡ 10 → 49 + length (d .name .bytes) + kindSize (d .kind) + keysSize (d .keys) + animSize (d .anim) ≡ Parts (λ k. ownRows k d p n)
+own-sum : (d : Data) (p below : ℕ) (n : Counts) → length (d .words) ≡ 10 → 49 + length (d .name .bytes) + kindSize (d .kind) + keysSize (d .keys) + animSize (d .anim) ≡ Parts (λ k. ownRows k d p below n)
 unfolding sum ownRows if
-own-sum d p n e = omega (arith, node-sum d p n e, kind-anim (d .kind) (d .anim) n, lists-sum (n .nodes) (n .keys) (d .keys))
+own-sum d p below n e = omega (arith, node-sum d p below n e, kind-anim (d .kind) (d .anim) below n, lists-sum (n .nodes) (n .keys) (d .keys))
 
 -- rows one run after the other
 parts-append : (a b : ℕ → List (List ℕ)) → Parts (λ k. a k ++ b k) ≡ Parts a + Parts b
@@ -113,10 +113,10 @@ nodes-sum (suc l) b above (node d ch sib) p n f =
     let q = withForest ch m in
     omega (
       arith,
-      own-sum d p n (any-words 10 (d .words) (f .0 .words)),
+      own-sum d p (nodesIn ch) n (any-words 10 (d .words) (f .0 .words)),
       nodes-sum l b (bonesBelow above d) ch (n .nodes) m (f .1),
       nodes-sum (suc l) b above sib p q (f .2),
-      parts-append (λ k. ownRows k d p n) (λ k. forestRows k ch (n .nodes) m ++ forestRows k sib p q),
+      parts-append (λ k. ownRows k d p (nodesIn ch) n) (λ k. forestRows k ch (n .nodes) m ++ forestRows k sib p q),
       parts-append (λ k. forestRows k ch (n .nodes) m) (λ k. forestRows k sib p q),
     )
 

@@ -14,6 +14,7 @@ use Rattle.layout.proofs.Lists.{All, all-pure}
 use Rattle.b3d_scene.specs.declared.Counts.{Counts}
 use Rattle.b3d_scene.specs.Rebuild.{cut}
 use Rattle.b3d_scene.specs.Rules.{rowLimit}
+use Rattle.b3d_scene.specs.Tables.{nodeWidth}
 use Rattle.b3d_size.specs.LentSize.{tableMost, partMost, around, rowsBytes, listsBytes, nodesBytes, fileBytes, Sizable, Wide, Sums, NodesSizable}
 
 -- ---- a chunk around rows
@@ -51,7 +52,7 @@ sizable-2 = any-sizable 2 (λ e. omega arith) (λ e. omega arith)
 pub sizable-3 : (rs : List (List ℕ)) → All (Sizable 3) rs
 sizable-3 = any-sizable 3 (λ e. omega arith) (λ e. omega arith)
 
-any-wide : (k w : ℕ) → (k ≡ 3 → w ≡ 20) → (k ≡ 4 → w ≡ 9) → (k ≡ 9 → w ≡ 4) → Wide k w
+any-wide : (k w : ℕ) → (k ≡ 3 → w ≡ nodeWidth) → (k ≡ 4 → w ≡ 9) → (k ≡ 9 → w ≡ 4) → Wide k w
 any-wide k w a b c = record { nodes = a; meshes = b; lists = c }
 
 pub wide-1 : Wide 1 9
@@ -60,8 +61,8 @@ wide-1 = any-wide 1 9 (λ e. absurd (omega arith)) (λ e. absurd (omega arith)) 
 pub wide-2 : Wide 2 17
 wide-2 = any-wide 2 17 (λ e. absurd (omega arith)) (λ e. absurd (omega arith)) (λ e. absurd (omega arith))
 
-pub wide-3 : Wide 3 20
-wide-3 = any-wide 3 20 (λ e. refl) (λ e. absurd (omega arith)) (λ e. absurd (omega arith))
+pub wide-3 : Wide 3 nodeWidth
+wide-3 = any-wide 3 nodeWidth (λ e. refl) (λ e. absurd (omega arith)) (λ e. absurd (omega arith))
 
 pub wide-4 : Wide 4 9
 wide-4 = any-wide 4 9 (λ e. absurd (omega arith)) (λ e. refl) (λ e. absurd (omega arith))
@@ -123,7 +124,7 @@ module _ (n : Counts) (t₃ t₄ t₉ : List ℕ) (h : NodesSizable n t₃ t₄ 
     sum-weights = record { fits = omega (arith, ea .low, eb .low, h .sets, h .triangles, h .weights) }
 
 pub file-sum : (slots c₁ c₂ : ℕ) (n : Counts) (t₁ t₂ t₃ t₄ t₉ : List ℕ) (a b : ℕ)
-    → Sums partMost (listsBytes slots c₁ c₂ (cut 9 c₁ t₁) (cut 17 c₂ t₂)) a → Sums partMost (nodesBytes (cut 20 (n .nodes) t₃) (cut 9 (n .meshes) t₄) (cut 4 (n .lists) t₉)) b
+    → Sums partMost (listsBytes slots c₁ c₂ (cut 9 c₁ t₁) (cut 17 c₂ t₂)) a → Sums partMost (nodesBytes (cut nodeWidth (n .nodes) t₃) (cut 9 (n .meshes) t₄) (cut 4 (n .lists) t₉)) b
     → 12 + a + b + 12 * n .sets + 12 * n .triangles + 8 * n .weights ≡ fileBytes slots c₁ c₂ n t₁ t₂ t₃ t₄ t₉
 unfolding fileBytes
 file-sum slots c₁ c₂ n t₁ t₂ t₃ t₄ t₉ a b x y = rw (x .is, y .is)

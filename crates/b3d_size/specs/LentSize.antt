@@ -9,6 +9,7 @@ use Rattle.layout.specs.Lists.{All}
 use Rattle.b3d_scene.specs.declared.Counts.{Counts}
 use Rattle.b3d_scene.specs.Rebuild.{Lent, cut, lentRows}
 use Rattle.b3d_scene.specs.Rules.{vertexWords, keyWords, rowLimit}
+use Rattle.b3d_scene.specs.Tables.{nodeWidth}
 
 -- what f says of each row, added up
 unfoldable pub sum : (List ℕ → ℕ) → List (List ℕ) → ℕ
@@ -82,7 +83,7 @@ pub record Adds (w r : ℕ) : Type 0 where
 
 -- how wide the rows of tables 3, 4 and 9 are
 pub record Wide (k w : ℕ) : Type 0 where
-  pub nodes : k ≡ 3 → w ≡ 20
+  pub nodes : k ≡ 3 → w ≡ nodeWidth
   pub meshes : k ≡ 4 → w ≡ 9
   pub lists : k ≡ 9 → w ≡ 4
 
@@ -99,7 +100,7 @@ pub record NodesSizable (n : Counts) (t₃ t₄ t₉ : List ℕ) : Type 0 where
   pub triangles : n .triangles ≤ rowLimit
   pub weights : n .weights ≤ rowLimit
   pub lists : n .lists ≤ rowLimit
-  pub room₃ : 20 * n .nodes ≤ length t₃
+  pub room₃ : nodeWidth * n .nodes ≤ length t₃
   pub room₄ : 9 * n .meshes ≤ length t₄
   pub room₉ : 4 * n .lists ≤ length t₉
   pub sizable₄ : All (Sizable 4) (cut 9 (n .meshes) t₄)
@@ -108,5 +109,5 @@ pub record NodesSizable (n : Counts) (t₃ t₄ t₉ : List ℕ) : Type 0 where
 -- the size of a file, by its counts and tables
 unfoldable pub fileBytes : ℕ → ℕ → ℕ → Counts → List ℕ → List ℕ → List ℕ → List ℕ → List ℕ → ℕ
 fileBytes slots c₁ c₂ n t₁ t₂ t₃ t₄ t₉ =
-    12 + listsBytes slots c₁ c₂ (cut 9 c₁ t₁) (cut 17 c₂ t₂) + nodesBytes (cut 20 (n .nodes) t₃) (cut 9 (n .meshes) t₄) (cut 4 (n .lists) t₉)
+    12 + listsBytes slots c₁ c₂ (cut 9 c₁ t₁) (cut 17 c₂ t₂) + nodesBytes (cut nodeWidth (n .nodes) t₃) (cut 9 (n .meshes) t₄) (cut 4 (n .lists) t₉)
     + 12 * n .sets + 12 * n .triangles + 8 * n .weights

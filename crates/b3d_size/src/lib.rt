@@ -7,8 +7,10 @@ ghost use Rattle.wire.specs.Test.{if};
 ghost use Rattle.layout.specs.Lists.{All};
 ghost use Rattle.b3d_scene.specs.Rebuild.{cut};
 ghost use Rattle.b3d_scene.specs.Rules.{rowLimit, vertexWords, keyWords};
+ghost use Rattle.b3d_scene.specs.Tables.{nodeWidth};
 ghost use Rattle.b3d_size.specs.LentSize.{tableMost, partMost, around, listsBytes, nodesBytes, fileBytes, NodesSizable, Sums, nodeBytes, meshBytes, listBytes, rowBytes, rowsBytes, Sizable, Wide, Adds};
 use b3d_scene::Counts;
+use b3d_scene::NODE_WIDTH;
 
 // So many bytes, if a cell has this value.
 fn bytes_if(cell: u32, value: u32, bytes: usize) -> usize
@@ -55,8 +57,8 @@ fn name_bytes(name: u32, more: usize) -> usize
 
 // The row of a node from word `at` on.
 fn node_row(table: &[u32], at: usize) -> usize
-    requires { ⌜ at + 20 ≤ length (now table) ⌝ }
-    ensures { λ r. ⌜ Adds (nodeBytes (take 20 (drop at (now (table .entry))))) r ⌝ }
+    requires { ⌜ at + nodeWidth ≤ length (now table) ⌝ }
+    ensures { λ r. ⌜ Adds (nodeBytes (take nodeWidth (drop at (now (table .entry))))) r ⌝ }
 {
     node_bytes(table[at + 1], table[at + 13], table[at + 16])
 }
@@ -133,9 +135,9 @@ fn lists_bytes(slots: u32, textures: usize, brushes: usize, t1: &[u32], t2: &[u3
 // NODE, MESH and KEYS without what their other rows add.
 fn nodes_bytes(all: Counts, t3: &[u32], t4: &[u32], t9: &[u32]) -> usize
     requires { ⌜ NodesSizable all (now t3) (now t4) (now t9) ⌝ }
-    ensures { λ r. ⌜ Sums partMost (nodesBytes (cut 20 (all .nodes) (now (t3 .entry))) (cut 9 (all .meshes) (now (t4 .entry))) (cut 4 (all .lists) (now (t9 .entry)))) r ⌝ }
+    ensures { λ r. ⌜ Sums partMost (nodesBytes (cut nodeWidth (all .nodes) (now (t3 .entry))) (cut 9 (all .meshes) (now (t4 .entry))) (cut 4 (all .lists) (now (t9 .entry)))) r ⌝ }
 {
-    let nodes = rows_bytes(t3, 3, 20, all.nodes, 0);
+    let nodes = rows_bytes(t3, 3, NODE_WIDTH, all.nodes, 0);
     let meshes = rows_bytes(t4, 4, 9, all.meshes, 0);
     let lists = rows_bytes(t9, 9, 4, all.lists, 0);
     nodes + meshes + lists

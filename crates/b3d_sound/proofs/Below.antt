@@ -11,12 +11,12 @@ use Rattle.layout.specs.Rules.{NONE}
 use Rattle.layout.proofs.Lists.{All, all-map, all-zip}
 use Rattle.b3d_scene.specs.Rebuild.{Rows, mine, dataFrom}
 use Rattle.b3d_scene.specs.Scene.{Keys, Data, Forest, leaf, node}
-use Rattle.b3d_scene.specs.Tables.{start, reached, nameCells, nodeRow, listRows, ownRows, withNode, withForest, forestRows, nodeTables}
+use Rattle.b3d_scene.specs.Tables.{start, reached, nameCells, nodeRow, listRows, ownRows, withNode, withForest, forestRows, nodeTables, nodesIn}
 use Rattle.b3d_scene.specs.declared.Counts.{Counts}
 use Rattle.b3d_scene.proofs.Fitting.{FitData}
 use Rattle.b3d_scene.proofs.Rows.CountLaws.{Rise, rises}
 use Rattle.b3d_scene.proofs.Rows.Nodes.{nodes-step, From, data-back}
-use Rattle.b3d_scene.proofs.Rows.RowParts.{Stands, Others, mine-back}
+use Rattle.b3d_scene.proofs.Rows.RowParts.{Stands, Others, mine-back, below-cell}
 use Rattle.b3d_scene.proofs.Rows.Trees.{nodes-rise, from-after}
 pub use Rattle.b3d_sound.specs.Below.{Above, Later, Here}
 use Rattle.b3d_sound.specs.CellCounts.{cellCounts}
@@ -73,17 +73,17 @@ rises-by k R n q a l s e = rw (s, ← drop-drop (length a) (reached k n) (R k), 
 
 module _ (R : Rows) (d : Data) (ch sib : Forest) (p : ℕ) (n : Counts) (S : Rows) (h : Here R (node d ch sib) p n S) where
   -- its own rows
-  pub here-own : All (From R n (λ k. ownRows k d p n ++ afterOwn d ch sib p n S k)) nodeTables
+  pub here-own : All (From R n (λ k. ownRows k d p (nodesIn ch) n ++ afterOwn d ch sib p n S k)) nodeTables
   unfolding forestRows
   here-own =
       let m = withNode d n in
       let q = withForest ch m in
       all-map (From R n (λ k. forestRows k (node d ch sib) p n ++ S k)) _
-      (λ k e. e ∙ append-assoc (ownRows k d p n) (forestRows k ch (n .nodes) m ++ forestRows k sib p q) (S k)
-      ∙ ap (λ (l : List (List ℕ)). ownRows k d p n ++ l) (append-assoc (forestRows k ch (n .nodes) m) (forestRows k sib p q) (S k))) nodeTables (h .begins)
+      (λ k e. e ∙ append-assoc (ownRows k d p (nodesIn ch) n) (forestRows k ch (n .nodes) m ++ forestRows k sib p q) (S k)
+      ∙ ap (λ (l : List (List ℕ)). ownRows k d p (nodesIn ch) n ++ l) (append-assoc (forestRows k ch (n .nodes) m) (forestRows k sib p q) (S k))) nodeTables (h .begins)
 
   -- the next node row is its own
-  pub here-more : (getD (drop (n .nodes) (R 3)) 0 [] ≡ nodeRow d p n) × (getD (getD (drop (n .nodes) (R 3)) 0 []) 2 0 ≡ p)
+  pub here-more : (getD (drop (n .nodes) (R 3)) 0 [] ≡ nodeRow d p (nodesIn ch) n) × (getD (getD (drop (n .nodes) (R 3)) 0 []) 2 0 ≡ p)
   unfolding forestRows nodeTables reached if ownRows nodeRow nameCells
   here-more =
       let e = ap (λ (l : List (List ℕ)). getD l 0 []) (h .begins .0) in
@@ -99,7 +99,7 @@ module _ (R : Rows) (d : Data) (ch sib : Forest) (p : ℕ) (n : Counts) (S : Row
   pub here-children : p < n .nodes → Here R ch (n .nodes) (withNode d n) (λ k. forestRows k sib p (withForest ch (withNode d n)) ++ S k)
   here-children le =
       record {
-        begins = from-after R n d p (afterOwn d ch sib p n S) here-own;
+        begins = from-after R n d p (nodesIn ch) (afterOwn d ch sib p n S) here-own;
         above = above-sib p (n .nodes) sib (withForest ch (withNode d n)) S (inl le) (above-up p (n .nodes) (S 3) (omega arith) (h .above));
         later = later-sib;
       }
@@ -113,7 +113,7 @@ module _ (R : Rows) (d : Data) (ch sib : Forest) (p : ℕ) (n : Counts) (S : Row
       record {
         begins =
             all-zip (From R m (afterOwn d ch sib p n S)) (Rise ch (n .nodes) m) (From R q (λ k. forestRows k sib p q ++ S k))
-            (λ k e s. rises-by k R m q (forestRows k ch (n .nodes) m) (forestRows k sib p q ++ S k) s e) nodeTables (from-after R n d p (afterOwn d ch sib p n S) here-own) (rises ch (n .nodes) m);
+            (λ k e s. rises-by k R m q (forestRows k ch (n .nodes) m) (forestRows k sib p q ++ S k) s e) nodeTables (from-after R n d p (nodesIn ch) (afterOwn d ch sib p n S) here-own) (rises ch (n .nodes) m);
         above = h .above;
         later = h .later;
       }
@@ -136,19 +136,20 @@ module _ (R : Rows) (d : Data) (ch sib : Forest) (p : ℕ) (n : Counts) (S : Row
   -- it is what its row says, with what is its own in the other tables
   module _ (ns : List ℕ) (b c : ℕ) (f : FitData b c d) (st : Stands ns (d .name)) where
     abbrev own-row : List ℕ
-    own-row = nodeRow d p n
+    own-row = nodeRow d p (nodesIn ch) n
 
-    pub here-data : dataFrom ns R (nodeRow d p n) n ≡ d
-    here-data = data-back ns b c R (afterOwn d ch sib p n S) n d p f st here-own here-others
+    pub here-data : dataFrom ns R (nodeRow d p (nodesIn ch) n) n ≡ d
+    here-data = data-back ns b c R (afterOwn d ch sib p n S) n d p (nodesIn ch) f st here-own here-others
 
-    pub here-is : NodeIs ns b c R (nodeRow d p n) n (dataFrom ns R (nodeRow d p n) n)
+    pub here-is : NodeIs ns b c R (nodeRow d p (nodesIn ch) n) n (dataFrom ns R (nodeRow d p (nodesIn ch) n) n)
     unfolding nodeTables reached ownRows nodeRow nameCells if
     here-is =
         let S′ = afterOwn d ch sib p n S in
-        subst (NodeIs ns b c R own-row n) (sym here-data) (next-from ns b c R own-row (S′ 3) n d (here-own .0) S′ ((f, st), here-own) .0)
+        let own = subst (λ (j : ℕ). All (From R n (λ k. ownRows k d p j n ++ S′ k)) nodeTables) (sym (below-cell b c d p (nodesIn ch) n f)) here-own in
+        subst (NodeIs ns b c R own-row n) (sym here-data) (next-from ns b c R own-row (S′ 3) n d (here-own .0) S′ ((f, st), own) .0)
 
     -- the counts after it come from its cells
-    pub here-counts : withNode d n ≡ cellCounts R (nodeRow d p n) n
+    pub here-counts : withNode d n ≡ cellCounts R (nodeRow d p (nodesIn ch) n) n
     here-counts = ap (λ (y : Data). withNode y n) (sym here-data) ∙ cell-counts ns b c R own-row n here-is
 
 -- ---- at the root, and at the end
@@ -167,7 +168,7 @@ pub here-root : (R : Rows) (d : Data) (ch : Forest) → Here R (node d ch leaf) 
 unfolding forestRows start
 here-root R d ch h =
     record {
-      begins = from-after R start d NONE (λ k. forestRows k ch 0 (withNode d start) ++ []) (here-own R d ch leaf NONE start (λ k. []) h);
+      begins = from-after R start d NONE (nodesIn ch) (λ k. forestRows k ch 0 (withNode d start) ++ []) (here-own R d ch leaf NONE start (λ k. []) h);
       above = tt;
       later = tt;
     }

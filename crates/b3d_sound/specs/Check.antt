@@ -107,7 +107,7 @@ nodeHere ns brushes bones R x n =
     let y = drop 13 x in
     nameHere ns x
     && (kindHere brushes bones R n y
-    && (runsHere listHere (n .keys) (mine (n .nodes) (drop (n .lists) (R 9))) (drop (n .keys) (R 10)) && animHere (drop 3 y)))
+    && (runsHere listHere (n .keys) (mine (n .nodes) (drop (n .lists) (R 9))) (drop (n .keys) (R 10)) && animHere (take 4 (drop 3 y))))
 
 -- no row is left over
 unfoldable pub spent : Rows → Counts → Bool
@@ -115,36 +115,46 @@ spent R n = all (λ (k : ℕ). leb (length (R k)) (reached k n)) partTables
 
 -- ---- all nodes
 
--- a node on the way up to the root, and how many vertices a weight below it may name
+-- a node on the way up to the root, the row behind those below it, and how many vertices a weight below it may name
 pub record Level : Type 0 where
   pub node : ℕ
+  pub end : ℕ
   pub bones : ℕ
 
--- the path from node p on
-unfoldable pub upTo : ℕ → List Level → List Level
-upTo p [] = []
-upTo p (q ∷ qs) = if (eqb p (q .node)) (q ∷ qs) (upTo p qs)
+-- the path from node p on, at row i: the nodes that it leaves end there
+unfoldable pub upTo : ℕ → ℕ → List Level → List Level
+upTo i p [] = []
+upTo i p (q ∷ qs) = if (eqb p (q .node)) (q ∷ qs) (if (eqb (q .end) i) (upTo i p qs) [])
+
+-- every node of a path ends at row i
+unfoldable pub endHere : ℕ → List Level → Bool
+endHere i path = all (λ (q : Level). eqb (q .end) i) path
+
+-- the row behind node i and the nodes that its row x says are below it
+abbrev pub endFrom : ℕ → List ℕ → ℕ
+endFrom i x = i + 1 + getD x 20 0
 
 -- what the first of a path says of bones
 unfoldable pub toldBy : List Level → ℕ
 toldBy [] = 0
 toldBy (q ∷ qs) = q .bones
 
--- node rows, each with what is its own; its parent is the node before or one above that, which the path has: that node and those above it
+-- node rows, each with what is its own; its parent is the node before or one above that, which the path has: that node and those above it.
+-- Where a node is left, or no row follows, as many rows came after it as it says
 unfoldable pub nodesHere : List ℕ → ℕ → Rows → List Level → List (List ℕ) → Counts → Bool
-nodesHere ns brushes R path [] n = spent R n
+nodesHere ns brushes R path [] n = endHere (n .nodes) path && spent R n
 nodesHere ns brushes R path (x ∷ xs) n =
-    let q = upTo (getD x 2 0) path in
+    let q = upTo (n .nodes) (getD x 2 0) path in
     ltb 0 (length q)
     && (ltb (length q) levels
-    && (nodeHere ns brushes (toldBy q) R x n && nodesHere ns brushes R (record { node = n .nodes; bones = cellBones (toldBy q) R x n } ∷ q) xs (cellCounts R x n)))
+    && (nodeHere ns brushes (toldBy q) R x n && nodesHere ns brushes R (record { node = n .nodes; end = endFrom (n .nodes) x; bones = cellBones (toldBy q) R x n } ∷ q) xs (cellCounts R x n)))
 
 -- the root first: it says its own vertices to those below
 unfoldable pub treeHere : List ℕ → ℕ → Rows → List (List ℕ) → Bool
 treeHere ns brushes R [] = spent R start
 treeHere ns brushes R (x ∷ xs) =
     eqb (getD x 2 0) NONE
-    && (nodeHere ns brushes (boneVertices none) R x start && nodesHere ns brushes R (record { node = 0; bones = (cellCounts R x start) .vertices } ∷ []) xs (cellCounts R x start))
+    && (nodeHere ns brushes (boneVertices none) R x start && nodesHere ns brushes R (record { node = 0; end = endFrom 0 x; bones = (cellCounts R x start) .vertices } ∷ []) xs (cellCounts R x start))
 
 -- ---- the verdict
 

@@ -26,7 +26,7 @@ use Rattle.b3d_chunks.specs.declared.Named.the-variants as named
 use Rattle.b3d_chunks.proofs.Names.{named-cut, named-any, named-among, row-inside, row-room}
 use Rattle.b3d_chunks.proofs.Nexts.{chunk-is, chunk-among, cut-is, done-is}
 use Rattle.b3d_file_rows.specs.Flat.{rest, flatAt}
-use Rattle.b3d_file_rows.specs.Rows.{nodeRows, flatRows, kindOf, animOf}
+use Rattle.b3d_file_rows.specs.Rows.{nodeRows, nodesBefore, flatRows, kindOf, animOf}
 use Rattle.b3d_file_rows.proofs.Run.{Here, Laid, rest-laid, run-done, run-stop, run-past, run-into, run-none}
 use Rattle.b3d_walk.specs.Walks.{BodyAt, NodeAt, ChunkIs, Ends, Steps}
 use Rattle.b3d_walk.specs.declared.Flat.the-variants as flat
@@ -36,12 +36,12 @@ here-of : (s : List ℕ) (at : ℕ) (t : Tag) (p : ℕ) (b : List ℕ) (r : Chun
 here-of s at t p b r e = subst (Laid s (length s) at) e (rest-laid s at) .0
 
 done-ends : Ends done
-unfolding flatRows nodeRows kindOf animOf
-done-ends = record { rows = λ k n. refl; nodes = λ l n. refl; kind = refl; anim = refl }
+unfolding flatRows nodeRows nodesBefore kindOf animOf
+done-ends = record { rows = λ k n. refl; nodes = λ l n. refl; before = λ e. refl; kind = refl; anim = refl }
 
 stop-ends : (i p : ℕ) → Ends (stop i p)
-unfolding flatRows nodeRows kindOf animOf
-stop-ends i p = record { rows = λ k n. refl; nodes = λ l n. refl; kind = refl; anim = refl }
+unfolding flatRows nodeRows nodesBefore kindOf animOf
+stop-ends i p = record { rows = λ k n. refl; nodes = λ l n. refl; before = λ e. refl; kind = refl; anim = refl }
 
 -- ---- into a NODE
 

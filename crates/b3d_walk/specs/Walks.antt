@@ -18,7 +18,7 @@ use Rattle.b3d_scene.specs.Rules.{nodeRow}
 use Rattle.b3d_scene.specs.Scene.{pivot, still}
 use Rattle.b3d_scene.specs.Tags.{Chunks, is}
 use Rattle.b3d_file_rows.specs.Flat.{rest, flatAt}
-use Rattle.b3d_file_rows.specs.Rows.{Open, nodeRows, flatRows, kindOf, animOf}
+use Rattle.b3d_file_rows.specs.Rows.{Open, nodeRows, nodesBefore, flatRows, kindOf, animOf}
 use Rattle.b3d_walk.specs.declared.Flat.{Flat}
 use Rattle.b3d_walk.specs.declared.Flat.the-variants as flat
 
@@ -60,6 +60,7 @@ pub record ChunkIs (s : List ℕ) (at : ℕ) (t : Tag) (p : ℕ) (b : Cursor) (q
 pub record Ends (cs : Chunks) : Type 0 where
   pub rows : (k : ℕ) (n : Counts) → flatRows k n cs ≡ []
   pub nodes : (l : List Open) (n : Counts) → nodeRows l n cs ≡ []
+  pub before : (e : ℕ) → nodesBefore e cs ≡ 0
   pub kind : kindOf cs ≡ pivot
   pub anim : animOf cs ≡ still
 

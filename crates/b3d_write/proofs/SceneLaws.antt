@@ -14,7 +14,7 @@ use Rattle.b3d_scene.specs.declared.Mode.{Mode}
 use Rattle.b3d_scene.specs.Rebuild.{Lent, Rows, cut, lentRows, textureFrom, brushFrom, together, nodeNames, names, rebuild}
 use Rattle.b3d_scene.specs.Rules.{levels}
 use Rattle.b3d_scene.specs.Scene.{Texture, Brush, Scene}
-use Rattle.b3d_scene.specs.Tables.{width, nameCells, textureRow, brushRow, rows, tables, nodeTables, partTables}
+use Rattle.b3d_scene.specs.Tables.{width, nameCells, textureRow, brushRow, rows, tables, nodeTables, partTables, nodeWidth}
 use Rattle.b3d_scene.proofs.Fitting.{FitNodes}
 use Rattle.b3d_scene.proofs.Rows.RebuildLaws.{Holds, together-back}
 use Rattle.b3d_scene.proofs.Rows.RowLists.{cut-length}
@@ -83,12 +83,12 @@ module _ (mode : Mode) (v slots : ℕ) (counts t₁ t₂ t₃ t₄ t₅ t₆ t�
   abbrev all : Counts
   all = partCounts counts
 
-  pub are-sized : Sized all (take (20 * all .nodes) t₃) (take (9 * all .meshes) t₄) (take (42 * all .vertices) t₅) (take (4 * all .sets) t₆) (take (3 * all .triangles) t₇) (take (2 * all .weights) t₈) (take (4 * all .lists) t₉) (take (11 * all .keys) t₁₀)
+  pub are-sized : Sized all (take (nodeWidth * all .nodes) t₃) (take (9 * all .meshes) t₄) (take (42 * all .vertices) t₅) (take (4 * all .sets) t₆) (take (3 * all .triangles) t₇) (take (2 * all .weights) t₈) (take (4 * all .lists) t₉) (take (11 * all .keys) t₁₀)
   unfolding partCounts
   are-sized =
       let r = rs in
       record {
-        nodes = length-take-le (20 * getD counts 2 0) t₃ (r .room₃);
+        nodes = length-take-le (nodeWidth * getD counts 2 0) t₃ (r .room₃);
         meshes = length-take-le (9 * getD counts 3 0) t₄ (r .room₄);
         vertices = length-take-le (42 * getD counts 4 0) t₅ (r .room₅);
         sets = length-take-le (4 * getD counts 5 0) t₆ (r .room₆);
@@ -107,14 +107,14 @@ module _ (mode : Mode) (v slots : ℕ) (counts t₁ t₂ t₃ t₄ t₅ t₆ t�
       }
 
   abbrev R : Rows
-  R = tableRows (take (20 * all .nodes) t₃) (take (9 * all .meshes) t₄) (take (42 * all .vertices) t₅) (take (4 * all .sets) t₆) (take (3 * all .triangles) t₇) (take (2 * all .weights) t₈) (take (4 * all .lists) t₉) (take (11 * all .keys) t₁₀)
+  R = tableRows (take (nodeWidth * all .nodes) t₃) (take (9 * all .meshes) t₄) (take (42 * all .vertices) t₅) (take (4 * all .sets) t₆) (take (3 * all .triangles) t₇) (take (2 * all .weights) t₈) (take (4 * all .lists) t₉) (take (11 * all .keys) t₁₀)
 
   held-rooms : All (λ k. width k * L .count k ≤ length (L .words k)) tables
   held-rooms = all-map (Holds L t) _ (λ k h. h .room) tables (agree mode v slots counts t₁ t₂ t₃ t₄ t₅ t₆ t₇ t₈ t₉ t₁₀ ns t e .held)
 
   rows-are : All (λ k. R k ≡ lentRows L k) nodeTables
   unfolding tables nodeTables lentRows lentOf partCounts width if tableRows
-  rows-are = (rows-lent 20 (getD counts 2 0) t₃ (omega arith) (held-rooms .1 .1 .0), trimmed-rows L (held-rooms .1 .1 .1))
+  rows-are = (rows-lent nodeWidth (getD counts 2 0) t₃ (omega arith) (held-rooms .1 .1 .0), trimmed-rows L (held-rooms .1 .1 .1))
 
   names-all : All (Stands ns) (names t)
   names-all = agree mode v slots counts t₁ t₂ t₃ t₄ t₅ t₆ t₇ t₈ t₉ t₁₀ ns t e .named

@@ -20,6 +20,7 @@ use Rattle.b3d_scene.specs.Encode.{encode}
 use Rattle.b3d_scene.specs.Rebuild.{Lent, rebuild}
 use Rattle.b3d_scene.specs.Rules.{mostBytes}
 use Rattle.b3d_scene.specs.Scene.{Scene}
+use Rattle.b3d_scene.specs.Tables.{nodeWidth}
 use Rattle.b3d_check.specs.Lent.{lentOf, partCounts}
 use Rattle.b3d_put_own.specs.Own.{tableRows}
 use Rattle.b3d_put_nodes.specs.Walk.{Sized}
@@ -109,11 +110,11 @@ module _ (mode : Mode) (v slots : ℕ) (counts t₁ t₂ t₃ t₄ t₅ t₆ t�
   pub asked-high : HighRooms all (length t₆) (length t₇) (length t₈) (length t₉) (length t₁₀)
   asked-high = rw all-is (high-rooms mode v slots counts t₁ t₂ t₃ t₄ t₅ t₆ t₇ t₈ t₉ t₁₀ ns (S .scene) (S .is))
 
-  pub asked-sized : Sized all (take (20 * all .nodes) t₃) (take (9 * all .meshes) t₄) (take (42 * all .vertices) t₅) (take (4 * all .sets) t₆) (take (3 * all .triangles) t₇) (take (2 * all .weights) t₈) (take (4 * all .lists) t₉) (take (11 * all .keys) t₁₀)
+  pub asked-sized : Sized all (take (nodeWidth * all .nodes) t₃) (take (9 * all .meshes) t₄) (take (42 * all .vertices) t₅) (take (4 * all .sets) t₆) (take (3 * all .triangles) t₇) (take (2 * all .weights) t₈) (take (4 * all .lists) t₉) (take (11 * all .keys) t₁₀)
   asked-sized = rw all-is (are-sized mode v slots counts t₁ t₂ t₃ t₄ t₅ t₆ t₇ t₈ t₉ t₁₀ ns (S .scene) (S .is))
 
   abbrev Of : Scene → Type 0
-  Of = OfScene ns (take (9 * n₁) t₁) (take (17 * n₂) t₂) (tableRows (take (20 * all .nodes) t₃) (take (9 * all .meshes) t₄) (take (42 * all .vertices) t₅) (take (4 * all .sets) t₆) (take (3 * all .triangles) t₇) (take (2 * all .weights) t₈) (take (4 * all .lists) t₉) (take (11 * all .keys) t₁₀)) v slots
+  Of = OfScene ns (take (9 * n₁) t₁) (take (17 * n₂) t₂) (tableRows (take (nodeWidth * all .nodes) t₃) (take (9 * all .meshes) t₄) (take (42 * all .vertices) t₅) (take (4 * all .sets) t₆) (take (3 * all .triangles) t₇) (take (2 * all .weights) t₈) (take (4 * all .lists) t₉) (take (11 * all .keys) t₁₀)) v slots
 
   of-scene : Of (S .scene)
   of-scene = rw (first, second, all-is) (is-scene mode v slots counts t₁ t₂ t₃ t₄ t₅ t₆ t₇ t₈ t₉ t₁₀ ns (S .scene) (S .is))

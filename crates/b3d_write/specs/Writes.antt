@@ -10,6 +10,7 @@ use Rattle.b3d_scene.specs.declared.Written.{Written}
 use Rattle.b3d_scene.specs.Answers.{writeAnswer, writeOutput}
 use Rattle.b3d_scene.specs.Rebuild.{Lent}
 use Rattle.b3d_scene.specs.Rules.{rowLimit}
+use Rattle.b3d_scene.specs.Tables.{nodeWidth}
 
 -- the answer for lent tables with names in ns, and the output afterwards
 pub record Writes (mode : Mode) (T : Lent) (ns out put : List ℕ) (r : Written) : Type 0 where
@@ -38,7 +39,7 @@ pub record HighRooms (a : Counts) (l₆ l₇ l₈ l₉ l₁₀ : ℕ) : Type 0 w
 pub record LowRooms (c₁ c₂ : ℕ) (a : Counts) (l₁ l₂ l₃ l₄ l₅ : ℕ) : Type 0 where
   pub textures : 9 * c₁ ≤ l₁
   pub brushes : 17 * c₂ ≤ l₂
-  pub nodes : 20 * a .nodes ≤ l₃
+  pub nodes : nodeWidth * a .nodes ≤ l₃
   pub meshes : 9 * a .meshes ≤ l₄
   pub vertices : 42 * a .vertices ≤ l₅
   pub few-textures : c₁ ≤ rowLimit

@@ -5,6 +5,7 @@ ghost use Rattle.b3d_scene.specs.Answers.{shortest};
 ghost use Prim.Native.Nat.{ℕ, _*_, _≤_};
 ghost use lib.ListN.{length, take};
 ghost use Rattle.b3d_scene.specs.Encode.{encode};
+ghost use Rattle.b3d_scene.specs.Tables.{nodeWidth};
 ghost use Rattle.b3d_check.specs.Lent.{lentOf};
 ghost use Rattle.b3d_put_own.specs.Own.{tableRows};
 ghost use Rattle.b3d_put_nodes.specs.Walk.{Sized};
@@ -12,6 +13,7 @@ ghost use Rattle.b3d_put_file.specs.Whole.{OfScene, Some, Each};
 ghost use Rattle.b3d_write.specs.Writes.{sizeNeeded, LowRooms, HighRooms, Writes};
 use b3d_scene::Counts;
 use b3d_scene::Mode;
+use b3d_scene::NODE_WIDTH;
 use b3d_scene::Written;
 
 // How long the file of these tables is; 0 where they are unsound or it is too long.
@@ -132,13 +134,13 @@ fn put_low(
 ) -> usize
     requires { ⌜ LowRooms textures brushes all (length (now t1)) (length (now t2)) (length (now t3)) (length (now t4)) (length (now t5)) ⌝ }
     requires { ⌜ HighRooms all (length (now t6)) (length (now t7)) (length (now t8)) (length (now t9)) (length (now t10)) ⌝ }
-    requires { ⌜ Sized all (take (20 * all .nodes) (now t3)) (take (9 * all .meshes) (now t4)) (take (42 * all .vertices) (now t5)) (take (4 * all .sets) (now t6)) (take (3 * all .triangles) (now t7)) (take (2 * all .weights) (now t8)) (take (4 * all .lists) (now t9)) (take (11 * all .keys) (now t10)) ⌝ }
-    requires { ⌜ Some (OfScene (now names) (take (9 * textures) (now t1)) (take (17 * brushes) (now t2)) (tableRows (take (20 * all .nodes) (now t3)) (take (9 * all .meshes) (now t4)) (take (42 * all .vertices) (now t5)) (take (4 * all .sets) (now t6)) (take (3 * all .triangles) (now t7)) (take (2 * all .weights) (now t8)) (take (4 * all .lists) (now t9)) (take (11 * all .keys) (now t10))) version slots) encode (now out) ⌝ }
-    ensures { λ r. ⌜ Each (OfScene (now (names .entry)) (take (9 * textures) (now (t1 .entry))) (take (17 * brushes) (now (t2 .entry))) (tableRows (take (20 * all .nodes) (now (t3 .entry))) (take (9 * all .meshes) (now (t4 .entry))) (take (42 * all .vertices) (now (t5 .entry))) (take (4 * all .sets) (now (t6 .entry))) (take (3 * all .triangles) (now (t7 .entry))) (take (2 * all .weights) (now (t8 .entry))) (take (4 * all .lists) (now (t9 .entry))) (take (11 * all .keys) (now (t10 .entry)))) version slots) encode (now (out .entry)) (now (out .exit)) r ⌝ }
+    requires { ⌜ Sized all (take (nodeWidth * all .nodes) (now t3)) (take (9 * all .meshes) (now t4)) (take (42 * all .vertices) (now t5)) (take (4 * all .sets) (now t6)) (take (3 * all .triangles) (now t7)) (take (2 * all .weights) (now t8)) (take (4 * all .lists) (now t9)) (take (11 * all .keys) (now t10)) ⌝ }
+    requires { ⌜ Some (OfScene (now names) (take (9 * textures) (now t1)) (take (17 * brushes) (now t2)) (tableRows (take (nodeWidth * all .nodes) (now t3)) (take (9 * all .meshes) (now t4)) (take (42 * all .vertices) (now t5)) (take (4 * all .sets) (now t6)) (take (3 * all .triangles) (now t7)) (take (2 * all .weights) (now t8)) (take (4 * all .lists) (now t9)) (take (11 * all .keys) (now t10))) version slots) encode (now out) ⌝ }
+    ensures { λ r. ⌜ Each (OfScene (now (names .entry)) (take (9 * textures) (now (t1 .entry))) (take (17 * brushes) (now (t2 .entry))) (tableRows (take (nodeWidth * all .nodes) (now (t3 .entry))) (take (9 * all .meshes) (now (t4 .entry))) (take (42 * all .vertices) (now (t5 .entry))) (take (4 * all .sets) (now (t6 .entry))) (take (3 * all .triangles) (now (t7 .entry))) (take (2 * all .weights) (now (t8 .entry))) (take (4 * all .lists) (now (t9 .entry))) (take (11 * all .keys) (now (t10 .entry)))) version slots) encode (now (out .entry)) (now (out .exit)) r ⌝ }
 {
     let n1 = 9 * textures;
     let n2 = 17 * brushes;
-    let n3 = 20 * all.nodes;
+    let n3 = NODE_WIDTH * all.nodes;
     let n4 = 9 * all.meshes;
     let n5 = 42 * all.vertices;
     put_high(

@@ -14,7 +14,7 @@ use std::hint::black_box;
 use std::time::{Duration, Instant};
 
 /// Words of a row of tables 1 to 10.
-const WIDTHS: [usize; 10] = [9, 17, 20, 9, 42, 4, 3, 2, 4, 11];
+const WIDTHS: [usize; 10] = [9, 17, 21, 9, 42, 4, 3, 2, 4, 11];
 const NAMES: [&str; 10] = [
     "textures",
     "brushes",

@@ -136,6 +136,7 @@ const NODE: &[Group] = &[
     whole("anim"),
     wholes("anim", &["flags", "frames"]),
     float("anim_fps"),
+    whole("below"),
 ];
 const MESH: &[Group] = &[
     whole("node"),

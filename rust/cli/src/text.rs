@@ -25,10 +25,11 @@ pub fn parse(table: &Table, text: &[u8], names: &mut Vec<u8>) -> Result<Vec<u32>
     let text = text.strip_suffix(b"\n").unwrap_or(text);
     let mut lines = text.split(|&byte| byte == b'\n').zip(1..);
     let header = table.header();
-    if lines.next().map(|(line, _)| line) != Some(header.as_bytes()) {
-        return Err("line 1: not the column names of this table".to_string());
-    }
     let columns = table.kinds().count();
+    let first = lines.next().map_or(&b""[..], |(line, _)| line);
+    if first != header.as_bytes() {
+        return Err(other_header(&header, first, columns));
+    }
     let mut words = Vec::new();
     for (line, number) in lines {
         let cells = line.split(|&byte| byte == b'\t');
@@ -46,6 +47,23 @@ pub fn parse(table: &Table, text: &[u8], names: &mut Vec<u8>) -> Result<Vec<u32>
         }
     }
     Ok(words)
+}
+
+/// What is wrong with a first line: a text of an older version lacks the last
+/// columns.
+fn other_header(header: &str, line: &[u8], columns: usize) -> String {
+    let older = header
+        .as_bytes()
+        .strip_prefix(line)
+        .and_then(|rest| rest.strip_prefix(b"\t"));
+    match older {
+        Some(rest) if !line.is_empty() => {
+            let missing = String::from_utf8_lossy(rest).replace('\t', ", ");
+            let found = line.split(|&byte| byte == b'\t').count();
+            format!("line 1: {found} columns, not {columns}: an older width, without {missing}")
+        }
+        _ => "line 1: not the column names of this table".to_string(),
+    }
 }
 
 fn print_cell(kind: Kind, words: &[u32], names: &[u8]) -> String {
@@ -139,6 +157,6 @@ mod tests {
     #[test]
     fn rows_have_the_words_of_the_format() {
         let words = TABLES.each_ref().map(|table| table.words());
-        assert_eq!(words, [9, 17, 20, 9, 42, 4, 3, 2, 4, 11]);
+        assert_eq!(words, [9, 17, 21, 9, 42, 4, 3, 2, 4, 11]);
     }
 }

@@ -52,9 +52,9 @@ fn tables_of_the_hall() {
     assert_eq!(text("weights.tsv"), "vertex\tweight\n");
     let nodes = "\
 name parent position_x position_y position_z scale_x scale_y scale_z rotation_0 rotation_1 \
-rotation_2 rotation_3 kind first count anim anim_flags anim_frames anim_fps
+rotation_2 rotation_3 kind first count anim anim_flags anim_frames anim_fps below
 Hall -1 00000001 00000002 00000003 00000004 00000005 00000006 00000007 00000008 00000009 \
-0000000a 0 0 0 0 0 0 00000000
+0000000a 0 0 0 0 0 0 00000000 0
 ";
     assert_eq!(text("nodes.tsv"), nodes.replace(' ', "\t"));
 }

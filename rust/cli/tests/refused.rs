@@ -47,6 +47,7 @@ fn tables_that_no_file_has_are_refused() {
     change("bad_vertex", "triangles.tsv", "4\t6\t7", "4\t6\t8");
     change("bad_name", "nodes.tsv", "hinge", "hi\\x00nge");
     change("bad_parent", "nodes.tsv", "hinge\t0", "hinge\t1");
+    change("bad_branch", "nodes.tsv", "\t5\n", "\t3\n");
     change("bad_rows", "weights.tsv", "\n4\t3f800000\n", "\n");
 }
 
@@ -71,6 +72,8 @@ fn texts_that_are_no_tables_fail() {
         "steel\\door",
         name,
     );
+    let below = "nodes.tsv: line 1: 19 columns, not 20: an older width, without below";
+    change("old_width", "nodes.tsv", "\tbelow\n", "\n", below);
     let rows = "scene.tsv: not just one row";
     change("two_rows", "scene.tsv", "1\t2\n", "1\t2\n1\t2\n", rows);
 }

@@ -6,6 +6,7 @@ use reference::{Label, Mode};
 use scenes::change::{byte_change, changed};
 use scenes::damage::aimed;
 use scenes::labels::labelled;
+use scenes::sheet::ROW_WORDS;
 use scenes::worked;
 use scenes::{scene, Profile, Rng, Sheet};
 use std::process::ExitCode;
@@ -46,7 +47,7 @@ fn refused() -> Label {
 
 /// What the tables of an accepted file say.
 fn in_tables(sheet: &Sheet) -> Label {
-    let Some(root) = sheet.tables[2].chunks(20).next() else {
+    let Some(root) = sheet.tables[2].chunks(ROW_WORDS[2]).next() else {
         return refused();
     };
     let vertices = match root[13] {

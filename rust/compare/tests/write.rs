@@ -140,12 +140,13 @@ fn rows_moved(compared: &mut Compared, rng: &mut Rng) -> Result<(), Disagreement
 fn nodes(rows: usize, name_length: usize) -> Sheet {
     let mut sheet = Sheet::default();
     for parent in [0xFFFF_FFFF].into_iter().chain(vec![0; rows - 1]) {
-        let mut row = [0; 20];
+        let mut row = [0; ROW_WORDS[2]];
         row[1] = name_length as u32;
         row[2] = parent;
         sheet.tables[2].extend(row);
     }
     sheet.count_rows();
+    sheet.count_branches();
     sheet.names = vec![b'n'; name_length];
     sheet
 }

@@ -72,6 +72,7 @@ impl<'a> Lent<'a> {
             count: row[15],
             anim: row[16],
             anim_values: &row[17..20],
+            branch: row[20],
         }
     }
 
@@ -122,6 +123,7 @@ pub struct NodeRow<'a> {
     pub count: u32,
     pub anim: u32,
     pub anim_values: &'a [u32],
+    pub branch: u32,
 }
 
 /// Table 4.

@@ -40,7 +40,7 @@ pub const KEY_LISTS: usize = 8;
 pub const KEYS: usize = 9;
 
 /// Words of a row of each table.
-pub const ROW_WORDS: [usize; 10] = [9, 17, 20, 9, 42, 4, 3, 2, 4, 11];
+pub const ROW_WORDS: [usize; 10] = [9, 17, 21, 9, 42, 4, 3, 2, 4, 11];
 
 /// Node kinds.
 pub const PIVOT: u32 = 0;

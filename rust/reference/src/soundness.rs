@@ -15,6 +15,7 @@ pub fn sound_size(mode: Mode, lent: &Lent) -> Option<usize> {
     let sound = header_numbers(lent)
         && brush_slots(lent)
         && node_order(lent)
+        && node_branches(lent)
         && node_kinds(lent)
         && node_anims(lent)
         && meshes(lent)
@@ -87,6 +88,20 @@ fn node_order(lent: &Lent) -> bool {
         }
     }
     true
+}
+
+/// Each node's last word is the number of nodes below it, at all depths. Called
+/// once `node_order` holds.
+fn node_branches(lent: &Lent) -> bool {
+    let mut below = vec![0; lent.count(NODES)];
+    for number in 0..lent.count(NODES) {
+        let mut above = lent.node(number).parent;
+        while above != NONE {
+            below[above as usize] += 1;
+            above = lent.node(above as usize).parent;
+        }
+    }
+    (0..lent.count(NODES)).all(|number| lent.node(number).branch == below[number])
 }
 
 /// Kind, first and count of each node; each mesh and weight belongs to one.

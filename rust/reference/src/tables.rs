@@ -112,7 +112,8 @@ impl Filler<'_> {
         self.add(BRUSHES, &brush.slots);
     }
 
-    /// The row of a node, then all inside it: kind, KEYS, children.
+    /// The row of a node, then all inside it: kind, KEYS, children. Its last
+    /// word, the nodes below it, is known when those are there.
     fn node(&mut self, node: &Node, parent: u32) {
         let number = self.rows(NODES);
         self.node_row(node, parent);
@@ -127,9 +128,13 @@ impl Filler<'_> {
         for child in &node.children {
             self.node(child, number);
         }
+        let below = self.rows(NODES) - number - 1;
+        let end = (number as usize + 1) * ROW_WORDS[NODES];
+        self.tables[NODES][end - 1] = below;
     }
 
-    /// Name, parent, 10 floats, kind, first, count, ANIM present, its 3 values.
+    /// Name, parent, 10 floats, kind, first, count, ANIM present, its 3 values,
+    /// nodes below (set by `node`).
     fn node_row(&mut self, node: &Node, parent: u32) {
         let kind_first_count = match &node.kind {
             Kind::Pivot => [PIVOT, 0, 0],
@@ -142,6 +147,7 @@ impl Filler<'_> {
         self.add(NODES, &kind_first_count);
         self.add(NODES, &[node.anim.is_some() as u32]);
         self.add(NODES, &node.anim.unwrap_or([0; 3]));
+        self.add(NODES, &[0]);
     }
 
     /// Node, brush, flags, sets, set size, first vertex, vertices, first

@@ -6,8 +6,10 @@ mod common;
 
 use common::*;
 use reference::{judge, Mode, Written};
+use scenes::damage::{file_of, node_of};
 use scenes::rebuild::rebuild;
 use scenes::rows::MOST_ROWS;
+use scenes::sheet::ROW_WORDS;
 use scenes::words::{each_cell, each_header_word, each_name_byte, reshaped};
 use scenes::{scene, Profile, Rng, Sheet};
 
@@ -131,10 +133,27 @@ fn rows_moved() {
     found.assert_both();
 }
 
+#[test]
+fn nodes_below_at_all_depths() {
+    let leaf = || node_of(Vec::new());
+    let root = node_of(vec![node_of(vec![leaf()]), leaf()]);
+    let file = file_of(vec![root]).bytes();
+    let sheet = sheet_of(&file);
+    let below: Vec<u32> = (0..4).map(|node| sheet.row(2, node)[20]).collect();
+    assert_eq!(below, [3, 1, 0, 0]);
+    assert_eq!(written(&sheet, file.len()), file);
+    // The children alone, the node itself, and others.
+    for wrong in [2, 4, 0, 0xFFFF_FFFF] {
+        let mut sheet = sheet.clone();
+        sheet.row_mut(2, 0)[20] = wrong;
+        assert_eq!(write_to(&sheet, file.len()).0, UNSOUND);
+    }
+}
+
 /// Tables of one node, whose name is of this length.
 fn long_name(length: usize) -> Sheet {
     let mut sheet = Sheet::default();
-    sheet.tables[2] = vec![0; 20];
+    sheet.tables[2] = vec![0; ROW_WORDS[2]];
     sheet.tables[2][1] = length as u32;
     sheet.tables[2][2] = 0xFFFF_FFFF;
     sheet.count_rows();
@@ -165,8 +184,9 @@ fn the_same_long_name_many_times() {
         sheet.tables[2].extend_from_slice(&child);
     }
     sheet.count_rows();
+    sheet.count_branches();
     assert_eq!(write_to(&sheet, 0).0, UNSOUND);
-    for row in sheet.tables[2].chunks_mut(20) {
+    for row in sheet.tables[2].chunks_mut(ROW_WORDS[2]) {
         row[1] = 3;
     }
     let size = 12 + 16_384 * 52;

@@ -64,7 +64,7 @@ fn h_has_its_name_at_20() {
     let sheet = sheet_of(&h());
     assert_eq!(sheet.counts, [0, 0, 1, 0, 0, 0, 0, 0, 0, 0]);
     let row = [
-        20, 4, NONE, 1, 2, 3, 4, 5, 6, 7, 8, 9, 10, 0, 0, 0, 0, 0, 0, 0,
+        20, 4, NONE, 1, 2, 3, 4, 5, 6, 7, 8, 9, 10, 0, 0, 0, 0, 0, 0, 0, 0,
     ];
     assert_eq!(sheet.tables[2], row);
     assert_eq!(written(&sheet, 100), h());
@@ -100,7 +100,7 @@ fn h_with_an_unknown_chunk() {
 fn t_and_its_tables() {
     let sheet = sheet_of(&t());
     assert_eq!(sheet.counts, [0, 0, 1, 1, 3, 1, 1, 0, 0, 0]);
-    let kind = [1, 0, 1, 0, 0, 0, 0];
+    let kind = [1, 0, 1, 0, 0, 0, 0, 0];
     assert_eq!(sheet.tables[2][..3], [20, 0, NONE]);
     assert_eq!(sheet.tables[2][13..], kind);
     assert_eq!(sheet.tables[3], [0, NONE, 0, 0, 0, 0, 3, 0, 1]);

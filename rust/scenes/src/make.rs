@@ -304,7 +304,7 @@ impl Maker<'_> {
         chunk.words(&floats);
         let mut row = vec![0, name.len() as u32, parent];
         row.extend(&floats);
-        row.resize(20, 0);
+        row.resize(ROW_WORDS[2], 0);
         self.push(2, &row);
         let mut known = Vec::new();
         let vertices = self.kind(&mut known, number);
@@ -317,6 +317,7 @@ impl Maker<'_> {
             known.push(self.node(number));
         }
         self.above.pop();
+        self.sheet.row_mut(2, number as usize)[20] = self.rows(2) - number - 1;
         chunk.chunks = self.mixed(known);
         chunk
     }

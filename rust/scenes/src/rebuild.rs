@@ -81,7 +81,7 @@ fn node(sheet: &Sheet, number: u32, depth: usize) -> Option<Chunk> {
     }
     if row[16] == 1 {
         let mut anim = Chunk::new(b"ANIM");
-        anim.words(&row[17..]);
+        anim.words(&row[17..20]);
         chunk.chunks.push(anim);
     }
     for child in number + 1..sheet.counts[2] {

@@ -1,7 +1,7 @@
 //! The words of a scene: what a reader fills and a writer is lent.
 
 /// Words of a row of each table.
-pub const ROW_WORDS: [usize; 10] = [9, 17, 20, 9, 42, 4, 3, 2, 4, 11];
+pub const ROW_WORDS: [usize; 10] = [9, 17, 21, 9, 42, 4, 3, 2, 4, 11];
 
 /// The tables whose rows begin with name place and name length.
 pub const NAMED: [usize; 3] = [0, 1, 2];
@@ -38,6 +38,26 @@ impl Sheet {
     pub fn count_rows(&mut self) {
         for (table, words) in ROW_WORDS.iter().enumerate() {
             self.counts[table] = (self.tables[table].len() / words) as u32;
+        }
+    }
+
+    /// Sets the last word of each node to the number of nodes below it, at all
+    /// depths, as far as parents stand before their children.
+    pub fn count_branches(&mut self) {
+        let nodes = self.tables[2].len() / ROW_WORDS[2];
+        for number in 0..nodes {
+            self.row_mut(2, number)[20] = 0;
+        }
+        for number in 0..nodes {
+            let mut below = number;
+            loop {
+                let above = self.row(2, below)[2] as usize;
+                if above >= below {
+                    break;
+                }
+                self.row_mut(2, above)[20] += 1;
+                below = above;
+            }
         }
     }
 

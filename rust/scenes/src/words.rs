@@ -99,7 +99,7 @@ pub fn each_slice_length(sheet: &Sheet, mut visit: impl FnMut(&Sheet)) {
 }
 
 /// The tables with some change of more than one word, or none if they have no
-/// place for it.
+/// place for it. The nodes below each are mostly counted again.
 pub fn reshaped(sheet: &Sheet, rng: &mut Rng) -> Option<Sheet> {
     let mut changed = sheet.clone();
     let table = rng.below(10);
@@ -115,6 +115,9 @@ pub fn reshaped(sheet: &Sheet, rng: &mut Rng) -> Option<Sheet> {
         7 => drop_last_set(&mut changed)?,
         8 => add_bone(&mut changed, rng)?,
         _ => two_words(&mut changed, rng)?,
+    }
+    if rng.percent(80) {
+        changed.count_branches();
     }
     Some(changed)
 }

@@ -22,6 +22,8 @@ tree-here-spec =
       ),
     ))
     (λ c κs. root-small _ _ _ _ _ _ _ _ _ _ _ (search needs) _ (c .before .before .node-here .ensures) (search needs) _ (c .node-counts .ensures) (c .before .before .before .before .before .before .before .before .before .before .before .before .before .before .before .before .pre .0 .0))
-    (λ c κs. let h = c .before .before .before .before .before .before .before .before .before .before .before .before .before .before .before .before .before .pre in
-    ((root-below _ _ _ _ _ _ _ _ _ _ _ (search needs) _ (c .before .before .before .node-here .ensures) (search needs) _ (c .before .node-counts .ensures), h .0 .1), (h .0 .0, h .1 .0, h .1 .1)))
+    (λ c. search (c .before .before .before .before .before .before .before .before .before .before .before .before .before .before .before .before .before .before .pre .1 .0, c .before .before .before .before .before .before .before .if1 .left, needs))
+    (λ c κs. search needs)
+    (λ c κs. let h = c .before .before .before .before .before .before .before .before .before .before .before .before .before .before .before .before .before .before .before .pre in
+    ((root-below _ _ _ _ _ _ _ _ _ _ _ (search needs) _ (c .before .before .before .before .before .node-here .ensures) (search needs) _ (c .before .before .before .node-counts .ensures), h .0 .1), (h .0 .0, h .1 .0, h .1 .1)))
     (λ c. search (tree-nodes, needs)))

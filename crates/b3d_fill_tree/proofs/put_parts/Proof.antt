@@ -1,4 +1,4 @@
--- `put_parts` stores the cells of kind and ANIM.
+-- `put_parts` stores the cells of kind and ANIM, and how many nodes are below.
 use Rattle.b3d_fill_tree.proofs.Cells.{parts-put}
 use borrow.Author.Needs.{needs}
 use Rattle.b3d_fill_tree.proofs.put_parts.Statement.{statement}
@@ -9,6 +9,10 @@ put-parts-spec =
     tie.close
     (tie.spec
     (λ c κs. search (parts-put, needs))
+    (λ c. search (parts-put, needs))
+    (λ c κs. search (parts-put, needs))
+    (λ c κs. search (parts-put, needs))
+    (λ c. search (parts-put, needs))
     (λ c. search (parts-put, needs))
     (λ c κs. search (parts-put, needs))
     (λ c κs. search (parts-put, needs))

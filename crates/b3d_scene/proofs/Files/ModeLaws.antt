@@ -29,7 +29,7 @@ use Rattle.b3d_scene.specs.Parse.{readOne, readTextures, readBrush, read
 use Rattle.b3d_scene.specs.Rules.{textureId, when, vertexWords, brushRow, brushIds, vertexRow, nodeRow, header, fileHead, brushesHead, meshHead, verticesHead, boneVertices, bonesBelow, levels, fileSize}
 use Rattle.b3d_scene.specs.Scene.{Brush, Mesh, Kind, pivot, mesh, bone, Anim, still, Data, Forest, leaf, node, Scene}
 use Rattle.b3d_scene.specs.Tables as tables
-use Rattle.b3d_scene.specs.Tables.{nameCells, meshesOf, vertexRows, meshRows, ownRows, withNode, withForest, forestRows, rows}
+use Rattle.b3d_scene.specs.Tables.{nameCells, meshesOf, vertexRows, meshRows, ownRows, withNode, withForest, forestRows, rows, nodesIn}
 use Rattle.b3d_scene.specs.Tags.{code, is, Chunks, Found}
 use Rattle.b3d_scene.proofs.Files.PlaceLaws.{inside-at, kind-at, moves-at, one-at, textures-at, brush-at, brushes-at}
 
@@ -207,7 +207,7 @@ forest-rows : (f : Forest) (p : ℕ) (n : Counts) → all (coloured 6) (forestRo
 unfolding forestRows ownRows meshRows meshesOf vertexRows if
 forest-rows leaf p n = refl
 forest-rows (node d f g) p n =
-    all-append (coloured 6) (ownRows 5 d p n) _
+    all-append (coloured 6) (ownRows 5 d p (nodesIn f) n) _
     ∙ ap₂ _&&_ (own (d .kind))
     (all-append (coloured 6) (forestRows 5 f (n .nodes) (withNode d n)) _ ∙ ap₂ _&&_ (forest-rows f (n .nodes) (withNode d n)) (forest-rows g p (withForest f (withNode d n))))
   where

@@ -9,7 +9,7 @@ use Rattle.wire.specs.Test.{if}
 use Rattle.layout.specs.Rules.{NONE}
 use Rattle.layout.proofs.Lists.{All, all-pure, all-map, all-zip}
 use Rattle.b3d_scene.specs.Scene.{Forest, leaf, node, Scene}
-use Rattle.b3d_scene.specs.Tables.{width, start, reached, nodeTables, ownRows, textureRow, brushRow, withNode, withForest, forestRows, rows, words, table, tables, counts}
+use Rattle.b3d_scene.specs.Tables.{width, start, reached, nodeTables, ownRows, textureRow, brushRow, withNode, withForest, forestRows, rows, words, table, tables, counts, nodesIn}
 use Rattle.b3d_scene.specs.declared.Counts.{Counts}
 use Rattle.b3d_scene.proofs.Fitting.{Fit}
 use Rattle.b3d_scene.proofs.Rows.Nodes.{Step, steps}
@@ -27,12 +27,12 @@ rises leaf p n = all-pure _ (λ k. sym (add-zero (reached k n))) nodeTables
 rises (node d ch sib) p n =
     let m = withNode d n in
     let q = withForest ch m in
-    all-zip (Step d p n) (λ k. Rise ch (n .nodes) m k × Rise sib p q k) _
+    all-zip (Step d p (nodesIn ch) n) (λ k. Rise ch (n .nodes) m k × Rise sib p q k) _
     (λ k s r.
-    let e₁ = length-append (ownRows k d p n) (forestRows k ch (n .nodes) m ++ forestRows k sib p q) in
+    let e₁ = length-append (ownRows k d p (nodesIn ch) n) (forestRows k ch (n .nodes) m ++ forestRows k sib p q) in
     let e₂ = length-append (forestRows k ch (n .nodes) m) (forestRows k sib p q) in
     omega (arith, e₁, e₂, r .0, r .1, s))
-    nodeTables (steps d p n)
+    nodeTables (steps d p (nodesIn ch) n)
     (all-zip (Rise ch (n .nodes) m) (Rise sib p q) _ (λ k a b. (a, b)) nodeTables (rises ch (n .nodes) m) (rises sib p q))
 
 -- the ten counts

@@ -9,7 +9,7 @@ use lib.Seq.{sets}
 use Rattle.layout.proofs.Lists.{All}
 use Rattle.b3d_scene.specs.Rules.{bonesBelow, boneVertices}
 use Rattle.b3d_scene.specs.Scene.{Data, Forest, leaf, node}
-use Rattle.b3d_scene.specs.Tables.{width, reached, ownRows, withNode, withForest, forestRows, words}
+use Rattle.b3d_scene.specs.Tables.{width, reached, ownRows, withNode, withForest, forestRows, words, nodesIn}
 use Rattle.b3d_scene.specs.declared.Counts.{Counts}
 use Rattle.b3d_scene.proofs.Rows.CountLaws.{Rise, rises, words-append}
 use Rattle.b3d_scene.proofs.Fitting.{FitNodes}
@@ -43,17 +43,17 @@ fill-leaf k p n out = refl
 -- a node's own rows, its children, its later siblings
 pub fill-node : (b l : ℕ) (above : Option ℕ) (k : ℕ) (d : Data) (ch sib : Forest) (p : ℕ) (n : Counts) (out : List ℕ) → FitNodes (suc l) b above (node d ch sib) → 3 ≤ k → k ≤ 10
     → filled k (node d ch sib) p n out
-    ≡ filled k sib p (withForest ch (withNode d n)) (filled k ch (n .nodes) (withNode d n) (sets out (width k * reached k n) (words (ownRows k d p n))))
+    ≡ filled k sib p (withForest ch (withNode d n)) (filled k ch (n .nodes) (withNode d n) (sets out (width k * reached k n) (words (ownRows k d p (nodesIn ch) n))))
 unfolding filled forestRows
 fill-node b l above k d ch sib p n out f lo hi =
     let m = withNode d n in
     let q = withForest ch m in
-    let own = ownRows k d p n in
+    let own = ownRows k d p (nodesIn ch) n in
     let x = forestRows k ch (n .nodes) m in
     let y = forestRows k sib p q in
-    let w = at-table (OwnWide d p n) k (own-wide b (boneVertices above) d p n (f .0)) lo hi in
+    let w = at-table (OwnWide d p (nodesIn ch) n) k (own-wide b (boneVertices above) d p (nodesIn ch) n (f .0)) lo hi in
     let v = at-table (λ j. All (Wide (width j)) (forestRows j ch (n .nodes) m)) k (forest-wide l b (bonesBelow above d) ch (n .nodes) m (f .1)) lo hi in
-    let s = at-table (Step d p n) k (steps d p n) lo hi in
+    let s = at-table (Step d p (nodesIn ch) n) k (steps d p (nodesIn ch) n) lo hi in
     let r = at-table (Rise ch (n .nodes) m) k (rises ch (n .nodes) m) lo hi in
     fill-append (width k) (reached k n) (reached k m) own (x ++ y) out w s
     ∙ fill-append (width k) (reached k m) (reached k q) x y (sets out (width k * reached k n) (words own)) v r

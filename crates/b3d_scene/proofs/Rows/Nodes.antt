@@ -4,7 +4,7 @@ use Prim.Native.Nat.{ℕ, suc, _+_}
 use native.Mathlib.Omega.{arith}
 use native.Mathlib.Nat.{add-zero}
 use mathlib.Core.List.{List, [], _∷_, _++_}
-use lib.ListN.{length, drop, getD}
+use lib.ListN.{length, take, drop, getD}
 use lib.Seq.{take-append-seam, take-at, drop-at}
 use Rattle.wire.specs.Test.{if}
 use Rattle.layout.proofs.Lists.{All, all-map}
@@ -14,7 +14,7 @@ use Rattle.b3d_scene.specs.Scene.{Mesh, Kind, pivot, mesh, bone, Data}
 use Rattle.b3d_scene.specs.Tables.{width, reached, nodeTables, meshesOf, weightsOf, nameCells, kindCells, animCells, nodeRow, meshRow, listRows, keyRows, meshRows, ownRows, withMeshes, withNode}
 use Rattle.b3d_scene.specs.declared.Counts.{Counts}
 use Rattle.b3d_scene.proofs.Fitting.{FitKind, FitData}
-use Rattle.b3d_scene.proofs.Rows.RowParts.{Wide, Stands, Others, sets-length, sets-wide, triangles-wide, vertices-wide, vertices-length, mesh-back, lists-length, lists-wide, keys-wide, mine-back, keys-back, anim-back, kind-wide, node-wide}
+use Rattle.b3d_scene.proofs.Rows.RowParts.{Wide, Stands, Others, sets-length, sets-wide, triangles-wide, vertices-wide, vertices-length, mesh-back, lists-length, lists-wide, keys-wide, mine-back, keys-back, anim-back, anim-wide, kind-wide, node-wide}
 use Rattle.b3d_scene.proofs.Rows.WordCounts.{any-words}
 use Rattle.layout.proofs.Fitting.{Fits}
 use Rattle.layout.proofs.PartLaws.{length-fits}
@@ -31,19 +31,19 @@ meshes-wide b c (mesh m) n h =
     ((refl, tt), (vertices-wide m, (sets-wide (n .meshes) (n .triangles) (m .triangleSets), (triangles-wide b (length (m .vertices)) (m .triangleSets) (h .triangles), tt))))
 meshes-wide b c (bone ws) n h = (tt, (tt, (tt, (tt, all-map (Fits (weightRow c)) (Wide 2) (λ w f. length-fits (weightRow c) w f) ws h))))
 
-abbrev pub OwnWide : Data → ℕ → Counts → ℕ → Type 0
-OwnWide d p n k = All (Wide (width k)) (ownRows k d p n)
+abbrev pub OwnWide : Data → ℕ → ℕ → Counts → ℕ → Type 0
+OwnWide d p below n k = All (Wide (width k)) (ownRows k d p below n)
 
-pub own-wide : (b c : ℕ) (d : Data) (p : ℕ) (n : Counts) → FitData b c d → All (OwnWide d p n) nodeTables
+pub own-wide : (b c : ℕ) (d : Data) (p below : ℕ) (n : Counts) → FitData b c d → All (OwnWide d p below n) nodeTables
 unfolding nodeTables width if ownRows
-own-wide b c d p n h =
+own-wide b c d p below n h =
     let w = meshes-wide b c (d .kind) n (h .kind) in
-    ((node-wide b c d p n h, tt), (w .0, (w .1 .0, (w .1 .1 .0, (w .1 .1 .1 .0, (w .1 .1 .1 .1, (lists-wide (n .nodes) (n .keys) (d .keys), (keys-wide (d .keys), tt))))))))
+    ((node-wide b c d p below n h, tt), (w .0, (w .1 .0, (w .1 .1 .0, (w .1 .1 .1 .0, (w .1 .1 .1 .1, (lists-wide (n .nodes) (n .keys) (d .keys), (keys-wide (d .keys), tt))))))))
 
 -- ---- counts
 
-abbrev pub Step : Data → ℕ → Counts → ℕ → Type 0
-Step d p n k = reached k (withNode d n) ≡ reached k n + length (ownRows k d p n)
+abbrev pub Step : Data → ℕ → ℕ → Counts → ℕ → Type 0
+Step d p below n k = reached k (withNode d n) ≡ reached k n + length (ownRows k d p below n)
 
 -- the counts after meshes ms, when n came before: only those of tables 4 to 7 rise
 record Added (ms : List Mesh) (n x : Counts) : Type 0 where
@@ -79,9 +79,9 @@ added (m ∷ ms) n = record {
   keys = refl;
 }
 
-pub steps : (d : Data) (p : ℕ) (n : Counts) → All (Step d p n) nodeTables
+pub steps : (d : Data) (p below : ℕ) (n : Counts) → All (Step d p below n) nodeTables
 unfolding nodeTables reached withNode ownRows if
-steps d p n =
+steps d p below n =
     let w = added (meshesOf (d .kind)) n in
     let weights = ap (λ (x : ℕ). x + length (weightsOf (d .kind))) (w .weights) in
     let lists = ap₂ _+_ (w .lists) (sym (lists-length (n .nodes) (n .keys) (d .keys))) in
@@ -104,11 +104,12 @@ kind-back b c R S n pivot h e4 e5 e6 e7 e8 r = refl
 kind-back b c R S n (mesh m) h e4 e5 e6 e7 e8 r = rw (e4, e5, e6, e7) (ap mesh (mesh-back b m n (n .meshes) (n .triangles) (S 5) (S 6) (S 7) h))
 kind-back b c R S n (bone ws) h e4 e5 e6 e7 e8 r = rw e8 (ap bone (take-append-seam ws (S 8)))
 
-pub data-back : (ns : List ℕ) (b c : ℕ) (R S : Rows) (n : Counts) (d : Data) (p : ℕ) → FitData b c d → Stands ns (d .name)
-    → All (From R n (λ k. ownRows k d p n ++ S k)) nodeTables → Others (n .nodes) (S 9) → dataFrom ns R (nodeRow d p n) n ≡ d
+pub data-back : (ns : List ℕ) (b c : ℕ) (R S : Rows) (n : Counts) (d : Data) (p below : ℕ) → FitData b c d → Stands ns (d .name)
+    → All (From R n (λ k. ownRows k d p below n ++ S k)) nodeTables → Others (n .nodes) (S 9) → dataFrom ns R (nodeRow d p below n) n ≡ d
 unfolding nodeTables reached ownRows if dataFrom nodeRow nameCells nameFrom
-data-back ns b c R S n d p h s f o =
-    let r = animCells (d .anim) in
+data-back ns b c R S n d p below h s f o =
+    let a = animCells (d .anim) in
+    let r = a ++ (below ∷ []) in
     let y = kindCells (d .kind) n ++ r in
     let ew = take-at (d .words) y 10 (any-words 10 (d .words) (h .words)) in
     let ey = drop-at (d .words) y 10 (any-words 10 (d .words) (h .words)) in
@@ -118,6 +119,6 @@ data-back ns b c R S n d p h s f o =
     let el : keysFrom (mine (n .nodes) (drop (n .lists) (R 9))) (drop (n .keys) (R 10)) ≡ d .keys =
     rw (em, g .1 .1 .0) (keys-back (n .nodes) (n .keys) (d .keys) (S 10) (h .keys)) in
     let ed : drop 3 y ≡ r = drop-at (kindCells (d .kind) n) r 3 (kind-wide (d .kind) n) in
-    let ea : animFrom (drop 3 (drop 10 (d .words ++ y))) ≡ d .anim = rw (ey, ed) (anim-back (d .anim)) in
+    let ea : animFrom (take 4 (drop 3 (drop 10 (d .words ++ y)))) ≡ d .anim = rw (ey, ed, take-at a (below ∷ []) 4 (anim-wide (d .anim) (h .anim))) (anim-back (d .anim)) in
     let eK : kindFrom R n (getD (drop 10 (d .words ++ y)) 0 0) (getD (drop 10 (d .words ++ y)) 2 0) ≡ d .kind = rw ey ek in
     λ i. record { name = record { place = d .name .place; bytes = s .1 i }; words = ew i; kind = eK i; keys = el i; anim = ea i }

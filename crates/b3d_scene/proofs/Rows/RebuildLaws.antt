@@ -17,7 +17,7 @@ use Rattle.b3d_scene.specs.Colours.{passes}
 use Rattle.b3d_scene.specs.Rebuild.{Lent, cut, lentRows, roomy, textureFrom, brushFrom, Rows, Placed, walk, tree, together, nodeNames, names, stands, sound, rebuild}
 use Rattle.b3d_scene.specs.Rules.{bonesBelow, levels, rowLimit, boneVertices}
 use Rattle.b3d_scene.specs.Scene.{Texture, Brush, Forest, leaf, node, Scene}
-use Rattle.b3d_scene.specs.Tables.{width, start, reached, textureRow, brushRow, ownRows, withNode, withForest, forestRows, rows, words, table, nodeTables, tables}
+use Rattle.b3d_scene.specs.Tables.{width, start, reached, textureRow, brushRow, ownRows, withNode, withForest, forestRows, rows, words, table, nodeTables, tables, nodesIn}
 use Rattle.b3d_scene.specs.declared.Counts.{Counts}
 use Rattle.b3d_scene.proofs.Fitting.{FitTexture, FitBrush, FitSlots, FitNodes, OneRoot, Fit, fits-is}
 use Rattle.b3d_scene.proofs.Rows.Nodes.{OwnWide, own-wide, From}
@@ -37,10 +37,10 @@ forest-wide zero b above (node d ch sib) p n h = absurd h
 forest-wide (suc l) b above (node d ch sib) p n h =
     let m = withNode d n in
     let q = withForest ch m in
-    all-zip (OwnWide d p n) (λ k. All (Wide (width k)) (forestRows k ch (n .nodes) m) × All (Wide (width k)) (forestRows k sib p q)) _
-    (λ k x y. all-append (Wide (width k)) (ownRows k d p n) (forestRows k ch (n .nodes) m ++ forestRows k sib p q) x
+    all-zip (OwnWide d p (nodesIn ch) n) (λ k. All (Wide (width k)) (forestRows k ch (n .nodes) m) × All (Wide (width k)) (forestRows k sib p q)) _
+    (λ k x y. all-append (Wide (width k)) (ownRows k d p (nodesIn ch) n) (forestRows k ch (n .nodes) m ++ forestRows k sib p q) x
     (all-append (Wide (width k)) (forestRows k ch (n .nodes) m) (forestRows k sib p q) (y .0) (y .1)))
-    nodeTables (own-wide b (boneVertices above) d p n (h .0))
+    nodeTables (own-wide b (boneVertices above) d p (nodesIn ch) n (h .0))
     (all-zip (λ k. All (Wide (width k)) (forestRows k ch (n .nodes) m)) (λ k. All (Wide (width k)) (forestRows k sib p q)) _ (λ k x y. (x, y))
     nodeTables (forest-wide l b (bonesBelow above d) ch (n .nodes) m (h .1)) (forest-wide (suc l) b above sib p q (h .2)))
 

@@ -13,7 +13,7 @@ use Rattle.layout.proofs.Lists.{All, all-pure, all-map, all-zip, all-append, al
 use Rattle.b3d_scene.specs.Names.{renameTexture, renameBrush, renameData, renameForest, rename, bareName, noName, bare, cleared, named, unplaced, unnamed, nameOff}
 use Rattle.b3d_scene.specs.Rebuild.{Lent, cut, lentRows, nodeNames, names}
 use Rattle.b3d_scene.specs.Scene.{Texture, Brush, Data, Forest, leaf, node, Scene}
-use Rattle.b3d_scene.specs.Tables.{width, start, nameCells, textureRow, brushRow, nodeRow, ownRows, withNode, withForest, forestRows, rows, words, table, nodeTables, tables}
+use Rattle.b3d_scene.specs.Tables.{width, start, nameCells, textureRow, brushRow, nodeRow, ownRows, withNode, withForest, forestRows, rows, words, table, nodeTables, tables, nodesIn}
 use Rattle.b3d_scene.specs.declared.Counts.{Counts}
 use Rattle.b3d_scene.proofs.Fitting.{Fit}
 use Rattle.b3d_scene.proofs.Rows.RebuildLaws.{rows-wide, together-back}
@@ -51,9 +51,14 @@ module _ (f : Name → Name) (g : List ℕ → List ℕ) (law : (n : Name) (r : 
   same-counts leaf n = refl
   same-counts (node d ch sib) n = ap (withForest (renameForest f sib)) (same-counts ch (withNode d n)) ∙ same-counts sib (withForest ch (withNode d n))
 
-  own-renamed : (d : Data) (p : ℕ) (n : Counts) → All (λ k. ownRows k (renameData f d) p n ≡ named g k (ownRows k d p n)) nodeTables
+  same-nodes : (t : Forest) → nodesIn (renameForest f t) ≡ nodesIn t
+  unfolding nodesIn
+  same-nodes leaf = refl
+  same-nodes (node d ch sib) = omega (arith, same-nodes ch, same-nodes sib)
+
+  own-renamed : (d : Data) (p below : ℕ) (n : Counts) → All (λ k. ownRows k (renameData f d) p below n ≡ named g k (ownRows k d p below n)) nodeTables
   unfolding nodeTables ownRows named if nodeRow
-  own-renamed d p n = (ap (λ (r : List ℕ). r ∷ []) (law (d .name) _), (refl, (refl, (refl, (refl, (refl, (refl, (refl, tt))))))))
+  own-renamed d p below n = (ap (λ (r : List ℕ). r ∷ []) (law (d .name) _), (refl, (refl, (refl, (refl, (refl, (refl, (refl, tt))))))))
 
   same-node : (d : Data) (n : Counts) → withNode (renameData f d) n ≡ withNode d n
   unfolding withNode
@@ -66,7 +71,7 @@ module _ (f : Name → Name) (g : List ℕ → List ℕ) (law : (n : Name) (r : 
       let m = withNode d n in
       let q = withForest ch m in
       let e = same-node d n in
-      all-zip (λ k. ownRows k (renameData f d) p n ≡ named g k (ownRows k d p n))
+      all-zip (λ k. ownRows k (renameData f d) p (nodesIn ch) n ≡ named g k (ownRows k d p (nodesIn ch) n))
       (λ k. (forestRows k (renameForest f ch) (n .nodes) m ≡ named g k (forestRows k ch (n .nodes) m)) × (forestRows k (renameForest f sib) p q ≡ named g k (forestRows k sib p q))) _
       (λ k a r.
       let x = forestRows k ch (n .nodes) m in
@@ -74,9 +79,10 @@ module _ (f : Name → Name) (g : List ℕ → List ℕ) (law : (n : Name) (r : 
       let c₁ : forestRows k (renameForest f ch) (n .nodes) (withNode (renameData f d) n) ≡ named g k x = ap (forestRows k (renameForest f ch) (n .nodes)) e ∙ r .0 in
       let c₂ : forestRows k (renameForest f sib) p (withForest (renameForest f ch) (withNode (renameData f d) n)) ≡ named g k y =
       ap (forestRows k (renameForest f sib) p) (ap (withForest (renameForest f ch)) e ∙ same-counts ch m) ∙ r .1 in
-      ap₂ _++_ a (ap₂ _++_ c₁ c₂)
-      ∙ sym (named-append g k (ownRows k d p n) (x ++ y) ∙ ap (λ (l : List (List ℕ)). named g k (ownRows k d p n) ++ l) (named-append g k x y)))
-      nodeTables (own-renamed d p n)
+      ap (λ (j : ℕ). ownRows k (renameData f d) p j n ++ (forestRows k (renameForest f ch) (n .nodes) (withNode (renameData f d) n) ++ forestRows k (renameForest f sib) p (withForest (renameForest f ch) (withNode (renameData f d) n)))) (same-nodes ch)
+      ∙ ap₂ _++_ a (ap₂ _++_ c₁ c₂)
+      ∙ sym (named-append g k (ownRows k d p (nodesIn ch) n) (x ++ y) ∙ ap (λ (l : List (List ℕ)). named g k (ownRows k d p (nodesIn ch) n) ++ l) (named-append g k x y)))
+      nodeTables (own-renamed d p (nodesIn ch) n)
       (all-zip (λ k. forestRows k (renameForest f ch) (n .nodes) m ≡ named g k (forestRows k ch (n .nodes) m)) (λ k. forestRows k (renameForest f sib) p q ≡ named g k (forestRows k sib p q)) _
       (λ k x y. (x, y)) nodeTables (forest-renamed ch (n .nodes) m) (forest-renamed sib p q))
 

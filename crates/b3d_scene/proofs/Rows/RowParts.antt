@@ -5,7 +5,7 @@ use Prim.Native.Nat.{ℕ, suc, _+_, _-_, _≤_}
 use native.Mathlib.Omega.{arith}
 use mathlib.Core.List.{List, [], _∷_, _++_, map, append-assoc}
 use lib.ListN.{length, take, drop, getD, replicate, length-append, length-map, length-replicate}
-use lib.Seq.{take-append-seam, drop-append-seam, take-at, drop-at}
+use lib.Seq.{take-append-seam, drop-append-seam, take-at, drop-at, getD-append-add}
 use lib.Dec.{eqb, eqb-refl}
 use mir.Facts.{no-eqb}
 use Rattle.wire.specs.Test.{if}
@@ -17,7 +17,7 @@ pub use Rattle.b3d_scene.specs.Fitting.{Stands}
 use Rattle.b3d_scene.specs.Mask.{mask, spread, squeeze, vertexMask, vertexHas, keyMask, keyHas}
 use Rattle.b3d_scene.specs.Rebuild.{nameFrom, textureFrom, brushFrom, setsFrom, meshFrom, mine, keysFrom, animFrom}
 use Rattle.b3d_scene.specs.Scene.{Texture, Brush, TriangleSet, Mesh, Kind, pivot, mesh, bone, Keys, Anim, still, anim, Data}
-use Rattle.b3d_scene.specs.Tables.{nameCells, textureRow, brushRow, kindCells, animCells, nodeRow, meshRow, vertexRows, setRows, triangleRows, listRows, keyRows}
+use Rattle.b3d_scene.specs.Tables.{nameCells, textureRow, brushRow, kindCells, animCells, nodeRow, meshRow, vertexRows, setRows, triangleRows, listRows, keyRows, nodeWidth}
 use Rattle.b3d_scene.specs.declared.Counts.{Counts}
 use Rattle.b3d_scene.proofs.Fitting.{FitTexture, FitBrush, FitTriangles, FitMesh, FitKeys, FitAnim, FitData}
 use Rattle.b3d_scene.proofs.Rows.MaskLaws.{mask-length, spread-length, squeeze-spread}
@@ -179,8 +179,22 @@ kind-wide pivot n = refl
 kind-wide (mesh m) n = refl
 kind-wide (bone ws) n = refl
 
-pub node-wide : (brushes bones : ℕ) (d : Data) (p : ℕ) (n : Counts) → FitData brushes bones d → Wide 20 (nodeRow d p n)
+pub node-wide : (brushes bones : ℕ) (d : Data) (p below : ℕ) (n : Counts) → FitData brushes bones d → Wide nodeWidth (nodeRow d p below n)
 unfolding nodeRow nameCells
-node-wide brushes bones d p n h =
-    let c = kindCells (d .kind) n ++ animCells (d .anim) in
-    omega (arith, any-words 10 (d .words) (h .words), length-append (d .words) c, length-append (kindCells (d .kind) n) (animCells (d .anim)), kind-wide (d .kind) n, anim-wide (d .anim) (h .anim))
+node-wide brushes bones d p below n h =
+    let a = animCells (d .anim) ++ (below ∷ []) in
+    let c = kindCells (d .kind) n ++ a in
+    omega (arith, any-words 10 (d .words) (h .words), length-append (d .words) c, length-append (kindCells (d .kind) n) a, length-append (animCells (d .anim)) (below ∷ []), kind-wide (d .kind) n, anim-wide (d .anim) (h .anim))
+
+-- a cell behind n others
+cell-past : (a r : List ℕ) (n i : ℕ) → length a ≡ n → getD (a ++ r) (n + i) 0 ≡ getD r i 0
+cell-past a r n i e = rw (← e) (getD-append-add a r i 0)
+
+-- the last word of a node's row
+pub below-cell : (brushes bones : ℕ) (d : Data) (p below : ℕ) (n : Counts) → FitData brushes bones d → getD (nodeRow d p below n) 20 0 ≡ below
+unfolding nodeRow nameCells
+below-cell brushes bones d p below n h =
+    let k = kindCells (d .kind) n in
+    let a = animCells (d .anim) in
+    cell-past (d .words) (k ++ (a ++ (below ∷ []))) 10 7 (any-words 10 (d .words) (h .words))
+    ∙ cell-past k (a ++ (below ∷ [])) 3 4 (kind-wide (d .kind) n) ∙ cell-past a (below ∷ []) 4 0 (anim-wide (d .anim) (h .anim))

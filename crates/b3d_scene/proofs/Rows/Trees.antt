@@ -14,23 +14,23 @@ use Rattle.layout.proofs.Lists.{All, all-zip}
 use Rattle.layout.proofs.Outs.{if-yes, if-no}
 use Rattle.b3d_scene.specs.Rebuild.{Rows, dataFrom, Placed, walk, Group, Off, off, groups, tree}
 use Rattle.b3d_scene.specs.Scene.{Keys, Data, Forest, leaf, node}
-use Rattle.b3d_scene.specs.Tables.{start, reached, nodeTables, nameCells, nodeRow, listRows, ownRows, withNode, withForest, forestRows}
+use Rattle.b3d_scene.specs.Tables.{start, reached, nodeTables, nameCells, nodeRow, listRows, ownRows, withNode, withForest, forestRows, nodesIn}
 use Rattle.b3d_scene.specs.declared.Counts.{Counts}
 use Rattle.b3d_scene.proofs.Fitting.{FitData}
 use Rattle.b3d_scene.proofs.Rows.Nodes.{Step, steps, nodes-step, From, data-back}
-use Rattle.b3d_scene.proofs.Rows.RowParts.{Stands, Others}
+use Rattle.b3d_scene.proofs.Rows.RowParts.{Stands, Others, below-cell}
 
 -- the nodes of a forest under p, when n rows came before, and then others
 unfoldable pub flat : ℕ → Counts → Forest → List Placed → List Placed
 flat p n leaf r = r
 flat p n (node d ch sib) r =
     let m = withNode d n in
-    record { parent = p; item = d } ∷ flat (n .nodes) m ch (flat p (withForest ch m) sib r)
+    record { parent = p; below = nodesIn ch; item = d } ∷ flat (n .nodes) m ch (flat p (withForest ch m) sib r)
 
 -- table k's rows of such nodes
 unfoldable pub flatRows : List Placed → Counts → Rows
 flatRows [] n k = []
-flatRows (x ∷ r) n k = ownRows k (x .item) (x .parent) n ++ flatRows r (withNode (x .item) n) k
+flatRows (x ∷ r) n k = ownRows k (x .item) (x .parent) (x .below) n ++ flatRows r (withNode (x .item) n) k
 
 pub flat-rows : (k p : ℕ) (n : Counts) (t : Forest) (r : List Placed) → flatRows (flat p n t r) n k ≡ forestRows k t p n ++ flatRows r (withForest t n) k
 unfolding flat flatRows forestRows withForest
@@ -42,8 +42,8 @@ flat-rows k p n (node d ch sib) r =
     let z = flatRows r (withForest sib (withForest ch m)) k in
     let e : a ++ flatRows (flat p (withForest ch m) sib r) (withForest ch m) k ≡ (a ++ b) ++ z =
     ap (λ (l : List (List ℕ)). a ++ l) (flat-rows k p (withForest ch m) sib r) ∙ sym (append-assoc a b z) in
-    ap (λ (l : List (List ℕ)). ownRows k d p n ++ l) (flat-rows k (n .nodes) m ch (flat p (withForest ch m) sib r) ∙ e)
-    ∙ sym (append-assoc (ownRows k d p n) (a ++ b) z)
+    ap (λ (l : List (List ℕ)). ownRows k d p (nodesIn ch) n ++ l) (flat-rows k (n .nodes) m ch (flat p (withForest ch m) sib r) ∙ e)
+    ∙ sym (append-assoc (ownRows k d p (nodesIn ch) n) (a ++ b) z)
 
 -- ---- parents against a forest
 
@@ -119,12 +119,12 @@ none-over m ch es =
 -- ---- nodes against rows
 
 -- what follows a node in table k, where From says what stands there
-pub from-after : (R : Rows) (n : Counts) (d : Data) (p : ℕ) (S : Rows) → All (From R n (λ k. ownRows k d p n ++ S k)) nodeTables → All (From R (withNode d n) S) nodeTables
-from-after R n d p S f =
-    all-zip (From R n (λ k. ownRows k d p n ++ S k)) (Step d p n) (From R (withNode d n) S)
+pub from-after : (R : Rows) (n : Counts) (d : Data) (p below : ℕ) (S : Rows) → All (From R n (λ k. ownRows k d p below n ++ S k)) nodeTables → All (From R (withNode d n) S) nodeTables
+from-after R n d p below S f =
+    all-zip (From R n (λ k. ownRows k d p below n ++ S k)) (Step d p below n) (From R (withNode d n) S)
     (λ k e s.
-    rw (s, ← drop-drop (length (ownRows k d p n)) (reached k n) (R k), e) (drop-append-seam (ownRows k d p n) (S k)))
-    nodeTables f (steps d p n)
+    rw (s, ← drop-drop (length (ownRows k d p below n)) (reached k n) (R k), e) (drop-append-seam (ownRows k d p below n) (S k)))
+    nodeTables f (steps d p below n)
 
 others-list : (i j k : ℕ) (xs : List Keys) (rs : List (List ℕ)) → i < j → Others i rs → Others i (listRows j k xs ++ rs)
 unfolding listRows
@@ -144,24 +144,24 @@ others-later i (x ∷ fs) n le =
 abbrev pub Known : List ℕ → ℕ → Placed → Type 0
 Known ns b x = (c : ℕ) × (FitData b c (x .item) × Stands ns (x .item .name))
 
-parent-cell : (d : Data) (p : ℕ) (n : Counts) → getD (nodeRow d p n) 2 0 ≡ p
+parent-cell : (d : Data) (p below : ℕ) (n : Counts) → getD (nodeRow d p below n) 2 0 ≡ p
 unfolding nodeRow nameCells
-parent-cell d p n = refl
+parent-cell d p below n = refl
 
 walk-node : (ns : List ℕ) (b : ℕ) (R : Rows) (x : Placed) (fs : List Placed) (n : Counts) → Known ns b x
-    → All (From R n (λ k. ownRows k (x .item) (x .parent) n ++ flatRows fs (withNode (x .item) n) k)) nodeTables
+    → All (From R n (λ k. ownRows k (x .item) (x .parent) (x .below) n ++ flatRows fs (withNode (x .item) n) k)) nodeTables
     → walk ns R (flatRows fs (withNode (x .item) n) 3) (withNode (x .item) n) ≡ fs
-    → walk ns R (ownRows 3 (x .item) (x .parent) n ++ flatRows fs (withNode (x .item) n) 3) n ≡ x ∷ fs
+    → walk ns R (ownRows 3 (x .item) (x .parent) (x .below) n ++ flatRows fs (withNode (x .item) n) 3) n ≡ x ∷ fs
 unfolding walk ownRows if
 walk-node ns b R x fs n h f ih =
     let d = x .item in
     let m = withNode d n in
     let es : m .nodes ≡ suc (n .nodes) = nodes-step d n in
-    let ed : dataFrom ns R (nodeRow d (x .parent) n) n ≡ d = data-back ns b (h .0) R (flatRows fs m) n d (x .parent) (h .1 .0) (h .1 .1) f (others-later (n .nodes) fs m (omega arith)) in
-    rw (ed, ih, parent-cell d (x .parent) n)
+    let ed : dataFrom ns R (nodeRow d (x .parent) (x .below) n) n ≡ d = data-back ns b (h .0) R (flatRows fs m) n d (x .parent) (x .below) (h .1 .0) (h .1 .1) f (others-later (n .nodes) fs m (omega arith)) in
+    rw (ed, ih, parent-cell d (x .parent) (x .below) n, below-cell b (h .0) d (x .parent) (x .below) n (h .1 .0))
 
 pub walk-back : (ns : List ℕ) (b : ℕ) (R : Rows) (fs : List Placed) (n : Counts) → All (Known ns b) fs → All (From R n (flatRows fs n)) nodeTables
     → walk ns R (flatRows fs n 3) n ≡ fs
 unfolding walk flatRows
 walk-back ns b R [] n h f = refl
-walk-back ns b R (x ∷ fs) n h f = walk-node ns b R x fs n (h .0) f (walk-back ns b R fs (withNode (x .item) n) (h .1) (from-after R n (x .item) (x .parent) (flatRows fs (withNode (x .item) n)) f))
+walk-back ns b R (x ∷ fs) n h f = walk-node ns b R x fs n (h .0) f (walk-back ns b R fs (withNode (x .item) n) (h .1) (from-after R n (x .item) (x .parent) (x .below) (flatRows fs (withNode (x .item) n)) f))

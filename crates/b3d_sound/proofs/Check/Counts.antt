@@ -7,7 +7,7 @@ use mathlib.Core.Bool.{Bool, true, false}
 use mathlib.Core.Option.{none, some}
 use mathlib.Core.List.{List, []}
 use lib.ListN.{length, take, drop, getD}
-use lib.Seq.{getD-drop}
+use lib.Seq.{getD-drop, getD-take}
 use lib.Dec.{eqb}
 use Rattle.wire.specs.Test.{if}
 use Rattle.b3d_scene.specs.Rebuild.{setsFrom, meshFrom, mine, keysFrom, animFrom, Rows, kindFrom, dataFrom}
@@ -116,7 +116,7 @@ module _ (ns : List ℕ) (b c : ℕ) (R : Rows) (x : List ℕ) (n : Counts) (her
   unfolding dataFrom animFrom cellBones
   cell-bones told =
       let c : animated ((dataFrom ns R x n) .anim) ≡ eqb (getD x 16 0) 1 =
-      anim-there (eqb (getD (drop 3 (drop 13 x)) 0 0) 1) _ ∙ ap (λ (z : ℕ). eqb z 1) (getD-drop 3 (drop 13 x) 0 0 ∙ getD-drop 13 x 3 0) in
+      anim-there (eqb (getD (take 4 (drop 3 (drop 13 x))) 0 0) 1) _ ∙ ap (λ (z : ℕ). eqb z 1) (getD-take 4 (drop 3 (drop 13 x)) 0 0 (omega arith) ∙ getD-drop 3 (drop 13 x) 0 0 ∙ getD-drop 13 x 3 0) in
       ap₂ (bonesFrom (some told)) c own-cells ∙ bones-if told ((cellCounts R x n) .vertices - n .vertices) (eqb (getD x 16 0) 1)
 
 -- what the root says

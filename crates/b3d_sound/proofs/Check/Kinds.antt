@@ -95,7 +95,7 @@ all-first : (P : List ℕ → Type 0) (l : List (List ℕ)) → 0 < length l →
 all-first P [] h k = absurd (omega arith)
 all-first P (x ∷ l) h k = k .0
 
-module _ (b c : ℕ) (R : Rows) (n : Counts) (y : List ℕ) (whole : Whole R) (wide : length y ≡ 7) where
+module _ (b c : ℕ) (R : Rows) (n : Counts) (y : List ℕ) (whole : Whole R) (wide : length y ≡ 8) where
   abbrev l : List (List ℕ)
   l = drop (n .meshes) (R 4)
 

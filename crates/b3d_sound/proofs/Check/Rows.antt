@@ -116,6 +116,13 @@ cells-are x n e = cells-take x n (omega arith) ∙ take-all n x (omega arith)
 pub cells-front : (x : List ℕ) (n : ℕ) → n ≤ length x → cells x 0 n ++ drop n x ≡ x
 cells-front x n h = ap (λ (r : List ℕ). r ++ drop n x) (cells-take x n h) ∙ take-append-drop n x
 
+-- the last cell of a row
+pub last-cell : (n : ℕ) (x : List ℕ) → length x ≡ suc n → take n x ++ (getD x n 0 ∷ []) ≡ x
+last-cell n [] e = absurd (omega arith)
+last-cell zero (a ∷ []) e = refl
+last-cell zero (a ∷ b ∷ x) e = absurd (omega arith)
+last-cell (suc n) (a ∷ x) e = ap (λ (r : List ℕ). a ∷ r) (last-cell n x (suc-inj e))
+
 -- ---- words against rules
 
 pub keeps-is : (rs : List Rule) (ws : List ℕ) → Full (length rs) ws → Tests (keeps rs ws) (Fits rs ws)

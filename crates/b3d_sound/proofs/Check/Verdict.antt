@@ -20,7 +20,7 @@ use Rattle.b3d_scene.specs.declared.Mode.the-variants.{Lenient}
 use Rattle.b3d_scene.specs.Rebuild.{Lent, cut, lentRows, roomy, textureFrom, brushFrom, Rows, walk, tree, together, names, sound, rebuild}
 use Rattle.b3d_scene.specs.Rules.{version, fileHead, rowLimit}
 use Rattle.b3d_scene.specs.Scene.{Texture, Brush, Forest, Scene}
-use Rattle.b3d_scene.specs.Tables.{width, start, textureRow, brushRow, nodeTables, tables, rows}
+use Rattle.b3d_scene.specs.Tables.{width, start, textureRow, brushRow, nodeTables, tables, rows, nodeWidth}
 use Rattle.b3d_scene.proofs.Fitting.{FitTexture, FitBrush, FitSlots, Fit}
 use Rattle.b3d_scene.proofs.Modes.{rebuild-mode}
 use Rattle.b3d_scene.proofs.Rows.RebuildLaws.{roomy-is, sound-is}
@@ -63,7 +63,7 @@ unfolding lentRows
 lent-length T k = cut-length (width k) (T .count k) (T .words k)
 
 -- the rows of textures, brushes and nodes, and of what nodes have
-whole-of : (R : Rows) → All (λ k. All (Full (width k)) (R k)) tables → All (Full 9) (R 1) × All (Full 17) (R 2) × All (Full 20) (R 3) × Whole R
+whole-of : (R : Rows) → All (λ k. All (Full (width k)) (R k)) tables → All (Full 9) (R 1) × All (Full 17) (R 2) × All (Full nodeWidth) (R 3) × Whole R
 unfolding tables nodeTables width if
 whole-of R h =
     let p = h .1 .1 .1 in

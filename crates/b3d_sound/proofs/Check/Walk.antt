@@ -12,18 +12,18 @@ use lib.Dec.{leb, ltb}
 use Rattle.wire.specs.Bytes.{AllBytes}
 use Rattle.wire.specs.Test.{if}
 use Rattle.layout.proofs.Lists.{All, all-map, all-zip}
-use Rattle.layout.proofs.Testing.{Tests, both, via, no-is, le-is, lt-is, all-is}
+use Rattle.layout.proofs.Testing.{Tests, both, via, no-is, le-is, lt-is, eq-is, all-is}
 use Rattle.b3d_scene.specs.Rebuild.{Rows, dataFrom, Placed, walk}
 use Rattle.b3d_scene.specs.Rules.{boneVertices, bonesBelow, levels}
 use Rattle.b3d_scene.specs.Scene.{Data}
-use Rattle.b3d_scene.specs.Tables.{start, reached, nodeRow, ownRows, withNode, partTables, nodeTables}
+use Rattle.b3d_scene.specs.Tables.{start, reached, nodeRow, ownRows, withNode, partTables, nodeTables, nodeWidth}
 use Rattle.b3d_scene.specs.declared.Counts.{Counts}
 use Rattle.b3d_scene.proofs.Fitting.{FitData}
 use Rattle.b3d_scene.proofs.Rows.Nodes.{Step, steps, nodes-step, From}
 use Rattle.b3d_scene.proofs.Rows.RowParts.{Stands}
 use Rattle.b3d_scene.proofs.Rows.Trees.{flatRows, from-after}
 use Rattle.b3d_sound.specs.CellCounts.{cellCounts, cellBones}
-use Rattle.b3d_sound.specs.Check.{nodeHere, spent, Level, upTo, toldBy, nodesHere}
+use Rattle.b3d_sound.specs.Check.{nodeHere, spent, Level, upTo, toldBy, endHere, endFrom, nodesHere}
 use Rattle.b3d_sound.proofs.Check.Testing.{then}
 use Rattle.b3d_sound.proofs.Check.Rows.{Begins, begins-is, is-begins, Full}
 use Rattle.b3d_sound.proofs.Check.Kinds.{Whole}
@@ -49,18 +49,18 @@ spent-is R n = all-is (λ k. none-left (R k) (reached k n)) partTables
 abbrev pub FitsIn : List ℕ → ℕ → ℕ → Data → Type 0
 FitsIn ns b c d = FitData b c d × Stands ns (d .name)
 
-module _ (R : Rows) (n : Counts) (d : Data) (p : ℕ) (S : Rows) where
-  walk-to : All (OwnBegins R n d p) nodeTables → All (From R (withNode d n) S) nodeTables → All (From R n (λ k. ownRows k d p n ++ S k)) nodeTables
+module _ (R : Rows) (n : Counts) (d : Data) (p below : ℕ) (S : Rows) where
+  walk-to : All (OwnBegins R n d p below) nodeTables → All (From R (withNode d n) S) nodeTables → All (From R n (λ k. ownRows k d p below n ++ S k)) nodeTables
   walk-to b f =
-      all-zip (OwnBegins R n d p) (λ k. Step d p n k × From R (withNode d n) S k) (From R n (λ k. ownRows k d p n ++ S k))
+      all-zip (OwnBegins R n d p below) (λ k. Step d p below n k × From R (withNode d n) S k) (From R n (λ k. ownRows k d p below n ++ S k))
       (λ k a g.
-      let own = ownRows k d p n in
+      let own = ownRows k d p below n in
       begins-is own (drop (reached k n) (R k)) a
       ∙ ap (λ (l : List (List ℕ)). own ++ l) (drop-drop (length own) (reached k n) (R k) ∙ ap (λ (j : ℕ). drop j (R k)) (sym (g .0)) ∙ g .1))
-      nodeTables b (all-zip (Step d p n) (From R (withNode d n) S) _ (λ k x y. (x, y)) nodeTables (steps d p n) f)
+      nodeTables b (all-zip (Step d p below n) (From R (withNode d n) S) _ (λ k x y. (x, y)) nodeTables (steps d p below n) f)
 
-  walk-from : All (From R n (λ k. ownRows k d p n ++ S k)) nodeTables → All (OwnBegins R n d p) nodeTables
-  walk-from f = all-map (From R n (λ k. ownRows k d p n ++ S k)) (OwnBegins R n d p) (λ k e. subst (Begins (ownRows k d p n)) (sym e) (is-begins (ownRows k d p n) (S k))) nodeTables f
+  walk-from : All (From R n (λ k. ownRows k d p below n ++ S k)) nodeTables → All (OwnBegins R n d p below) nodeTables
+  walk-from f = all-map (From R n (λ k. ownRows k d p below n ++ S k)) (OwnBegins R n d p below) (λ k e. subst (Begins (ownRows k d p below n)) (sym e) (is-begins (ownRows k d p below n) (S k))) nodeTables f
 
 -- the node's row is the next of the node rows
 module _ (ns : List ℕ) (b c : ℕ) (R : Rows) (x : List ℕ) (xs : List (List ℕ)) (n : Counts) (d : Data) (next : drop (n .nodes) (R 3) ≡ x ∷ xs) where
@@ -72,17 +72,17 @@ module _ (ns : List ℕ) (b c : ℕ) (R : Rows) (x : List ℕ) (xs : List (List 
   module _ (S : Rows) where
     -- with the rows after it, table by table
     abbrev pub NextIs : Type 0
-    NextIs = FitsIn ns b c d × All (From R n (λ k. ownRows k d (getD x 2 0) n ++ S k)) nodeTables
+    NextIs = FitsIn ns b c d × All (From R n (λ k. ownRows k d (getD x 2 0) (getD x 20 0) n ++ S k)) nodeTables
 
     pub next-to : NodeIs ns b c R x n d → All (From R (withNode d n) S) nodeTables → NextIs
     unfolding nodeTables reached ownRows if
-    next-to h f = ((h .1, h .2), walk-to R n d (getD x 2 0) S (subst (Begins (nodeRow d (getD x 2 0) n ∷ [])) (sym next) (h .0, tt), h .3) f)
+    next-to h f = ((h .1, h .2), walk-to R n d (getD x 2 0) (getD x 20 0) S (subst (Begins (nodeRow d (getD x 2 0) (getD x 20 0) n ∷ [])) (sym next) (h .0, tt), h .3) f)
 
     pub next-from : NextIs → NodeIs ns b c R x n d × All (From R (withNode d n) S) nodeTables
     unfolding nodeTables reached ownRows if
     next-from h =
-        let o = walk-from R n d (getD x 2 0) S (h .1) in
-        ((subst (Begins (nodeRow d (getD x 2 0) n ∷ [])) next (o .0) .0, h .0 .0, h .0 .1, o .1), from-after R n d (getD x 2 0) S (h .1))
+        let o = walk-from R n d (getD x 2 0) (getD x 20 0) S (h .1) in
+        ((subst (Begins (nodeRow d (getD x 2 0) (getD x 20 0) n ∷ [])) next (o .0) .0, h .0 .0, h .0 .1, o .1), from-after R n d (getD x 2 0) (getD x 20 0) S (h .1))
 
 -- ---- all nodes
 
@@ -90,15 +90,19 @@ module _ (ns : List ℕ) (b c : ℕ) (R : Rows) (x : List ℕ) (xs : List (List 
 abbrev pub said : ℕ → Data → ℕ
 said told d = boneVertices (bonesBelow (some told) d)
 
--- node d, number i, below the first of a path: it is not too deep, it fits what is said there of bones, and so do the nodes after it
-abbrev pub ToldAt : ℕ → Data → ℕ → (List Level → Type 0) → List Level → Type 0
-ToldAt b d i rest [] = ⊥
-ToldAt b d i rest (q ∷ qs) = (suc (length qs) < levels) × (FitData b (q .bones) d × rest (record { node = i; bones = said (q .bones) d } ∷ q ∷ qs))
+-- node d, number i, with its end below the first of a path: it is not too deep, it fits what is said there of bones, and so do the nodes after it
+abbrev pub ToldAt : ℕ → Data → ℕ → ℕ → (List Level → Type 0) → List Level → Type 0
+ToldAt b d i end rest [] = ⊥
+ToldAt b d i end rest (q ∷ qs) = (suc (length qs) < levels) × (FitData b (q .bones) d × rest (record { node = i; end = end; bones = said (q .bones) d } ∷ q ∷ qs))
+
+-- all nodes of a path end at row i
+abbrev pub EndAt : ℕ → List Level → Type 0
+EndAt i path = All (λ (q : Level). q .end ≡ i) path
 
 -- nodes from number i on: each has its parent on the path
 abbrev pub Told : ℕ → List Level → ℕ → List Placed → Type 0
-Told b path i [] = Unit {0}
-Told b path i (x ∷ fs) = ToldAt b (x .item) i (λ p. Told b p (suc i) fs) (upTo (x .parent) path)
+Told b path i [] = EndAt i path
+Told b path i (x ∷ fs) = ToldAt b (x .item) i (i + 1 + x .below) (λ p. Told b p (suc i) fs) (upTo i (x .parent) path)
 
 -- the name of each is in ns
 abbrev pub NamedIn : List ℕ → List Placed → Type 0
@@ -109,14 +113,14 @@ WalkIs ns b R path n fs = Told b path (n .nodes) fs × (NamedIn ns fs × All (Fr
 
 module _ (ns : List ℕ) (b : ℕ) (R : Rows) (bytes : AllBytes ns) (whole : Whole R) where
   -- a node below the first of q, and those after it
-  walk-step : (x : List ℕ) (xs : List (List ℕ)) (n : Counts) → Full 20 x → drop (n .nodes) (R 3) ≡ x ∷ xs
+  walk-step : (x : List ℕ) (xs : List (List ℕ)) (n : Counts) → Full nodeWidth x → drop (n .nodes) (R 3) ≡ x ∷ xs
       → ((path : List Level) (m : Counts) → drop (m .nodes) (R 3) ≡ xs → Tests (nodesHere ns b R path xs m) (WalkIs ns b R path m (walk ns R xs m)))
       → (q : List Level)
       → Tests (ltb 0 (length q) && (ltb (length q) levels && (nodeHere ns b (toldBy q) R x n
-      && nodesHere ns b R (record { node = n .nodes; bones = cellBones (toldBy q) R x n } ∷ q) xs (cellCounts R x n))))
-      (ToldAt b (dataFrom ns R x n) (n .nodes) (λ p. Told b p (suc (n .nodes)) (walk ns R xs (withNode (dataFrom ns R x n) n))) q
-      × (NamedIn ns (record { parent = getD x 2 0; item = dataFrom ns R x n } ∷ walk ns R xs (withNode (dataFrom ns R x n) n))
-      × All (From R n (flatRows (record { parent = getD x 2 0; item = dataFrom ns R x n } ∷ walk ns R xs (withNode (dataFrom ns R x n) n)) n)) nodeTables))
+      && nodesHere ns b R (record { node = n .nodes; end = endFrom (n .nodes) x; bones = cellBones (toldBy q) R x n } ∷ q) xs (cellCounts R x n))))
+      (ToldAt b (dataFrom ns R x n) (n .nodes) (endFrom (n .nodes) x) (λ p. Told b p (suc (n .nodes)) (walk ns R xs (withNode (dataFrom ns R x n) n))) q
+      × (NamedIn ns (record { parent = getD x 2 0; below = getD x 20 0; item = dataFrom ns R x n } ∷ walk ns R xs (withNode (dataFrom ns R x n) n))
+      × All (From R n (flatRows (record { parent = getD x 2 0; below = getD x 20 0; item = dataFrom ns R x n } ∷ walk ns R xs (withNode (dataFrom ns R x n) n)) n)) nodeTables))
   unfolding flatRows toldBy
   walk-step x xs n w e rest [] = via (λ h. absurd h) (λ h. absurd (h .0)) no-is
   walk-step x xs n w e rest (r ∷ rs) =
@@ -125,7 +129,7 @@ module _ (ns : List ℕ) (b : ℕ) (R : Rows) (bytes : AllBytes ns) (whole : Who
       let m = withNode d n in
       let fs = walk ns R xs m in
       let k = suc (length rs) in
-      let path : ℕ → List Level = λ v. record { node = n .nodes; bones = v } ∷ r ∷ rs in
+      let path : ℕ → List Level = λ v. record { node = n .nodes; end = endFrom (n .nodes) x; bones = v } ∷ r ∷ rs in
       via
       (λ h.
       let t = h .1 .1 in
@@ -139,7 +143,7 @@ module _ (ns : List ℕ) (b : ℕ) (R : Rows) (bytes : AllBytes ns) (whole : Who
       (subst (λ (j : Counts). Tests (nodesHere ns b R (path (said c d)) xs j) (WalkIs ns b R (path (said c d)) m fs)) (cell-counts ns b c R x n h)
       (rest (path (said c d)) m (after ns b c R x xs n d e)))))))
 
-  pub walk-is : (xs : List (List ℕ)) (path : List Level) (n : Counts) → All (Full 20) xs → drop (n .nodes) (R 3) ≡ xs → Tests (nodesHere ns b R path xs n) (WalkIs ns b R path n (walk ns R xs n))
-  unfolding nodesHere walk flatRows nodeTables reached if
-  walk-is [] path n w e = via (λ h. (tt, (tt, (e, h)))) (λ h. h .1 .1 .1) (spent-is R n)
-  walk-is (x ∷ xs) path n w e = walk-step x xs n (w .0) e (λ p m g. walk-is xs p m (w .1) g) (upTo (getD x 2 0) path)
+  pub walk-is : (xs : List (List ℕ)) (path : List Level) (n : Counts) → All (Full nodeWidth) xs → drop (n .nodes) (R 3) ≡ xs → Tests (nodesHere ns b R path xs n) (WalkIs ns b R path n (walk ns R xs n))
+  unfolding nodesHere endHere walk flatRows nodeTables reached if
+  walk-is [] path n w e = via (λ h. (h .0, (tt, (e, h .1)))) (λ h. (h .0, h .1 .1 .1)) (both (all-is (λ (q : Level). eq-is (q .end) (n .nodes)) path) (spent-is R n))
+  walk-is (x ∷ xs) path n w e = walk-step x xs n (w .0) e (λ p m g. walk-is xs p m (w .1) g) (upTo (n .nodes) (getD x 2 0) path)

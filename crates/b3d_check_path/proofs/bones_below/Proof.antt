@@ -1,8 +1,8 @@
 -- `bones_below` says the node's own vertices where it has an ANIM, else what it was told.
-use Rattle.b3d_check_tree.proofs.PathLaws.{bones-laws}
+use Rattle.b3d_check_path.proofs.PathLaws.{bones-laws}
 use borrow.Author.Needs.{needs}
-use Rattle.b3d_check_tree.proofs.bones_below.Statement.{statement}
-use Rattle.b3d_check_tree.proofs.bones_below.Tie as tie
+use Rattle.b3d_check_path.proofs.bones_below.Statement.{statement}
+use Rattle.b3d_check_path.proofs.bones_below.Tie as tie
 
 pub bones-below-spec : {M : Type 1} → statement M
 bones-below-spec =

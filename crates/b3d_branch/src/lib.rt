@@ -1,0 +1,40 @@
+// How many nodes are below a node, by the flat run of a file's chunks.
+ghost use mathlib.Core.Path.{_≡_};
+ghost use Prim.Native.Nat.{_<_, _≤_};
+ghost use lib.ListN.{length};
+ghost use Rattle.b3d_file_rows.specs.Flat.{flatAt};
+ghost use Rattle.b3d_file_rows.specs.Rows.{nodesBefore};
+use b3d_scene::Tag;
+use b3d_walk::Flat;
+
+// How many nodes are below one whose own chunks begin at a place: the NODEs from there on that begin before its end.
+pub fn nodes_before(file: &[u8], from: usize, end: usize) -> u32
+    requires { ⌜ (from ≤ length (now file)) × (length (now file) < 0x100000000) ⌝ }
+    ensures { λ r. ⌜ r ≡ nodesBefore end (flatAt (now (file .entry)) from) ⌝ }
+{
+    let mut at = from;
+    let mut count: u32 = 0;
+    loop {
+        match b3d_walk::flat_next(file, at) {
+            Flat::End => {
+                return count;
+            }
+            Flat::Chunk {
+                tag,
+                at: p,
+                body: _,
+                next,
+            } => {
+                if b3d_copy::same(tag, Tag::NODE) {
+                    if end <= p {
+                        return count;
+                    }
+                    count += 1;
+                    at = next;
+                } else {
+                    at = next;
+                }
+            }
+        }
+    }
+}

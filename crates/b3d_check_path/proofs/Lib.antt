@@ -1,0 +1,2 @@
+-- The laws of the path.
+pub mod PathLaws

@@ -1,0 +1,2 @@
+-- A path as code keeps it.
+pub mod Path
