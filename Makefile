@@ -1,4 +1,4 @@
-# `make demo` lists a sample, clears it of names and writes its slip; `make test` is the gate.
+# `make demo` lists a sample, clears it of names and writes its slip, and lists a skeleton and a mesh; `make test` is the gate.
 CLI = rust/target/release/kelompuris
 
 .PHONY: demo cli peers test
@@ -10,6 +10,8 @@ demo: cli
 	$(CLI) list target/kitchen_cleared.b3d
 	$(CLI) slip samples/kitchen.b3d target/kitchen.slip
 	$(CLI) slip --show target/kitchen.slip
+	$(CLI) skeleton samples/door.csf
+	$(CLI) mesh samples/door.cmf --skeleton samples/door.csf
 
 cli:
 	rust/build-lib

@@ -1,7 +1,7 @@
-/* Kelompuris: B3D scene files for showroom terminals, and slips beside them.
+/* Kelompuris: B3D scene files for showroom terminals, slips beside them, and skeletons and meshes of cal3d.
  *
- * The functions are in libkelompuris_c.a, for x86-64 Linux (`rt staticlib kelompuris_c`). They keep nothing between calls and use no heap.
- * Each takes every file, slip and number and all tables: what is no B3D file, no slip or no table of such a file is answered by a refusal.
+ * The functions are in libkelompuris_c.a, for x86-64 Linux (`rust/build-lib`). They keep nothing between calls and use no heap.
+ * Each takes every file, slip and number and all tables: what is no such file, no slip or no table of such a file is answered by a refusal.
  *
  * A lent array is a pointer and its number of elements. The caller sees to this:
  *   - the pointer holds for that many elements, and is aligned as its type asks; with 0 elements it may be null;
@@ -189,6 +189,105 @@ typedef struct {
  * The name always lies in the file: name_place + name_length is at most file_len.
  */
 kelompuris_label kelompuris_b3d_label(const uint8_t *file, size_t file_len);
+
+/* What a skeleton file of cal3d is answered (binary form, CSF version 1300).
+ *
+ * number 0: accepted. place is 0; head has the header's numbers (version, number of bones, ambient red, green, blue) and counts the rows of
+ * the two tables, 1 bones and 2 children. Any other number is a refusal, and head and counts are 0. They are given in this order, 5 to 7 as the
+ * file is read:
+ *
+ *    number                                                              place
+ *    1  file size not 12 to 16,777,216                                   0
+ *    2  the magic token is not 'C' 'S' 'F' 0                             0
+ *    5  a name, or an entry's numbers up to a name or a list, are cut;   byte where they start;
+ *       bytes after the last entry                                       the first of these bytes
+ *    6  version not 1300, or a count or length below 0                   byte of the number
+ *    7  an id that names no bone (-1 is allowed for a parent)            byte of the number
+ *   10  a table would have more than 16,383 rows                         lowest such table, 1 or 2
+ *   16  a bone that its parent does not list exactly once, that a bone   first byte of the lowest such bone
+ *       not its parent lists, or whose parents never end
+ *   11  a lent table is too short for its rows                           lowest such table, 1 or 2
+ */
+typedef struct {
+    uint32_t number, place, head[5], counts[2];
+} kelompuris_csf_answer;
+
+/* Judges a skeleton file without tables: answers 0, 1 to 10 or 16. Writes nothing. The counts say how long the tables must be for
+ * kelompuris_csf_read. */
+kelompuris_csf_answer kelompuris_csf_judge(const uint8_t *file, size_t file_len);
+
+/* Words of a row of bones and of children. A bone's row: name place, name length; translation 3, rotation 4, local translation 3, local
+ * rotation 4; parent (0xFFFFFFFF for -1); lighting type; colour 3; number of children; the children's rows before its own. A child's row is
+ * the bone's number. Floats are held by their bits. */
+enum {
+    KELOMPURIS_CSF_BONE_WORDS = 23,
+    KELOMPURIS_CSF_CHILD_WORDS = 1
+};
+
+/* Reads a skeleton file into two lent tables of 32-bit words: answers 0, 1 to 10, 16 or 11.
+ *
+ * Accepted: each table begins with its rows, as many as its count says; the words behind them stay as they were.
+ * Refused, also by 11: both tables stay as they were.
+ * The file is not written. The lengths are in words, not in rows. A name is bytes of the file, of any value; no byte ends it.
+ */
+kelompuris_csf_answer kelompuris_csf_read(
+    const uint8_t *file, size_t file_len,
+    uint32_t *bones, size_t bones_len, uint32_t *children, size_t children_len);
+
+/* What a mesh file of cal3d is answered (binary form, CMF version 700).
+ *
+ * number 0: accepted. place is 0; head has the header's numbers (version, number of submeshes) and counts the rows of the six tables, 1 submeshes,
+ * 2 vertices, 3 maps, 4 influences, 5 springs, 6 faces. Any other number is a refusal, and head and counts are 0. They are given in this
+ * order, 5 to 7 as the file is read:
+ *
+ *    number                                                              place
+ *    1  file size not 12 to 16,777,216                                   0
+ *    2  the magic token is not 'C' 'M' 'F' 0                             0
+ *    5  an entry's numbers up to a list are cut;                         byte where they start;
+ *       bytes after the last entry                                       the first of these bytes
+ *    6  version not 700, or a count below 0                              byte of the number
+ *    7  an id that names nothing: a vertex that its submesh has not      byte of the number
+ *       (-1 is allowed for a collapse id), a bone not below bone_count
+ *   10  a table would have more than 16,383 rows                         lowest such table, 1 to 6
+ *   11  a lent table is too short for its rows                           lowest such table, 1 to 6
+ */
+typedef struct {
+    uint32_t number, place, head[2], counts[6];
+} kelompuris_cmf_answer;
+
+/* Judges a mesh file for a skeleton of bone_count bones, without tables: answers 0 or 1 to 10. Writes nothing. The counts say how long the
+ * tables must be for kelompuris_cmf_read. */
+kelompuris_cmf_answer kelompuris_cmf_judge(const uint8_t *file, size_t file_len, uint32_t bone_count);
+
+/* Words of a row of each table. Floats are held by their bits.
+ *   submesh    material thread id; numbers of vertices, faces, lod steps, springs, maps; the vertices', springs' and faces' rows before its own
+ *   vertex     position 3, normal 3; collapse id (0xFFFFFFFF for -1); face collapse count; number of influences; cloth weight (0 where the
+ *              submesh has no springs); the maps' and influences' rows before its own
+ *   map        u, v
+ *   influence  bone, weight
+ *   spring     two vertices, coefficient, idle length
+ *   face       three vertices
+ * A submesh's number of maps is that of each of its vertices. Vertices are counted from the first of their submesh on. */
+enum {
+    KELOMPURIS_CMF_SUBMESH_WORDS = 9,
+    KELOMPURIS_CMF_VERTEX_WORDS = 12,
+    KELOMPURIS_CMF_MAP_WORDS = 2,
+    KELOMPURIS_CMF_INFLUENCE_WORDS = 2,
+    KELOMPURIS_CMF_SPRING_WORDS = 4,
+    KELOMPURIS_CMF_FACE_WORDS = 3
+};
+
+/* Reads a mesh file for a skeleton of bone_count bones into six lent tables of 32-bit words: answers 0 or 1 to 11.
+ *
+ * Accepted: each table begins with its rows, as many as its count says; the words behind them stay as they were.
+ * Refused, also by 11: all six tables stay as they were.
+ * The file is not written. The lengths are in words, not in rows.
+ */
+kelompuris_cmf_answer kelompuris_cmf_read(
+    const uint8_t *file, size_t file_len, uint32_t bone_count,
+    uint32_t *submeshes, size_t submeshes_len, uint32_t *vertices, size_t vertices_len,
+    uint32_t *maps, size_t maps_len, uint32_t *influences, size_t influences_len,
+    uint32_t *springs, size_t springs_len, uint32_t *faces, size_t faces_len);
 
 #ifdef __cplusplus
 }

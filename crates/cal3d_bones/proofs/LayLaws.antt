@@ -1,11 +1,11 @@
 -- One bone's parts: what each step of `lay_bone` says of the bone that stands there.
-use Prim.Native.Nat.{ℕ, zero, suc, _+_, _-_, _*_, _<_, _≤_}
+use Prim.Native.Nat.{ℕ, zero, suc, _+_, _-_, _<_, _≤_}
 use native.Mathlib.Omega.{arith}
 use mathlib.Core.Path.{_≡_, refl, ap, sym, _∙_}
 use mathlib.Core.List.{List, [], _∷_}
 use lib.ListN.{length, drop, getD}
 use lib.Dec.{ltb, ltb→lt}
-use Rattle.wire.specs.Bytes.{word, wordAt}
+use Rattle.wire.specs.Bytes.{word}
 use Rattle.wire.specs.Cursors.{Inside, left}
 use Rattle.wire.specs.declared.Cursor.{Cursor}
 use Rattle.wire.proofs.Left.{left-length, left-drop}
@@ -23,11 +23,12 @@ use Rattle.counted.specs.declared.Ran.the-variants as ran
 use Rattle.counted.proofs.Ids.{word-at}
 use Rattle.counted.proofs.Runs.{runs-bad, runs-passed, runs-inside, runs-read}
 use Rattle.cal3d_scene.specs.Rules.{boneNumbers, childrenAt, childNumbers}
-use Rattle.cal3d_scene.specs.Skeletons.{Bone, parentOf, listOf, readBone}
-use Rattle.cal3d_bones.specs.Bones.{readLinks, linkCount, Bones, LaidAt, NoBone}
-use Rattle.cal3d_bones.specs.declared.Boned.{Boned}
-use Rattle.cal3d_bones.specs.declared.Boned.the-variants as boned
-use Rattle.cal3d_bones.proofs.WalkLaws.{boned-bad, boned-got}
+use Rattle.cal3d_scene.specs.Skeletons.{parentOf, listOf, readBone}
+use Rattle.counted.specs.Sums.{Sums}
+use Rattle.cal3d_bones.specs.Bones.{readLinks, linkCount, LaidAt, NoBone}
+use Rattle.counted.specs.declared.Summed.{Summed}
+use Rattle.counted.specs.declared.Summed.the-variants as summed
+use Rattle.counted.proofs.Sums.{summed-bad, summed-got}
 
 -- one id, and then others
 id-read : (limit n p : ℕ) (s : List ℕ) (x : Step (List (List ℕ))) (y : Step (List ℕ)) (l : Step (List (List ℕ))) → row (names limit ∷ []) p s ≡ got y → before (y .value) l ≡ x
@@ -63,14 +64,14 @@ record Linked (s : List ℕ) (n : Cursor) (bones j : ℕ) (m : Cursor) : Type 0 
   at : children .place ≡ m .at
   left-over : children .left ≡ left m s
 
-module _ (s : List ℕ) (n : Cursor) (bones : ℕ) (x : Boned) (b : Bones linkCount (readLinks bones (n .at) (left n s)) n 80 x) where
-  no-links : (e p : ℕ) → x ≡ boned.Not e p → readLinks bones (n .at) (left n s) ≡ bad e p
-  no-links e p q = boned-bad linkCount (n .end) (readLinks bones (n .at) (left n s)) e p (sym q ∙ b .is)
+module _ (s : List ℕ) (n : Cursor) (bones : ℕ) (x : Summed) (b : Sums linkCount (readLinks bones (n .at) (left n s)) n 80 x) where
+  no-links : (e p : ℕ) → x ≡ summed.Not e p → readLinks bones (n .at) (left n s) ≡ bad e p
+  no-links e p q = summed-bad linkCount (n .end) (readLinks bones (n .at) (left n s)) e p (sym q ∙ b .is)
 
-  linked : (j : ℕ) (m : Cursor) → x ≡ boned.To j m → Linked s n bones j m
+  linked : (j : ℕ) (m : Cursor) → x ≡ summed.To j m → Linked s n bones j m
   unfolding readLinks
   linked j m q =
-      let g = boned-got linkCount (n .end) (readLinks bones (n .at) (left n s)) j m (sym q ∙ b .is) in
+      let g = summed-got linkCount (n .end) (readLinks bones (n .at) (left n s)) j m (sym q ∙ b .is) in
       by-got (row (boneNumbers bones) (n .at) (left n s)) _ (g .1) (λ h eh e₁.
       by-got (times (number h childrenAt) (row (childNumbers bones)) (h .place) (h .left)) _ e₁ (λ l el e₂.
       let y = got-inj e₂ in
@@ -94,8 +95,8 @@ module _ (s : List ℕ) (c : Cursor) (bones : ℕ) (inside : Inside c (length s)
   unfolding readBone
   lay-no-name e p w = let z : readBone bones (c .at) (left c s) ≡ bad e p = rw (runs-bad (sized (c .at) (left c s)) c 4 r v e p w) in record { none = λ x q. bad-got (sym z ∙ q) }
 
-  module _ (n : Cursor) (w : r ≡ ran.To n) (x : Boned) (b : Bones linkCount (readLinks bones (n .at) (left n s)) n 80 x) where
-    pub lay-no-links : (e p : ℕ) → x ≡ boned.Not e p → NoBone (readBone bones (c .at) (left c s))
+  module _ (n : Cursor) (w : r ≡ ran.To n) (x : Summed) (b : Sums linkCount (readLinks bones (n .at) (left n s)) n 80 x) where
+    pub lay-no-links : (e p : ℕ) → x ≡ summed.Not e p → NoBone (readBone bones (c .at) (left c s))
     unfolding readBone readLinks
     lay-no-links e p q =
         record {
@@ -110,7 +111,7 @@ module _ (s : List ℕ) (c : Cursor) (bones : ℕ) (inside : Inside c (length s)
               bad-got (sym g ∙ all))));
         }
 
-    pub lay-at : (j : ℕ) (m : Cursor) → x ≡ boned.To j m → LaidAt s bones (readBone bones (c .at) (left c s)) c (n .at) j m
+    pub lay-at : (j : ℕ) (m : Cursor) → x ≡ summed.To j m → LaidAt s bones (readBone bones (c .at) (left c s)) c (n .at) j m
     unfolding readBone parentOf listOf
     lay-at j m q =
         let h = runs-passed (sized (c .at) (left c s)) c 4 r v n w in

@@ -1,4 +1,4 @@
--- What the readings of bones answer.
+-- What is counted of bones, and the parts of one.
 use Prim.Native.Nat.{ℕ, _+_, _-_, _*_, _<_, _≤_}
 use mathlib.Core.Path.{_≡_}
 use mathlib.Core.List.{List, [], _∷_}
@@ -14,8 +14,6 @@ use Rattle.layout.proofs.Lists.{All}
 use Rattle.cal3d_scene.specs.Rules.{boneNumbers, childrenAt, childNumbers}
 use Rattle.cal3d_scene.specs.Skeletons.{Bone, parentOf, listOf}
 use Rattle.cal3d_scene.specs.Tables.{childRows}
-use Rattle.cal3d_bones.specs.declared.Boned.{Boned}
-use Rattle.cal3d_bones.specs.declared.Boned.the-variants as boned
 use Rattle.cal3d_bones.specs.declared.Laid.{Laid}
 use Rattle.cal3d_bones.specs.declared.Laid.the-variants as laid
 
@@ -35,21 +33,6 @@ childCount b = length (b .children)
 
 unfoldable pub childrenIn : List Bone → ℕ
 childrenIn bs = length (childRows bs)
-
--- how many children, and the cursor after what was read, up to the same end; or the refusal
-abbrev pub bonedOf : {A : Type 0} → (A → ℕ) → ℕ → Out (Step A) → Boned
-bonedOf count end (got x) = boned.To (count (x .value)) (record { at = x .place; end = end })
-bonedOf count end (bad n p) = boned.Not n p
-
--- at least so many bytes were passed, and four for each child; a refusal's place is before the end
-abbrev pub Passes : Cursor → ℕ → Boned → Type 0
-Passes c k (boned.To j n) = (c .at + k + 4 * j ≤ n .at) × (n .at ≤ n .end) × (n .end ≡ c .end)
-Passes c k (boned.Not e p) = p ≤ c .end
-
--- r is the answer to what was read at c
-pub record Bones {A : Type 0} (count : A → ℕ) (o : Out (Step A)) (c : Cursor) (k : ℕ) (r : Boned) : Type 0 where
-  pub is : r ≡ bonedOf count (c .end) o
-  pub passes : Passes c k r
 
 -- a bone was read at c: its numbers stand at a place behind its name, and so many children behind them, up to `next`
 pub record LaidAt (s : List ℕ) (bones : ℕ) (o : Out (Step Bone)) (c : Cursor) (numbers count : ℕ) (next : Cursor) : Type 0 where

@@ -3,7 +3,8 @@
 ghost use mathlib.Core.Path.{_≡_};
 ghost use Rattle.cal3d_scene.specs.Answers.{limitedSkeleton};
 ghost use Rattle.cal3d_limits.specs.Verdicts.{verdictOf};
-use cal3d_bones::Boned;
+use cal3d_head::Opened;
+use counted::Summed;
 use wire::Cursor;
 
 // The header's numbers behind the version, and how many children there are.
@@ -23,45 +24,31 @@ pub enum Verdict {
 pub fn limited(file: &[u8]) -> Verdict
     ensures { λ r. ⌜ r ≡ verdictOf (limitedSkeleton (now (file .entry))) ⌝ }
 {
-    let n = file.len();
-    if n < 12 {
-        return Verdict::Bad(1, 0);
-    }
-    if 16777216 < n {
-        return Verdict::Bad(1, 0);
-    }
-    if wire::number_at(file, 0) != 0x00465343 {
-        return Verdict::Bad(2, 0);
-    }
-    if n < 24 {
-        return Verdict::Bad(5, 4);
-    }
-    if wire::number_at(file, 4) != 1300 {
-        return Verdict::Bad(6, 4);
-    }
-    let bones = wire::number_at(file, 8);
-    if 2147483647 < bones {
-        return Verdict::Bad(6, 8);
-    }
-    match cal3d_bones::judge_bones(file, Cursor { at: 24, end: n }, wire::size(bones)) {
-        Boned::Not(e, p) => Verdict::Bad(e, p as u32),
-        Boned::To(children, c) => {
-            if c.at < n {
-                return Verdict::Bad(5, c.at as u32);
+    match cal3d_head::entry_count(file, 0x00465343, 1300, 3) {
+        Opened::Not(number, place) => Verdict::Bad(number, place),
+        Opened::To(bones) => {
+            let n = file.len();
+            match cal3d_bones::judge_bones(file, Cursor { at: 24, end: n }, wire::size(bones)) {
+                Summed::Not(e, p) => Verdict::Bad(e, p as u32),
+                Summed::To(children, c) => {
+                    if c.at < n {
+                        return Verdict::Bad(5, c.at as u32);
+                    }
+                    if 16383 < bones {
+                        return Verdict::Bad(10, 1);
+                    }
+                    if 16383 < children {
+                        return Verdict::Bad(10, 2);
+                    }
+                    Verdict::Good(Summary {
+                        bones,
+                        red: wire::number_at(file, 12),
+                        green: wire::number_at(file, 16),
+                        blue: wire::number_at(file, 20),
+                        children,
+                    })
+                }
             }
-            if 16383 < bones {
-                return Verdict::Bad(10, 1);
-            }
-            if 16383 < children {
-                return Verdict::Bad(10, 2);
-            }
-            Verdict::Good(Summary {
-                bones,
-                red: wire::number_at(file, 12),
-                green: wire::number_at(file, 16),
-                blue: wire::number_at(file, 20),
-                children,
-            })
         }
     }
 }

@@ -3,9 +3,9 @@ use Prim.Native.Nat.{ℕ, suc, _+_, _-_, _*_, _<_, _≤_}
 use native.Mathlib.Omega.{arith}
 use native.Mathlib.Nat.{add-zero}
 use mathlib.Core.Path.{_≡_, refl, ap, sym, _∙_}
-use mathlib.Core.List.{List, [], _∷_, _++_, map, append-assoc, append-nil}
+use mathlib.Core.List.{List, [], _∷_, _++_, map}
 use lib.ListN.{length, take, drop, set, length-append}
-use lib.Seq.{sets, sets-eq}
+use lib.Seq.{sets}
 use Rattle.wire.specs.Bytes.{over}
 use Rattle.wire.specs.Cursors.{Inside, left}
 use Rattle.wire.specs.declared.Cursor.{Cursor}
@@ -14,6 +14,7 @@ use Rattle.layout.specs.Parts.{Step, wordsOf}
 use Rattle.layout.specs.Rows.{nameCells, joined}
 use Rattle.layout.proofs.StepLaws.{length-words-of}
 use Rattle.cells.proofs.Storing.{Storing, store-none, store-run, store-done, sets-append}
+use Rattle.cells.proofs.Joined.{joined-append, over-all}
 use Rattle.cal3d_scene.specs.Skeletons.{Bone, listOf, readBone}
 use Rattle.cal3d_scene.specs.Tables.{boneRows, childRows}
 use Rattle.cal3d_bones.specs.Bones.{LaidAt, NoBone, Lays, bonesIn, childrenIn}
@@ -40,11 +41,6 @@ words-long n c s i h = length-words-of n (left c s) (omega (arith, left-length s
 
 -- ---- all rows
 
-joined-append : {A : Type 0} (xs ys : List (List A)) → joined (xs ++ ys) ≡ joined xs ++ joined ys
-unfolding joined
-joined-append [] ys = refl
-joined-append (x ∷ xs) ys = ap (λ (r : List _). x ++ r) (joined-append xs ys) ∙ sym (append-assoc x (joined xs) (joined ys))
-
 bones-first : (n : ℕ) (b : Bone) (l : List Bone) → joined (boneRows n (b ∷ l)) ≡ (nameCells (b .name) ++ (b .numbers ++ (n ∷ []))) ++ joined (boneRows (n + length (b .children)) l)
 unfolding joined boneRows
 bones-first n b l = refl
@@ -60,10 +56,6 @@ kids-first b l = joined-append (b .children) (joined (map (λ (x : Bone). x .chi
 kids-none : joined (childRows []) ≡ []
 unfolding childRows joined
 kids-none = refl
-
-over-all : (out all : List ℕ) → length all ≤ length out → sets out 0 all ≡ over all out
-unfolding over
-over-all out all h = let z : 0 + length all ≡ length all = omega arith in sets-eq all out 0 (omega arith) ∙ rw z
 
 -- the rows of the bones before i stand, with so many children
 pub record Filling (s : List ℕ) (count : ℕ) (all : List Bone) (bones₀ children₀ : List ℕ) (c : Cursor) (i before : ℕ) (bones children : List ℕ) : Type 0 where

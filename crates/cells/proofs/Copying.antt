@@ -1,8 +1,8 @@
 -- Words of the file by their place: what each turn of `copy_words` stores.
 use Prim.Native.Nat.{ℕ, zero, suc, _+_, _-_, _*_, _<_, _≤_}
 use native.Mathlib.Omega.{arith}
-use mathlib.Core.Path.{_≡_, refl}
-use mathlib.Core.List.{List, [], _∷_}
+use mathlib.Core.Path.{_≡_, refl, ap}
+use mathlib.Core.List.{List, [], _∷_, _++_}
 use lib.ListN.{length, drop, getD, set}
 use lib.Seq.{sets}
 use Rattle.wire.specs.Bytes.{wordAt}
@@ -10,20 +10,32 @@ use Rattle.wire.specs.Cursors.{Inside, left}
 use Rattle.wire.specs.declared.Cursor.{Cursor}
 use Rattle.wire.proofs.Left.{span, left-four}
 use Rattle.layout.specs.Parts.{wordsOf}
+use Rattle.cells.specs.Words.{wordsAt}
 use Rattle.cells.proofs.Storing.{Storing, store-none, store-one, store-done, next-place}
 
--- so many words from a place on
-unfoldable pub wordsAt : ℕ → List ℕ → ℕ → List ℕ
-wordsAt zero s p = []
-wordsAt (suc n) s p = wordAt s p ∷ wordsAt n s (p + 4)
-
--- those that a cursor has left
+-- the words that a cursor has left
 pub words-at : (n : ℕ) (s : List ℕ) (c : Cursor) → Inside c (length s) → c .at + 4 * n ≤ c .end → wordsOf n (left c s) ≡ wordsAt n s (c .at)
 unfolding wordsAt wordAt
 words-at zero s c i h = refl
 words-at (suc n) s c i h =
     let d = span (c .at + 4) (c .end) in
     rw (left-four s c d i (omega arith) refl refl, words-at n s d (record { before = omega arith; within = i .within }) (omega arith))
+
+pub length-words : (n : ℕ) (s : List ℕ) (p : ℕ) → length (wordsAt n s p) ≡ n
+unfolding wordsAt
+length-words zero s p = refl
+length-words (suc n) s p = ap suc (length-words n s (p + 4))
+
+pub words-more : (k n : ℕ) (s : List ℕ) (p : ℕ) → wordsAt (k + n) s p ≡ wordsAt k s p ++ wordsAt n s (p + 4 * k)
+unfolding wordsAt
+words-more zero n s p =
+    let e : 0 + n ≡ n = omega arith in
+    let f : p + 4 * 0 ≡ p = omega arith in
+    rw (e, f)
+words-more (suc k) n s p =
+    let e : suc k + n ≡ suc (k + n) = omega arith in
+    let f : p + 4 * suc k ≡ p + 4 + 4 * k = omega arith in
+    rw (e, f, words-more k n s (p + 4))
 
 -- in out the words before i stand, those from i on are left
 pub record Copying (s : List ℕ) (n base : ℕ) (out₀ : List ℕ) (start : ℕ) (out : List ℕ) (i : ℕ) : Type 0 where

@@ -3,9 +3,9 @@ use Prim.Native.Nat.{ℕ, suc, _+_, _<_, _≤_}
 use native.Mathlib.Nat.{add-zero, add-suc, suc-add}
 use native.Mathlib.Numerals.{add-one}
 use native.Mathlib.Omega.{arith}
-use mathlib.Core.Path.{_≡_, refl, sym, _∙_}
+use mathlib.Core.Path.{_≡_, refl, ap, sym, _∙_}
 use mathlib.Core.List.{List, [], _∷_, _++_, append-nil}
-use lib.ListN.{length, drop, getD, set, length-set, drop-of-length-le}
+use lib.ListN.{length, drop, getD, set, length-set, length-append, drop-of-length-le}
 use lib.Seq.{sets, sets-eq, length-sets, drop-cons}
 
 pub sets-append : {A : Type 0} (vs ws : List A) (d : List A) (i : ℕ) → sets d i (vs ++ ws) ≡ sets (sets d i vs) (i + length vs) ws
@@ -30,6 +30,28 @@ module _ {A : Type 0} {out₀ : List A} {base : ℕ} {all : List A} where
 
     pub store-done : left ≡ [] → out ≡ sets out₀ base all
     store-done e = rw e at (s .same)
+
+-- the same, where what is left has room
+pub record Part {A : Type 0} (out₀ : List A) (base : ℕ) (all out : List A) (at : ℕ) (rest : List A) : Type 0 where
+  pub stores : Storing out₀ base all out at rest
+  pub room : at + length rest ≤ length out₀
+
+pub part-start : {A : Type 0} (out₀ : List A) (base : ℕ) (all : List A) → base + length all ≤ length out₀ → Part out₀ base all out₀ base all
+part-start out₀ base all h = record { stores = record { long = refl; same = refl }; room = h }
+
+module _ {A : Type 0} {out₀ : List A} {base : ℕ} {all out : List A} {at : ℕ} {left : List A} (p : Part out₀ base all out at left) where
+  pub part-long : length out ≡ length out₀
+  part-long = p .stores .long
+
+  pub part-done : left ≡ [] → out ≡ sets out₀ base all
+  part-done e = store-done (p .stores) e
+
+  module _ (vs rest : List A) (e : left ≡ vs ++ rest) where
+    pub part-room : at + length vs ≤ length out
+    part-room = omega (arith, p .room, p .stores .long, ap length e, length-append vs rest)
+
+    pub part-next : (new : List A) (n : ℕ) → new ≡ sets out at vs → n ≡ at + length vs → Part out₀ base all new n rest
+    part-next new n f k = record { stores = rw (f, k) (store-run (p .stores) vs e); room = omega (arith, p .room, ap length e, length-append vs rest) }
 
 -- stores over a whole list leave nothing of it
 pub store-whole : {A : Type 0} (out all : List A) → length all ≡ length out → sets out 0 all ≡ all

@@ -8,7 +8,9 @@
 //! A line is a file: its size, then nanoseconds a byte for each function. The
 //! last columns are ratios of medians.
 
-use kelompuris::Mode;
+mod cal3d;
+
+use kelompuris::{slices, Mode};
 use scenes::Chunk;
 use std::hint::black_box;
 use std::time::{Duration, Instant};
@@ -53,6 +55,7 @@ fn main() {
     }
     colours();
     label_line();
+    cal3d::lines();
 }
 
 /// A file of vertices with colours, in both modes. The last column is a ratio
@@ -69,10 +72,10 @@ fn colours() {
         let judge = |mode| median(|| kelompuris::judge(mode, black_box(&file)).number);
         colour_line("judge", rows, file.len(), judge);
         let read = |mode| {
-            median(|| kelompuris::read(mode, black_box(&file), &mut lent(&mut tables)).number)
+            median(|| kelompuris::read(mode, black_box(&file), &mut slices(&mut tables)).number)
         };
         colour_line("read", rows, file.len(), read);
-        let filled = slices(&tables);
+        let filled = filled(&tables);
         let mut out = vec![0; file.len()];
         let write = |mode| {
             median(|| {
@@ -117,7 +120,7 @@ fn tables_for(file: &[u8]) -> (Vec<Vec<u32>>, kelompuris::Answer) {
     ((0..10).map(words).collect(), answer)
 }
 
-fn slices(tables: &[Vec<u32>]) -> [&[u32]; 10] {
+fn filled(tables: &[Vec<u32>]) -> [&[u32]; 10] {
     std::array::from_fn(|table| tables[table].as_slice())
 }
 
@@ -131,13 +134,9 @@ fn label_line() {
     root.extend(children);
     tree.chunks[0].chunks = root;
     let file = tree.bytes();
-    let mut out = vec![0; file.len()];
     let label = median(|| kelompuris::label(black_box(&file)).number);
     let judge = median(|| kelompuris::judge(Mode::Strict, black_box(&file)).number);
-    let copy = median(|| {
-        out.copy_from_slice(black_box(&file));
-        u32::from(out[out.len() - 1] & 0)
-    });
+    let copy = copy_of(&file);
     let ratio = |other: Duration| other.as_nanos() as f64 / label.as_nanos().max(1) as f64;
     println!(
         "label of {} bytes: {} ns; the judge takes {:.0} times as long, a copy {:.0} times",
@@ -154,12 +153,12 @@ fn line(table: usize, rows: usize) {
     let mut out = vec![0; file.len()];
     let judge = median(|| kelompuris::judge(Mode::Strict, black_box(&file)).number);
     let mode = Mode::Strict;
-    let read = median(|| kelompuris::read(mode, black_box(&file), &mut lent(&mut tables)).number);
+    let read = median(|| kelompuris::read(mode, black_box(&file), &mut slices(&mut tables)).number);
     let independent = median(|| {
         let mode = reference::Mode::Strict;
-        reference::read(mode, black_box(&file), &mut lent(&mut tables)).number
+        reference::read(mode, black_box(&file), &mut slices(&mut tables)).number
     });
-    let filled = slices(&tables);
+    let filled = filled(&tables);
     let write = median(|| {
         let (version, slots) = (answer.version, answer.n_texs);
         let names = black_box(&file);
@@ -175,10 +174,7 @@ fn line(table: usize, rows: usize) {
         .number
     });
     let clear = median(|| kelompuris::clear(black_box(&file), &mut out).number);
-    let copy = median(|| {
-        out.copy_from_slice(black_box(&file));
-        u32::from(out[out.len() - 1] & 0)
-    });
+    let copy = copy_of(&file);
     let a_byte = |t: Duration| t.as_nanos() as f64 / file.len() as f64;
     println!(
         "{:<10} {:>6} {:>9} | {:>7.2} {:>7.2} {:>7.2} {:>7.2} {:>8.2} {:>7.2} | {:>10.2} {:>9.0}",
@@ -196,9 +192,13 @@ fn line(table: usize, rows: usize) {
     );
 }
 
-fn lent(tables: &mut [Vec<u32>]) -> [&mut [u32]; 10] {
-    let slices: Vec<&mut [u32]> = tables.iter_mut().map(Vec::as_mut_slice).collect();
-    slices.try_into().expect("ten tables")
+/// The median time of a plain copy of a file.
+fn copy_of(file: &[u8]) -> Duration {
+    let mut out = vec![0; file.len()];
+    median(|| {
+        out.copy_from_slice(black_box(file));
+        u32::from(out[out.len() - 1] & 0)
+    })
 }
 
 /// The median time of a call that answers 0.

@@ -1,5 +1,8 @@
-//! The ten tables and their columns, as paper 01 names them. Sizes of rows,
-//! headers, printing and reading back all follow from this list.
+//! Tables and their columns: the ten of a scene, as paper 01 names them, and
+//! those of cal3d's files. Sizes of rows, headers, printing and reading back all
+//! follow from these lists.
+
+pub mod cal3d;
 
 /// How a column is held and printed.
 #[derive(Clone, Copy)]
@@ -67,8 +70,11 @@ impl Table {
 }
 
 const ALONE: &[&str] = &[""];
+const UV: &[&str] = &["u", "v"];
 const XY: &[&str] = &["x", "y"];
 const XYZ: &[&str] = &["x", "y", "z"];
+const XYZW: &[&str] = &["x", "y", "z", "w"];
+const RGB: &[&str] = &["red", "green", "blue"];
 const RGBA: &[&str] = &["red", "green", "blue", "alpha"];
 const FOUR: &[&str] = &["0", "1", "2", "3"];
 const EIGHT: &[&str] = &["0", "1", "2", "3", "4", "5", "6", "7"];

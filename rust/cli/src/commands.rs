@@ -1,7 +1,7 @@
 //! The commands, those on scenes in a mode but for `clear`, `slip` and `label`. What goes to standard output is added to `out`, by those
 //! that print; the others say nothing unless they stop.
 
-use crate::answer::{about, in_words, Stop};
+use crate::answer::{about, in_words, Stop, SCENE};
 use crate::columns::{Table, HEAD, NODES, TABLES};
 use crate::output::{put_file, put_folder};
 use crate::scene::{self, load, name, Scene};
@@ -12,13 +12,25 @@ use std::path::Path;
 
 /// A line for each file: its answer in words.
 pub fn check(mode: Mode, paths: &[&Path], out: &mut Vec<u8>) -> Result<(), Stop> {
+    check_each(paths, out, |file| {
+        let answer = judge(mode, file);
+        (answer.number, in_words(&answer))
+    })
+}
+
+/// The same for files of any kind, whose judge gives number and words.
+pub fn check_each(
+    paths: &[&Path],
+    out: &mut Vec<u8>,
+    judge: impl Fn(&[u8]) -> (u32, String),
+) -> Result<(), Stop> {
     let (mut refused, mut failed) = (0, 0);
     for path in paths {
         let line = match load(path) {
             Ok(file) => {
-                let answer = judge(mode, &file);
-                refused += usize::from(answer.number != 0);
-                about(path, in_words(&answer))
+                let (number, words) = judge(&file);
+                refused += usize::from(number != 0);
+                about(path, words)
             }
             Err(Stop::Failed(line) | Stop::Refused(line)) => {
                 failed += 1;
@@ -56,7 +68,7 @@ pub fn label(path: &Path, out: &mut Vec<u8>) -> Result<(), Stop> {
     let label = kelompuris::label(&file);
     add_numbers(out, &[label.number, label.place]);
     if label.number != 0 {
-        return Err(Stop::refused(path, label.number, label.place));
+        return Err(Stop::refused(&SCENE, path, label.number, label.place));
     }
     add_line(out, shown(kelompuris::label_name(&file)));
     add_line(out, label.vertices.to_string());
@@ -68,12 +80,22 @@ pub fn tables(mode: Mode, path: &Path, folder: &Path) -> Result<(), Stop> {
     let file = load(path)?;
     let answer = judge(mode, &file);
     let scene = accepted(mode, path, file, &answer)?;
+    let each = TABLES.iter().zip(&scene.tables);
+    let head = [scene.version, scene.n_texs];
+    put_tables(folder, (&HEAD, &head), each, &scene.names)
+}
+
+/// A head of one row and tables as a folder of texts.
+pub fn put_tables<'a>(
+    folder: &Path,
+    head: (&Table, &[u32]),
+    tables: impl Iterator<Item = (&'a Table, &'a Vec<u32>)>,
+    names: &[u8],
+) -> Result<(), Stop> {
     let as_text =
-        |table: &Table, words: &[u32]| (table.file_name(), text::print(table, words, &scene.names));
-    let mut files = vec![as_text(&HEAD, &[scene.version, scene.n_texs])];
-    for (table, words) in TABLES.iter().zip(&scene.tables) {
-        files.push(as_text(table, words));
-    }
+        |table: &Table, words: &[u32]| (table.file_name(), text::print(table, words, names));
+    let mut files = vec![as_text(head.0, head.1)];
+    files.extend(tables.map(|(table, words)| as_text(table, words)));
     put_folder(folder, &files)
 }
 
@@ -125,7 +147,7 @@ pub fn show_slip(path: &Path, out: &mut Vec<u8>) -> Result<(), Stop> {
     let slip = read_slip(&load(path)?);
     add_numbers(out, &[slip.number, slip.place]);
     if slip.number != 0 {
-        return Err(Stop::refused(path, slip.number, slip.place));
+        return Err(Stop::refused(&SCENE, path, slip.number, slip.place));
     }
     add_numbers(out, &slip.numbers[..2]);
     add_numbers(out, &slip.numbers[2..]);
@@ -138,11 +160,11 @@ fn accepted(mode: Mode, path: &Path, file: Vec<u8>, answer: &Answer) -> Result<S
         0 => Scene::read(mode, file, answer),
         _ => Err(*answer),
     };
-    scene.map_err(|answer| Stop::refused(path, answer.number, answer.place))
+    scene.map_err(|answer| Stop::refused(&SCENE, path, answer.number, answer.place))
 }
 
 /// `unnamed` if empty, bytes outside 32 to 126 as `?`.
-fn shown(name: &[u8]) -> String {
+pub fn shown(name: &[u8]) -> String {
     let shown = |&byte: &u8| match byte {
         32..=126 => byte as char,
         _ => '?',
@@ -153,12 +175,12 @@ fn shown(name: &[u8]) -> String {
     }
 }
 
-fn add_numbers(out: &mut Vec<u8>, numbers: &[u32]) {
+pub fn add_numbers(out: &mut Vec<u8>, numbers: &[u32]) {
     let texts: Vec<String> = numbers.iter().map(u32::to_string).collect();
     add_line(out, texts.join(" "));
 }
 
-fn add_line(out: &mut Vec<u8>, line: String) {
+pub fn add_line(out: &mut Vec<u8>, line: String) {
     out.extend_from_slice(line.as_bytes());
     out.push(b'\n');
 }

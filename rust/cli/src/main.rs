@@ -1,7 +1,9 @@
 //! `kelompuris`: B3D scene files checked, listed, labelled, taken apart, put
-//! together and cleared of names, and their slips, all by the proved functions.
+//! together and cleared of names, and their slips; skeletons and meshes of cal3d
+//! checked, listed and taken apart; all by the proved functions.
 
 mod answer;
+mod cal3d;
 mod columns;
 mod commands;
 mod output;
@@ -9,6 +11,7 @@ mod scene;
 mod text;
 
 use answer::Stop;
+use cal3d::Kind;
 use kelompuris::Mode;
 use std::env;
 use std::ffi::OsString;
@@ -25,6 +28,12 @@ usage: kelompuris check [--lenient] FILE..
        kelompuris clear FILE OUT
        kelompuris slip FILE OUT
        kelompuris slip --show SLIP
+       kelompuris skeleton FILE
+       kelompuris skeleton --check FILE..
+       kelompuris skeleton --tables FILE DIR
+       kelompuris mesh FILE [--bones N | --skeleton FILE]
+       kelompuris mesh --check FILE.. [--bones N | --skeleton FILE]
+       kelompuris mesh --tables FILE DIR [--bones N | --skeleton FILE]
        kelompuris --help
 ";
 
@@ -42,6 +51,17 @@ clear   a copy without names and without chunks of other tags
 slip    the slip of a file: version, n_texs and the ten row counts in 12 to 32
         bytes; with --show, number and place of a slip, and if it is accepted
         its numbers, as `list` prints them
+skeleton
+        of a skeleton of cal3d (CSF version 1300): number and place; if accepted
+        the header's numbers, the two row counts, and its bones as trees, a bone
+        two spaces further in than its parent, or, more than 32 levels down, with
+        its level before its name. With --check one line for each file, as
+        `check` does; with --tables the tables and skeleton.tsv (the header's
+        numbers) as texts in DIR, which must be new or empty
+mesh    the same of a mesh of cal3d (CMF version 700), with six row counts and a
+        line for each submesh, and mesh.tsv. Its bone ids must be below a count:
+        N, or the number of bones of FILE, an accepted skeleton; without either
+        it is 16,383, the most that a skeleton can have
 
 A red, green, blue or alpha that is not a number or lies outside 0 to 1 is
 refused; with --lenient any is taken. `clear` takes any.
@@ -72,7 +92,6 @@ fn main() -> ExitCode {
 }
 
 fn run(args: &[OsString], out: &mut Vec<u8>) -> Result<(), Stop> {
-    let usage = || Err(Stop::Failed(USAGE.to_string()));
     let Some((command, words)) = args.split_first() else {
         return usage();
     };
@@ -94,6 +113,11 @@ fn run(args: &[OsString], out: &mut Vec<u8>) -> Result<(), Stop> {
             commands::show_slip(slip, out)
         }
         (Some("slip"), [file, target]) => commands::slip(file, target),
+        (Some("skeleton"), words) => on_cal3d(Kind::Skeleton, words, out),
+        (Some("mesh"), words) => match cal3d::bones(words)? {
+            Some((bones, words)) => on_cal3d(Kind::Mesh { bones }, words, out),
+            None => usage(),
+        },
         (Some("--help"), []) => {
             out.extend_from_slice(USAGE.as_bytes());
             out.extend_from_slice(HELP.as_bytes());
@@ -101,4 +125,22 @@ fn run(args: &[OsString], out: &mut Vec<u8>) -> Result<(), Stop> {
         }
         _ => usage(),
     }
+}
+
+/// What the words behind `skeleton` or `mesh` ask for.
+fn on_cal3d(kind: Kind, words: &[&Path], out: &mut Vec<u8>) -> Result<(), Stop> {
+    let Some((first, rest)) = words.split_first() else {
+        return usage();
+    };
+    match (first.to_str(), rest) {
+        (Some("--check"), [_, ..]) => cal3d::check(kind, rest, out),
+        (Some("--tables"), [file, folder]) => cal3d::tables(kind, file, folder),
+        (Some("--check" | "--tables"), _) => usage(),
+        (_, []) => cal3d::list(kind, first, out),
+        _ => usage(),
+    }
+}
+
+fn usage() -> Result<(), Stop> {
+    Err(Stop::Failed(USAGE.to_string()))
 }

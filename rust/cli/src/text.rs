@@ -8,16 +8,21 @@ use crate::scene::{name, word};
 pub fn print(table: &Table, words: &[u32], names: &[u8]) -> String {
     let mut text = table.header() + "\n";
     for row in words.chunks(table.words()) {
-        let mut left = row;
-        let cells = table.kinds().map(|kind| {
-            let (own, rest) = left.split_at(kind.words());
-            left = rest;
-            print_cell(kind, own, names)
-        });
-        text += &cells.collect::<Vec<_>>().join("\t");
+        text += &cells(table, row, names).join("\t");
         text.push('\n');
     }
     text
+}
+
+/// The cells of a row.
+pub fn cells(table: &Table, row: &[u32], names: &[u8]) -> Vec<String> {
+    let mut left = row;
+    let cells = table.kinds().map(|kind| {
+        let (own, rest) = left.split_at(kind.words());
+        left = rest;
+        print_cell(kind, own, names)
+    });
+    cells.collect()
 }
 
 /// The words of the rows; names are added to `names`.

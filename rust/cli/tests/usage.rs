@@ -8,7 +8,7 @@ use std::fs;
 #[test]
 fn wrong_use() {
     let folder = fresh("wrong_use");
-    let wrong: [&[&str]; 21] = [
+    let wrong: [&[&str]; 36] = [
         &[],
         &["check"],
         &["list"],
@@ -22,6 +22,21 @@ fn wrong_use() {
         &["slip", "hall.b3d"],
         &["slip", "--show"],
         &["slip", "--show", "a", "b"],
+        &["skeleton"],
+        &["skeleton", "door.csf", "door.csf"],
+        &["skeleton", "--check"],
+        &["skeleton", "--tables", "door.csf"],
+        &["skeleton", "door.csf", "--check"],
+        &["mesh"],
+        &["mesh", "--bones", "4"],
+        &["mesh", "door.cmf", "--bones"],
+        &["mesh", "door.cmf", "--bones", "-1"],
+        &["mesh", "door.cmf", "--bones", "4294967296"],
+        &["mesh", "door.cmf", "--bones", "door.csf"],
+        &["mesh", "--bones", "4", "door.cmf"],
+        &["mesh", "--check", "--bones", "4"],
+        &["mesh", "--tables", "door.cmf", "--skeleton", "door.csf"],
+        &["mesh", "door.cmf", "--bones", "4", "--skeleton", "door.csf"],
         &["Check", "hall.b3d"],
         &["--help", "hall.b3d"],
         &["hall.b3d"],
@@ -42,8 +57,11 @@ fn wrong_use() {
 fn help_names_all_commands() {
     let help = run(&fresh("help"), &["--help"]);
     assert_eq!((help.status, help.err.as_str()), (0, ""));
-    for command in ["check", "list", "label", "tables", "build", "clear", "slip"] {
-        let line = |line: &str| line.starts_with(&format!("{command} "));
+    let commands = [
+        "check", "list", "label", "tables", "build", "clear", "slip", "skeleton", "mesh",
+    ];
+    for command in commands {
+        let line = |line: &str| line.split(' ').next() == Some(command);
         assert!(help.out.lines().any(line), "{command}");
     }
 }
@@ -61,6 +79,10 @@ fn files_that_cannot_be_read() {
         run(&folder, &["clear", missing, "out"]).stops(2, missing);
         run(&folder, &["slip", missing, "out"]).stops(2, missing);
         run(&folder, &["slip", "--show", missing]).stops(2, missing);
+        run(&folder, &["skeleton", missing]).stops(2, missing);
+        run(&folder, &["skeleton", "--tables", missing, "out"]).stops(2, missing);
+        run(&folder, &["mesh", missing]).stops(2, missing);
+        run(&folder, &["mesh", "--tables", missing, "out"]).stops(2, missing);
     }
     assert_eq!(names_in(&folder), before);
 }
@@ -77,6 +99,8 @@ fn places_that_cannot_be_written() {
         run(&folder, &["slip", "hall.b3d", target]).stops(2, target);
         run(&folder, &["build", "t", target]).stops(2, target);
         run(&folder, &["tables", "hall.b3d", target]).stops(2, target);
+        run(&folder, &["skeleton", "--tables", "door.csf", target]).stops(2, target);
+        run(&folder, &["mesh", "--tables", "door.cmf", target]).stops(2, target);
     }
     run(&folder, &["tables", "hall.b3d", "table.b3d"]).stops(2, "table.b3d");
     // A name that stands for something else is not replaced.
@@ -98,6 +122,8 @@ fn a_failing_write_leaves_nothing() {
         run_on_full_disk(&folder, &["slip", "kitchen.b3d", target]).stops(2, target);
         run_on_full_disk(&folder, &["build", "parts", target]).stops(2, target);
         run_on_full_disk(&folder, &["tables", "kitchen.b3d", target]).stops(2, target);
+        run_on_full_disk(&folder, &["skeleton", "--tables", "door.csf", target]).stops(2, target);
+        run_on_full_disk(&folder, &["mesh", "--tables", "door.cmf", target]).stops(2, target);
     }
     assert_eq!(names_in(&folder), before);
     assert_eq!(fs::read(folder.join("old")).unwrap(), b"old");

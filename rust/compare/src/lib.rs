@@ -3,25 +3,31 @@
 //! changed.
 //!
 //! - here: judging and reading; the tray label.
+//! - `cal3d`: skeletons and meshes of cal3d.
+//! - `lent`: tables to lend, and what becomes of them.
 //! - `output`: writing, clearing and slips of files.
 //! - `slip`: reading slips.
 //! - `run`: runs groups of comparisons and prints what was compared.
 
+mod cal3d;
+mod lent;
 mod output;
 mod run;
 mod slip;
 
+pub use cal3d::{Format, Mesh, Skeleton};
 pub use output::{sheet_of, Call};
 pub use run::{run, Group};
 
+use lent::{row_words, sizes_around, some_sizes, Lent};
 use reference::{Answer, Label, Mode};
 use scenes::sheet::ROW_WORDS;
 use scenes::Rng;
 use std::error::Error;
 use std::fmt;
 
-/// The numbers 0 to 16.
-pub const NUMBERS: usize = 17;
+/// The numbers 0 to 16, and one for all others.
+pub const NUMBERS: usize = 18;
 
 /// What was compared so far.
 #[derive(Default)]
@@ -115,8 +121,8 @@ impl Compared {
     fn judge(&mut self, mode: Mode, file: &[u8]) -> Result<Answer, Disagreement> {
         let answer = own(kelompuris::judge(proved(mode), file));
         let about = format!("judge, {mode:?}");
-        self.same(&about, file, answer, reference::judge(mode, file))?;
-        Ok(answer)
+        let expected = reference::judge(mode, file);
+        self.same(&about, file, answer.number, answer, expected)
     }
 
     /// The label of a file, that of both.
@@ -130,38 +136,33 @@ impl Compared {
             name_length: label.name_length,
             vertices: label.vertices,
         };
-        self.count(label.number);
-        match reference::label(file) {
-            expected if expected == label => Ok(label),
-            expected => disagree(
-                format!("label: proved {label:?}, reference {expected:?}"),
-                file,
-            ),
-        }
+        self.same("label", file, label.number, label, reference::label(file))
     }
 
     /// Reads with tables of these sizes.
     fn read(&mut self, mode: Mode, file: &[u8], sizes: [usize; 10]) -> Result<(), Disagreement> {
-        self.reads += 1;
         let (mut lent, mut plain) = (Lent::new(sizes), Lent::new(sizes));
         let answer = own(kelompuris::read(proved(mode), file, &mut lent.tables()));
         let expected = reference::read(mode, file, &mut plain.tables());
         let about = format!("read, {mode:?}, with {sizes:?} words");
-        self.same(&about, file, answer, expected)?;
-        for table in 0..10 {
-            let (own, other) = (&lent.words[table], &plain.words[table]);
-            if let Some(at) = (0..own.len()).find(|&at| own[at] != other[at]) {
-                let (own, other) = (own[at], other[at]);
-                let at = at as isize - AROUND as isize;
-                let word = format!("word {at} of table {}", table + 1);
-                let values = format!("proved {own:#x}, reference {other:#x}");
-                return disagree(format!("{about}: {word}: {values}"), file);
-            }
-            self.words += own.len();
-        }
-        match lent.changed_outside(&answer) {
+        self.same(&about, file, answer.number, answer, expected)?;
+        let rows = row_words(&answer.counts, &ROW_WORDS);
+        self.lent(&about, file, (&lent, &plain), rows)
+    }
+
+    /// Holds lent tables to those of the reference, with so many words of rows.
+    fn lent<const TABLES: usize>(
+        &mut self,
+        about: &str,
+        file: &[u8],
+        (lent, plain): (&Lent<TABLES>, &Lent<TABLES>),
+        rows: [usize; TABLES],
+    ) -> Result<(), Disagreement> {
+        self.reads += 1;
+        self.words += lent.len();
+        match lent.wrong(plain, rows) {
             None => Ok(()),
-            Some(table) => disagree(format!("{about}: table {table} outside its rows"), file),
+            Some(wrong) => disagree(format!("{about}: {wrong}"), file),
         }
     }
 
@@ -169,16 +170,18 @@ impl Compared {
         self.numbers[(number as usize).min(NUMBERS - 1)] += 1;
     }
 
-    fn same(
+    /// Holds an answer with this number to that of the reference.
+    fn same<T: PartialEq + fmt::Debug>(
         &mut self,
         about: &str,
         file: &[u8],
-        answer: Answer,
-        expected: Answer,
-    ) -> Result<(), Disagreement> {
-        self.count(answer.number);
+        number: u32,
+        answer: T,
+        expected: T,
+    ) -> Result<T, Disagreement> {
+        self.count(number);
         if answer == expected {
-            return Ok(());
+            return Ok(answer);
         }
         let about = format!("{about}: proved {answer:?}, reference {expected:?}");
         disagree(about, file)
@@ -210,74 +213,10 @@ fn own(answer: kelompuris::Answer) -> Answer {
     }
 }
 
-/// Words before and behind each lent table.
-const AROUND: usize = 3;
-
-/// Ten tables to lend, each among other words, all filled by a pattern.
-struct Lent {
-    words: [Vec<u32>; 10],
-}
-
-impl Lent {
-    fn new(sizes: [usize; 10]) -> Lent {
-        let fill = |table| (0..sizes[table] + 2 * AROUND).map(move |at| pattern(table, at));
-        Lent {
-            words: std::array::from_fn(|table| fill(table).collect()),
-        }
-    }
-
-    fn tables(&mut self) -> [&mut [u32]; 10] {
-        self.words.each_mut().map(|words| {
-            let end = words.len() - AROUND;
-            &mut words[AROUND..end]
-        })
-    }
-
-    /// The first table with a change outside the rows of this answer.
-    fn changed_outside(&self, answer: &Answer) -> Option<usize> {
-        let kept = |table: usize, at: usize| self.words[table][at] == pattern(table, at);
-        (0..10)
-            .find(|&table| {
-                let rows_end = AROUND + row_words(answer, table);
-                let behind = rows_end..self.words[table].len();
-                !(0..AROUND).chain(behind).all(|at| kept(table, at))
-            })
-            .map(|table| table + 1)
-    }
-}
-
-/// The word that stands there before a call.
-fn pattern(table: usize, at: usize) -> u32 {
-    (at as u32 * 10 + table as u32).wrapping_mul(0x9E37_79B1) ^ 0xA5C3_0F1E
-}
-
-/// Words of the rows of a table; 0 for a refusal.
-fn row_words(answer: &Answer, table: usize) -> usize {
-    answer.counts[table] as usize * ROW_WORDS[table]
-}
-
-/// Sizes of the tables to lend for a file with this answer. For one that is
-/// accepted: just enough; more; one word short in one table, in each where
-/// that is quick; short in several; none at all.
+/// Sizes of the tables to lend for a file with this answer.
 fn sizes_to_lend(answer: &Answer, rng: &mut Rng) -> Vec<[usize; 10]> {
-    let full: [usize; 10] = std::array::from_fn(|table| row_words(answer, table));
-    let more = full.map(|size| size + rng.below(50));
-    if answer.number != 0 {
-        return vec![more];
+    match answer.number {
+        0 => sizes_around(row_words(&answer.counts, &ROW_WORDS), rng),
+        _ => vec![some_sizes(rng)],
     }
-    let mut filled: Vec<usize> = (0..10).filter(|&table| full[table] > 0).collect();
-    let several = full.map(|size| match rng.percent(40) && size > 0 {
-        true => rng.below(size),
-        false => size,
-    });
-    if full.iter().sum::<usize>() > 2000 && !filled.is_empty() {
-        filled = vec![rng.pick(&filled)];
-    }
-    let mut all = vec![full, more, several, [0; 10]];
-    for table in filled {
-        let mut short = more;
-        short[table] = full[table] - 1;
-        all.push(short);
-    }
-    all
 }

@@ -1,4 +1,4 @@
-use crate::{disagree, Compared, Disagreement};
+use crate::{Compared, Disagreement};
 use reference::Slip;
 
 impl Compared {
@@ -11,12 +11,7 @@ impl Compared {
             place: answer.place,
             numbers: answer.numbers,
         };
-        self.count(answer.number);
         let expected = reference::read_slip(slip);
-        if answer == expected {
-            return Ok(answer);
-        }
-        let values = format!("proved {answer:?}, reference {expected:?}");
-        disagree(format!("read a slip: {values}"), slip)
+        self.same("read a slip", slip, answer.number, answer, expected)
     }
 }

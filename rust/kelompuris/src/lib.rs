@@ -1,6 +1,8 @@
 //! Safe Rust over the proved functions of `libkelompuris_c.a`. The rules of
 //! each stand in `include/kelompuris.h`.
 
+pub mod cal3d;
+
 /// Whether a red, green, blue or alpha outside 0 to 1 is refused.
 #[repr(u32)]
 #[derive(Clone, Copy, Debug, PartialEq, Eq)]
@@ -180,4 +182,10 @@ pub fn label(file: &[u8]) -> Label {
 pub fn label_name(file: &[u8]) -> &[u8] {
     let label = label(file);
     &file[label.name_place..][..label.name_length]
+}
+
+/// Tables as slices to lend; there are as many as the function takes.
+pub fn slices<const TABLES: usize>(tables: &mut [Vec<u32>]) -> [&mut [u32]; TABLES] {
+    let slices: Vec<&mut [u32]> = tables.iter_mut().map(Vec::as_mut_slice).collect();
+    slices.try_into().expect("a slice for each table")
 }

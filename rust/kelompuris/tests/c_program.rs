@@ -5,7 +5,7 @@ use std::path::Path;
 use std::process::Command;
 
 /// Each program and what it prints.
-const SAMPLES: [(&str, &str); 3] = [
+const SAMPLES: [(&str, &str); 4] = [
     (
         "read_sample",
         "\
@@ -51,6 +51,47 @@ four groups: 13 2, 0 0 0 0 0 0 0 0 0 0 0 0
 no slip: 13 0, 0 0 0 0 0 0 0 0 0 0 0 0
 ",
     ),
+    (
+        "cal3d_sample",
+        "\
+skeleton: 0 0, 1300 6 3e800000 3e800000 3e800000, 6 4
+cut: 5 496, 0 0 00000000 00000000 00000000, 0 0
+no file: 1 0, 0 0 00000000 00000000 00000000, 0 0
+few bones: 11 1, 0 0 00000000 00000000 00000000, 0 0
+no child: 11 2, 0 0 00000000 00000000 00000000, 0 0
+untouched: 1 1
+read: 0 0, 1300 6 3e800000 3e800000 3e800000, 6 4
+untouched behind: 1 1
+frame: parent -1, 2 children: 1 4
+hinge: parent 0, 1 children: 2
+leaf: parent 1, 1 children: 3
+handle: parent 2, 0 children:
+curtain rail: parent 0, 0 children:
+: parent -1, 0 children:
+mesh: 0 0, 700 1, 1 6 6 3 5 4
+few bones: 7 80, 0 0, 0 0 0 0 0 0
+cut: 5 464, 0 0, 0 0 0 0 0 0
+no file: 1 0, 0 0, 0 0 0 0 0 0
+few faces: 11 6, 0 0, 0 0 0 0 0 0
+no table: 11 1, 0 0, 0 0 0 0 0 0
+untouched: 1 1 1 1 1 1
+read: 0 0, 700 1, 1 6 6 3 5 4
+untouched behind: 1 1 1 1 1 1
+submesh: -1 6 4 1 5 1 0 0 0
+vertex: collapse -1, cloth weight 00000000, 1 influences, first bone 4, weight 3f800000
+vertex: collapse -1, cloth weight 00000000, 1 influences, first bone 4, weight 3f800000
+vertex: collapse -1, cloth weight 00000000, 1 influences, first bone 4, weight 3f800000
+vertex: collapse -1, cloth weight 3f800000, 0 influences
+vertex: collapse -1, cloth weight 3f800000, 0 influences
+vertex: collapse 4, cloth weight 3f800000, 0 influences
+spring: 3 4
+spring: 4 5
+spring: 0 3
+spring: 1 4
+spring: 2 5
+last face: 1 5 4
+",
+    ),
 ];
 
 /// Compiles each with this compiler, language and standard, and runs it.
@@ -73,7 +114,10 @@ fn run(compiler: &str, language: &str, standard: &str) {
             .status();
         let built = built.unwrap_or_else(|error| panic!("{compiler} does not run: {error}"));
         assert!(built.success(), "{compiler} refuses {sample}");
-        let output = Command::new(&program).output().expect("the sample runs");
+        let output = Command::new(&program)
+            .current_dir(root.join("samples"))
+            .output();
+        let output = output.expect("the sample runs");
         assert!(output.status.success());
         assert_eq!(String::from_utf8_lossy(&output.stdout), printed);
     }

@@ -1,6 +1,7 @@
 //! Valid and damaged cal3d skeletons and meshes. A file is built item by item,
 //! so that each place is known; no reader is used.
 
+use crate::change::other_word;
 use crate::rng::Rng;
 
 pub const NONE: u32 = 0xFFFF_FFFF;
@@ -20,10 +21,13 @@ pub struct Made {
     pub loose_ids: Vec<(usize, u32)>,
     /// The first byte of each bone.
     pub bones: Vec<usize>,
+    /// The first byte of each influence, which is that of its bone's id.
+    pub influences: Vec<usize>,
 }
 
 impl Made {
-    fn new(magic: &[u8; 4], tables: usize) -> Made {
+    /// A file of nothing but its magic token, to be filled item by item.
+    pub fn new(magic: &[u8; 4], tables: usize) -> Made {
         Made {
             file: magic.to_vec(),
             tables: vec![Vec::new(); tables],
@@ -31,7 +35,8 @@ impl Made {
         }
     }
 
-    fn item(&mut self, numbers: &[u32]) -> usize {
+    /// Adds an item of numbers; the place of its first byte.
+    pub fn item(&mut self, numbers: &[u32]) -> usize {
         let place = self.file.len();
         self.items.push((place, 4 * numbers.len()));
         for number in numbers {
@@ -40,7 +45,8 @@ impl Made {
         place
     }
 
-    fn name(&mut self, bytes: &[u8]) {
+    /// Adds the bytes of a name.
+    pub fn name(&mut self, bytes: &[u8]) {
         self.items.push((self.file.len(), bytes.len()));
         self.file.extend(bytes);
     }
@@ -131,8 +137,46 @@ pub fn skeleton(rng: &mut Rng, most: usize) -> Made {
     skeleton_of(rng, &parents, &lists, 12)
 }
 
-fn vertex(rng: &mut Rng, made: &mut Made, bones: u32, submesh: &[u32; 6]) {
-    let [_, vertices, _, _, springs, maps] = *submesh;
+/// What a submesh is to have: so many vertices, faces and springs; for each
+/// vertex so many maps, and influences between two numbers.
+#[derive(Clone, Copy, Debug)]
+pub struct Shape {
+    pub vertices: u32,
+    pub faces: u32,
+    pub springs: u32,
+    pub maps: u32,
+    pub influences: [usize; 2],
+}
+
+impl Shape {
+    pub const EMPTY: Shape = Shape {
+        vertices: 0,
+        faces: 0,
+        springs: 0,
+        maps: 0,
+        influences: [0, 0],
+    };
+
+    /// A small one.
+    fn any(rng: &mut Rng) -> Shape {
+        let vertices = rng.below(6) as u32;
+        let mut some = || match vertices == 0 || rng.percent(40) {
+            true => 0,
+            false => rng.below(4) as u32,
+        };
+        let (faces, springs) = (some(), some());
+        Shape {
+            vertices,
+            faces,
+            springs,
+            maps: rng.below(4) as u32,
+            influences: [0, 3],
+        }
+    }
+}
+
+fn vertex(rng: &mut Rng, made: &mut Made, bones: u32, shape: &Shape) {
+    let vertices = shape.vertices;
     let mut numbers: Vec<u32> = (0..6).map(|_| rng.float()).collect();
     let collapse = match rng.percent(40) {
         true => NONE,
@@ -146,22 +190,27 @@ fn vertex(rng: &mut Rng, made: &mut Made, bones: u32, submesh: &[u32; 6]) {
         made.tables[2].len() as u32 / 2,
         made.tables[3].len() as u32 / 2,
     ];
-    for _ in 0..maps {
+    for _ in 0..shape.maps {
         let map = [rng.float(), rng.float()];
         made.item(&map);
         made.tables[2].extend(map);
     }
-    let influences = if bones == 0 { 0 } else { rng.below(4) as u32 };
+    let [least, most] = shape.influences;
+    let influences = match bones {
+        0 => 0,
+        _ => rng.between(least, most) as u32,
+    };
     let at = made.item(&[influences]);
     made.counts.push(at);
     for _ in 0..influences {
         let influence = [rng.below(bones as usize) as u32, rng.float()];
         let at = made.item(&influence);
         made.ids.push((at, bones));
+        made.influences.push(at);
         made.tables[3].extend(influence);
     }
     let mut cloth = 0;
-    if springs > 0 {
+    if shape.springs > 0 {
         cloth = rng.float();
         made.item(&[cloth]);
     }
@@ -172,53 +221,152 @@ fn vertex(rng: &mut Rng, made: &mut Made, bones: u32, submesh: &[u32; 6]) {
 
 /// A valid mesh of up to so many submeshes, for a skeleton of so many bones.
 pub fn mesh(rng: &mut Rng, bones: u32, most: usize) -> Made {
-    let submeshes = rng.below(most + 1) as u32;
+    let shapes: Vec<Shape> = (0..rng.below(most + 1)).map(|_| Shape::any(rng)).collect();
+    mesh_of(rng, bones, &shapes)
+}
+
+/// A valid mesh of such submeshes.
+pub fn mesh_of(rng: &mut Rng, bones: u32, shapes: &[Shape]) -> Made {
     let mut made = Made::new(b"CMF\0", 6);
-    made.item(&[700, submeshes]);
+    made.item(&[700, shapes.len() as u32]);
     made.counts.push(8);
-    for _ in 0..submeshes {
-        let vertices = rng.below(6) as u32;
-        let some = |rng: &mut Rng| {
-            if vertices == 0 || rng.percent(40) {
-                0
-            } else {
-                rng.below(4) as u32
-            }
-        };
-        let (faces, springs) = (some(rng), some(rng));
-        let numbers = [
-            rng.word(),
-            vertices,
-            faces,
-            rng.below(9) as u32,
-            springs,
-            rng.below(4) as u32,
-        ];
-        let start = made.item(&numbers);
-        made.counts.extend((1..6).map(|index| start + 4 * index));
-        let before = [(1, 12), (4, 4), (5, 3)]
-            .map(|(table, width)| (made.tables[table].len() / width) as u32);
-        made.tables[0].extend(numbers);
-        made.tables[0].extend(before);
-        for _ in 0..vertices {
-            vertex(rng, &mut made, bones, &numbers);
-        }
-        for _ in 0..springs {
-            let ids = [(); 2].map(|_| rng.below(vertices as usize) as u32);
-            let spring = [ids[0], ids[1], rng.float(), rng.float()];
-            let at = made.item(&spring);
-            made.ids.extend([(at, vertices), (at + 4, vertices)]);
-            made.tables[4].extend(spring);
-        }
-        for _ in 0..faces {
-            let face = [(); 3].map(|_| rng.below(vertices as usize) as u32);
-            let at = made.item(&face);
-            made.ids
-                .extend([(at, vertices), (at + 4, vertices), (at + 8, vertices)]);
-            made.tables[5].extend(face);
-        }
+    for shape in shapes {
+        submesh(rng, &mut made, bones, shape);
     }
     made
+}
+
+fn submesh(rng: &mut Rng, made: &mut Made, bones: u32, shape: &Shape) {
+    let vertices = shape.vertices;
+    let numbers = [
+        rng.word(),
+        vertices,
+        shape.faces,
+        rng.below(9) as u32,
+        shape.springs,
+        shape.maps,
+    ];
+    let start = made.item(&numbers);
+    made.counts.extend((1..6).map(|index| start + 4 * index));
+    let before =
+        [(1, 12), (4, 4), (5, 3)].map(|(table, width)| (made.tables[table].len() / width) as u32);
+    made.tables[0].extend(numbers);
+    made.tables[0].extend(before);
+    for _ in 0..vertices {
+        vertex(rng, made, bones, shape);
+    }
+    for _ in 0..shape.springs {
+        let ids = [(); 2].map(|_| rng.below(vertices as usize) as u32);
+        let spring = [ids[0], ids[1], rng.float(), rng.float()];
+        let at = made.item(&spring);
+        made.ids.extend([(at, vertices), (at + 4, vertices)]);
+        made.tables[4].extend(spring);
+    }
+    for _ in 0..shape.faces {
+        let face = [(); 3].map(|_| rng.below(vertices as usize) as u32);
+        let at = made.item(&face);
+        made.ids
+            .extend([(at, vertices), (at + 4, vertices), (at + 8, vertices)]);
+        made.tables[5].extend(face);
+    }
+}
+
+/// A valid mesh, for a skeleton of one bone, with so many rows in table 1 to 6
+/// and few in the others; but for table 1, in one submesh.
+pub fn mesh_with_rows(rng: &mut Rng, table: usize, rows: usize) -> Made {
+    let one = Shape {
+        vertices: 1,
+        ..Shape::EMPTY
+    };
+    let count = rows as u32;
+    let shape = match table {
+        1 => return mesh_of(rng, 1, &vec![Shape::EMPTY; rows]),
+        2 => Shape {
+            vertices: count,
+            ..one
+        },
+        3 => Shape { maps: count, ..one },
+        4 => Shape {
+            influences: [rows, rows],
+            ..one
+        },
+        5 => Shape {
+            springs: count,
+            ..one
+        },
+        _ => Shape {
+            faces: count,
+            ..one
+        },
+    };
+    mesh_of(rng, 1, &[shape])
+}
+
+/// A valid mesh with so many rows in tables 2 to 6, for a skeleton of as many
+/// bones: in this many submeshes, which all have the same.
+pub fn mesh_with_all_rows(rng: &mut Rng, submeshes: usize, rows: usize) -> Made {
+    let each = (rows / submeshes) as u32;
+    let shape = Shape {
+        vertices: each,
+        faces: each,
+        springs: each,
+        maps: 1,
+        influences: [1, 1],
+    };
+    mesh_of(rng, rows as u32, &vec![shape; submeshes])
+}
+
+/// A valid skeleton without names, with these parents.
+pub fn skeleton_with_parents(rng: &mut Rng, parents: &[u32]) -> Made {
+    let lists = lists(rng, parents);
+    skeleton_of(rng, parents, &lists, 0)
+}
+
+/// A skeleton of up to so many bones with any parents and any lists, most often
+/// wrong.
+pub fn any_trees(rng: &mut Rng, most: usize) -> Made {
+    let bones = rng.between(1, most);
+    let some = |rng: &mut Rng| rng.below(bones) as u32;
+    let parents: Vec<u32> = (0..bones)
+        .map(|_| match rng.percent(40) {
+            true => NONE,
+            false => some(rng),
+        })
+        .collect();
+    let mut lists = lists(rng, &parents);
+    for _ in 0..rng.below(3) {
+        let list = some(rng) as usize;
+        let child = some(rng);
+        match rng.percent(50) {
+            true => lists[list].push(child),
+            false => lists[list].retain(|&listed| listed != child),
+        }
+    }
+    skeleton_of(rng, &parents, &lists, 3)
+}
+
+/// A file with some of its counts and ids changed, perhaps cut or longer after
+/// that, without regard to the outcome.
+pub fn changed(rng: &mut Rng, made: &Made) -> Vec<u8> {
+    let mut file = made.file.clone();
+    let ids = made.ids.iter().chain(&made.loose_ids);
+    let places: Vec<usize> = made
+        .counts
+        .iter()
+        .copied()
+        .chain(ids.map(|id| id.0))
+        .collect();
+    for _ in 0..rng.between(1, 3) {
+        let place = rng.pick(&places);
+        let old = u32::from_le_bytes(file[place..place + 4].try_into().unwrap());
+        file = with_number(&file, place, other_word(old, rng));
+    }
+    match rng.below(4) {
+        0 => file.truncate(rng.between(12, file.len())),
+        1 => file.extend(rng.bytes(3)),
+        _ => {}
+    }
+    file
 }
 
 /// A file with one fault, and the refusal that it must bring.

@@ -1,5 +1,6 @@
 //! The files of `samples/`, made anew.
 
+use scenes::cal3d::Made;
 use scenes::damage::file_of;
 use scenes::{worked, Chunk};
 
@@ -9,11 +10,14 @@ const NONE: u32 = 0xFFFF_FFFF;
 const UPRIGHT: [f32; 7] = [1.0, 1.0, 1.0, 1.0, 0.0, 0.0, 0.0];
 
 /// Names and bytes of all samples.
-pub fn all() -> [(&'static str, Vec<u8>); 3] {
+pub fn all() -> [(&'static str, Vec<u8>); 6] {
     [
         ("hall.b3d", worked::h()),
         ("table.b3d", worked::t()),
         ("kitchen.b3d", kitchen()),
+        ("door.csf", door_skeleton()),
+        ("door.cmf", door_mesh()),
+        ("curtain.cmf", curtain()),
     ]
 }
 
@@ -145,4 +149,161 @@ fn floats(chunk: &mut Chunk, values: &[f32]) {
     for value in values {
         chunk.word(value.to_bits());
     }
+}
+
+/// Name, parent, children and place under its parent of each bone of the door.
+type Bone = (&'static str, u32, &'static [u32], [f32; 3]);
+const DOOR: [Bone; 6] = [
+    ("frame", NONE, &[1, 4], [0.0, 0.0, 0.0]),
+    ("hinge", 0, &[2], [0.5, 1.0, 0.0]),
+    ("leaf", 1, &[3], [-0.5, 0.0, 0.0]),
+    ("handle", 2, &[], [-0.25, 0.0, 0.0625]),
+    ("curtain rail", 0, &[], [0.0, 2.0, 0.125]),
+    ("", NONE, &[], [0.0, 0.0, -0.5]),
+];
+
+/// Where a bone of the door stands: its place and those of all above it.
+fn standing(bone: u32) -> [f32; 3] {
+    let (_, parent, _, place) = DOOR[bone as usize];
+    match parent {
+        NONE => place,
+        _ => std::array::from_fn(|axis| standing(parent)[axis] + place[axis]),
+    }
+}
+
+fn bits(values: &[f32]) -> impl Iterator<Item = u32> + use<'_> {
+    values.iter().map(|value| value.to_bits())
+}
+
+/// A door on a hinge, with a curtain rail over it, and a bone without a name.
+fn door_skeleton() -> Vec<u8> {
+    const STRAIGHT: [f32; 4] = [0.0, 0.0, 0.0, 1.0];
+    let mut made = Made::new(b"CSF\0", 2);
+    let mut head = vec![1300, DOOR.len() as u32];
+    head.extend(bits(&[0.25, 0.25, 0.25]));
+    made.item(&head);
+    for (bone, (name, parent, children, place)) in DOOR.into_iter().enumerate() {
+        made.item(&[name.len() as u32]);
+        made.name(name.as_bytes());
+        let back = standing(bone as u32).map(|value| 0.0 - value);
+        let mut numbers = Vec::new();
+        for values in [&place[..], &STRAIGHT, &back, &STRAIGHT] {
+            numbers.extend(bits(values));
+        }
+        numbers.extend([parent, 0]);
+        numbers.extend(bits(&[1.0, 1.0, 1.0]));
+        numbers.push(children.len() as u32);
+        made.item(&numbers);
+        for &child in children {
+            made.item(&[child]);
+        }
+    }
+    made.file
+}
+
+/// A vertex to be: its place, the vertex that it collapses to, its influences
+/// and its cloth weight.
+struct Vertex<'a> {
+    place: [f32; 3],
+    collapse: u32,
+    influences: &'a [(u32, f32)],
+    cloth: f32,
+}
+
+/// Adds a submesh with a map for each vertex; its cloth weights where it has springs.
+fn submesh(
+    made: &mut Made,
+    material: u32,
+    vertices: &[Vertex],
+    springs: &[([u32; 2], f32)],
+    faces: &[[u32; 3]],
+) {
+    let collapsing = vertices.iter().filter(|vertex| vertex.collapse != NONE);
+    let counts = [
+        vertices.len(),
+        faces.len(),
+        collapsing.count(),
+        springs.len(),
+        1,
+    ];
+    let mut numbers = vec![material];
+    numbers.extend(counts.map(|count| count as u32));
+    made.item(&numbers);
+    for vertex in vertices {
+        let mut numbers: Vec<u32> = bits(&vertex.place).collect();
+        numbers.extend(bits(&[0.0, 0.0, 1.0]));
+        numbers.extend([vertex.collapse, u32::from(vertex.collapse != NONE)]);
+        made.item(&numbers);
+        let map: Vec<u32> = bits(&vertex.place[..2]).collect();
+        made.item(&map);
+        made.item(&[vertex.influences.len() as u32]);
+        for (bone, weight) in vertex.influences {
+            made.item(&[*bone, weight.to_bits()]);
+        }
+        if !springs.is_empty() {
+            made.item(&[vertex.cloth.to_bits()]);
+        }
+    }
+    for ([from, to], length) in springs {
+        made.item(&[*from, *to, 8.0_f32.to_bits(), length.to_bits()]);
+    }
+    for face in faces {
+        made.item(face);
+    }
+}
+
+/// The vertices of a mesh without springs and without collapsing.
+fn stiff<'a>(places: &[[f32; 3]], influences: &'a [(u32, f32)]) -> Vec<Vertex<'a>> {
+    let stiff = |&place| Vertex {
+        place,
+        collapse: NONE,
+        influences,
+        cloth: 0.0,
+    };
+    places.iter().map(stiff).collect()
+}
+
+/// The door's leaf and its handle, without springs.
+fn door_mesh() -> Vec<u8> {
+    let mut made = Made::new(b"CMF\0", 6);
+    made.item(&[700, 2]);
+    let leaf = [
+        [-0.5, 0.0, 0.0],
+        [0.5, 0.0, 0.0],
+        [0.5, 2.0, 0.0],
+        [-0.5, 2.0, 0.0],
+    ];
+    let faces = [[0, 1, 2], [0, 2, 3]];
+    submesh(&mut made, 0, &stiff(&leaf, &[(2, 1.0)]), &[], &faces);
+    let handle = [
+        [-0.25, 1.0, 0.0625],
+        [-0.125, 1.0, 0.0625],
+        [-0.25, 1.125, 0.0625],
+    ];
+    let handle = stiff(&handle, &[(3, 0.75), (2, 0.25)]);
+    submesh(&mut made, 1, &handle, &[], &[[0, 1, 2]]);
+    made.file
+}
+
+/// A curtain of two rows below its rail: the upper one hangs on the rail's bone,
+/// the lower one on springs alone, and its last vertex may collapse.
+fn curtain() -> Vec<u8> {
+    let mut made = Made::new(b"CMF\0", 6);
+    made.item(&[700, 1]);
+    let vertices = [0, 1, 2, 3, 4, 5].map(|vertex| Vertex {
+        place: [
+            (vertex % 3) as f32 / 2.0 - 0.5,
+            [2.0, 1.0][vertex / 3],
+            0.125,
+        ],
+        collapse: if vertex == 5 { 4 } else { NONE },
+        influences: if vertex < 3 { &[(4, 1.0)] } else { &[] },
+        cloth: if vertex < 3 { 0.0 } else { 1.0 },
+    });
+    let across = [[3, 4], [4, 5]].map(|ends| (ends, 0.5));
+    let down = [[0, 3], [1, 4], [2, 5]].map(|ends| (ends, 1.0));
+    let springs = [&across[..], &down].concat();
+    let faces = [[0, 1, 4], [0, 4, 3], [1, 2, 5], [1, 5, 4]];
+    submesh(&mut made, u32::MAX, &vertices, &springs, &faces);
+    made.file
 }

@@ -1,0 +1,2 @@
+-- The answers that C sees, as values of the definitions.
+pub mod Outward

@@ -1,0 +1,35 @@
+// The reader of mesh files: six tables into lent slices, with the answer that 02 gives to every file, number of bones and tables of every length.
+ghost use Rattle.cal3d_mesh.specs.Meshes.{ReadsMesh};
+use cal3d_scene::MeshAnswer;
+
+// Reads a mesh file, whose bone ids are below a number, into six lent tables: their rows are stored, and what stood behind them stays. Where the
+// file is refused, or a table is too short, each table stays as it was.
+pub fn read_mesh(
+    file: &[u8],
+    bone_count: u32,
+    submeshes: &mut [u32],
+    vertices: &mut [u32],
+    maps: &mut [u32],
+    influences: &mut [u32],
+    springs: &mut [u32],
+    faces: &mut [u32],
+) -> MeshAnswer
+    ensures { λ r. ⌜ ReadsMesh «bone_count» (now (file .entry)) (now (submeshes .entry)) (now (vertices .entry)) (now (maps .entry)) (now (influences .entry)) (now (springs .entry)) (now (faces .entry))
+        (now (submeshes .exit)) (now (vertices .exit)) (now (maps .exit)) (now (influences .exit)) (now (springs .exit)) (now (faces .exit)) r ⌝ }
+{
+    let judged = cal3d_mesh_judge::judge(file, bone_count);
+    let answer = cal3d_mesh_room::with_room(
+        judged,
+        submeshes.len(),
+        vertices.len(),
+        maps.len(),
+        influences.len(),
+        springs.len(),
+        faces.len(),
+    );
+    if answer.number != 0 {
+        return answer;
+    }
+    cal3d_mesh_fill::fill_mesh(file, submeshes, vertices, maps, influences, springs, faces);
+    answer
+}

@@ -1,0 +1,2 @@
+pub mod SubmeshLaws
+pub mod FillLaws

@@ -1,0 +1,32 @@
+-- The row counts of a mesh, and the answer by them.
+use Prim.Native.Nat.{ℕ, zero, suc, _+_}
+use mathlib.Core.List.{List, [], _∷_}
+use lib.Dec.{leb}
+use Rattle.wire.specs.Test.{if}
+use Rattle.layout.specs.Out.{bad}
+use Rattle.layout.specs.Rows.{mostRows}
+use Rattle.cal3d_scene.specs.Answers.{meshAnswer}
+use Rattle.cal3d_scene.specs.declared.MeshAnswer.{MeshAnswer}
+use Rattle.cal3d_submeshes.specs.declared.Contents.{Contents}
+
+-- the rows of the six tables
+abbrev pub rowCounts : ℕ → Contents → List ℕ
+rowCounts submeshes t = submeshes ∷ t .vertices ∷ t .maps ∷ t .influences ∷ t .springs ∷ t .faces ∷ []
+
+-- the first of tables k, k + 1, .. that has more rows than a table may have; 0 where there is none
+unfoldable pub firstOver : ℕ → List ℕ → ℕ
+firstOver k [] = 0
+firstOver k (n ∷ l) = if (leb n mostRows) (firstOver (k + 1) l) k
+
+-- the answer for a file that is accepted
+abbrev pub acceptedAs : ℕ → Contents → MeshAnswer
+acceptedAs submeshes t = record { number = 0; place = 0; head = 700 ∷ submeshes ∷ []; counts = rowCounts submeshes t }
+
+-- 10 at this table; 0: accepted
+unfoldable pub overAs : ℕ → ℕ → Contents → MeshAnswer
+overAs zero submeshes t = acceptedAs submeshes t
+overAs (suc k) submeshes t = meshAnswer (bad 10 (suc k))
+
+-- the answer for a file of so many entries
+unfoldable pub limitedAs : ℕ → Contents → MeshAnswer
+limitedAs submeshes t = overAs (firstOver 1 (rowCounts submeshes t)) submeshes t

@@ -1,0 +1,106 @@
+// The judge of mesh files: the answer that 02 gives to every file, without any table.
+ghost use mathlib.Core.Path.{_≡_};
+ghost use Prim.Native.Nat.{ℕ};
+ghost use Rattle.layout.specs.Out.{bad};
+ghost use Rattle.cal3d_scene.specs.Answers.{judgeMesh, meshAnswer};
+ghost use Rattle.cal3d_submeshes.specs.Contents.{Within};
+ghost use Rattle.cal3d_mesh_judge.specs.Limits.{rowCounts, firstOver, acceptedAs, limitedAs};
+use cal3d_head::Opened;
+use cal3d_scene::MeshAnswer;
+use cal3d_submeshes::Contained;
+use cal3d_submeshes::Contents;
+use wire::Cursor;
+
+// The answer for a refusal.
+pub fn refused(number: u32, place: u32) -> MeshAnswer
+    ensures { λ r. ⌜ r ≡ meshAnswer (bad number place) ⌝ }
+{
+    MeshAnswer {
+        number,
+        place,
+        head: [0; 2],
+        counts: [0; 6],
+    }
+}
+
+// The answer for a file that is accepted.
+fn accepted(submeshes: u32, t: Contents) -> MeshAnswer
+    requires { ⌜ Within t 16383 ⌝ }
+    ensures { λ r. ⌜ r ≡ acceptedAs submeshes t ⌝ }
+{
+    MeshAnswer {
+        number: 0,
+        place: 0,
+        head: [700, submeshes],
+        counts: [
+            submeshes,
+            t.vertices as u32,
+            t.maps as u32,
+            t.influences as u32,
+            t.springs as u32,
+            t.faces as u32,
+        ],
+    }
+}
+
+// The lowest table with more rows than a table may have; 0 where there is none.
+fn first_over(submeshes: u32, t: Contents) -> u32
+    ensures { λ r. ⌜ r ≡ firstOver 1 (rowCounts submeshes t) ⌝ }
+{
+    if 16383 < submeshes {
+        return 1;
+    }
+    if 16383 < t.vertices {
+        return 2;
+    }
+    if 16383 < t.maps {
+        return 3;
+    }
+    if 16383 < t.influences {
+        return 4;
+    }
+    if 16383 < t.springs {
+        return 5;
+    }
+    if 16383 < t.faces {
+        return 6;
+    }
+    0
+}
+
+// The answer for a file of so many entries: 10, or accepted.
+fn limited(submeshes: u32, t: Contents) -> MeshAnswer
+    ensures { λ r. ⌜ r ≡ limitedAs submeshes t ⌝ }
+{
+    let over = first_over(submeshes, t);
+    if over != 0 {
+        return refused(10, over);
+    }
+    accepted(submeshes, t)
+}
+
+// The answer for a file without any table, bone ids being below a count.
+pub fn judge(file: &[u8], bone_count: u32) -> MeshAnswer
+    ensures { λ r. ⌜ r ≡ meshAnswer (judgeMesh «bone_count» (now (file .entry))) ⌝ }
+{
+    match cal3d_head::entry_count(file, 0x00464D43, 700, 0) {
+        Opened::Not(e, p) => refused(e, p),
+        Opened::To(submeshes) => {
+            let n = file.len();
+            match cal3d_submeshes::judge_submeshes(
+                file,
+                Cursor { at: 12, end: n },
+                wire::size(bone_count),
+                wire::size(submeshes),
+            ) {
+                Contained::Not(e, p) => refused(e, p as u32),
+                Contained::To(t, c) => {
+                    if n <= c.at {
+                        return limited(submeshes, t);
+                    }
+                    refused(5, c.at as u32)
+                }
+            }
+        }
+    }
+}

@@ -1,0 +1,15 @@
+-- `with_room` answers 11 only where the judge accepts.
+use borrow.Author.Needs.{needs}
+use Rattle.cal3d_mesh_room.proofs.RoomLaws.{room-laws}
+use Rattle.cal3d_mesh_room.proofs.with_room.Statement.{statement}
+use Rattle.cal3d_mesh_room.proofs.with_room.Tie as tie
+
+pub with-room-spec : {M : Type 1} → statement M
+with-room-spec =
+    tie.close
+    (tie.spec
+    (λ c. search (room-laws, needs))
+    (λ c κs. search needs)
+    (λ c κs. search needs)
+    (λ c. search (room-laws, needs))
+    (λ c. search (room-laws, needs)))

@@ -1,0 +1,4 @@
+pub mod Finding
+pub mod Readings
+pub mod Entries
+pub mod Widths

@@ -1,0 +1,4 @@
+pub mod CountsLaws
+pub mod ListLaws
+pub mod SubmeshLaws
+pub mod TotalLaws

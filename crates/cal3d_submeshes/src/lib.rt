@@ -1,0 +1,144 @@
+// The submeshes of a mesh file by cursor, one after the other against the rules, and how many entries they hold in all.
+ghost use mathlib.Core.Path.{_≡_};
+ghost use Prim.Native.Nat.{ℕ, _+_, _*_, _≤_};
+ghost use lib.ListN.{length};
+ghost use Rattle.wire.specs.Cursors.{Inside, left};
+ghost use Rattle.layout.specs.Parts.{row};
+ghost use Rattle.layout.specs.Counted.{times};
+ghost use Rattle.counted.specs.Runs.{Runs};
+ghost use Rattle.cal3d_scene.specs.Rules.{submeshNumbers};
+ghost use Rattle.cal3d_scene.specs.Meshes.{readSubmesh};
+ghost use Rattle.cal3d_submeshes.specs.Contents.{Contains, Within, both, contentsOf, contentsIn, readLists};
+use counted::Ran;
+use counted::Summed;
+use wire::Cursor;
+
+// How many vertices, maps, influences, springs and faces.
+pub struct Contents {
+    pub vertices: usize,
+    pub maps: usize,
+    pub influences: usize,
+    pub springs: usize,
+    pub faces: usize,
+}
+
+// What was read contains so many entries, and the cursor after it; or a refusal and its place.
+pub enum Contained {
+    To(Contents, Cursor),
+    Not(u32, usize),
+}
+
+// A submesh's numbers: five counts behind the first.
+fn pass_counts(s: &[u8], c: Cursor) -> Ran
+    requires { ⌜ Inside c (length (now s)) ⌝ }
+    ensures { λ r. ⌜ Runs (row submeshNumbers (c .at) (left c (now (s .entry)))) c 24 r ⌝ }
+{
+    let at = c.at;
+    let end = c.end;
+    if end - at < 24 {
+        return Ran::Not(5, at);
+    }
+    let good = counted::first_bad(s, Cursor { at: at + 4, end }, 5, 2147483648);
+    if good < 5 {
+        return Ran::Not(6, at + 4 + 4 * good);
+    }
+    Ran::To(Cursor { at: at + 24, end })
+}
+
+// The lists of a submesh: its vertices, its springs, its faces.
+fn judge_lists(
+    s: &[u8],
+    c: Cursor,
+    bones: usize,
+    vertices: usize,
+    springs: usize,
+    maps: usize,
+    faces: usize,
+) -> Contained
+    requires { ⌜ Inside c (length (now s)) ⌝ }
+    ensures { λ r. ⌜ Contains contentsOf (readLists bones vertices springs maps faces (c .at) (left c (now (s .entry)))) c 0 r ⌝ }
+{
+    match cal3d_vertices::judge_vertices(s, c, bones, vertices, springs, maps) {
+        Summed::Not(e, p) => Contained::Not(e, p),
+        Summed::To(influences, first) => {
+            let all_maps = vertices * maps;
+            match counted::id_rows(s, first, springs, 4, 2, vertices) {
+                Ran::Not(e, p) => Contained::Not(e, p),
+                Ran::To(second) => match counted::id_rows(s, second, faces, 3, 3, vertices) {
+                    Ran::Not(e, p) => Contained::Not(e, p),
+                    Ran::To(next) => Contained::To(
+                        Contents {
+                            vertices,
+                            maps: all_maps,
+                            influences,
+                            springs,
+                            faces,
+                        },
+                        next,
+                    ),
+                },
+            }
+        }
+    }
+}
+
+// One submesh.
+fn judge_submesh(s: &[u8], c: Cursor, bones: usize) -> Contained
+    requires { ⌜ Inside c (length (now s)) ⌝ }
+    ensures { λ r. ⌜ Contains contentsOf (readSubmesh bones (c .at) (left c (now (s .entry)))) c 24 r ⌝ }
+{
+    match pass_counts(s, c) {
+        Ran::Not(e, p) => Contained::Not(e, p),
+        Ran::To(lists) => {
+            let at = c.at;
+            let vertices = wire::size(wire::number_at(s, at + 4));
+            let faces = wire::size(wire::number_at(s, at + 8));
+            let springs = wire::size(wire::number_at(s, at + 16));
+            let maps = wire::size(wire::number_at(s, at + 20));
+            judge_lists(s, lists, bones, vertices, springs, maps, faces)
+        }
+    }
+}
+
+// Both together.
+fn plus(a: Contents, b: Contents) -> Contents
+    requires { ⌜ Within (both a b) 18446744073709551615 ⌝ }
+    ensures { λ r. ⌜ r ≡ both a b ⌝ }
+{
+    Contents {
+        vertices: a.vertices + b.vertices,
+        maps: a.maps + b.maps,
+        influences: a.influences + b.influences,
+        springs: a.springs + b.springs,
+        faces: a.faces + b.faces,
+    }
+}
+
+// So many submeshes. Each takes 24 bytes or more, so that the walk ends with the bytes, whatever the number says.
+pub fn judge_submeshes(s: &[u8], from: Cursor, bones: usize, submeshes: usize) -> Contained
+    requires { ⌜ Inside from (length (now s)) ⌝ }
+    ensures { λ r. ⌜ Contains contentsIn (times submeshes (readSubmesh bones) (from .at) (left from (now (s .entry)))) from 0 r ⌝ }
+{
+    let mut c = from;
+    let mut more = submeshes;
+    let mut all = Contents {
+        vertices: 0,
+        maps: 0,
+        influences: 0,
+        springs: 0,
+        faces: 0,
+    };
+    while 0 < more {
+        match judge_submesh(s, c, bones) {
+            Contained::Not(e, p) => {
+                return Contained::Not(e, p);
+            }
+            Contained::To(one, next) => {
+                all = plus(all, one);
+                more -= 1;
+                c = next;
+            }
+        }
+    }
+    Contained::To(all, c)
+}

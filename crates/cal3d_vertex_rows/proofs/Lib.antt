@@ -1,0 +1,2 @@
+pub mod VertexLaws
+pub mod VerticesLaws

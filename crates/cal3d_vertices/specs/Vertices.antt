@@ -1,0 +1,38 @@
+-- The parts of a vertex that are read one after the other, and what is counted of vertices.
+use Prim.Native.Nat.{ℕ}
+use mathlib.Core.List.{List, map}
+use lib.ListN.{length}
+use Rattle.layout.specs.Out.{Out, got, _>>=_}
+use Rattle.layout.specs.Parts.{Step, row, number}
+use Rattle.layout.specs.Counted.{times}
+use Rattle.layout.specs.Rows.{joined}
+use Rattle.cal3d_scene.specs.Rules.{vertexNumbers, mapNumbers, influencesHead, influenceNumbers}
+use Rattle.cal3d_scene.specs.Meshes.{Vertex}
+
+-- a vertex's numbers and its maps
+unfoldable pub readMapped : ℕ → ℕ → ℕ → List ℕ → Out (Step (List ℕ × List (List ℕ)))
+readMapped vertices maps p s = do
+  x ← row (vertexNumbers vertices) p s
+  m ← times maps (row mapNumbers) (x .place) (x .left)
+  got (record { value = (x .value, m .value); place = m .place; left = m .left })
+
+-- influences behind their number
+unfoldable pub readInfluences : ℕ → ℕ → List ℕ → Out (Step (List (List ℕ)))
+readInfluences bones p s = do
+  k ← row influencesHead p s
+  times (number k 0) (row (influenceNumbers bones)) (k .place) (k .left)
+
+-- how many rows
+abbrev pub rowCount : List (List ℕ) → ℕ
+rowCount l = length l
+
+-- how many influences
+abbrev pub influenceCount : Vertex → ℕ
+influenceCount x = length (x .influences)
+
+unfoldable pub influencesIn : List Vertex → ℕ
+influencesIn l = length (joined (map (λ (x : Vertex). x .influences) l))
+
+-- how many maps
+unfoldable pub mapsIn : List Vertex → ℕ
+mapsIn l = length (joined (map (λ (x : Vertex). x .maps) l))

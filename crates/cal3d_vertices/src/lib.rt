@@ -1,0 +1,117 @@
+// The vertices of a submesh by cursor, one after the other against the rules, and how many influences they have.
+ghost use mathlib.Core.Path.{_≡_};
+ghost use Prim.Native.Nat.{ℕ, _+_, _*_, _≤_};
+ghost use lib.ListN.{length};
+ghost use Rattle.wire.specs.Cursors.{Inside, left};
+ghost use Rattle.layout.specs.Counted.{times};
+ghost use Rattle.counted.specs.Runs.{Runs};
+ghost use Rattle.counted.specs.Sums.{Sums};
+ghost use Rattle.cal3d_scene.specs.Meshes.{readCloth, readVertex};
+ghost use Rattle.cal3d_vertices.specs.Vertices.{readMapped, readInfluences, rowCount, influenceCount, influencesIn};
+use counted::Ran;
+use counted::Summed;
+use wire::Cursor;
+use wire::Number;
+
+// A vertex's numbers, and so many maps.
+fn pass_mapped(s: &[u8], c: Cursor, vertices: usize, maps: usize) -> Ran
+    requires { ⌜ Inside c (length (now s)) ⌝ }
+    ensures { λ r. ⌜ Runs (readMapped vertices maps (c .at) (left c (now (s .entry)))) c (32 + maps * 8) r ⌝ }
+{
+    match counted::link_row(s, c, 6, 0, vertices) {
+        Ran::Not(e, p) => Ran::Not(e, p),
+        Ran::To(rows) => counted::id_rows(s, rows, maps, 2, 0, 0),
+    }
+}
+
+// Influences behind their number.
+fn judge_influences(s: &[u8], c: Cursor, bones: usize) -> Summed
+    requires { ⌜ Inside c (length (now s)) ⌝ }
+    ensures { λ r. ⌜ Sums rowCount (readInfluences bones (c .at) (left c (now (s .entry)))) c 4 r ⌝ }
+{
+    match c.number(s) {
+        Number::Cut => Summed::Not(5, c.at),
+        Number::Is(stored, rows) => {
+            if 2147483647 < stored {
+                return Summed::Not(6, c.at);
+            }
+            let count = wire::size(stored);
+            match counted::id_rows(s, rows, count, 2, 1, bones) {
+                Ran::Not(e, p) => Summed::Not(e, p),
+                Ran::To(next) => Summed::To(count, next),
+            }
+        }
+    }
+}
+
+// The cloth weight, which stands only where the submesh has springs.
+fn pass_cloth(s: &[u8], c: Cursor, springs: usize) -> Ran
+    requires { ⌜ Inside c (length (now s)) ⌝ }
+    ensures { λ r. ⌜ Runs (readCloth springs (c .at) (left c (now (s .entry)))) c 0 r ⌝ }
+{
+    if 0 < springs {
+        match c.number(s) {
+            Number::Cut => {
+                return Ran::Not(5, c.at);
+            }
+            Number::Is(_, next) => {
+                return Ran::To(next);
+            }
+        }
+    }
+    Ran::To(c)
+}
+
+// One vertex of a submesh with so many vertices, springs and maps.
+fn judge_vertex(
+    s: &[u8],
+    c: Cursor,
+    bones: usize,
+    vertices: usize,
+    springs: usize,
+    maps: usize,
+) -> Summed
+    requires { ⌜ Inside c (length (now s)) ⌝ }
+    ensures { λ r. ⌜ Sums influenceCount (readVertex bones vertices springs maps (c .at) (left c (now (s .entry)))) c (36 + maps * 8) r ⌝ }
+{
+    match pass_mapped(s, c, vertices, maps) {
+        Ran::Not(e, p) => Summed::Not(e, p),
+        Ran::To(number) => match judge_influences(s, number, bones) {
+            Summed::Not(e, p) => Summed::Not(e, p),
+            Summed::To(count, cloth) => match pass_cloth(s, cloth, springs) {
+                Ran::Not(e, p) => Summed::Not(e, p),
+                Ran::To(next) => Summed::To(count, next),
+            },
+        },
+    }
+}
+
+// The vertices of a submesh. Each takes 36 bytes or more, so that the walk ends with the bytes, whatever the number says.
+pub fn judge_vertices(
+    s: &[u8],
+    from: Cursor,
+    bones: usize,
+    vertices: usize,
+    springs: usize,
+    maps: usize,
+) -> Summed
+    requires { ⌜ Inside from (length (now s)) ⌝ }
+    ensures { λ r. ⌜ Sums influencesIn (times vertices (readVertex bones vertices springs maps) (from .at) (left from (now (s .entry)))) from (vertices * (36 + maps * 8)) r ⌝ }
+{
+    let mut c = from;
+    let mut more = vertices;
+    let mut influences: usize = 0;
+    while 0 < more {
+        match judge_vertex(s, c, bones, vertices, springs, maps) {
+            Summed::Not(e, p) => {
+                return Summed::Not(e, p);
+            }
+            Summed::To(n, next) => {
+                influences += n;
+                more -= 1;
+                c = next;
+            }
+        }
+    }
+    Summed::To(influences, c)
+}

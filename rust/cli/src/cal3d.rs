@@ -1,0 +1,190 @@
+//! The commands on skeletons and meshes of cal3d.
+
+use crate::answer::{accepted, refusal, Format, Stop, MESH, SKELETON};
+use crate::columns::cal3d::{CHILDREN, FIRST_CHILD, MESH_HEAD, PARENT, SKELETON_HEAD};
+use crate::columns::Table;
+use crate::commands::{add_line, add_numbers, check_each, put_tables, shown};
+use crate::scene::{load, name};
+use crate::text;
+use kelompuris::cal3d::{judge_mesh, judge_skeleton, read_mesh, read_skeleton, Answer};
+use kelompuris::slices;
+use std::path::Path;
+
+/// Which files a command takes.
+#[derive(Clone, Copy)]
+pub enum Kind {
+    Skeleton,
+    /// A mesh whose bone ids are below a count.
+    Mesh {
+        bones: u32,
+    },
+}
+
+/// What a file is answered, whatever its kind.
+struct Told {
+    number: u32,
+    place: u32,
+    head: Vec<u32>,
+    counts: Vec<u32>,
+}
+
+fn told<const HEAD: usize, const TABLES: usize>(answer: Answer<HEAD, TABLES>) -> Told {
+    Told {
+        number: answer.number,
+        place: answer.place,
+        head: answer.head.to_vec(),
+        counts: answer.counts.to_vec(),
+    }
+}
+
+impl Kind {
+    fn format(self) -> &'static Format {
+        match self {
+            Kind::Skeleton => &SKELETON,
+            Kind::Mesh { .. } => &MESH,
+        }
+    }
+
+    /// The header's numbers, as a table of one row.
+    fn head(self) -> &'static Table {
+        match self {
+            Kind::Skeleton => &SKELETON_HEAD,
+            Kind::Mesh { .. } => &MESH_HEAD,
+        }
+    }
+
+    fn judge(self, file: &[u8]) -> Told {
+        match self {
+            Kind::Skeleton => told(judge_skeleton(file)),
+            Kind::Mesh { bones } => told(judge_mesh(file, bones)),
+        }
+    }
+
+    fn read(self, file: &[u8], tables: &mut [Vec<u32>]) -> Told {
+        match self {
+            Kind::Skeleton => told(read_skeleton(file, &mut slices(tables))),
+            Kind::Mesh { bones } => told(read_mesh(file, bones, &mut slices(tables))),
+        }
+    }
+
+    /// The tables of a file that was told so, unless it is refused.
+    fn tables(self, path: &Path, file: &[u8], told: &Told) -> Result<Vec<Vec<u32>>, Stop> {
+        let refused = |told: &Told| Stop::refused(self.format(), path, told.number, told.place);
+        if told.number != 0 {
+            return Err(refused(told));
+        }
+        let each = self.format().tables.iter().zip(&told.counts);
+        let words = |(table, &count): (&Table, &u32)| vec![0; table.words() * count as usize];
+        let mut tables: Vec<Vec<u32>> = each.map(words).collect();
+        match self.read(file, &mut tables) {
+            again if again.number != 0 => Err(refused(&again)),
+            _ => Ok(tables),
+        }
+    }
+}
+
+/// As many bones as a skeleton can have.
+const MOST_BONES: u32 = 16_383;
+
+/// How many bones a mesh may name, by the last two words of a command: a number
+/// behind `--bones`, or those of an accepted skeleton behind `--skeleton`;
+/// without either as many as a skeleton can have. With them the words before.
+/// None where the number is none.
+pub fn bones<'a>(words: &'a [&'a Path]) -> Result<Option<(u32, &'a [&'a Path])>, Stop> {
+    let (rest, option, value) = match words {
+        [rest @ .., option, value] => (rest, option.to_str(), value),
+        _ => return Ok(Some((MOST_BONES, words))),
+    };
+    match option {
+        Some("--bones") => {
+            let count = value.to_str().and_then(|digits| digits.parse().ok());
+            Ok(count.map(|count| (count, rest)))
+        }
+        Some("--skeleton") => {
+            let kind = Kind::Skeleton;
+            let told = kind.judge(&load(value)?);
+            match told.number {
+                0 => Ok(Some((told.counts[0], rest))),
+                number => Err(Stop::refused(kind.format(), value, number, told.place)),
+            }
+        }
+        _ => Ok(Some((MOST_BONES, words))),
+    }
+}
+
+/// A line for each file: its answer in words.
+pub fn check(kind: Kind, paths: &[&Path], out: &mut Vec<u8>) -> Result<(), Stop> {
+    check_each(paths, out, |file| {
+        let told = kind.judge(file);
+        let words = match told.number {
+            0 => accepted(kind.format(), told.head[0], None, &told.counts),
+            number => refusal(kind.format(), number, told.place),
+        };
+        (told.number, words)
+    })
+}
+
+/// Number and place; if accepted the header's numbers, the row counts, and what
+/// the file holds.
+pub fn list(kind: Kind, path: &Path, out: &mut Vec<u8>) -> Result<(), Stop> {
+    let file = load(path)?;
+    let told = kind.judge(&file);
+    add_numbers(out, &[told.number, told.place]);
+    let tables = kind.tables(path, &file, &told)?;
+    add_line(out, text::cells(kind.head(), &told.head, &[]).join(" "));
+    add_numbers(out, &told.counts);
+    match kind {
+        Kind::Skeleton => list_bones(&file, &tables, out),
+        Kind::Mesh { .. } => list_submeshes(&tables[0], out),
+    }
+    Ok(())
+}
+
+/// The tables of a file as a folder of texts.
+pub fn tables(kind: Kind, path: &Path, folder: &Path) -> Result<(), Stop> {
+    let file = load(path)?;
+    let told = kind.judge(&file);
+    let tables = kind.tables(path, &file, &told)?;
+    let each = kind.format().tables.iter().zip(&tables);
+    put_tables(folder, (kind.head(), &told.head), each, &file)
+}
+
+/// A bone more than so many levels below a root is listed at that level, with
+/// its own before its name, so that the listing of a chain stays linear.
+const DEEPEST: usize = 32;
+
+/// The bones as trees, a parent before its children, these in the order of its
+/// list, two spaces further in.
+fn list_bones(file: &[u8], tables: &[Vec<u32>], out: &mut Vec<u8>) {
+    let bones: Vec<&[u32]> = tables[0].chunks(SKELETON.tables[0].words()).collect();
+    let no_parent = |bone: &u32| bones[*bone as usize][PARENT] == u32::MAX;
+    let mut left: Vec<(usize, u32)> = (0..bones.len() as u32)
+        .rev()
+        .filter(no_parent)
+        .map(|bone| (0, bone))
+        .collect();
+    while let Some((level, bone)) = left.pop() {
+        let bone = bones[bone as usize];
+        let name = shown(name(file, bone));
+        let line = match level {
+            0..=DEEPEST => format!("{:1$}{name}", "", 2 * level),
+            _ => format!("{:1$}{level}: {name}", "", 2 * DEEPEST),
+        };
+        add_line(out, line);
+        let (first, count) = (bone[FIRST_CHILD] as usize, bone[CHILDREN] as usize);
+        let list = &tables[1][first..first + count];
+        left.extend(list.iter().rev().map(|&child| (level + 1, child)));
+    }
+}
+
+/// A line for each submesh: its numbers, each with its column's name.
+fn list_submeshes(rows: &[u32], out: &mut Vec<u8>) {
+    let table = &MESH.tables[0];
+    let header = table.header();
+    for row in rows.chunks(table.words()) {
+        let cells = text::cells(table, row, &[]);
+        let named = header.split('\t').zip(cells).take(6);
+        let parts: Vec<String> = named.map(|(name, cell)| format!("{name} {cell}")).collect();
+        add_line(out, parts.join(", "));
+    }
+}
