@@ -86,7 +86,7 @@ fn list_here(t: &[u32], i: usize, keys: &[u32], first: usize, count: usize) -> b
     if !(flags <= 7) {
         return false;
     }
-    b3d_check_rows::keys_here(keys, flags, first, count)
+    b3d_check_absent::keys_here(keys, flags, first, count)
 }
 
 // So many key lists from row `first` on; their keys are those from number `from` on, of which there are `total` in all.
@@ -172,7 +172,7 @@ fn vertices_left(
     if total - first < count {
         return false;
     }
-    b3d_check_rows::vertices_here(t, flags, sets, size, first, count)
+    b3d_check_absent::vertices_here(t, flags, sets, size, first, count)
 }
 
 // So many weights from row `first` on, of which there are `total` in all.

@@ -4,5 +4,4 @@ pub mod Rows
 pub mod Loops
 pub mod CellLaws
 pub mod RowLaws
-pub mod CleanLaws
 pub mod BrushLaws

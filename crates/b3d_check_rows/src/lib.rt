@@ -1,4 +1,4 @@
-// Rows of lent tables against their rules: names, brushes, cells that a mask leaves out, ids. Each function is a test of b3d_sound's
+// Rows of lent tables against their rules: names, brushes, ids. Each function is a test of b3d_sound's
 // specs/Check on rows that are given by their number.
 ghost use mathlib.Core.Path.{_≡_};
 ghost use mathlib.Core.List.{[], _∷_};
@@ -7,9 +7,8 @@ ghost use lib.ListN.{length, getD, take, drop};
 ghost use lib.Dec.{ltb, eqb};
 ghost use Rattle.layout.specs.Fit.{all};
 ghost use Rattle.layout.specs.Rules.{NONE, holds};
-ghost use Rattle.b3d_scene.specs.Mask.{vertexMask, keyMask};
 ghost use Rattle.b3d_scene.specs.Rules.{textureId, triangleRow, weightRow};
-ghost use Rattle.b3d_sound.specs.Check.{keeps, clean, nameHere, brushHere, slotsHere};
+ghost use Rattle.b3d_sound.specs.Check.{keeps, nameHere, brushHere, slotsHere};
 ghost use Rattle.b3d_check_rows.specs.Rows.{rowAt, rowsAt};
 
 // A cell as a number of rows.
@@ -193,69 +192,4 @@ pub fn weights_here(t: &[u32], bones: u32, first: usize, count: usize) -> bool
         i += 1;
     }
     true
-}
-
-// ---- cells that a mask leaves out
-
-// The row from a place on has 0 wherever the mask says no.
-fn row_clean(t: &[u32], base: usize, mask: &[bool]) -> bool
-    requires { ⌜ base + length (now mask) ≤ length (now t) ⌝ }
-    ensures { λ r. ⌜ r ≡ clean (now (mask .entry)) (drop base (now (t .entry))) ⌝ }
-{
-    let mut k: usize = 0;
-    while k < mask.len() {
-        let on = mask[k];
-        let x = t[base + k];
-        k += 1;
-        if !on {
-            if x != 0 {
-                return false;
-            }
-        }
-    }
-    true
-}
-
-// So many rows of the mask's width from row `first` on.
-fn rows_clean(t: &[u32], mask: &[bool], first: usize, count: usize) -> bool
-    requires { ⌜ (first + count ≤ length (now t)) × (length (now mask) * (first + count) ≤ length (now t)) ⌝ }
-    ensures { λ r. ⌜ r ≡ all (clean (now (mask .entry))) (rowsAt (length (now (mask .entry))) first count (now (t .entry))) ⌝ }
-{
-    let end = first + count;
-    let mut i = first;
-    while i < end {
-        let base = mask.len() * i;
-        if !row_clean(t, base, mask) {
-            return false;
-        }
-        i += 1;
-    }
-    true
-}
-
-// So many vertices.
-pub fn vertices_here(
-    t: &[u32],
-    flags: u32,
-    sets: u32,
-    size: u32,
-    first: usize,
-    count: usize,
-) -> bool
-    requires { ⌜ 42 * (first + count) ≤ length (now t) ⌝ }
-    ensures { λ r. ⌜ r ≡ all (clean (vertexMask flags sets size)) (rowsAt 42 first count (now (t .entry))) ⌝ }
-{
-    let mut m = [false; 42];
-    b3d_rows::vertex_mask(flags, sets, size, &mut m);
-    rows_clean(t, &m, first, count)
-}
-
-// So many keys.
-pub fn keys_here(t: &[u32], flags: u32, first: usize, count: usize) -> bool
-    requires { ⌜ 11 * (first + count) ≤ length (now t) ⌝ }
-    ensures { λ r. ⌜ r ≡ all (clean (keyMask flags)) (rowsAt 11 first count (now (t .entry))) ⌝ }
-{
-    let mut m = [false; 11];
-    b3d_rows::key_mask(flags, &mut m);
-    rows_clean(t, &m, first, count)
 }

@@ -1,7 +1,7 @@
 -- A loop over rows whose items stand in another table one run after the other: it writes a piece for each row, of the row's cell 1 and of its items.
 use mathlib.Core.Path.{_≡_, refl, subst}
 use Prim.Native.Nat.{ℕ, suc, _+_, _-_, _*_, _/_, _<_, _≤_}
-use native.Mathlib.Nat.{add-zero}
+use native.Mathlib.Nat.{add-zero, div-le-self}
 use native.Mathlib.Omega.{arith}
 use mathlib.Core.List.{List, [], _∷_, _++_}
 use lib.ListN.{length, take, drop, getD}
@@ -10,8 +10,8 @@ use Rattle.emit.specs.Writing.{Room, Put}
 use Rattle.emit.proofs.Pieces.{Pieces, pieces-none, piece-room, piece-next, pieces-done}
 use Rattle.b3d_sound.specs.CellCounts.{endOf}
 use Rattle.b3d_sound.proofs.Places.{cut-cell}
-use Rattle.b3d_put.specs.Lent.{rowsIn}
-use Rattle.b3d_put.proofs.Cutting.{rows-length}
+use Rattle.b3d_put_rows.specs.Lent.{rowsIn}
+use Rattle.b3d_put_rows.proofs.Cutting.{rows-length}
 
 -- the pieces of rows, one after the other
 unfoldable pub eachRun : (ℕ → List (List ℕ) → List ℕ) → List (List ℕ) → List (List ℕ) → List ℕ
@@ -29,6 +29,7 @@ pub record RunsLeft (piece : ℕ → List (List ℕ) → List ℕ) (w : ℕ) (ro
   pub there : first + count ≤ length rows / 4
   pub end : endOf next (take (count - i) (drop (first + i) (rowsIn 4 rows))) ≤ length items / w
   pub within : next ≤ length items / w
+  pub inside : next ≤ length items
   pub rest : Pieces 0 all (eachRun piece (take (count - i) (drop (first + i) (rowsIn 4 rows))) (drop next (rowsIn w items))) out₀ out at
 
 module _ (piece : ℕ → List (List ℕ) → List ℕ) (w : ℕ) (rows : List ℕ) (first count : ℕ) (items all : List ℕ) where
@@ -41,6 +42,7 @@ module _ (piece : ℕ → List (List ℕ) → List ℕ) (w : ℕ) (rows : List �
         there = h;
         end = rw (z, add-zero first) k;
         within = omega (arith, k, end-least start (take count (drop first (rowsIn 4 rows))));
+        inside = omega (arith, k, end-least start (take count (drop first (rowsIn 4 rows))), div-le-self (length items) w);
         rest = rw (z, add-zero first) (subst (λ (l : List ℕ). Pieces 0 all l out out 0) e (pieces-none [] all out 0 refl r));
       }
 
@@ -90,6 +92,7 @@ module _ (piece : ℕ → List (List ℕ) → List ℕ) (w : ℕ) (rows : List �
           there = v .there;
           end = end-next;
           within = runs-there;
+          inside = omega (arith, runs-there, div-le-self (length items) w);
           rest = piece-next (v .rest) p _ step k;
         }
 

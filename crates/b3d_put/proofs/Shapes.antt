@@ -1,6 +1,7 @@
 -- The parts that bodies of chunks are written by, and rows of sets and of key lists as runs.
 use mathlib.Core.Path.{_≡_, refl, ap₂, _∙_}
 use Prim.Native.Nat.{ℕ, _+_, _/_, _≤_}
+use mathlib.Core.Bool.{Bool, true, false}
 use mathlib.Core.List.{List, [], _∷_, _++_, map}
 use lib.ListN.{length, take, drop, getD}
 use Rattle.wire.specs.Bytes.{bytes}
@@ -13,13 +14,13 @@ use Rattle.b3d_scene.specs.Rebuild.{setsFrom, keysFrom}
 use Rattle.b3d_scene.specs.Tags.{code}
 use Rattle.b3d_scene.specs.declared.Tag.the-variants.{TRIS, KEYS}
 use Rattle.b3d_sound.specs.CellCounts.{endOf}
-use Rattle.b3d_put.specs.Lent.{rowsIn}
-use Rattle.b3d_put.specs.Chunks.{setBytes, listBytes, setsBytes, listsBytes, verticesBody, verticesBytes, MeshThere, meshBody}
+use Rattle.b3d_put_rows.specs.Lent.{rowsIn}
+use Rattle.b3d_put.specs.Chunks.{setBytes, listBytes, setsBytes, listsBytes, runWidth, runBytes, runsBytes, verticesBody, verticesBytes, MeshThere, meshBody}
 use Rattle.b3d_put.proofs.RunByRun.{eachRun}
 
 -- ---- runs
 
-pub sets-runs : (xs ts : List (List ℕ)) → setsBytes xs ts ≡ eachRun setBytes xs ts
+sets-runs : (xs ts : List (List ℕ)) → setsBytes xs ts ≡ eachRun setBytes xs ts
 unfolding setsFrom writeChunks eachRun writeTriangles
 sets-runs [] ts = refl
 sets-runs (x ∷ xs) ts =
@@ -27,7 +28,7 @@ sets-runs (x ∷ xs) ts =
     chunks-cons code (record { tag = TRIS; body = writeTriangles (record { brush = getD x 1 0; triangles = take n ts }) }) (setChunks (setsFrom xs (drop n ts)))
     ∙ ap₂ _++_ (chunk-is code TRIS (bytes (getD x 1 0) []) (writeItems writeWords (take n ts))) (sets-runs xs (drop n ts))
 
-pub lists-runs : (xs ks : List (List ℕ)) → listsBytes xs ks ≡ eachRun listBytes xs ks
+lists-runs : (xs ks : List (List ℕ)) → listsBytes xs ks ≡ eachRun listBytes xs ks
 unfolding keysFrom writeChunks eachRun writeKeys
 lists-runs [] ks = refl
 lists-runs (x ∷ xs) ks =
@@ -36,7 +37,33 @@ lists-runs (x ∷ xs) ks =
     chunks-cons code (record { tag = KEYS; body = writeKeys (record { flags = f; items = map (squeeze (keyMask f)) (take n ks) }) }) (keyChunks (keysFrom xs (drop n ks)) [])
     ∙ ap₂ _++_ (chunk-is code KEYS (bytes f []) (writeItems writeWords (map (squeeze (keyMask f)) (take n ks)))) (lists-runs xs (drop n ks))
 
-pub ruleset runs-are = (sets-runs, lists-runs)
+-- runs of either kind
+pub runs-are : (keys : Bool) (xs is : List (List ℕ)) → runsBytes keys xs is ≡ eachRun (runBytes keys) xs is
+unfolding runBytes runsBytes
+runs-are true = lists-runs
+runs-are false = sets-runs
+
+-- the same of a kind that is known
+module _ (keys : Bool) (word : ℕ) (items : List ℕ) (first count : ℕ) where
+  module _ (e : keys ≡ true) where
+    pub list-there : first + count ≤ length items / runWidth keys → first + count ≤ length items / 11
+    unfolding runWidth
+    list-there h = rw e at h
+
+    pub list-bytes : runBytes keys word (take count (drop first (rowsIn (runWidth keys) items))) ≡ listBytes word (take count (drop first (rowsIn 11 items)))
+    unfolding runWidth runBytes
+    list-bytes = rw e
+
+  module _ (e : keys ≡ false) where
+    pub set-there : first + count ≤ length items / runWidth keys → first + count ≤ length items / 3
+    unfolding runWidth
+    set-there h = rw e at h
+
+    pub set-bytes : runBytes keys word (take count (drop first (rowsIn (runWidth keys) items))) ≡ setBytes word (take count (drop first (rowsIn 3 items)))
+    unfolding runWidth runBytes
+    set-bytes = rw e
+
+pub ruleset run-laws = (list-there, list-bytes, set-there, set-bytes)
 
 -- ---- bodies of two parts
 

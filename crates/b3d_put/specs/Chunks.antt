@@ -1,5 +1,6 @@
 -- The bytes of single chunks, of words and rows.
 use Prim.Native.Nat.{ℕ, _+_, _/_, _≤_}
+use mathlib.Core.Bool.{Bool, true, false}
 use mathlib.Core.List.{List, [], _++_, map}
 use lib.ListN.{length, take, drop, getD}
 use Rattle.wire.specs.Bytes.{bytes}
@@ -11,7 +12,7 @@ use Rattle.b3d_scene.specs.Rebuild.{setsFrom, keysFrom}
 use Rattle.b3d_scene.specs.Tags.{code, writeChunks}
 use Rattle.b3d_scene.specs.declared.Tag.the-variants.{MESH, VRTS, TRIS, BONE, KEYS, ANIM}
 use Rattle.b3d_sound.specs.CellCounts.{endOf}
-use Rattle.b3d_put.specs.Lent.{rowsIn, rowsFrom}
+use Rattle.b3d_put_rows.specs.Lent.{rowsIn, rowsFrom}
 
 -- a TRIS of this brush and these triangles
 abbrev pub setBytes : ℕ → List (List ℕ) → List ℕ
@@ -45,6 +46,19 @@ setsBytes xs ts = writeChunks (setChunks (setsFrom xs ts))
 -- the KEYS of these rows of key lists, their keys being the first of ks
 abbrev pub listsBytes : List (List ℕ) → List (List ℕ) → List ℕ
 listsBytes xs ks = writeChunks (keyChunks (keysFrom xs ks) [])
+
+-- keys or triangles: how many words a row of them has, what a run of them is written as, and what all runs are
+unfoldable pub runWidth : Bool → ℕ
+runWidth true = 11
+runWidth false = 3
+
+unfoldable pub runBytes : Bool → ℕ → List (List ℕ) → List ℕ
+runBytes true = listBytes
+runBytes false = setBytes
+
+unfoldable pub runsBytes : Bool → List (List ℕ) → List (List ℕ) → List ℕ
+runsBytes true = listsBytes
+runsBytes false = setsBytes
 
 -- the mesh row that begins at word i of ms is there, and so are its vertices, sets and triangles, from rows v, s, t on
 pub record MeshThere (ms : List ℕ) (i : ℕ) (vs : List ℕ) (v : ℕ) (ss : List ℕ) (s : ℕ) (ts : List ℕ) (t : ℕ) : Type 0 where

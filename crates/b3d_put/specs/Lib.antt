@@ -1,3 +1,2 @@
 -- What the writer's chunks are of.
-pub mod Lent
 pub mod Chunks

@@ -1,15 +1,13 @@
 // The chunks of the writer, from rows of lent tables. Each function is lent the output from where its chunks are to stand, answers how many
 // bytes it wrote, and leaves all that comes after as it was; a chunk's header is set when its body is written.
-pub mod masks;
-
-use masks::put_key_rows;
-use masks::put_vertex_rows;
+use b3d_put_rows::put_key_rows;
+use b3d_put_rows::put_vertex_rows;
 ghost use mathlib.Core.Path.{_≡_};
 ghost use Prim.Native.Nat.{_+_, _*_, _/_, _<_, _≤_};
 ghost use lib.ListN.{length, take, drop, getD};
 ghost use Rattle.emit.specs.Writing.{Room, Put};
-ghost use Rattle.b3d_put.specs.Lent.{rowsIn, rowsFrom};
-ghost use Rattle.b3d_put.specs.Chunks.{setBytes, boneBytes, listBytes, animBytes, verticesBody, verticesBytes, setsBytes, listsBytes, MeshThere, meshBody, meshBytes};
+ghost use Rattle.b3d_put_rows.specs.Lent.{rowsIn, rowsFrom};
+ghost use Rattle.b3d_put.specs.Chunks.{setBytes, boneBytes, listBytes, animBytes, verticesBody, verticesBytes, runWidth, runBytes, runsBytes, MeshThere, meshBody, meshBytes};
 ghost use Rattle.b3d_sound.specs.CellCounts.{endOf};
 
 const TRIS: u32 = 0x53495254;
@@ -33,7 +31,7 @@ pub fn number(table: &[u32], i: usize) -> usize
 }
 
 // A TRIS of a brush and `count` triangles from row `first` on.
-pub fn put_set(brush: u32, triangles: &[u32], first: usize, count: usize, out: &mut [u8]) -> usize
+fn put_set(brush: u32, triangles: &[u32], first: usize, count: usize, out: &mut [u8]) -> usize
     requires { ⌜ first + count ≤ length (now triangles) / 3 ⌝ }
     requires { ⌜ Room (setBytes brush (rowsFrom 3 (now triangles) first count)) (now out) ⌝ }
     ensures { λ r. ⌜ Put (setBytes brush (rowsFrom 3 (now (triangles .entry)) first count)) (now (out .entry)) (now (out .exit)) r ⌝ }
@@ -55,7 +53,7 @@ pub fn put_weights(weights: &[u32], first: usize, count: usize, out: &mut [u8]) 
 }
 
 // A KEYS of flags and `count` keys from row `first` on.
-pub fn put_list(flags: u32, keys: &[u32], first: usize, count: usize, out: &mut [u8]) -> usize
+fn put_list(flags: u32, keys: &[u32], first: usize, count: usize, out: &mut [u8]) -> usize
     requires { ⌜ first + count ≤ length (now keys) / 11 ⌝ }
     requires { ⌜ Room (listBytes flags (rowsFrom 11 (now keys) first count)) (now out) ⌝ }
     ensures { λ r. ⌜ Put (listBytes flags (rowsFrom 11 (now (keys .entry)) first count)) (now (out .entry)) (now (out .exit)) r ⌝ }
@@ -99,7 +97,7 @@ fn put_vertices_body(
 }
 
 // A VRTS of that body.
-pub fn put_vertices(
+fn put_vertices(
     meshes: &[u32],
     says: usize,
     vertices: &[u32],
@@ -117,55 +115,48 @@ pub fn put_vertices(
     n + 8
 }
 
-// The TRIS of `count` rows of sets from row `first` on, their triangles one run after the other from row `start` on.
-pub fn put_sets(
-    sets: &[u32],
+// A KEYS or a TRIS of a word and `count` items from row `first` on.
+fn put_run(
+    keys: bool,
+    word: u32,
+    items: &[u32],
     first: usize,
     count: usize,
-    triangles: &[u32],
-    start: usize,
     out: &mut [u8],
 ) -> usize
-    requires { ⌜ first + count ≤ length (now sets) / 4 ⌝ }
-    requires { ⌜ endOf start (rowsFrom 4 (now sets) first count) ≤ length (now triangles) / 3 ⌝ }
-    requires { ⌜ Room (setsBytes (rowsFrom 4 (now sets) first count) (drop start (rowsIn 3 (now triangles)))) (now out) ⌝ }
-    ensures { λ r. ⌜ Put (setsBytes (rowsFrom 4 (now (sets .entry)) first count) (drop start (rowsIn 3 (now (triangles .entry))))) (now (out .entry)) (now (out .exit)) r ⌝ }
+    requires { ⌜ first + count ≤ length (now items) / runWidth keys ⌝ }
+    requires { ⌜ Room (runBytes keys word (rowsFrom (runWidth keys) (now items) first count)) (now out) ⌝ }
+    ensures { λ r. ⌜ Put (runBytes keys word (rowsFrom (runWidth keys) (now (items .entry)) first count)) (now (out .entry)) (now (out .exit)) r ⌝ }
 {
-    let mut at: usize = 0;
-    let mut next = start;
-    let mut i: usize = 0;
-    while i < count {
-        let row = 4 * (first + i);
-        let n = number(sets, row + 3);
-        let size = put_set(sets[row + 1], triangles, next, n, &mut out[at..]);
-        at += size;
-        next += n;
-        i += 1;
+    if keys {
+        return put_list(word, items, first, count, out);
     }
-    at
+    put_set(word, items, first, count, out)
 }
 
-// The KEYS of `count` rows of key lists from row `first` on, their keys one run after the other from row `start` on.
-pub fn put_lists(
-    lists: &[u32],
+// The KEYS of `count` rows of key lists from row `first` on, or the TRIS of so many rows of sets, their items one run after the other from row
+// `start` on.
+pub fn put_runs(
+    keys: bool,
+    rows: &[u32],
     first: usize,
     count: usize,
-    keys: &[u32],
+    items: &[u32],
     start: usize,
     out: &mut [u8],
 ) -> usize
-    requires { ⌜ first + count ≤ length (now lists) / 4 ⌝ }
-    requires { ⌜ endOf start (rowsFrom 4 (now lists) first count) ≤ length (now keys) / 11 ⌝ }
-    requires { ⌜ Room (listsBytes (rowsFrom 4 (now lists) first count) (drop start (rowsIn 11 (now keys)))) (now out) ⌝ }
-    ensures { λ r. ⌜ Put (listsBytes (rowsFrom 4 (now (lists .entry)) first count) (drop start (rowsIn 11 (now (keys .entry))))) (now (out .entry)) (now (out .exit)) r ⌝ }
+    requires { ⌜ first + count ≤ length (now rows) / 4 ⌝ }
+    requires { ⌜ endOf start (rowsFrom 4 (now rows) first count) ≤ length (now items) / runWidth keys ⌝ }
+    requires { ⌜ Room (runsBytes keys (rowsFrom 4 (now rows) first count) (drop start (rowsIn (runWidth keys) (now items)))) (now out) ⌝ }
+    ensures { λ r. ⌜ Put (runsBytes keys (rowsFrom 4 (now (rows .entry)) first count) (drop start (rowsIn (runWidth keys) (now (items .entry))))) (now (out .entry)) (now (out .exit)) r ⌝ }
 {
     let mut at: usize = 0;
     let mut next = start;
     let mut i: usize = 0;
     while i < count {
         let row = 4 * (first + i);
-        let n = number(lists, row + 3);
-        let size = put_list(lists[row + 1], keys, next, n, &mut out[at..]);
+        let n = number(rows, row + 3);
+        let size = put_run(keys, rows[row + 1], items, next, n, &mut out[at..]);
         at += size;
         next += n;
         i += 1;
@@ -193,7 +184,7 @@ fn put_mesh_body(
     let count = number(meshes, row + 6);
     let many = number(meshes, row + 8);
     let n = put_vertices(meshes, row + 2, vertices, v, count, out);
-    let m = put_sets(sets, s, many, triangles, t, &mut out[n..]);
+    let m = put_runs(false, sets, s, many, triangles, t, &mut out[n..]);
     n + m
 }
 

@@ -15,7 +15,7 @@ use Rattle.b3d_scene.specs.Encode.{nodeChunks, textureChunks, brushChunks, writ
 use Rattle.b3d_scene.specs.Rebuild.{Rows, textureFrom, brushFrom}
 use Rattle.b3d_scene.specs.Scene.{Texture, Brush, Forest, Scene}
 use Rattle.b3d_scene.specs.Tags.{Chunk, writeChunks, code}
-use Rattle.b3d_put.specs.Lent.{rowsIn}
+use Rattle.b3d_put_rows.specs.Lent.{rowsIn}
 use Rattle.b3d_put_lists.specs.Lists.{texturesBytes, brushesBytes}
 use Rattle.b3d_put_lists.specs.Named.{NamesThere}
 use Rattle.b3d_put_nodes.specs.Walk.{nodesBytes}

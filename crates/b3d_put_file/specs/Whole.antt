@@ -14,7 +14,7 @@ use Rattle.b3d_scene.specs.Scene.{Forest, Scene}
 use Rattle.b3d_scene.specs.Tables.{start, forestRows, nodeTables}
 use Rattle.b3d_scene.specs.Tags.{writeChunks}
 use Rattle.b3d_scene.specs.Fitting.{FitNodes, OneRoot, Stands}
-use Rattle.b3d_put.specs.Lent.{rowsIn}
+use Rattle.b3d_put_rows.specs.Lent.{rowsIn}
 use Rattle.b3d_put_lists.specs.Named.{NamesThere}
 
 -- ---- the nodes

@@ -17,10 +17,10 @@ use Rattle.b3d_scene.specs.Rebuild.{cut, nameFrom, textureFrom, brushFrom}
 use Rattle.b3d_scene.specs.Scene.{Texture, Brush}
 use Rattle.b3d_scene.specs.Tags.{code}
 use Rattle.b3d_scene.specs.declared.Tag.the-variants.{TEXS, BRUS}
-use Rattle.b3d_put.specs.Lent.{rowsIn, eachRow}
+use Rattle.b3d_put_rows.specs.Lent.{rowsIn, eachRow}
 use Rattle.b3d_put_lists.specs.Named.{rowBytes}
 use Rattle.b3d_put_lists.specs.Lists.{texsBytes, brusBytes, texturesBytes, brushesBytes}
-use Rattle.b3d_put.proofs.RowByRow.{items-each}
+use Rattle.b3d_put_rows.proofs.RowByRow.{items-each}
 
 -- ---- rows
 

@@ -16,10 +16,10 @@ use Rattle.emit.proofs.Joining.{Both, Begins, both-begins}
 use Rattle.emit.proofs.Appends.{text-append}
 use Rattle.b3d_scene.specs.Rebuild.{cut}
 use Rattle.b3d_sound.specs.Check.{nameHere, brushHere}
-use Rattle.b3d_put.specs.Lent.{eachRow}
+use Rattle.b3d_put_rows.specs.Lent.{eachRow}
 use Rattle.b3d_put_lists.specs.Named.{NameThere, NamesThere, namedBytes, rowBytes}
-use Rattle.b3d_put.proofs.Cutting.{part-take, cell-take}
-use Rattle.b3d_put.proofs.RowByRow.{RowsLeft, rows-none, rows-same, rows-done, rows-there, rows-room, rows-next}
+use Rattle.b3d_put_rows.proofs.Cutting.{part-take, cell-take}
+use Rattle.b3d_put_rows.proofs.RowByRow.{RowsLeft, rows-none, rows-same, rows-done, rows-there, rows-room, rows-next}
 
 -- ---- one row
 

@@ -7,7 +7,7 @@ use Rattle.b3d_scene.specs.Encode.{textureChunks, brushChunks}
 use Rattle.b3d_scene.specs.Rebuild.{textureFrom, brushFrom}
 use Rattle.b3d_scene.specs.Tags.{code, writeChunks}
 use Rattle.b3d_scene.specs.declared.Tag.the-variants.{TEXS, BRUS}
-use Rattle.b3d_put.specs.Lent.{eachRow}
+use Rattle.b3d_put_rows.specs.Lent.{eachRow}
 use Rattle.b3d_put_lists.specs.Named.{rowBytes}
 
 -- a TEXS, of each row its name and seven words

@@ -6,7 +6,7 @@ ghost use Prim.Native.Nat.{_+_, _*_, _/_, _≤_};
 ghost use lib.ListN.{length};
 ghost use Rattle.emit.specs.Writing.{Room, Put};
 ghost use Rattle.b3d_scene.specs.Rebuild.{cut};
-ghost use Rattle.b3d_put.specs.Lent.{rowsIn};
+ghost use Rattle.b3d_put_rows.specs.Lent.{rowsIn};
 ghost use Rattle.b3d_put_lists.specs.Named.{NamesThere};
 ghost use Rattle.b3d_put_lists.specs.Lists.{texsBytes, brusBytes, texturesBytes, brushesBytes};
 

@@ -4,7 +4,7 @@ ghost use Prim.Native.Nat.{_+_, _*_, _/_, _<_, _≤_};
 ghost use lib.ListN.{length};
 ghost use Rattle.emit.specs.Writing.{Room, Put};
 ghost use Rattle.b3d_scene.specs.Rebuild.{cut};
-ghost use Rattle.b3d_put.specs.Lent.{eachRow};
+ghost use Rattle.b3d_put_rows.specs.Lent.{eachRow};
 ghost use Rattle.b3d_put_lists.specs.Named.{NameThere, NamesThere, namedBytes, rowBytes};
 
 // The name of the row that begins at word `row`, and `count` words from word `first` on.

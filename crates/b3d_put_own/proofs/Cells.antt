@@ -7,8 +7,8 @@ use lib.ListN.{length, take, drop, getD}
 use lib.Seq.{drop-cons}
 use Rattle.layout.proofs.Lists.{cons-head}
 use Rattle.b3d_scene.specs.Rebuild.{cut}
-use Rattle.b3d_put.specs.Lent.{rowsIn}
-use Rattle.b3d_put.proofs.Cutting.{rows-from, rows-length, cell-take}
+use Rattle.b3d_put_rows.specs.Lent.{rowsIn}
+use Rattle.b3d_put_rows.proofs.Cutting.{rows-from, rows-length, cell-take}
 
 -- row i
 pub rows-row : (w : ℕ) (ws : List ℕ) (i : ℕ) → i < length ws / w → getD (rowsIn w ws) i [] ≡ take w (drop (w * i) ws)

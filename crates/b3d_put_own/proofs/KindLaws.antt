@@ -22,7 +22,7 @@ use Rattle.b3d_scene.specs.Tags.{code}
 use Rattle.b3d_scene.specs.declared.Counts.{Counts}
 use Rattle.b3d_scene.specs.declared.Tag.{Tag}
 use Rattle.b3d_scene.specs.declared.Tag.the-variants.{MESH, VRTS, BONE}
-use Rattle.b3d_put.specs.Lent.{rowsIn}
+use Rattle.b3d_put_rows.specs.Lent.{rowsIn}
 use Rattle.b3d_put.specs.Chunks.{boneBytes, verticesBody, verticesBytes, setsBytes, MeshThere, meshBody, meshBytes}
 use Rattle.b3d_put_own.specs.Own.{tableRows, kindBytes, KindThere}
 use Rattle.b3d_put_own.proofs.Cells.{rows-cell, three-words}

@@ -21,9 +21,9 @@ use Rattle.b3d_scene.specs.declared.Counts.{Counts}
 use Rattle.b3d_scene.specs.declared.Tag.{Tag}
 use Rattle.b3d_scene.specs.declared.Tag.the-variants.{KEYS, ANIM}
 use Rattle.b3d_sound.specs.CellCounts.{endOf}
-use Rattle.b3d_put.specs.Lent.{rowsIn}
+use Rattle.b3d_put_rows.specs.Lent.{rowsIn}
 use Rattle.b3d_put.specs.Chunks.{animBytes, listsBytes}
-use Rattle.b3d_put.proofs.Cutting.{rows-length, cell-take, row-end}
+use Rattle.b3d_put_rows.proofs.Cutting.{rows-length, cell-take, row-end}
 use Rattle.b3d_put_own.specs.Own.{animPart, movesBytes, MovesThere}
 use Rattle.b3d_put_own.proofs.Cells.{rows-cell}
 

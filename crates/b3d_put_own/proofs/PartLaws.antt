@@ -18,9 +18,9 @@ use Rattle.b3d_scene.specs.declared.Counts.{Counts}
 use Rattle.b3d_scene.specs.declared.Tag.{Tag}
 use Rattle.b3d_scene.specs.declared.Tag.the-variants.{KEYS}
 use Rattle.b3d_scene.specs.Tables.{nodeWidth}
-use Rattle.b3d_put.specs.Lent.{rowsIn}
+use Rattle.b3d_put_rows.specs.Lent.{rowsIn}
 use Rattle.b3d_put_lists.specs.Named.{namedBytes}
-use Rattle.b3d_put.proofs.Cutting.{part-take, cell-take}
+use Rattle.b3d_put_rows.proofs.Cutting.{part-take, cell-take, row-end}
 use Rattle.b3d_put_own.specs.Own.{tableRows, kindBytes, moveChunks, movesBytes, partsBytes, ownBytes}
 use Rattle.b3d_put_own.proofs.Cells.{rows-row}
 use Rattle.b3d_put_own.proofs.KindLaws.{kind-append}

@@ -8,7 +8,7 @@ use Rattle.wire.specs.Test.{if}
 use Rattle.layout.proofs.Lists.{All}
 use Rattle.b3d_scene.specs.Rebuild.{Lent, lentRows}
 use Rattle.b3d_scene.specs.Tables.{width, partTables}
-use Rattle.b3d_put.proofs.Cutting.{rows-lent}
+use Rattle.b3d_put_rows.proofs.Cutting.{rows-lent}
 use Rattle.b3d_put_own.specs.Own.{tableRows}
 
 -- the words of the counted rows of table k

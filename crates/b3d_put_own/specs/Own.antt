@@ -11,7 +11,7 @@ use Rattle.b3d_scene.specs.Tags.{Chunk, writeChunks}
 use Rattle.b3d_scene.specs.declared.Counts.{Counts}
 use Rattle.b3d_scene.specs.Tables.{nodeWidth}
 use Rattle.b3d_sound.specs.CellCounts.{endOf}
-use Rattle.b3d_put.specs.Lent.{rowsIn}
+use Rattle.b3d_put_rows.specs.Lent.{rowsIn}
 use Rattle.b3d_put_lists.specs.Named.{NameThere}
 use Rattle.b3d_put.specs.Chunks.{MeshThere}
 

@@ -5,11 +5,11 @@ ghost use lib.ListN.{length, drop, getD};
 ghost use Rattle.emit.specs.Writing.{Room, Put};
 ghost use Rattle.b3d_scene.specs.Rebuild.{mine};
 ghost use Rattle.b3d_scene.specs.Tables.{nodeWidth};
-ghost use Rattle.b3d_put.specs.Lent.{rowsIn};
+ghost use Rattle.b3d_put_rows.specs.Lent.{rowsIn};
 ghost use Rattle.b3d_put_own.specs.Own.{kindBytes, animPart, movesBytes, partsBytes, ownBytes, KindThere, MovesThere, OwnThere};
 use b3d_put::number;
-use b3d_put::put_lists;
 use b3d_put::put_mesh;
+use b3d_put::put_runs;
 use b3d_put::put_values;
 use b3d_put::put_weights;
 use b3d_put_lists::named::put_named;
@@ -95,7 +95,7 @@ fn put_moves(
     ensures { λ r. ⌜ Put (movesBytes (now (nodes .entry)) row (now (lists .entry)) (now (keys .entry)) n) (now (out .entry)) (now (out .exit)) r ⌝ }
 {
     let count = count_lists(lists, n.lists, n.nodes);
-    let a = put_lists(lists, n.lists, count, keys, n.keys, out);
+    let a = put_runs(true, lists, n.lists, count, keys, n.keys, out);
     let b = put_anim(nodes, row + 16, &mut out[a..]);
     a + b
 }

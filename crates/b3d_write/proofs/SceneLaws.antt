@@ -20,8 +20,8 @@ use Rattle.b3d_scene.proofs.Rows.RebuildLaws.{Holds, together-back}
 use Rattle.b3d_scene.proofs.Rows.RowLists.{cut-length}
 use Rattle.b3d_scene.proofs.Rows.RowParts.{Stands}
 use Rattle.b3d_check.specs.Lent.{lentOf, partCounts, Rooms}
-use Rattle.b3d_put.specs.Lent.{rowsIn}
-use Rattle.b3d_put.proofs.Cutting.{rows-lent}
+use Rattle.b3d_put_rows.specs.Lent.{rowsIn}
+use Rattle.b3d_put_rows.proofs.Cutting.{rows-lent}
 use Rattle.b3d_put_lists.specs.Named.{NamesThere}
 use Rattle.b3d_put_own.specs.Own.{tableRows}
 use Rattle.b3d_put_own.proofs.Trimmed.{trimmed, trimmed-rows}

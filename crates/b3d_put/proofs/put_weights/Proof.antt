@@ -1,6 +1,6 @@
 -- `put_weights` writes weights and then the head of their chunk.
 use Rattle.emit.proofs.Joining.{chunk-laws}
-use Rattle.b3d_put.proofs.Cutting.{words-laws}
+use Rattle.b3d_put_rows.proofs.Cutting.{words-laws}
 use borrow.Author.Needs.{needs}
 use Rattle.b3d_put.proofs.put_weights.Statement.{statement}
 use Rattle.b3d_put.proofs.put_weights.Tie as tie

@@ -1,6 +1,6 @@
 -- `put_textures` writes a chunk where there is a row.
 use Rattle.emit.proofs.Joining.{same-laws}
-use Rattle.b3d_put.specs.Lent.{rowsIn}
+use Rattle.b3d_put_rows.specs.Lent.{rowsIn}
 use Rattle.b3d_put_lists.proofs.Listing.{list-shapes}
 use borrow.Author.Needs.{needs}
 use Rattle.b3d_put_lists.proofs.put_textures.Statement.{statement}

@@ -1,6 +1,6 @@
 -- `put_rows` writes row by row. The loop has `left` rows to write, which is its measure.
 use Rattle.b3d_scene.specs.Rebuild.{cut}
-use Rattle.b3d_put.specs.Lent.{eachRow}
+use Rattle.b3d_put_rows.specs.Lent.{eachRow}
 use Rattle.b3d_put_lists.specs.Named.{rowBytes}
 use Rattle.b3d_put_lists.proofs.Naming.{NamedLeft, named-laws}
 use borrow.Author.Needs.{needs}

@@ -1,0 +1,2 @@
+-- Runs of words that are 0.
+pub mod Zeros

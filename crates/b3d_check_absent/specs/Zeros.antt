@@ -1,0 +1,29 @@
+-- A row by the runs that are left out of it, from a word of the table on.
+use Prim.Native.Nat.{ℕ, zero, suc, _+_, _-_, _*_}
+use mathlib.Core.Bool.{Bool, true, _&&_}
+use mathlib.Core.List.{List}
+use lib.ListN.{getD}
+use lib.Dec.{eqb}
+use Rattle.b3d_masks.specs.declared.RowRuns.{RowRuns}
+
+-- a test at so many places, each so far after the one before
+unfoldable pub everyAt : (ℕ → Bool) → ℕ → ℕ → ℕ → Bool
+everyAt f far zero p = true
+everyAt f far (suc n) p = f p && everyAt f far n (p + far)
+
+-- so many words are 0
+abbrev pub zerosAt : ℕ → List ℕ → ℕ → Bool
+zerosAt n ws = everyAt (λ p. eqb (getD ws p 0) 0) 1 n
+
+-- of so many sets, four words each, all but the first words
+abbrev pub setsClean : ℕ → ℕ → List ℕ → ℕ → Bool
+setsClean n size ws = everyAt (λ p. zerosAt (4 - size) ws (p + size)) 4 n
+
+-- all that the runs leave out
+unfoldable pub rowClean : RowRuns → List ℕ → ℕ → Bool
+rowClean g ws p =
+    let q = p + g .head in
+    let r = q + 3 in
+    let s = r + g .wide in
+    zerosAt (3 - g .three) ws (q + g .three)
+    && (zerosAt (g .wide - g .some) ws (r + g .some) && (setsClean (g .sets) (g .size) ws s && zerosAt (g .rest) ws (s + g .sets * 4)))

@@ -1,0 +1,2 @@
+-- The masks are their runs.
+pub mod Masks

@@ -1,0 +1,2 @@
+-- Masks as runs.
+pub mod Runs

@@ -1,0 +1,4 @@
+-- The laws of rows that are written.
+pub mod Cutting
+pub mod RowByRow
+pub mod Squeezing

@@ -1,0 +1,23 @@
+-- The bytes of a row, run by run: the words that are there, from a word of the table on.
+use Prim.Native.Nat.{ℕ, _+_}
+use mathlib.Core.List.{List, [], _++_}
+use lib.ListN.{take, drop}
+use Rattle.layout.specs.Write.{writeWords}
+use Rattle.b3d_scene.specs.Rebuild.{cut}
+use Rattle.b3d_masks.specs.declared.RowRuns.{RowRuns}
+use Rattle.b3d_put_rows.specs.Lent.{eachRow}
+
+-- so many sets of four words, of each its first words
+unfoldable pub setsBytes : ℕ → ℕ → List ℕ → ℕ → List ℕ
+setsBytes sets size ws base = eachRow (λ x. writeWords (take size x) []) (cut 4 sets (drop base ws))
+
+-- the first two runs
+unfoldable pub frontBytes : ℕ → ℕ → List ℕ → ℕ → List ℕ
+frontBytes head three ws base = writeWords (take head (drop base ws)) [] ++ writeWords (take three (drop (base + head) ws)) []
+
+-- the others
+unfoldable pub backBytes : RowRuns → List ℕ → ℕ → List ℕ
+backBytes g ws base = writeWords (take (g .some) (drop base ws)) [] ++ setsBytes (g .sets) (g .size) ws (base + g .wide)
+
+unfoldable pub rowBytes : RowRuns → List ℕ → ℕ → List ℕ
+rowBytes g ws base = frontBytes (g .head) (g .three) ws base ++ backBytes g ws (base + g .head + 3)
