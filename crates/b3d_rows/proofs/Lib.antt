@@ -1,5 +1,4 @@
--- The laws of stores into a table: a run of cells, one value, words of the file, a mask; and items that were read.
+-- The laws of stores into a table: a run of cells, one value, words of the file; and items that were read.
 pub mod Storing
 pub mod Copies
-pub mod Masking
 pub mod ItemLaws

@@ -155,5 +155,3 @@ module _ (tag : ℕ) (front body out : List ℕ) (k : ℕ) (r : Room (chunk tag 
               rw (← at) (pieces-headed (head tag (length body) front) (head-long tag (length body) front ∙ l) whole (rw same at h))
 
 pub ruleset chunk-laws = (chunk-fits, chunk-room, chunk-long, chunk-small, chunk-done)
-
-pub ruleset two-laws = (chunk-fits, two-room, two-inside, two-room-2, two-long, two-small, two-done)
