@@ -11,7 +11,7 @@ use Rattle.layout.specs.Out.{got, bad, _>>=_}
 use Rattle.layout.specs.Lists.{All}
 use Rattle.b3d_scene.specs.declared.Answer.{Answer}
 use Rattle.b3d_scene.specs.declared.Mode.{Mode}
-use Rattle.b3d_scene.specs.Answers.{eachTable, firstNot, judge, read, answer, readAnswer}
+use Rattle.b3d_scene.specs.Answers.{firstNot, judge, read, answer, readAnswer}
 use Rattle.b3d_scene.specs.Rules.{rowLimit}
 use Rattle.b3d_scene.specs.Scene.{Scene}
 use Rattle.b3d_scene.specs.Tables.{width, rows, tables, nodeTables, counts}
@@ -30,6 +30,7 @@ use Rattle.b3d_limits.proofs.RoomLaws.{short-first, short-at-most}
 use mir.Syntax.{w32}
 use mir.Val.{Fits}
 use Rattle.layout.proofs.Lists.{All}
+use Rattle.layout.specs.Rows.{eachOf}
 
 -- a count within the limit fits a cell
 pub cell-fits : {n : ℕ} → n ≤ rowLimit → Fits w32 n
@@ -98,7 +99,7 @@ module _ (mode : Mode) (s : List ℕ) (v : Verdict) (ev : v ≡ verdictOf (judge
       first-is : n ≡ firstNot (λ k. leb (width k * count k) (room k)) tables
       first-is = short-count ∙ short-first count room tables
 
-      opened : read mode room s ≡ (eachTable 11 (λ k. leb (width k * count k) (room k)) tables >>= λ _. got (good .scene))
+      opened : read mode room s ≡ (eachOf 11 (λ k. leb (width k * count k) (room k)) tables >>= λ _. got (good .scene))
       unfolding read
       opened = rw (good .is)
 

@@ -8,7 +8,7 @@ use lib.ListN.{length}
 use Rattle.wire.specs.Cursors.{Inside}
 use Rattle.wire.specs.declared.Cursor.{Cursor}
 use Rattle.layout.specs.Out.{Out, got, bad}
-use Rattle.b3d_scene.specs.Rules.{mostBytes}
+use Rattle.layout.specs.Rows.{mostBytes}
 use Rattle.b3d_items.specs.Items.{counted, CountedIn}
 use Rattle.b3d_items.specs.declared.Counted.{Counted}
 use Rattle.b3d_items.specs.declared.Counted.the-variants as counts

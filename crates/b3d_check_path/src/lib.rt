@@ -60,7 +60,7 @@ pub fn bones_below(told: u32, before: Counts, after: Counts, t3: &[u32]) -> u32
     ensures { λ r. ⌜ r ≡ if (eqb (getD (now (t3 .entry)) (nodeWidth * before .nodes + 16) 0) 1) (after .vertices - before .vertices) told ⌝ }
 {
     if t3[NODE_WIDTH * before.nodes + 16] == 1 {
-        return b3d_rows::cell(after.vertices - before.vertices);
+        return cells::cell(after.vertices - before.vertices);
     }
     told
 }

@@ -120,7 +120,7 @@ pub fn tree_here(
         return false;
     }
     let m = b3d_check_node::node_counts(n, all, t3, t4, t6, t9);
-    let root = b3d_rows::cell(m.vertices);
+    let root = cells::cell(m.vertices);
     let end = b3d_check_path::branch_end(0, t3[20]);
     nodes_here(
         text,

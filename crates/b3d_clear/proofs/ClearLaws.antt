@@ -9,11 +9,11 @@ use Rattle.wire.specs.Bytes.{bytes, wordAt, AllBytes, over}
 use Rattle.wire.specs.Cursors.{Inside}
 use Rattle.layout.specs.Out.{Out, got, bad, check, _>>=_}
 use Rattle.layout.proofs.Outs.{by-check}
+use Rattle.layout.specs.Rows.{sizeFits, mostBytes}
 use Rattle.emit.specs.Writing.{Wrote, Room, Put, head}
 use Rattle.b3d_scene.specs.declared.Mode.the-variants.{Lenient}
 use Rattle.b3d_scene.specs.Answers.{judge, roomFor, copy, clear, written, outputAfter, clearAnswer, clearOutput}
 use Rattle.b3d_scene.specs.Parse.{parse}
-use Rattle.b3d_scene.specs.Rules.{fileSize, mostBytes}
 use Rattle.b3d_scene.specs.Scene.{Scene}
 use Rattle.b3d_scene.specs.Tags.{code}
 use Rattle.b3d_scene.specs.declared.Tag.the-variants.{BB3D}
@@ -62,7 +62,7 @@ was-good (bad m q) x e = let z : _≡_ {A = ℕ} 0 1 = cc in absurd (omega arith
 
 size-within : (s : List ℕ) (t : Scene) → parse Lenient s ≡ got t → (12 ≤ length s) × (length s ≤ mostBytes)
 unfolding parse
-size-within s t e = by-check (fileSize (length s)) 1 0 _ e (λ z _. (size-low (length s) z, size-bound (length s) z))
+size-within s t e = by-check (sizeFits (length s)) 1 0 _ e (λ z _. (size-low (length s) z, size-bound (length s) z))
 
 -- ---- answers
 

@@ -5,9 +5,10 @@ ghost use Prim.Native.Nat.{_≤_};
 ghost use lib.ListN.{length};
 ghost use Rattle.wire.specs.Bytes.{AllBytes};
 ghost use Rattle.wire.specs.Cursors.{Inside};
+ghost use Rattle.layout.specs.Rows.{mostBytes};
 ghost use Rattle.emit.specs.Writing.{Room, Put};
 ghost use Rattle.b3d_scene.specs.Answers.{clearAnswer, clearOutput};
-ghost use Rattle.b3d_scene.specs.Rules.{levels, mostBytes};
+ghost use Rattle.b3d_scene.specs.Rules.{levels};
 ghost use Rattle.b3d_scene.specs.declared.Tag.the-variants.{BRUS, NODE};
 ghost use Rattle.b3d_copy.specs.Copies.{each, chunksAt, brusCopy, nodeCopy, inFile, fileCopy};
 use b3d_judge::Verdict;
@@ -63,7 +64,7 @@ pub fn clear(file: &[u8], out: &mut [u8]) -> Written
     match b3d_judge::judge(Mode::Lenient, file) {
         Verdict::Bad(number, place) => Written {
             number,
-            place: b3d_rows::cell(place),
+            place: cells::cell(place),
             size: 0,
         },
         Verdict::Good(x) => {
@@ -72,7 +73,7 @@ pub fn clear(file: &[u8], out: &mut [u8]) -> Written
             if out.len() < size {
                 return Written {
                     number: 11,
-                    place: b3d_rows::cell(size),
+                    place: cells::cell(size),
                     size: 0,
                 };
             }
@@ -80,7 +81,7 @@ pub fn clear(file: &[u8], out: &mut [u8]) -> Written
             Written {
                 number: 0,
                 place: 0,
-                size: b3d_rows::cell(size),
+                size: cells::cell(size),
             }
         }
     }

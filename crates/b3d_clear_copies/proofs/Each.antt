@@ -10,9 +10,9 @@ use lib.ListN.{length, take, drop}
 use Rattle.wire.specs.Test.{if}
 use Rattle.wire.specs.Cursors.{Inside, left}
 use Rattle.wire.specs.declared.Cursor.{Cursor}
+use Rattle.layout.specs.Rows.{mostBytes}
 use Rattle.emit.specs.Writing.{Room, Put}
 use Rattle.emit.proofs.Pieces.{Pieces, pieces-none, piece-room, piece-next, pieces-done}
-use Rattle.b3d_scene.specs.Rules.{mostBytes}
 use Rattle.b3d_scene.specs.Tags.{is}
 use Rattle.b3d_scene.specs.declared.Tag.{Tag}
 use Rattle.b3d_chunks.specs.Chunks.{NextIs}

@@ -9,9 +9,9 @@ use Rattle.wire.specs.declared.Cursor.{Cursor}
 use Rattle.wire.specs.declared.Number.{Number}
 use Rattle.wire.specs.declared.Number.the-variants as number
 use Rattle.layout.specs.Rules.{any}
+use Rattle.layout.specs.Rows.{mostBytes}
 use Rattle.emit.specs.Writing.{Room, Put}
 use Rattle.emit.proofs.Joining.{none-put}
-use Rattle.b3d_scene.specs.Rules.{mostBytes}
 use Rattle.b3d_scene.specs.Tags.{code}
 use Rattle.b3d_scene.specs.declared.Tag.the-variants.{MESH}
 use Rattle.b3d_inside.specs.Places.{Body}

@@ -20,6 +20,7 @@ use Rattle.layout.specs.Write.{writeChunks as writeChunksOf}
 use Rattle.layout.proofs.ChunkLaws.{Of, split-fine, ended-fine}
 use Rattle.layout.proofs.Outs.{by-got, by-check, bad-got, got-inj}
 use Rattle.layout.proofs.StepLaws.{row-enough, judged-got}
+use Rattle.layout.specs.Rows.{sizeFits}
 use Rattle.b3d_scene.specs.declared.Mode.the-variants.{Lenient}
 use Rattle.b3d_scene.specs.declared.Tag.the-variants.{BB3D, TEXS, BRUS, NODE, MESH, VRTS, TRIS, BONE, KEYS, ANIM}
 use Rattle.b3d_scene.specs.Answers.{copy}
@@ -27,7 +28,7 @@ use Rattle.b3d_scene.specs.Encode.{nodeChunks, writeScene, encode}
 use Rattle.b3d_scene.specs.Names.{renameForest, noName, rename, cleared}
 use Rattle.b3d_scene.specs.Nesting.{start, next, onward, order, inside}
 use Rattle.b3d_scene.specs.Parse.{readOne, readTextures, readBrushes, readNode, readRoot, slotsOf, readBody, parse}
-use Rattle.b3d_scene.specs.Rules.{header, fileHead, fileSize, levels}
+use Rattle.b3d_scene.specs.Rules.{header, fileHead, levels}
 use Rattle.b3d_scene.specs.Scene.{Texture, Brush, Forest, leaf, Scene}
 use Rattle.b3d_scene.specs.Tags.{Chunks, Found, split, tagOf, code}
 use Rattle.b3d_scene.proofs.Files.FileLaws.{size-low}
@@ -239,7 +240,7 @@ body-copied s t all lo e =
 pub file-copied : (s : List ℕ) (t : Scene) → AllBytes s → parse Lenient s ≡ got t → fileCopy s ≡ copy t
 unfolding parse
 file-copied s t all e =
-    by-check (fileSize (length s)) 1 0 _ e (λ z e₁.
+    by-check (sizeFits (length s)) 1 0 _ e (λ z e₁.
     let lo = size-low (length s) z in
     by-got (row header 0 s) _ e₁ (λ x ex e₂.
     let q = got-inj (sym ex ∙ head-is s (omega arith)) in

@@ -12,9 +12,10 @@ use Rattle.wire.specs.Bytes.{AllBytes, over}
 use Rattle.layout.specs.Out.{Out, got, bad, check, _>>=_}
 use Rattle.layout.proofs.Lists.{All, all-map, all-zip}
 use Rattle.layout.proofs.Outs.{by-test, bad-got, got-inj}
+use Rattle.layout.specs.Rows.{eachOf}
 use Rattle.b3d_scene.specs.declared.Mode.{Mode}
 use Rattle.b3d_scene.specs.declared.Mode.the-variants.{Lenient}
-use Rattle.b3d_scene.specs.Answers.{eachTable, judge, read, answer, tableAfter, readAnswer, readTable, roomFor, write, written, outputAfter, writeAnswer, writeOutput, copy, clear, clearAnswer, clearOutput}
+use Rattle.b3d_scene.specs.Answers.{judge, read, answer, tableAfter, readAnswer, readTable, roomFor, write, written, outputAfter, writeAnswer, writeOutput, copy, clear, clearAnswer, clearOutput}
 use Rattle.b3d_scene.specs.Names.{named, unplaced, nameOff}
 use Rattle.b3d_scene.specs.Parse.{parse}
 use Rattle.b3d_scene.specs.Rebuild.{Lent, cut, lentRows}
@@ -44,9 +45,9 @@ bind-bad (got a) k n p e = inr (a, refl, e)
 bind-bad (bad m q) k n p e = let x : m ≡ n = cc in let y : q ≡ p = cc in inl (ap₂ bad x y)
 
 module _ (n : ℕ) (size : ℕ → Scene → ℕ) (most : ℕ → ℕ) where
-  held-bad : (t : Scene) (m p : ℕ) → (eachTable n (λ k. leb (size k t) (most k)) tables >>= λ u. got t) ≡ bad m p → (m ≡ n) × Lowest (λ k. size k t ≤ most k) p
+  held-bad : (t : Scene) (m p : ℕ) → (eachOf n (λ k. leb (size k t) (most k)) tables >>= λ u. got t) ≡ bad m p → (m ≡ n) × Lowest (λ k. size k t ≤ most k) p
   held-bad t m p e =
-      elim (bind-bad (eachTable n (λ k. leb (size k t) (most k)) tables) (λ u. got t) m p e) [
+      elim (bind-bad (eachOf n (λ k. leb (size k t) (most k)) tables) (λ u. got t) m p e) [
         | inl f ↦ lowest-is n (λ k. size k t) most m p f
         | inr x ↦ bad-got (sym (x .2))
       ]

@@ -17,9 +17,9 @@ use Rattle.layout.proofs.Fitting.{FitText}
 use Rattle.layout.proofs.Lists.{All, all-map, all-zip, all-append, all-of-map}
 use Rattle.layout.proofs.Outs.{by-test, bad-got}
 use Rattle.layout.proofs.PlaceLaws.{NameIn}
+use Rattle.layout.specs.Rows.{eachOf}
 use Rattle.b3d_scene.specs.declared.Mode.{Mode}
 use Rattle.b3d_scene.specs.declared.Counts.{Counts}
-use Rattle.b3d_scene.specs.Answers.{eachTable}
 use Rattle.b3d_scene.specs.Parse.{parse}
 use Rattle.b3d_scene.specs.Rules.{bonesBelow, levels}
 use Rattle.b3d_scene.specs.Scene.{Texture, Brush, Forest, leaf, node, Scene}
@@ -46,12 +46,12 @@ record First (ok : ℕ → Bool) (a : ℕ) (ks : List ℕ) (p : ℕ) : Type 0 wh
   before : (k : ℕ) → a ≤ k → k < p → T (ok k)
 
 module _ (n : ℕ) (ok : ℕ → Bool) where
-  each-bad : (a : ℕ) (ks : List ℕ) → Run a ks → (m p : ℕ) → eachTable n ok ks ≡ bad m p → (m ≡ n) × First ok a ks p
-  unfolding eachTable check
+  each-bad : (a : ℕ) (ks : List ℕ) → Run a ks → (m p : ℕ) → eachOf n ok ks ≡ bad m p → (m ≡ n) × First ok a ks p
+  unfolding eachOf check
   each-bad a [] r m p e = bad-got (sym e)
   each-bad a (k ∷ ks) r m p e = by (each-bad (suc a) ks (r .1) m p) (ok k) refl e
     where
-      by : (eachTable n ok ks ≡ bad m p → (m ≡ n) × First ok (suc a) ks p) → (b : Bool) → ok k ≡ b → (check b n k >>= λ u. eachTable n ok ks) ≡ bad m p → (m ≡ n) × First ok a (k ∷ ks) p
+      by : (eachOf n ok ks ≡ bad m p → (m ≡ n) × First ok (suc a) ks p) → (b : Bool) → ok k ≡ b → (check b n k >>= λ u. eachOf n ok ks) ≡ bad m p → (m ≡ n) × First ok a (k ∷ ks) p
       by rest true q f =
           let h = rest f in
           let c = h .1 in (
@@ -76,12 +76,12 @@ module _ (n : ℕ) (ok : ℕ → Bool) where
             },
           )
 
-  each-first : (a : ℕ) (ks : List ℕ) → Run a ks → (p : ℕ) → First ok a ks p → eachTable n ok ks ≡ bad n p
-  unfolding eachTable check
+  each-first : (a : ℕ) (ks : List ℕ) → Run a ks → (p : ℕ) → First ok a ks p → eachOf n ok ks ≡ bad n p
+  unfolding eachOf check
   each-first a [] r p h = absurd (omega (arith, h .from, h .to))
   each-first a (k ∷ ks) r p h = by (each-first (suc a) ks (r .1) p) (ok k) refl
     where
-      by : (First ok (suc a) ks p → eachTable n ok ks ≡ bad n p) → (b : Bool) → ok k ≡ b → (check b n k >>= λ u. eachTable n ok ks) ≡ bad n p
+      by : (First ok (suc a) ks p → eachOf n ok ks ≡ bad n p) → (b : Bool) → ok k ≡ b → (check b n k >>= λ u. eachOf n ok ks) ≡ bad n p
       by rest true q =
           by-test (leb (suc a) p)
           (λ t. rest (record { from = leb→le (suc a) p t; to = omega (arith, h .to); fails = h .fails; before = λ j l u. h .before j (omega arith) u }))
@@ -97,7 +97,7 @@ ten-run = (refl, (refl, (refl, (refl, (refl, (refl, (refl, (refl, (refl, (refl, 
 
 module _ (n : ℕ) (size most : ℕ → ℕ) where
   abbrev held : Out (Unit {0})
-  held = eachTable n (λ k. leb (size k) (most k)) tables
+  held = eachOf n (λ k. leb (size k) (most k)) tables
 
   pub lowest-is : (m p : ℕ) → held ≡ bad m p → (m ≡ n) × Lowest (λ k. size k ≤ most k) p
   unfolding tables nodeTables

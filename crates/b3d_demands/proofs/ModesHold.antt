@@ -10,7 +10,8 @@ use Rattle.wire.specs.Bytes.{wordAt}
 use Rattle.layout.specs.Out.{Out, got, bad, _>>=_}
 use Rattle.layout.specs.Rules.{unit, holds}
 use Rattle.layout.proofs.Outs.{by-got}
-use Rattle.b3d_scene.specs.Answers.{eachTable, judge}
+use Rattle.layout.specs.Rows.{eachOf}
+use Rattle.b3d_scene.specs.Answers.{judge}
 use Rattle.b3d_scene.specs.Parse.{parse}
 use Rattle.b3d_scene.specs.Rules.{rowLimit}
 use Rattle.b3d_scene.specs.Scene.{Scene}

@@ -15,12 +15,13 @@ use Rattle.layout.proofs.Lists.{All, all-zip}
 use Rattle.layout.proofs.Outs.{by-got, by-check, check-yes, bad-got, bind-bind}
 use Rattle.layout.proofs.PartLaws.{row-back}
 use Rattle.layout.proofs.StepLaws.{row-shrinks}
+use Rattle.layout.specs.Rows.{sizeFits, mostBytes}
 use Rattle.b3d_scene.specs.declared.Mode.the-variants.{Lenient}
 use Rattle.b3d_scene.specs.Answers.{judge}
 use Rattle.b3d_scene.specs.Names.{named, unnamed, renameBrush, rename, noName, cleared}
 use Rattle.b3d_scene.specs.Nesting.{inside}
 use Rattle.b3d_scene.specs.Parse.{readOne, readTextures, readBrushes, readNode, readRoot, slotsOf, readBody, parse}
-use Rattle.b3d_scene.specs.Rules.{header, fileHead, levels, fileSize, mostBytes, rowLimit}
+use Rattle.b3d_scene.specs.Rules.{header, fileHead, levels, rowLimit}
 use Rattle.b3d_scene.specs.Scene.{Texture, Brush, Forest, leaf, node, Scene}
 use Rattle.b3d_scene.specs.Tables.{rows, tables}
 use Rattle.b3d_scene.specs.declared.Tag.the-variants.{BB3D, TEXS, BRUS, NODE}
@@ -211,7 +212,7 @@ parse-written b lo hi =
     let x = row-back header (code BB3D ∷ length b ∷ []) (code-word BB3D, tt, (omega arith, tt, tt)) 0 (b ++ []) in (
       x .0,
       rw (
-        check-yes (fileSize (length (writeChunk BB3D b []))) 1 0 (size-yes (length (writeChunk BB3D b [])) (omega arith) (omega arith)),
+        check-yes (sizeFits (length (writeChunk BB3D b []))) 1 0 (size-yes (length (writeChunk BB3D b [])) (omega arith) (omega arith)),
         x .1,
         check-yes (eqb (code BB3D) (code BB3D)) 2 0 tt,
         append-nil b,
@@ -219,9 +220,9 @@ parse-written b lo hi =
       ),
     )
 
-parse-size : (s : List ℕ) (t : Scene) → parse Lenient s ≡ got t → T (fileSize (length s))
+parse-size : (s : List ℕ) (t : Scene) → parse Lenient s ≡ got t → T (sizeFits (length s))
 unfolding parse
-parse-size s t e = by-check (fileSize (length s)) 1 0 _ e (λ z e₁. z)
+parse-size s t e = by-check (sizeFits (length s)) 1 0 _ e (λ z e₁. z)
 
 -- its version stays
 version-stays : {b c : List ℕ} → Without (bodyOf BB3D) b c → 4 ≤ length b → 4 ≤ length c

@@ -15,19 +15,20 @@ use Rattle.layout.specs.Parts.{Step, row, number}
 use Rattle.layout.specs.Rules.{NONE}
 use Rattle.layout.proofs.ChunkLaws.{ended-fine}
 use Rattle.layout.proofs.Outs.{by-got, by-check, bad-got, got-inj}
+use Rattle.layout.specs.Rows.{sizeFits}
 use Rattle.b3d_scene.specs.declared.Mode.the-variants.{Lenient}
 use Rattle.b3d_scene.specs.declared.Tag.{Tag}
 use Rattle.b3d_scene.specs.declared.Tag.the-variants.{BB3D, TEXS, BRUS, NODE, MESH, VRTS, TRIS, BONE, KEYS, ANIM}
 use Rattle.b3d_scene.specs.Nesting.{start, next, onward, order, inside}
 use Rattle.b3d_scene.specs.Parse.{readOne, readTextures, readBrushes, readNode, readRoot, slotsOf, readBody, parse, Inner}
-use Rattle.b3d_scene.specs.Rules.{header, fileHead, fileSize, levels}
+use Rattle.b3d_scene.specs.Rules.{header, fileHead, levels}
 use Rattle.b3d_scene.specs.Scene.{Texture, Brush, Forest, leaf, node, Scene}
 use Rattle.b3d_scene.specs.Tables.{textureRow, brushRow}
 use Rattle.b3d_scene.specs.Tags.{Chunks, Found, split, tagOf, code, is}
 use Rattle.b3d_scene.proofs.Files.FileLaws.{size-low}
 use Rattle.b3d_inside.specs.Places.{reached}
 use Rattle.b3d_inside.proofs.Heads.{head-is}
-use Rattle.b3d_rows.proofs.ItemLaws.{row-read}
+use Rattle.b3d_file_rows.proofs.ItemLaws.{row-read}
 use Rattle.b3d_file_rows.specs.Flat.{rest, flatAt}
 use Rattle.b3d_file_rows.specs.Rows.{textureRows, brushRows, firstOf}
 use Rattle.b3d_file_rows.proofs.Lists.{textures-plain, brushes-plain}
@@ -186,7 +187,7 @@ module _ (s : List ℕ) (P : ℕ → Forest → Type 0) (says : Says s P) where
   pub file-flat : (t : Scene) → parse Lenient s ≡ got t → Has 12 (rest s 12) (t .textures) (t .brushes) (t .nodes)
   unfolding parse
   file-flat t e =
-      by-check (fileSize (length s)) 1 0 _ e (λ z e₁.
+      by-check (sizeFits (length s)) 1 0 _ e (λ z e₁.
       let lo = size-low (length s) z in
       by-got (row header 0 s) _ e₁ (λ x ex e₂.
       let q = got-inj (sym ex ∙ head-is s (omega arith)) in

@@ -24,7 +24,7 @@ use Rattle.b3d_scene.specs.Scene.{TriangleSet, Mesh, Keys}
 use Rattle.b3d_scene.specs.Tags.{Chunks, Found, split}
 use Rattle.b3d_scene.proofs.Rows.MaskLaws.{vertex-words, key-words}
 use Rattle.b3d_inside.specs.Places.{reached}
-use Rattle.b3d_rows.proofs.ItemLaws.{RowRead, row-read, ItemsRead, items-read}
+use Rattle.b3d_file_rows.proofs.ItemLaws.{RowRead, row-read, ItemsRead, items-read}
 use Rattle.b3d_file_rows.specs.Plain.{whole, keyFlagsOf, plainKeys, plainWeights, plainAnim, ofThree, plainVertices, plainTriangles, shapeOf, setsOf, meshOf, plainMesh}
 
 -- items of n words that fill their bytes

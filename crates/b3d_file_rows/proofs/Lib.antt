@@ -1,6 +1,7 @@
 -- Laws of the flat run and of its rows.
 pub mod Ahead
 pub mod Run
+pub mod ItemLaws
 pub mod Leaves
 pub mod Parts
 pub mod Nodes

@@ -15,7 +15,7 @@ use Rattle.b3d_scene.specs.Parse.{readTexture, readTextures, readBrush, readBru
 use Rattle.b3d_scene.specs.Rules.{textureRow, brushesHead, brushRow, brushIds, textureId}
 use Rattle.b3d_scene.specs.Scene.{Texture, Brush}
 use Rattle.b3d_scene.specs.Tables as tables
-use Rattle.b3d_rows.proofs.ItemLaws.{row-read}
+use Rattle.b3d_file_rows.proofs.ItemLaws.{row-read}
 use Rattle.b3d_file_rows.specs.Plain.{nextItem, namedIn, namedItems, textureOf, brushOf}
 use Rattle.b3d_file_rows.specs.Rows.{textureRows, brushesOf, brushRows}
 use Rattle.b3d_file_rows.proofs.Leaves.{first-low, judged-row}

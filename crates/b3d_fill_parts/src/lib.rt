@@ -33,13 +33,13 @@ fn put_list(
     let end = rest.end;
     let width = b3d_item_rows::key_width(flags);
     let count = (end - at) / (4 * width);
-    let cells = [
-        b3d_rows::cell(node),
+    let row_cells = [
+        cells::cell(node),
         flags,
-        b3d_rows::cell(first),
-        b3d_rows::cell(count),
+        cells::cell(first),
+        cells::cell(count),
     ];
-    b3d_rows::put_cells(out, base, &cells);
+    cells::put_cells(out, base, &row_cells);
     count
 }
 

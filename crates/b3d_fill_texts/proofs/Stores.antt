@@ -11,7 +11,7 @@ use Rattle.wire.proofs.Left.{left-length}
 use Rattle.layout.specs.Parts.{wordsOf}
 use Rattle.layout.specs.Rules.{NONE}
 use Rattle.layout.proofs.StepLaws.{length-words-of}
-use Rattle.b3d_scene.proofs.Rows.FillLaws.{sets-append}
+use Rattle.cells.proofs.Storing.{sets-append}
 
 pub row-put : (s : List ℕ) (row : Cursor) (n : ℕ) → Inside row (length s) → row .at + 4 * n ≤ row .end → (out : List ℕ) (base place size i j : ℕ) → i ≡ place → j ≡ size
     → (o₁ o₂ o₃ : List ℕ) (rest : ℕ) → o₁ ≡ sets out base (i ∷ j ∷ []) → o₂ ≡ sets o₁ (base + 2) (wordsOf n (left row s)) → o₃ ≡ sets o₂ (base + 2 + n) (replicate rest NONE)

@@ -32,12 +32,12 @@ fn put_row(
     ensures { λ r. ⌜ (r ≡ base + 2 + n + rest)
         × (now (out .exit) ≡ stored (now (out .entry)) base (place ∷ size ∷ (wordsOf n (left row (now (file .entry))) ++ replicate rest NONE))) ⌝ }
 {
-    let cells = [b3d_rows::cell(place), b3d_rows::cell(size)];
-    b3d_rows::put_cells(out, base, &cells);
+    let row_cells = [cells::cell(place), cells::cell(size)];
+    cells::put_cells(out, base, &row_cells);
     let from = base + 2;
-    b3d_rows::copy_words(file, row, n, from, out);
+    cells::copy_words(file, row, n, from, out);
     let after = from + n;
-    b3d_rows::put_same(0xFFFFFFFF, rest, after, out);
+    cells::put_same(0xFFFFFFFF, rest, after, out);
     after + rest
 }
 

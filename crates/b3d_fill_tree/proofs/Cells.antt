@@ -24,7 +24,7 @@ use Rattle.b3d_scene.specs.Rules.{nodeRow as nodeWords}
 use Rattle.b3d_scene.specs.Scene.{Kind, pivot, mesh, bone, Anim, still, anim}
 use Rattle.b3d_scene.specs.Tables.{nameCells, kindCells, animCells, nodeRow}
 use Rattle.b3d_scene.specs.Tags.{Chunks, is}
-use Rattle.b3d_scene.proofs.Rows.FillLaws.{sets-append}
+use Rattle.cells.proofs.Storing.{sets-append}
 use Rattle.b3d_chunks.specs.Chunks.{namedAt, NamedIn}
 use Rattle.b3d_chunks.specs.declared.Named.{Named}
 use Rattle.b3d_chunks.specs.declared.Named.the-variants as named

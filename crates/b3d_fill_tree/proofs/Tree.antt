@@ -28,7 +28,7 @@ use Rattle.b3d_scene.specs.Rules.{nodeRow as nodeWords}
 use Rattle.b3d_scene.specs.Scene.{Kind, pivot, mesh, bone}
 use Rattle.b3d_scene.specs.Tables.{start, words, nameCells, kindCells, animCells, nodeRow, nodeWidth}
 use Rattle.b3d_scene.specs.Tags.{Chunks, is, split, tagOf}
-use Rattle.b3d_rows.proofs.Storing.{Storing, store-run, store-done}
+use Rattle.cells.proofs.Storing.{Storing, store-run, store-done}
 use Rattle.b3d_file_rows.specs.Flat.{rest, flatAt, flat}
 use Rattle.b3d_file_rows.specs.Plain.{plainWeights}
 use Rattle.b3d_file_rows.specs.Rows.{Open, parentAt, counted, opened, kindOf, animOf, nodesBefore, rowOf, nodeRows, fileRows}

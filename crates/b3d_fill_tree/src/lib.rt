@@ -66,13 +66,13 @@ fn kind_cells(file: &[u8], from: usize, meshes: usize, weights: usize) -> [u32; 
                 next,
             } => {
                 if b3d_copy::same(tag, Tag::MESH) {
-                    return [1, b3d_rows::cell(meshes), 1];
+                    return [1, cells::cell(meshes), 1];
                 }
                 if b3d_copy::same(tag, Tag::BONE) {
                     return [
                         2,
-                        b3d_rows::cell(weights),
-                        b3d_rows::cell((body.end - body.at) / 8),
+                        cells::cell(weights),
+                        cells::cell((body.end - body.at) / 8),
                     ];
                 }
                 at = next;
@@ -122,11 +122,11 @@ fn put_parts(
     ensures { λ _. ⌜ now (out .exit) ≡ stored (now (out .entry)) base (partCells (flatAt (now (file .entry)) from) end (told meshes weights)) ⌝ }
 {
     let kind = kind_cells(file, from, meshes, weights);
-    b3d_rows::put_cells(out, base, &kind);
+    cells::put_cells(out, base, &kind);
     let anim = anim_cells(file, from);
-    b3d_rows::put_cells(out, base + 3, &anim);
+    cells::put_cells(out, base + 3, &anim);
     let below = [b3d_branch::nodes_before(file, from, end)];
-    b3d_rows::put_cells(out, base + 7, &below);
+    cells::put_cells(out, base + 7, &below);
 }
 
 // The row of a NODE whose own chunks begin at `next`, from word `base` of the table on.
@@ -153,9 +153,9 @@ fn put_node(
             row,
             next: _,
         } => {
-            let head = [b3d_rows::cell(body.at), b3d_rows::cell(length), parent];
-            b3d_rows::put_cells(out, base, &head);
-            b3d_rows::copy_words(file, row, 10, numbers, out);
+            let head = [cells::cell(body.at), cells::cell(length), parent];
+            cells::put_cells(out, base, &head);
+            cells::copy_words(file, row, 10, numbers, out);
             put_parts(file, next, body.end, meshes, weights, parts, out);
         }
     }
@@ -173,7 +173,7 @@ fn parent_at(file: &[u8], rows: &[u32], nodes: usize, p: usize) -> u32
         let name = wire::size(rows[row]);
         let long = wire::size(wire::number_at(file, name - 4));
         if p < name + long {
-            return b3d_rows::cell(i - 1);
+            return cells::cell(i - 1);
         }
         let above = rows[row + 2];
         if above == 0xFFFFFFFF {

@@ -5,10 +5,10 @@ use mathlib.Core.Bool.{Bool}
 use mathlib.Core.List.{List}
 use Rattle.wire.specs.Cursors.{left}
 use Rattle.wire.specs.declared.Cursor.{Cursor}
+use Rattle.layout.specs.Rows.{mostBytes}
 use Rattle.b3d_scene.specs.declared.Tag.{Tag}
 use Rattle.b3d_scene.specs.Tags.{Chunks, split}
 use Rattle.b3d_scene.specs.Nesting.{Reached, order}
-use Rattle.b3d_scene.specs.Rules.{mostBytes}
 
 -- the body of a chunk whose header stands at `at`, in a file of n bytes
 pub record Body (at : ℕ) (b : Cursor) (n : ℕ) : Type 0 where

@@ -14,7 +14,7 @@ use Rattle.wire.proofs.Left.{span, left-length}
 use Rattle.layout.specs.Parts.{wordsOf, itemsOf}
 use Rattle.layout.proofs.StepLaws.{length-words-of}
 use Rattle.b3d_scene.specs.Tables.{words}
-use Rattle.b3d_rows.proofs.ItemLaws.{words-items}
+use Rattle.b3d_file_rows.proofs.ItemLaws.{words-items}
 use Rattle.b3d_file_rows.specs.Plain.{whole}
 
 -- so many groups of w words are so many bytes

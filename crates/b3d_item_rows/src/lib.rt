@@ -20,7 +20,7 @@ pub fn put_items(file: &[u8], c: Cursor, width: usize, base: usize, out: &mut [u
     let at = c.at;
     let end = c.end;
     let n = (end - at) / (4 * width) * width;
-    b3d_rows::copy_words(file, Cursor { at, end }, n, base, out);
+    cells::copy_words(file, Cursor { at, end }, n, base, out);
     base + n
 }
 

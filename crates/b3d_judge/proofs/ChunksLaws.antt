@@ -7,11 +7,11 @@ use mathlib.Core.List.{List, []}
 use lib.ListN.{length}
 use Rattle.wire.specs.declared.Cursor.{Cursor}
 use Rattle.layout.specs.Out.{Out, got, _>>=_}
+use Rattle.layout.specs.Rows.{mostBytes}
 use Rattle.b3d_scene.specs.declared.Mode.{Mode}
 use Rattle.b3d_scene.specs.declared.Tag.the-variants.{BB3D, TEXS}
 use Rattle.b3d_scene.specs.Tags.{Found}
 use Rattle.b3d_scene.specs.Scene.{Texture, Brush, Forest, Scene}
-use Rattle.b3d_scene.specs.Rules.{mostBytes}
 use Rattle.b3d_scene.specs.Nesting.{start}
 use Rattle.b3d_scene.specs.Parse.{readOne, readTextures}
 use Rattle.b3d_tally.specs.Tally.{bytesTally, texsTally, brusTally, forestTally, sceneTally, plus, Within}

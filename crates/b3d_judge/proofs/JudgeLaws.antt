@@ -21,13 +21,14 @@ use Rattle.layout.proofs.StepLaws.{word-of}
 use Rattle.b3d_scene.specs.declared.Mode.{Mode}
 use Rattle.b3d_scene.specs.declared.Tag.the-variants.{BB3D, TEXS, BRUS, NODE}
 use Rattle.layout.specs.Chunks.{done, stop, chunk, ended}
+use Rattle.layout.specs.Rows.{eachOf, sizeFits, mostBytes}
 use Rattle.b3d_scene.specs.Tags.{Chunks, Found}
 use Rattle.b3d_scene.specs.Scene.{Texture, Brush, Forest, leaf, Scene}
-use Rattle.b3d_scene.specs.Rules.{version, fileSize, mostBytes, rowLimit}
+use Rattle.b3d_scene.specs.Rules.{version, rowLimit}
 use Rattle.b3d_scene.specs.Nesting.{start, inside}
 use Rattle.b3d_scene.specs.Parse.{readOne, readTextures, readBrushes, readRoot, slotsOf, readBody, parse}
 use Rattle.b3d_scene.specs.Tables.{rows, tables, nodeTables}
-use Rattle.b3d_scene.specs.Answers.{eachTable, firstNot, judge}
+use Rattle.b3d_scene.specs.Answers.{firstNot, judge}
 use Rattle.b3d_scene.proofs.AnswerLaws.{first-none, first-some, over-not}
 use Rattle.b3d_scene.proofs.Rows.Numbers.{each-table}
 use Rattle.b3d_scene.proofs.Laws.{fine}
@@ -165,13 +166,13 @@ pub second-word : (s : List ℕ) → 8 ≤ length s → getD (wordsOf 2 s) 1 0 �
 unfolding wordAt
 second-word s h = word-of 2 1 s (omega arith) h
 
-size-low : (n : ℕ) → n < 12 → fileSize n ≡ false
+size-low : (n : ℕ) → n < 12 → sizeFits n ≡ false
 size-low n h = rw (lt-leb 12 n h)
 
-size-high : (n : ℕ) → 16777216 < n → fileSize n ≡ false
+size-high : (n : ℕ) → 16777216 < n → sizeFits n ≡ false
 size-high n h = rw (le-leb 12 n (omega arith), lt-leb n 16777216 h)
 
-size-good : (n : ℕ) → 12 ≤ n → n ≤ 16777216 → fileSize n ≡ true
+size-good : (n : ℕ) → 12 ≤ n → n ≤ 16777216 → sizeFits n ≡ true
 size-good n a b = rw (le-leb 12 n a, le-leb n 16777216 b)
 
 walked-bad : (o : Out Scene) (e q : ℕ) → walked o ≡ verdict.Bad e q → o ≡ bad e q
@@ -240,8 +241,8 @@ module _ (mode : Mode) (s : List ℕ) where
             judge-over d = finish (parse mode s) (gave .value) (gave .is)
                 (first-some 10 (λ k. leb (length (rows k (gave .value))) rowLimit) tables (λ q. d (over-at ∙ q)) ∙ ap (λ (i : ℕ). bad 10 i) (sym over-at))
               where
-                finish : (o : Out Scene) (t : Scene) → o ≡ got t → eachTable 10 (λ k. leb (length (rows k t)) rowLimit) tables ≡ bad 10 n
-                    → verdict.Bad 10 n ≡ verdictOf (o >>= λ t. eachTable 10 (λ k. leb (length (rows k t)) rowLimit) tables >>= λ _. got t)
+                finish : (o : Out Scene) (t : Scene) → o ≡ got t → eachOf 10 (λ k. leb (length (rows k t)) rowLimit) tables ≡ bad 10 n
+                    → verdict.Bad 10 n ≡ verdictOf (o >>= λ t. eachOf 10 (λ k. leb (length (rows k t)) rowLimit) tables >>= λ _. got t)
                 finish o t e h = rw (e, h)
 
             pub judge-good : n ≡ 0 → verdict.Good x ≡ verdictOf (judge mode s)
@@ -249,9 +250,9 @@ module _ (mode : Mode) (s : List ℕ) where
             judge-good q = finish (parse mode s) (gave .value) (gave .is) (first-none 10 (λ k. leb (length (rows k (gave .value))) rowLimit) tables (each-table (λ k. 0 < k) (λ k a b. a)) (sym over-at ∙ q))
                 (λ i. record { version = gave .version i; «n_texs» = gave .slots i; tally = tally-is i })
               where
-                finish : (o : Out Scene) (t : Scene) → o ≡ got t → eachTable 10 (λ k. leb (length (rows k t)) rowLimit) tables ≡ got tt
+                finish : (o : Out Scene) (t : Scene) → o ≡ got t → eachOf 10 (λ k. leb (length (rows k t)) rowLimit) tables ≡ got tt
                     → x ≡ record { version = t .version; «n_texs» = t .slots; tally = tallyOf t }
-                    → verdict.Good x ≡ verdictOf (o >>= λ t. eachTable 10 (λ k. leb (length (rows k t)) rowLimit) tables >>= λ _. got t)
+                    → verdict.Good x ≡ verdictOf (o >>= λ t. eachOf 10 (λ k. leb (length (rows k t)) rowLimit) tables >>= λ _. got t)
                 finish o t e h k = ap verdict.Good k ∙ sym (rw (e, h))
 
 pub ruleset judge-laws = (judge-low, judge-high, judge-tag, judge-length, judge-refused, judge-over, judge-good)

@@ -11,12 +11,12 @@ use Rattle.wire.specs.Cursors.{Inside}
 use Rattle.wire.specs.declared.Cursor.{Cursor}
 use Rattle.layout.specs.Out.{Out, got, _>>=_}
 use Rattle.layout.specs.Chunks.{ended}
+use Rattle.layout.specs.Rows.{mostBytes}
 use Rattle.b3d_scene.specs.declared.Mode.{Mode}
 use Rattle.b3d_scene.specs.declared.Tag.{Tag}
 use Rattle.b3d_scene.specs.declared.Tag.the-variants.{BB3D, TEXS, BRUS, NODE, MESH, VRTS, TRIS, BONE, KEYS, ANIM}
 use Rattle.b3d_scene.specs.Tags.{Chunks, Found}
 use Rattle.b3d_scene.specs.Scene.{Brush, Forest, leaf}
-use Rattle.b3d_scene.specs.Rules.{mostBytes}
 use Rattle.b3d_scene.specs.Nesting.{nesting, next as nextTurn}
 use Rattle.b3d_scene.specs.Parse.{readOne, readBrushes, readRoot, slotsOf}
 use Rattle.b3d_tally.specs.Tally.{forestTally, plus, Within}

@@ -19,10 +19,11 @@ use Rattle.layout.specs.Out.{Out, got, bad, check, _>>=_}
 use Rattle.layout.specs.Parts.{Name, words, wordsOf, judged, row, items}
 use Rattle.layout.specs.Rules.{Rule, any, unit, holds, refusal}
 use Rattle.layout.proofs.StepLaws.{length-words-of, row-short}
+use Rattle.layout.specs.Rows.{mostBytes}
 use Rattle.b3d_scene.specs.declared.Mode.{Mode}
 use Rattle.b3d_scene.specs.declared.Mode.the-variants.{Strict, Lenient}
 use Rattle.b3d_scene.specs.Scene.{Brush}
-use Rattle.b3d_scene.specs.Rules.{slots, brushRow, textureId, brushIds, mostBytes}
+use Rattle.b3d_scene.specs.Rules.{slots, brushRow, textureId, brushIds}
 use Rattle.b3d_scene.specs.Parse.{readBrush, readBrushes, slotsOf}
 use Rattle.b3d_chunks.specs.Chunks.{namedAt, NamedIn}
 use Rattle.b3d_items.specs.Items.{firstBad}

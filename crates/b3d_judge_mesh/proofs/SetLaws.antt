@@ -13,11 +13,12 @@ use Rattle.wire.specs.declared.Cursor.{Cursor}
 use Rattle.layout.specs.Out.{Out, got, bad, _>>=_}
 use Rattle.layout.specs.Chunks.{done, stop}
 use Rattle.layout.proofs.Outs.{bind-bind}
+use Rattle.layout.specs.Rows.{mostBytes}
 use Rattle.b3d_scene.specs.declared.Mode.{Mode}
 use Rattle.b3d_scene.specs.declared.Tag.{Tag}
 use Rattle.b3d_scene.specs.declared.Tag.the-variants.{MESH, VRTS}
 use Rattle.b3d_scene.specs.Scene.{TriangleSet, Mesh}
-use Rattle.b3d_scene.specs.Rules.{vertexWords, mostBytes}
+use Rattle.b3d_scene.specs.Rules.{vertexWords}
 use Rattle.b3d_scene.specs.Nesting.{nesting, start, next as nextTurn, order}
 use Rattle.b3d_scene.specs.Parse.{readOne, Vertices, readVertices, readTriangles, readSets}
 use Rattle.b3d_scene.proofs.Files.TagCodes.{by-tag}

@@ -12,10 +12,11 @@ use Rattle.layout.specs.Chunks.{done, stop, chunk}
 use Rattle.layout.specs.Parts.{wordsOf}
 use Rattle.layout.proofs.Outs.{by-test}
 use Rattle.layout.proofs.StepLaws.{row-any, any-short}
+use Rattle.layout.specs.Rows.{mostBytes}
 use Rattle.b3d_scene.specs.declared.Tag.the-variants.{KEYS, ANIM}
 use Rattle.b3d_scene.specs.Tags.{Chunks, Found, is}
 use Rattle.b3d_scene.specs.Scene.{Keys, anim}
-use Rattle.b3d_scene.specs.Rules.{animated, mostBytes}
+use Rattle.b3d_scene.specs.Rules.{animated}
 use Rattle.b3d_scene.specs.Parse.{Moves, withKeys, readKeys, filled, readAnim, readMoves}
 use Rattle.b3d_tally.specs.Tally.{noTally, listTally, listsTally, animTally, movesTally, plus, bytesTally, Within}
 use Rattle.b3d_tally.specs.declared.Tally.{Tally}

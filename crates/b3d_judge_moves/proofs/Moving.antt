@@ -16,11 +16,12 @@ use Rattle.wire.specs.declared.Cursor.{Cursor}
 use Rattle.wire.proofs.Left.{left-length}
 use Rattle.layout.specs.Out.{Out, got, bad, _>>=_}
 use Rattle.layout.specs.Parts.{wordsOf}
+use Rattle.layout.specs.Rows.{mostBytes}
 use Rattle.b3d_scene.specs.declared.Tag.{Tag}
 use Rattle.b3d_scene.specs.declared.Tag.the-variants.{NODE, KEYS, ANIM}
 use Rattle.b3d_scene.specs.Tags.{Chunks, Found, is}
 use Rattle.b3d_scene.specs.Scene.{Keys, still, anim}
-use Rattle.b3d_scene.specs.Rules.{animated, mostBytes}
+use Rattle.b3d_scene.specs.Rules.{animated}
 use Rattle.b3d_scene.specs.Nesting.{nesting, Reached, next as nextTurn, onward, order}
 use Rattle.b3d_scene.specs.Parse.{Moves, readKeys, readAnim, readMoves, withKeys}
 use Rattle.b3d_scene.proofs.Tag.{the-type}

@@ -2,9 +2,9 @@
 ghost use mathlib.Core.Path.{_≡_};
 ghost use mathlib.Core.Bool.{false};
 ghost use lib.ListN.{length};
+ghost use Rattle.layout.specs.Rows.{mostBytes};
 ghost use Rattle.b3d_scene.specs.declared.Tag.the-variants.{NODE};
 ghost use Rattle.b3d_scene.specs.Scene.{still};
-ghost use Rattle.b3d_scene.specs.Rules.{mostBytes};
 ghost use Rattle.b3d_scene.specs.Parse.{readMoves};
 ghost use Rattle.b3d_tally.specs.Tally.{plus, animTally, Within};
 ghost use Rattle.b3d_inside.specs.Places.{reached, restIn, Among};

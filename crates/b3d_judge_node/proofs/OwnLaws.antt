@@ -11,11 +11,12 @@ use Rattle.wire.specs.declared.Cursor.{Cursor}
 use Rattle.layout.specs.Out.{Out, got, bad, _>>=_}
 use Rattle.layout.proofs.Outs.{got-inj}
 use Rattle.layout.specs.Parts.{wordsOf}
+use Rattle.layout.specs.Rows.{mostBytes}
 use Rattle.b3d_scene.specs.declared.Mode.{Mode}
 use Rattle.b3d_scene.specs.declared.Tag.the-variants.{NODE}
 use Rattle.b3d_scene.specs.Tags.{Chunks, Found}
 use Rattle.b3d_scene.specs.Scene.{Kind, still, Data}
-use Rattle.b3d_scene.specs.Rules.{nodeRow, ownVertices, boneVertices, animated, bonesFrom, mostBytes}
+use Rattle.b3d_scene.specs.Rules.{nodeRow, ownVertices, boneVertices, animated, bonesFrom}
 use Rattle.b3d_scene.specs.Nesting.{start, inside}
 use Rattle.b3d_scene.specs.Parse.{Moves, readKind, readMoves}
 use Rattle.b3d_chunks.specs.Chunks.{namedAt, NamedIn}

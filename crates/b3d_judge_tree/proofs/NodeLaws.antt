@@ -11,12 +11,13 @@ use Rattle.wire.specs.declared.Cursor.{Cursor}
 use Rattle.layout.specs.Out.{Out, got, bad, _>>=_}
 use Rattle.layout.specs.Parts.{named}
 use Rattle.layout.proofs.Outs.{got-inj, bind-cong, bind-bind}
+use Rattle.layout.specs.Rows.{mostBytes}
 use Rattle.b3d_scene.specs.declared.Mode.{Mode}
 use Rattle.b3d_scene.specs.declared.Tag.{Tag}
 use Rattle.b3d_scene.specs.declared.Tag.the-variants.{NODE}
 use Rattle.b3d_scene.specs.Tags.{Chunks, Found}
 use Rattle.b3d_scene.specs.Scene.{Data, Forest, leaf, node, still}
-use Rattle.b3d_scene.specs.Rules.{nodeRow, boneVertices, bonesBelow, mostBytes}
+use Rattle.b3d_scene.specs.Rules.{nodeRow, boneVertices, bonesBelow}
 use Rattle.b3d_scene.specs.Nesting.{inside}
 use Rattle.b3d_scene.specs.Parse.{Inner, readKind, readMoves, readNodes, readBelow, readNode}
 use Rattle.b3d_tally.specs.Tally.{noTally, dataTally, forestTally, innerTally, plus, Within}

@@ -19,12 +19,13 @@ use Rattle.layout.specs.Rules.{Rule, any}
 use Rattle.layout.proofs.ChunkLaws.{ended-fine}
 use Rattle.layout.proofs.Outs.{by-got, by-check, check-yes, by-test, bad-got, got-inj}
 use Rattle.layout.proofs.StepLaws.{length-words-of, words-enough, words-short, judged-got, judged-any, any-whole, any-cut, length-items-of}
+use Rattle.layout.specs.Rows.{sizeFits}
 use Rattle.b3d_scene.specs.declared.Mode.the-variants.{Lenient}
 use Rattle.b3d_scene.specs.declared.Tag.{Tag}
 use Rattle.b3d_scene.specs.declared.Tag.the-variants.{BB3D, TEXS, BRUS, NODE, MESH, VRTS, TRIS, BONE, KEYS, ANIM}
 use Rattle.b3d_scene.specs.Tags.{code, Chunks, Found as FoundIn, split}
 use Rattle.b3d_scene.specs.Scene.{Texture, Brush, Mesh, Kind, mesh, Data, Forest, leaf, node, Scene}
-use Rattle.b3d_scene.specs.Rules.{nodeRow, meshHead, verticesHead, vertexRow, vertexWords, fileHead, fileSize, header, boneVertices, levels, ownVertices}
+use Rattle.b3d_scene.specs.Rules.{nodeRow, meshHead, verticesHead, vertexRow, vertexWords, fileHead, header, boneVertices, levels, ownVertices}
 use Rattle.b3d_scene.specs.Nesting.{Reached, start, next, onward, order, inside}
 use Rattle.b3d_scene.specs.Parse.{readOne, readTextures, readBrushes, Vertices, noVertices, readVertices, readSets, readMesh, aMesh, aBone, readBone, readKind, readMoves, Inner, readBelow, readNodes, readNode, readRoot, readBody, parse}
 use Rattle.b3d_label.specs.Walk.{oneNumber, firstWith, verticesIn, meshVertices, rootVertices, Printed, rootIn, fileIn, walk}
@@ -243,7 +244,7 @@ body-same p b t e =
 pub walk-same : (s : List ℕ) (t : Scene) → parse Lenient s ≡ got t → Tells (walk s) (t .nodes)
 unfolding parse walk
 walk-same s t e =
-    by-check (fileSize (length s)) 1 0 _ e (λ _ e₁.
+    by-check (sizeFits (length s)) 1 0 _ e (λ _ e₁.
     by-got (row header 0 s) _ e₁ (λ h eh e₂.
     by-check (eqb (number h 0) (code BB3D)) 2 0 _ e₂ (λ b e₃.
     by-check (eqb (number h 1) (length (h .left))) 2 4 _ e₃ (λ l e₄.

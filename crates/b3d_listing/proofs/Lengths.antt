@@ -14,10 +14,11 @@ use Rattle.layout.specs.Out.{Out, got, bad, check, _>>=_}
 use Rattle.layout.proofs.Lists.{All, all-map}
 use Rattle.layout.proofs.RefusalLaws.{OneToNine}
 use Rattle.layout.proofs.Outs.{by-test, if-yes, if-no, bad-got}
-use Rattle.b3d_scene.specs.Answers.{eachTable, judge}
+use Rattle.layout.specs.Rows.{eachOf, mostBytes}
+use Rattle.b3d_scene.specs.Answers.{judge}
 use Rattle.b3d_scene.specs.declared.Mode.the-variants.{Strict}
 use Rattle.b3d_scene.specs.Parse.{parse}
-use Rattle.b3d_scene.specs.Rules.{rowLimit, mostBytes}
+use Rattle.b3d_scene.specs.Rules.{rowLimit}
 use Rattle.b3d_scene.specs.Scene.{Brush, Forest, leaf, node, Scene}
 use Rattle.b3d_scene.specs.Sizes.{nodesSize}
 use Rattle.b3d_scene.specs.Tables.{counts, tables, nodeTables, rows}
@@ -75,16 +76,16 @@ unfolding check
 each-step true o t n k m p f e = f e
 each-step false o t n k m p f e = cc
 
-each-number : (n : ℕ) (ok : ℕ → Bool) (t : Scene) (ks : List ℕ) (m p : ℕ) → (eachTable n ok ks >>= λ _. got t) ≡ bad m p → m ≡ n
-unfolding eachTable
+each-number : (n : ℕ) (ok : ℕ → Bool) (t : Scene) (ks : List ℕ) (m p : ℕ) → (eachOf n ok ks >>= λ _. got t) ≡ bad m p → m ≡ n
+unfolding eachOf
 each-number n ok t [] m p e = bad-got (sym e)
-each-number n ok t (k ∷ ks) m p e = each-step (ok k) (eachTable n ok ks) t n k m p (each-number n ok t ks m p) e
+each-number n ok t (k ∷ ks) m p e = each-step (ok k) (eachOf n ok ks) t n k m p (each-number n ok t ks m p) e
 
 judge-number : (s : List ℕ) (n p : ℕ) → judge Strict s ≡ bad n p → n ≤ 10
 unfolding judge
 judge-number s n p e = go (parse Strict s) (refused Strict s) e
   where
-    go : (o : Out Scene) → ((m q : ℕ) → o ≡ bad m q → OneToNine m) → (o >>= λ t. eachTable 10 (λ k. leb (length (rows k t)) rowLimit) tables >>= λ _. got t) ≡ bad n p → n ≤ 10
+    go : (o : Out Scene) → ((m q : ℕ) → o ≡ bad m q → OneToNine m) → (o >>= λ t. eachOf 10 (λ k. leb (length (rows k t)) rowLimit) tables >>= λ _. got t) ≡ bad n p → n ≤ 10
     go (got t) h e = omega (arith, each-number 10 (λ k. leb (length (rows k t)) rowLimit) t tables n p e)
     go (bad m q) h e = let z : n ≡ m = cc in omega (arith, h m q refl .1)
 

@@ -76,13 +76,13 @@ fn put_set(
     let at = rest.at;
     let end = rest.end;
     let count = (end - at) / 12;
-    let cells = [
-        b3d_rows::cell(mesh),
+    let row_cells = [
+        cells::cell(mesh),
         brush,
-        b3d_rows::cell(first),
-        b3d_rows::cell(count),
+        cells::cell(first),
+        cells::cell(count),
     ];
-    b3d_rows::put_cells(out, base, &cells);
+    cells::put_cells(out, base, &row_cells);
     count
 }
 
@@ -211,18 +211,18 @@ pub fn put_mesh(
     let v = find_shape(file, head.rest);
     let n = count_sets(file, head.rest);
     let count = v.count;
-    let cells = [
-        b3d_rows::cell(node),
+    let row_cells = [
+        cells::cell(node),
         head.word,
         v.flags,
         v.sets,
         v.size,
-        b3d_rows::cell(vertices),
-        b3d_rows::cell(count),
-        b3d_rows::cell(sets),
-        b3d_rows::cell(n),
+        cells::cell(vertices),
+        cells::cell(count),
+        cells::cell(sets),
+        cells::cell(n),
     ];
-    b3d_rows::put_cells(out, base, &cells);
+    cells::put_cells(out, base, &row_cells);
     Added {
         vertices: count,
         sets: n,

@@ -12,12 +12,12 @@ use Rattle.layout.specs.Out.{Out, got, bad}
 use Rattle.layout.specs.Lists.{All}
 use Rattle.layout.proofs.Lists.{all-zip}
 use Rattle.layout.proofs.Outs.{by-check}
+use Rattle.layout.specs.Rows.{eachOf, sizeFits}
 use Rattle.b3d_scene.specs.declared.Answer.{Answer}
 use Rattle.b3d_scene.specs.declared.Mode.{Mode}
 use Rattle.b3d_scene.specs.declared.Mode.the-variants.{Lenient}
-use Rattle.b3d_scene.specs.Answers.{eachTable, judge, read, answer, readAnswer, readTable, tableAfter}
+use Rattle.b3d_scene.specs.Answers.{judge, read, answer, readAnswer, readTable, tableAfter}
 use Rattle.b3d_scene.specs.Parse.{parse}
-use Rattle.b3d_scene.specs.Rules.{fileSize}
 use Rattle.b3d_scene.specs.Scene.{Scene}
 use Rattle.b3d_scene.specs.Tables.{width, rows, words, table, tables, nodeTables, counts}
 use Rattle.b3d_scene.proofs.Refusals.{read-number}
@@ -62,7 +62,7 @@ stays mode room s k xs = go (read mode room s)
 -- an accepted file is short
 few-bytes : (s : List ℕ) (t : Scene) → parse Lenient s ≡ got t → length s < 4294967296
 unfolding parse
-few-bytes s t e = by-check (fileSize (length s)) 1 0 _ e (λ z _. let (lo, hi) = and-yes (leb 12 (length s)) (leb (length s) 16777216) z in omega (arith, leb→le (length s) 16777216 hi))
+few-bytes s t e = by-check (sizeFits (length s)) 1 0 _ e (λ z _. let (lo, hi) = and-yes (leb 12 (length s)) (leb (length s) 16777216) z in omega (arith, leb→le (length s) 16777216 hi))
 
 -- where `read` accepts, each table has room
 fits : (mode : Mode) (s : List ℕ) (room : ℕ → ℕ) (t : Scene) → AllBytes s → read mode room s ≡ got t → All (λ k. length (table k t) ≤ room k) tables
@@ -79,7 +79,7 @@ module _ (mode : Mode) (s : List ℕ) (t1 t2 t3 t4 t5 t6 t7 t8 t9 t10 : List ℕ
   lent = t1 ∷ t2 ∷ t3 ∷ t4 ∷ t5 ∷ t6 ∷ t7 ∷ t8 ∷ t9 ∷ t10 ∷ []
 
   answer-is : y ≡ readAnswer mode (roomIn lent) s
-  unfolding readAnswer read eachTable tables nodeTables
+  unfolding readAnswer read eachOf tables nodeTables
   answer-is = ey
 
   pub read-refused : (y .number ≡ 0 → ⊥) → Reads mode s lent lent y

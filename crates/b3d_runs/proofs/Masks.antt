@@ -21,8 +21,8 @@ use Rattle.b3d_scene.specs.Mask.{mask, ones, spread, vertexHas, vertexMask, key
 use Rattle.b3d_scene.specs.Rules.{vertexWords}
 use Rattle.b3d_scene.specs.Tables.{words}
 use Rattle.b3d_scene.proofs.Rows.MaskLaws.{vertex-words}
-use Rattle.b3d_rows.specs.Words.{wordsAt}
-use Rattle.b3d_rows.proofs.Copies.{words-at}
+use Rattle.cells.specs.Words.{wordsAt}
+use Rattle.cells.proofs.Copying.{words-at}
 use Rattle.b3d_runs.specs.Pieces.{pieceAt, inSet, setsAt, setWords, vertexAt, vertexSize, keyAt, keySize, rowsAt}
 
 -- ---- the mask in runs

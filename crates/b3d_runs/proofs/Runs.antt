@@ -10,9 +10,9 @@ use mathlib.Core.Bool.{not}
 use native.Mathlib.Nat.{suc-mul}
 use Rattle.wire.specs.Test.{if}
 use Rattle.layout.proofs.Outs.{if-yes, if-no, by-test}
-use Rattle.b3d_rows.specs.Words.{wordsAt}
-use Rattle.b3d_rows.proofs.Storing.{Storing, store-run, store-done}
-use Rattle.b3d_scene.proofs.Rows.FillLaws.{sets-append}
+use Rattle.cells.specs.Words.{wordsAt}
+use Rattle.cells.proofs.Storing.{Storing, store-run, store-done}
+use Rattle.cells.proofs.Storing.{sets-append}
 use Rattle.b3d_runs.specs.Pieces.{pieceAt, inSet, setsAt, setWords, vertexAt, vertexSize, keyAt, keySize, rowsAt}
 
 pub length-words : (n : ℕ) (s : List ℕ) (p : ℕ) → length (wordsAt n s p) ≡ n

@@ -4,7 +4,7 @@ use mathlib.Core.List.{List, [], _∷_, _++_}
 use lib.ListN.{replicate}
 use lib.Dec.{ltb}
 use Rattle.wire.specs.Test.{if}
-use Rattle.b3d_rows.specs.Words.{wordsAt}
+use Rattle.cells.specs.Words.{wordsAt}
 
 -- so many words from a place on, then so many zeros
 unfoldable pub pieceAt : ℕ → ℕ → List ℕ → ℕ → List ℕ

@@ -18,8 +18,8 @@ fn put_piece(file: &[u8], at: usize, n: usize, m: usize, base: usize, out: &mut 
     requires { ⌜ (at + 4 * n ≤ length (now file)) × (base + n + m ≤ length (now out)) ⌝ }
     ensures { λ _. ⌜ now (out .exit) ≡ stored (now (out .entry)) base (pieceAt n m (now (file .entry)) at) ⌝ }
 {
-    b3d_rows::copy_run(file, at, n, base, out);
-    b3d_rows::put_same(0, m, base + n, out);
+    cells::copy_run(file, at, n, base, out);
+    cells::put_same(0, m, base + n, out);
 }
 
 // Four cells, n of them words.
@@ -55,15 +55,15 @@ fn zero_sets(n: usize, base: usize, out: &mut [u32])
     ensures { λ _. ⌜ now (out .exit) ≡ stored (now (out .entry)) base (replicate (n * 4) 0) ⌝ }
 {
     match n {
-        0 => b3d_rows::put_same(0, 0, base, out),
-        1 => b3d_rows::put_same(0, 4, base, out),
-        2 => b3d_rows::put_same(0, 8, base, out),
-        3 => b3d_rows::put_same(0, 12, base, out),
-        4 => b3d_rows::put_same(0, 16, base, out),
-        5 => b3d_rows::put_same(0, 20, base, out),
-        6 => b3d_rows::put_same(0, 24, base, out),
-        7 => b3d_rows::put_same(0, 28, base, out),
-        _ => b3d_rows::put_same(0, 32, base, out),
+        0 => cells::put_same(0, 0, base, out),
+        1 => cells::put_same(0, 4, base, out),
+        2 => cells::put_same(0, 8, base, out),
+        3 => cells::put_same(0, 12, base, out),
+        4 => cells::put_same(0, 16, base, out),
+        5 => cells::put_same(0, 20, base, out),
+        6 => cells::put_same(0, 24, base, out),
+        7 => cells::put_same(0, 28, base, out),
+        _ => cells::put_same(0, 32, base, out),
     }
 }
 

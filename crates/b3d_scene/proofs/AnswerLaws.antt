@@ -12,26 +12,27 @@ use Rattle.wire.specs.Test.{if}
 use Rattle.layout.specs.Out.{Out, got, bad, check, _>>=_}
 use Rattle.layout.proofs.Lists.{All, all-map}
 use Rattle.layout.proofs.Outs.{by-test, if-yes, if-no, by-check, by-got, bad-got, check-yes, got-inj}
+use Rattle.layout.specs.Rows.{eachOf, mostBytes}
 use Rattle.b3d_scene.specs.declared.Mode.{Mode}
 use Rattle.b3d_scene.specs.declared.Mode.the-variants.{Lenient}
 use Rattle.b3d_scene.proofs.Modes.{mode-got}
-use Rattle.b3d_scene.specs.Answers.{eachTable, firstNot, judge, read, roomFor, shortest, write, clear}
+use Rattle.b3d_scene.specs.Answers.{firstNot, judge, read, roomFor, shortest, write, clear}
 use Rattle.b3d_scene.specs.Encode.{encode}
 use Rattle.b3d_scene.specs.Parse.{parse}
 use Rattle.b3d_scene.specs.Rebuild.{Lent, rebuild}
-use Rattle.b3d_scene.specs.Rules.{rowLimit, mostBytes}
+use Rattle.b3d_scene.specs.Rules.{rowLimit}
 use Rattle.b3d_scene.specs.Scene.{Scene}
 use Rattle.b3d_scene.specs.Tables.{width, rows, tables}
 
 -- ---- ten tables, each within a bound
 
-each-got : (n : ℕ) (ok : ℕ → Bool) (ks : List ℕ) → eachTable n ok ks ≡ got tt → All (λ k. T (ok k)) ks
-unfolding eachTable
+each-got : (n : ℕ) (ok : ℕ → Bool) (ks : List ℕ) → eachOf n ok ks ≡ got tt → All (λ k. T (ok k)) ks
+unfolding eachOf
 each-got n ok [] e = tt
 each-got n ok (k ∷ ks) e = by-check (ok k) n k _ e (λ t e₁. (t, each-got n ok ks e₁))
 
-each-yes : (n : ℕ) (ok : ℕ → Bool) (ks : List ℕ) → All (λ k. T (ok k)) ks → eachTable n ok ks ≡ got tt
-unfolding eachTable
+each-yes : (n : ℕ) (ok : ℕ → Bool) (ks : List ℕ) → All (λ k. T (ok k)) ks → eachOf n ok ks ≡ got tt
+unfolding eachOf
 each-yes n ok [] h = refl
 each-yes n ok (k ∷ ks) h = rw (check-yes (ok k) n k (h .0)) (each-yes n ok ks (h .1))
 
@@ -42,16 +43,16 @@ check-no false n p t = refl
 
 -- the test holds of each just where the first without it is 0; else that is refused
 module _ (n : ℕ) (ok : ℕ → Bool) where
-  pub first-none : (ks : List ℕ) → All (λ k. 0 < k) ks → firstNot ok ks ≡ 0 → eachTable n ok ks ≡ got tt
-  unfolding firstNot eachTable
+  pub first-none : (ks : List ℕ) → All (λ k. 0 < k) ks → firstNot ok ks ≡ 0 → eachOf n ok ks ≡ got tt
+  unfolding firstNot eachOf
   first-none [] h e = refl
   first-none (k ∷ ks) h e =
       by-test (ok k)
       (λ t. rw (check-yes (ok k) n k t) (first-none ks (h .1) (sym (if-yes (ok k) (firstNot ok ks) k t) ∙ e)))
       (λ t. let z : k ≡ 0 = sym (if-no (ok k) (firstNot ok ks) k t) ∙ e in absurd (omega (arith, h .0)))
 
-  pub first-some : (ks : List ℕ) → (firstNot ok ks ≡ 0 → ⊥) → eachTable n ok ks ≡ bad n (firstNot ok ks)
-  unfolding firstNot eachTable
+  pub first-some : (ks : List ℕ) → (firstNot ok ks ≡ 0 → ⊥) → eachOf n ok ks ≡ bad n (firstNot ok ks)
+  unfolding firstNot eachOf
   first-some [] d = absurd (d refl)
   first-some (k ∷ ks) d =
       by-test (ok k)
@@ -71,11 +72,11 @@ module _ (n : ℕ) (size : ℕ → Scene → ℕ) (most : ℕ → ℕ) where
   Within t = All (λ k. size k t ≤ most k) tables
 
   abbrev held : Scene → Out Scene
-  held t = eachTable n (λ k. leb (size k t) (most k)) tables >>= λ x. got t
+  held t = eachOf n (λ k. leb (size k t) (most k)) tables >>= λ x. got t
 
   within-got : (m : Out Scene) (t : Scene) → (m >>= held) ≡ got t → (m ≡ got t) × Within t
   within-got m t e =
-      by-got m _ e (λ u eu e₁. by-got (eachTable n _ tables) _ e₁ (λ x ex e₂.
+      by-got m _ e (λ u eu e₁. by-got (eachOf n _ tables) _ e₁ (λ x ex e₂.
       subst (λ (v : Scene). (m ≡ got v) × Within v) (got-inj e₂)
       (eu, all-map (λ k. T (leb (size k u) (most k))) _ (λ k. leb→le (size k u) (most k)) tables (each-got n _ tables ex))))
 

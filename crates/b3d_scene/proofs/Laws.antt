@@ -12,13 +12,13 @@ use Rattle.wire.specs.Bytes.{AllBytes, wordAt}
 use Rattle.layout.specs.Out.{got, bad}
 use Rattle.layout.specs.Rules.{unit, holds}
 use Rattle.layout.proofs.RefusalLaws.{OneToNine}
+use Rattle.layout.specs.Rows.{mostBytes}
 use Rattle.b3d_scene.specs.declared.Mode.{Mode}
 use Rattle.b3d_scene.specs.declared.Mode.the-variants.{Strict, Lenient}
 use Rattle.b3d_scene.specs.Scene.{Scene}
 use Rattle.b3d_scene.specs.Colours.{passes}
 use Rattle.b3d_scene.specs.Rebuild.{Lent, lentRows, rebuild}
 use Rattle.b3d_scene.specs.Tables.{rows}
-use Rattle.b3d_scene.specs.Rules.{mostBytes}
 use Rattle.b3d_scene.specs.Parse.{parse}
 use Rattle.b3d_scene.specs.Encode.{encode}
 use Rattle.b3d_scene.specs.Names.{bare, cleared}

@@ -15,13 +15,14 @@ use Rattle.layout.specs.Out.{Out, got, bad, check, _>>=_}
 use Rattle.layout.specs.Parts.{Step, text, words, judged, row, number, named, itemsIn, items}
 use Rattle.layout.specs.Rules.{Rule, holds, refusal}
 use Rattle.layout.proofs.Lists.{All}
+use Rattle.layout.specs.Rows.{eachOf, sizeFits, mostBytes}
 use Rattle.b3d_scene.specs.declared.Mode.{Mode}
 use Rattle.b3d_scene.specs.declared.Tag.{Tag}
 use Rattle.b3d_scene.specs.declared.Tag.the-variants.{BB3D, TEXS, BRUS, NODE, MESH, VRTS, BONE, KEYS, ANIM}
-use Rattle.b3d_scene.specs.Answers.{eachTable, judge, read}
+use Rattle.b3d_scene.specs.Answers.{judge, read}
 use Rattle.b3d_scene.specs.Nesting.{nesting, Reached, start, owed, end, next, onward, order, inside}
 use Rattle.b3d_scene.specs.Parse.{readOne, readTexture, readTextures, readBrush, readBrushes, noVertices, readVertices, readTriangles, readSets, readMesh, readBone, readKeys, filled, readAnim, aMesh, aBone, readKind, withKeys, readMoves, Inner, readNodes, readBelow, readNode, readRoot, readBody, parse}
-use Rattle.b3d_scene.specs.Rules.{header, fileHead, textureRow, brushesHead, brushRow, brushIds, nodeRow, meshHead, verticesHead, vertexRow, trianglesHead, triangleRow, weightRow, keysHead, keyRow, animRow, boneVertices, bonesBelow, levels, fileSize, mostBytes}
+use Rattle.b3d_scene.specs.Rules.{header, fileHead, textureRow, brushesHead, brushRow, brushIds, nodeRow, meshHead, verticesHead, vertexRow, trianglesHead, triangleRow, weightRow, keysHead, keyRow, animRow, boneVertices, bonesBelow, levels}
 use Rattle.b3d_scene.specs.Scene.{Anim, still, anim, Data, leaf, Scene}
 use Rattle.b3d_scene.specs.Tables.{tables}
 use Rattle.b3d_scene.specs.Tags.{code, tagOf, is, Chunks, split, Found}
@@ -304,8 +305,8 @@ body-low mode p b h =
     ended-low (n .rest) _ hn))))
 
 -- the number of a table
-each-low : (n : ℕ) (ok : ℕ → Bool) (ks : List ℕ) → All (λ k. k ≤ mostBytes) ks → Low Any (eachTable n ok ks)
-unfolding eachTable
+each-low : (n : ℕ) (ok : ℕ → Bool) (ks : List ℕ) → All (λ k. k ≤ mostBytes) ks → Low Any (eachOf n ok ks)
+unfolding eachOf
 each-low n ok [] h = tt
 each-low n ok (k ∷ ks) h = bind-low Any Any (check (ok k) n k) _ (check-low (ok k) n k (h .0)) (λ u _. each-low n ok ks (h .1))
 
@@ -320,7 +321,7 @@ size-low false m h = omega arith
 parse-low : (mode : Mode) (s : List ℕ) → Low Any (parse mode s)
 unfolding parse
 parse-low mode s =
-    size-low (fileSize (length s)) _ (λ t.
+    size-low (sizeFits (length s)) _ (λ t.
     bind-low Left Any (row header 0 s) _ (row-low header 0 s (omega (arith, size-bound (length s) t))) (λ x hx.
     bind-low Any Any (check (eqb (number x 0) (code BB3D)) 2 0) _ (check-low (eqb (number x 0) (code BB3D)) 2 0 (omega arith)) (λ u _.
     bind-low Any Any (check (eqb (number x 1) (length (x .left))) 2 4) _ (check-low (eqb (number x 1) (length (x .left))) 2 4 (omega arith)) (λ v _.
@@ -330,7 +331,7 @@ judge-low : (mode : Mode) (s : List ℕ) → Low Any (judge mode s)
 unfolding judge
 judge-low mode s =
     bind-low Any Any (parse mode s) _ (parse-low mode s) (λ t _.
-    bind-low Any Any (eachTable 10 _ tables) _ (each-low 10 _ tables (each-table (λ k. k ≤ mostBytes) (λ k a b. omega arith))) (λ u _. tt))
+    bind-low Any Any (eachOf 10 _ tables) _ (each-low 10 _ tables (each-table (λ k. k ≤ mostBytes) (λ k a b. omega arith))) (λ u _. tt))
 
 pub judge-place : (mode : Mode) (s : List ℕ) (n p : ℕ) → judge mode s ≡ bad n p → p ≤ mostBytes
 judge-place mode s n p e = subst (λ (o : Out Scene). Low Any o) e (judge-low mode s)
@@ -345,8 +346,8 @@ bind-numbered : {A B : Type 0} (m : Out A) (k : A → Out B) → Numbered m → 
 bind-numbered (got a) k h f = f a
 bind-numbered (bad n p) k h f = h
 
-each-numbered : (n : ℕ) (ok : ℕ → Bool) (ks : List ℕ) → 1 ≤ n → Numbered (eachTable n ok ks)
-unfolding eachTable check
+each-numbered : (n : ℕ) (ok : ℕ → Bool) (ks : List ℕ) → 1 ≤ n → Numbered (eachOf n ok ks)
+unfolding eachOf check
 each-numbered n ok [] h = tt
 each-numbered n ok (k ∷ ks) h = bind-numbered (check (ok k) n k) _ (one (ok k)) (λ u. each-numbered n ok ks h)
   where
@@ -364,8 +365,8 @@ parse-numbered mode s = go (parse mode s) (λ n p e. parse-refusal mode s n p e 
 read-numbered : (mode : Mode) (room : ℕ → ℕ) (s : List ℕ) → Numbered (read mode room s)
 unfolding read judge
 read-numbered mode room s =
-    bind-numbered (judge mode s) _ (bind-numbered (parse mode s) _ (parse-numbered mode s) (λ t. bind-numbered (eachTable 10 _ tables) _ (each-numbered 10 _ tables (omega arith)) (λ u. tt)))
-    (λ t. bind-numbered (eachTable 11 _ tables) _ (each-numbered 11 _ tables (omega arith)) (λ u. tt))
+    bind-numbered (judge mode s) _ (bind-numbered (parse mode s) _ (parse-numbered mode s) (λ t. bind-numbered (eachOf 10 _ tables) _ (each-numbered 10 _ tables (omega arith)) (λ u. tt)))
+    (λ t. bind-numbered (eachOf 11 _ tables) _ (each-numbered 11 _ tables (omega arith)) (λ u. tt))
 
 pub read-number : (mode : Mode) (room : ℕ → ℕ) (s : List ℕ) (n p : ℕ) → read mode room s ≡ bad n p → 1 ≤ n
 read-number mode room s n p e = subst (λ (o : Out Scene). Numbered o) e (read-numbered mode room s)

@@ -9,4 +9,3 @@ pub mod Trees
 pub mod RebuildLaws
 pub mod CountLaws
 pub mod Rename
-pub mod FillLaws

@@ -9,10 +9,11 @@ use lib.Dec.{leb}
 use Rattle.wire.specs.Bytes.{over}
 use Rattle.wire.specs.Test.{if}
 use Rattle.layout.specs.Out.{Out, got, bad, check, _>>=_}
+use Rattle.layout.specs.Rows.{eachOf, mostBytes}
 use Rattle.b3d_scene.specs.declared.Mode.{Mode}
 use Rattle.b3d_scene.specs.declared.Mode.the-variants.{Lenient}
 use Rattle.b3d_scene.specs.Scene.{Scene}
-use Rattle.b3d_scene.specs.Rules.{rowLimit, mostBytes}
+use Rattle.b3d_scene.specs.Rules.{rowLimit}
 use Rattle.b3d_scene.specs.Parse.{parse}
 use Rattle.b3d_scene.specs.Encode.{encode}
 use Rattle.b3d_scene.specs.Names.{cleared}
@@ -20,13 +21,6 @@ use Rattle.b3d_scene.specs.Tables.{width, rows, table, tables, counts}
 use Rattle.b3d_scene.specs.Rebuild.{Lent, rebuild}
 use Rattle.b3d_scene.specs.declared.Answer.{Answer}
 use Rattle.b3d_scene.specs.declared.Written.{Written}
-
--- go on where the test holds of each of these tables, else refuse at the first of which it does not
-unfoldable pub eachTable : ℕ → (ℕ → Bool) → List ℕ → Out (Unit {0})
-eachTable n ok [] = got tt
-eachTable n ok (k ∷ ks) = do
-  _ ← check (ok k) n k
-  eachTable n ok ks
 
 -- of these tables the first of which the test does not hold, by its number; 0 where there is none
 unfoldable pub firstNot : (ℕ → Bool) → List ℕ → ℕ
@@ -39,14 +33,14 @@ firstNot ok (k ∷ ks) = if (ok k) (firstNot ok ks) k
 unfoldable pub judge : Mode → List ℕ → Out Scene
 judge mode s = do
   t ← parse mode s
-  _ ← eachTable 10 (λ k. leb (length (rows k t)) rowLimit) tables
+  _ ← eachOf 10 (λ k. leb (length (rows k t)) rowLimit) tables
   got t
 
 -- the same with lent tables, table k of room k words
 unfoldable pub read : Mode → (ℕ → ℕ) → List ℕ → Out Scene
 read mode room s = do
   t ← judge mode s
-  _ ← eachTable 11 (λ k. leb (width k * length (rows k t)) (room k)) tables
+  _ ← eachOf 11 (λ k. leb (width k * length (rows k t)) (room k)) tables
   got t
 
 unfoldable pub answer : Out Scene → Answer

@@ -9,8 +9,9 @@ use Rattle.wire.specs.Test.{if}
 use Rattle.layout.specs.Chunks.{done, stop, chunk, ended}
 use Rattle.layout.specs.Out.{Out, got, bad, check, _>>=_}
 use Rattle.layout.specs.Parts.{Step, row, number, named, items}
+use Rattle.layout.specs.Rows.{sizeFits}
 use Rattle.b3d_scene.specs.Nesting.{inside}
-use Rattle.b3d_scene.specs.Rules.{textureRow, brushRow, brushIds, nodeRow, vertexRow, triangleRow, weightRow, keyRow, animRow, boneVertices, bonesBelow, levels, fileSize, header, fileHead, brushesHead, meshHead, verticesHead, trianglesHead, keysHead}
+use Rattle.b3d_scene.specs.Rules.{textureRow, brushRow, brushIds, nodeRow, vertexRow, triangleRow, weightRow, keyRow, animRow, boneVertices, bonesBelow, levels, header, fileHead, brushesHead, meshHead, verticesHead, trianglesHead, keysHead}
 use Rattle.b3d_scene.specs.Scene.{Texture, Brush, TriangleSet, Mesh, Kind, pivot, mesh, bone, Keys, Anim, still, anim, Data, Forest, leaf, node, Scene}
 use Rattle.b3d_scene.specs.declared.Mode.{Mode}
 use Rattle.b3d_scene.specs.declared.Tag.{Tag}
@@ -208,7 +209,7 @@ readBody mode p b = do
 -- a file: one BB3D, whose length is that of the bytes after its header
 unfoldable pub parse : Mode → List ℕ → Out Scene
 parse mode s = do
-  _ ← check (fileSize (length s)) 1 0
+  _ ← check (sizeFits (length s)) 1 0
   h ← row header 0 s
   _ ← check (eqb (number h 0) (code BB3D)) 2 0
   _ ← check (eqb (number h 1) (length (h .left))) 2 4

@@ -155,13 +155,6 @@ bonesBelow above d = bonesFrom above (animated (d .anim)) (ownVertices (d .kind)
 abbrev pub levels : ℕ
 levels = 16
 
--- the bytes of a file
-abbrev pub mostBytes : ℕ
-mostBytes = 16777216
-
-abbrev pub fileSize : ℕ → Bool
-fileSize n = leb 12 n && leb n mostBytes
-
 -- the rows of a table
 abbrev pub rowLimit : ℕ
 rowLimit = 2097151

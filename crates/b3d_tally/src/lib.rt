@@ -2,7 +2,7 @@
 // is the rows of its tables and the size of its copy (proofs/Totals).
 ghost use Prim.Native.Nat.{_≤_};
 ghost use mathlib.Core.Path.{_≡_};
-ghost use Rattle.b3d_scene.specs.Rules.{mostBytes};
+ghost use Rattle.layout.specs.Rows.{mostBytes};
 ghost use Rattle.b3d_tally.specs.Tally.{noTally, bytesTally, headTally, verticesTally, trianglesTally, weightsTally, keysTally, plus, Within, texsOf, brusOf};
 
 // Rows of the ten tables, and bytes of the cleared copy.

@@ -8,7 +8,7 @@ use lib.Dec.{ltb, ltb→lt, nltb→le}
 use lib.Seq.{sets, length-sets, set-out, sets-eq}
 use Rattle.wire.specs.Bytes.{over}
 use Rattle.layout.proofs.Outs.{by-test}
-use Rattle.b3d_scene.proofs.Rows.FillLaws.{sets-append}
+use Rattle.cells.proofs.Storing.{sets-append}
 use Rattle.b3d_text.specs.Puts.{Puts}
 
 -- what goes to the end or past it changes nothing

@@ -16,7 +16,7 @@ use Rattle.b3d_scene.specs.declared.Tag.{Tag}
 use Rattle.b3d_scene.specs.Tables.{start, words}
 use Rattle.b3d_scene.specs.Tags.{is, split, tagOf}
 use Rattle.b3d_scene.proofs.Rows.CountLaws.{words-append}
-use Rattle.b3d_rows.proofs.Storing.{Storing, store-run, store-done}
+use Rattle.cells.proofs.Storing.{Storing, store-run, store-done}
 use Rattle.b3d_file_rows.specs.Flat.{rest, flatAt}
 use Rattle.b3d_file_rows.specs.Rows.{counted, chunkRows, flatRows, fileRows}
 use Rattle.b3d_file_rows.proofs.Run.{run-done}

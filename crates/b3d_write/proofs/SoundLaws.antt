@@ -17,7 +17,7 @@ use Rattle.b3d_scene.specs.declared.Mode.{Mode}
 use Rattle.b3d_scene.specs.Answers.{shortest}
 use Rattle.b3d_scene.specs.Encode.{encode}
 use Rattle.b3d_scene.specs.Rebuild.{Lent, cut, lentRows, together, rebuild}
-use Rattle.b3d_scene.specs.Rules.{mostBytes, rowLimit, levels}
+use Rattle.b3d_scene.specs.Rules.{rowLimit, levels}
 use Rattle.b3d_scene.specs.Scene.{Brush, Scene}
 use Rattle.b3d_scene.specs.Tables.{width, start, forestRows, rows, tables, nodeTables}
 use Rattle.b3d_scene.proofs.Fitting.{FitSlots, Fit}

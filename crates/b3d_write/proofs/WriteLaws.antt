@@ -11,6 +11,7 @@ use lib.Dec.{leb, leb→le, nleb→lt}
 use borrow.Author.Tests.{lt-leb, le-leb}
 use Rattle.layout.specs.Out.{Out, got, bad, check, _>>=_}
 use Rattle.layout.proofs.Outs.{by-test}
+use Rattle.layout.specs.Rows.{mostBytes}
 use Rattle.emit.specs.Writing.{Room, Put}
 use Rattle.b3d_scene.specs.declared.Counts.{Counts}
 use Rattle.b3d_scene.specs.declared.Mode.{Mode}
@@ -18,7 +19,6 @@ use Rattle.b3d_scene.specs.declared.Written.{Written}
 use Rattle.b3d_scene.specs.Answers.{shortest, roomFor, write, written, outputAfter, writeAnswer, writeOutput}
 use Rattle.b3d_scene.specs.Encode.{encode}
 use Rattle.b3d_scene.specs.Rebuild.{Lent, rebuild}
-use Rattle.b3d_scene.specs.Rules.{mostBytes}
 use Rattle.b3d_scene.specs.Scene.{Scene}
 use Rattle.b3d_scene.specs.Tables.{nodeWidth}
 use Rattle.b3d_check.specs.Lent.{lentOf, partCounts}

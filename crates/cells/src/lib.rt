@@ -1,10 +1,11 @@
-// Words written into a lent table, whatever the format: cells at hand, and words of the file as they stand.
+// Words written into a lent table, whatever the format: cells at hand, one value again and again, words of the file as they stand.
 ghost use mathlib.Core.Path.{_≡_};
 ghost use Prim.Native.Nat.{ℕ, _+_, _*_, _<_, _≤_};
-ghost use lib.ListN.{length};
+ghost use lib.ListN.{length, replicate};
 ghost use lib.Seq.{sets as stored};
 ghost use Rattle.wire.specs.Cursors.{Inside, left};
 ghost use Rattle.layout.specs.Parts.{wordsOf};
+ghost use Rattle.cells.specs.Words.{wordsAt};
 use wire::Cursor;
 
 // A number as a cell.
@@ -28,16 +29,36 @@ pub fn put_cells(out: &mut [u32], base: usize, cells: &[u32])
     }
 }
 
-// So many words of the file, from word `base` of the table on.
+// So many cells of one value, from word `base` of the table on.
+pub fn put_same(v: u32, n: usize, base: usize, out: &mut [u32])
+    requires { ⌜ base + n ≤ length (now out) ⌝ }
+    ensures { λ _. ⌜ now (out .exit) ≡ stored (now (out .entry)) base (replicate n v) ⌝ }
+{
+    let mut i: usize = 0;
+    while i < n {
+        let o = base + i;
+        out[o] = v;
+        i += 1;
+    }
+}
+
+// So many words from a place of the file on, from word `base` of the table on.
+pub fn copy_run(file: &[u8], at: usize, n: usize, base: usize, out: &mut [u32])
+    requires { ⌜ (at + 4 * n ≤ length (now file)) × (base + n ≤ length (now out)) ⌝ }
+    ensures { λ _. ⌜ now (out .exit) ≡ stored (now (out .entry)) base (wordsAt n (now (file .entry)) at) ⌝ }
+{
+    let mut i: usize = 0;
+    while i < n {
+        let o = base + i;
+        out[o] = wire::number_at(file, at + 4 * i);
+        i += 1;
+    }
+}
+
+// So many words of the file that a cursor has left, from word `base` of the table on.
 pub fn copy_words(file: &[u8], c: Cursor, n: usize, base: usize, out: &mut [u32])
     requires { ⌜ Inside c (length (now file)) × (c .at + 4 * n ≤ c .end) × (base + n ≤ length (now out)) ⌝ }
     ensures { λ _. ⌜ now (out .exit) ≡ stored (now (out .entry)) base (wordsOf n (left c (now (file .entry)))) ⌝ }
 {
-    let start = c.at;
-    let mut i: usize = 0;
-    while i < n {
-        let o = base + i;
-        out[o] = wire::number_at(file, start + 4 * i);
-        i += 1;
-    }
+    copy_run(file, c.at, n, base, out);
 }

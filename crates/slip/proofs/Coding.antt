@@ -13,7 +13,7 @@ use Rattle.groups.specs.Groups.{groups, groupsOf, writeNumbers}
 use Rattle.groups.specs.Puts.{PutAt}
 use Rattle.groups.proofs.Fronts.{groups-append, groups-length}
 use Rattle.b3d_scene.specs.Rules.{rowLimit}
-use Rattle.b3d_scene.proofs.Rows.FillLaws.{sets-append}
+use Rattle.cells.proofs.Storing.{sets-append}
 use Rattle.slip.specs.Slips.{limits, limitAt, firstOver, limitsWithin}
 
 -- ---- `most`

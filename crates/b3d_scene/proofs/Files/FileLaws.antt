@@ -19,12 +19,13 @@ use Rattle.layout.proofs.Fitting.{Fits}
 use Rattle.layout.proofs.Lists.{All}
 use Rattle.layout.proofs.Outs.{check-yes, by-check, if-no, by-if, by-got, bad-got, got-inj}
 use Rattle.layout.proofs.PartLaws.{length-words, length-fits, row-back, row-fine}
+use Rattle.layout.specs.Rows.{sizeFits}
 use Rattle.b3d_scene.specs.declared.Mode.the-variants.{Lenient}
 use Rattle.b3d_scene.specs.Encode.{writeTexture, writeBrush, writeNode, nodeChunks, textureChunks, brushChunks, writeScene, encode}
 use Rattle.b3d_scene.specs.Names.{renameTexture, renameBrush, renameForest, rename, bareName, bare}
 use Rattle.b3d_scene.specs.Nesting.{inside}
 use Rattle.b3d_scene.specs.Parse.{readTextures, readBrushes, Inner, readNode, readRoot, readOne, slotsOf, readBody, parse}
-use Rattle.b3d_scene.specs.Rules.{version, bonesBelow, levels, fileSize, header, fileHead}
+use Rattle.b3d_scene.specs.Rules.{version, bonesBelow, levels, header, fileHead}
 use Rattle.b3d_scene.specs.Scene.{Texture, Brush, Data, Forest, leaf, node, Scene}
 use Rattle.b3d_scene.specs.declared.Tag.{Tag}
 use Rattle.b3d_scene.specs.declared.Tag.the-variants.{BB3D, TEXS, BRUS, NODE}
@@ -156,13 +157,13 @@ and-right : (a b : Bool) → T (a && b) → T b
 and-right true b t = t
 and-right false b t = absurd t
 
-pub size-yes : (n : ℕ) → 12 ≤ n → n ≤ 16777216 → T (fileSize n)
+pub size-yes : (n : ℕ) → 12 ≤ n → n ≤ 16777216 → T (sizeFits n)
 size-yes n a b = and-both (leb 12 n) (leb n 16777216) (le→leb 12 n a) (le→leb n 16777216 b)
 
-pub size-low : (n : ℕ) → T (fileSize n) → 12 ≤ n
+pub size-low : (n : ℕ) → T (sizeFits n) → 12 ≤ n
 size-low n t = leb→le 12 n (and-left (leb 12 n) (leb n 16777216) t)
 
-pub size-bound : (n : ℕ) → T (fileSize n) → n ≤ 16777216
+pub size-bound : (n : ℕ) → T (sizeFits n) → n ≤ 16777216
 size-bound n t = leb→le n 16777216 (and-right (leb 12 n) (leb n 16777216) t)
 
 pub length-encode : (t : Scene) → length (encode t) ≡ 8 + length (writeScene t)
@@ -182,7 +183,7 @@ parse-back t h n =
     let y = body-back t h (omega arith) (x .0) in (
       y .0,
       rw (
-        check-yes (fileSize (length (encode t))) 1 0 (size-yes (length (encode t)) (omega arith) n),
+        check-yes (sizeFits (length (encode t))) 1 0 (size-yes (length (encode t)) (omega arith) n),
         x .1,
         check-yes (eqb (code BB3D) (code BB3D)) 2 0 tt,
         check-yes (eqb (length b) (length b)) 2 4 (eqb-refl (length b)),
@@ -291,7 +292,7 @@ body-fine p s t h e =
 pub parse-fine : (s : List ℕ) (t : Scene) → AllBytes s → parse Lenient s ≡ got t → Fit t × (length (encode t) ≤ length s)
 unfolding parse
 parse-fine s t h e =
-    by-check (fileSize (length s)) 1 0 _ e (λ z e₁. let lo = size-low (length s) z in
+    by-check (sizeFits (length s)) 1 0 _ e (λ z e₁. let lo = size-low (length s) z in
     by-got (row header 0 s) _ e₁ (λ x ex e₂. let f = row-fine header 0 s x h ex in
     by-check (eqb (getD (x .value) 0 0) (code BB3D)) 2 0 _ e₂ (λ u e₃.
     by-check (eqb (getD (x .value) 1 0) (length (x .left))) 2 4 _ e₃ (λ v e₄. let g = body-fine (x .place) (x .left) t (f .bytes) e₄ in
@@ -300,4 +301,4 @@ parse-fine s t h e =
 
 pub parse-size : (s : List ℕ) (t : Scene) → parse Lenient s ≡ got t → length s ≤ 16777216
 unfolding parse
-parse-size s t e = by-check (fileSize (length s)) 1 0 _ e (λ u e₁. size-bound (length s) u)
+parse-size s t e = by-check (sizeFits (length s)) 1 0 _ e (λ u e₁. size-bound (length s) u)

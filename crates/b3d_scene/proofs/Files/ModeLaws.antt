@@ -18,6 +18,7 @@ use Rattle.layout.specs.Rules.{Rule, any, unit, holds}
 use Rattle.layout.proofs.HeldLaws.{and-assoc, and-true, Held, same-held, held-as, first-held, bind-held, then-held, map-held, loose, strictly, passes as passesRules, passes-any, passes-unit, Says, row-held, named-held, items-held}
 use Rattle.layout.proofs.Outs.{by-got, got-inj}
 use Rattle.layout.proofs.PlaceLaws.{At, Stands, Stays, row-at, named-at}
+use Rattle.layout.specs.Rows.{sizeFits}
 use Rattle.b3d_scene.specs.Colours.{coloured, passes}
 use Rattle.b3d_scene.specs.declared.Mode.the-variants.{Strict, Lenient}
 use Rattle.b3d_scene.specs.declared.Tag.{Tag}
@@ -26,7 +27,7 @@ use Rattle.b3d_scene.specs.declared.Counts.{Counts}
 use Rattle.b3d_scene.specs.Mask.{mask, spread, vertexHas, vertexMask}
 use Rattle.b3d_scene.specs.Nesting.{inside}
 use Rattle.b3d_scene.specs.Parse.{readOne, readTextures, readBrush, readBrushes, Vertices, noVertices, readVertices, readSets, readMesh, readBone, aMesh, aBone, readKind, Moves, readMoves, Inner, readNodes, readBelow, readNode, readRoot, slotsOf, readBody, parse}
-use Rattle.b3d_scene.specs.Rules.{textureId, when, vertexWords, brushRow, brushIds, vertexRow, nodeRow, header, fileHead, brushesHead, meshHead, verticesHead, boneVertices, bonesBelow, levels, fileSize}
+use Rattle.b3d_scene.specs.Rules.{textureId, when, vertexWords, brushRow, brushIds, vertexRow, nodeRow, header, fileHead, brushesHead, meshHead, verticesHead, boneVertices, bonesBelow, levels}
 use Rattle.b3d_scene.specs.Scene.{Brush, Mesh, Kind, pivot, mesh, bone, Anim, still, Data, Forest, leaf, node, Scene}
 use Rattle.b3d_scene.specs.Tables as tables
 use Rattle.b3d_scene.specs.Tables.{nameCells, meshesOf, vertexRows, meshRows, ownRows, withNode, withForest, forestRows, rows, nodesIn}
@@ -348,7 +349,7 @@ module _ (file : List ℕ) where
 pub parse-held : (s : List ℕ) → Held s (λ t. passes Strict (λ k. rows k t)) (parse Strict s) (parse Lenient s)
 unfolding parse
 parse-held s =
-    first-held s _ (check (fileSize (length s)) 1 0) _ _ (λ _ e.
+    first-held s _ (check (sizeFits (length s)) 1 0) _ _ (λ _ e.
     first-held s _ (row header 0 s) _ _ (λ h eh.
     first-held s _ (check (eqb (number h 0) (code BB3D)) 2 0) _ _ (λ _ e₁.
     first-held s _ (check (eqb (number h 1) (length (h .left))) 2 4) _ _ (λ _ e₂.

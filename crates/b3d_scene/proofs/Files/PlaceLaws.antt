@@ -16,12 +16,13 @@ use Rattle.layout.proofs.Outs.{by-check, by-if, by-got, bad-got, got-inj}
 use Rattle.b3d_scene.specs.declared.Mode.the-variants.{Lenient}
 use Rattle.b3d_scene.specs.Nesting.{nesting, Reached, start, owed, end, next, onward, order, inside}
 use Rattle.b3d_scene.specs.Parse.{readTexture, readTextures, readBrush, readBrushes, readMesh, readBone, readKeys, readAnim, aMesh, aBone, readKind, Moves, withKeys, readMoves, Inner, readNodes, readBelow, readNode, readRoot, readOne, readBody, parse}
-use Rattle.b3d_scene.specs.Rules.{textureRow, brushRow, brushIds, nodeRow, boneVertices, bonesBelow, levels, fileSize, header, fileHead, brushesHead}
+use Rattle.b3d_scene.specs.Rules.{textureRow, brushRow, brushIds, nodeRow, boneVertices, bonesBelow, levels, header, fileHead, brushesHead}
 use Rattle.b3d_scene.specs.Scene.{Texture, Brush, Kind, Anim, still, anim, Data, Forest, leaf, node, Scene}
 use Rattle.b3d_scene.specs.declared.Tag.{Tag}
 use Rattle.b3d_scene.specs.declared.Tag.the-variants.{BB3D, TEXS, BRUS, NODE, MESH, BONE, KEYS, ANIM}
 use Rattle.b3d_scene.specs.Tags.{code, tagOf, is, Chunks, split, Found}
 use Rattle.layout.proofs.PlaceLaws.{At, NameIn, Stands, Stays, row-at, named-at, items-at, split-at}
+use Rattle.layout.specs.Rows.{sizeFits}
 
 abbrev pub NodeNames : List ℕ → Forest → Type 0
 NodeNames s leaf = Unit {0}
@@ -167,7 +168,7 @@ module _ (s : List ℕ) where
   pub parse-names : (t : Scene) → parse Lenient s ≡ got t → NamesIn s t
   unfolding parse
   parse-names t e =
-      by-check (fileSize (length s)) 1 0 _ e (λ z e₁.
+      by-check (sizeFits (length s)) 1 0 _ e (λ z e₁.
       by-got (row header 0 s) _ e₁ (λ x ex e₂.
       by-check (eqb (number x 0) (code BB3D)) 2 0 _ e₂ (λ u e₃.
       by-check (eqb (number x 1) (length (x .left))) 2 4 _ e₃ (λ v e₄.

@@ -13,12 +13,13 @@ use Rattle.layout.specs.Rules.{Rule}
 use Rattle.b3d_scene.specs.declared.Mode.{Mode}
 use Rattle.b3d_scene.specs.Nesting.{nesting, Reached, start, owed, end, next, onward, order, inside}
 use Rattle.b3d_scene.specs.Parse.{readOne, readTexture, readTextures, readBrush, readBrushes, Vertices, noVertices, readVertices, readTriangles, readSets, readMesh, readBone, readKeys, filled, readAnim, aMesh, aBone, readKind, Moves, withKeys, readMoves, Inner, readNodes, readBelow, readNode, readRoot, readBody, parse}
-use Rattle.b3d_scene.specs.Rules.{header, fileHead, textureRow, brushesHead, brushRow, brushIds, nodeRow, meshHead, verticesHead, vertexRow, trianglesHead, triangleRow, weightRow, keysHead, keyRow, animRow, boneVertices, bonesBelow, levels, fileSize}
+use Rattle.b3d_scene.specs.Rules.{header, fileHead, textureRow, brushesHead, brushRow, brushIds, nodeRow, meshHead, verticesHead, vertexRow, trianglesHead, triangleRow, weightRow, keysHead, keyRow, animRow, boneVertices, bonesBelow, levels}
 use Rattle.b3d_scene.specs.Scene.{Texture, Brush, Kind, Anim, still, anim, Data, Forest, leaf, Scene}
 use Rattle.b3d_scene.specs.declared.Tag.{Tag}
 use Rattle.b3d_scene.specs.declared.Tag.the-variants.{BB3D, TEXS, BRUS, NODE, MESH, VRTS, BONE, KEYS, ANIM}
 use Rattle.b3d_scene.specs.Tags.{code, tagOf, is, Chunks, split, Found}
 use Rattle.layout.proofs.RefusalLaws.{OneToNine, Fair, bind-sane, bind-fair, if-sane, check-fair, row-fair, named-fair, items-fair, SaneC, Rests, if-chunks, split-sane, ended-fair}
+use Rattle.layout.specs.Rows.{sizeFits}
 
 onward-sane : (o : Option Reached) (p : ℕ) (go : Reached → Chunks) → ((r : Reached) → SaneC (go r)) → SaneC (onward o p go)
 unfolding onward
@@ -169,7 +170,7 @@ body-fair mode p b =
 parse-fair : (mode : Mode) (s : List ℕ) → Fair (parse mode s)
 unfolding parse
 parse-fair mode s =
-    bind-fair _ (check (fileSize (length s)) 1 0) _ (check-fair (fileSize (length s)) 1 0 (omega arith, omega arith)) (λ u.
+    bind-fair _ (check (sizeFits (length s)) 1 0) _ (check-fair (sizeFits (length s)) 1 0 (omega arith, omega arith)) (λ u.
     bind-fair _ (row header 0 s) _ (row-fair header 0 s) (λ h.
     bind-fair _ (check (eqb (number h 0) (code BB3D)) 2 0) _ (check-fair (eqb (number h 0) (code BB3D)) 2 0 (omega arith, omega arith)) (λ v.
     bind-fair _ (check (eqb (number h 1) (length (h .left))) 2 4) _ (check-fair (eqb (number h 1) (length (h .left))) 2 4 (omega arith, omega arith)) (λ w. body-fair mode (h .place) (h .left)))))

@@ -1,9 +1,9 @@
 -- `put_same` stores one value again and again. The loop has stored those before i; its measure is how many are left.
 use Prim.Native.Nat.{_-_}
-use Rattle.b3d_rows.proofs.Copies.{Repeating, repeating}
+use Rattle.cells.proofs.Copying.{Repeating, repeating}
 use borrow.Author.Needs.{needs}
-use Rattle.b3d_rows.proofs.put_same.Statement.{statement}
-use Rattle.b3d_rows.proofs.put_same.Tie as tie
+use Rattle.cells.proofs.put_same.Statement.{statement}
+use Rattle.cells.proofs.put_same.Tie as tie
 
 abbrev Inv-loop : tie.InvT-loop
 Inv-loop v n base out₀ i₀ out i = Repeating v n base out₀ out i

@@ -1,9 +1,9 @@
 -- `copy_run` stores words of the file. The loop has stored those before i; its measure is how many are left.
 use Prim.Native.Nat.{_-_}
 use borrow.Author.Needs.{needs}
-use Rattle.b3d_rows.proofs.Copies.{Copying, copying}
-use Rattle.b3d_rows.proofs.copy_run.Statement.{statement}
-use Rattle.b3d_rows.proofs.copy_run.Tie as tie
+use Rattle.cells.proofs.Copying.{Copying, copying}
+use Rattle.cells.proofs.copy_run.Statement.{statement}
+use Rattle.cells.proofs.copy_run.Tie as tie
 
 abbrev Inv-loop : tie.InvT-loop
 Inv-loop file at n base out₀ i₀ out i = Copying file at n base out₀ out i

@@ -1,2 +1,0 @@
--- Words of the file by their place.
-pub mod Words
