@@ -10,12 +10,13 @@ use Rattle.wire.specs.Bytes.{AllBytes}
 use Rattle.wire.specs.Test.{if}
 use Rattle.layout.specs.Out.{got}
 use Rattle.layout.specs.Rules.{NONE}
+use Rattle.layout.specs.Rows.{nameCells}
 use Rattle.b3d_scene.specs.declared.Counts.{Counts}
 use Rattle.b3d_scene.specs.declared.Mode.{Mode}
 use Rattle.b3d_scene.specs.Answers.{judge}
 use Rattle.b3d_scene.specs.Rules.{bonesBelow, boneVertices, levels}
 use Rattle.b3d_scene.specs.Scene.{Forest, leaf, node}
-use Rattle.b3d_scene.specs.Tables.{start, nameCells, nodeRow, nodesIn, ownRows, withNode, withForest, forestRows, rows, tables, nodeTables}
+use Rattle.b3d_scene.specs.Tables.{start, nodeRow, nodesIn, ownRows, withNode, withForest, forestRows, rows, tables, nodeTables}
 use Rattle.b3d_scene.proofs.AnswerLaws.{judge-got}
 use Rattle.b3d_scene.proofs.Fitting.{FitNodes}
 use Rattle.b3d_scene.proofs.Laws.{fine}

@@ -25,7 +25,7 @@ use Rattle.b3d_scene.specs.Parse.{parse}
 use Rattle.b3d_scene.specs.Rebuild.{Lent, cut, lentRows, roomy, together, nodeNames, names, sound, rebuild}
 use Rattle.b3d_scene.specs.Rules.{rowLimit, levels}
 use Rattle.b3d_scene.specs.Scene.{Texture, Brush, Forest, leaf, node, Scene}
-use Rattle.b3d_scene.specs.Tables.{width, start, nameCells, textureRow, brushRow, forestRows, rows, tables, nodeTables, partTables}
+use Rattle.b3d_scene.specs.Tables.{width, start, textureRow, brushRow, forestRows, rows, tables, nodeTables, partTables}
 use Rattle.b3d_scene.proofs.AnswerLaws.{judge-got}
 use Rattle.b3d_scene.proofs.Files.FileLaws.{parse-fine}
 use Rattle.b3d_scene.proofs.Files.PlaceLaws.{parse-names}
@@ -33,6 +33,7 @@ use Rattle.b3d_scene.proofs.Fitting.{FitTexture, FitBrush, FitSlots, FitNodes, 
 use Rattle.b3d_scene.proofs.Modes.{mode-got, passes-same}
 use Rattle.b3d_scene.proofs.Join.{stand, all-in}
 use Rattle.layout.proofs.PlaceLaws.{NameIn}
+use Rattle.layout.specs.Rows.{nameCells}
 use Rattle.b3d_scene.proofs.Rows.RebuildLaws.{together-back, roomy-is, sound-is}
 use Rattle.b3d_scene.proofs.Rows.Rename.{bare-same}
 use Rattle.b3d_scene.proofs.Rows.RowLists.{cut-length}

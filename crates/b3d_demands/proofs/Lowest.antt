@@ -17,13 +17,13 @@ use Rattle.layout.proofs.Fitting.{FitText}
 use Rattle.layout.proofs.Lists.{All, all-map, all-zip, all-append, all-of-map}
 use Rattle.layout.proofs.Outs.{by-test, bad-got}
 use Rattle.layout.proofs.PlaceLaws.{NameIn}
-use Rattle.layout.specs.Rows.{eachOf}
+use Rattle.layout.specs.Rows.{eachOf, nameCells}
 use Rattle.b3d_scene.specs.declared.Mode.{Mode}
 use Rattle.b3d_scene.specs.declared.Counts.{Counts}
 use Rattle.b3d_scene.specs.Parse.{parse}
 use Rattle.b3d_scene.specs.Rules.{bonesBelow, levels}
 use Rattle.b3d_scene.specs.Scene.{Texture, Brush, Forest, leaf, node, Scene}
-use Rattle.b3d_scene.specs.Tables.{start, nameCells, textureRow, brushRow, nodeRow, ownRows, withNode, withForest, forestRows, rows, tables, nodeTables}
+use Rattle.b3d_scene.specs.Tables.{start, textureRow, brushRow, nodeRow, ownRows, withNode, withForest, forestRows, rows, tables, nodeTables}
 use Rattle.b3d_scene.proofs.Laws.{fine}
 use Rattle.b3d_scene.proofs.Files.PlaceLaws.{NodeNames}
 use Rattle.b3d_scene.proofs.Laws.{names-stand}

@@ -7,11 +7,12 @@ use Rattle.wire.specs.Test.{if}
 use Rattle.layout.specs.Parts.{Name}
 use Rattle.layout.specs.Rules.{NONE}
 use Rattle.layout.proofs.Lists.{All, all-from-map, all-left, all-right}
+use Rattle.layout.specs.Rows.{nameCells}
 use Rattle.b3d_scene.specs.declared.Counts.{Counts}
 use Rattle.b3d_scene.specs.Names.{renameTexture, renameBrush, renameForest, rename, bareName, bare}
 use Rattle.b3d_scene.specs.Rebuild.{nodeNames, names}
 use Rattle.b3d_scene.specs.Scene.{Texture, Brush, Forest, leaf, node, Scene}
-use Rattle.b3d_scene.specs.Tables.{start, nameCells, textureRow, brushRow, nodeRow, ownRows, withNode, withForest, forestRows, rows, tables, nodeTables}
+use Rattle.b3d_scene.specs.Tables.{start, textureRow, brushRow, nodeRow, ownRows, withNode, withForest, forestRows, rows, tables, nodeTables}
 use Rattle.b3d_scene.proofs.Rows.RebuildLaws.{names-rest}
 use Rattle.b3d_scene.proofs.Rows.RowParts.{Stands}
 use Rattle.b3d_demands.specs.Having.{nameOf, namesOf}

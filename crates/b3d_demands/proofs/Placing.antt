@@ -11,12 +11,13 @@ use Rattle.wire.specs.Test.{if}
 use Rattle.layout.specs.Parts.{Name}
 use Rattle.layout.proofs.Lists.{All}
 use Rattle.layout.proofs.Outs.{by-test, if-yes, if-no}
+use Rattle.layout.specs.Rows.{nameCells}
 use Rattle.b3d_scene.specs.declared.Counts.{Counts}
 use Rattle.b3d_scene.specs.Names.{renameData, renameForest, bareName}
 use Rattle.b3d_scene.specs.Rebuild.{nodeNames}
 use Rattle.b3d_scene.specs.Rules.{bonesBelow, boneVertices}
 use Rattle.b3d_scene.specs.Scene.{Data, Forest, leaf, node}
-use Rattle.b3d_scene.specs.Tables.{nameCells, nodeRow, ownRows, withNode, withForest, forestRows, nodesIn}
+use Rattle.b3d_scene.specs.Tables.{nodeRow, ownRows, withNode, withForest, forestRows, nodesIn}
 use Rattle.b3d_scene.proofs.Fitting.{FitData, FitNodes}
 use Rattle.b3d_scene.proofs.Rows.RebuildLaws.{names-rest}
 use Rattle.b3d_scene.proofs.Rows.RowParts.{Stands}

@@ -8,8 +8,9 @@ use Rattle.layout.specs.Chunks.{keep, splitIn, split}
 use Rattle.layout.specs.Out.{check}
 use Rattle.layout.specs.Parts.{text, words, judged, named}
 use Rattle.layout.specs.Rules.{NONE}
+use Rattle.layout.specs.Rows.{nameCells}
 use Rattle.b3d_scene.specs.Mask.{mask, ones, spread, keyHas, keyMask}
-use Rattle.b3d_scene.specs.Tables.{start, nameCells, kindCells, animCells, nodeRow}
+use Rattle.b3d_scene.specs.Tables.{start, kindCells, animCells, nodeRow}
 use Rattle.b3d_scene.specs.Tags.{tagOf}
 use Rattle.b3d_file_rows.specs.Plain.{whole, plainKeys, plainAnim}
 use Rattle.b3d_file_rows.specs.Flat.{rest, enter, flatIn, flatAt, flat}

@@ -12,7 +12,8 @@ use Rattle.layout.specs.Out.{Out, got, bad}
 use Rattle.layout.specs.Parts.{Name, Step, wordsOf, named as namedOf}
 use Rattle.layout.specs.Rules.{any, NONE}
 use Rattle.layout.proofs.StepLaws.{length-words-of}
-use Rattle.b3d_scene.specs.Tables.{words, nameCells}
+use Rattle.layout.specs.Rows.{nameCells}
+use Rattle.b3d_scene.specs.Tables.{words}
 use Rattle.b3d_chunks.specs.Chunks.{namedAt, NamedIn}
 use Rattle.b3d_chunks.specs.declared.Named.{Named}
 use Rattle.b3d_chunks.specs.declared.Named.the-variants as named

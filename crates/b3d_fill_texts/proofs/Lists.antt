@@ -19,9 +19,10 @@ use Rattle.layout.specs.Rules.{any, NONE}
 use Rattle.layout.proofs.ChunkLaws.{split-none}
 use Rattle.layout.proofs.Outs.{by-got, bad-got, got-inj, if-yes, if-no}
 use Rattle.layout.proofs.StepLaws.{judged-got}
+use Rattle.layout.specs.Rows.{nameCells}
 use Rattle.b3d_scene.specs.declared.Tag.{Tag}
 use Rattle.b3d_scene.specs.declared.Tag.the-variants.{TEXS, BRUS}
-use Rattle.b3d_scene.specs.Tables.{words, nameCells, textureRow, brushRow}
+use Rattle.b3d_scene.specs.Tables.{words, textureRow, brushRow}
 use Rattle.b3d_scene.specs.Tags.{Chunks, split, tagOf, is}
 use Rattle.b3d_scene.proofs.Files.TagCodes.{by-tag}
 use Rattle.b3d_file_rows.specs.Flat.{rest}

@@ -4,7 +4,7 @@ use mathlib.Core.List.{List, _++_}
 use lib.ListN.{replicate}
 use Rattle.layout.specs.Parts.{Name}
 use Rattle.layout.specs.Rules.{NONE}
-use Rattle.b3d_scene.specs.Tables.{nameCells}
+use Rattle.layout.specs.Rows.{nameCells}
 
 -- the cells of the name, the words, and so many cells that name nothing
 unfoldable pub namedRow : ℕ → Name × List ℕ → List ℕ

@@ -17,12 +17,13 @@ use Rattle.layout.specs.Out.{Out, got, bad}
 use Rattle.layout.specs.Parts.{Name, Step, wordsOf, named as namedOf}
 use Rattle.layout.proofs.Outs.{if-yes, if-no, by-test}
 use Rattle.layout.proofs.StepLaws.{length-items-of, length-words-of}
+use Rattle.layout.specs.Rows.{nameCells}
 use Rattle.b3d_scene.specs.declared.Counts.{Counts}
 use Rattle.b3d_scene.specs.declared.Tag.{Tag}
 use Rattle.b3d_scene.specs.declared.Tag.the-variants.{NODE, MESH, BONE, ANIM}
 use Rattle.b3d_scene.specs.Rules.{nodeRow as nodeWords}
 use Rattle.b3d_scene.specs.Scene.{Kind, pivot, mesh, bone, Anim, still, anim}
-use Rattle.b3d_scene.specs.Tables.{nameCells, kindCells, animCells, nodeRow}
+use Rattle.b3d_scene.specs.Tables.{kindCells, animCells, nodeRow}
 use Rattle.b3d_scene.specs.Tags.{Chunks, is}
 use Rattle.cells.proofs.Storing.{sets-append}
 use Rattle.b3d_chunks.specs.Chunks.{namedAt, NamedIn}

@@ -21,12 +21,13 @@ use Rattle.layout.specs.Parts.{Name, Step, named}
 use Rattle.layout.specs.Rules.{NONE}
 use Rattle.layout.proofs.ChunkLaws.{split-none}
 use Rattle.layout.proofs.Outs.{if-yes, if-no}
+use Rattle.layout.specs.Rows.{nameCells}
 use Rattle.b3d_scene.specs.declared.Counts.{Counts}
 use Rattle.b3d_scene.specs.declared.Tag.{Tag}
 use Rattle.b3d_scene.specs.declared.Tag.the-variants.{NODE, MESH, BONE}
 use Rattle.b3d_scene.specs.Rules.{nodeRow as nodeWords}
 use Rattle.b3d_scene.specs.Scene.{Kind, pivot, mesh, bone}
-use Rattle.b3d_scene.specs.Tables.{start, words, nameCells, kindCells, animCells, nodeRow, nodeWidth}
+use Rattle.b3d_scene.specs.Tables.{start, words, kindCells, animCells, nodeRow, nodeWidth}
 use Rattle.b3d_scene.specs.Tags.{Chunks, is, split, tagOf}
 use Rattle.cells.proofs.Storing.{Storing, store-run, store-done}
 use Rattle.b3d_file_rows.specs.Flat.{rest, flatAt, flat}

@@ -9,10 +9,11 @@ use lib.Dec.{eqb}
 use Rattle.wire.specs.Test.{if}
 use Rattle.layout.specs.Out.{Out, got}
 use Rattle.layout.specs.Rules.{NONE}
+use Rattle.layout.specs.Rows.{nameCells}
 use Rattle.b3d_scene.specs.declared.Mode.the-variants.{Lenient}
 use Rattle.b3d_scene.specs.Rules.{ownVertices}
 use Rattle.b3d_scene.specs.Scene.{Anim, Kind, pivot, mesh, bone, Data, Forest, leaf, node, Scene}
-use Rattle.b3d_scene.specs.Tables.{start, meshesOf, nameCells, kindCells, animCells, nodeRow, meshRow, meshRows, ownRows, withNode, withForest, forestRows, rows, nodesIn}
+use Rattle.b3d_scene.specs.Tables.{start, meshesOf, kindCells, animCells, nodeRow, meshRow, meshRows, ownRows, withNode, withForest, forestRows, rows, nodesIn}
 use Rattle.b3d_scene.specs.Answers.{judge}
 use Rattle.b3d_scene.proofs.AnswerLaws.{judge-got}
 use Rattle.b3d_label.specs.Walk.{Printed, walk, noLabel, labelled, labelOf, labelIn}

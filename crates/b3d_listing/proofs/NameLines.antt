@@ -12,12 +12,13 @@ use Rattle.wire.specs.Bytes.{AllBytes, over}
 use Rattle.layout.specs.Out.{got}
 use Rattle.layout.specs.Rules.{NONE}
 use Rattle.layout.proofs.PlaceLaws.{At, NameIn}
+use Rattle.layout.specs.Rows.{nameCells}
 use Rattle.b3d_scene.specs.Parse.{parse}
 use Rattle.b3d_scene.specs.declared.Mode.the-variants.{Strict}
 use Rattle.b3d_scene.specs.Rules.{boneVertices, bonesBelow, levels}
 use Rattle.b3d_scene.specs.Scene.{Data, Forest, leaf, node, Scene}
 use Rattle.b3d_scene.specs.Sizes.{nodesSize, sizeOf}
-use Rattle.b3d_scene.specs.Tables.{width, tables, nodeTables, nameCells, nodeRow, start, ownRows, withNode, withForest, forestRows, rows, words, table, nodeWidth, nodesIn}
+use Rattle.b3d_scene.specs.Tables.{width, tables, nodeTables, nodeRow, start, ownRows, withNode, withForest, forestRows, rows, words, table, nodeWidth, nodesIn}
 use Rattle.b3d_scene.specs.declared.Counts.{Counts}
 use Rattle.b3d_scene.proofs.Fitting.{Fit, FitNodes}
 use Rattle.b3d_scene.proofs.Laws.{fine, file-length, names-stand}

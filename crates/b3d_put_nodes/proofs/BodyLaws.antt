@@ -8,6 +8,7 @@ use mir.Syntax.{w64}
 use mir.Val.{Fits}
 use lib.ListN.{length, take, drop, getD}
 use Rattle.wire.specs.Test.{if}
+use Rattle.layout.specs.Rows.{nameCells}
 use Rattle.emit.specs.Writing.{Wrote, Room, Put, head, chunk}
 use Rattle.emit.proofs.Joining.{Both, Begins, both-begins, both-room, both-inside, both-room-2, both-done, chunk-fits, chunk-room, chunk-long, chunk-small, chunk-done}
 use Rattle.b3d_scene.specs.declared.Counts.{Counts}
@@ -16,7 +17,7 @@ use Rattle.b3d_scene.specs.Encode.{writeNode}
 use Rattle.b3d_scene.specs.Rebuild.{Rows, dataFrom}
 use Rattle.b3d_scene.specs.Rules.{bonesBelow, boneVertices}
 use Rattle.b3d_scene.specs.Scene.{Data, Forest, leaf, node}
-use Rattle.b3d_scene.specs.Tables.{nameCells, nodeRow, withNode, withForest, forestRows, nodeWidth, nodesIn}
+use Rattle.b3d_scene.specs.Tables.{nodeRow, withNode, withForest, forestRows, nodeWidth, nodesIn}
 use Rattle.b3d_scene.specs.Tags.{code}
 use Rattle.b3d_scene.proofs.Rows.Nodes.{nodes-step}
 use Rattle.b3d_sound.specs.CellCounts.{cellCounts}

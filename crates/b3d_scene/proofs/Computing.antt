@@ -5,7 +5,7 @@ use Rattle.layout.specs.Out.{check}
 use Rattle.layout.specs.Parts.{text, words, judged, row, named, itemsIn, items}
 use Rattle.layout.specs.Chunks.{keep, splitIn, split, ended}
 use Rattle.layout.specs.Write.{writeChunks}
-use Rattle.layout.specs.Rows.{eachOf}
+use Rattle.layout.specs.Rows.{eachOf, nameCells}
 use Rattle.b3d_scene.specs.Tags.{tagOf}
 use Rattle.b3d_scene.specs.Rules.{vertexWords, keyWords, rowLimit}
 use Rattle.b3d_scene.specs.Nesting.{next, onward, order, inside}
@@ -14,7 +14,7 @@ use Rattle.b3d_scene.specs.Encode.{writeVertices, writeTriangles, writeM
 use Rattle.b3d_scene.specs.Names.{rename, bare, cleared}
 use Rattle.b3d_scene.specs.Mask.{mask, spread, vertexHas, vertexMask, keyHas, keyMask}
 use Rattle.b3d_scene.specs.Tables as tables
-use Rattle.b3d_scene.specs.Tables.{width, start, meshesOf, weightsOf, nameCells, textureRow, brushRow, kindCells, animCells, nodeRow, meshRow, vertexRows, setRows, triangleRows, listRows, keyRows, meshRows, ownRows, withMeshes, withNode, withForest, nodesIn, forestRows, rows, table, nodeTables, counts}
+use Rattle.b3d_scene.specs.Tables.{width, start, meshesOf, weightsOf, textureRow, brushRow, kindCells, animCells, nodeRow, meshRow, vertexRows, setRows, triangleRows, listRows, keyRows, meshRows, ownRows, withMeshes, withNode, withForest, nodesIn, forestRows, rows, table, nodeTables, counts}
 use Rattle.b3d_scene.specs.Answers.{judge, read, answer, tableAfter, readAnswer, readTable, roomFor, copy, clear, written, outputAfter, clearAnswer, clearOutput}
 
 unfoldable pub computing : Unit {0}

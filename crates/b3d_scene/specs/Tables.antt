@@ -6,6 +6,7 @@ use lib.Dec.{eqb}
 use Rattle.wire.specs.Test.{if}
 use Rattle.layout.specs.Parts.{Name}
 use Rattle.layout.specs.Rules.{NONE}
+use Rattle.layout.specs.Rows.{nameCells}
 use Rattle.b3d_scene.specs.declared.Counts.{Counts}
 use Rattle.b3d_scene.specs.Mask.{spread, vertexMask, keyMask}
 use Rattle.b3d_scene.specs.Scene.{Texture, Brush, TriangleSet, Mesh, Kind, pivot, mesh, bone, Keys, Anim, still, anim, Data, Forest, leaf, node, Scene}
@@ -56,9 +57,6 @@ weightsOf (mesh m) = []
 weightsOf (bone ws) = ws
 
 -- ---- single rows
-
-unfoldable pub nameCells : Name → List ℕ
-nameCells n = n .place ∷ length (n .bytes) ∷ []
 
 unfoldable pub textureRow : Texture → List ℕ
 textureRow x = nameCells (x .name) ++ x .words

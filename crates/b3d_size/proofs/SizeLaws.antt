@@ -11,6 +11,7 @@ use borrow.Author.Tests.{ne-eqb}
 use Rattle.wire.specs.Test.{if}
 use Rattle.layout.specs.Rules.{NONE}
 use Rattle.layout.proofs.Lists.{All, all-map, all-append}
+use Rattle.layout.specs.Rows.{nameCells}
 use Rattle.b3d_scene.specs.declared.Mode.{Mode}
 use Rattle.b3d_scene.specs.declared.Counts.{Counts}
 use Rattle.b3d_scene.specs.Encode.{encode}
@@ -19,7 +20,7 @@ use Rattle.b3d_scene.specs.Rebuild.{Lent, cut, lentRows, rebuild}
 use Rattle.b3d_scene.specs.Rules.{vertexWords, keyWords, bonesBelow, boneVertices, levels}
 use Rattle.b3d_scene.specs.Scene.{Texture, Brush, TriangleSet, Kind, pivot, mesh, bone, Keys, Anim, still, anim, Data, Forest, leaf, node, Scene}
 use Rattle.b3d_scene.specs.Sizes.{textureSize, texsSize, brushSize, brusSize, setsSize, kindSize, keysSize, animSize, nodesSize, sizeOf}
-use Rattle.b3d_scene.specs.Tables.{start, nameCells, textureRow, brushRow, kindCells, animCells, nodeRow, meshRow, setRows, triangleRows, listRows, meshesOf, weightsOf, meshRows, ownRows, withNode, withForest, forestRows, rows, tables, nodeTables, nodesIn}
+use Rattle.b3d_scene.specs.Tables.{start, textureRow, brushRow, kindCells, animCells, nodeRow, meshRow, setRows, triangleRows, listRows, meshesOf, weightsOf, meshRows, ownRows, withNode, withForest, forestRows, rows, tables, nodeTables, nodesIn}
 use Rattle.b3d_scene.proofs.Fitting.{FitKind, FitKeys, FitNodes, Fit}
 use Rattle.b3d_scene.proofs.Laws.{file-length}
 use Rattle.b3d_scene.proofs.Rows.RebuildLaws.{Holds, rebuild-fine, held-rows}

@@ -9,9 +9,10 @@ use lib.Seq.{drop-append-seam, drop-drop}
 use Rattle.wire.specs.Test.{if}
 use Rattle.layout.specs.Rules.{NONE}
 use Rattle.layout.proofs.Lists.{All, all-map, all-zip}
+use Rattle.layout.specs.Rows.{nameCells}
 use Rattle.b3d_scene.specs.Rebuild.{Rows, mine, dataFrom}
 use Rattle.b3d_scene.specs.Scene.{Keys, Data, Forest, leaf, node}
-use Rattle.b3d_scene.specs.Tables.{start, reached, nameCells, nodeRow, listRows, ownRows, withNode, withForest, forestRows, nodeTables, nodesIn}
+use Rattle.b3d_scene.specs.Tables.{start, reached, nodeRow, listRows, ownRows, withNode, withForest, forestRows, nodeTables, nodesIn}
 use Rattle.b3d_scene.specs.declared.Counts.{Counts}
 use Rattle.b3d_scene.proofs.Fitting.{FitData}
 use Rattle.b3d_scene.proofs.Rows.CountLaws.{Rise, rises}

@@ -9,12 +9,13 @@ use lib.Seq.{length-take-le}
 use Rattle.wire.specs.Test.{if}
 use Rattle.layout.specs.Parts.{Name}
 use Rattle.layout.proofs.Lists.{All, all-left, all-right, all-from-map, all-zip, all-map}
+use Rattle.layout.specs.Rows.{nameCells}
 use Rattle.b3d_scene.specs.declared.Counts.{Counts}
 use Rattle.b3d_scene.specs.declared.Mode.{Mode}
 use Rattle.b3d_scene.specs.Rebuild.{Lent, Rows, cut, lentRows, textureFrom, brushFrom, together, nodeNames, names, rebuild}
 use Rattle.b3d_scene.specs.Rules.{levels}
 use Rattle.b3d_scene.specs.Scene.{Texture, Brush, Scene}
-use Rattle.b3d_scene.specs.Tables.{width, nameCells, textureRow, brushRow, rows, tables, nodeTables, partTables, nodeWidth}
+use Rattle.b3d_scene.specs.Tables.{width, textureRow, brushRow, rows, tables, nodeTables, partTables, nodeWidth}
 use Rattle.b3d_scene.proofs.Fitting.{FitNodes}
 use Rattle.b3d_scene.proofs.Rows.RebuildLaws.{Holds, together-back}
 use Rattle.b3d_scene.proofs.Rows.RowLists.{cut-length}

@@ -12,7 +12,7 @@ use Rattle.wire.proofs.Left.{left-length, left-drop}
 use Rattle.layout.specs.Out.{Out, got, bad, _>>=_}
 use Rattle.layout.specs.Parts.{Name, Step, wordsOf, words, judged, row, number}
 use Rattle.layout.specs.Counted.{sized, before, times}
-use Rattle.layout.specs.Rows.{joined}
+use Rattle.layout.specs.Rows.{nameCells, joined}
 use Rattle.layout.specs.Rules.{names}
 use Rattle.layout.proofs.Lists.{All}
 use Rattle.layout.proofs.Outs.{by-got, by-check, bad-got, got-inj}
@@ -112,7 +112,7 @@ module _ (s : List ℕ) (c : Cursor) (bones : ℕ) (inside : Inside c (length s)
         }
 
     pub lay-at : (j : ℕ) (m : Cursor) → x ≡ summed.To j m → LaidAt s bones (readBone bones (c .at) (left c s)) c (n .at) j m
-    unfolding readBone parentOf listOf
+    unfolding nameCells readBone parentOf listOf
     lay-at j m q =
         let h = runs-passed (sized (c .at) (left c s)) c 4 r v n w in
         let y = runs-read sized sized-moves s c inside 4 r v n w in

@@ -4,15 +4,11 @@ use Prim.Native.Nat.{ℕ, _+_, _≤_}
 use mathlib.Core.List.{List}
 use Rattle.b3d_scene.specs.declared.Answer.{Answer}
 use Rattle.b3d_scene.specs.declared.Mode.{Mode}
-use Rattle.b3d_scene.specs.declared.Written.{Written}
 use Rattle.b3d_scene.specs.Answers.{judge, answer}
-use Rattle.b3d_scene.specs.Rebuild.{Lent}
-use Rattle.b3d_write.specs.Writes.{Writes}
 use Rattle.b3d_read.specs.Reads.{Reads}
 use Rattle.b3d_label.specs.declared.TrayLabel.{TrayLabel}
-use Rattle.kelompuris_answers.specs.Answers.{answerIn, writtenIn, trayLabelIn}
+use Rattle.kelompuris_answers.specs.Answers.{answerIn, trayLabelIn}
 use Rattle.kelompuris_answers.specs.declared.KelompurisAnswer.{KelompurisAnswer}
-use Rattle.kelompuris_answers.specs.declared.KelompurisWritten.{KelompurisWritten}
 use Rattle.kelompuris_answers.specs.declared.KelompurisLabel.{KelompurisLabel}
 
 module _ (m k : Mode) (em : m ≡ k) where
@@ -22,9 +18,6 @@ module _ (m k : Mode) (em : m ≡ k) where
 
     pub outward-reads : (s : List ℕ) (before after : List (List ℕ)) → Reads m s before after a → Reads k s before after (answerIn r)
     outward-reads s before after h = rw (← em, e) h
-
-  pub outward-writes : (r : KelompurisWritten) (w : Written) → writtenIn r ≡ w → (T : Lent) (ns out put : List ℕ) → Writes m T ns out put w → Writes k T ns out put (writtenIn r)
-  outward-writes r w e T ns out put h = rw (← em, e) h
 
 module _ (r : KelompurisLabel) (l : TrayLabel) (e : trayLabelIn r ≡ l) where
   pub label-is : (m : TrayLabel) → l ≡ m → trayLabelIn r ≡ m

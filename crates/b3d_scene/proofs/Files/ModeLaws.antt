@@ -18,7 +18,7 @@ use Rattle.layout.specs.Rules.{Rule, any, unit, holds}
 use Rattle.layout.proofs.HeldLaws.{and-assoc, and-true, Held, same-held, held-as, first-held, bind-held, then-held, map-held, loose, strictly, passes as passesRules, passes-any, passes-unit, Says, row-held, named-held, items-held}
 use Rattle.layout.proofs.Outs.{by-got, got-inj}
 use Rattle.layout.proofs.PlaceLaws.{At, Stands, Stays, row-at, named-at}
-use Rattle.layout.specs.Rows.{sizeFits}
+use Rattle.layout.specs.Rows.{sizeFits, nameCells}
 use Rattle.b3d_scene.specs.Colours.{coloured, passes}
 use Rattle.b3d_scene.specs.declared.Mode.the-variants.{Strict, Lenient}
 use Rattle.b3d_scene.specs.declared.Tag.{Tag}
@@ -30,7 +30,7 @@ use Rattle.b3d_scene.specs.Parse.{readOne, readTextures, readBrush, read
 use Rattle.b3d_scene.specs.Rules.{textureId, when, vertexWords, brushRow, brushIds, vertexRow, nodeRow, header, fileHead, brushesHead, meshHead, verticesHead, boneVertices, bonesBelow, levels}
 use Rattle.b3d_scene.specs.Scene.{Brush, Mesh, Kind, pivot, mesh, bone, Anim, still, Data, Forest, leaf, node, Scene}
 use Rattle.b3d_scene.specs.Tables as tables
-use Rattle.b3d_scene.specs.Tables.{nameCells, meshesOf, vertexRows, meshRows, ownRows, withNode, withForest, forestRows, rows, nodesIn}
+use Rattle.b3d_scene.specs.Tables.{meshesOf, vertexRows, meshRows, ownRows, withNode, withForest, forestRows, rows, nodesIn}
 use Rattle.b3d_scene.specs.Tags.{code, is, Chunks, Found}
 use Rattle.b3d_scene.proofs.Files.PlaceLaws.{inside-at, kind-at, moves-at, one-at, textures-at, brush-at, brushes-at}
 

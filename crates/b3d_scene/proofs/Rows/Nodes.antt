@@ -11,13 +11,14 @@ use Rattle.layout.proofs.Lists.{All, all-map}
 pub use Rattle.b3d_scene.specs.Rebuild.{From}
 use Rattle.b3d_scene.specs.Rebuild.{Rows, nameFrom, mine, keysFrom, animFrom, kindFrom, dataFrom}
 use Rattle.b3d_scene.specs.Scene.{Mesh, Kind, pivot, mesh, bone, Data}
-use Rattle.b3d_scene.specs.Tables.{width, reached, nodeTables, meshesOf, weightsOf, nameCells, kindCells, animCells, nodeRow, meshRow, listRows, keyRows, meshRows, ownRows, withMeshes, withNode}
+use Rattle.b3d_scene.specs.Tables.{width, reached, nodeTables, meshesOf, weightsOf, kindCells, animCells, nodeRow, meshRow, listRows, keyRows, meshRows, ownRows, withMeshes, withNode}
 use Rattle.b3d_scene.specs.declared.Counts.{Counts}
 use Rattle.b3d_scene.proofs.Fitting.{FitKind, FitData}
 use Rattle.b3d_scene.proofs.Rows.RowParts.{Wide, Stands, Others, sets-length, sets-wide, triangles-wide, vertices-wide, vertices-length, mesh-back, lists-length, lists-wide, keys-wide, mine-back, keys-back, anim-back, anim-wide, kind-wide, node-wide}
 use Rattle.b3d_scene.proofs.Rows.WordCounts.{any-words}
 use Rattle.layout.proofs.Fitting.{Fits}
 use Rattle.layout.proofs.PartLaws.{length-fits}
+use Rattle.layout.specs.Rows.{nameCells}
 use Rattle.b3d_scene.specs.Rules.{weightRow}
 
 -- ---- widths

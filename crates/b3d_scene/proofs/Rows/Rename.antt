@@ -10,10 +10,11 @@ use Rattle.wire.specs.Test.{if}
 use Rattle.layout.specs.Parts.{Name}
 use Rattle.layout.specs.Rules.{NONE}
 use Rattle.layout.proofs.Lists.{All, all-pure, all-map, all-zip, all-append, all-of-map}
+use Rattle.layout.specs.Rows.{nameCells}
 use Rattle.b3d_scene.specs.Names.{renameTexture, renameBrush, renameData, renameForest, rename, bareName, noName, bare, cleared, named, unplaced, unnamed, nameOff}
 use Rattle.b3d_scene.specs.Rebuild.{Lent, cut, lentRows, nodeNames, names}
 use Rattle.b3d_scene.specs.Scene.{Texture, Brush, Data, Forest, leaf, node, Scene}
-use Rattle.b3d_scene.specs.Tables.{width, start, nameCells, textureRow, brushRow, nodeRow, ownRows, withNode, withForest, forestRows, rows, words, table, nodeTables, tables, nodesIn}
+use Rattle.b3d_scene.specs.Tables.{width, start, textureRow, brushRow, nodeRow, ownRows, withNode, withForest, forestRows, rows, words, table, nodeTables, tables, nodesIn}
 use Rattle.b3d_scene.specs.declared.Counts.{Counts}
 use Rattle.b3d_scene.proofs.Fitting.{Fit}
 use Rattle.b3d_scene.proofs.Rows.RebuildLaws.{rows-wide, together-back}

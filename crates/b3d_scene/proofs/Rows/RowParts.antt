@@ -17,13 +17,14 @@ pub use Rattle.b3d_scene.specs.Fitting.{Stands}
 use Rattle.b3d_scene.specs.Mask.{mask, spread, squeeze, vertexMask, vertexHas, keyMask, keyHas}
 use Rattle.b3d_scene.specs.Rebuild.{nameFrom, textureFrom, brushFrom, setsFrom, meshFrom, mine, keysFrom, animFrom}
 use Rattle.b3d_scene.specs.Scene.{Texture, Brush, TriangleSet, Mesh, Kind, pivot, mesh, bone, Keys, Anim, still, anim, Data}
-use Rattle.b3d_scene.specs.Tables.{nameCells, textureRow, brushRow, kindCells, animCells, nodeRow, meshRow, vertexRows, setRows, triangleRows, listRows, keyRows, nodeWidth}
+use Rattle.b3d_scene.specs.Tables.{textureRow, brushRow, kindCells, animCells, nodeRow, meshRow, vertexRows, setRows, triangleRows, listRows, keyRows, nodeWidth}
 use Rattle.b3d_scene.specs.declared.Counts.{Counts}
 use Rattle.b3d_scene.proofs.Fitting.{FitTexture, FitBrush, FitTriangles, FitMesh, FitKeys, FitAnim, FitData}
 use Rattle.b3d_scene.proofs.Rows.MaskLaws.{mask-length, spread-length, squeeze-spread}
 use Rattle.b3d_scene.proofs.Rows.WordCounts.{any-words, ids-words, vertex-ones, key-ones}
 use Rattle.layout.proofs.Fitting.{Fits}
 use Rattle.layout.proofs.PartLaws.{length-fits}
+use Rattle.layout.specs.Rows.{nameCells}
 use Rattle.b3d_scene.specs.Rules.{vertexRow, keyRow, triangleRow as triangleIds}
 
 -- a row of w words

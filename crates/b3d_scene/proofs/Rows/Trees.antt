@@ -12,9 +12,10 @@ use Rattle.wire.specs.Test.{if}
 use Rattle.layout.specs.Rules.{NONE}
 use Rattle.layout.proofs.Lists.{All, all-zip}
 use Rattle.layout.proofs.Outs.{if-yes, if-no}
+use Rattle.layout.specs.Rows.{nameCells}
 use Rattle.b3d_scene.specs.Rebuild.{Rows, dataFrom, Placed, walk, Group, Off, off, groups, tree}
 use Rattle.b3d_scene.specs.Scene.{Keys, Data, Forest, leaf, node}
-use Rattle.b3d_scene.specs.Tables.{start, reached, nodeTables, nameCells, nodeRow, listRows, ownRows, withNode, withForest, forestRows, nodesIn}
+use Rattle.b3d_scene.specs.Tables.{start, reached, nodeTables, nodeRow, listRows, ownRows, withNode, withForest, forestRows, nodesIn}
 use Rattle.b3d_scene.specs.declared.Counts.{Counts}
 use Rattle.b3d_scene.proofs.Fitting.{FitData}
 use Rattle.b3d_scene.proofs.Rows.Nodes.{Step, steps, nodes-step, From, data-back}

@@ -15,10 +15,11 @@ use Rattle.layout.specs.Rules.{NONE, holds}
 use Rattle.layout.proofs.Fitting.{Fits}
 use Rattle.layout.proofs.Lists.{All, cons-head, cons-tail}
 use Rattle.layout.proofs.Testing.{Tests, both, via, eq-is}
+use Rattle.layout.specs.Rows.{nameCells}
 use Rattle.b3d_scene.specs.Rebuild.{nameFrom, textureFrom, brushFrom}
 use Rattle.b3d_scene.specs.Rules.{slots, brushIds, brushesHead}
 use Rattle.b3d_scene.specs.Scene.{Brush}
-use Rattle.b3d_scene.specs.Tables.{nameCells, textureRow, brushRow}
+use Rattle.b3d_scene.specs.Tables.{textureRow, brushRow}
 use Rattle.b3d_scene.proofs.Fitting.{FitTexture, FitBrush, FitSlots}
 use Rattle.b3d_scene.proofs.Rows.RowParts.{Stands}
 use Rattle.b3d_sound.specs.Check.{keeps, nameHere, brushHere, slotsHere}

@@ -10,9 +10,10 @@ use Rattle.wire.specs.Bytes.{AllBytes}
 use Rattle.wire.specs.Test.{if}
 use Rattle.layout.proofs.Lists.{All}
 use Rattle.layout.proofs.Testing.{Tests, both, via}
+use Rattle.layout.specs.Rows.{nameCells}
 use Rattle.b3d_scene.specs.Rebuild.{nameFrom, mine, keysFrom, animFrom, Rows, kindFrom, dataFrom}
 use Rattle.b3d_scene.specs.Scene.{Data}
-use Rattle.b3d_scene.specs.Tables.{reached, partTables, nameCells, kindCells, animCells, nodeRow, listRows, ownRows, nodeWidth}
+use Rattle.b3d_scene.specs.Tables.{reached, partTables, kindCells, animCells, nodeRow, listRows, ownRows, nodeWidth}
 use Rattle.b3d_scene.specs.declared.Counts.{Counts}
 use Rattle.b3d_scene.proofs.Fitting.{FitKeys, FitData}
 use Rattle.b3d_scene.proofs.Rows.RowParts.{Stands, kind-wide, anim-wide, lists-length}

@@ -1,8 +1,8 @@
 -- `kelompuris_b3d_clear` answers, and leaves in the output, what `b3d_clear::clear` does.
 use mathlib.Core.Path.{_∙_}
 use borrow.Author.Needs.{needs}
-use Rattle.kelompuris_c.proofs.kelompuris_b3d_clear.Statement.{statement}
-use Rattle.kelompuris_c.proofs.kelompuris_b3d_clear.Tie as tie
+use Rattle.kelompuris_output_c.proofs.kelompuris_b3d_clear.Statement.{statement}
+use Rattle.kelompuris_output_c.proofs.kelompuris_b3d_clear.Tie as tie
 
 pub kelompuris-b3d-clear-spec : {M : Type 1} → statement M
 kelompuris-b3d-clear-spec =

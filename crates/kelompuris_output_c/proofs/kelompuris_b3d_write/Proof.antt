@@ -1,8 +1,8 @@
 -- `kelompuris_b3d_write` answers, and leaves in the output, what `b3d_write::write` does.
 use borrow.Author.Needs.{needs}
-use Rattle.kelompuris_c.proofs.Laws.{outward-writes}
-use Rattle.kelompuris_c.proofs.kelompuris_b3d_write.Statement.{statement}
-use Rattle.kelompuris_c.proofs.kelompuris_b3d_write.Tie as tie
+use Rattle.kelompuris_output_c.proofs.Laws.{outward-writes}
+use Rattle.kelompuris_output_c.proofs.kelompuris_b3d_write.Statement.{statement}
+use Rattle.kelompuris_output_c.proofs.kelompuris_b3d_write.Tie as tie
 
 pub kelompuris-b3d-write-spec : {M : Type 1} → statement M
 kelompuris-b3d-write-spec =

@@ -1,8 +1,8 @@
 -- `kelompuris_slip_write` answers, and leaves in the output, what `slip::write_slip` does.
 use mathlib.Core.Path.{_∙_}
 use borrow.Author.Needs.{needs}
-use Rattle.kelompuris_c.proofs.kelompuris_slip_write.Statement.{statement}
-use Rattle.kelompuris_c.proofs.kelompuris_slip_write.Tie as tie
+use Rattle.kelompuris_output_c.proofs.kelompuris_slip_write.Statement.{statement}
+use Rattle.kelompuris_output_c.proofs.kelompuris_slip_write.Tie as tie
 
 pub kelompuris-slip-write-spec : {M : Type 1} → statement M
 kelompuris-slip-write-spec =
