@@ -1,5 +1,5 @@
-// What the nesting table says of the chunks inside a chunk, one after the other. Refusal 4 is given where `may_stand` says no, 8 where `owes`
-// says yes, both by `by_permit` and nowhere else.
+// What the nesting table says of the chunks inside a chunk, one after the other. Of a file at hand refusal 4 is given where `may_stand` says no, 8
+// where `owes` says yes, both by `by_permit` and nowhere else; the judge of pieces asks the same two.
 ghost use mathlib.Core.Path.{_≡_};
 ghost use Prim.Native.Nat.{_≤_};
 ghost use lib.ListN.{length};
@@ -94,13 +94,13 @@ const FIRST: Reached = Reached {
 };
 
 // Whether a chunk may stand where it does, or the chunks may end there; and how far they have come with it.
-enum Permit {
+pub enum Permit {
     No,
     Yes(Reached),
 }
 
 // May a chunk of this tag stand inside one that encloses it, after what was reached?
-fn may_stand(enclosing: Tag, reached: Reached, tag: Tag) -> Permit
+pub fn may_stand(enclosing: Tag, reached: Reached, tag: Tag) -> Permit
     ensures { λ r. ⌜ r ≡ permitOf (next (nesting enclosing) (nesting enclosing) (reachedOf reached) tag) ⌝ }
 {
     let e = entry_of(enclosing, tag);
@@ -130,7 +130,7 @@ fn may_stand(enclosing: Tag, reached: Reached, tag: Tag) -> Permit
 }
 
 // Does a chunk that ends after what was reached still owe one that must stand in it?
-fn owes(enclosing: Tag, reached: Reached) -> bool
+pub fn owes(enclosing: Tag, reached: Reached) -> bool
     ensures { λ r. ⌜ r ≡ owed (nesting enclosing) (reached .turn) end ⌝ }
 {
     owed_between(enclosing, reached.turn, 4)

@@ -1,0 +1,22 @@
+-- A chunk that is opened inside another.
+use mathlib.Core.Path.{_≡_}
+use Prim.Native.Nat.{ℕ, _+_, _≤_}
+use mathlib.Core.List.{List, _∷_}
+use lib.ListN.{length}
+use Rattle.b3d_scene.specs.declared.Tag.{Tag}
+use Rattle.b3d_scene.specs.Nesting.{nesting, next}
+use Rattle.b3d_pieces.specs.declared.Totals.{Totals}
+use Rattle.b3d_pieces.specs.declared.Open.{Open}
+use Rattle.b3d_pieces.specs.Machine.{State, opened, stand, reachedBy}
+use Rattle.b3d_pieces.specs.Good.{Deep, sum, load}
+use Rattle.b3d_pieces.proofs.Depth.{Child}
+use Rattle.b3d_piece_parts.specs.declared.Now.{Now}
+use Rattle.b3d_piece_parts.specs.Nows.{stateWith, GoodNow}
+
+-- as `Gives`, for a tag that the nesting rule lets stand here
+pub record Opens (t : Tag) (head e at : ℕ) (g : Totals) (f : Open) (r : Now) : Type 0 where
+  pub is : (R : List Open) → stateWith R r ≡ opened t head e at g f R
+  pub good : (R : List Open) → Deep (f ∷ R) → sum g + load (f ∷ R) + 1 ≤ at → Child t (f .level) (length R) → GoodNow at R r
+
+unfoldable pub standHere : Tag → ℕ → ℕ → ℕ → Totals → Open → List Open → State
+standHere t head e at g f R = stand (next (nesting (f .tag)) (nesting (f .tag)) (reachedBy f) t) t head e at g f R

@@ -1,0 +1,131 @@
+// A number of a row is complete: it is judged, and the row goes on or ends.
+ghost use mathlib.Core.Path.{_≡_};
+ghost use Prim.Native.Nat.{_+_, _≤_};
+ghost use Rattle.wire.specs.Bytes.{IsWord};
+ghost use Rattle.b3d_pieces.specs.Bodies.{keep as keepOf};
+ghost use Rattle.b3d_pieces.specs.Machine.{rowDone, rowFrom, wordDone, textDone};
+ghost use Rattle.b3d_pieces.specs.Good.{Words};
+ghost use Rattle.b3d_piece_parts.specs.Nows.{Ready, Gives};
+use crate::headers::header_done;
+use b3d_piece_parts::Now;
+use b3d_piece_parts::between::edge;
+use b3d_piece_parts::between::less;
+use b3d_piece_parts::between::nests;
+use b3d_piece_parts::bodies::fixed_done;
+use b3d_piece_rules::faults::row_fault;
+use b3d_piece_rules::lengths::row_len;
+use b3d_pieces::Kept;
+use b3d_pieces::Open;
+use b3d_pieces::Part;
+use b3d_pieces::Totals;
+
+pub fn keep(i: usize, w: usize, k: Kept) -> Kept
+    ensures { λ r. ⌜ r ≡ keepOf i w k ⌝ }
+{
+    if i == 0 {
+        return Kept {
+            first: w,
+            second: k.second,
+            third: k.third,
+        };
+    }
+    if i == 1 {
+        return Kept {
+            first: k.first,
+            second: w,
+            third: k.third,
+        };
+    }
+    if i == 2 {
+        return Kept {
+            first: k.first,
+            second: k.second,
+            third: w,
+        };
+    }
+    k
+}
+
+pub fn row_done(fixed: bool, start: usize, at: usize, k: Kept, g: Totals, f: Open) -> Now
+    requires { ⌜ Ready 1 at g f × Words k ⌝ }
+    ensures { λ r. ⌜ Gives 1 at g f r (rowDone fixed start at k g f) ⌝ }
+{
+    if fixed {
+        return fixed_done(at, k, g, f);
+    }
+    let tag = f.tag;
+    if nests(tag) {
+        let letters = k.first;
+        let n = k.second;
+        return header_done(start, letters, n, at, g, f);
+    }
+    let kept = f.kept;
+    let y = Open {
+        tag: tag,
+        head: f.head,
+        end: f.end,
+        turn: f.turn,
+        spent: f.spent,
+        level: f.level,
+        kept: kept,
+        count: f.count + 1,
+        told: f.told,
+    };
+    edge(at, g, y)
+}
+
+pub fn row_from(fixed: bool, start: usize, i: usize, at: usize, k: Kept, g: Totals, f: Open) -> Now
+    requires { ⌜ Ready 1 at g f × Words k × (i ≤ at) ⌝ }
+    ensures { λ r. ⌜ Gives 1 at g f r (rowFrom fixed start i at k g f) ⌝ }
+{
+    let tag = f.tag;
+    let kept = f.kept;
+    let n = row_len(fixed, tag, kept, g);
+    if i == n {
+        return row_done(fixed, start, at, k, g, f);
+    }
+    Now::Live(at, Part::Row(fixed, start, i, 0, 0, k), g, f)
+}
+
+pub fn word_done(
+    fixed: bool,
+    start: usize,
+    i: usize,
+    w: usize,
+    at: usize,
+    k: Kept,
+    g: Totals,
+    f: Open,
+) -> Now
+    requires { ⌜ Ready 1 (at + 4) g f × Words k × IsWord w × (i ≤ at) ⌝ }
+    ensures { λ r. ⌜ Gives 1 (at + 4) g f r (wordDone fixed start i w at k g f) ⌝ }
+{
+    let tag = f.tag;
+    let kept = f.kept;
+    let no = row_fault(fixed, tag, kept, g, i, w);
+    if no != 0 {
+        return Now::Fault(no, at);
+    }
+    let more = keep(i, w, k);
+    row_from(fixed, start, i + 1, at + 4, more, g, f)
+}
+
+pub fn text_done(fixed: bool, start: usize, at: usize, g: Totals, f: Open) -> Now
+    requires { ⌜ Ready 1 at g f ⌝ }
+    ensures { λ r. ⌜ Gives 1 at g f r (textDone fixed start at g f) ⌝ }
+{
+    let tag = f.tag;
+    let kept = f.kept;
+    let n = row_len(fixed, tag, kept, g);
+    let end = f.end;
+    let left = less(end, at);
+    if left / 4 < n {
+        return Now::Fault(5, start);
+    }
+    let none = Kept {
+        first: 0,
+        second: 0,
+        third: 0,
+    };
+    row_from(fixed, start, 0, at, none, g, f)
+}

@@ -1,0 +1,3 @@
+pub mod ClosingLaws
+pub mod Calling
+pub mod InWords

@@ -1,0 +1,142 @@
+// What all bytes joined come to, and the answer for it.
+ghost use mathlib.Core.Path.{_≡_};
+ghost use Rattle.b3d_piece_calls.specs.declared.Closing.the-variants.{Good, Bad};
+ghost use Rattle.b3d_piece_calls.specs.Closes.{overOr, overTotals, asWord, answerBy, wordAnswer, EndIs, Closes};
+use crate::Closing;
+use b3d_piece_parts::Now;
+use b3d_piece_take::Judge;
+use b3d_pieces::Totals;
+use b3d_scene::Answer;
+
+// The table k where it has more rows than the limit, else what is found later.
+fn over_or(k: usize, rows: usize, later: usize) -> usize
+    ensures { λ r. ⌜ r ≡ overOr k rows later ⌝ }
+{
+    if rows <= b3d_scene::ROW_LIMIT {
+        return later;
+    }
+    k
+}
+
+// The first table with more rows than the limit, by its number; 0 where there is none.
+fn over_limit(g: Totals) -> usize
+    ensures { λ r. ⌜ r ≡ overTotals g ⌝ }
+{
+    let t = g.rows;
+    let from9 = over_or(9, t.lists, over_or(10, t.keys, 0));
+    let from7 = over_or(7, t.triangles, over_or(8, t.weights, from9));
+    let from5 = over_or(5, t.vertices, over_or(6, t.sets, from7));
+    let from3 = over_or(3, t.nodes, over_or(4, t.meshes, from5));
+    over_or(1, g.textures, over_or(2, g.brushes, from3))
+}
+
+// Where the machine has come to.
+fn ended(held: Now) -> Closing
+    ensures { λ r. ⌜ EndIs held r ⌝ }
+{
+    match held {
+        Now::Live(_, _, g, _) => Closing::Good(g),
+        Now::Push(_, _, _, _) => Closing::Bad(15, 0),
+        Now::Pop(_, _) => Closing::Bad(15, 0),
+        Now::Fault(n, p) => Closing::Bad(n, p),
+        Now::Over(g) => Closing::Good(g),
+    }
+}
+
+// Checks 1 and 2, then the machine's own, then 10.
+pub fn joined(j: Judge) -> Closing
+    ensures { λ r. ⌜ Closes j r ⌝ }
+{
+    let size = j.size;
+    if size < 12 {
+        return Closing::Bad(1, 0);
+    }
+    if 16777216 < size {
+        return Closing::Bad(1, 0);
+    }
+    if j.letters != 0x44334242 {
+        return Closing::Bad(2, 0);
+    }
+    if j.length != size - 8 {
+        return Closing::Bad(2, 4);
+    }
+    let now = j.now;
+    match ended(now) {
+        Closing::Bad(n, p) => Closing::Bad(n, p),
+        Closing::Good(g) => {
+            let k = over_limit(g);
+            if k == 0 {
+                return Closing::Good(g);
+            }
+            Closing::Bad(10, k)
+        }
+    }
+}
+
+// A number of the answer in 32 bits; no call leads to a larger one.
+fn as_word(n: usize) -> u32
+    ensures { λ r. ⌜ r ≡ asWord n ⌝ }
+{
+    if n <= 0xFFFF_FFFF {
+        return n as u32;
+    }
+    0xFFFF_FFFF
+}
+
+pub fn refused(number: u32, place: usize) -> Answer
+    ensures { λ r. ⌜ r ≡ wordAnswer (answerBy (Bad number place)) ⌝ }
+{
+    let p = as_word(place);
+    Answer {
+        number,
+        place: p,
+        version: 0,
+        n_texs: 0,
+        counts: [0; 10],
+    }
+}
+
+fn accepted(g: Totals) -> Answer
+    ensures { λ r. ⌜ r ≡ wordAnswer (answerBy (Good g)) ⌝ }
+{
+    let n = g.rows;
+    let version = as_word(g.version);
+    let slots = as_word(g.slots);
+    let textures = as_word(g.textures);
+    let brushes = as_word(g.brushes);
+    let nodes = as_word(n.nodes);
+    let meshes = as_word(n.meshes);
+    let vertices = as_word(n.vertices);
+    let sets = as_word(n.sets);
+    let triangles = as_word(n.triangles);
+    let weights = as_word(n.weights);
+    let lists = as_word(n.lists);
+    let keys = as_word(n.keys);
+    Answer {
+        number: 0,
+        place: 0,
+        version: version,
+        n_texs: slots,
+        counts: [
+            textures,
+            brushes,
+            nodes,
+            meshes,
+            vertices,
+            sets,
+            triangles,
+            weights,
+            lists,
+            keys,
+        ],
+    }
+}
+
+pub fn answer_of(c: Closing) -> Answer
+    ensures { λ r. ⌜ r ≡ wordAnswer (answerBy c) ⌝ }
+{
+    match c {
+        Closing::Good(g) => accepted(g),
+        Closing::Bad(n, p) => refused(n, p),
+    }
+}

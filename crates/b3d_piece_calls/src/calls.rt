@@ -1,0 +1,105 @@
+// The three calls. 11 with size 19 where fewer records are lent; then 15 at place 0 after the close, or for a state and a row that do not keep
+// what calls keep: these leave the state as it was, and they and the close change no record.
+ghost use Rattle.b3d_piece_calls.specs.Called.{Fresh, PieceIs, CloseIs};
+use crate::Closed;
+use crate::Fed;
+use crate::answers::answer_of;
+use crate::answers::joined;
+use crate::answers::refused;
+use b3d_piece_entry::state::judge_fine;
+use b3d_piece_parts::Now;
+use b3d_piece_take::Judge;
+use b3d_piece_take::taking::nothing;
+use b3d_piece_words::run::run;
+
+// A fresh state.
+pub fn start() -> Judge
+    ensures { λ r. ⌜ Fresh r ⌝ }
+{
+    let g = nothing();
+    Judge {
+        size: 0,
+        worth: 0,
+        letters: 0,
+        length: 0,
+        shut: false,
+        depth: 0,
+        now: Now::Over(g),
+    }
+}
+
+// The next bytes of the file.
+pub fn judge_piece(state: Judge, row: &mut [usize], piece: &[u8]) -> Fed
+    ensures { λ r. ⌜ PieceIs state (now (row .entry)) (now (piece .entry)) r (now (row .exit)) ⌝ }
+{
+    if row.len() < 209 {
+        return Fed {
+            number: 11,
+            place: 19,
+            judge: state,
+        };
+    }
+    if state.shut {
+        return Fed {
+            number: 15,
+            place: 0,
+            judge: state,
+        };
+    }
+    if judge_fine(state, row) {
+        let x = run(state, row, piece);
+        return Fed {
+            number: 0,
+            place: 0,
+            judge: x,
+        };
+    }
+    Fed {
+        number: 15,
+        place: 0,
+        judge: state,
+    }
+}
+
+// No byte is left: what the reader says of all bytes joined.
+pub fn judge_close(state: Judge, row: &[usize]) -> Closed
+    ensures { λ r. ⌜ CloseIs state (now (row .entry)) r ⌝ }
+{
+    if row.len() < 209 {
+        let few = refused(11, 19);
+        return Closed {
+            answer: few,
+            judge: state,
+        };
+    }
+    let late = refused(15, 0);
+    let shut = state.shut;
+    if shut {
+        return Closed {
+            answer: late,
+            judge: state,
+        };
+    }
+    if judge_fine(state, row) {
+        let verdict = joined(state);
+        let said = answer_of(verdict);
+        let now = state.now;
+        let x = Judge {
+            size: state.size,
+            worth: state.worth,
+            letters: state.letters,
+            length: state.length,
+            shut: true,
+            depth: state.depth,
+            now: now,
+        };
+        return Closed {
+            answer: said,
+            judge: x,
+        };
+    }
+    Closed {
+        answer: late,
+        judge: state,
+    }
+}

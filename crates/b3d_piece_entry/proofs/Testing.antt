@@ -1,0 +1,171 @@
+-- The laws of the tests, in the words of the code.
+use mathlib.Core.Path.{_≡_, refl, ap, sym, subst, _∙_}
+use Prim.Native.Nat.{ℕ, zero, suc, _+_, _-_, _*_, _<_, _≤_}
+use native.Mathlib.Omega.{arith}
+use native.Mathlib.Numerals.{add-one}
+use mathlib.Core.Bool.{Bool, true, false}
+use mathlib.Core.List.{List}
+use lib.ListN.{length}
+use lib.Dec.{leb}
+use borrow.Author.Tests.{le-leb, leb-true, leb-false}
+use Rattle.b3d_scene.specs.declared.Tag.{Tag}
+use Rattle.b3d_scene.specs.declared.Tag.the-variants.{BB3D, TEXS, BRUS, NODE, MESH, VRTS, TRIS, BONE, KEYS, ANIM}
+use Rattle.b3d_pieces.specs.declared.Kept.{Kept}
+use Rattle.b3d_pieces.specs.declared.Open.{Open}
+use Rattle.b3d_pieces.specs.Row.{openAt}
+use Rattle.b3d_pieces.specs.Good.{Words, Bound, Deep, load, extra}
+use Rattle.b3d_piece_turn.specs.Turns.{stackBy}
+use Rattle.b3d_piece_turn.proofs.TurnLaws.{none, stack-length}
+use Rattle.b3d_piece_entry.specs.Tests.{Tests, Weighs, OpenFits, RowFits}
+
+never : {P : Type 0} (r : Bool) → r ≡ false → (P → ⊥) → Tests r P
+never r q z = record { yes = λ e. none (sym q ∙ e); all = λ p. absurd (z p) }
+
+by-leb : {P : Type 0} (r : Bool) (a b : ℕ) → r ≡ leb a b → (a ≤ b → P) → (P → a ≤ b) → Tests r P
+by-leb r a b q u v = record { yes = λ e. u (leb-true a b (sym q ∙ e)); all = λ p. q ∙ le-leb a b (v p) }
+
+module _ (k : Kept) (r : Bool) where
+  pub words-first : 4294967295 < k .first → r ≡ false → Tests r (Words k)
+  words-first h q = never r q (λ w. let x = w .0 in omega arith)
+
+  pub words-second : 4294967295 < k .second → r ≡ false → Tests r (Words k)
+  words-second h q = never r q (λ w. let x = w .1 in omega arith)
+
+  pub words-third : k .first ≤ 4294967295 → k .second ≤ 4294967295 → r ≡ leb (k .third) 4294967295 → Tests r (Words k)
+  words-third h l q = by-leb r (k .third) 4294967295 q (λ m. (omega arith, omega arith, omega arith)) (λ w. let x = w .2 in omega arith)
+
+module _ (level n : ℕ) (r : Bool) where
+  pub bound-far : 16 < n → r ≡ false → Tests r (n + level ≤ 16)
+  bound-far h q = never r q (λ w. omega arith)
+
+  pub bound-near : n ≤ 16 → r ≡ leb level (16 - n) → Tests r (n + level ≤ 16)
+  bound-near h q = by-leb r level (16 - n) q (λ m. omega arith) (λ w. omega arith)
+
+pub ruleset small-laws = (words-first, words-second, words-third, bound-far, bound-near)
+
+tests-leb : (r : Bool) (a b : ℕ) → r ≡ leb a b → Tests r (a ≤ b)
+tests-leb r a b q = by-leb r a b q (λ m. m) (λ m. m)
+
+module _ (tag : Tag) (level n : ℕ) (r : Bool) where
+  pub bound-bb3d : tag ≡ BB3D → Tests r (n + level ≤ 16) → Tests r (Bound tag level n)
+  bound-bb3d e q = rw e q
+
+  pub bound-texs : tag ≡ TEXS → r ≡ leb n 18 → Tests r (Bound tag level n)
+  bound-texs e q = rw e (tests-leb r n 18 q)
+
+  pub bound-brus : tag ≡ BRUS → r ≡ leb n 18 → Tests r (Bound tag level n)
+  bound-brus e q = rw e (tests-leb r n 18 q)
+
+  pub bound-node : tag ≡ NODE → Tests r (n + level ≤ 16) → Tests r (Bound tag level n)
+  bound-node e q = rw e q
+
+  pub bound-mesh : tag ≡ MESH → r ≡ leb n 17 → Tests r (Bound tag level n)
+  bound-mesh e q = rw e (tests-leb r n 17 q)
+
+  pub bound-vrts : tag ≡ VRTS → r ≡ leb n 18 → Tests r (Bound tag level n)
+  bound-vrts e q = rw e (tests-leb r n 18 q)
+
+  pub bound-tris : tag ≡ TRIS → r ≡ leb n 18 → Tests r (Bound tag level n)
+  bound-tris e q = rw e (tests-leb r n 18 q)
+
+  pub bound-bone : tag ≡ BONE → r ≡ leb n 18 → Tests r (Bound tag level n)
+  bound-bone e q = rw e (tests-leb r n 18 q)
+
+  pub bound-keys : tag ≡ KEYS → r ≡ leb n 18 → Tests r (Bound tag level n)
+  bound-keys e q = rw e (tests-leb r n 18 q)
+
+  pub bound-anim : tag ≡ ANIM → r ≡ leb n 18 → Tests r (Bound tag level n)
+  bound-anim e q = rw e (tests-leb r n 18 q)
+
+pub ruleset bound-laws = (bound-bb3d, bound-texs, bound-brus, bound-node, bound-mesh, bound-vrts, bound-tris, bound-bone, bound-keys, bound-anim)
+
+-- ---- an open chunk
+
+heavy : {P : Type 0} (n r : ℕ) → r ≡ 16777218 → (P → n ≤ 16777217 → ⊥) → Weighs P n r
+heavy n r q z = record { yes = λ l. absurd (omega arith); all = λ p l. absurd (z p l); most = omega arith }
+
+module _ (f : Open) (n : ℕ) (r : ℕ) (b : Bool) (tb : Tests b (Bound (f .tag) (f .level) n)) where
+  pub load-bound : b ≡ false → r ≡ 16777218 → Weighs (OpenFits f n) (f .count + extra (f .tag)) r
+  load-bound e q = heavy (f .count + extra (f .tag)) r q (λ p l. none (sym e ∙ tb .all (p .0)))
+
+  module _ (eb : b ≡ true) (w : Bool) (tw : Tests w (Words (f .kept))) where
+    pub load-words : w ≡ false → r ≡ 16777218 → Weighs (OpenFits f n) (f .count + extra (f .tag)) r
+    load-words e q = heavy (f .count + extra (f .tag)) r q (λ p l. none (sym e ∙ tw .all (p .1)))
+
+    pub load-count : w ≡ true → 16777217 < f .count → r ≡ 16777218 → Weighs (OpenFits f n) (f .count + extra (f .tag)) r
+    load-count e h q = heavy (f .count + extra (f .tag)) r q (λ p l. omega arith)
+
+    pub load-is : w ≡ true → f .count ≤ 16777217 → (x : ℕ) → x ≡ extra (f .tag) → x ≤ 1 → r ≡ f .count + x → Weighs (OpenFits f n) (f .count + extra (f .tag)) r
+    load-is e h x a m q =
+        record { yes = λ l. ((tb .yes eb, tw .yes e), q ∙ ap (λ (y : ℕ). f .count + y) a); all = λ p l. q ∙ ap (λ (y : ℕ). f .count + y) a; most = omega arith }
+
+pub ruleset load-laws = (load-bound, load-words, load-count, load-is)
+
+-- ---- a row
+
+deep-at : (rs : ℕ → Open) (i n : ℕ) → i < n → Deep (stackBy rs n) → (Bound (rs i .tag) (rs i .level) i × Words (rs i .kept)) × (load (stackBy rs (suc i)) ≤ load (stackBy rs n)) × Deep (stackBy rs i)
+deep-at rs i zero h d = absurd (omega arith)
+deep-at rs i (suc n) h d = go (leb (suc i) n) refl (λ l. deep-at rs i n l (d .2))
+  where
+    go : (b : Bool) → leb (suc i) n ≡ b → (i < n → (Bound (rs i .tag) (rs i .level) i × Words (rs i .kept)) × (load (stackBy rs (suc i)) ≤ load (stackBy rs n)) × Deep (stackBy rs i)) → (Bound (rs i .tag) (rs i .level) i × Words (rs i .kept)) × (load (stackBy rs (suc i)) ≤ load (stackBy rs (suc n))) × Deep (stackBy rs i)
+    go true e y = let x = y (leb-true (suc i) n e) in let l = x .1 in (x .0, omega arith, x .2)
+    go false e y =
+        let z : i ≡ n = last (leb-false (suc i) n e) in
+        let s = stack-length rs n in
+        rw z ((subst (λ (m : ℕ). Bound (rs n .tag) (rs n .level) m) s (d .0), d .1), omega arith, d .2)
+      where
+        last : n < suc i → i ≡ n
+        last l = omega arith
+
+pub record Loaded (row : List ℕ) (n total i : ℕ) : Type 0 where
+  pub upTo : i ≤ n
+  pub deep : Deep (stackBy (openAt row) i)
+  pub load : load (stackBy (openAt row) i) ≡ total
+  pub few : total ≤ 16777217
+
+pub loaded-none : (row : List ℕ) (n : ℕ) → Loaded row n 0 0
+loaded-none row n = record { upTo = omega arith; deep = tt; load = refl; few = omega arith }
+
+pub loaded-room : (row : List ℕ) (n total i : ℕ) → n ≤ 18 → 209 ≤ length row → i < n → i * 11 + 11 ≤ length row
+loaded-room row n total i h l k = omega arith
+
+module _ (row : List ℕ) (n total i : ℕ) (h : Loaded row n total i) (l : i < n) (f : Open) (ef : f ≡ openAt row i) (v : ℕ) (wv : Weighs (OpenFits f i) (f .count + extra (f .tag)) v) where
+  same : Weighs (OpenFits (openAt row i) i) (openAt row i .count + extra (openAt row i .tag)) v
+  same = rw (← ef) wv
+
+  pub loaded-few : total + v ≤ 33554436
+  loaded-few = let a = h .few in let b = wv .most in omega arith
+
+  pub loaded-over : 16777217 < total + v → (r : ℕ) → r ≡ 16777218 → RowFits row n r
+  loaded-over o r q =
+      heavy (load (stackBy (openAt row) n)) r q (λ p m.
+      let x = deep-at (openAt row) i n l p in
+      let y = x .1 in
+      let w = h .load in
+      let z = same .all (x .0) (omega arith) in
+      omega arith)
+
+  pub loaded-next : total + v ≤ 16777217 → Loaded row n (total + v) (i + 1)
+  loaded-next m =
+      let z = same .yes (omega arith) in
+      let e = z .1 in
+      let w = h .load in
+      let s = stack-length (openAt row) i in
+      let k : Loaded row n (total + v) (suc i) = record {
+        upTo = omega arith;
+        deep = (subst (λ (x : ℕ). Bound (openAt row i .tag) (openAt row i .level) x) (sym s) (z .0 .0), z .0 .1, h .deep);
+        load = omega arith;
+        few = m;
+      } in
+      rw (add-one i) k
+
+pub loaded-all : (row : List ℕ) (n total i : ℕ) → Loaded row n total i → n ≤ i → (r : ℕ) → r ≡ total → RowFits row n r
+loaded-all row n total i h l r q =
+    let u = h .upTo in
+    let e : i ≡ n = omega arith in
+    let d : Deep (stackBy (openAt row) n) = subst (λ (x : ℕ). Deep (stackBy (openAt row) x)) e (h .deep) in
+    let w : load (stackBy (openAt row) n) ≡ total = subst (λ (x : ℕ). load (stackBy (openAt row) x) ≡ total) e (h .load) in
+    let f = h .few in
+    record { yes = λ m. (d, q ∙ sym w); all = λ p m. q ∙ sym w; most = omega arith }
+
+pub ruleset loaded-laws = (loaded-none, loaded-room, loaded-few, loaded-over, loaded-next, loaded-all)

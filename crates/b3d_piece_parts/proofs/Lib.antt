@@ -1,0 +1,4 @@
+pub mod NestLaws
+pub mod Giving
+pub mod Edges
+pub mod Entering

@@ -1,0 +1,31 @@
+-- `wrong_for` comes to the machine's state, whatever chunks stand around.
+use Rattle.b3d_piece_parts.proofs.Entering.{wrong-laws}
+use borrow.Author.Needs.{needs}
+use Rattle.b3d_piece_parts.proofs.bodies.wrong_for.Statement.{statement}
+use Rattle.b3d_piece_parts.proofs.bodies.wrong_for.Tie as tie
+
+pub wrong-for-spec : {M : Type 1} → statement M
+wrong-for-spec =
+    tie.close
+    (tie.spec
+    (λ c. search needs)
+    (λ c. search needs)
+    (λ c. search needs)
+    (λ c. search needs)
+    (λ c. search needs)
+    (λ c. search needs)
+    (λ c. search needs)
+    (λ c. search needs)
+    (λ c. search needs)
+    (λ c. search needs)
+    (λ c. search needs)
+    (λ c. search (wrong-laws, needs))
+    (λ c. search (wrong-laws, needs))
+    (λ c. search (wrong-laws, needs))
+    (λ c. search (wrong-laws, needs))
+    (λ c. search (wrong-laws, needs))
+    (λ c. search (wrong-laws, needs))
+    (λ c. search (wrong-laws, needs))
+    (λ c. search (wrong-laws, needs))
+    (λ c. search (wrong-laws, needs))
+    (λ c. search (wrong-laws, needs)))

@@ -1,0 +1,107 @@
+// Between two parts of a chunk: an item or a header begins, or the chunk ends.
+ghost use mathlib.Core.Path.{_≡_};
+ghost use Prim.Native.Nat.{_-_};
+ghost use Rattle.b3d_pieces.specs.Bodies.{nests as nestsOf, textItems};
+ghost use Rattle.b3d_pieces.specs.Machine.{begin as beginOf};
+ghost use Rattle.b3d_piece_parts.specs.Nows.{Ready, Gives, edgeHere};
+use crate::Now;
+use crate::nesting::lacks;
+use b3d_piece_rules::lengths::inner_len;
+use b3d_piece_totals::leave;
+use b3d_pieces::Kept;
+use b3d_pieces::Open;
+use b3d_pieces::Part;
+use b3d_pieces::Totals;
+use b3d_scene::Tag;
+
+pub fn less(a: usize, b: usize) -> usize
+    ensures { λ r. ⌜ r ≡ a - b ⌝ }
+{
+    if a < b {
+        return 0;
+    }
+    a - b
+}
+
+pub fn text_items(tag: Tag) -> bool
+    ensures { λ r. ⌜ r ≡ textItems tag ⌝ }
+{
+    match tag {
+        Tag::BB3D => false,
+        Tag::TEXS => true,
+        Tag::BRUS => true,
+        Tag::NODE => false,
+        Tag::MESH => false,
+        Tag::VRTS => false,
+        Tag::TRIS => false,
+        Tag::BONE => false,
+        Tag::KEYS => false,
+        Tag::ANIM => false,
+    }
+}
+
+pub fn nests(tag: Tag) -> bool
+    ensures { λ r. ⌜ r ≡ nestsOf tag ⌝ }
+{
+    match tag {
+        Tag::BB3D => true,
+        Tag::TEXS => false,
+        Tag::BRUS => false,
+        Tag::NODE => true,
+        Tag::MESH => true,
+        Tag::VRTS => false,
+        Tag::TRIS => false,
+        Tag::BONE => false,
+        Tag::KEYS => false,
+        Tag::ANIM => false,
+    }
+}
+
+// An item or a header begins.
+pub fn begin(at: usize, g: Totals, f: Open) -> Now
+    requires { ⌜ Ready 0 at g f ⌝ }
+    ensures { λ r. ⌜ Gives 0 at g f r (beginOf at g f) ⌝ }
+{
+    let tag = f.tag;
+    if text_items(tag) {
+        return Now::Live(at, Part::Text(false, at), g, f);
+    }
+    let kept = f.kept;
+    let n = inner_len(tag, kept, g);
+    let end = f.end;
+    let left = less(end, at);
+    if left / 4 < n {
+        if nests(tag) {
+            return Now::Fault(3, at);
+        }
+        return Now::Fault(5, at);
+    }
+    let none = Kept {
+        first: 0,
+        second: 0,
+        third: 0,
+    };
+    Now::Live(at, Part::Row(false, at, 0, 0, 0, none), g, f)
+}
+
+// A part of the innermost chunk is over: it goes on, or is left.
+pub fn edge(at: usize, g: Totals, f: Open) -> Now
+    requires { ⌜ Ready 0 at g f ⌝ }
+    ensures { λ r. ⌜ Gives 0 at g f r (edgeHere at g f) ⌝ }
+{
+    let end = f.end;
+    if at != end {
+        return begin(at, g, f);
+    }
+    let tag = f.tag;
+    let turn = f.turn;
+    if lacks(tag, turn) {
+        let head = f.head;
+        return Now::Fault(8, head);
+    }
+    let count = f.count;
+    let kept = f.kept;
+    let told = f.told;
+    let x = leave(tag, count, kept, told, g);
+    Now::Pop(at, x)
+}

@@ -1,0 +1,188 @@
+// A number of a row against its rule, by the tag of its chunk and its index: 0, or the refusal that it gets.
+ghost use mathlib.Core.Path.{_≡_};
+ghost use mathlib.Core.List.{[], _∷_};
+ghost use Rattle.wire.specs.Bytes.{IsWord};
+ghost use Rattle.layout.specs.Rules.{upTo, names, namesOrNone, unit};
+ghost use Rattle.b3d_scene.specs.Rules.{verticesHead, boneVertices};
+ghost use Rattle.b3d_pieces.specs.Bodies.{above};
+ghost use Rattle.b3d_piece_rules.specs.Faults.{faultOf, faultIn, slotFault, fixedFault, innerFault, rowFault, IdsAre, VertexIs};
+use b3d_colour::colour_ok;
+use b3d_pieces::Kept;
+use b3d_pieces::Totals;
+use b3d_scene::Tag;
+
+pub fn up_to(m: usize, w: usize) -> u32
+    ensures { λ r. ⌜ r ≡ faultOf (upTo m) w ⌝ }
+{
+    if w <= m {
+        return 0;
+    }
+    6
+}
+
+pub fn name(n: usize, w: usize) -> u32
+    ensures { λ r. ⌜ r ≡ faultOf (names n) w ⌝ }
+{
+    if w < n {
+        return 0;
+    }
+    7
+}
+
+pub fn name_or_none(n: usize, w: usize) -> u32
+    ensures { λ r. ⌜ r ≡ faultOf (namesOrNone n) w ⌝ }
+{
+    if w == 0xFFFFFFFF {
+        return 0;
+    }
+    if w < n {
+        return 0;
+    }
+    7
+}
+
+// A row of one number of this range.
+pub fn head_fault(m: usize, i: usize, w: usize) -> u32
+    ensures { λ r. ⌜ r ≡ faultIn (upTo m ∷ []) i w ⌝ }
+{
+    if i == 0 {
+        return up_to(m, w);
+    }
+    0
+}
+
+// A row of one brush id.
+pub fn brush_fault(n: usize, i: usize, w: usize) -> u32
+    ensures { λ r. ⌜ r ≡ faultIn (namesOrNone n ∷ []) i w ⌝ }
+{
+    if i == 0 {
+        return name_or_none(n, w);
+    }
+    0
+}
+
+// Flags, sets, size of a set.
+pub fn vertices_fault(i: usize, w: usize) -> u32
+    ensures { λ r. ⌜ r ≡ faultIn verticesHead i w ⌝ }
+{
+    if i == 0 {
+        return up_to(3, w);
+    }
+    if i == 1 {
+        return up_to(8, w);
+    }
+    if i == 2 {
+        return up_to(4, w);
+    }
+    0
+}
+
+pub fn fixed_fault(tag: Tag, g: Totals, i: usize, w: usize) -> u32
+    ensures { λ r. ⌜ r ≡ fixedFault tag g i w ⌝ }
+{
+    match tag {
+        Tag::BB3D => head_fault(99, i, w),
+        Tag::TEXS => 0,
+        Tag::BRUS => head_fault(8, i, w),
+        Tag::NODE => 0,
+        Tag::MESH => brush_fault(g.brushes, i, w),
+        Tag::VRTS => vertices_fault(i, w),
+        Tag::TRIS => brush_fault(g.brushes, i, w),
+        Tag::BONE => 0,
+        Tag::KEYS => head_fault(7, i, w),
+        Tag::ANIM => 0,
+    }
+}
+
+// Red, green, blue or alpha.
+pub fn colour(w: usize) -> u32
+    requires { ⌜ IsWord w ⌝ }
+    ensures { λ r. ⌜ r ≡ faultOf unit w ⌝ }
+{
+    let bits = w as u32;
+    if colour_ok(bits) {
+        return 0;
+    }
+    6
+}
+
+// A brush: four colours, three other numbers, then so many texture ids.
+pub fn slot_fault(slots: usize, n: usize, i: usize, w: usize) -> u32
+    requires { ⌜ IsWord w ⌝ }
+    ensures { λ r. ⌜ r ≡ slotFault slots n i w ⌝ }
+{
+    if i < 4 {
+        return colour(w);
+    }
+    if i < 7 {
+        return 0;
+    }
+    if i - 7 < slots {
+        return name_or_none(n, w);
+    }
+    0
+}
+
+// A vertex with these flags: position and normal, four colours, the sets.
+pub fn vertex_fault(flags: usize, i: usize, w: usize) -> u32
+    requires { ⌜ IsWord w ⌝ }
+    ensures { λ r. ⌜ VertexIs flags i w r ⌝ }
+{
+    let before = 3 + flags / 1 % 2 * 3;
+    if i < before {
+        return 0;
+    }
+    if i - before < flags / 2 % 2 * 4 {
+        return colour(w);
+    }
+    0
+}
+
+// Ids from the first number on, so many of them.
+pub fn ids_fault(count: usize, n: usize, i: usize, w: usize) -> u32
+    ensures { λ r. ⌜ IdsAre count n i w r ⌝ }
+{
+    if i < count {
+        return name(n, w);
+    }
+    0
+}
+
+// How many vertices the bones of the present node may name.
+pub fn bone_vertices(g: Totals) -> usize
+    ensures { λ r. ⌜ r ≡ boneVertices (above g) ⌝ }
+{
+    let rows = g.rows;
+    if rows.nodes == 1 {
+        return 0;
+    }
+    g.told
+}
+
+pub fn inner_fault(tag: Tag, k: Kept, g: Totals, i: usize, w: usize) -> u32
+    requires { ⌜ IsWord w ⌝ }
+    ensures { λ r. ⌜ r ≡ innerFault tag k g i w ⌝ }
+{
+    match tag {
+        Tag::BB3D => 0,
+        Tag::TEXS => 0,
+        Tag::BRUS => slot_fault(k.first, g.textures, i, w),
+        Tag::NODE => 0,
+        Tag::MESH => 0,
+        Tag::VRTS => vertex_fault(k.first, i, w),
+        Tag::TRIS => ids_fault(3, g.own, i, w),
+        Tag::BONE => ids_fault(1, bone_vertices(g), i, w),
+        Tag::KEYS => 0,
+        Tag::ANIM => 0,
+    }
+}
+
+pub fn row_fault(fixed: bool, tag: Tag, k: Kept, g: Totals, i: usize, w: usize) -> u32
+    requires { ⌜ IsWord w ⌝ }
+    ensures { λ r. ⌜ r ≡ rowFault fixed tag k g i w ⌝ }
+{
+    if fixed {
+        return fixed_fault(tag, g, i, w);
+    }
+    inner_fault(tag, k, g, i, w)
+}

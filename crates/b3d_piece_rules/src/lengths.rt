@@ -1,0 +1,63 @@
+// The numbers of a row, by the tag of their chunk: how many there are, and what each must be.
+ghost use mathlib.Core.Path.{_≡_};
+ghost use lib.ListN.{length};
+ghost use Rattle.b3d_scene.specs.Rules.{vertexWords};
+ghost use Rattle.b3d_pieces.specs.Bodies.{fixedRow, innerRow, rulesOf};
+ghost use Rattle.b3d_pieces.specs.Good.{Words};
+use b3d_pieces::Kept;
+use b3d_pieces::Totals;
+use b3d_scene::Tag;
+
+// How many numbers the fixed data of a chunk has.
+pub fn fixed_len(tag: Tag, g: Totals) -> usize
+    ensures { λ r. ⌜ r ≡ length (fixedRow tag g) ⌝ }
+{
+    match tag {
+        Tag::BB3D => 1,
+        Tag::TEXS => 0,
+        Tag::BRUS => 1,
+        Tag::NODE => 10,
+        Tag::MESH => 1,
+        Tag::VRTS => 3,
+        Tag::TRIS => 1,
+        Tag::BONE => 0,
+        Tag::KEYS => 1,
+        Tag::ANIM => 3,
+    }
+}
+
+pub fn vertex_len(k: Kept) -> usize
+    requires { ⌜ Words k ⌝ }
+    ensures { λ r. ⌜ r ≡ vertexWords (k .first) (k .second) (k .third) ⌝ }
+{
+    3 + k.first / 1 % 2 * 3 + k.first / 2 % 2 * 4 + k.second * k.third
+}
+
+// How many numbers an item has, or the header of a chunk inside.
+pub fn inner_len(tag: Tag, k: Kept, g: Totals) -> usize
+    requires { ⌜ Words k ⌝ }
+    ensures { λ r. ⌜ r ≡ length (innerRow tag k g) ⌝ }
+{
+    match tag {
+        Tag::BB3D => 2,
+        Tag::TEXS => 7,
+        Tag::BRUS => 7 + k.first,
+        Tag::NODE => 2,
+        Tag::MESH => 2,
+        Tag::VRTS => vertex_len(k),
+        Tag::TRIS => 3,
+        Tag::BONE => 2,
+        Tag::KEYS => 1 + k.first / 1 % 2 * 3 + k.first / 2 % 2 * 3 + k.first / 4 % 2 * 4,
+        Tag::ANIM => 0,
+    }
+}
+
+pub fn row_len(fixed: bool, tag: Tag, k: Kept, g: Totals) -> usize
+    requires { ⌜ Words k ⌝ }
+    ensures { λ r. ⌜ r ≡ length (rulesOf fixed tag k g) ⌝ }
+{
+    if fixed {
+        return fixed_len(tag, g);
+    }
+    inner_len(tag, k, g)
+}

@@ -1,0 +1,60 @@
+// The loop over a piece's bytes, by value: what it begins with, and a turn. Whoever holds the row reads the record at `get` before a turn
+// and writes `rec` at `put` after it.
+ghost use Prim.Native.Nat.{_<_};
+ghost use Rattle.b3d_piece_take.specs.Takes.{TakeReady};
+ghost use Rattle.b3d_piece_take.specs.Loops.{Begins, StepIs};
+use crate::Judge;
+use crate::Turn;
+use crate::taking::take;
+use b3d_piece_bytes::headers::fresh;
+use b3d_piece_turn::turning::pending;
+use b3d_piece_turn::turning::slot;
+use b3d_pieces::Open;
+use b3d_scene::Tag;
+
+pub fn begin(j: Judge, bytes: usize) -> Turn
+    ensures { λ r. ⌜ Begins j bytes r ⌝ }
+{
+    let depth = j.depth;
+    let get = slot(depth);
+    let rec = fresh(Tag::BB3D, 0, 0, 0, 0);
+    Turn {
+        judge: j,
+        at: 0,
+        end: bytes,
+        get: get,
+        put: 0,
+        rec: rec,
+    }
+}
+
+pub fn step(t: Turn, rec: Open, b: u8) -> Turn
+    requires { ⌜ TakeReady (t .judge) rec × (t .at < t .end) ⌝ }
+    ensures { λ r. ⌜ StepIs t rec b r ⌝ }
+{
+    let j = t.judge;
+    let x = take(j, rec, b);
+    let next = x.judge;
+    let back = x.rec;
+    let now = next.now;
+    let depth = next.depth;
+    let get = slot(depth);
+    if pending(now) {
+        return Turn {
+            judge: next,
+            at: t.at,
+            end: t.end,
+            get: get,
+            put: x.put,
+            rec: back,
+        };
+    }
+    Turn {
+        judge: next,
+        at: t.at + 1,
+        end: t.end,
+        get: get,
+        put: x.put,
+        rec: back,
+    }
+}

@@ -1,0 +1,234 @@
+// What a chunk changes in the totals: BB3D's fixed data, a node that begins, a chunk that is left. The definitions are those of b3d_pieces.
+ghost use mathlib.Core.Path.{_≡_};
+ghost use Prim.Native.Nat.{_+_, _≤_};
+ghost use Rattle.b3d_scene.specs.Rules.{boneVertices, bonesFrom};
+ghost use Rattle.b3d_pieces.specs.Bodies.{above, saying, rowsWith, fileWith, headed as headedOf, entered, slotsFor, rowsAfter, saidAbove, closed};
+ghost use Rattle.b3d_pieces.specs.Good.{sum};
+use b3d_pieces::Kept;
+use b3d_pieces::Totals;
+use b3d_scene::Counts;
+use b3d_scene::Tag;
+
+// With these rows of tables 3 to 10.
+fn with_rows(g: Totals, rows: Counts) -> Totals
+    ensures { λ r. ⌜ r ≡ rowsWith g rows ⌝ }
+{
+    Totals {
+        version: g.version,
+        slots: g.slots,
+        textures: g.textures,
+        brushes: g.brushes,
+        own: g.own,
+        told: g.told,
+        below: g.below,
+        rows: rows,
+    }
+}
+
+// With this version, n_texs, textures and brushes.
+fn with_file(g: Totals, version: usize, slots: usize, textures: usize, brushes: usize) -> Totals
+    ensures { λ r. ⌜ r ≡ fileWith g version slots textures brushes ⌝ }
+{
+    let rows = g.rows;
+    Totals {
+        version: version,
+        slots: slots,
+        textures: textures,
+        brushes: brushes,
+        own: g.own,
+        told: g.told,
+        below: g.below,
+        rows: rows,
+    }
+}
+
+// How many vertices the bones below the present node may name, if it has so many of its own, and an ANIM or none.
+fn bones_below(anim: bool, own: usize, g: Totals) -> usize
+    ensures { λ r. ⌜ r ≡ boneVertices (bonesFrom (above g) anim own) ⌝ }
+{
+    if anim {
+        return own;
+    }
+    let rows = g.rows;
+    if rows.nodes == 1 {
+        return own;
+    }
+    g.told
+}
+
+// The present node has so many vertices, and an ANIM or none: what it says to those below.
+fn says(anim: bool, own: usize, g: Totals) -> Totals
+    ensures { λ r. ⌜ r ≡ saying anim own g ⌝ }
+{
+    let below = bones_below(anim, own, g);
+    let rows = g.rows;
+    Totals {
+        version: g.version,
+        slots: g.slots,
+        textures: g.textures,
+        brushes: g.brushes,
+        own: own,
+        told: g.told,
+        below: below,
+        rows: rows,
+    }
+}
+
+// BB3D's fixed data is its version.
+pub fn headed(tag: Tag, k: Kept, g: Totals) -> Totals
+    ensures { λ r. ⌜ r ≡ headedOf tag k g ⌝ }
+{
+    match tag {
+        Tag::BB3D => with_file(g, k.first, g.slots, g.textures, g.brushes),
+        Tag::TEXS => g,
+        Tag::BRUS => g,
+        Tag::NODE => g,
+        Tag::MESH => g,
+        Tag::VRTS => g,
+        Tag::TRIS => g,
+        Tag::BONE => g,
+        Tag::KEYS => g,
+        Tag::ANIM => g,
+    }
+}
+
+// A node begins.
+pub fn node_begins(g: Totals) -> Totals
+    requires { ⌜ sum g + 1 ≤ 16777217 ⌝ }
+    ensures { λ r. ⌜ r ≡ entered g ⌝ }
+{
+    let n = g.rows;
+    let rows = Counts {
+        nodes: n.nodes + 1,
+        meshes: n.meshes,
+        vertices: n.vertices,
+        sets: n.sets,
+        triangles: n.triangles,
+        weights: n.weights,
+        lists: n.lists,
+        keys: n.keys,
+    };
+    let x = Totals {
+        version: g.version,
+        slots: g.slots,
+        textures: g.textures,
+        brushes: g.brushes,
+        own: 0,
+        told: g.below,
+        below: g.below,
+        rows: rows,
+    };
+    says(false, 0, x)
+}
+
+fn slots_for(brushes: usize, slots: usize) -> usize
+    ensures { λ r. ⌜ r ≡ slotsFor brushes slots ⌝ }
+{
+    if brushes == 0 {
+        return 0;
+    }
+    slots
+}
+
+// The rows of tables 3 to 10 after a chunk with so many items.
+fn rows_after(tag: Tag, c: usize, g: Totals) -> Counts
+    requires { ⌜ sum g + c ≤ 16777217 ⌝ }
+    ensures { λ r. ⌜ r ≡ rowsAfter tag c (g .rows) ⌝ }
+{
+    let n = g.rows;
+    match tag {
+        Tag::MESH => Counts {
+            nodes: n.nodes,
+            meshes: n.meshes + 1,
+            vertices: n.vertices,
+            sets: n.sets,
+            triangles: n.triangles,
+            weights: n.weights,
+            lists: n.lists,
+            keys: n.keys,
+        },
+        Tag::VRTS => Counts {
+            nodes: n.nodes,
+            meshes: n.meshes,
+            vertices: n.vertices + c,
+            sets: n.sets,
+            triangles: n.triangles,
+            weights: n.weights,
+            lists: n.lists,
+            keys: n.keys,
+        },
+        Tag::TRIS => Counts {
+            nodes: n.nodes,
+            meshes: n.meshes,
+            vertices: n.vertices,
+            sets: n.sets + 1,
+            triangles: n.triangles + c,
+            weights: n.weights,
+            lists: n.lists,
+            keys: n.keys,
+        },
+        Tag::BONE => Counts {
+            nodes: n.nodes,
+            meshes: n.meshes,
+            vertices: n.vertices,
+            sets: n.sets,
+            triangles: n.triangles,
+            weights: n.weights + c,
+            lists: n.lists,
+            keys: n.keys,
+        },
+        Tag::KEYS => Counts {
+            nodes: n.nodes,
+            meshes: n.meshes,
+            vertices: n.vertices,
+            sets: n.sets,
+            triangles: n.triangles,
+            weights: n.weights,
+            lists: n.lists + 1,
+            keys: n.keys + c,
+        },
+        Tag::BB3D => n,
+        Tag::TEXS => n,
+        Tag::BRUS => n,
+        Tag::NODE => n,
+        Tag::ANIM => n,
+    }
+}
+
+// After a node the one around it says what that one was told.
+fn said_above(g: Totals, told: usize) -> Totals
+    ensures { λ r. ⌜ r ≡ saidAbove g told ⌝ }
+{
+    let rows = g.rows;
+    Totals {
+        version: g.version,
+        slots: g.slots,
+        textures: g.textures,
+        brushes: g.brushes,
+        own: g.own,
+        told: g.told,
+        below: told,
+        rows: rows,
+    }
+}
+
+// A chunk is left.
+pub fn leave(tag: Tag, c: usize, k: Kept, told: usize, g: Totals) -> Totals
+    requires { ⌜ sum g + c ≤ 16777217 ⌝ }
+    ensures { λ r. ⌜ r ≡ closed tag c k told g ⌝ }
+{
+    let rows = rows_after(tag, c, g);
+    let x = with_rows(g, rows);
+    match tag {
+        Tag::BB3D => g,
+        Tag::TEXS => with_file(g, g.version, g.slots, c, g.brushes),
+        Tag::BRUS => with_file(g, g.version, slots_for(c, k.first), g.textures, c),
+        Tag::NODE => said_above(g, told),
+        Tag::MESH => x,
+        Tag::VRTS => says(false, c, x),
+        Tag::TRIS => x,
+        Tag::BONE => x,
+        Tag::KEYS => x,
+        Tag::ANIM => says(true, g.own, g),
+    }
+}

@@ -1,0 +1,90 @@
+// A turn: it is lent the outermost but one record by value, and says which record is to be written. A turn that finds a chunk to be
+// entered or left takes no byte.
+ghost use mathlib.Core.Path.{_≡_};
+ghost use Prim.Native.Nat.{_≤_};
+ghost use Rattle.b3d_piece_turn.specs.Turns.{slotOf, pends, ReadyNow, TurnIs};
+use crate::Turned;
+use b3d_piece_bytes::bytes::byte_in;
+use b3d_piece_parts::Now;
+use b3d_piece_parts::between::edge;
+use b3d_piece_parts::bodies::enter;
+use b3d_pieces::Open;
+
+// The place of the last of so many records.
+pub fn slot(n: usize) -> usize
+    ensures { λ r. ⌜ r ≡ slotOf n ⌝ }
+{
+    if n == 0 {
+        return 0;
+    }
+    n - 1
+}
+
+// The next turn takes no byte.
+pub fn pending(now: Now) -> bool
+    ensures { λ r. ⌜ r ≡ pends now ⌝ }
+{
+    match now {
+        Now::Live(_, _, _, _) => false,
+        Now::Push(_, _, _, _) => true,
+        Now::Pop(_, _) => true,
+        Now::Fault(_, _) => false,
+        Now::Over(_) => false,
+    }
+}
+
+pub fn turn(now: Now, n: usize, rec: Open, b: u8) -> Turned
+    requires { ⌜ ReadyNow now n rec × (n ≤ 18) ⌝ }
+    ensures { λ r. ⌜ TurnIs now n rec b r ⌝ }
+{
+    let last = slot(n);
+    match now {
+        Now::Live(at, m, g, f) => {
+            let x = byte_in(m, b, at, g, f);
+            Turned {
+                now: x,
+                depth: n,
+                put: last,
+                rec: rec,
+            }
+        }
+        Now::Push(at, g, f, o) => {
+            let x = enter(at, g, f);
+            Turned {
+                now: x,
+                depth: n + 1,
+                put: n,
+                rec: o,
+            }
+        }
+        Now::Pop(at, g) => {
+            if n == 0 {
+                return Turned {
+                    now: Now::Over(g),
+                    depth: 0,
+                    put: 0,
+                    rec: rec,
+                };
+            }
+            let x = edge(at, g, rec);
+            Turned {
+                now: x,
+                depth: n - 1,
+                put: n - 1,
+                rec: rec,
+            }
+        }
+        Now::Fault(k, p) => Turned {
+            now: Now::Fault(k, p),
+            depth: n,
+            put: last,
+            rec: rec,
+        },
+        Now::Over(g) => Turned {
+            now: Now::Over(g),
+            depth: n,
+            put: last,
+            rec: rec,
+        },
+    }
+}

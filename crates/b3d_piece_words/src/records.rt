@@ -1,0 +1,101 @@
+// A record as eleven words of a row: read, and written.
+ghost use mathlib.Core.Path.{_≡_};
+ghost use Prim.Native.Nat.{_+_, _*_, _≤_};
+ghost use lib.ListN.{length};
+ghost use Rattle.b3d_pieces.specs.Row.{tagNumber, tagBy, flag, openAt, putOpen};
+use b3d_pieces::Kept;
+use b3d_pieces::Open;
+use b3d_scene::Tag;
+
+// A tag by its number, the last for every other number.
+fn tag_by(n: usize) -> Tag
+    ensures { λ r. ⌜ r ≡ tagBy n ⌝ }
+{
+    match n {
+        0 => Tag::BB3D,
+        1 => Tag::TEXS,
+        2 => Tag::BRUS,
+        3 => Tag::NODE,
+        4 => Tag::MESH,
+        5 => Tag::VRTS,
+        6 => Tag::TRIS,
+        7 => Tag::BONE,
+        8 => Tag::KEYS,
+        _ => Tag::ANIM,
+    }
+}
+
+// The record at place `i`.
+pub fn open_at(row: &[usize], i: usize) -> Open
+    requires { ⌜ i * 11 + 11 ≤ length (now row) ⌝ }
+    ensures { λ r. ⌜ r ≡ openAt (now (row .entry)) i ⌝ }
+{
+    let p = i * 11;
+    let tag = tag_by(row[p]);
+    let kept = Kept {
+        first: row[p + 6],
+        second: row[p + 7],
+        third: row[p + 8],
+    };
+    Open {
+        tag: tag,
+        head: row[p + 1],
+        end: row[p + 2],
+        turn: row[p + 3],
+        spent: row[p + 4] == 1,
+        level: row[p + 5],
+        kept: kept,
+        count: row[p + 9],
+        told: row[p + 10],
+    }
+}
+
+fn tag_number(t: Tag) -> usize
+    ensures { λ r. ⌜ r ≡ tagNumber t ⌝ }
+{
+    match t {
+        Tag::BB3D => 0,
+        Tag::TEXS => 1,
+        Tag::BRUS => 2,
+        Tag::NODE => 3,
+        Tag::MESH => 4,
+        Tag::VRTS => 5,
+        Tag::TRIS => 6,
+        Tag::BONE => 7,
+        Tag::KEYS => 8,
+        Tag::ANIM => 9,
+    }
+}
+
+fn flag_of(b: bool) -> usize
+    ensures { λ r. ⌜ r ≡ flag b ⌝ }
+{
+    if b {
+        return 1;
+    }
+    0
+}
+
+// Writes the record `f` at place `i`.
+pub fn put_open(row: &mut [usize], i: usize, f: Open)
+    requires { ⌜ i * 11 + 11 ≤ length (now row) ⌝ }
+    ensures { λ _. ⌜ now (row .exit) ≡ putOpen (now (row .entry)) i f ⌝ }
+{
+    let p = i * 11;
+    let tag = f.tag;
+    let kept = f.kept;
+    let spent = f.spent;
+    let t = tag_number(tag);
+    let s = flag_of(spent);
+    row[p] = t;
+    row[p + 1] = f.head;
+    row[p + 2] = f.end;
+    row[p + 3] = f.turn;
+    row[p + 4] = s;
+    row[p + 5] = f.level;
+    row[p + 6] = kept.first;
+    row[p + 7] = kept.second;
+    row[p + 8] = kept.third;
+    row[p + 9] = f.count;
+    row[p + 10] = f.told;
+}

@@ -1,0 +1,16 @@
+pub mod Runs
+pub mod Items
+pub mod Counting
+pub mod Leaves
+pub mod Nested
+pub mod BodyRuns
+pub mod Sums
+pub mod MeshSums
+pub mod Phases
+pub mod NodeSums
+pub mod FileSums
+pub mod Whole
+pub mod Depth
+pub mod InCalls
+pub mod RowLaws
+pub mod Cases

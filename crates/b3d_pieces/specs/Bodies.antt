@@ -1,0 +1,241 @@
+-- What stands inside a chunk by its tag: the rules of its fixed data and of its items, all cited from b3d_scene, and what it adds to the totals.
+-- The piece judge is strict.
+use Prim.Native.Nat.{ℕ, zero, suc, _+_}
+use mathlib.Core.Bool.{Bool, true, false, not}
+use mathlib.Core.Option.{Option, none, some}
+use mathlib.Core.List.{List, [], _∷_, _++_}
+use lib.ListN.{drop}
+use lib.Dec.{eqb, ltb}
+use Rattle.wire.specs.Test.{if}
+use Rattle.layout.specs.Rules.{Rule, any}
+use Rattle.b3d_scene.specs.declared.Tag.{Tag}
+use Rattle.b3d_scene.specs.declared.Tag.the-variants.{BB3D, TEXS, BRUS, NODE, MESH, VRTS, TRIS, BONE, KEYS, ANIM}
+use Rattle.b3d_scene.specs.declared.Mode.the-variants.{Strict}
+use Rattle.b3d_scene.specs.declared.Counts.{Counts}
+use Rattle.b3d_scene.specs.Rules.{header, fileHead, textureRow, brushesHead, brushRow, brushIds, nodeRow, meshHead, verticesHead, vertexRow, trianglesHead, triangleRow, weightRow, keysHead, keyRow, animRow, boneVertices, bonesFrom}
+use Rattle.b3d_pieces.specs.declared.Totals.{Totals}
+use Rattle.b3d_pieces.specs.declared.Kept.{Kept}
+
+-- ---- bones
+
+-- what the nodes above the present node say of bones; none: it is the root, the first node of a file
+unfoldable pub above : Totals → Option ℕ
+above g = if (eqb (g .rows .nodes) 1) none (some (g .told))
+
+-- the present node has so many vertices, and an ANIM or none: what it says to those below
+abbrev pub saying : Bool → ℕ → Totals → Totals
+saying a own g =
+    record {
+      version = g .version;
+      slots = g .slots;
+      textures = g .textures;
+      brushes = g .brushes;
+      own = own;
+      told = g .told;
+      below = boneVertices (bonesFrom (above g) a own);
+      rows = g .rows;
+    }
+
+-- ---- rows
+
+-- the fixed data of a chunk, after its text if it has one
+abbrev pub fixedRow : Tag → Totals → List Rule
+fixedRow BB3D g = fileHead
+fixedRow TEXS g = []
+fixedRow BRUS g = brushesHead
+fixedRow NODE g = nodeRow
+fixedRow MESH g = meshHead (g .brushes)
+fixedRow VRTS g = verticesHead
+fixedRow TRIS g = trianglesHead (g .brushes)
+fixedRow BONE g = []
+fixedRow KEYS g = keysHead
+fixedRow ANIM g = animRow
+
+-- an item of a chunk with these fixed numbers, after its text if it has one; or the header of a chunk inside it
+abbrev pub innerRow : Tag → Kept → Totals → List Rule
+innerRow BB3D k g = header
+innerRow TEXS k g = textureRow
+innerRow BRUS k g = brushRow Strict ++ brushIds (k .first) (g .textures)
+innerRow NODE k g = header
+innerRow MESH k g = header
+innerRow VRTS k g = vertexRow Strict (k .first) (k .second) (k .third)
+innerRow TRIS k g = triangleRow (g .own)
+innerRow BONE k g = weightRow (boneVertices (above g))
+innerRow KEYS k g = keyRow (k .first)
+innerRow ANIM k g = []
+
+abbrev pub rulesOf : Bool → Tag → Kept → Totals → List Rule
+rulesOf true t k g = fixedRow t g
+rulesOf false t k g = innerRow t k g
+
+-- the rule of a number by its index
+abbrev pub first : List Rule → Rule
+first [] = any
+first (r ∷ rs) = r
+
+unfoldable pub ruleAt : List Rule → ℕ → Rule
+ruleAt rs i = first (drop i rs)
+
+-- chunks stand inside
+abbrev pub nests : Tag → Bool
+nests BB3D = true
+nests TEXS = false
+nests BRUS = false
+nests NODE = true
+nests MESH = true
+nests VRTS = false
+nests TRIS = false
+nests BONE = false
+nests KEYS = false
+nests ANIM = false
+
+-- items begin with a text
+abbrev pub textItems : Tag → Bool
+textItems BB3D = false
+textItems TEXS = true
+textItems BRUS = true
+textItems NODE = false
+textItems MESH = false
+textItems VRTS = false
+textItems TRIS = false
+textItems BONE = false
+textItems KEYS = false
+textItems ANIM = false
+
+-- the refusal where a row inside a chunk of this tag is cut
+abbrev pub cutRow : Bool → ℕ
+cutRow true = 3
+cutRow false = 5
+
+-- so many bytes for fixed data of so many are wrong: an ANIM has nothing after it
+abbrev pub wrongFor : Tag → ℕ → ℕ → Bool
+wrongFor BB3D left need = ltb left need
+wrongFor TEXS left need = ltb left need
+wrongFor BRUS left need = ltb left need
+wrongFor NODE left need = ltb left need
+wrongFor MESH left need = ltb left need
+wrongFor VRTS left need = ltb left need
+wrongFor TRIS left need = ltb left need
+wrongFor BONE left need = ltb left need
+wrongFor KEYS left need = ltb left need
+wrongFor ANIM left need = not (eqb left need)
+
+-- ---- numbers that are kept
+
+abbrev pub noneKept : Kept
+noneKept = record { first = 0; second = 0; third = 0 }
+
+abbrev pub keep : ℕ → ℕ → Kept → Kept
+keep zero w k = record { first = w; second = k .second; third = k .third }
+keep (suc zero) w k = record { first = k .first; second = w; third = k .third }
+keep (suc (suc zero)) w k = record { first = k .first; second = k .second; third = w }
+keep (suc (suc (suc i))) w k = k
+
+-- ---- totals
+
+abbrev pub rowsWith : Totals → Counts → Totals
+rowsWith g n =
+    record {
+      version = g .version;
+      slots = g .slots;
+      textures = g .textures;
+      brushes = g .brushes;
+      own = g .own;
+      told = g .told;
+      below = g .below;
+      rows = n;
+    }
+
+-- version, n_texs, textures, brushes
+abbrev pub fileWith : Totals → ℕ → ℕ → ℕ → ℕ → Totals
+fileWith g version slots textures brushes =
+    record {
+      version = version;
+      slots = slots;
+      textures = textures;
+      brushes = brushes;
+      own = g .own;
+      told = g .told;
+      below = g .below;
+      rows = g .rows;
+    }
+
+-- the version is known once BB3D's fixed data is
+abbrev pub headed : Tag → Kept → Totals → Totals
+headed BB3D k g = fileWith g (k .first) (g .slots) (g .textures) (g .brushes)
+headed TEXS k g = g
+headed BRUS k g = g
+headed NODE k g = g
+headed MESH k g = g
+headed VRTS k g = g
+headed TRIS k g = g
+headed BONE k g = g
+headed KEYS k g = g
+headed ANIM k g = g
+
+-- a node takes its row before anything inside it
+abbrev pub oneNode : Counts → Counts
+oneNode n = record { nodes = n .nodes + 1; meshes = n .meshes; vertices = n .vertices; sets = n .sets; triangles = n .triangles; weights = n .weights; lists = n .lists; keys = n .keys }
+
+-- one more node, which is told what the node around it says
+abbrev pub oneMore : Totals → Totals
+oneMore g =
+    record {
+      version = g .version;
+      slots = g .slots;
+      textures = g .textures;
+      brushes = g .brushes;
+      own = 0;
+      told = g .below;
+      below = g .below;
+      rows = oneNode (g .rows);
+    }
+
+-- a node begins, without vertices and ANIM yet
+abbrev pub entered : Totals → Totals
+entered g = saying false 0 (oneMore g)
+
+abbrev pub slotsFor : ℕ → ℕ → ℕ
+slotsFor zero slots = 0
+slotsFor (suc n) slots = slots
+
+-- the rows of tables 3 to 10 after a chunk with so many items
+abbrev pub rowsAfter : Tag → ℕ → Counts → Counts
+rowsAfter BB3D c n = n
+rowsAfter TEXS c n = n
+rowsAfter BRUS c n = n
+rowsAfter NODE c n = n
+rowsAfter MESH c n = record { nodes = n .nodes; meshes = n .meshes + 1; vertices = n .vertices; sets = n .sets; triangles = n .triangles; weights = n .weights; lists = n .lists; keys = n .keys }
+rowsAfter VRTS c n = record { nodes = n .nodes; meshes = n .meshes; vertices = n .vertices + c; sets = n .sets; triangles = n .triangles; weights = n .weights; lists = n .lists; keys = n .keys }
+rowsAfter TRIS c n = record { nodes = n .nodes; meshes = n .meshes; vertices = n .vertices; sets = n .sets + 1; triangles = n .triangles + c; weights = n .weights; lists = n .lists; keys = n .keys }
+rowsAfter BONE c n = record { nodes = n .nodes; meshes = n .meshes; vertices = n .vertices; sets = n .sets; triangles = n .triangles; weights = n .weights + c; lists = n .lists; keys = n .keys }
+rowsAfter KEYS c n = record { nodes = n .nodes; meshes = n .meshes; vertices = n .vertices; sets = n .sets; triangles = n .triangles; weights = n .weights; lists = n .lists + 1; keys = n .keys + c }
+rowsAfter ANIM c n = n
+
+-- what the node around one that is left says is what that one was told
+abbrev pub saidAbove : Totals → ℕ → Totals
+saidAbove g told =
+    record {
+      version = g .version;
+      slots = g .slots;
+      textures = g .textures;
+      brushes = g .brushes;
+      own = g .own;
+      told = g .told;
+      below = told;
+      rows = g .rows;
+    }
+
+-- a chunk is left that had so many items, these fixed numbers and, as a node, was told so many vertices: it adds its rows; a VRTS and an ANIM
+-- may change what their node says to those below
+abbrev pub closed : Tag → ℕ → Kept → ℕ → Totals → Totals
+closed BB3D c k told g = g
+closed TEXS c k told g = fileWith g (g .version) (g .slots) c (g .brushes)
+closed BRUS c k told g = fileWith g (g .version) (slotsFor c (k .first)) (g .textures) c
+closed NODE c k told g = saidAbove g told
+closed MESH c k told g = rowsWith g (rowsAfter MESH c (g .rows))
+closed VRTS c k told g = saying false c (rowsWith g (rowsAfter VRTS c (g .rows)))
+closed TRIS c k told g = rowsWith g (rowsAfter TRIS c (g .rows))
+closed BONE c k told g = rowsWith g (rowsAfter BONE c (g .rows))
+closed KEYS c k told g = rowsWith g (rowsAfter KEYS c (g .rows))
+closed ANIM c k told g = saying true (g .own) g

@@ -1,0 +1,174 @@
+-- The machine inside a BB3D: what a byte does to what is held. `at` is the place where the present number, text byte or passed byte
+-- begins, so that in a number it moves once in four bytes. Of the open chunks the innermost, f, stands apart from those around it.
+use Prim.Native.Nat.{ℕ, zero, suc, _+_, _-_, _*_}
+use mathlib.Core.Bool.{Bool, true, false}
+use mathlib.Core.Option.{Option, none, some}
+use mathlib.Core.List.{List, [], _∷_}
+use lib.ListN.{length}
+use lib.Dec.{eqb, ltb}
+use Rattle.wire.specs.Test.{if}
+use Rattle.layout.specs.Rules.{Rule, holds, refusal}
+use Rattle.b3d_scene.specs.declared.Tag.{Tag}
+use Rattle.b3d_scene.specs.declared.Tag.the-variants.{BB3D, TEXS, BRUS, NODE, MESH, VRTS, TRIS, BONE, KEYS, ANIM}
+use Rattle.b3d_scene.specs.Tags.{tagOf}
+use Rattle.b3d_scene.specs.Nesting.{nesting, Reached, owed, next, end}
+use Rattle.b3d_pieces.specs.declared.Totals.{Totals}
+use Rattle.b3d_pieces.specs.declared.Kept.{Kept}
+use Rattle.b3d_pieces.specs.declared.Open.{Open}
+use Rattle.b3d_pieces.specs.declared.Part.{Part}
+use Rattle.b3d_pieces.specs.declared.Part.the-variants.{Text, Row, Skip}
+use Rattle.b3d_pieces.specs.Bodies.{rulesOf, fixedRow, ruleAt, nests, textItems, cutRow, wrongFor, noneKept, keep, headed, entered, closed}
+
+-- inside chunks; a refusal and its place; past the end of BB3D
+pub data State : Type 0 where
+  live : ℕ → Part → Totals → Open → List Open → State
+  fault : ℕ → ℕ → State
+  over : Totals → State
+
+-- ---- open chunks
+
+-- with its header at `head` and its end at e, so many levels left and, as a node, told so many vertices
+abbrev pub fresh : Tag → ℕ → ℕ → ℕ → ℕ → Open
+fresh t head e level told = record { tag = t; head = head; end = e; turn = 0; spent = false; level = level; kept = noneKept; count = 0; told = told }
+
+-- with its fixed numbers; with so many items; with a chunk inside it that takes the nesting rule this far
+abbrev pub numbered : Open → Kept → Open
+numbered f k = record { tag = f .tag; head = f .head; end = f .end; turn = f .turn; spent = f .spent; level = f .level; kept = k; count = f .count; told = f .told }
+
+abbrev pub counting : Open → ℕ → Open
+counting f c = record { tag = f .tag; head = f .head; end = f .end; turn = f .turn; spent = f .spent; level = f .level; kept = f .kept; count = c; told = f .told }
+
+abbrev pub reaching : Open → Reached → Open
+reaching f r = record { tag = f .tag; head = f .head; end = f .end; turn = r .turn; spent = r .spent; level = f .level; kept = f .kept; count = f .count; told = f .told }
+
+abbrev pub reachedBy : Open → Reached
+reachedBy f = record { turn = f .turn; spent = f .spent }
+
+abbrev pub rules : Bool → Open → Totals → List Rule
+rules fixed f g = rulesOf fixed (f .tag) (f .kept) g
+
+-- ---- between two parts of a chunk
+
+-- an item or a header begins: a text, or a row that is all there
+unfoldable pub begin : ℕ → Totals → Open → List Open → State
+begin at g f R =
+    let whole = if (ltb (f .end - at) (4 * length (rules false f g))) (fault (cutRow (nests (f .tag))) at) (live at (Row false at 0 0 0 noneKept) g f R) in
+    if (textItems (f .tag)) (live at (Text false at) g f R) whole
+
+-- leaves every chunk that ends here; 8 where one lacks a chunk that must stand in it
+unfoldable pub edge : ℕ → Totals → List Open → State
+edge at g [] = over g
+edge at g (f ∷ R) =
+    let out = edge at (closed (f .tag) (f .count) (f .kept) (f .told) g) R in
+    let leave = if (owed (nesting (f .tag)) (f .turn) end) (fault 8 (f .head)) out in
+    let on = begin at g f R in
+    if (eqb at (f .end)) leave on
+
+-- ---- a chunk begins
+
+-- a text that began at `start` goes on; 5 there if the chunk ends
+unfoldable pub textFrom : Bool → ℕ → ℕ → Totals → Open → List Open → State
+textFrom fixed start at g f R = if (eqb at (f .end)) (fault 5 start) (live at (Text fixed start) g f R)
+
+unfoldable pub fixedDone : ℕ → Kept → Totals → Open → List Open → State
+fixedDone at k g f R = edge at (headed (f .tag) k g) (numbered f k ∷ R)
+
+unfoldable pub fixedRowFrom : ℕ → Totals → Open → List Open → State
+fixedRowFrom at g f R =
+    let none = fixedDone at noneKept g f R in
+    let some = if (eqb 0 (length (fixedRow (f .tag) g))) none (live at (Row true at 0 0 0 noneKept) g f R) in
+    if (wrongFor (f .tag) (f .end - at) (4 * length (fixedRow (f .tag) g))) (fault 5 at) some
+
+-- a chunk's body begins: only a NODE's with a text
+unfoldable pub enter : Bool → ℕ → Totals → Open → List Open → State
+enter true at g f R = textFrom true at at g f R
+enter false at g f R = fixedRowFrom at g f R
+
+-- a NODE inside f: 9 where there is no level left
+unfoldable pub enterNode : ℕ → ℕ → ℕ → ℕ → Totals → List Open → State
+enterNode zero head e at g R = fault 9 head
+enterNode (suc l) head e at g R = enter true at (entered g) (fresh NODE head e l (g .below)) R
+
+unfoldable pub opened : Tag → ℕ → ℕ → ℕ → Totals → Open → List Open → State
+opened BB3D head e at g f R = enter false at g (fresh BB3D head e (f .level) 0) (f ∷ R)
+opened TEXS head e at g f R = enter false at g (fresh TEXS head e (f .level) 0) (f ∷ R)
+opened BRUS head e at g f R = enter false at g (fresh BRUS head e (f .level) 0) (f ∷ R)
+opened NODE head e at g f R = enterNode (f .level) head e at g (f ∷ R)
+opened MESH head e at g f R = enter false at g (fresh MESH head e (f .level) 0) (f ∷ R)
+opened VRTS head e at g f R = enter false at g (fresh VRTS head e (f .level) 0) (f ∷ R)
+opened TRIS head e at g f R = enter false at g (fresh TRIS head e (f .level) 0) (f ∷ R)
+opened BONE head e at g f R = enter false at g (fresh BONE head e (f .level) 0) (f ∷ R)
+opened KEYS head e at g f R = enter false at g (fresh KEYS head e (f .level) 0) (f ∷ R)
+opened ANIM head e at g f R = enter false at g (fresh ANIM head e (f .level) 0) (f ∷ R)
+
+unfoldable pub skipFrom : ℕ → ℕ → Totals → Open → List Open → State
+skipFrom until at g f R = if (eqb at until) (edge at g (f ∷ R)) (live at (Skip until) g f R)
+
+-- a known chunk may stand here or not
+unfoldable pub stand : Option Reached → Tag → ℕ → ℕ → ℕ → Totals → Open → List Open → State
+stand none t head e at g f R = fault 4 head
+stand (some r) t head e at g f R = opened t head e at g (reaching f r) R
+
+unfoldable pub known : Option Tag → ℕ → ℕ → ℕ → Totals → Open → List Open → State
+known none head e at g f R = skipFrom e at g f R
+known (some t) head e at g f R = stand (next (nesting (f .tag)) (nesting (f .tag)) (reachedBy f) t) t head e at g f R
+
+-- a header was read: its tag and its length
+unfoldable pub headerDone : ℕ → ℕ → ℕ → ℕ → Totals → Open → List Open → State
+headerDone head tag n at g f R = if (ltb (f .end - at) n) (fault 3 head) (known (tagOf tag) head (at + n) at g f R)
+
+-- ---- numbers
+
+unfoldable pub innerDone : Bool → ℕ → ℕ → Kept → Totals → Open → List Open → State
+innerDone true start at k g f R = headerDone start (k .first) (k .second) at g f R
+innerDone false start at k g f R = edge at g (counting f (f .count + 1) ∷ R)
+
+unfoldable pub rowDone : Bool → ℕ → ℕ → Kept → Totals → Open → List Open → State
+rowDone true start at k g f R = fixedDone at k g f R
+rowDone false start at k g f R = innerDone (nests (f .tag)) start at k g f R
+
+-- number i of a row that began at `start`, or the row's end
+unfoldable pub rowFrom : Bool → ℕ → ℕ → ℕ → Kept → Totals → Open → List Open → State
+rowFrom fixed start i at k g f R =
+    let end = rowDone fixed start at k g f R in
+    if (eqb i (length (rules fixed f g))) end (live at (Row fixed start i 0 0 k) g f R)
+
+-- number i is w
+unfoldable pub wordDone : Bool → ℕ → ℕ → ℕ → ℕ → Kept → Totals → Open → List Open → State
+wordDone fixed start i w at k g f R =
+    let r = ruleAt (rules fixed f g) i in
+    let on = rowFrom fixed start (i + 1) (at + 4) (keep i w k) g f R in
+    if (holds r w) on (fault (refusal r) at)
+
+-- after the zero of a text that began at `start`
+unfoldable pub textDone : Bool → ℕ → ℕ → Totals → Open → List Open → State
+textDone fixed start at g f R =
+    let on = rowFrom fixed start 0 at noneKept g f R in
+    if (ltb (f .end - at) (4 * length (rules fixed f g))) (fault 5 start) on
+
+-- ---- a byte
+
+unfoldable pub textByte : Bool → ℕ → ℕ → ℕ → Totals → Open → List Open → State
+textByte fixed start zero at g f R = textDone fixed start (at + 1) g f R
+textByte fixed start (suc b) at g f R = textFrom fixed start (at + 1) g f R
+
+-- byte j of number i
+unfoldable pub rowByte : ℕ → Bool → ℕ → ℕ → ℕ → ℕ → Kept → ℕ → Totals → Open → List Open → State
+rowByte zero fixed start i b acc k at g f R = live at (Row fixed start i 1 b k) g f R
+rowByte (suc zero) fixed start i b acc k at g f R = live at (Row fixed start i 2 (acc + 256 * b) k) g f R
+rowByte (suc (suc zero)) fixed start i b acc k at g f R = live at (Row fixed start i 3 (acc + 65536 * b) k) g f R
+rowByte (suc (suc (suc j))) fixed start i b acc k at g f R = wordDone fixed start i (acc + 16777216 * b) at k g f R
+
+unfoldable pub byteIn : Part → ℕ → ℕ → Totals → Open → List Open → State
+byteIn (Text fixed start) b at g f R = textByte fixed start b at g f R
+byteIn (Row fixed start i j acc k) b at g f R = rowByte j fixed start i b acc k at g f R
+byteIn (Skip until) b at g f R = skipFrom until (at + 1) g f R
+
+unfoldable pub step : State → ℕ → State
+step (live at m g f R) b = byteIn m b at g f R
+step (fault n p) b = fault n p
+step (over g) b = over g
+
+abbrev pub run : State → List ℕ → State
+run st [] = st
+run st (b ∷ s) = run (step st b) s

@@ -1,0 +1,69 @@
+-- A row of open-chunk records as plain words, eleven to a record: the stack that the machine's list stands for.
+use Prim.Native.Nat.{ℕ, zero, suc, _+_, _*_}
+use mathlib.Core.Bool.{Bool, true, false}
+use mathlib.Core.List.{List, [], _∷_}
+use lib.ListN.{getD}
+use lib.Seq.{sets}
+use lib.Dec.{eqb}
+use Rattle.wire.specs.Test.{if}
+use Rattle.b3d_scene.specs.declared.Tag.{Tag}
+use Rattle.b3d_scene.specs.declared.Tag.the-variants.{BB3D, TEXS, BRUS, NODE, MESH, VRTS, TRIS, BONE, KEYS, ANIM}
+use Rattle.b3d_pieces.specs.declared.Open.{Open}
+
+-- a tag by its number, the last for every other number
+abbrev pub tagNumber : Tag → ℕ
+tagNumber BB3D = 0
+tagNumber TEXS = 1
+tagNumber BRUS = 2
+tagNumber NODE = 3
+tagNumber MESH = 4
+tagNumber VRTS = 5
+tagNumber TRIS = 6
+tagNumber BONE = 7
+tagNumber KEYS = 8
+tagNumber ANIM = 9
+
+unfoldable pub tagBy : ℕ → Tag
+tagBy n =
+    if (eqb n 0) BB3D
+    (if (eqb n 1) TEXS
+    (if (eqb n 2) BRUS
+    (if (eqb n 3) NODE
+    (if (eqb n 4) MESH
+    (if (eqb n 5) VRTS
+    (if (eqb n 6) TRIS
+    (if (eqb n 7) BONE
+    (if (eqb n 8) KEYS ANIM))))))))
+
+abbrev pub flag : Bool → ℕ
+flag true = 1
+flag false = 0
+
+-- the words of a record
+abbrev pub recordWords : ℕ
+recordWords = 11
+
+abbrev pub openWords : Open → List ℕ
+openWords f =
+    tagNumber (f .tag) ∷ f .head ∷ f .end ∷ f .turn ∷ flag (f .spent) ∷ f .level ∷ f .kept .first ∷ f .kept .second ∷ f .kept .third ∷ f .count ∷ f .told ∷ []
+
+-- words a .. k as a chunk
+abbrev pub openOf : ℕ → ℕ → ℕ → ℕ → ℕ → ℕ → ℕ → ℕ → ℕ → ℕ → ℕ → Open
+openOf a b c d e f g h i j k =
+    record { tag = tagBy a; head = b; end = c; turn = d; spent = eqb e 1; level = f; kept = record { first = g; second = h; third = i }; count = j; told = k }
+
+-- the chunk whose words begin at p
+abbrev pub openFrom : List ℕ → ℕ → Open
+openFrom row p =
+    openOf (getD row p 0) (getD row (p + 1) 0) (getD row (p + 2) 0) (getD row (p + 3) 0) (getD row (p + 4) 0) (getD row (p + 5) 0) (getD row (p + 6) 0) (getD row (p + 7) 0) (getD row (p + 8) 0) (getD row (p + 9) 0) (getD row (p + 10) 0)
+
+unfoldable pub openAt : List ℕ → ℕ → Open
+openAt row i = openFrom row (i * 11)
+
+unfoldable pub putOpen : List ℕ → ℕ → Open → List ℕ
+putOpen row i f = sets row (i * 11) (openWords f)
+
+-- the first n chunks of a row, the last of them first
+abbrev pub stackOf : List ℕ → ℕ → List Open
+stackOf row zero = []
+stackOf row (suc n) = openAt row n ∷ stackOf row n
