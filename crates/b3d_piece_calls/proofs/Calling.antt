@@ -11,6 +11,7 @@ use Rattle.b3d_pieces.specs.Row.{openAt}
 use Rattle.b3d_pieces.specs.Close.{nothing}
 use Rattle.b3d_pieces.specs.Good.{worth}
 use Rattle.b3d_piece_parts.specs.declared.Now.the-variants.{Over}
+use Rattle.b3d_piece_turn.specs.Turns.{pends}
 use Rattle.b3d_piece_turn.proofs.TurnLaws.{none}
 use Rattle.b3d_piece_take.specs.declared.Judge.{Judge}
 use Rattle.b3d_piece_take.specs.Takes.{heldOf}
@@ -86,4 +87,7 @@ module _ (j : Judge) (row : List ℕ) (r : Closed) where
         other = λ k z c. absurd (c (tb .yes h));
       }
 
-pub ruleset close-laws = (close-short, close-shut, close-other, close-taken)
+pub calm-run : (j : Judge) (row : List ℕ) (b : Bool) → Tests b (CanRun j row) → b ≡ true → pends (j .now) ≡ false
+calm-run j row b t e = t .yes e .calm
+
+pub ruleset close-laws = (calm-run, close-short, close-shut, close-other, close-taken)

@@ -1,5 +1,7 @@
 // What all bytes joined come to, and the answer for it.
 ghost use mathlib.Core.Path.{_≡_};
+ghost use mathlib.Core.Bool.{false};
+ghost use Rattle.b3d_piece_turn.specs.Turns.{pends};
 ghost use Rattle.b3d_piece_calls.specs.declared.Closing.the-variants.{Good, Bad};
 ghost use Rattle.b3d_piece_calls.specs.Closes.{overOr, overTotals, asWord, answerBy, wordAnswer, EndIs, Closes};
 use crate::Closing;
@@ -45,6 +47,7 @@ fn ended(held: Now) -> Closing
 
 // Checks 1 and 2, then the machine's own, then 10.
 pub fn joined(j: Judge) -> Closing
+    requires { ⌜ pends (j .now) ≡ false ⌝ }
     ensures { λ r. ⌜ Closes j r ⌝ }
 {
     let size = j.size;

@@ -8,12 +8,12 @@ pub judge-close-spec : {M : Type 1} → statement M
 judge-close-spec =
     tie.close
     (tie.spec
-    (λ c κs. search needs)
+    (λ c κs. search (close-laws, needs))
     (λ c. search (close-laws, needs))
-    (λ c κs. search needs)
+    (λ c κs. search (close-laws, needs))
     (λ c. search (close-laws, needs))
-    (λ c κs. search needs)
-    (λ c κs. search needs)
-    (λ c κs. search needs)
+    (λ c κs. search (close-laws, needs))
+    (λ c κs. search (close-laws, needs))
+    (λ c κs. search (close-laws, needs))
     (λ c. search (close-laws, needs))
     (λ c. search (close-laws, needs)))
