@@ -22,10 +22,10 @@ pub fn nodes_before(file: &[u8], from: usize, end: usize) -> u32
             Flat::Chunk {
                 tag,
                 at: p,
-                body: _,
                 next,
+                ..
             } => {
-                if b3d_copy::same(tag, Tag::NODE) {
+                if b3d_chunks::same(tag, Tag::NODE) {
                     if end <= p {
                         return count;
                     }

@@ -1,13 +1,14 @@
--- What a tag's number says: a known tag has its own, and any other number has none.
+-- What a tag's number says: a known tag has its own, and any other number has none; two tags are one where their numbers are.
 use Prim.Native.Nat.{ℕ}
-use mathlib.Core.Path.{_≡_, refl}
+use mathlib.Core.Path.{_≡_, refl, ap₂}
 use mathlib.Core.Option.{Option, none, some}
 use native.Mathlib.Omega.{arith}
+use lib.Dec.{eqb}
 use borrow.Author.Tests.{ne-eqb}
 use Rattle.wire.specs.Test.{if}
 use Rattle.b3d_scene.specs.declared.Tag.{Tag}
 use Rattle.b3d_scene.specs.declared.Tag.the-variants.{BB3D, TEXS, BRUS, NODE, MESH, VRTS, TRIS, BONE, KEYS, ANIM}
-use Rattle.b3d_scene.specs.Tags.{code, tagOf}
+use Rattle.b3d_scene.specs.Tags.{code, is, tagOf}
 use Rattle.b3d_scene.proofs.Files.TagCodes.{tag-code}
 use Rattle.b3d_chunks.specs.Chunks.{tagged}
 use Rattle.b3d_chunks.specs.declared.Tagged.the-variants as tags
@@ -21,6 +22,9 @@ pub tag-other :
 unfolding tagOf if
 tag-other n a b c d e f g h i j =
     simp (ne-eqb n (code BB3D) a, ne-eqb n (code TEXS) b, ne-eqb n (code BRUS) c, ne-eqb n (code NODE) d, ne-eqb n (code MESH) e, ne-eqb n (code VRTS) f, ne-eqb n (code TRIS) g, ne-eqb n (code BONE) h, ne-eqb n (code KEYS) i, ne-eqb n (code ANIM) j)
+
+pub same-letters : (a b : Tag) (x y : ℕ) → x ≡ code a → y ≡ code b → eqb x y ≡ is a b
+same-letters a b x y e f = ap₂ eqb e f
 
 pub ruleset tagging = (tag-known, tag-other)
 

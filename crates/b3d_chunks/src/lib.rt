@@ -1,9 +1,9 @@
-// Steps that every walk over a B3D file takes: the next known chunk, a text with its row.
+// Steps that every walk over a B3D file takes: a tag and its letters, the next known chunk, a text with its row.
 ghost use mathlib.Core.Path.{_≡_};
 ghost use Prim.Native.Nat.{_≤_};
 ghost use lib.ListN.{length};
 ghost use Rattle.wire.specs.Cursors.{Inside};
-ghost use Rattle.b3d_scene.specs.Tags.{tagOf};
+ghost use Rattle.b3d_scene.specs.Tags.{code, is, tagOf};
 ghost use Rattle.b3d_chunks.specs.Chunks.{tagged, NextIs, namedAt, NamedIn};
 use b3d_scene::Tag;
 use wire::Cursor;
@@ -33,6 +33,31 @@ pub fn tag_of(n: u32) -> Tagged
         0x4D494E41 => Tagged::Known(Tag::ANIM),
         _ => Tagged::Other,
     }
+}
+
+// The four letters of a tag as a number.
+pub fn letters(tag: Tag) -> u32
+    ensures { λ r. ⌜ r ≡ code tag ⌝ }
+{
+    match tag {
+        Tag::BB3D => 0x44334242,
+        Tag::TEXS => 0x53584554,
+        Tag::BRUS => 0x53555242,
+        Tag::NODE => 0x45444F4E,
+        Tag::MESH => 0x4853454D,
+        Tag::VRTS => 0x53545256,
+        Tag::TRIS => 0x53495254,
+        Tag::BONE => 0x454E4F42,
+        Tag::KEYS => 0x5359454B,
+        Tag::ANIM => 0x4D494E41,
+    }
+}
+
+// Whether two tags are one.
+pub fn same(a: Tag, b: Tag) -> bool
+    ensures { λ r. ⌜ r ≡ is a b ⌝ }
+{
+    letters(a) == letters(b)
 }
 
 // The next known chunk: its tag, the place of its header, its body, the cursor after it; or the place of a cut header; or none.

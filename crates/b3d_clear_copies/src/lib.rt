@@ -21,7 +21,7 @@ pub fn copy_chunk(file: &[u8], body: Cursor, tag: Tag, out: &mut [u8]) -> usize
     let at = body.at;
     let count = body.end - at;
     emit::copy_bytes(file, at, count, &mut out[8..]);
-    emit::put_header(out, b3d_copy::letters(tag), count);
+    emit::put_header(out, b3d_chunks::letters(tag), count);
     count + 8
 }
 
@@ -43,11 +43,11 @@ pub fn copy_each(file: &[u8], from: Cursor, tag: Tag, out: &mut [u8]) -> usize
             }
             Next::Chunk {
                 tag: t,
-                at: _,
                 body,
                 next,
+                ..
             } => {
-                if b3d_copy::same(t, tag) {
+                if b3d_chunks::same(t, tag) {
                     let m = copy_chunk(file, body, tag, &mut out[n..]);
                     n += m;
                     c = next;

@@ -38,9 +38,9 @@ fn clear_items(file: &[u8], from: Cursor, words: usize, out: &mut [u8]) -> usize
                 return n;
             }
             Named::Is {
-                length: _,
                 row,
                 next: after,
+                ..
             } => {
                 let size = put_unnamed(file, row, words, &mut out[n..]);
                 n += size;

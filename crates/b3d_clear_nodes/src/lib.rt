@@ -61,11 +61,7 @@ pub fn clear_node(file: &[u8], at: usize, body: Cursor, levels: u32, out: &mut [
     }
     match b3d_chunks::named_row(file, body, 10) {
         Named::Cut => 0,
-        Named::Is {
-            length: _,
-            row,
-            next,
-        } => node_chunk(file, row, next, levels - 1, out),
+        Named::Is { row, next, .. } => node_chunk(file, row, next, levels - 1, out),
     }
 }
 
@@ -105,7 +101,7 @@ pub fn clear_nodes(file: &[u8], from: Cursor, levels: u32, out: &mut [u8]) -> us
                 body,
                 next,
             } => {
-                if b3d_copy::same(tag, Tag::NODE) {
+                if b3d_chunks::same(tag, Tag::NODE) {
                     let m = clear_node(file, at, body, levels, &mut out[n..]);
                     n += m;
                     c = next;

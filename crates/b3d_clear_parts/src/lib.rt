@@ -73,7 +73,7 @@ pub fn clear_each(file: &[u8], from: Cursor, tag: Tag, out: &mut [u8]) -> usize
                 body,
                 next,
             } => {
-                if b3d_copy::same(t, tag) {
+                if b3d_chunks::same(t, tag) {
                     let m = clear_chunk(file, at, body, tag, &mut out[n..]);
                     n += m;
                     c = next;

@@ -22,7 +22,7 @@ use Rattle.layout.proofs.Outs.{by-got, by-check, bad-got, got-inj}
 use Rattle.layout.proofs.StepLaws.{row-enough, judged-got}
 use Rattle.layout.specs.Rows.{sizeFits}
 use Rattle.b3d_scene.specs.declared.Mode.the-variants.{Lenient}
-use Rattle.b3d_scene.specs.declared.Tag.the-variants.{BB3D, TEXS, BRUS, NODE, MESH, VRTS, TRIS, BONE, KEYS, ANIM}
+use Rattle.b3d_scene.specs.declared.Tag.the-variants.{BB3D, TEXS, BRUS, NODE}
 use Rattle.b3d_scene.specs.Answers.{copy}
 use Rattle.b3d_scene.specs.Encode.{nodeChunks, writeScene, encode}
 use Rattle.b3d_scene.specs.Names.{renameForest, noName, rename, cleared}
@@ -33,6 +33,7 @@ use Rattle.b3d_scene.specs.Scene.{Texture, Brush, Forest, leaf, Scene}
 use Rattle.b3d_scene.specs.Tags.{Chunks, Found, split, tagOf, code}
 use Rattle.b3d_scene.proofs.Files.FileLaws.{size-low}
 use Rattle.b3d_items.proofs.Ids.{word-at}
+use Rattle.b3d_scene.proofs.Files.Entries.{_▸_, by-entry}
 use Rattle.b3d_inside.specs.Places.{reached}
 use Rattle.b3d_inside.proofs.Heads.{head-is}
 use Rattle.b3d_copy.specs.Copies.{chunkOf, each, chunksAt, texsCopy, brusCopy, nodeCopy, inFile, fileCopy}
@@ -61,16 +62,9 @@ module _ (t u : Scene) where
   unfolding ended order onward next if
   last-read done e = nothing
   last-read (stop i p) e = bad-got e
-  last-read (chunk BB3D p b r) e = bad-got e
-  last-read (chunk TEXS p b r) e = bad-got e
-  last-read (chunk BRUS p b r) e = bad-got e
-  last-read (chunk NODE p b r) e = bad-got e
-  last-read (chunk MESH p b r) e = bad-got e
-  last-read (chunk VRTS p b r) e = bad-got e
-  last-read (chunk TRIS p b r) e = bad-got e
-  last-read (chunk BONE p b r) e = bad-got e
-  last-read (chunk KEYS p b r) e = bad-got e
-  last-read (chunk ANIM p b r) e = bad-got e
+  last-read (chunk k p b r) e =
+      by-entry BB3D 0 (reached 3 true) p b r (λ v o. ended o t ≡ got u → Has (chunk v p b r) [] 0 [] leaf) (λ v e. bad-got e)
+      (tt ▸ tt ▸ tt ▸ tt) k e
 
   -- ---- nodes
 
@@ -90,19 +84,12 @@ module _ (t u : Scene) where
   unfolding readOne order onward next if
   root-read brushes done n h x e z = subst (λ (y : Found Forest). Has done [] 0 [] (y .value)) (got-inj e) nothing
   root-read brushes (stop i p) n h x e z = bad-got e
-  root-read brushes (chunk BB3D p b r) n h x e z = bad-got e
-  root-read brushes (chunk TEXS p b r) n h x e z = bad-got e
-  root-read brushes (chunk BRUS p b r) n h x e z = bad-got e
-  root-read brushes (chunk NODE p b r) n h x e z =
-      by-got (readRoot Lenient brushes p b) _ e (λ f ef e₁.
+  root-read brushes (chunk k p b r) n h x e z =
+      by-entry BB3D 0 (reached 2 true) p b r (λ u o. readOne NODE leaf (readRoot Lenient brushes) o ≡ got x → Has (chunk u p b r) [] 0 [] (x .value)) (λ u e. bad-got e)
+      (tt ▸ tt
+      ▸ (λ e. by-got (readRoot Lenient brushes p b) _ e (λ f ef e₁.
       subst (λ (y : Found Forest). Has (chunk NODE p b r) [] 0 [] (y .value)) (got-inj e₁)
-      (one-root brushes p b r (h .0) f ef (last-read r (ap (λ (y : Found Forest). ended (y .rest) t) (got-inj e₁) ∙ z))))
-  root-read brushes (chunk MESH p b r) n h x e z = bad-got e
-  root-read brushes (chunk VRTS p b r) n h x e z = bad-got e
-  root-read brushes (chunk TRIS p b r) n h x e z = bad-got e
-  root-read brushes (chunk BONE p b r) n h x e z = bad-got e
-  root-read brushes (chunk KEYS p b r) n h x e z = bad-got e
-  root-read brushes (chunk ANIM p b r) n h x e z = bad-got e
+      (one-root brushes p b r (h .0) f ef (last-read r (ap (λ (y : Found Forest). ended (y .rest) t) (got-inj e₁) ∙ z))))) ▸ tt) k e
 
   -- ---- brushes, then nodes
 
@@ -126,21 +113,15 @@ module _ (t u : Scene) where
   unfolding readOne order onward next if
   brus-read textures done n h v e x ex z = no-brus done done n h v e refl x ex z
   brus-read textures (stop i p) n h v e x ex z = bad-got e
-  brus-read textures (chunk BB3D p b r) n h v e x ex z = bad-got e
-  brus-read textures (chunk TEXS p b r) n h v e x ex z = bad-got e
-  brus-read textures (chunk BRUS p b r) n h v e x ex z =
-      by-got (readBrushes Lenient textures p b) _ e (λ w ew e₁.
+  brus-read textures (chunk k p b r) n h v e x ex z =
+      by-entry BB3D 0 (reached 1 true) p b r (λ u o. readOne BRUS (0, []) (readBrushes Lenient textures) o ≡ got v → Has (chunk u p b r) [] (slotsOf (v .value .0) (v .value .1)) (v .value .1) (x .value)) (λ u e. bad-got e)
+      (tt
+      ▸ (λ e. by-got (readBrushes Lenient textures p b) _ e (λ w ew e₁.
       let g = got-inj e₁ in
       subst (λ (y : Found (ℕ × List Brush)). Has (chunk BRUS p b r) [] (slotsOf (y .value .0) (y .value .1)) (y .value .1) (x .value)) g
       (one-brus textures p b r (x .value) (h .0) w ew
-      (root-read (length (w .1)) r (n - (8 + length b)) (h .2) x (ap (λ (y : Found (ℕ × List Brush)). readOne NODE leaf (readRoot Lenient (length (y .value .1))) (y .rest)) g ∙ ex) z)))
-  brus-read textures (chunk NODE p b r) n h v e x ex z = no-brus (chunk NODE p b r) _ n h v e refl x ex z
-  brus-read textures (chunk MESH p b r) n h v e x ex z = bad-got e
-  brus-read textures (chunk VRTS p b r) n h v e x ex z = bad-got e
-  brus-read textures (chunk TRIS p b r) n h v e x ex z = bad-got e
-  brus-read textures (chunk BONE p b r) n h v e x ex z = bad-got e
-  brus-read textures (chunk KEYS p b r) n h v e x ex z = bad-got e
-  brus-read textures (chunk ANIM p b r) n h v e x ex z = bad-got e
+      (root-read (length (w .1)) r (n - (8 + length b)) (h .2) x (ap (λ (y : Found (ℕ × List Brush)). readOne NODE leaf (readRoot Lenient (length (y .value .1))) (y .rest)) g ∙ ex) z))))
+      ▸ (λ e. no-brus (chunk NODE p b r) _ n h v e refl x ex z) ▸ tt) k e
 
   -- ---- textures, then the rest
 
@@ -168,21 +149,15 @@ module _ (t u : Scene) where
   unfolding readOne order onward next if
   texs-read done n h w e v x z = no-texs done done n h w e refl v x z
   texs-read (stop i p) n h w e v x z = bad-got e
-  texs-read (chunk BB3D p b r) n h w e v x z = bad-got e
-  texs-read (chunk TEXS p b r) n h w e v x z =
-      by-got (readTextures p b) _ e (λ l el e₁.
+  texs-read (chunk k p b r) n h w e v x z =
+      by-entry BB3D 0 start p b r (λ u o. readOne TEXS [] readTextures o ≡ got w → Rest (chunk u p b r) (w .value) v x) (λ u e. bad-got e)
+      ((λ e. by-got (readTextures p b) _ e (λ l el e₁.
       let g = got-inj e₁ in
       subst (λ (y : Found (List Texture)). Rest (chunk TEXS p b r) (y .value) v x) g
       (one-texs p b r _ _ (x .value) (h .0) l el
-      (brus-read (length l) r (n - (8 + length b)) (h .2) v (ap (λ (y : Found (List Texture)). readOne BRUS (0, []) (readBrushes Lenient (length (y .value))) (y .rest)) g ∙ z .0) x (z .1) (z .2))))
-  texs-read (chunk BRUS p b r) n h w e v x z = no-texs (chunk BRUS p b r) _ n h w e refl v x z
-  texs-read (chunk NODE p b r) n h w e v x z = no-texs (chunk NODE p b r) _ n h w e refl v x z
-  texs-read (chunk MESH p b r) n h w e v x z = bad-got e
-  texs-read (chunk VRTS p b r) n h w e v x z = bad-got e
-  texs-read (chunk TRIS p b r) n h w e v x z = bad-got e
-  texs-read (chunk BONE p b r) n h w e v x z = bad-got e
-  texs-read (chunk KEYS p b r) n h w e v x z = bad-got e
-  texs-read (chunk ANIM p b r) n h w e v x z = bad-got e
+      (brus-read (length l) r (n - (8 + length b)) (h .2) v (ap (λ (y : Found (List Texture)). readOne BRUS (0, []) (readBrushes Lenient (length (y .value))) (y .rest)) g ∙ z .0) x (z .1) (z .2)))))
+      ▸ (λ e. no-texs (chunk BRUS p b r) _ n h w e refl v x z)
+      ▸ (λ e. no-texs (chunk NODE p b r) _ n h w e refl v x z) ▸ tt) k e
 
 -- ---- the file
 

@@ -1,5 +1,4 @@
 -- The laws of the copy without names.
-pub mod Tagging
 pub mod Exact
 pub mod Leaves
 pub mod Items

@@ -16,13 +16,14 @@ use Rattle.layout.proofs.Outs.{by-got, bad-got, got-inj}
 use Rattle.layout.proofs.PartLaws.{row-fine}
 use Rattle.layout.proofs.StepLaws.{judged-any, judged-got}
 use Rattle.b3d_scene.specs.declared.Mode.the-variants.{Lenient}
-use Rattle.b3d_scene.specs.declared.Tag.the-variants.{BB3D, TEXS, BRUS, NODE, MESH, VRTS, TRIS, BONE, KEYS, ANIM}
+use Rattle.b3d_scene.specs.declared.Tag.the-variants.{MESH, VRTS, TRIS}
 use Rattle.b3d_scene.specs.Encode.{writeVertices, writeMesh}
 use Rattle.b3d_scene.specs.Nesting.{Reached, start, next, onward, order, inside}
 use Rattle.b3d_scene.specs.Parse.{readOne, Vertices, noVertices, readVertices, readTriangles, readSets, readMesh}
 use Rattle.b3d_scene.specs.Rules.{meshHead}
 use Rattle.b3d_scene.specs.Scene.{TriangleSet, Mesh}
 use Rattle.b3d_scene.specs.Tags.{Chunks, Found, split, tagOf, code}
+use Rattle.b3d_scene.proofs.Files.Entries.{_▸_, by-entry}
 use Rattle.b3d_copy.specs.Copies.{chunkOf, each, asIs, inMesh, meshOf, meshCopy}
 use Rattle.b3d_copy.proofs.Leaves.{writeShape, vertices-exact, triangles-exact}
 use Rattle.b3d_copy.proofs.Parts.{setsBytes, sets-written}
@@ -67,31 +68,19 @@ module _ (brushes vertices head : ℕ) where
   unfolding readSets order onward next if each setsBytes
   sets-more done n h l e = record { shapes = refl; sets = ap setsBytes (got-inj e) }
   sets-more (stop i p) n h l e = bad-got e
-  sets-more (chunk BB3D p b r) n h l e = bad-got e
-  sets-more (chunk TEXS p b r) n h l e = bad-got e
-  sets-more (chunk BRUS p b r) n h l e = bad-got e
-  sets-more (chunk NODE p b r) n h l e = bad-got e
-  sets-more (chunk MESH p b r) n h l e = bad-got e
-  sets-more (chunk VRTS p b r) n h l e = bad-got e
-  sets-more (chunk TRIS p b r) n h l e = one-set p b r (h .0) (λ m em. sets-more r (n - (8 + length b)) (h .2) m em) l e
-  sets-more (chunk BONE p b r) n h l e = bad-got e
-  sets-more (chunk KEYS p b r) n h l e = bad-got e
-  sets-more (chunk ANIM p b r) n h l e = bad-got e
+  sets-more (chunk t p b r) n h l e =
+      by-entry MESH head set p b r (λ u o. readSets brushes vertices o ≡ got l → Sets (chunk u p b r) l) (λ u e. bad-got e)
+      (tt
+      ▸ (λ e. one-set p b r (h .0) (λ m em. sets-more r (n - (8 + length b)) (h .2) m em) l e) ▸ tt) t e
 
   sets-first : (cs : Chunks) (n : ℕ) → Of n cs → (l : List TriangleSet) → readSets brushes vertices (order MESH head shaped cs) ≡ got l → Sets cs l
   unfolding readSets order onward next if
   sets-first done n h l e = bad-got e
   sets-first (stop i p) n h l e = bad-got e
-  sets-first (chunk BB3D p b r) n h l e = bad-got e
-  sets-first (chunk TEXS p b r) n h l e = bad-got e
-  sets-first (chunk BRUS p b r) n h l e = bad-got e
-  sets-first (chunk NODE p b r) n h l e = bad-got e
-  sets-first (chunk MESH p b r) n h l e = bad-got e
-  sets-first (chunk VRTS p b r) n h l e = bad-got e
-  sets-first (chunk TRIS p b r) n h l e = one-set p b r (h .0) (λ m em. sets-more r (n - (8 + length b)) (h .2) m em) l e
-  sets-first (chunk BONE p b r) n h l e = bad-got e
-  sets-first (chunk KEYS p b r) n h l e = bad-got e
-  sets-first (chunk ANIM p b r) n h l e = bad-got e
+  sets-first (chunk t p b r) n h l e =
+      by-entry MESH head shaped p b r (λ u o. readSets brushes vertices o ≡ got l → Sets (chunk u p b r) l) (λ u e. bad-got e)
+      (tt
+      ▸ (λ e. one-set p b r (h .0) (λ m em. sets-more r (n - (8 + length b)) (h .2) m em) l e) ▸ tt) t e
 
 -- ---- VRTS, then TRIS
 
@@ -103,22 +92,14 @@ inside-read : (brushes head : ℕ) (cs : Chunks) (n : ℕ) → Of n cs → (v : 
 unfolding readOne order onward next if each
 inside-read brushes head done n h v e l f = bad-got e
 inside-read brushes head (stop i p) n h v e l f = bad-got e
-inside-read brushes head (chunk BB3D p b r) n h v e l f = bad-got e
-inside-read brushes head (chunk TEXS p b r) n h v e l f = bad-got e
-inside-read brushes head (chunk BRUS p b r) n h v e l f = bad-got e
-inside-read brushes head (chunk NODE p b r) n h v e l f = bad-got e
-inside-read brushes head (chunk MESH p b r) n h v e l f = bad-got e
-inside-read brushes head (chunk VRTS p b r) n h v e l f =
-    by-got (readVertices Lenient p b) _ e (λ x ex e₁.
+inside-read brushes head (chunk t p b r) n h v e l f =
+    by-entry MESH head start p b r (λ u o. readOne VRTS noVertices (readVertices Lenient) o ≡ got v → inMesh (chunk u p b r) ≡ chunkOf (code VRTS) (writeShape (v .value)) ++ setsBytes l) (λ u e. bad-got e)
+    ((λ e. by-got (readVertices Lenient p b) _ e (λ x ex e₁.
     let g = got-inj e₁ in
     let shape : b ≡ writeShape (v .value) = sym (vertices-exact p b (h .0) x ex) ∙ ap (λ (y : Found Vertices). writeShape (y .value)) g in
     let rest = sets-first brushes (length (v .value .items)) head r (n - (8 + length b)) (h .2) l (ap (λ (y : Found Vertices). readSets brushes (length (v .value .items)) (y .rest)) g ∙ f) in
     shape-then (chunkOf (code VRTS) b) (chunkOf (code VRTS) (writeShape (v .value))) (each VRTS (asIs VRTS) r) (each TRIS (asIs TRIS) r) (ap (chunkOf (code VRTS)) shape) (rest .shapes)
-    ∙ ap (λ (y : List ℕ). chunkOf (code VRTS) (writeShape (v .value)) ++ y) (rest .sets))
-inside-read brushes head (chunk TRIS p b r) n h v e l f = bad-got e
-inside-read brushes head (chunk BONE p b r) n h v e l f = bad-got e
-inside-read brushes head (chunk KEYS p b r) n h v e l f = bad-got e
-inside-read brushes head (chunk ANIM p b r) n h v e l f = bad-got e
+    ∙ ap (λ (y : List ℕ). chunkOf (code VRTS) (writeShape (v .value)) ++ y) (rest .sets))) ▸ tt ▸ tt) t e
 
 pub mesh-copied : (brushes p : ℕ) (b : List ℕ) (m : Mesh) → AllBytes b → readMesh Lenient brushes p b ≡ got m → meshCopy p b ≡ chunkOf (code MESH) (writeMesh m)
 unfolding readMesh inside meshCopy meshOf writeMesh writeVertices writeChunksOf

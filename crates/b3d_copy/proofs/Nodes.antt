@@ -15,13 +15,14 @@ use Rattle.layout.proofs.ChunkLaws.{Of, split-fine}
 use Rattle.layout.proofs.Outs.{by-got, bad-got, got-inj}
 use Rattle.layout.proofs.PartLaws.{named-fine}
 use Rattle.b3d_scene.specs.declared.Mode.the-variants.{Lenient}
-use Rattle.b3d_scene.specs.declared.Tag.the-variants.{BB3D, TEXS, BRUS, NODE, MESH, VRTS, TRIS, BONE, KEYS, ANIM}
+use Rattle.b3d_scene.specs.declared.Tag.the-variants.{NODE, MESH, BONE, KEYS, ANIM}
 use Rattle.b3d_scene.specs.Encode.{nodeChunks}
 use Rattle.b3d_scene.specs.Nesting.{start, next, onward, order, inside}
 use Rattle.b3d_scene.specs.Parse.{readMesh, readBone, readKeys, readAnim, aMesh, aBone, readKind, Moves, withKeys, readMoves, Inner, readNodes, readBelow, readNode}
 use Rattle.b3d_scene.specs.Rules.{nodeRow, boneVertices, bonesBelow}
 use Rattle.b3d_scene.specs.Scene.{Kind, pivot, mesh, bone, Keys, Anim, still, anim, Data, Forest, leaf}
 use Rattle.b3d_scene.specs.Tags.{Chunks, Found, split, tagOf, code}
+use Rattle.b3d_scene.proofs.Files.Entries.{_▸_, by-entry}
 use Rattle.b3d_inside.specs.Places.{reached}
 use Rattle.b3d_inside.proofs.Turns.{kind-order}
 use Rattle.b3d_copy.specs.Copies.{chunkOf, each, asIs, meshCopy, ownCopy, nodeOf, nodeCopy}
@@ -63,16 +64,10 @@ module _ (one : ℕ → List ℕ → List ℕ) (read : ℕ → List ℕ → Out 
   unfolding readNodes order onward next if
   nodes-read done n h f e = none-left f (got-inj e)
   nodes-read (stop i p) n h f e = bad-got e
-  nodes-read (chunk BB3D p b r) n h f e = bad-got e
-  nodes-read (chunk TEXS p b r) n h f e = bad-got e
-  nodes-read (chunk BRUS p b r) n h f e = bad-got e
-  nodes-read (chunk NODE p b r) n h f e = one-node p b r (h .0) (λ g eg. nodes-read r (n - (8 + length b)) (h .2) g eg) f e
-  nodes-read (chunk MESH p b r) n h f e = bad-got e
-  nodes-read (chunk VRTS p b r) n h f e = bad-got e
-  nodes-read (chunk TRIS p b r) n h f e = bad-got e
-  nodes-read (chunk BONE p b r) n h f e = bad-got e
-  nodes-read (chunk KEYS p b r) n h f e = bad-got e
-  nodes-read (chunk ANIM p b r) n h f e = bad-got e
+  nodes-read (chunk t p b r) n h f e =
+      by-entry NODE head (reached 3 false) p b r (λ u o. readNodes read o ≡ got f → Has one (chunk u p b r) pivot [] still f) (λ u e. bad-got e)
+      (tt ▸ tt ▸ tt ▸ tt
+      ▸ (λ e. one-node p b r (h .0) (λ g eg. nodes-read r (n - (8 + length b)) (h .2) g eg) f e) ▸ tt) t e
 
   -- ---- KEYS and ANIM
 
@@ -116,16 +111,11 @@ module _ (one : ℕ → List ℕ → List ℕ) (read : ℕ → List ℕ → Out 
   unfolding readMoves readNodes order onward next if
   after-anim done n h seen y e f ef = by-none seen (After seen) (after-step seen) done y done e f ef (λ g. record { has = none-left f (got-inj g); kept = refl })
   after-anim (stop i p) n h seen y e f ef = bad-got e
-  after-anim (chunk BB3D p b r) n h seen y e f ef = bad-got e
-  after-anim (chunk TEXS p b r) n h seen y e f ef = bad-got e
-  after-anim (chunk BRUS p b r) n h seen y e f ef = bad-got e
-  after-anim (chunk NODE p b r) n h seen y e f ef = by-none seen (After seen) (after-step seen) (chunk NODE p b r) y (chunk NODE p b (order NODE head (reached 3 false) r)) e f ef (λ g. record { has = nodes-read (chunk NODE p b r) n h f g; kept = refl })
-  after-anim (chunk MESH p b r) n h seen y e f ef = bad-got e
-  after-anim (chunk VRTS p b r) n h seen y e f ef = bad-got e
-  after-anim (chunk TRIS p b r) n h seen y e f ef = bad-got e
-  after-anim (chunk BONE p b r) n h seen y e f ef = bad-got e
-  after-anim (chunk KEYS p b r) n h seen y e f ef = by-keys seen (After seen) (after-step seen) p b r (order NODE head (reached 2 true) r) (h .0) (λ z ez g eg. after-anim r (n - (8 + length b)) (h .2) seen z ez g eg) y e f ef
-  after-anim (chunk ANIM p b r) n h seen y e f ef = bad-got e
+  after-anim (chunk t p b r) n h seen y e f ef =
+      by-entry NODE head (reached 2 true) p b r (λ u o. readMoves seen o ≡ got y → After seen (chunk u p b r) (y .value) f) (λ u e. bad-got e)
+      (tt ▸ tt
+      ▸ (λ e. by-keys seen (After seen) (after-step seen) p b r (order NODE head (reached 2 true) r) (h .0) (λ z ez g eg. after-anim r (n - (8 + length b)) (h .2) seen z ez g eg) y e f ef) ▸ tt
+      ▸ (λ e. by-none seen (After seen) (after-step seen) (chunk NODE p b r) y (chunk NODE p b (order NODE head (reached 3 false) r)) e f ef (λ g. record { has = nodes-read (chunk NODE p b r) n h f g; kept = refl })) ▸ tt) t e
 
   -- no ANIM yet
 
@@ -155,16 +145,12 @@ module _ (one : ℕ → List ℕ → List ℕ) (read : ℕ → List ℕ → Out 
   unfolding readMoves readNodes order onward next if
   moves-read done n h y e f ef = by-none still Moved moved-step done y done e f ef (λ g. none-left f (got-inj g))
   moves-read (stop i p) n h y e f ef = bad-got e
-  moves-read (chunk BB3D p b r) n h y e f ef = bad-got e
-  moves-read (chunk TEXS p b r) n h y e f ef = bad-got e
-  moves-read (chunk BRUS p b r) n h y e f ef = bad-got e
-  moves-read (chunk NODE p b r) n h y e f ef = by-none still Moved moved-step (chunk NODE p b r) y (chunk NODE p b (order NODE head (reached 3 false) r)) e f ef (λ g. nodes-read (chunk NODE p b r) n h f g)
-  moves-read (chunk MESH p b r) n h y e f ef = bad-got e
-  moves-read (chunk VRTS p b r) n h y e f ef = bad-got e
-  moves-read (chunk TRIS p b r) n h y e f ef = bad-got e
-  moves-read (chunk BONE p b r) n h y e f ef = bad-got e
-  moves-read (chunk KEYS p b r) n h y e f ef = by-keys still Moved moved-step p b r (order NODE head (reached 2 false) r) (h .0) (λ z ez g eg. moves-read r (n - (8 + length b)) (h .2) z ez g eg) y e f ef
-  moves-read (chunk ANIM p b r) n h y e f ef = moved-anim p b r (n - (8 + length b)) (h .2) (h .0) y e f ef
+  moves-read (chunk t p b r) n h y e f ef =
+      by-entry NODE head (reached 2 false) p b r (λ u o. readMoves still o ≡ got y → Moved (chunk u p b r) (y .value) f) (λ u e. bad-got e)
+      (tt ▸ tt
+      ▸ (λ e. by-keys still Moved moved-step p b r (order NODE head (reached 2 false) r) (h .0) (λ z ez g eg. moves-read r (n - (8 + length b)) (h .2) z ez g eg) y e f ef)
+      ▸ (λ e. moved-anim p b r (n - (8 + length b)) (h .2) (h .0) y e f ef)
+      ▸ (λ e. by-none still Moved moved-step (chunk NODE p b r) y (chunk NODE p b (order NODE head (reached 3 false) r)) e f ef (λ g. nodes-read (chunk NODE p b r) n h f g)) ▸ tt) t e
 
   -- ---- a kind
 
@@ -214,16 +200,13 @@ module _ (one : ℕ → List ℕ → List ℕ) (read : ℕ → List ℕ → Out 
   unfolding readKind order onward next if
   kind-read brushes vertices done n h x e y ey f ef = no-kind done done n h x e refl y ey f ef
   kind-read brushes vertices (stop i p) n h x e y ey f ef = bad-got e
-  kind-read brushes vertices (chunk BB3D p b r) n h x e y ey f ef = bad-got e
-  kind-read brushes vertices (chunk TEXS p b r) n h x e y ey f ef = bad-got e
-  kind-read brushes vertices (chunk BRUS p b r) n h x e y ey f ef = bad-got e
-  kind-read brushes vertices (chunk NODE p b r) n h x e y ey f ef = no-kind (chunk NODE p b r) _ n h x e refl y ey f ef
-  kind-read brushes vertices (chunk MESH p b r) n h x e y ey f ef = kind-mesh brushes p b r (n - (8 + length b)) (h .2) (h .0) x e y ey f ef
-  kind-read brushes vertices (chunk VRTS p b r) n h x e y ey f ef = bad-got e
-  kind-read brushes vertices (chunk TRIS p b r) n h x e y ey f ef = bad-got e
-  kind-read brushes vertices (chunk BONE p b r) n h x e y ey f ef = kind-bone vertices p b r (n - (8 + length b)) (h .2) (h .0) x e y ey f ef
-  kind-read brushes vertices (chunk KEYS p b r) n h x e y ey f ef = no-kind (chunk KEYS p b r) _ n h x e refl y ey f ef
-  kind-read brushes vertices (chunk ANIM p b r) n h x e y ey f ef = no-kind (chunk ANIM p b r) _ n h x e refl y ey f ef
+  kind-read brushes vertices (chunk t p b r) n h x e y ey f ef =
+      by-entry NODE head start p b r (λ u o. readKind Lenient brushes vertices o ≡ got x → Has one (chunk u p b r) (x .value) (y .value .keys) (y .value .anim) f) (λ u e. bad-got e)
+      ((λ e. kind-mesh brushes p b r (n - (8 + length b)) (h .2) (h .0) x e y ey f ef)
+      ▸ (λ e. kind-bone vertices p b r (n - (8 + length b)) (h .2) (h .0) x e y ey f ef)
+      ▸ (λ e. no-kind (chunk KEYS p b r) _ n h x e refl y ey f ef)
+      ▸ (λ e. no-kind (chunk ANIM p b r) _ n h x e refl y ey f ef)
+      ▸ (λ e. no-kind (chunk NODE p b r) _ n h x e refl y ey f ef) ▸ tt) t e
 
 -- ---- a node
 

@@ -2,37 +2,36 @@
 use mathlib.Core.Path.{_≡_, refl, ap, ap₂, sym, subst, _∙_}
 use Prim.Native.Nat.{ℕ, _+_, _≤_}
 use native.Mathlib.Omega.{arith}
-use mathlib.Core.Bool.{not, true, false}
+use mathlib.Core.Bool.{true}
 use mathlib.Core.Option.{none}
-use mathlib.Core.List.{List, [], _∷_, _++_, map, append-nil}
-use lib.ListN.{length, drop, getD, length-drop}
+use mathlib.Core.List.{List, [], map}
+use lib.ListN.{length, drop, getD}
 use lib.Seq.{drop-drop}
-use lib.Dec.{T, eqb}
+use lib.Dec.{eqb}
 use Rattle.wire.specs.Test.{if}
 use Rattle.layout.specs.Chunks.{done, stop, chunk, ended}
-use Rattle.layout.specs.Out.{got, bad}
+use Rattle.layout.specs.Out.{got}
 use Rattle.layout.specs.Parts.{Step, row, number}
-use Rattle.layout.specs.Rules.{NONE}
 use Rattle.layout.proofs.ChunkLaws.{ended-fine}
 use Rattle.layout.proofs.Outs.{by-got, by-check, bad-got, got-inj}
 use Rattle.layout.specs.Rows.{sizeFits}
 use Rattle.b3d_scene.specs.declared.Mode.the-variants.{Lenient}
-use Rattle.b3d_scene.specs.declared.Tag.{Tag}
-use Rattle.b3d_scene.specs.declared.Tag.the-variants.{BB3D, TEXS, BRUS, NODE, MESH, VRTS, TRIS, BONE, KEYS, ANIM}
+use Rattle.b3d_scene.specs.declared.Tag.the-variants.{BB3D, TEXS, BRUS, NODE}
 use Rattle.b3d_scene.specs.Nesting.{start, next, onward, order, inside}
 use Rattle.b3d_scene.specs.Parse.{readOne, readTextures, readBrushes, readNode, readRoot, slotsOf, readBody, parse, Inner}
 use Rattle.b3d_scene.specs.Rules.{header, fileHead, levels}
 use Rattle.b3d_scene.specs.Scene.{Texture, Brush, Forest, leaf, node, Scene}
 use Rattle.b3d_scene.specs.Tables.{textureRow, brushRow}
-use Rattle.b3d_scene.specs.Tags.{Chunks, Found, split, tagOf, code, is}
+use Rattle.b3d_scene.specs.Tags.{Chunks, Found, split, code}
 use Rattle.b3d_scene.proofs.Files.FileLaws.{size-low}
+use Rattle.b3d_scene.proofs.Files.Entries.{_▸_, by-entry}
 use Rattle.b3d_inside.specs.Places.{reached}
 use Rattle.b3d_inside.proofs.Heads.{head-is}
 use Rattle.b3d_file_rows.proofs.ItemLaws.{row-read}
-use Rattle.b3d_file_rows.specs.Flat.{rest, flatAt}
+use Rattle.b3d_file_rows.specs.Flat.{rest}
 use Rattle.b3d_file_rows.specs.Rows.{textureRows, brushRows, firstOf}
 use Rattle.b3d_file_rows.proofs.Lists.{textures-plain, brushes-plain}
-use Rattle.b3d_file_rows.proofs.Run.{Here, Laid, rest-laid, run-same, run-past}
+use Rattle.b3d_file_rows.proofs.Run.{Here, Laid, rest-laid}
 
 -- what is said of the nodes from a place on: at the file's end, past a chunk that is no NODE, and of a root
 pub record Says (s : List ℕ) (P : ℕ → Forest → Type 0) : Type 0 where
@@ -59,16 +58,9 @@ module _ (s : List ℕ) (P : ℕ → Forest → Type 0) (says : Says s P) where
     unfolding ended order onward next if
     last-flat done at h e = nothing at h
     last-flat (stop i p) at h e = bad-got e
-    last-flat (chunk BB3D p b r) at h e = bad-got e
-    last-flat (chunk TEXS p b r) at h e = bad-got e
-    last-flat (chunk BRUS p b r) at h e = bad-got e
-    last-flat (chunk NODE p b r) at h e = bad-got e
-    last-flat (chunk MESH p b r) at h e = bad-got e
-    last-flat (chunk VRTS p b r) at h e = bad-got e
-    last-flat (chunk TRIS p b r) at h e = bad-got e
-    last-flat (chunk BONE p b r) at h e = bad-got e
-    last-flat (chunk KEYS p b r) at h e = bad-got e
-    last-flat (chunk ANIM p b r) at h e = bad-got e
+    last-flat (chunk k p b r) at h e =
+        by-entry BB3D 0 (reached 3 true) p b r (λ v o. ended o t ≡ got u → Has at (chunk v p b r) [] [] leaf) (λ v e. bad-got e)
+        (tt ▸ tt ▸ tt ▸ tt) k e
 
     -- ---- nodes
 
@@ -83,19 +75,12 @@ module _ (s : List ℕ) (P : ℕ → Forest → Type 0) (says : Says s P) where
     unfolding readOne order onward next if
     root-flat brushes done at h x e z = subst (λ (y : Found Forest). Has at done [] [] (y .value)) (got-inj e) (nothing at h)
     root-flat brushes (stop i p) at h x e z = bad-got e
-    root-flat brushes (chunk BB3D p b r) at h x e z = bad-got e
-    root-flat brushes (chunk TEXS p b r) at h x e z = bad-got e
-    root-flat brushes (chunk BRUS p b r) at h x e z = bad-got e
-    root-flat brushes (chunk NODE p b r) at h x e z =
-        by-got (readRoot Lenient brushes p b) _ e (λ f ef e₁.
+    root-flat brushes (chunk k p b r) at h x e z =
+        by-entry BB3D 0 (reached 2 true) p b r (λ u o. Laid s (length s) at (chunk u p b r) → readOne NODE leaf (readRoot Lenient brushes) o ≡ got x → Has at (chunk u p b r) [] [] (x .value)) (λ u h e. bad-got e)
+        (tt ▸ tt
+        ▸ (λ h e. by-got (readRoot Lenient brushes p b) _ e (λ f ef e₁.
         subst (λ (y : Found Forest). Has at (chunk NODE p b r) [] [] (y .value)) (got-inj e₁)
-        (one-root brushes at p b r (h .0) f ef (last-flat r (p + 8 + length b) (h .1) (ap (λ (y : Found Forest). ended (y .rest) t) (got-inj e₁) ∙ z))))
-    root-flat brushes (chunk MESH p b r) at h x e z = bad-got e
-    root-flat brushes (chunk VRTS p b r) at h x e z = bad-got e
-    root-flat brushes (chunk TRIS p b r) at h x e z = bad-got e
-    root-flat brushes (chunk BONE p b r) at h x e z = bad-got e
-    root-flat brushes (chunk KEYS p b r) at h x e z = bad-got e
-    root-flat brushes (chunk ANIM p b r) at h x e z = bad-got e
+        (one-root brushes at p b r (h .0) f ef (last-flat r (p + 8 + length b) (h .1) (ap (λ (y : Found Forest). ended (y .rest) t) (got-inj e₁) ∙ z))))) ▸ tt) k h e
 
     -- ---- brushes, then nodes
 
@@ -116,21 +101,15 @@ module _ (s : List ℕ) (P : ℕ → Forest → Type 0) (says : Says s P) where
     unfolding readOne order onward next if
     brus-flat textures done at h v e x ex z = no-brus done done at h v e refl x ex z
     brus-flat textures (stop i p) at h v e x ex z = bad-got e
-    brus-flat textures (chunk BB3D p b r) at h v e x ex z = bad-got e
-    brus-flat textures (chunk TEXS p b r) at h v e x ex z = bad-got e
-    brus-flat textures (chunk BRUS p b r) at h v e x ex z =
-        by-got (readBrushes Lenient textures p b) _ e (λ w ew e₁.
+    brus-flat textures (chunk k p b r) at h v e x ex z =
+        by-entry BB3D 0 (reached 1 true) p b r (λ u o. Laid s (length s) at (chunk u p b r) → readOne BRUS (0, []) (readBrushes Lenient textures) o ≡ got v → Has at (chunk u p b r) [] (v .value .1) (x .value)) (λ u h e. bad-got e)
+        (tt
+        ▸ (λ h e. by-got (readBrushes Lenient textures p b) _ e (λ w ew e₁.
         let g = got-inj e₁ in
         subst (λ (y : Found (ℕ × List Brush)). Has at (chunk BRUS p b r) [] (y .value .1) (x .value)) g
         (one-brus textures at p b r (x .value) (h .0) w ew
-        (root-flat (length (w .1)) r (p + 8 + length b) (h .1) x (ap (λ (y : Found (ℕ × List Brush)). readOne NODE leaf (readRoot Lenient (length (y .value .1))) (y .rest)) g ∙ ex) z)))
-    brus-flat textures (chunk NODE p b r) at h v e x ex z = no-brus (chunk NODE p b r) _ at h v e refl x ex z
-    brus-flat textures (chunk MESH p b r) at h v e x ex z = bad-got e
-    brus-flat textures (chunk VRTS p b r) at h v e x ex z = bad-got e
-    brus-flat textures (chunk TRIS p b r) at h v e x ex z = bad-got e
-    brus-flat textures (chunk BONE p b r) at h v e x ex z = bad-got e
-    brus-flat textures (chunk KEYS p b r) at h v e x ex z = bad-got e
-    brus-flat textures (chunk ANIM p b r) at h v e x ex z = bad-got e
+        (root-flat (length (w .1)) r (p + 8 + length b) (h .1) x (ap (λ (y : Found (ℕ × List Brush)). readOne NODE leaf (readRoot Lenient (length (y .value .1))) (y .rest)) g ∙ ex) z))))
+        ▸ (λ h e. no-brus (chunk NODE p b r) _ at h v e refl x ex z) ▸ tt) k h e
 
     -- ---- textures, then the others
 
@@ -153,21 +132,15 @@ module _ (s : List ℕ) (P : ℕ → Forest → Type 0) (says : Says s P) where
     unfolding readOne order onward next if
     texs-flat done at h w e v x z = no-texs done done at h w e refl v x z
     texs-flat (stop i p) at h w e v x z = bad-got e
-    texs-flat (chunk BB3D p b r) at h w e v x z = bad-got e
-    texs-flat (chunk TEXS p b r) at h w e v x z =
-        by-got (readTextures p b) _ e (λ l el e₁.
+    texs-flat (chunk k p b r) at h w e v x z =
+        by-entry BB3D 0 start p b r (λ u o. Laid s (length s) at (chunk u p b r) → readOne TEXS [] readTextures o ≡ got w → Has at (chunk u p b r) (w .value) (v .value .1) (x .value)) (λ u h e. bad-got e)
+        ((λ h e. by-got (readTextures p b) _ e (λ l el e₁.
         let g = got-inj e₁ in
         subst (λ (y : Found (List Texture)). Has at (chunk TEXS p b r) (y .value) (v .value .1) (x .value)) g
         (one-texs at p b r (v .value .1) (x .value) (h .0) l el
-        (brus-flat (length l) r (p + 8 + length b) (h .1) v (ap (λ (y : Found (List Texture)). readOne BRUS (0, []) (readBrushes Lenient (length (y .value))) (y .rest)) g ∙ z .0) x (z .1) (z .2))))
-    texs-flat (chunk BRUS p b r) at h w e v x z = no-texs (chunk BRUS p b r) _ at h w e refl v x z
-    texs-flat (chunk NODE p b r) at h w e v x z = no-texs (chunk NODE p b r) _ at h w e refl v x z
-    texs-flat (chunk MESH p b r) at h w e v x z = bad-got e
-    texs-flat (chunk VRTS p b r) at h w e v x z = bad-got e
-    texs-flat (chunk TRIS p b r) at h w e v x z = bad-got e
-    texs-flat (chunk BONE p b r) at h w e v x z = bad-got e
-    texs-flat (chunk KEYS p b r) at h w e v x z = bad-got e
-    texs-flat (chunk ANIM p b r) at h w e v x z = bad-got e
+        (brus-flat (length l) r (p + 8 + length b) (h .1) v (ap (λ (y : Found (List Texture)). readOne BRUS (0, []) (readBrushes Lenient (length (y .value))) (y .rest)) g ∙ z .0) x (z .1) (z .2)))))
+        ▸ (λ h e. no-texs (chunk BRUS p b r) _ at h w e refl v x z)
+        ▸ (λ h e. no-texs (chunk NODE p b r) _ at h w e refl v x z) ▸ tt) k h e
 
   -- ---- the file
 

@@ -2,9 +2,11 @@
 use mathlib.Core.Path.{_≡_, refl, ap, sym, subst, _∙_}
 use Prim.Native.Nat.{ℕ, _+_, _≤_}
 use native.Mathlib.Omega.{arith}
+use mathlib.Core.Bool.{not}
 use mathlib.Core.Option.{none}
 use mathlib.Core.List.{List, [], _∷_, _++_, append-assoc}
 use lib.ListN.{length, drop, drop-of-length-le}
+use lib.Dec.{T}
 use Rattle.wire.specs.Test.{if}
 use Rattle.layout.specs.Chunks.{done, chunk}
 use Rattle.layout.specs.Out.{got}
@@ -12,13 +14,14 @@ use Rattle.layout.specs.Rules.{NONE}
 use Rattle.layout.proofs.ChunkLaws.{split-none}
 use Rattle.b3d_scene.specs.declared.Mode.the-variants.{Lenient}
 use Rattle.b3d_scene.specs.declared.Counts.{Counts}
+use Rattle.b3d_scene.specs.declared.Tag.{Tag}
 use Rattle.b3d_scene.specs.declared.Tag.the-variants.{TEXS, BRUS, NODE}
 use Rattle.b3d_scene.specs.Answers.{judge}
 use Rattle.b3d_scene.specs.Parse.{readNode, parse, Inner}
 use Rattle.b3d_scene.specs.Rules.{levels}
 use Rattle.b3d_scene.specs.Scene.{Forest, leaf, node, Scene}
 use Rattle.b3d_scene.specs.Tables.{start, nodesIn, ownRows, withNode, withForest, forestRows, rows, tables}
-use Rattle.b3d_scene.specs.Tags.{split, tagOf}
+use Rattle.b3d_scene.specs.Tags.{Chunks, split, tagOf, is}
 use Rattle.b3d_scene.proofs.AnswerLaws.{judge-got}
 use Rattle.b3d_file_rows.specs.Flat.{rest, flatAt, flat}
 use Rattle.b3d_file_rows.specs.Rows.{Open, parentAt, kindOf, animOf, nodeRows, flatRows, fileRows}
@@ -75,22 +78,14 @@ module _ (s : List ℕ) where
   unfolding nodeRows forestRows
   no-tree at e = record { rows = λ l n h. ap (nodeRows l n) (end-done s at e); clean = λ _. subst Clean (sym (end-done s at e)) done-clean }
 
-  past-texs : (at p : ℕ) (b : List ℕ) (f : Forest) → Here s at TEXS p b → Tree (p + 8 + length b) f → Tree at f
-  unfolding nodeRows kindOf animOf if
-  past-texs at p b f h more =
-      let r = run-past s at TEXS p b h tt in
+  -- past a chunk that says nothing of nodes
+  past-chunk : (t : Tag) → T (not (is t NODE)) → ((p : ℕ) (b : List ℕ) (r : Chunks) → kindOf (chunk t p b r) ≡ kindOf r) → ((p : ℕ) (b : List ℕ) (r : Chunks) → animOf (chunk t p b r) ≡ animOf r)
+      → ((p : ℕ) (b : List ℕ) (r : Chunks) (l : List Open) (n : Counts) → nodeRows l n (chunk t p b r) ≡ nodeRows l n r) → (at p : ℕ) (b : List ℕ) (f : Forest) → Here s at t p b → Tree (p + 8 + length b) f → Tree at f
+  past-chunk t other kinds anims nodes at p b f h more =
+      let r = run-past s at t p b h other in
       record {
-        rows = λ l n o. ap (nodeRows l n) r ∙ more .rows l n (λ q k. o q (omega (arith, h .from)));
-        clean = λ e. let c = more .clean e in record { kind = ap kindOf r ∙ c .kind; anim = ap animOf r ∙ c .anim };
-      }
-
-  past-brus : (at p : ℕ) (b : List ℕ) (f : Forest) → Here s at BRUS p b → Tree (p + 8 + length b) f → Tree at f
-  unfolding nodeRows kindOf animOf if
-  past-brus at p b f h more =
-      let r = run-past s at BRUS p b h tt in
-      record {
-        rows = λ l n o. ap (nodeRows l n) r ∙ more .rows l n (λ q k. o q (omega (arith, h .from)));
-        clean = λ e. let c = more .clean e in record { kind = ap kindOf r ∙ c .kind; anim = ap animOf r ∙ c .anim };
+        rows = λ l n o. ap (nodeRows l n) r ∙ nodes p b _ l n ∙ more .rows l n (λ q k. o q (omega (arith, h .from)));
+        clean = λ e. let c = more .clean e in record { kind = ap kindOf r ∙ kinds p b _ ∙ c .kind; anim = ap animOf r ∙ anims p b _ ∙ c .anim };
       }
 
   root-tree : (brushes at p : ℕ) (b : List ℕ) (x : Inner) → Here s at NODE p b → readNode Lenient levels brushes none p b ≡ got x → Tree (p + 8 + length b) leaf → Tree at (node (x .self) (x .below) leaf)
@@ -105,7 +100,13 @@ module _ (s : List ℕ) where
   }
 
   tree-says : Says s Tree
-  tree-says = record { at-end = no-tree; texs = past-texs; brus = past-brus; root = root-tree }
+  unfolding nodeRows kindOf animOf if
+  tree-says = record {
+    at-end = no-tree;
+    texs = past-chunk TEXS tt (λ p b r. refl) (λ p b r. refl) (λ p b r l n. refl);
+    brus = past-chunk BRUS tt (λ p b r. refl) (λ p b r. refl) (λ p b r l n. refl);
+    root = root-tree;
+  }
 
   none-open : Outside 12 []
   unfolding parentAt

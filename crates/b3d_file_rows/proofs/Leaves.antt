@@ -1,10 +1,10 @@
 -- What the parser read of a body is what the body plainly holds: chunks of numbers, and a MESH.
 use mathlib.Core.Path.{_≡_, refl, ap, ap₂, sym, subst, _∙_}
-use Prim.Native.Nat.{ℕ, suc, _+_, _*_, _/_, _<_, _≤_}
+use Prim.Native.Nat.{ℕ, _+_, _*_, _/_, _<_, _≤_}
 use native.Mathlib.Nat.{mul-div-cancel}
 use native.Mathlib.Omega.{arith}
 use mathlib.Core.List.{List, [], _∷_}
-use lib.ListN.{length, drop, getD, length-replicate}
+use lib.ListN.{length, getD, length-replicate}
 use lib.Dec.{leb, leb→le}
 use Rattle.wire.specs.Test.{if}
 use Rattle.layout.specs.Chunks.{done, stop, chunk}
@@ -15,7 +15,7 @@ use Rattle.layout.proofs.Outs.{by-got, by-check, bad-got, got-inj}
 use Rattle.layout.proofs.StepLaws.{judged-got, length-words-of}
 use mathlib.Core.Bool.{true, false}
 use Rattle.b3d_scene.specs.declared.Mode.the-variants.{Lenient}
-use Rattle.b3d_scene.specs.declared.Tag.the-variants.{BB3D, TEXS, BRUS, NODE, MESH, VRTS, TRIS, BONE, KEYS, ANIM}
+use Rattle.b3d_scene.specs.declared.Tag.the-variants.{MESH, VRTS, TRIS}
 use Rattle.b3d_scene.specs.Mask.{ones, vertexMask, keyMask}
 use Rattle.b3d_scene.specs.Nesting.{start, next, onward, order, inside}
 use Rattle.b3d_scene.specs.Parse.{readOne, Vertices, noVertices, readVertices, readTriangles, readSets, readMesh, readBone, readKeys, filled, readAnim}
@@ -23,9 +23,10 @@ use Rattle.b3d_scene.specs.Rules.{vertexWords, keyWords, meshHead, verticesHead
 use Rattle.b3d_scene.specs.Scene.{TriangleSet, Mesh, Keys}
 use Rattle.b3d_scene.specs.Tags.{Chunks, Found, split}
 use Rattle.b3d_scene.proofs.Rows.MaskLaws.{vertex-words, key-words}
+use Rattle.b3d_scene.proofs.Files.Entries.{_▸_, by-entry}
 use Rattle.b3d_inside.specs.Places.{reached}
-use Rattle.b3d_file_rows.proofs.ItemLaws.{RowRead, row-read, ItemsRead, items-read}
-use Rattle.b3d_file_rows.specs.Plain.{whole, keyFlagsOf, plainKeys, plainWeights, plainAnim, ofThree, plainVertices, plainTriangles, shapeOf, setsOf, meshOf, plainMesh}
+use Rattle.b3d_file_rows.proofs.ItemLaws.{row-read, ItemsRead, items-read}
+use Rattle.b3d_file_rows.specs.Plain.{whole, plainKeys, plainWeights, plainAnim, plainVertices, plainTriangles, shapeOf, setsOf, meshOf, plainMesh}
 
 -- items of n words that fill their bytes
 pub whole-read : (n : ℕ) (s : List ℕ) (l : List (List ℕ)) → 0 < n → ItemsRead n s l → whole n s ≡ l
@@ -162,31 +163,19 @@ module _ (brushes vertices head : ℕ) where
   unfolding readSets order onward next if setsOf
   sets-more done l e = got-inj e
   sets-more (stop i p) l e = bad-got e
-  sets-more (chunk BB3D p b r) l e = bad-got e
-  sets-more (chunk TEXS p b r) l e = bad-got e
-  sets-more (chunk BRUS p b r) l e = bad-got e
-  sets-more (chunk NODE p b r) l e = bad-got e
-  sets-more (chunk MESH p b r) l e = bad-got e
-  sets-more (chunk VRTS p b r) l e = bad-got e
-  sets-more (chunk TRIS p b r) l e = one-set p b r (order MESH head (reached 2 false) r) (λ m em. sets-more r m em) l e
-  sets-more (chunk BONE p b r) l e = bad-got e
-  sets-more (chunk KEYS p b r) l e = bad-got e
-  sets-more (chunk ANIM p b r) l e = bad-got e
+  sets-more (chunk t p b r) l e =
+      by-entry MESH head (reached 2 false) p b r (λ u o. readSets brushes vertices o ≡ got l → setsOf (chunk u p b r) ≡ l) (λ u e. bad-got e)
+      (tt
+      ▸ (λ e. one-set p b r (order MESH head (reached 2 false) r) (λ m em. sets-more r m em) l e) ▸ tt) t e
 
   sets-first : (cs : Chunks) (l : List TriangleSet) → readSets brushes vertices (order MESH head (reached 1 true) cs) ≡ got l → setsOf cs ≡ l
   unfolding readSets order onward next if
   sets-first done l e = bad-got e
   sets-first (stop i p) l e = bad-got e
-  sets-first (chunk BB3D p b r) l e = bad-got e
-  sets-first (chunk TEXS p b r) l e = bad-got e
-  sets-first (chunk BRUS p b r) l e = bad-got e
-  sets-first (chunk NODE p b r) l e = bad-got e
-  sets-first (chunk MESH p b r) l e = bad-got e
-  sets-first (chunk VRTS p b r) l e = bad-got e
-  sets-first (chunk TRIS p b r) l e = one-set p b r (order MESH head (reached 2 false) r) (λ m em. sets-more r m em) l e
-  sets-first (chunk BONE p b r) l e = bad-got e
-  sets-first (chunk KEYS p b r) l e = bad-got e
-  sets-first (chunk ANIM p b r) l e = bad-got e
+  sets-first (chunk t p b r) l e =
+      by-entry MESH head (reached 1 true) p b r (λ u o. readSets brushes vertices o ≡ got l → setsOf (chunk u p b r) ≡ l) (λ u e. bad-got e)
+      (tt
+      ▸ (λ e. one-set p b r (order MESH head (reached 2 false) r) (λ m em. sets-more r m em) l e) ▸ tt) t e
 
 abbrev meshBy : ℕ → Vertices → List TriangleSet → Mesh
 meshBy brush v l = record { brush = brush; flags = v .flags; sets = v .sets; size = v .size; vertices = v .items; triangleSets = l }
@@ -196,21 +185,13 @@ inside-plain : (brush brushes head : ℕ) (cs : Chunks) (v : Found Vertices) →
 unfolding readOne order onward next if meshOf shapeOf setsOf
 inside-plain brush brushes head done v e l f = bad-got e
 inside-plain brush brushes head (stop i p) v e l f = bad-got e
-inside-plain brush brushes head (chunk BB3D p b r) v e l f = bad-got e
-inside-plain brush brushes head (chunk TEXS p b r) v e l f = bad-got e
-inside-plain brush brushes head (chunk BRUS p b r) v e l f = bad-got e
-inside-plain brush brushes head (chunk NODE p b r) v e l f = bad-got e
-inside-plain brush brushes head (chunk MESH p b r) v e l f = bad-got e
-inside-plain brush brushes head (chunk VRTS p b r) v e l f =
-    by-got (readVertices Lenient p b) _ e (λ x ex e₁.
+inside-plain brush brushes head (chunk t p b r) v e l f =
+    by-entry MESH head start p b r (λ u o. readOne VRTS noVertices (readVertices Lenient) o ≡ got v → meshOf brush (chunk u p b r) ≡ meshBy brush (v .value) l) (λ u e. bad-got e)
+    ((λ e. by-got (readVertices Lenient p b) _ e (λ x ex e₁.
     let g = got-inj e₁ in
     let shape : plainVertices b ≡ v .value = vertices-plain p b x ex ∙ ap (λ (y : Found Vertices). y .value) g in
     let sets = sets-first brushes (length (v .value .items)) head r l (ap (λ (y : Found Vertices). readSets brushes (length (v .value .items)) (y .rest)) g ∙ f) in
-    ap₂ (meshBy brush) shape sets)
-inside-plain brush brushes head (chunk TRIS p b r) v e l f = bad-got e
-inside-plain brush brushes head (chunk BONE p b r) v e l f = bad-got e
-inside-plain brush brushes head (chunk KEYS p b r) v e l f = bad-got e
-inside-plain brush brushes head (chunk ANIM p b r) v e l f = bad-got e
+    ap₂ (meshBy brush) shape sets)) ▸ tt ▸ tt) t e
 
 pub mesh-plain : (brushes p : ℕ) (b : List ℕ) (m : Mesh) → readMesh Lenient brushes p b ≡ got m → plainMesh p b ≡ m
 unfolding readMesh inside plainMesh

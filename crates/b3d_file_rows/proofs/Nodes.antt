@@ -1,12 +1,10 @@
 -- Tables 4 to 10: the rows of the flat run through nodes that were read are the rows of these nodes, and then those of what follows.
 use mathlib.Core.Path.{_≡_, refl, ap, ap₂, sym, subst, _∙_}
 use Prim.Native.Nat.{ℕ, zero, suc, _+_, _-_, _≤_}
-use native.Mathlib.Omega.{arith}
 use mathlib.Core.Bool.{Bool, true, false}
 use mathlib.Core.Option.{Option}
 use mathlib.Core.List.{List, [], _∷_, _++_, append-assoc}
-use lib.ListN.{length, drop, length-drop}
-use lib.Seq.{drop-drop, drop-append-le}
+use lib.ListN.{length}
 use Rattle.wire.specs.Test.{if}
 use Rattle.layout.specs.Chunks.{done, stop, chunk}
 use Rattle.layout.specs.Out.{Out, got}
@@ -15,21 +13,21 @@ use Rattle.layout.proofs.Outs.{by-got, bad-got, got-inj}
 use Rattle.b3d_scene.specs.declared.Mode.the-variants.{Lenient}
 use Rattle.b3d_scene.specs.declared.Counts.{Counts}
 use Rattle.b3d_scene.specs.declared.Tag.{Tag}
-use Rattle.b3d_scene.specs.declared.Tag.the-variants.{BB3D, TEXS, BRUS, NODE, MESH, VRTS, TRIS, BONE, KEYS, ANIM}
+use Rattle.b3d_scene.specs.declared.Tag.the-variants.{NODE, MESH, BONE, KEYS, ANIM}
 use Rattle.b3d_scene.specs.Nesting.{start, next, onward, order, inside}
 use Rattle.b3d_scene.specs.Parse.{readMesh, readBone, readKeys, readAnim, aMesh, aBone, readKind, Moves, withKeys, readMoves, Inner, readNodes, readBelow, readNode}
 use Rattle.b3d_scene.specs.Rules.{nodeRow, boneVertices, bonesBelow}
-use Rattle.b3d_scene.specs.Scene.{Mesh, Kind, pivot, mesh, bone, Keys, Anim, still, anim, Data, Forest, leaf, node}
+use Rattle.b3d_scene.specs.Scene.{Mesh, Kind, pivot, mesh, bone, Keys, Anim, still, anim, Data, Forest}
 use Rattle.b3d_scene.specs.Tables.{nodesIn, ownRows, withNode, withForest, forestRows}
 use Rattle.b3d_scene.specs.Tags.{Chunks, Found, split}
+use Rattle.b3d_scene.proofs.Files.Entries.{_▸_, by-entry}
 use Rattle.b3d_inside.specs.Places.{reached}
 use Rattle.b3d_inside.proofs.Turns.{kind-order}
 use Rattle.b3d_file_rows.specs.Flat.{rest, flatAt}
 use Rattle.b3d_file_rows.specs.Rows.{addNode, addKeys, current, keyListRows, counted, chunkRows, flatRows}
-use Rattle.b3d_file_rows.proofs.Ahead.{named-ahead}
 use Rattle.b3d_file_rows.proofs.Leaves.{keys-plain, bone-plain, mesh-plain}
 use Rattle.b3d_file_rows.proofs.Parts.{kindRows, moveRows, withKind, withLists, own-parts, node-counted, current-node, kind-node, kind-keys}
-use Rattle.b3d_file_rows.proofs.Run.{Here, Laid, laid, run-same, run-past, run-into, inside-laid}
+use Rattle.b3d_file_rows.proofs.Run.{Here, Laid, run-same, run-past, run-into, inside-laid}
 
 module _ (s : List ℕ) (k : ℕ) where
   -- the rows from a place of the file on, after so many rows
@@ -64,11 +62,10 @@ module _ (s : List ℕ) (k : ℕ) where
     unfolding readNodes order onward next if forestRows withForest
     nodes-flat done at e h f g n parent = subst (λ (x : Forest). from n at ≡ nodesThen x parent n e) (got-inj g) (ap (flatRows k n) (run-same s at e h))
     nodes-flat (stop i p) at e h f g n parent = bad-got g
-    nodes-flat (chunk BB3D p b r) at e h f g n parent = bad-got g
-    nodes-flat (chunk TEXS p b r) at e h f g n parent = bad-got g
-    nodes-flat (chunk BRUS p b r) at e h f g n parent = bad-got g
-    nodes-flat (chunk NODE p b r) at e h f g n parent =
-        by-got (read p b) _ g (λ x ex g₁.
+    nodes-flat (chunk t p b r) at e h f g n parent =
+        by-entry NODE head (reached 3 false) p b r (λ u o. Laid s e at (chunk u p b r) → readNodes read o ≡ got f → from n at ≡ nodesThen f parent n e) (λ u h g. bad-got g)
+        (tt ▸ tt ▸ tt ▸ tt
+        ▸ (λ h g. by-got (read p b) _ g (λ x ex g₁.
         by-got (readNodes read (order NODE head (reached 3 false) r)) _ g₁ (λ y ey g₂.
         let m = withNode (x .self) n in
         let q = withForest (x .below) m in
@@ -79,13 +76,7 @@ module _ (s : List ℕ) (k : ℕ) where
         same p b x ex at (h .0) n parent
         ∙ ap (λ (l : List (List ℕ)). own ++ (below ++ l)) (nodes-flat r (p + 8 + length b) e (h .1) y ey q parent)
         ∙ sym (append-assoc own (below ++ later) end ∙ ap (λ (l : List (List ℕ)). own ++ l) (append-assoc below later end))
-        ∙ ap (λ (z : Forest). nodesThen z parent n e) (got-inj g₂)))
-    nodes-flat (chunk MESH p b r) at e h f g n parent = bad-got g
-    nodes-flat (chunk VRTS p b r) at e h f g n parent = bad-got g
-    nodes-flat (chunk TRIS p b r) at e h f g n parent = bad-got g
-    nodes-flat (chunk BONE p b r) at e h f g n parent = bad-got g
-    nodes-flat (chunk KEYS p b r) at e h f g n parent = bad-got g
-    nodes-flat (chunk ANIM p b r) at e h f g n parent = bad-got g
+        ∙ ap (λ (z : Forest). nodesThen z parent n e) (got-inj g₂)))) ▸ tt) t h g
 
     -- ---- KEYS and ANIM
 
@@ -132,22 +123,17 @@ module _ (s : List ℕ) (k : ℕ) where
     unfolding readMoves order onward next if
     lists-flat done spent seen at e h y g f ef = by-none seen at e done y g f ef (λ ef′. nodes-flat done at e h f ef′)
     lists-flat (stop i p) spent seen at e h y g f ef = bad-got g
-    lists-flat (chunk BB3D p b r) spent seen at e h y g f ef = bad-got g
-    lists-flat (chunk TEXS p b r) spent seen at e h y g f ef = bad-got g
-    lists-flat (chunk BRUS p b r) spent seen at e h y g f ef = bad-got g
-    lists-flat (chunk NODE p b r) spent seen at e h y g f ef =
-        by-none seen at e (chunk NODE p b (order NODE head (reached 3 false) r)) y g f ef (λ ef′. nodes-flat (chunk NODE p b r) at e h f ef′)
-    lists-flat (chunk MESH p b r) spent seen at e h y g f ef = bad-got g
-    lists-flat (chunk VRTS p b r) spent seen at e h y g f ef = bad-got g
-    lists-flat (chunk TRIS p b r) spent seen at e h y g f ef = bad-got g
-    lists-flat (chunk BONE p b r) spent seen at e h y g f ef = bad-got g
-    lists-flat (chunk KEYS p b r) true seen at e h y g f ef =
-        by-list seen at e p b (order NODE head (reached 2 true) r) (h .0) (λ z ez f′ ef′. lists-flat r true seen (p + 8 + length b) e (h .1) z ez f′ ef′) y g f ef
-    lists-flat (chunk KEYS p b r) false seen at e h y g f ef =
-        by-list seen at e p b (order NODE head (reached 2 false) r) (h .0) (λ z ez f′ ef′. lists-flat r false seen (p + 8 + length b) e (h .1) z ez f′ ef′) y g f ef
-    lists-flat (chunk ANIM p b r) true seen at e h y g f ef = bad-got g
-    lists-flat (chunk ANIM p b r) false seen at e h y g f ef =
-        by-anim seen at e p b (order NODE head (reached 2 true) r) (h .0) (λ seen′ z ez f′ ef′. lists-flat r true seen′ (p + 8 + length b) e (h .1) z ez f′ ef′) y g f ef
+    lists-flat (chunk t p b r) true seen at e h y g f ef =
+        by-entry NODE head (reached 2 true) p b r (λ u o. Laid s e at (chunk u p b r) → readMoves seen o ≡ got y → Lists at e (y .value .keys) f) (λ u h g. bad-got g)
+        (tt ▸ tt
+        ▸ (λ h g. by-list seen at e p b (order NODE head (reached 2 true) r) (h .0) (λ z ez f′ ef′. lists-flat r true seen (p + 8 + length b) e (h .1) z ez f′ ef′) y g f ef) ▸ tt
+        ▸ (λ h g. by-none seen at e (chunk NODE p b (order NODE head (reached 3 false) r)) y g f ef (λ ef′. nodes-flat (chunk NODE p b r) at e h f ef′)) ▸ tt) t h g
+    lists-flat (chunk t p b r) false seen at e h y g f ef =
+        by-entry NODE head (reached 2 false) p b r (λ u o. Laid s e at (chunk u p b r) → readMoves seen o ≡ got y → Lists at e (y .value .keys) f) (λ u h g. bad-got g)
+        (tt ▸ tt
+        ▸ (λ h g. by-list seen at e p b (order NODE head (reached 2 false) r) (h .0) (λ z ez f′ ef′. lists-flat r false seen (p + 8 + length b) e (h .1) z ez f′ ef′) y g f ef)
+        ▸ (λ h g. by-anim seen at e p b (order NODE head (reached 2 true) r) (h .0) (λ seen′ z ez f′ ef′. lists-flat r true seen′ (p + 8 + length b) e (h .1) z ez f′ ef′) y g f ef)
+        ▸ (λ h g. by-none seen at e (chunk NODE p b (order NODE head (reached 3 false) r)) y g f ef (λ ef′. nodes-flat (chunk NODE p b r) at e h f ef′)) ▸ tt) t h g
 
     -- ---- a kind
 
@@ -196,16 +182,13 @@ module _ (s : List ℕ) (k : ℕ) where
     unfolding readKind order onward next if
     kind-flat brushes vertices done at e h x g y ey f ef = no-kind at e done done h x g refl y ey f ef
     kind-flat brushes vertices (stop i p) at e h x g y ey f ef = bad-got g
-    kind-flat brushes vertices (chunk BB3D p b r) at e h x g y ey f ef = bad-got g
-    kind-flat brushes vertices (chunk TEXS p b r) at e h x g y ey f ef = bad-got g
-    kind-flat brushes vertices (chunk BRUS p b r) at e h x g y ey f ef = bad-got g
-    kind-flat brushes vertices (chunk NODE p b r) at e h x g y ey f ef = no-kind at e (chunk NODE p b r) _ h x g refl y ey f ef
-    kind-flat brushes vertices (chunk MESH p b r) at e h x g y ey f ef = kind-mesh brushes at e p b r (h .0) (h .1) x g y ey f ef
-    kind-flat brushes vertices (chunk VRTS p b r) at e h x g y ey f ef = bad-got g
-    kind-flat brushes vertices (chunk TRIS p b r) at e h x g y ey f ef = bad-got g
-    kind-flat brushes vertices (chunk BONE p b r) at e h x g y ey f ef = kind-bone vertices at e p b r (h .0) (h .1) x g y ey f ef
-    kind-flat brushes vertices (chunk KEYS p b r) at e h x g y ey f ef = no-kind at e (chunk KEYS p b r) _ h x g refl y ey f ef
-    kind-flat brushes vertices (chunk ANIM p b r) at e h x g y ey f ef = no-kind at e (chunk ANIM p b r) _ h x g refl y ey f ef
+    kind-flat brushes vertices (chunk t p b r) at e h x g y ey f ef =
+        by-entry NODE head start p b r (λ u o. Laid s e at (chunk u p b r) → readKind Lenient brushes vertices o ≡ got x → Kinds at e (x .value) (y .value .keys) f) (λ u h g. bad-got g)
+        ((λ h g. kind-mesh brushes at e p b r (h .0) (h .1) x g y ey f ef)
+        ▸ (λ h g. kind-bone vertices at e p b r (h .0) (h .1) x g y ey f ef)
+        ▸ (λ h g. no-kind at e (chunk KEYS p b r) _ h x g refl y ey f ef)
+        ▸ (λ h g. no-kind at e (chunk ANIM p b r) _ h x g refl y ey f ef)
+        ▸ (λ h g. no-kind at e (chunk NODE p b r) _ h x g refl y ey f ef) ▸ tt) t h g
 
   -- ---- a node
 

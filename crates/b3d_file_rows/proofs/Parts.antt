@@ -58,41 +58,15 @@ keys-are i j (x ∷ xs) = ap (λ (l : List (List ℕ)). map (spread (keyMask (x 
 by-kind : (k : ℕ) → NoMoves k → (kind : Kind) (n : Counts) (i j : ℕ) (xs : List Keys) (r : List (List ℕ)) → r ≡ kindRows k kind n → r ≡ kindRows k kind n ++ moveRows k i j xs
 by-kind k h kind n i j xs r e = e ∙ sym (append-nil (kindRows k kind n)) ∙ ap (λ (l : List (List ℕ)). kindRows k kind n ++ l) (sym (no-moves k h i j xs))
 
-own-4 : Own 4
-unfolding ownRows if kindRows weightRows meshRows meshesOf keyListRows
-own-4 d p below n = by-kind 4 (λ i j x. refl) (d .kind) n (n .nodes) (n .keys) (d .keys) _ (go (d .kind))
+-- of meshes
+of-meshes : (k : ℕ) → NoMoves k → ((ws : List (List ℕ)) → [] ≡ weightRows k ws) → ((d : Data) (p below : ℕ) (n : Counts) → ownRows k d p below n ≡ meshRows k (meshesOf (d .kind)) n) → Own k
+unfolding kindRows meshRows meshesOf
+of-meshes k none light own d p below n = own d p below n ∙ by-kind k none (d .kind) n (n .nodes) (n .keys) (d .keys) _ (go (d .kind))
   where
-    go : (kind : Kind) → meshRows 4 (meshesOf kind) n ≡ kindRows 4 kind n
+    go : (kind : Kind) → meshRows k (meshesOf kind) n ≡ kindRows k kind n
     go pivot = refl
     go (mesh m) = refl
-    go (bone ws) = refl
-
-own-5 : Own 5
-unfolding ownRows if kindRows weightRows meshRows meshesOf keyListRows
-own-5 d p below n = by-kind 5 (λ i j x. refl) (d .kind) n (n .nodes) (n .keys) (d .keys) _ (go (d .kind))
-  where
-    go : (kind : Kind) → meshRows 5 (meshesOf kind) n ≡ kindRows 5 kind n
-    go pivot = refl
-    go (mesh m) = refl
-    go (bone ws) = refl
-
-own-6 : Own 6
-unfolding ownRows if kindRows weightRows meshRows meshesOf keyListRows
-own-6 d p below n = by-kind 6 (λ i j x. refl) (d .kind) n (n .nodes) (n .keys) (d .keys) _ (go (d .kind))
-  where
-    go : (kind : Kind) → meshRows 6 (meshesOf kind) n ≡ kindRows 6 kind n
-    go pivot = refl
-    go (mesh m) = refl
-    go (bone ws) = refl
-
-own-7 : Own 7
-unfolding ownRows if kindRows weightRows meshRows meshesOf keyListRows
-own-7 d p below n = by-kind 7 (λ i j x. refl) (d .kind) n (n .nodes) (n .keys) (d .keys) _ (go (d .kind))
-  where
-    go : (kind : Kind) → meshRows 7 (meshesOf kind) n ≡ kindRows 7 kind n
-    go pivot = refl
-    go (mesh m) = refl
-    go (bone ws) = refl
+    go (bone ws) = light ws
 
 own-8 : Own 8
 unfolding ownRows if kindRows weightRows meshRows weightsOf keyListRows
@@ -104,33 +78,42 @@ own-8 d p below n = by-kind 8 (λ i j x. refl) (d .kind) n (n .nodes) (n .keys) 
     go (bone ws) = refl
 
 -- rows of the key lists only
-by-moves : (k : ℕ) (kind : Kind) (n : Counts) (i j : ℕ) (xs : List Keys) (r : List (List ℕ)) → kindRows k kind n ≡ [] → moveRows k i j xs ≡ r → r ≡ kindRows k kind n ++ moveRows k i j xs
-by-moves k kind n i j xs r e f = sym f ∙ ap (λ (l : List (List ℕ)). l ++ moveRows k i j xs) (sym e)
-
-own-9 : Own 9
-unfolding ownRows if kindRows weightRows meshRows
-own-9 d p below n = by-moves 9 (d .kind) n (n .nodes) (n .keys) (d .keys) _ (go (d .kind)) (lists-are (n .nodes) (n .keys) (d .keys))
+of-lists : (k : ℕ) → ((m : Mesh) (n : Counts) → meshRows k (m ∷ []) n ≡ []) → ((ws : List (List ℕ)) → weightRows k ws ≡ [])
+    → ((d : Data) (p below : ℕ) (n : Counts) → ownRows k d p below n ≡ moveRows k (n .nodes) (n .keys) (d .keys)) → Own k
+unfolding kindRows
+of-lists k bare light own d p below n = own d p below n ∙ ap (λ (l : List (List ℕ)). l ++ moveRows k (n .nodes) (n .keys) (d .keys)) (sym (go (d .kind)))
   where
-    go : (kind : Kind) → kindRows 9 kind n ≡ []
+    go : (kind : Kind) → kindRows k kind n ≡ []
     go pivot = refl
-    go (mesh m) = refl
-    go (bone ws) = refl
-
-own-10 : Own 10
-unfolding ownRows if kindRows weightRows meshRows
-own-10 d p below n = by-moves 10 (d .kind) n (n .nodes) (n .keys) (d .keys) _ (go (d .kind)) (keys-are (n .nodes) (n .keys) (d .keys))
-  where
-    go : (kind : Kind) → kindRows 10 kind n ≡ []
-    go pivot = refl
-    go (mesh m) = refl
-    go (bone ws) = refl
+    go (mesh m) = bare m n
+    go (bone ws) = light ws
 
 -- of each of the tables 4 to 10
 pub own-parts : (k : ℕ) → 4 ≤ k → k ≤ 10 → Own k
-unfolding nodeTables
+unfolding nodeTables ownRows if weightRows meshRows keyListRows
 own-parts k lo hi =
-    at-table (λ j. 4 ≤ j → Own j) k
-    ((λ h. absurd (omega arith)), ((λ h. own-4), ((λ h. own-5), ((λ h. own-6), ((λ h. own-7), ((λ h. own-8), ((λ h. own-9), ((λ h. own-10), tt)))))))) (omega arith) hi lo
+    at-table (λ j. 4 ≤ j → Own j) k (
+      (λ h. absurd (omega arith)),
+      (
+        (λ h. of-meshes 4 (λ i j x. refl) (λ ws. refl) (λ d p below n. refl)),
+        (
+          (λ h. of-meshes 5 (λ i j x. refl) (λ ws. refl) (λ d p below n. refl)),
+          (
+            (λ h. of-meshes 6 (λ i j x. refl) (λ ws. refl) (λ d p below n. refl)),
+            (
+              (λ h. of-meshes 7 (λ i j x. refl) (λ ws. refl) (λ d p below n. refl)),
+              (
+                (λ h. own-8),
+                (
+                  (λ h. of-lists 9 (λ m n. refl) (λ ws. refl) (λ d p below n. sym (lists-are (n .nodes) (n .keys) (d .keys)))),
+                  ((λ h. of-lists 10 (λ m n. refl) (λ ws. refl) (λ d p below n. sym (keys-are (n .nodes) (n .keys) (d .keys)))), tt),
+                ),
+              ),
+            ),
+          ),
+        ),
+      ),
+    ) (omega arith) hi lo
 
 -- ---- counts
 

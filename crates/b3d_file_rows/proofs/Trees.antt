@@ -6,7 +6,7 @@ use native.Mathlib.Omega.{arith}
 use mathlib.Core.Bool.{Bool, true, false, not}
 use mathlib.Core.Option.{Option}
 use mathlib.Core.List.{List, [], _∷_, _++_, append-assoc}
-use lib.ListN.{length, drop}
+use lib.ListN.{length}
 use lib.Dec.{T, leb, le→leb, leb→le}
 use Rattle.wire.specs.Test.{if}
 use Rattle.layout.specs.Chunks.{done, stop, chunk}
@@ -16,19 +16,18 @@ use Rattle.layout.proofs.Outs.{by-got, bad-got, got-inj, if-yes, if-no, by-test
 use Rattle.b3d_scene.specs.declared.Mode.the-variants.{Lenient}
 use Rattle.b3d_scene.specs.declared.Counts.{Counts}
 use Rattle.b3d_scene.specs.declared.Tag.{Tag}
-use Rattle.b3d_scene.specs.declared.Tag.the-variants.{BB3D, TEXS, BRUS, NODE, MESH, VRTS, TRIS, BONE, KEYS, ANIM}
+use Rattle.b3d_scene.specs.declared.Tag.the-variants.{NODE, MESH, BONE, KEYS, ANIM}
 use Rattle.b3d_scene.specs.Nesting.{start, next, onward, order, inside}
 use Rattle.b3d_scene.specs.Parse.{readMesh, readBone, readKeys, readAnim, aMesh, aBone, readKind, Moves, withKeys, readMoves, Inner, readNodes, readBelow, readNode}
 use Rattle.b3d_scene.specs.Rules.{nodeRow as nodeWords, boneVertices, bonesBelow}
 use Rattle.b3d_scene.specs.Scene.{Mesh, Kind, pivot, mesh, bone, Keys, Anim, still, anim, Data, Forest, leaf, node}
 use Rattle.b3d_scene.specs.Tables.{nodesIn, nodeRow, ownRows, withNode, withForest, forestRows}
 use Rattle.b3d_scene.specs.Tags.{Chunks, Found, split, is}
+use Rattle.b3d_scene.proofs.Files.Entries.{_▸_, by-entry}
 use Rattle.b3d_inside.specs.Places.{reached}
 use Rattle.b3d_inside.proofs.Turns.{kind-order}
 use Rattle.b3d_file_rows.specs.Flat.{rest, flatAt}
-use Rattle.b3d_file_rows.specs.Plain.{plainAnim}
 use Rattle.b3d_file_rows.specs.Rows.{Open, addNode, addKeys, counted, kindOf, animOf, parentAt, nodesBefore, rowOf, opened, nodeRows}
-use Rattle.b3d_file_rows.proofs.Ahead.{named-ahead}
 use Rattle.b3d_file_rows.proofs.Leaves.{keys-plain, bone-plain, anim-plain, mesh-plain}
 use Rattle.b3d_file_rows.proofs.Parts.{withKind, withLists, node-counted}
 use Rattle.b3d_file_rows.proofs.Run.{Here, Laid, rest-laid, run-same, run-done, run-stop, run-node, run-past, run-into, inside-laid}
@@ -123,16 +122,10 @@ module _ (s : List ℕ) where
     unfolding readNodes order onward next if
     nodes-clean done at h f g = subst Clean (sym (run-same s at e h)) follows
     nodes-clean (stop i p) at h f g = bad-got g
-    nodes-clean (chunk BB3D p b r) at h f g = bad-got g
-    nodes-clean (chunk TEXS p b r) at h f g = bad-got g
-    nodes-clean (chunk BRUS p b r) at h f g = bad-got g
-    nodes-clean (chunk NODE p b r) at h f g = here-clean at p b (h .0)
-    nodes-clean (chunk MESH p b r) at h f g = bad-got g
-    nodes-clean (chunk VRTS p b r) at h f g = bad-got g
-    nodes-clean (chunk TRIS p b r) at h f g = bad-got g
-    nodes-clean (chunk BONE p b r) at h f g = bad-got g
-    nodes-clean (chunk KEYS p b r) at h f g = bad-got g
-    nodes-clean (chunk ANIM p b r) at h f g = bad-got g
+    nodes-clean (chunk t p b r) at h f g =
+        by-entry NODE head (reached 3 false) p b r (λ u o. Laid s e at (chunk u p b r) → readNodes read o ≡ got f → Clean (flatAt s at)) (λ u h g. bad-got g)
+        (tt ▸ tt ▸ tt ▸ tt
+        ▸ (λ h g. here-clean at p b (h .0)) ▸ tt) t h g
 
     no-nodes : (at : ℕ) → rest s at ≡ rest s e → Nodes at e leaf
     unfolding forestRows withForest nodesIn
@@ -153,20 +146,13 @@ module _ (s : List ℕ) where
     unfolding readNodes order onward next if
     nodes-flat done at h f g = subst (Nodes at e) (got-inj g) (no-nodes at h)
     nodes-flat (stop i p) at h f g = bad-got g
-    nodes-flat (chunk BB3D p b r) at h f g = bad-got g
-    nodes-flat (chunk TEXS p b r) at h f g = bad-got g
-    nodes-flat (chunk BRUS p b r) at h f g = bad-got g
-    nodes-flat (chunk NODE p b r) at h f g =
-        by-got (read p b) _ g (λ x ex g₁.
+    nodes-flat (chunk t p b r) at h f g =
+        by-entry NODE head (reached 3 false) p b r (λ u o. Laid s e at (chunk u p b r) → readNodes read o ≡ got f → Nodes at e f) (λ u h g. bad-got g)
+        (tt ▸ tt ▸ tt ▸ tt
+        ▸ (λ h g. by-got (read p b) _ g (λ x ex g₁.
         by-got (readNodes read (order NODE head (reached 3 false) r)) _ g₁ (λ y ey g₂.
         subst (Nodes at e) (got-inj g₂)
-        (more-nodes at p b (x .self) (x .below) y (h .0) (h .2) (nodes-clean r (p + 8 + length b) (h .1) y ey) (same p b x ex at (h .0)) (nodes-flat r (p + 8 + length b) (h .1) y ey))))
-    nodes-flat (chunk MESH p b r) at h f g = bad-got g
-    nodes-flat (chunk VRTS p b r) at h f g = bad-got g
-    nodes-flat (chunk TRIS p b r) at h f g = bad-got g
-    nodes-flat (chunk BONE p b r) at h f g = bad-got g
-    nodes-flat (chunk KEYS p b r) at h f g = bad-got g
-    nodes-flat (chunk ANIM p b r) at h f g = bad-got g
+        (more-nodes at p b (x .self) (x .below) y (h .0) (h .2) (nodes-clean r (p + 8 + length b) (h .1) y ey) (same p b x ex at (h .0)) (nodes-flat r (p + 8 + length b) (h .1) y ey))))) ▸ tt) t h g
 
     -- ---- KEYS and ANIM
 
@@ -245,22 +231,17 @@ module _ (s : List ℕ) where
     unfolding readMoves order onward next if
     lists-flat done spent seen at h y g f ef = by-none spent seen at done y g f ef (λ ef′. nodes-clean done at h f ef′) (λ ef′. nodes-flat done at h f ef′)
     lists-flat (stop i p) spent seen at h y g f ef = bad-got g
-    lists-flat (chunk BB3D p b r) spent seen at h y g f ef = bad-got g
-    lists-flat (chunk TEXS p b r) spent seen at h y g f ef = bad-got g
-    lists-flat (chunk BRUS p b r) spent seen at h y g f ef = bad-got g
-    lists-flat (chunk NODE p b r) spent seen at h y g f ef =
-        by-none spent seen at (chunk NODE p b (order NODE head (reached 3 false) r)) y g f ef (λ ef′. nodes-clean (chunk NODE p b r) at h f ef′) (λ ef′. nodes-flat (chunk NODE p b r) at h f ef′)
-    lists-flat (chunk MESH p b r) spent seen at h y g f ef = bad-got g
-    lists-flat (chunk VRTS p b r) spent seen at h y g f ef = bad-got g
-    lists-flat (chunk TRIS p b r) spent seen at h y g f ef = bad-got g
-    lists-flat (chunk BONE p b r) spent seen at h y g f ef = bad-got g
-    lists-flat (chunk KEYS p b r) true seen at h y g f ef =
-        by-list true seen at p b (order NODE head (reached 2 true) r) (h .0) (λ z ez f′ ef′. lists-flat r true seen (p + 8 + length b) (h .1) z ez f′ ef′) y g f ef
-    lists-flat (chunk KEYS p b r) false seen at h y g f ef =
-        by-list false seen at p b (order NODE head (reached 2 false) r) (h .0) (λ z ez f′ ef′. lists-flat r false seen (p + 8 + length b) (h .1) z ez f′ ef′) y g f ef
-    lists-flat (chunk ANIM p b r) true seen at h y g f ef = bad-got g
-    lists-flat (chunk ANIM p b r) false seen at h y g f ef =
-        by-anim seen at p b (order NODE head (reached 2 true) r) (h .0) (λ seen′ z ez f′ ef′. lists-flat r true seen′ (p + 8 + length b) (h .1) z ez f′ ef′) y g f ef
+    lists-flat (chunk t p b r) true seen at h y g f ef =
+        by-entry NODE head (reached 2 true) p b r (λ u o. Laid s e at (chunk u p b r) → readMoves seen o ≡ got y → Lists true seen at (y .value) f) (λ u h g. bad-got g)
+        (tt ▸ tt
+        ▸ (λ h g. by-list true seen at p b (order NODE head (reached 2 true) r) (h .0) (λ z ez f′ ef′. lists-flat r true seen (p + 8 + length b) (h .1) z ez f′ ef′) y g f ef) ▸ tt
+        ▸ (λ h g. by-none true seen at (chunk NODE p b (order NODE head (reached 3 false) r)) y g f ef (λ ef′. nodes-clean (chunk NODE p b r) at h f ef′) (λ ef′. nodes-flat (chunk NODE p b r) at h f ef′)) ▸ tt) t h g
+    lists-flat (chunk t p b r) false seen at h y g f ef =
+        by-entry NODE head (reached 2 false) p b r (λ u o. Laid s e at (chunk u p b r) → readMoves seen o ≡ got y → Lists false seen at (y .value) f) (λ u h g. bad-got g)
+        (tt ▸ tt
+        ▸ (λ h g. by-list false seen at p b (order NODE head (reached 2 false) r) (h .0) (λ z ez f′ ef′. lists-flat r false seen (p + 8 + length b) (h .1) z ez f′ ef′) y g f ef)
+        ▸ (λ h g. by-anim seen at p b (order NODE head (reached 2 true) r) (h .0) (λ seen′ z ez f′ ef′. lists-flat r true seen′ (p + 8 + length b) (h .1) z ez f′ ef′) y g f ef)
+        ▸ (λ h g. by-none false seen at (chunk NODE p b (order NODE head (reached 3 false) r)) y g f ef (λ ef′. nodes-clean (chunk NODE p b r) at h f ef′) (λ ef′. nodes-flat (chunk NODE p b r) at h f ef′)) ▸ tt) t h g
 
     -- ---- a kind
 
@@ -318,16 +299,13 @@ module _ (s : List ℕ) where
     unfolding readKind order onward next if
     kind-flat brushes vertices done at h x g y ey f ef = no-kind at done done h x g refl y ey f ef
     kind-flat brushes vertices (stop i p) at h x g y ey f ef = bad-got g
-    kind-flat brushes vertices (chunk BB3D p b r) at h x g y ey f ef = bad-got g
-    kind-flat brushes vertices (chunk TEXS p b r) at h x g y ey f ef = bad-got g
-    kind-flat brushes vertices (chunk BRUS p b r) at h x g y ey f ef = bad-got g
-    kind-flat brushes vertices (chunk NODE p b r) at h x g y ey f ef = no-kind at (chunk NODE p b r) _ h x g refl y ey f ef
-    kind-flat brushes vertices (chunk MESH p b r) at h x g y ey f ef = kind-mesh brushes at p b r (h .0) (h .1) x g y ey f ef
-    kind-flat brushes vertices (chunk VRTS p b r) at h x g y ey f ef = bad-got g
-    kind-flat brushes vertices (chunk TRIS p b r) at h x g y ey f ef = bad-got g
-    kind-flat brushes vertices (chunk BONE p b r) at h x g y ey f ef = kind-bone vertices at p b r (h .0) (h .1) x g y ey f ef
-    kind-flat brushes vertices (chunk KEYS p b r) at h x g y ey f ef = no-kind at (chunk KEYS p b r) _ h x g refl y ey f ef
-    kind-flat brushes vertices (chunk ANIM p b r) at h x g y ey f ef = no-kind at (chunk ANIM p b r) _ h x g refl y ey f ef
+    kind-flat brushes vertices (chunk t p b r) at h x g y ey f ef =
+        by-entry NODE head start p b r (λ u o. Laid s e at (chunk u p b r) → readKind Lenient brushes vertices o ≡ got x → Kinds at (x .value) (y .value) f) (λ u h g. bad-got g)
+        ((λ h g. kind-mesh brushes at p b r (h .0) (h .1) x g y ey f ef)
+        ▸ (λ h g. kind-bone vertices at p b r (h .0) (h .1) x g y ey f ef)
+        ▸ (λ h g. no-kind at (chunk KEYS p b r) _ h x g refl y ey f ef)
+        ▸ (λ h g. no-kind at (chunk ANIM p b r) _ h x g refl y ey f ef)
+        ▸ (λ h g. no-kind at (chunk NODE p b r) _ h x g refl y ey f ef) ▸ tt) t h g
 
   -- ---- a node
 

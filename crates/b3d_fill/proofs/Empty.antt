@@ -16,7 +16,8 @@ use Rattle.b3d_scene.specs.Tags.{Chunks, is}
 use Rattle.b3d_file_rows.specs.Flat.{flatAt}
 use Rattle.b3d_file_rows.specs.Rows.{counted, chunkRows, flatRows, fileRows}
 use Rattle.b3d_walk.proofs.Table.{Owns}
-use Rattle.b3d_fill_parts.proofs.Tables.{meshes, vertices, sets as triangleSets, triangles, lists, keys}
+use Rattle.b3d_fill_meshes.proofs.Tables.{meshes, vertices, sets as triangleSets, triangles}
+use Rattle.b3d_fill_moves.proofs.Tables.{lists, keys}
 
 nothing : (l : List (List ℕ)) → length l ≡ 0 → l ≡ []
 nothing [] e = refl

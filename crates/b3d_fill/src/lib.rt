@@ -54,7 +54,7 @@ fn meshes(file: &[u8], rows: u32, t4: &mut [u32], t5: &mut [u32], t6: &mut [u32]
     if rows == 0 {
         return;
     }
-    b3d_fill_parts::fill_meshes(file, t4, t5, t6, t7);
+    b3d_fill_meshes::fill_meshes(file, t4, t5, t6, t7);
 }
 
 // Tables 8 to 10, of so many weights and key lists: where there are no lists, there are no keys.
@@ -70,7 +70,7 @@ fn moves(file: &[u8], weights: u32, lists: u32, t8: &mut [u32], t9: &mut [u32], 
             return;
         }
     }
-    b3d_fill_parts::fill_moves(file, t8, t9, t10);
+    b3d_fill_moves::fill_moves(file, t8, t9, t10);
 }
 
 // The ten tables of a file, of so many rows.

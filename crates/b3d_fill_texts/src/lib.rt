@@ -73,11 +73,7 @@ pub fn fill_textures(file: &[u8], out: &mut [u32])
     }
     match b3d_walk::seek(file, Cursor { at: 12, end }, Tag::TEXS) {
         Sought::Nothing => {}
-        Sought::Found {
-            at: _,
-            body,
-            next: _,
-        } => {
+        Sought::Found { body, .. } => {
             fill_named(file, body, 7, 0, out);
         }
     }
@@ -94,11 +90,7 @@ pub fn fill_brushes(file: &[u8], out: &mut [u32])
     }
     match b3d_walk::seek(file, Cursor { at: 12, end }, Tag::BRUS) {
         Sought::Nothing => {}
-        Sought::Found {
-            at: _,
-            body,
-            next: _,
-        } => {
+        Sought::Found { body, .. } => {
             let head = b3d_walk::first_word(file, body);
             if 8 < head.word {
                 return;

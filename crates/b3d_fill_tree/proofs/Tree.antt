@@ -342,26 +342,4 @@ module _ (s out₀ : List ℕ) where
               tree-other u = passed meshes (no NODE node en z) weights (same-meshes (no MESH ok eo y)) (same-weights (no BONE bo eb u))
                   (omega (arith, v .few-meshes, it .more)) (omega (arith, v .few-weights, it .more))
 
-pub ruleset tree-laws = (
-  tree-start,
-  tree-small,
-  tree-inside,
-  tree-long,
-  tree-meshes,
-  tree-weights,
-  more-nodes,
-  more-words,
-  more-meshes,
-  tree-done,
-  tree-less,
-  tree-body,
-  tree-order,
-  tree-next,
-  tree-climb,
-  tree-room,
-  tree-node,
-  tree-mesh,
-  more-weights,
-  tree-bone,
-  tree-other,
-)
+pub ruleset tree-laws = (tree-start, tree-small, tree-inside, tree-long, tree-meshes, tree-weights, more-nodes, more-words, more-meshes, tree-done, tree-less, tree-body, tree-order, tree-next, tree-climb, tree-room, tree-node, tree-mesh, more-weights, tree-bone, tree-other)

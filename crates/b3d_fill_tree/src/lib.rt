@@ -35,7 +35,7 @@ fn own_next(file: &[u8], at: usize) -> Flat
             body,
             next,
         } => {
-            if b3d_copy::same(tag, Tag::NODE) {
+            if b3d_chunks::same(tag, Tag::NODE) {
                 return Flat::End;
             }
             Flat::Chunk {
@@ -61,14 +61,14 @@ fn kind_cells(file: &[u8], from: usize, meshes: usize, weights: usize) -> [u32; 
             }
             Flat::Chunk {
                 tag,
-                at: _,
                 body,
                 next,
+                ..
             } => {
-                if b3d_copy::same(tag, Tag::MESH) {
+                if b3d_chunks::same(tag, Tag::MESH) {
                     return [1, cells::cell(meshes), 1];
                 }
-                if b3d_copy::same(tag, Tag::BONE) {
+                if b3d_chunks::same(tag, Tag::BONE) {
                     return [
                         2,
                         cells::cell(weights),
@@ -94,11 +94,11 @@ fn anim_cells(file: &[u8], from: usize) -> [u32; 4]
             }
             Flat::Chunk {
                 tag,
-                at: _,
                 body,
                 next,
+                ..
             } => {
-                if b3d_copy::same(tag, Tag::ANIM) {
+                if b3d_chunks::same(tag, Tag::ANIM) {
                     let v = b3d_walk::three_words(file, body);
                     return [1, v.first, v.second, v.third];
                 }
@@ -148,11 +148,7 @@ fn put_node(
     let parts = base + 13;
     match b3d_chunks::named_row(file, body, 10) {
         Named::Cut => {}
-        Named::Is {
-            length,
-            row,
-            next: _,
-        } => {
+        Named::Is { length, row, .. } => {
             let head = [cells::cell(body.at), cells::cell(length), parent];
             cells::put_cells(out, base, &head);
             cells::copy_words(file, row, 10, numbers, out);
@@ -207,7 +203,7 @@ pub fn fill_nodes(file: &[u8], out: &mut [u32])
                 body,
                 next,
             } => {
-                if b3d_copy::same(tag, Tag::NODE) {
+                if b3d_chunks::same(tag, Tag::NODE) {
                     let parent = parent_at(file, out, nodes, p);
                     put_node(
                         file,
@@ -222,10 +218,10 @@ pub fn fill_nodes(file: &[u8], out: &mut [u32])
                     );
                     nodes += 1;
                     at = next;
-                } else if b3d_copy::same(tag, Tag::MESH) {
+                } else if b3d_chunks::same(tag, Tag::MESH) {
                     meshes += 1;
                     at = next;
-                } else if b3d_copy::same(tag, Tag::BONE) {
+                } else if b3d_chunks::same(tag, Tag::BONE) {
                     weights += (body.end - body.at) / 8;
                     at = next;
                 } else {

@@ -3,3 +3,4 @@ pub mod Heads
 pub mod Rests
 pub mod TagTests
 pub mod Turns
+pub mod Cycles

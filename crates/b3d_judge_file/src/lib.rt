@@ -62,7 +62,7 @@ pub fn judge_texs(s: &[u8], from: Cursor) -> Phase
             at,
             body,
             next,
-            reached: _,
+            ..
         } => match tag {
             Tag::TEXS => match b3d_judge_lists::judge_textures(s, at, body) {
                 Judged::Bad(e, p) => Phase::Not(e, p),
@@ -87,7 +87,7 @@ pub fn judge_brus(s: &[u8], from: Cursor, textures: usize, mode: Mode) -> Brushe
             at,
             body,
             next,
-            reached: _,
+            ..
         } => match tag {
             Tag::BRUS => match b3d_judge_lists::judge_brushes(s, at, body, textures, mode) {
                 Slotted::Not(e, p) => Brushed::Not(e, p),
@@ -107,16 +107,12 @@ fn judge_root(s: &[u8], from: Cursor, brushes: usize, mode: Mode) -> Phase
     match b3d_turns::next_inside(s, from, found, Tag::BB3D, 0, BRUS_READ) {
         Enclosed::End => Phase::To(b3d_tally::none(), from),
         Enclosed::Not(e, p) => Phase::Not(e, p),
-        Enclosed::Chunk {
-            tag: _,
-            at,
-            body,
-            next,
-            reached: _,
-        } => match b3d_judge_tree::judge_node(s, at, body, 16, brushes, Above::Root, mode) {
-            Judged::Bad(e, p) => Phase::Not(e, p),
-            Judged::Good(t) => Phase::To(t, next),
-        },
+        Enclosed::Chunk { at, body, next, .. } => {
+            match b3d_judge_tree::judge_node(s, at, body, 16, brushes, Above::Root, mode) {
+                Judged::Bad(e, p) => Phase::Not(e, p),
+                Judged::Good(t) => Phase::To(t, next),
+            }
+        }
     }
 }
 
@@ -133,13 +129,7 @@ fn judge_last(s: &[u8], from: Cursor, brushes: usize, mode: Mode) -> Judged
                 Enclosed::End => Judged::Good(t),
                 Enclosed::Not(e, p) => Judged::Bad(e, p),
                 // Nothing may stand here.
-                Enclosed::Chunk {
-                    tag: _,
-                    at: _,
-                    body: _,
-                    next: _,
-                    reached: _,
-                } => Judged::Good(t),
+                Enclosed::Chunk { .. } => Judged::Good(t),
             }
         }
     }

@@ -35,11 +35,7 @@ pub fn judge_textures(s: &[u8], at: usize, body: Cursor) -> Judged
             Named::Cut => {
                 return Judged::Bad(5, c.at);
             }
-            Named::Is {
-                length: _,
-                row: _,
-                next,
-            } => {
+            Named::Is { next, .. } => {
                 count += 1;
                 c = next;
             }
@@ -70,11 +66,7 @@ fn brush_items(s: &[u8], from: Cursor, slots: usize, textures: usize, mode: Mode
             Named::Cut => {
                 return Counted::Not(5, c.at);
             }
-            Named::Is {
-                length: _,
-                row,
-                next,
-            } => {
+            Named::Is { row, next, .. } => {
                 let colours = brush_colours(mode);
                 let passed = b3d_items::first_bad_colour(s, row, colours);
                 if passed < colours {

@@ -52,11 +52,11 @@ pub fn judge_sets(s: &[u8], at: usize, from: Cursor, brushes: usize, vertices: u
                 return Judged::Bad(e, p);
             }
             Enclosed::Chunk {
-                tag: _,
                 at: p,
                 body,
                 next,
                 reached,
+                ..
             } => match b3d_bodies::judge_triangles(s, p, body, brushes, vertices) {
                 Judged::Bad(e, i) => {
                     return Judged::Bad(e, i);
@@ -112,11 +112,10 @@ fn judge_inside(s: &[u8], at: usize, from: Cursor, brushes: usize, mode: Mode) -
         Enclosed::End => Meshed::Is(0, b3d_tally::none()),
         Enclosed::Not(e, p) => Meshed::Not(e, p),
         Enclosed::Chunk {
-            tag: _,
             at: p,
             body,
             next,
-            reached: _,
+            ..
         } => judge_shape(s, at, p, body, next, brushes, mode),
     }
 }

@@ -86,7 +86,7 @@ pub fn judge_kind(
             at: p,
             body,
             next,
-            reached: _,
+            ..
         } => match tag {
             Tag::MESH => match b3d_judge_mesh::judge_mesh(s, p, body, brushes, mode) {
                 Meshed::Not(e, q) => Kinded::Not(e, q),
@@ -137,10 +137,6 @@ pub fn judge_own(
 {
     match b3d_chunks::named_row(s, body, 10) {
         Named::Cut => Owned::Not(5, body.at),
-        Named::Is {
-            length: _,
-            row: _,
-            next,
-        } => judge_parts(s, at, next, brushes, above, mode),
+        Named::Is { next, .. } => judge_parts(s, at, next, brushes, above, mode),
     }
 }

@@ -74,11 +74,11 @@ pub fn judge_nodes(
                 return Judged::Bad(e, p);
             }
             Enclosed::Chunk {
-                tag: _,
                 at: p,
                 body,
                 next,
                 reached,
+                ..
             } => match judge_node(s, p, body, levels, brushes, above, mode) {
                 Judged::Bad(e, i) => {
                     return Judged::Bad(e, i);

@@ -1,34 +1,34 @@
 -- Accepted files: what the walk finds is what the reader's definition reads. Steps of the walk beside those of `Parse`, from VRTS to the file.
-use Prim.Native.Nat.{ℕ, zero, suc, _+_, _*_, _/_, _%_, _<_, _≤_}
+use Prim.Native.Nat.{ℕ, _+_, _*_, _/_, _%_, _<_, _≤_}
 use native.Mathlib.Omega.{arith}
-use native.Mathlib.Nat.{div-add-mod', mod-lt, le-refl}
-use mathlib.Core.Bool.{Bool, true, false}
+use native.Mathlib.Nat.{div-add-mod', mod-lt}
+use mathlib.Core.Bool.{true}
 use mathlib.Core.Option.{Option, none}
 use mathlib.Core.Path.{_≡_, refl, ap, sym, subst, _∙_}
-use mathlib.Core.List.{List, [], _∷_}
-use lib.ListN.{length, take, replicate, length-replicate}
+use mathlib.Core.List.{List, []}
+use lib.ListN.{length, replicate, length-replicate}
 use lib.Dec.{eqb, leb, eqb→eq, leb→le, nleb→lt, le→leb}
 use lib.Seq.{take-length}
 use mir.Facts.{eqb-no}
 use borrow.Author.Tests.{eq-eqb}
 use Rattle.wire.specs.Test.{if}
-use Rattle.layout.specs.Chunks.{done, stop, chunk, ended}
-use Rattle.layout.specs.Out.{Out, got, bad, check, _>>=_}
-use Rattle.layout.specs.Parts.{Name, Step, text, words, judged, row, number, named, items}
+use Rattle.layout.specs.Chunks.{done, stop, chunk}
+use Rattle.layout.specs.Out.{Out, got, check, _>>=_}
+use Rattle.layout.specs.Parts.{Name, Step, text, words, row, number, named, items}
 use Rattle.layout.specs.Rules.{Rule, any}
 use Rattle.layout.proofs.ChunkLaws.{ended-fine}
 use Rattle.layout.proofs.Outs.{by-got, by-check, check-yes, by-test, bad-got, got-inj}
 use Rattle.layout.proofs.StepLaws.{length-words-of, words-enough, words-short, judged-got, judged-any, any-whole, any-cut, length-items-of}
 use Rattle.layout.specs.Rows.{sizeFits}
 use Rattle.b3d_scene.specs.declared.Mode.the-variants.{Lenient}
-use Rattle.b3d_scene.specs.declared.Tag.{Tag}
-use Rattle.b3d_scene.specs.declared.Tag.the-variants.{BB3D, TEXS, BRUS, NODE, MESH, VRTS, TRIS, BONE, KEYS, ANIM}
+use Rattle.b3d_scene.specs.declared.Tag.the-variants.{BB3D, TEXS, BRUS, NODE, MESH, VRTS}
 use Rattle.b3d_scene.specs.Tags.{code, Chunks, Found as FoundIn, split}
-use Rattle.b3d_scene.specs.Scene.{Texture, Brush, Mesh, Kind, mesh, Data, Forest, leaf, node, Scene}
-use Rattle.b3d_scene.specs.Rules.{nodeRow, meshHead, verticesHead, vertexRow, vertexWords, fileHead, header, boneVertices, levels, ownVertices}
+use Rattle.b3d_scene.specs.Scene.{Mesh, Kind, Data, Forest, leaf, node, Scene}
+use Rattle.b3d_scene.specs.Rules.{nodeRow, meshHead, verticesHead, vertexRow, vertexWords, fileHead, header, levels, ownVertices}
 use Rattle.b3d_scene.specs.Nesting.{Reached, start, next, onward, order, inside}
 use Rattle.b3d_scene.specs.Parse.{readOne, readTextures, readBrushes, Vertices, noVertices, readVertices, readSets, readMesh, aMesh, aBone, readBone, readKind, readMoves, Inner, readBelow, readNodes, readNode, readRoot, readBody, parse}
-use Rattle.b3d_label.specs.Walk.{oneNumber, firstWith, verticesIn, meshVertices, rootVertices, Printed, rootIn, fileIn, walk}
+use Rattle.b3d_scene.proofs.Files.Entries.{_▸_, by-entry}
+use Rattle.b3d_label.specs.Walk.{firstWith, verticesIn, meshVertices, rootVertices, Printed, rootIn, fileIn, walk}
 use Rattle.b3d_label.specs.Answers.{Refused}
 
 -- fixed data that was read is all there
@@ -76,17 +76,9 @@ first-vrts : (head : ℕ) (cs : Chunks) (v : FoundIn Vertices) → readOne VRTS 
 unfolding order onward next readOne if firstWith
 first-vrts head done v e = bad-got e
 first-vrts head (stop n p) v e = bad-got e
-first-vrts head (chunk VRTS p b r) v e =
-    by-got (readVertices Lenient p b) _ e (λ x ex e₁. vertices-same p b x ex ∙ ap (λ (y : FoundIn Vertices). got (length (y .value .items))) (got-inj e₁))
-first-vrts head (chunk BB3D p b r) v e = bad-got e
-first-vrts head (chunk TEXS p b r) v e = bad-got e
-first-vrts head (chunk BRUS p b r) v e = bad-got e
-first-vrts head (chunk NODE p b r) v e = bad-got e
-first-vrts head (chunk MESH p b r) v e = bad-got e
-first-vrts head (chunk TRIS p b r) v e = bad-got e
-first-vrts head (chunk BONE p b r) v e = bad-got e
-first-vrts head (chunk KEYS p b r) v e = bad-got e
-first-vrts head (chunk ANIM p b r) v e = bad-got e
+first-vrts head (chunk t p b r) v e =
+    by-entry MESH head start p b r (λ u o. readOne VRTS noVertices (readVertices Lenient) o ≡ got v → (firstWith (code VRTS) (chunk u p b r) >>= λ x. verticesIn (x .0) (x .1)) ≡ got (length (v .value .items))) (λ u e. bad-got e)
+    ((λ e. by-got (readVertices Lenient p b) _ e (λ x ex e₁. vertices-same p b x ex ∙ ap (λ (y : FoundIn Vertices). got (length (y .value .items))) (got-inj e₁))) ▸ tt ▸ tt) t e
 
 mesh-same : (brushes p : ℕ) (b : List ℕ) (m : Mesh) → readMesh Lenient brushes p b ≡ got m → meshVertices (p + 8) b ≡ got (length (m .vertices))
 unfolding readMesh meshVertices inside
@@ -105,18 +97,13 @@ kind-same : (brushes vertices head : ℕ) (cs : Chunks) (k : FoundIn Kind) → r
 unfolding order onward next readKind aMesh aBone if rootVertices
 kind-same brushes vertices head done k e = ap (λ (x : FoundIn Kind). got (ownVertices (x .value))) (got-inj e)
 kind-same brushes vertices head (stop n p) k e = bad-got e
-kind-same brushes vertices head (chunk MESH p b r) k e =
-    by-got (readMesh Lenient brushes p b) _ e (λ m em e₁. mesh-same brushes p b m em ∙ ap (λ (x : FoundIn Kind). got (ownVertices (x .value))) (got-inj e₁))
-kind-same brushes vertices head (chunk BONE p b r) k e =
-    by-got (readBone vertices p b) _ e (λ ws ew e₁. ap (λ (x : FoundIn Kind). got (ownVertices (x .value))) (got-inj e₁))
-kind-same brushes vertices head (chunk KEYS p b r) k e = ap (λ (x : FoundIn Kind). got (ownVertices (x .value))) (got-inj e)
-kind-same brushes vertices head (chunk ANIM p b r) k e = ap (λ (x : FoundIn Kind). got (ownVertices (x .value))) (got-inj e)
-kind-same brushes vertices head (chunk NODE p b r) k e = ap (λ (x : FoundIn Kind). got (ownVertices (x .value))) (got-inj e)
-kind-same brushes vertices head (chunk BB3D p b r) k e = bad-got e
-kind-same brushes vertices head (chunk TEXS p b r) k e = bad-got e
-kind-same brushes vertices head (chunk BRUS p b r) k e = bad-got e
-kind-same brushes vertices head (chunk VRTS p b r) k e = bad-got e
-kind-same brushes vertices head (chunk TRIS p b r) k e = bad-got e
+kind-same brushes vertices head (chunk t p b r) k e =
+    by-entry NODE head start p b r (λ u o. readKind Lenient brushes vertices o ≡ got k → rootVertices (chunk u p b r) ≡ got (ownVertices (k .value))) (λ u e. bad-got e)
+    ((λ e. by-got (readMesh Lenient brushes p b) _ e (λ m em e₁. mesh-same brushes p b m em ∙ ap (λ (x : FoundIn Kind). got (ownVertices (x .value))) (got-inj e₁)))
+    ▸ (λ e. by-got (readBone vertices p b) _ e (λ ws ew e₁. ap (λ (x : FoundIn Kind). got (ownVertices (x .value))) (got-inj e₁)))
+    ▸ (λ e. ap (λ (x : FoundIn Kind). got (ownVertices (x .value))) (got-inj e))
+    ▸ (λ e. ap (λ (x : FoundIn Kind). got (ownVertices (x .value))) (got-inj e))
+    ▸ (λ e. ap (λ (x : FoundIn Kind). got (ownVertices (x .value))) (got-inj e)) ▸ tt) t e
 
 -- what the label has of a node
 abbrev pub printedOf : Data → Printed
@@ -181,47 +168,30 @@ module _ {A : Type 0} (a : A) (one : ℕ → List ℕ → Out A) where
   unfolding order onward next readOne if firstWith
   after-texs done x e = record { others = done; is = ap (λ (y : FoundIn A). y .rest) (sym (got-inj e)); same = refl }
   after-texs (stop n p) x e = bad-got e
-  after-texs (chunk TEXS p b r) x e = by-got (one p b) _ e (λ y ey e₁. record { others = r; is = ap (λ (y : FoundIn A). y .rest) (sym (got-inj e₁)); same = refl })
-  after-texs (chunk BRUS p b r) x e = record { others = chunk BRUS p b r; is = ap (λ (y : FoundIn A). y .rest) (sym (got-inj e)); same = refl }
-  after-texs (chunk NODE p b r) x e = record { others = chunk NODE p b r; is = ap (λ (y : FoundIn A). y .rest) (sym (got-inj e)); same = refl }
-  after-texs (chunk BB3D p b r) x e = bad-got e
-  after-texs (chunk MESH p b r) x e = bad-got e
-  after-texs (chunk VRTS p b r) x e = bad-got e
-  after-texs (chunk TRIS p b r) x e = bad-got e
-  after-texs (chunk BONE p b r) x e = bad-got e
-  after-texs (chunk KEYS p b r) x e = bad-got e
-  after-texs (chunk ANIM p b r) x e = bad-got e
+  after-texs (chunk t p b r) x e =
+      by-entry BB3D 0 start p b r (λ u o. readOne TEXS a one o ≡ got x → Onto 1 (chunk u p b r) (x .rest)) (λ u e. bad-got e)
+      ((λ e. by-got (one p b) _ e (λ y ey e₁. record { others = r; is = ap (λ (y : FoundIn A). y .rest) (sym (got-inj e₁)); same = refl }))
+      ▸ (λ e. record { others = chunk BRUS p b r; is = ap (λ (y : FoundIn A). y .rest) (sym (got-inj e)); same = refl })
+      ▸ (λ e. record { others = chunk NODE p b r; is = ap (λ (y : FoundIn A). y .rest) (sym (got-inj e)); same = refl }) ▸ tt) t e
 
   after-brus : (cs : Chunks) (x : FoundIn A) → readOne BRUS a one (order BB3D 0 (reached 1) cs) ≡ got x → Onto 2 cs (x .rest)
   unfolding order onward next readOne if firstWith
   after-brus done x e = record { others = done; is = ap (λ (y : FoundIn A). y .rest) (sym (got-inj e)); same = refl }
   after-brus (stop n p) x e = bad-got e
-  after-brus (chunk BRUS p b r) x e = by-got (one p b) _ e (λ y ey e₁. record { others = r; is = ap (λ (y : FoundIn A). y .rest) (sym (got-inj e₁)); same = refl })
-  after-brus (chunk NODE p b r) x e = record { others = chunk NODE p b r; is = ap (λ (y : FoundIn A). y .rest) (sym (got-inj e)); same = refl }
-  after-brus (chunk TEXS p b r) x e = bad-got e
-  after-brus (chunk BB3D p b r) x e = bad-got e
-  after-brus (chunk MESH p b r) x e = bad-got e
-  after-brus (chunk VRTS p b r) x e = bad-got e
-  after-brus (chunk TRIS p b r) x e = bad-got e
-  after-brus (chunk BONE p b r) x e = bad-got e
-  after-brus (chunk KEYS p b r) x e = bad-got e
-  after-brus (chunk ANIM p b r) x e = bad-got e
+  after-brus (chunk t p b r) x e =
+      by-entry BB3D 0 (reached 1) p b r (λ u o. readOne BRUS a one o ≡ got x → Onto 2 (chunk u p b r) (x .rest)) (λ u e. bad-got e)
+      (tt
+      ▸ (λ e. by-got (one p b) _ e (λ y ey e₁. record { others = r; is = ap (λ (y : FoundIn A). y .rest) (sym (got-inj e₁)); same = refl }))
+      ▸ (λ e. record { others = chunk NODE p b r; is = ap (λ (y : FoundIn A). y .rest) (sym (got-inj e)); same = refl }) ▸ tt) t e
 
 at-root : (brushes : ℕ) (cs : Chunks) (x : FoundIn Forest) → readOne NODE leaf (readRoot Lenient brushes) (order BB3D 0 (reached 2) cs) ≡ got x → Tells (toRoot cs) (x .value)
 unfolding order onward next readOne if firstWith
 at-root brushes done x e = subst (λ (y : FoundIn Forest). Tells (toRoot done) (y .value)) (got-inj e) (14, 0, refl)
 at-root brushes (stop n p) x e = bad-got e
-at-root brushes (chunk NODE p b r) x e =
-    by-got (readRoot Lenient brushes p b) _ e (λ f ef e₁. subst (λ (y : FoundIn Forest). Tells (rootIn (p + 8) b) (y .value)) (got-inj e₁) (root-same brushes p b f ef))
-at-root brushes (chunk TEXS p b r) x e = bad-got e
-at-root brushes (chunk BRUS p b r) x e = bad-got e
-at-root brushes (chunk BB3D p b r) x e = bad-got e
-at-root brushes (chunk MESH p b r) x e = bad-got e
-at-root brushes (chunk VRTS p b r) x e = bad-got e
-at-root brushes (chunk TRIS p b r) x e = bad-got e
-at-root brushes (chunk BONE p b r) x e = bad-got e
-at-root brushes (chunk KEYS p b r) x e = bad-got e
-at-root brushes (chunk ANIM p b r) x e = bad-got e
+at-root brushes (chunk t p b r) x e =
+    by-entry BB3D 0 (reached 2) p b r (λ u o. readOne NODE leaf (readRoot Lenient brushes) o ≡ got x → Tells (toRoot (chunk u p b r)) (x .value)) (λ u e. bad-got e)
+    (tt ▸ tt
+    ▸ (λ e. by-got (readRoot Lenient brushes p b) _ e (λ f ef e₁. subst (λ (y : FoundIn Forest). Tells (rootIn (p + 8) b) (y .value)) (got-inj e₁) (root-same brushes p b f ef))) ▸ tt) t e
 
 -- ---- the file
 

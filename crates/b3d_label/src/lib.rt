@@ -4,13 +4,12 @@ ghost use mathlib.Core.Path.{_≡_};
 ghost use Prim.Native.Nat.{_+_, _≤_};
 ghost use lib.ListN.{length};
 ghost use Rattle.wire.specs.Cursors.{Inside, left};
-ghost use Rattle.b3d_scene.specs.Tags.{code, split};
+ghost use Rattle.b3d_scene.specs.Tags.{split};
 ghost use Rattle.b3d_label.specs.Walk.{verticesIn, meshVertices, rootVertices, rootIn, fileIn, noLabel, labelOf, nameOn};
 ghost use Rattle.b3d_label.specs.Answers.{Seeks, manyOf, Labels};
 use b3d_chunks::Named;
 use b3d_chunks::Next;
 use b3d_items::Counted;
-use b3d_scene::Tag;
 use wire::Cursor;
 use wire::Header;
 use wire::Number;
@@ -36,24 +35,6 @@ pub enum Many {
     Not,
 }
 
-// The four letters of a tag as a number.
-fn letters(tag: Tag) -> u32
-    ensures { λ r. ⌜ r ≡ code tag ⌝ }
-{
-    match tag {
-        Tag::BB3D => 0x44334242,
-        Tag::TEXS => 0x53584554,
-        Tag::BRUS => 0x53555242,
-        Tag::NODE => 0x45444F4E,
-        Tag::MESH => 0x4853454D,
-        Tag::VRTS => 0x53545256,
-        Tag::TRIS => 0x53495254,
-        Tag::BONE => 0x454E4F42,
-        Tag::KEYS => 0x5359454B,
-        Tag::ANIM => 0x4D494E41,
-    }
-}
-
 // The first chunk with these letters; others are stepped over.
 fn first_with(s: &[u8], from: Cursor, wanted: u32) -> Sought
     requires { ⌜ Inside from (length (now s)) ⌝ }
@@ -70,11 +51,11 @@ fn first_with(s: &[u8], from: Cursor, wanted: u32) -> Sought
             }
             Next::Chunk {
                 tag,
-                at: _,
                 body,
                 next,
+                ..
             } => {
-                if letters(tag) == wanted {
+                if b3d_chunks::letters(tag) == wanted {
                     return Sought::Is(body);
                 }
                 c = next;
@@ -138,13 +119,8 @@ fn root_vertices(s: &[u8], from: Cursor) -> Many
     match b3d_chunks::next_chunk(s, from) {
         Next::Done => Many::Are(0),
         Next::Cut(_) => Many::Not,
-        Next::Chunk {
-            tag,
-            at: _,
-            body,
-            next: _,
-        } => {
-            if letters(tag) == 0x4853454D {
+        Next::Chunk { tag, body, .. } => {
+            if b3d_chunks::letters(tag) == 0x4853454D {
                 return mesh_vertices(s, body);
             }
             Many::Are(0)
@@ -171,11 +147,7 @@ fn root_label(s: &[u8], body: Cursor) -> TrayLabel
 {
     match b3d_chunks::named_row(s, body, 10) {
         Named::Cut => refused(),
-        Named::Is {
-            length,
-            row: _,
-            next,
-        } => match root_vertices(s, next) {
+        Named::Is { length, next, .. } => match root_vertices(s, next) {
             Many::Not => refused(),
             Many::Are(vertices) => TrayLabel {
                 number: 0,

@@ -1,19 +1,19 @@
 -- The lister's text is no longer than its output, whatever the file; and the bytes that the lister leaves unread make no difference.
 use mathlib.Core.Path.{_≡_, refl, sym}
-use Prim.Native.Nat.{ℕ, _+_, _≤_}
+use Prim.Native.Nat.{ℕ, _+_, _<_, _≤_}
 use native.Mathlib.Omega.{arith}
 use mathlib.Core.Bool.{Bool, true, false}
 use mathlib.Core.List.{List, [], _∷_, _++_, map}
 use lib.ListN.{length, take, drop, length-append, length-map}
 use lib.Seq.{take-all, take-append-seam, length-take-le}
 use lib.Dec.{leb, ltb, ltb→lt, nltb→le}
-use borrow.Author.Tests.{lt-ltb}
+use borrow.Author.Tests.{lt-ltb, le-ltb}
 use Rattle.wire.specs.Test.{if}
 use Rattle.wire.specs.Bytes.{AllBytes, IsWord, over}
 use Rattle.layout.specs.Out.{Out, got, bad, check, _>>=_}
 use Rattle.layout.proofs.Lists.{All, all-map}
 use Rattle.layout.proofs.RefusalLaws.{OneToNine}
-use Rattle.layout.proofs.Outs.{by-test, if-yes, if-no, bad-got}
+use Rattle.layout.proofs.Outs.{by-test, bad-got}
 use Rattle.layout.specs.Rows.{eachOf, mostBytes}
 use Rattle.b3d_scene.specs.Answers.{judge}
 use Rattle.b3d_scene.specs.declared.Mode.the-variants.{Strict}
@@ -119,13 +119,20 @@ listed-length : (s : List ℕ) (o : Out Scene) → AllBytes s → judge Strict s
 listed-length s (got t) b e = accepted-length s t b e
 listed-length s (bad n p) b e = omega (arith, refused-length n p (judge-number s n p e) (judge-place Strict s n p e))
 
+-- of a file that is too long, and of any other
+pub listing-over : (s : List ℕ) → mostListed < length s → listing s ≡ numberLine (1 ∷ 0 ∷ [])
+unfolding listing if
+listing-over s h = rw (lt-ltb mostListed (length s) h)
+
+pub listing-short : (s : List ℕ) → length s ≤ mostListed → listing s ≡ listed (judge Strict s)
+unfolding listing if
+listing-short s h = rw (le-ltb mostListed (length s) h)
+
 pub listing-length : (s : List ℕ) → AllBytes s → length (listing s) ≤ mostPrinted
-unfolding listing
 listing-length s b =
     by-test (ltb mostListed (length s))
-    (λ t. rw (if-yes (ltb mostListed (length s)) (numberLine (1 ∷ 0 ∷ [])) (listed (judge Strict s)) t) (omega (arith, numbers-length (1 ∷ 0 ∷ []) (omega arith, (omega arith, tt)))))
-    (λ t. let h = nltb→le mostListed (length s) t in
-    rw (if-no (ltb mostListed (length s)) (numberLine (1 ∷ 0 ∷ [])) (listed (judge Strict s)) t) (omega (arith, listed-length s (judge Strict s) b refl)))
+    (λ t. rw (listing-over s (ltb→lt mostListed (length s) t)) (omega (arith, numbers-length (1 ∷ 0 ∷ []) (omega arith, (omega arith, tt)))))
+    (λ t. let h = nltb→le mostListed (length s) t in rw (listing-short s h) (omega (arith, listed-length s (judge Strict s) b refl)))
 
 -- a byte more than the limit is as good as the whole file
 pub listing-cut : (s : List ℕ) → listing (take 65537 s) ≡ listing s

@@ -5,8 +5,6 @@ use native.Mathlib.Omega.{arith}
 use mathlib.Core.List.{List, [], _∷_, _++_, append-assoc}
 use lib.ListN.{length}
 use lib.Seq.{sets, length-sets}
-use borrow.Author.Tests.{lt-ltb, le-ltb}
-use Rattle.wire.specs.Test.{if}
 use Rattle.wire.specs.Bytes.{AllBytes}
 use Rattle.layout.specs.Out.{Out, got}
 use Rattle.b3d_scene.specs.declared.Mode.the-variants.{Strict}
@@ -29,6 +27,7 @@ use Rattle.b3d_text.specs.Text.{numberLine}
 use Rattle.b3d_text.proofs.Putting.{put-both, put-inside}
 use Rattle.b3d_listing.specs.Listing.{nodeLines, listed, listing}
 use Rattle.b3d_listing.specs.Parts.{headLines, nodeLinesOf, Listable}
+use Rattle.b3d_listing.proofs.Lengths.{listing-over, listing-short}
 use Rattle.b3d_listing.proofs.NameLines.{nodes-count, table-room, table-lines}
 use Rattle.b3d_lines.specs.Lines.{rowLines}
 
@@ -92,17 +91,12 @@ accepted-lines t = simp append-assoc
 
 module _ (s xs ys : List ℕ) (p : ℕ) where
   pub listing-long : 65536 < length s → Puts (numberLine (1 ∷ 0 ∷ [])) xs 0 ys p → Puts (listing s) xs 0 ys p
-  unfolding listing if
-  listing-long h k = rw (lt-ltb 65536 (length s) h) k
+  listing-long h k = rw (listing-over s h) k
 
   module _ (h : length s ≤ 65536) (v : Verdict) (ev : v ≡ verdictOf (judge Strict s)) where
-    listing-short : listing s ≡ listed (judge Strict s)
-    unfolding listing if
-    listing-short = rw (le-ltb 65536 (length s) h)
-
     pub listing-bad : (n q : ℕ) → v ≡ verdict.Bad n q → (k : ℕ) → k ≡ n → Puts (numberLine (k ∷ q ∷ [])) xs 0 ys p → Puts (listing s) xs 0 ys p
     unfolding listed
-    listing-bad n q w k e g = rw (listing-short, was-bad (judge Strict s) n q (sym ev ∙ w), ← e) g
+    listing-bad n q w k e g = rw (listing-short s h, was-bad (judge Strict s) n q (sym ev ∙ w), ← e) g
 
     module _ (x : Summary) (w : v ≡ verdict.Good x) where
       good : Good (judge Strict s) x
@@ -112,7 +106,7 @@ module _ (s xs ys : List ℕ) (p : ℕ) where
       unfolding nodeLinesOf
       listing-lines =
           ap₂ (λ (y : Summary) (o : Out Scene). headLines y ++ nodeLinesOf o) (good .same) (good .is)
-          ∙ accepted-lines (good .scene) ∙ sym (listing-short ∙ ap listed (good .is))
+          ∙ accepted-lines (good .scene) ∙ sym (listing-short s h ∙ ap listed (good .is))
 
       pub listing-good : Puts (headLines x) xs 0 ys p → (zs : List ℕ) (q : ℕ) → Puts (nodeLinesOf (judge Strict s)) ys p zs q → Puts (listing s) xs 0 zs q
       listing-good k zs q l = rw (← listing-lines) (put-both (headLines x) (nodeLinesOf (judge Strict s)) xs 0 ys p zs q k l)

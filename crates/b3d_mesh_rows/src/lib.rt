@@ -22,11 +22,7 @@ pub fn put_vertices(file: &[u8], p: usize, body: Cursor, base: usize, out: &mut 
     let head = b3d_walk::first_word(file, body);
     match b3d_walk::seek(file, head.rest, Tag::VRTS) {
         Sought::Nothing => base,
-        Sought::Found {
-            at: _,
-            body: b,
-            next: _,
-        } => b3d_item_rows::put_shape(file, b, base, out),
+        Sought::Found { body: b, .. } => b3d_item_rows::put_shape(file, b, base, out),
     }
 }
 
@@ -44,11 +40,7 @@ pub fn put_triangles(file: &[u8], p: usize, body: Cursor, base: usize, out: &mut
             Sought::Nothing => {
                 return o;
             }
-            Sought::Found {
-                at: _,
-                body: b,
-                next,
-            } => {
+            Sought::Found { body: b, next, .. } => {
                 let set = b3d_walk::first_word(file, b);
                 o = b3d_item_rows::put_items(file, set.rest, 3, o, out);
                 c = next;
@@ -114,11 +106,7 @@ pub fn put_sets(
             Sought::Nothing => {
                 return After { base: o, first: n };
             }
-            Sought::Found {
-                at: _,
-                body: b,
-                next,
-            } => {
+            Sought::Found { body: b, next, .. } => {
                 n += put_set(file, b, mesh, n, o, out);
                 o += 4;
                 c = next;
@@ -139,11 +127,7 @@ fn count_sets(file: &[u8], from: Cursor) -> usize
             Sought::Nothing => {
                 return n;
             }
-            Sought::Found {
-                at: _,
-                body: _,
-                next,
-            } => {
+            Sought::Found { next, .. } => {
                 n += 1;
                 c = next;
             }
@@ -170,11 +154,7 @@ fn find_shape(file: &[u8], from: Cursor) -> Vertices
             size: 0,
             count: 0,
         },
-        Sought::Found {
-            at: _,
-            body,
-            next: _,
-        } => {
+        Sought::Found { body, .. } => {
             let h = b3d_walk::three_words(file, body);
             let count = b3d_item_rows::shape_count(h);
             Vertices {

@@ -18,6 +18,8 @@ use Rattle.b3d_scene.specs.Tags.{tagOf}
 use Rattle.b3d_scene.specs.Rules.{levels}
 use Rattle.b3d_scene.specs.Nesting.{nesting, Reached, owed, end, next}
 use Rattle.b3d_scene.specs.Tables.{start as noCounts}
+use Rattle.b3d_scene.proofs.Files.TagCodes.{by-tag}
+use Rattle.b3d_scene.proofs.Files.Entries.{_▸_, EachTag, at-tag}
 use Rattle.b3d_pieces.specs.declared.Totals.{Totals}
 use Rattle.b3d_pieces.specs.declared.Kept.{Kept}
 use Rattle.b3d_pieces.specs.declared.Open.{Open}
@@ -29,16 +31,7 @@ use Rattle.b3d_pieces.specs.Close.{nothing, body, Whole, heading, inside
 use Rattle.b3d_pieces.specs.Good.{Bound, Words, Deep, sum, extra, load, Fits, worth, Off, Good, GoodWhole, GoodHeld}
 
 pub bound-most : (t : Tag) (l n : ℕ) → Bound t l n → n ≤ 18
-bound-most BB3D l n h = omega arith
-bound-most TEXS l n h = omega arith
-bound-most BRUS l n h = omega arith
-bound-most NODE l n h = omega arith
-bound-most MESH l n h = omega arith
-bound-most VRTS l n h = omega arith
-bound-most TRIS l n h = omega arith
-bound-most BONE l n h = omega arith
-bound-most KEYS l n h = omega arith
-bound-most ANIM l n h = omega arith
+bound-most = by-tag (λ t. (l n : ℕ) → Bound t l n → n ≤ 18) (λ l n h. omega arith, λ l n h. omega arith, λ l n h. omega arith, λ l n h. omega arith, λ l n h. omega arith, λ l n h. omega arith, λ l n h. omega arith, λ l n h. omega arith, λ l n h. omega arith, λ l n h. omega arith)
 
 -- at most 19 open chunks, 18 around the innermost
 pub good-depth : (n at : ℕ) (m : Part) (g : Totals) (f : Open) (R : List Open) → Good n (live at m g f R) → length R ≤ 18
@@ -57,48 +50,20 @@ Child BONE l n = suc n ≤ 18
 Child KEYS l n = suc n ≤ 18
 Child ANIM l n = suc n ≤ 18
 
-none-some : {A B : Type 0} {a : A} → _≡_ {A = Option A} none (some a) → B
-none-some e = let z : _≡_ {A = ℕ} 0 1 = cc in absurd (omega arith)
+children : (k : Tag) (l n : ℕ) → Bound k l n → EachTag (λ t. Child t l n) (nesting k)
+children BB3D l n h = omega arith ▸ omega arith ▸ (λ m z. omega arith) ▸ tt
+children TEXS l n h = tt
+children BRUS l n h = tt
+children NODE l n h = omega arith ▸ omega arith ▸ omega arith ▸ omega arith ▸ (λ m z. omega arith) ▸ tt
+children MESH l n h = omega arith ▸ omega arith ▸ tt
+children VRTS l n h = tt
+children TRIS l n h = tt
+children BONE l n h = tt
+children KEYS l n h = tt
+children ANIM l n h = tt
 
 pub child : (k t : Tag) (l n : ℕ) (r q : Reached) → next (nesting k) (nesting k) r t ≡ some q → Bound k l n → Child t l n
-unfolding next if
-child BB3D BB3D l n r q e h = none-some e
-child BB3D TEXS l n r q e h = omega arith
-child BB3D BRUS l n r q e h = omega arith
-child BB3D NODE l n r q e h = λ m z. omega arith
-child BB3D MESH l n r q e h = none-some e
-child BB3D VRTS l n r q e h = none-some e
-child BB3D TRIS l n r q e h = none-some e
-child BB3D BONE l n r q e h = none-some e
-child BB3D KEYS l n r q e h = none-some e
-child BB3D ANIM l n r q e h = none-some e
-child TEXS t l n r q e h = none-some e
-child BRUS t l n r q e h = none-some e
-child NODE BB3D l n r q e h = none-some e
-child NODE TEXS l n r q e h = none-some e
-child NODE BRUS l n r q e h = none-some e
-child NODE NODE l n r q e h = λ m z. omega arith
-child NODE MESH l n r q e h = omega arith
-child NODE VRTS l n r q e h = none-some e
-child NODE TRIS l n r q e h = none-some e
-child NODE BONE l n r q e h = omega arith
-child NODE KEYS l n r q e h = omega arith
-child NODE ANIM l n r q e h = omega arith
-child MESH BB3D l n r q e h = none-some e
-child MESH TEXS l n r q e h = none-some e
-child MESH BRUS l n r q e h = none-some e
-child MESH NODE l n r q e h = none-some e
-child MESH MESH l n r q e h = none-some e
-child MESH VRTS l n r q e h = omega arith
-child MESH TRIS l n r q e h = omega arith
-child MESH BONE l n r q e h = none-some e
-child MESH KEYS l n r q e h = none-some e
-child MESH ANIM l n r q e h = none-some e
-child VRTS t l n r q e h = none-some e
-child TRIS t l n r q e h = none-some e
-child BONE t l n r q e h = none-some e
-child KEYS t l n r q e h = none-some e
-child ANIM t l n r q e h = none-some e
+child k t l n r q e h = at-tag (λ t. Child t l n) k t r q (children k l n h) e
 
 pub none-words : Words noneKept
 none-words = (omega arith, omega arith, omega arith)
@@ -112,28 +77,10 @@ keep-words (suc (suc (suc i))) w k c u = u
 -- ---- each step keeps it
 
 pub closed-sum : (t : Tag) (c : ℕ) (k : Kept) (told : ℕ) (g : Totals) → sum (closed t c k told g) ≤ sum g + (c + extra t)
-closed-sum BB3D c k told g = omega arith
-closed-sum TEXS c k told g = omega arith
-closed-sum BRUS c k told g = omega arith
-closed-sum NODE c k told g = omega arith
-closed-sum MESH c k told g = omega arith
-closed-sum VRTS c k told g = omega arith
-closed-sum TRIS c k told g = omega arith
-closed-sum BONE c k told g = omega arith
-closed-sum KEYS c k told g = omega arith
-closed-sum ANIM c k told g = omega arith
+closed-sum t c k told g = by-tag (λ t. sum (closed t c k told g) ≤ sum g + (c + extra t)) (omega arith, omega arith, omega arith, omega arith, omega arith, omega arith, omega arith, omega arith, omega arith, omega arith) t
 
 pub headed-sum : (t : Tag) (k : Kept) (g : Totals) → sum (headed t k g) ≡ sum g
-headed-sum BB3D k g = refl
-headed-sum TEXS k g = refl
-headed-sum BRUS k g = refl
-headed-sum NODE k g = refl
-headed-sum MESH k g = refl
-headed-sum VRTS k g = refl
-headed-sum TRIS k g = refl
-headed-sum BONE k g = refl
-headed-sum KEYS k g = refl
-headed-sum ANIM k g = refl
+headed-sum t k g = by-tag (λ t. sum (headed t k g) ≡ sum g) (refl, refl, refl, refl, refl, refl, refl, refl, refl, refl) t
 
 pub if-good : (n : ℕ) (b : Bool) (x y : State) → Good n x → Good n y → Good n (if b x y)
 unfolding if

@@ -11,7 +11,7 @@ use Rattle.layout.specs.Out.{Out, got, _>>=_}
 use Rattle.layout.specs.Parts.{number, row}
 use Rattle.layout.specs.Chunks.{done, stop, chunk, ended}
 use Rattle.layout.proofs.Outs.{bind-bind, bind-cong}
-use Rattle.b3d_scene.specs.declared.Tag.the-variants.{BB3D, TEXS, BRUS, NODE, MESH, VRTS, TRIS, BONE, KEYS, ANIM}
+use Rattle.b3d_scene.specs.declared.Tag.the-variants.{BB3D, TEXS, BRUS, NODE, MESH, VRTS, TRIS, BONE, KEYS}
 use Rattle.b3d_scene.specs.declared.Mode.the-variants.{Strict}
 use Rattle.b3d_scene.specs.declared.Counts.{Counts}
 use Rattle.b3d_scene.specs.Tags.{Chunks, Found, split}
@@ -22,6 +22,7 @@ use Rattle.b3d_scene.specs.Scene.{Texture, Brush, TriangleSet, Kind, pivot, mes
 use Rattle.b3d_scene.specs.Tables.{start, meshesOf, weightsOf, triangleRows, keyRows, withMeshes, withNode, withForest, counts}
 use Rattle.b3d_scene.specs.Parse.{readOne, readTextures, readBrushes, readNode, readRoot, slotsOf, readBody}
 use Rattle.b3d_scene.proofs.Rows.CountLaws.{counts-are}
+use Rattle.b3d_scene.proofs.Files.Entries.{_▸_}
 use Rattle.b3d_pieces.specs.declared.Totals.{Totals}
 use Rattle.b3d_pieces.specs.Bodies.{noneKept, entered, slotsFor, closed}
 use Rattle.b3d_pieces.specs.Close.{nothing, countsOf}
@@ -29,7 +30,7 @@ use Rattle.b3d_pieces.proofs.Counting.{chunksOut, inNode, nodeOut, body
 use Rattle.b3d_pieces.proofs.Sums.{setsTotals, kindTotals, keysTotals, animTotals, nodeTotals, forestTotals, brushTotals, texs-out, brus-out}
 use Rattle.b3d_pieces.proofs.MeshSums.{through}
 use Rattle.b3d_pieces.proofs.NodeSums.{on-out, Told, node-out}
-use Rattle.b3d_pieces.proofs.Phases.{Nothing, Rooted, Brushed, Textured, textured}
+use Rattle.b3d_pieces.proofs.Phases.{empty, rooted, brushed, textured, Only, by-phase, in-file}
 
 -- ---- the totals of a scene
 
@@ -45,78 +46,47 @@ sceneTotals t = forestTotals (t .nodes) (base (t .version) (t .slots) (length (t
 abbrev count : Chunks → Totals → Out Totals
 count cs g = chunksOut (inNode (nodeOut levels)) cs g
 
-texs-first : (cs : Chunks) → Textured cs → (v : ℕ) (K : Found (List Texture) → Out Totals)
-    → ((x : Found (List Texture)) → Brushed (x .rest) → count (x .rest) (base v 0 (length (x .value)) 0) ≡ K x) → count cs (base v 0 0 0) ≡ (readOne TEXS [] readTextures cs >>= K)
+texs-first : (cs : Chunks) → Only textured cs → (v : ℕ) (K : Found (List Texture) → Out Totals)
+    → ((x : Found (List Texture)) → Only brushed (x .rest) → count (x .rest) (base v 0 (length (x .value)) 0) ≡ K x) → count cs (base v 0 0 0) ≡ (readOne TEXS [] readTextures cs >>= K)
 unfolding chunksOut readOne if
 texs-first done h v K k = k (record { value = []; rest = done }) tt
 texs-first (stop n p) h v K k = refl
-texs-first (chunk BB3D p b r) h v K k = absurd h
-texs-first (chunk TEXS p b r) h v K k =
-    ap (λ (o : Out Totals). o >>= λ x. count r x) (texs-out (base v 0 0 0) p b)
-    ∙ on-out (readTextures p b) (λ l. base v 0 (length l) 0) (count r) (λ l. got (record { value = l; rest = r })) K (λ l. k (record { value = l; rest = r }) h)
-texs-first (chunk BRUS p b r) h v K k = k (record { value = []; rest = chunk BRUS p b r }) h
-texs-first (chunk NODE p b r) h v K k = k (record { value = []; rest = chunk NODE p b r }) h
-texs-first (chunk MESH p b r) h v K k = absurd h
-texs-first (chunk VRTS p b r) h v K k = absurd h
-texs-first (chunk TRIS p b r) h v K k = absurd h
-texs-first (chunk BONE p b r) h v K k = absurd h
-texs-first (chunk KEYS p b r) h v K k = absurd h
-texs-first (chunk ANIM p b r) h v K k = absurd h
+texs-first (chunk t p b r) h v K k =
+    by-phase textured (λ u. count (chunk u p b r) (base v 0 0 0) ≡ (readOne TEXS [] readTextures (chunk u p b r) >>= K)) r
+    ((λ h. ap (λ (o : Out Totals). o >>= λ x. count r x) (texs-out (base v 0 0 0) p b)
+    ∙ on-out (readTextures p b) (λ l. base v 0 (length l) 0) (count r) (λ l. got (record { value = l; rest = r })) K (λ l. k (record { value = l; rest = r }) h))
+    ▸ (λ h. k (record { value = []; rest = chunk BRUS p b r }) h) ▸ (λ h. k (record { value = []; rest = chunk NODE p b r }) h) ▸ tt) t h
 
-brus-next : (cs : Chunks) → Brushed cs → (v n : ℕ) (K : Found (ℕ × List Brush) → Out Totals)
-    → ((x : Found (ℕ × List Brush)) → Rooted (x .rest) → count (x .rest) (base v (slotsFor (length (x .value .1)) (x .value .0)) n (length (x .value .1))) ≡ K x)
+brus-next : (cs : Chunks) → Only brushed cs → (v n : ℕ) (K : Found (ℕ × List Brush) → Out Totals)
+    → ((x : Found (ℕ × List Brush)) → Only rooted (x .rest) → count (x .rest) (base v (slotsFor (length (x .value .1)) (x .value .0)) n (length (x .value .1))) ≡ K x)
     → count cs (base v 0 n 0) ≡ (readOne BRUS (0, []) (readBrushes Strict n) cs >>= K)
 unfolding chunksOut readOne if
 brus-next done h v n K k = k (record { value = (0, []); rest = done }) tt
 brus-next (stop m p) h v n K k = refl
-brus-next (chunk BB3D p b r) h v n K k = absurd h
-brus-next (chunk TEXS p b r) h v n K k = absurd h
-brus-next (chunk BRUS p b r) h v n K k =
-    ap (λ (o : Out Totals). o >>= λ x. count r x) (brus-out (base v 0 n 0) p b)
-    ∙ on-out (readBrushes Strict n p b) (λ x. brushTotals x (base v 0 n 0)) (count r) (λ x. got (record { value = x; rest = r })) K (λ x. k (record { value = x; rest = r }) h)
-brus-next (chunk NODE p b r) h v n K k = k (record { value = (0, []); rest = chunk NODE p b r }) h
-brus-next (chunk MESH p b r) h v n K k = absurd h
-brus-next (chunk VRTS p b r) h v n K k = absurd h
-brus-next (chunk TRIS p b r) h v n K k = absurd h
-brus-next (chunk BONE p b r) h v n K k = absurd h
-brus-next (chunk KEYS p b r) h v n K k = absurd h
-brus-next (chunk ANIM p b r) h v n K k = absurd h
+brus-next (chunk t p b r) h v n K k =
+    by-phase brushed (λ u. count (chunk u p b r) (base v 0 n 0) ≡ (readOne BRUS (0, []) (readBrushes Strict n) (chunk u p b r) >>= K)) r
+    ((λ h. ap (λ (o : Out Totals). o >>= λ x. count r x) (brus-out (base v 0 n 0) p b)
+    ∙ on-out (readBrushes Strict n p b) (λ x. brushTotals x (base v 0 n 0)) (count r) (λ x. got (record { value = x; rest = r })) K (λ x. k (record { value = x; rest = r }) h))
+    ▸ (λ h. k (record { value = (0, []); rest = chunk NODE p b r }) h) ▸ tt) t h
 
-nothing-out : (cs : Chunks) → Nothing cs → (g : Totals) → count cs g ≡ ended cs g
+nothing-out : (cs : Chunks) → Only empty cs → (g : Totals) → count cs g ≡ ended cs g
 unfolding chunksOut ended
 nothing-out done h g = refl
 nothing-out (stop n p) h g = refl
-nothing-out (chunk BB3D p b r) h g = absurd h
-nothing-out (chunk TEXS p b r) h g = absurd h
-nothing-out (chunk BRUS p b r) h g = absurd h
-nothing-out (chunk NODE p b r) h g = absurd h
-nothing-out (chunk MESH p b r) h g = absurd h
-nothing-out (chunk VRTS p b r) h g = absurd h
-nothing-out (chunk TRIS p b r) h g = absurd h
-nothing-out (chunk BONE p b r) h g = absurd h
-nothing-out (chunk KEYS p b r) h g = absurd h
-nothing-out (chunk ANIM p b r) h g = absurd h
+nothing-out (chunk t p b r) h g = absurd h
 
 root-out : (g : Totals) → Told (g .brushes) none g → (p : ℕ) (b : List ℕ) → nodeOut levels g p b ≡ (readRoot Strict (g .brushes) p b >>= λ f. got (forestTotals f g))
 unfolding readRoot
 root-out g t p b = node-out levels (g .brushes) none g t p b ∙ sym (bind-bind (readNode Strict levels (g .brushes) none p b) _ _)
 
-root-next : (cs : Chunks) → Rooted cs → (g : Totals) → Told (g .brushes) none g → count cs g ≡ (readOne NODE leaf (readRoot Strict (g .brushes)) cs >>= λ n. ended (n .rest) (forestTotals (n .value) g))
+root-next : (cs : Chunks) → Only rooted cs → (g : Totals) → Told (g .brushes) none g → count cs g ≡ (readOne NODE leaf (readRoot Strict (g .brushes)) cs >>= λ n. ended (n .rest) (forestTotals (n .value) g))
 unfolding chunksOut readOne if ended
 root-next done h g t = refl
 root-next (stop n p) h g t = refl
-root-next (chunk BB3D p b r) h g t = absurd h
-root-next (chunk TEXS p b r) h g t = absurd h
-root-next (chunk BRUS p b r) h g t = absurd h
-root-next (chunk NODE p b r) h g t =
-    ap (λ (o : Out Totals). o >>= λ x. count r x) (root-out g t p b)
-    ∙ on-out (readRoot Strict (g .brushes) p b) (λ f. forestTotals f g) (count r) (λ f. got (record { value = f; rest = r })) (λ n. ended (n .rest) (forestTotals (n .value) g)) (λ f. nothing-out r h (forestTotals f g))
-root-next (chunk MESH p b r) h g t = absurd h
-root-next (chunk VRTS p b r) h g t = absurd h
-root-next (chunk TRIS p b r) h g t = absurd h
-root-next (chunk BONE p b r) h g t = absurd h
-root-next (chunk KEYS p b r) h g t = absurd h
-root-next (chunk ANIM p b r) h g t = absurd h
+root-next (chunk k p b r) h g t =
+    by-phase rooted (λ u. count (chunk u p b r) g ≡ (readOne NODE leaf (readRoot Strict (g .brushes)) (chunk u p b r) >>= λ n. ended (n .rest) (forestTotals (n .value) g))) r
+    ((λ h. ap (λ (o : Out Totals). o >>= λ x. count r x) (root-out g t p b)
+    ∙ on-out (readRoot Strict (g .brushes) p b) (λ f. forestTotals f g) (count r) (λ f. got (record { value = f; rest = r })) (λ n. ended (n .rest) (forestTotals (n .value) g)) (λ f. nothing-out r h (forestTotals f g))) ▸ tt) k h
 
 ended-on : {A B : Type 0} (cs : Chunks) (a : A) (f : A → B) → ended cs (f a) ≡ (ended cs a >>= λ x. got (f x))
 unfolding ended
@@ -129,9 +99,9 @@ unfolding slotsOf
 slots-are n [] = refl
 slots-are n (b ∷ l) = refl
 
-file-textured : (p : ℕ) (s : List ℕ) → Textured (inside BB3D 0 p s)
+file-textured : (p : ℕ) (s : List ℕ) → Only textured (inside BB3D 0 p s)
 unfolding inside
-file-textured p s = textured (split p s) 0
+file-textured p s = in-file (split p s) 0
 
 more-sets : (a b : ℕ) → a + 1 + b ≡ a + suc b
 more-sets a b = omega arith
@@ -140,7 +110,7 @@ more-sets a b = omega arith
 abbrev scene : ℕ → List Texture → ℕ × List Brush → Forest → Scene
 scene v ts u f = record { version = v; textures = ts; slots = slotsOf (u .0) (u .1); brushes = u .1; nodes = f }
 
-last-out : (v : ℕ) (ts : List Texture) (u : ℕ × List Brush) (cs : Chunks) → Rooted cs
+last-out : (v : ℕ) (ts : List Texture) (u : ℕ × List Brush) (cs : Chunks) → Only rooted cs
     → count cs (base v (slotsFor (length (u .1)) (u .0)) (length ts) (length (u .1)))
     ≡ ((readOne NODE leaf (readRoot Strict (length (u .1))) cs >>= λ n. ended (n .rest) (scene v ts u (n .value))) >>= λ t. got (sceneTotals t))
 unfolding start

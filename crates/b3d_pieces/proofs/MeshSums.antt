@@ -9,12 +9,13 @@ use Rattle.layout.specs.Out.{Out, got, bad, _>>=_}
 use Rattle.layout.specs.Parts.{number, row}
 use Rattle.layout.specs.Chunks.{done, stop, chunk}
 use Rattle.layout.proofs.Outs.{bind-bind}
-use Rattle.b3d_scene.specs.declared.Tag.the-variants.{BB3D, TEXS, BRUS, NODE, MESH, VRTS, TRIS, BONE, KEYS, ANIM}
+use Rattle.b3d_scene.specs.declared.Tag.the-variants.{MESH, VRTS, TRIS}
 use Rattle.b3d_scene.specs.declared.Mode.the-variants.{Strict}
 use Rattle.b3d_scene.specs.Tags.{Chunks, split}
 use Rattle.b3d_scene.specs.Rules.{meshHead}
-use Rattle.b3d_scene.specs.Nesting.{Reached, start, next, onward, order, inside}
+use Rattle.b3d_scene.specs.Nesting.{Reached, start, next, order, inside}
 use Rattle.b3d_scene.specs.Parse.{readOne, noVertices, readVertices, readTriangles, readSets, readMesh}
+use Rattle.b3d_scene.proofs.Files.Entries.{_▸_, by-entry}
 use Rattle.b3d_pieces.specs.declared.Totals.{Totals}
 use Rattle.b3d_pieces.specs.Bodies.{noneKept, closed}
 use Rattle.b3d_pieces.proofs.Counting.{chunksOut, inMesh, meshOut}
@@ -62,35 +63,18 @@ one-set g p b cs ih =
     ∙ cons-out (readTriangles (g .brushes) (g .own) p b) (λ x. closed TRIS (length (x .triangles)) noneKept 0 g) (chunksOut inMesh cs) (λ x. readSets (g .brushes) (g .own) cs) (λ x l. x ∷ l) (λ l. setsTotals l g)
     (λ x. ih (closed TRIS (length (x .triangles)) noneKept 0 g))
 
+-- after a TRIS, and before the first
 sets-out : (cs : Chunks) (head : ℕ) (g : Totals) → Sets (order MESH head (reached 2 false) cs) g
-unfolding order onward next if chunksOut readSets
+unfolding order next if chunksOut readSets
 sets-out done head g = refl
 sets-out (stop n p) head g = refl
-sets-out (chunk BB3D p b r) head g = refl
-sets-out (chunk TEXS p b r) head g = refl
-sets-out (chunk BRUS p b r) head g = refl
-sets-out (chunk NODE p b r) head g = refl
-sets-out (chunk MESH p b r) head g = refl
-sets-out (chunk VRTS p b r) head g = refl
-sets-out (chunk TRIS p b r) head g = one-set g p b (order MESH head (reached 2 false) r) (sets-out r head)
-sets-out (chunk BONE p b r) head g = refl
-sets-out (chunk KEYS p b r) head g = refl
-sets-out (chunk ANIM p b r) head g = refl
+sets-out (chunk t p b r) head g = by-entry MESH head (reached 2 false) p b r (λ u o. Sets o g) (λ u. refl) (tt ▸ one-set g p b (order MESH head (reached 2 false) r) (sets-out r head) ▸ tt) t
 
 sets-first : (cs : Chunks) (head : ℕ) (g : Totals) → Sets (order MESH head (reached 1 true) cs) g
-unfolding order onward next if chunksOut readSets
+unfolding order next if chunksOut readSets
 sets-first done head g = refl
 sets-first (stop n p) head g = refl
-sets-first (chunk BB3D p b r) head g = refl
-sets-first (chunk TEXS p b r) head g = refl
-sets-first (chunk BRUS p b r) head g = refl
-sets-first (chunk NODE p b r) head g = refl
-sets-first (chunk MESH p b r) head g = refl
-sets-first (chunk VRTS p b r) head g = refl
-sets-first (chunk TRIS p b r) head g = one-set g p b (order MESH head (reached 2 false) r) (sets-out r head)
-sets-first (chunk BONE p b r) head g = refl
-sets-first (chunk KEYS p b r) head g = refl
-sets-first (chunk ANIM p b r) head g = refl
+sets-first (chunk t p b r) head g = by-entry MESH head (reached 1 true) p b r (λ u o. Sets o g) (λ u. refl) (tt ▸ one-set g p b (order MESH head (reached 2 false) r) (sets-out r head) ▸ tt) t
 
 -- a MESH's chunks
 abbrev Meshes : Chunks → Totals → Type 0
@@ -99,21 +83,14 @@ Meshes cs g =
     ≡ (readOne VRTS noVertices (readVertices Strict) cs >>= λ v. readSets (g .brushes) (length (v .value .items)) (v .rest) >>= λ l. got (setsTotals l (closed VRTS (length (v .value .items)) noneKept 0 g)))
 
 mesh-chunks : (cs : Chunks) (head : ℕ) (g : Totals) → Meshes (order MESH head start cs) g
-unfolding order onward next if chunksOut readOne
+unfolding order next if chunksOut readOne
 mesh-chunks done head g = refl
 mesh-chunks (stop n p) head g = refl
-mesh-chunks (chunk BB3D p b r) head g = refl
-mesh-chunks (chunk TEXS p b r) head g = refl
-mesh-chunks (chunk BRUS p b r) head g = refl
-mesh-chunks (chunk NODE p b r) head g = refl
-mesh-chunks (chunk MESH p b r) head g = refl
-mesh-chunks (chunk VRTS p b r) head g =
-    ap (λ (o : Out Totals). o >>= λ x. chunksOut inMesh (order MESH head (reached 1 true) r) x) (vrts-out g p b)
-    ∙ two-out (readVertices Strict p b) (λ x. closed VRTS (length (x .items)) noneKept 0 g) _ _ _ (λ x. sets-first r head (closed VRTS (length (x .items)) noneKept 0 g))
-mesh-chunks (chunk TRIS p b r) head g = refl
-mesh-chunks (chunk BONE p b r) head g = refl
-mesh-chunks (chunk KEYS p b r) head g = refl
-mesh-chunks (chunk ANIM p b r) head g = refl
+mesh-chunks (chunk t p b r) head g =
+    by-entry MESH head start p b r (λ u o. Meshes o g) (λ u. refl)
+    ((ap (λ (o : Out Totals). o >>= λ x. chunksOut inMesh (order MESH head (reached 1 true) r) x) (vrts-out g p b)
+    ∙ two-out (readVertices Strict p b) (λ x. closed VRTS (length (x .items)) noneKept 0 g) _ _ _ (λ x. sets-first r head (closed VRTS (length (x .items)) noneKept 0 g)))
+    ▸ tt ▸ tt) t
 
 pub mesh-out : (g : Totals) (p : ℕ) (b : List ℕ) → meshOut g p b ≡ (readMesh Strict (g .brushes) p b >>= λ m. got (meshTotals m g))
 unfolding meshOut readMesh inside

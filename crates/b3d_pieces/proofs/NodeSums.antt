@@ -12,20 +12,21 @@ use Rattle.layout.specs.Out.{Out, got, bad, _>>=_}
 use Rattle.layout.specs.Parts.{named}
 use Rattle.layout.specs.Chunks.{done, stop, chunk}
 use Rattle.layout.proofs.Outs.{bind-bind, if-no, if-yes}
-use Rattle.b3d_scene.specs.declared.Tag.the-variants.{BB3D, TEXS, BRUS, NODE, MESH, VRTS, TRIS, BONE, KEYS, ANIM}
+use Rattle.b3d_scene.specs.declared.Tag.the-variants.{NODE, VRTS, TRIS, BONE, KEYS, ANIM}
 use Rattle.b3d_scene.specs.declared.Mode.the-variants.{Strict}
 use Rattle.b3d_scene.specs.Tags.{Chunks, Found, split}
 use Rattle.b3d_scene.specs.Rules.{nodeRow, ownVertices, boneVertices, animated, bonesFrom, bonesBelow}
 use Rattle.b3d_scene.specs.Nesting.{inside}
 use Rattle.b3d_scene.specs.Scene.{TriangleSet, Kind, pivot, mesh, bone, Keys, Anim, still, anim, Data, Forest, leaf, node}
 use Rattle.b3d_scene.specs.Parse.{readMesh, readBone, readKeys, readAnim, aMesh, aBone, readKind, Moves, withKeys, readMoves, Inner, readNodes, readBelow, readNode}
+use Rattle.b3d_scene.proofs.Files.Entries.{_▸_}
 use Rattle.b3d_pieces.specs.declared.Totals.{Totals}
 use Rattle.b3d_pieces.specs.Bodies.{above, saying, noneKept, rowsWith, oneMore, entered, closed}
 use Rattle.b3d_pieces.proofs.Runs.{eqb-no, eqb-yes}
 use Rattle.b3d_pieces.proofs.Counting.{animOut, chunksOut, inNode, nodeOut}
 use Rattle.b3d_pieces.proofs.Sums.{setsTotals, meshTotals, kindTotals, keysTotals, animTotals, nodeTotals, forestTotals, bone-out, keys-out}
 use Rattle.b3d_pieces.proofs.MeshSums.{cons-out, through, mesh-out}
-use Rattle.b3d_pieces.proofs.Phases.{OnlyNodes, Moving, Kinded, kinded}
+use Rattle.b3d_pieces.proofs.Phases.{onlyNodes, moving, kinded, Only, by-phase, in-node}
 
 -- ---- what a node's chunks leave as it is
 
@@ -175,69 +176,49 @@ module _ (nodes : Totals → ℕ → List ℕ → Out Totals) where
   count cs g = chunksOut (inNode nodes) cs g
 
   -- E: what follows the chunks
-  moves-out : (E : Totals → Out Totals) (cs : Chunks) → Moving cs → (seen : Anim) (g : Totals) (K : Found Moves → Out Totals)
-      → ((m : Found Moves) → OnlyNodes (m .rest) → (count (m .rest) (animTotals (m .value .anim) (keysTotals (m .value .keys) g)) >>= E) ≡ K m)
+  moves-out : (E : Totals → Out Totals) (cs : Chunks) → Only moving cs → (seen : Anim) (g : Totals) (K : Found Moves → Out Totals)
+      → ((m : Found Moves) → Only onlyNodes (m .rest) → (count (m .rest) (animTotals (m .value .anim) (keysTotals (m .value .keys) g)) >>= E) ≡ K m)
       → (count cs (animTotals seen g) >>= E) ≡ (readMoves seen cs >>= K)
   unfolding chunksOut readMoves if withKeys animOut
   moves-out E done h seen g K k = k (record { value = record { keys = []; anim = seen }; rest = done }) tt
   moves-out E (stop n p) h seen g K k = refl
-  moves-out E (chunk BB3D p b r) h seen g K k = absurd h
-  moves-out E (chunk TEXS p b r) h seen g K k = absurd h
-  moves-out E (chunk BRUS p b r) h seen g K k = absurd h
-  moves-out E (chunk NODE p b r) h seen g K k = k (record { value = record { keys = []; anim = seen }; rest = chunk NODE p b r }) h
-  moves-out E (chunk MESH p b r) h seen g K k = absurd h
-  moves-out E (chunk VRTS p b r) h seen g K k = absurd h
-  moves-out E (chunk TRIS p b r) h seen g K k = absurd h
-  moves-out E (chunk BONE p b r) h seen g K k = absurd h
-  moves-out E (chunk KEYS p b r) h seen g K k =
-      one-out (readKeys p b) (λ x. closed KEYS (length (x .items)) noneKept 0 (animTotals seen g)) (count r) E (λ x. readMoves seen r >>= λ l. got (withKeys x l)) K _ (keys-out (animTotals seen g) p b)
+  moves-out E (chunk t p b r) h seen g K k =
+      by-phase moving (λ u. (count (chunk u p b r) (animTotals seen g) >>= E) ≡ (readMoves seen (chunk u p b r) >>= K)) r
+      ((λ h. one-out (readKeys p b) (λ x. closed KEYS (length (x .items)) noneKept 0 (animTotals seen g)) (count r) E (λ x. readMoves seen r >>= λ l. got (withKeys x l)) K _ (keys-out (animTotals seen g) p b)
       (λ x. ap (λ (y : Totals). count r y >>= E) (keys-anim seen (length (x .items)) g)
       ∙ moves-out E r h seen (closed KEYS (length (x .items)) noneKept 0 g) (λ l. K (withKeys x l)) (λ m o. k (withKeys x m) o)
-      ∙ sym (bind-bind (readMoves seen r) (λ l. got (withKeys x l)) K))
-  moves-out E (chunk ANIM p b r) h seen g K k =
-      one-out (readAnim p b) (λ x. closed ANIM 0 noneKept 0 (animTotals seen g)) (count r) E (λ ws. readMoves (anim ws) r) K _ refl
-      (λ ws. ap (λ (y : Totals). count r y >>= E) (anim-anim seen ws g) ∙ moves-out E r h (anim ws) g K k)
+      ∙ sym (bind-bind (readMoves seen r) (λ l. got (withKeys x l)) K)))
+      ▸ (λ h. one-out (readAnim p b) (λ x. closed ANIM 0 noneKept 0 (animTotals seen g)) (count r) E (λ ws. readMoves (anim ws) r) K _ refl
+      (λ ws. ap (λ (y : Totals). count r y >>= E) (anim-anim seen ws g) ∙ moves-out E r h (anim ws) g K k))
+      ▸ (λ h. k (record { value = record { keys = []; anim = seen }; rest = chunk NODE p b r }) h) ▸ tt) t h
 
-  kind-out : (E : Totals → Out Totals) (cs : Chunks) → Kinded cs → (brushes bones : ℕ) (g : Totals) → g .brushes ≡ brushes → boneVertices (above g) ≡ bones → (K : Found Kind → Out Totals)
-      → ((x : Found Kind) → Moving (x .rest) → (count (x .rest) (kindTotals (x .value) g) >>= E) ≡ K x) → (count cs g >>= E) ≡ (readKind Strict brushes bones cs >>= K)
+  kind-out : (E : Totals → Out Totals) (cs : Chunks) → Only kinded cs → (brushes bones : ℕ) (g : Totals) → g .brushes ≡ brushes → boneVertices (above g) ≡ bones → (K : Found Kind → Out Totals)
+      → ((x : Found Kind) → Only moving (x .rest) → (count (x .rest) (kindTotals (x .value) g) >>= E) ≡ K x) → (count cs g >>= E) ≡ (readKind Strict brushes bones cs >>= K)
   unfolding chunksOut readKind if aMesh aBone
   kind-out E done h brushes bones g eb en K k = k (record { value = pivot; rest = done }) tt
   kind-out E (stop n p) h brushes bones g eb en K k = refl
-  kind-out E (chunk BB3D p b r) h brushes bones g eb en K k = absurd h
-  kind-out E (chunk TEXS p b r) h brushes bones g eb en K k = absurd h
-  kind-out E (chunk BRUS p b r) h brushes bones g eb en K k = absurd h
-  kind-out E (chunk NODE p b r) h brushes bones g eb en K k = k (record { value = pivot; rest = chunk NODE p b r }) h
-  kind-out E (chunk MESH p b r) h brushes bones g eb en K k =
-      one-out (readMesh Strict brushes p b) (λ m. meshTotals m g) (count r) E (λ m. got (record { value = mesh m; rest = r })) K _
-      (mesh-out g p b ∙ ap (λ (z : ℕ). readMesh Strict z p b >>= λ m. got (meshTotals m g)) eb) (λ m. k (record { value = mesh m; rest = r }) h)
-  kind-out E (chunk VRTS p b r) h brushes bones g eb en K k = absurd h
-  kind-out E (chunk TRIS p b r) h brushes bones g eb en K k = absurd h
-  kind-out E (chunk BONE p b r) h brushes bones g eb en K k =
-      one-out (readBone bones p b) (λ l. closed BONE (length l) noneKept 0 g) (count r) E (λ l. got (record { value = bone l; rest = r })) K _
-      (bone-out g p b ∙ ap (λ (z : ℕ). readBone z p b >>= λ l. got (closed BONE (length l) noneKept 0 g)) en) (λ l. k (record { value = bone l; rest = r }) h)
-  kind-out E (chunk KEYS p b r) h brushes bones g eb en K k = k (record { value = pivot; rest = chunk KEYS p b r }) h
-  kind-out E (chunk ANIM p b r) h brushes bones g eb en K k = k (record { value = pivot; rest = chunk ANIM p b r }) h
+  kind-out E (chunk t p b r) h brushes bones g eb en K k =
+      by-phase kinded (λ u. (count (chunk u p b r) g >>= E) ≡ (readKind Strict brushes bones (chunk u p b r) >>= K)) r
+      ((λ h. one-out (readMesh Strict brushes p b) (λ m. meshTotals m g) (count r) E (λ m. got (record { value = mesh m; rest = r })) K _
+      (mesh-out g p b ∙ ap (λ (z : ℕ). readMesh Strict z p b >>= λ m. got (meshTotals m g)) eb) (λ m. k (record { value = mesh m; rest = r }) h))
+      ▸ (λ h. one-out (readBone bones p b) (λ l. closed BONE (length l) noneKept 0 g) (count r) E (λ l. got (record { value = bone l; rest = r })) K _
+      (bone-out g p b ∙ ap (λ (z : ℕ). readBone z p b >>= λ l. got (closed BONE (length l) noneKept 0 g)) en) (λ l. k (record { value = bone l; rest = r }) h))
+      ▸ (λ h. k (record { value = pivot; rest = chunk KEYS p b r }) h)
+      ▸ (λ h. k (record { value = pivot; rest = chunk ANIM p b r }) h)
+      ▸ (λ h. k (record { value = pivot; rest = chunk NODE p b r }) h) ▸ tt) t h
 
   -- nodes that are read by `one` as they are counted
   module _ (brushes n : ℕ) (one : ℕ → List ℕ → Out Inner)
       (alike : (g : Totals) → Told brushes (some n) g → (p : ℕ) (b : List ℕ) → nodes g p b ≡ (one p b >>= λ x. got (closed NODE 0 noneKept (g .below) (forestTotals (x .below) (nodeTotals (x .self) g))))) where
-    nodes-out : (cs : Chunks) → OnlyNodes cs → (g : Totals) → Told brushes (some n) g → count cs g ≡ (readNodes one cs >>= λ f. got (forestTotals f g))
+    nodes-out : (cs : Chunks) → Only onlyNodes cs → (g : Totals) → Told brushes (some n) g → count cs g ≡ (readNodes one cs >>= λ f. got (forestTotals f g))
     unfolding chunksOut readNodes
     nodes-out done h g t = refl
     nodes-out (stop m p) h g t = refl
-    nodes-out (chunk BB3D p b r) h g t = absurd h
-    nodes-out (chunk TEXS p b r) h g t = absurd h
-    nodes-out (chunk BRUS p b r) h g t = absurd h
-    nodes-out (chunk NODE p b r) h g t =
-        ap (λ (o : Out Totals). o >>= λ x. count r x) (alike g t p b)
+    nodes-out (chunk k p b r) h g t =
+        by-phase onlyNodes (λ u. count (chunk u p b r) g ≡ (readNodes one (chunk u p b r) >>= λ f. got (forestTotals f g))) r
+        ((λ h. ap (λ (o : Out Totals). o >>= λ x. count r x) (alike g t p b)
         ∙ cons-out (one p b) (λ x. closed NODE 0 noneKept (g .below) (forestTotals (x .below) (nodeTotals (x .self) g))) (count r) (λ x. readNodes one r) (λ x l. node (x .self) (x .below) l) (λ f. forestTotals f g)
-        (λ x. nodes-out r h (closed NODE 0 noneKept (g .below) (forestTotals (x .below) (nodeTotals (x .self) g))) (whole-told brushes n (x .self) (x .below) g t))
-    nodes-out (chunk MESH p b r) h g t = absurd h
-    nodes-out (chunk VRTS p b r) h g t = absurd h
-    nodes-out (chunk TRIS p b r) h g t = absurd h
-    nodes-out (chunk BONE p b r) h g t = absurd h
-    nodes-out (chunk KEYS p b r) h g t = absurd h
-    nodes-out (chunk ANIM p b r) h g t = absurd h
+        (λ x. nodes-out r h (closed NODE 0 noneKept (g .below) (forestTotals (x .below) (nodeTotals (x .self) g))) (whole-told brushes n (x .self) (x .below) g t))) ▸ tt) k h
 
 -- ---- a node
 
@@ -247,7 +228,7 @@ Alike l = (brushes : ℕ) (above : Option ℕ) (g : Totals) → Told brushes abo
     → nodeOut l g p b ≡ (readNode Strict l brushes above p b >>= λ x. got (closed NODE 0 noneKept (g .below) (forestTotals (x .below) (nodeTotals (x .self) g))))
 
 -- the nodes below a node
-below-out : (l : ℕ) → Alike l → (brushes : ℕ) (above : Option ℕ) (g : Totals) → Told brushes above g → (d : Data) (cs : Chunks) → OnlyNodes cs
+below-out : (l : ℕ) → Alike l → (brushes : ℕ) (above : Option ℕ) (g : Totals) → Told brushes above g → (d : Data) (cs : Chunks) → Only onlyNodes cs
     → (chunksOut (inNode (nodeOut l)) cs (nodeTotals d g) >>= λ x. got (closed NODE 0 noneKept (g .below) x))
     ≡ (readBelow (readNode Strict l brushes) above d cs >>= λ x. got (closed NODE 0 noneKept (g .below) (forestTotals (x .below) (nodeTotals (x .self) g))))
 unfolding readBelow
@@ -267,7 +248,7 @@ node-out (suc l) brushes above g t p b =
     let i = entered-in brushes above g t in
     let leave : Totals → Out Totals = λ x. got (closed NODE 0 noneKept (g .below) x) in
     through (named nodeRow (p + 8) b) _ _ _ (λ h.
-    kind-out (nodeOut l) leave (inside NODE p (h .place) (h .left)) (kinded (split (h .place) (h .left)) p) brushes (boneVertices above) x (i .brushes-are) (ap boneVertices (i .above-is)) _ (λ k hk.
+    kind-out (nodeOut l) leave (inside NODE p (h .place) (h .left)) (in-node (split (h .place) (h .left)) p) brushes (boneVertices above) x (i .brushes-are) (ap boneVertices (i .above-is)) _ (λ k hk.
     moves-out (nodeOut l) leave (k .rest) hk still (kindTotals (k .value) x) _ (λ m hm.
     below-out l (node-out l) brushes above g t (record { name = h .value .0; words = h .value .1; kind = k .value; keys = m .value .keys; anim = m .value .anim }) (m .rest) hm)
     ∙ sym (bind-bind (readMoves still (k .rest)) _ _))

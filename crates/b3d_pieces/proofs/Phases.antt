@@ -1,232 +1,108 @@
 -- Which chunks may still come in a NODE and in a BB3D, by how far the nesting rule has come.
+use mathlib.Core.Path.{_≡_, refl, sym, subst}
 use Prim.Native.Nat.{ℕ}
-use mathlib.Core.Bool.{Bool, true, false, _||_}
+use mathlib.Core.Bool.{Bool, true, false}
+use mathlib.Core.Option.{Option, none, some}
+use mathlib.Core.List.{List, [], _∷_}
 use Rattle.wire.specs.Test.{if}
 use Rattle.layout.specs.Chunks.{done, stop, chunk}
-use Rattle.b3d_scene.specs.declared.Tag.the-variants.{BB3D, TEXS, BRUS, NODE, MESH, VRTS, TRIS, BONE, KEYS, ANIM}
-use Rattle.b3d_scene.specs.Tags.{Chunks}
-use Rattle.b3d_scene.specs.Nesting.{start, next, onward, order}
+use Rattle.b3d_scene.specs.declared.Tag.{Tag}
+use Rattle.b3d_scene.specs.declared.Tag.the-variants.{BB3D, TEXS, BRUS, NODE, MESH, BONE, KEYS, ANIM}
+use Rattle.b3d_scene.specs.Tags.{is, Chunks}
+use Rattle.b3d_scene.specs.Nesting.{nesting, Reached, start, owed, end, next, onward, order}
+use Rattle.b3d_scene.proofs.Files.Entries.{_▸_, same-tag, Either, Each, at-next}
 use Rattle.b3d_pieces.proofs.MeshSums.{reached}
 
--- ---- in a NODE: nodes only; before them KEYS and ANIM; before those a MESH or a BONE
+-- In a NODE: nodes only; before them KEYS and ANIM; before those a MESH or a BONE.
+-- In a BB3D: nothing; before that a NODE; before that a BRUS; before that a TEXS.
+pub data Phase : Type 0 where
+  onlyNodes moving kinded empty rooted brushed textured : Phase
 
-abbrev pub OnlyNodes : Chunks → Type 0
-OnlyNodes done = Unit {0}
-OnlyNodes (stop n p) = Unit {0}
-OnlyNodes (chunk BB3D p b r) = ⊥
-OnlyNodes (chunk TEXS p b r) = ⊥
-OnlyNodes (chunk BRUS p b r) = ⊥
-OnlyNodes (chunk NODE p b r) = OnlyNodes r
-OnlyNodes (chunk MESH p b r) = ⊥
-OnlyNodes (chunk VRTS p b r) = ⊥
-OnlyNodes (chunk TRIS p b r) = ⊥
-OnlyNodes (chunk BONE p b r) = ⊥
-OnlyNodes (chunk KEYS p b r) = ⊥
-OnlyNodes (chunk ANIM p b r) = ⊥
+-- the tags that may come next, each with the phase after it
+abbrev allowed : Phase → List (Tag × Phase)
+allowed onlyNodes = (NODE, onlyNodes) ∷ []
+allowed moving = (KEYS, moving) ∷ (ANIM, moving) ∷ (NODE, onlyNodes) ∷ []
+allowed kinded = (MESH, moving) ∷ (BONE, moving) ∷ (KEYS, moving) ∷ (ANIM, moving) ∷ (NODE, onlyNodes) ∷ []
+allowed empty = []
+allowed rooted = (NODE, empty) ∷ []
+allowed brushed = (BRUS, rooted) ∷ (NODE, empty) ∷ []
+allowed textured = (TEXS, brushed) ∷ (BRUS, rooted) ∷ (NODE, empty) ∷ []
 
-abbrev pub Moving : Chunks → Type 0
-Moving done = Unit {0}
-Moving (stop n p) = Unit {0}
-Moving (chunk BB3D p b r) = ⊥
-Moving (chunk TEXS p b r) = ⊥
-Moving (chunk BRUS p b r) = ⊥
-Moving (chunk NODE p b r) = OnlyNodes r
-Moving (chunk MESH p b r) = ⊥
-Moving (chunk VRTS p b r) = ⊥
-Moving (chunk TRIS p b r) = ⊥
-Moving (chunk BONE p b r) = ⊥
-Moving (chunk KEYS p b r) = Moving r
-Moving (chunk ANIM p b r) = Moving r
+-- a tag of the list, with what is said of the phase after it
+abbrev Among : List (Tag × Phase) → Tag → (Phase → Type 0) → Type 0
+Among [] t P = ⊥
+Among (a ∷ l) t P = Either (is t (a .0)) (P (a .1)) (Among l t P)
 
-abbrev pub Kinded : Chunks → Type 0
-Kinded done = Unit {0}
-Kinded (stop n p) = Unit {0}
-Kinded (chunk BB3D p b r) = ⊥
-Kinded (chunk TEXS p b r) = ⊥
-Kinded (chunk BRUS p b r) = ⊥
-Kinded (chunk NODE p b r) = OnlyNodes r
-Kinded (chunk MESH p b r) = Moving r
-Kinded (chunk VRTS p b r) = ⊥
-Kinded (chunk TRIS p b r) = ⊥
-Kinded (chunk BONE p b r) = Moving r
-Kinded (chunk KEYS p b r) = Moving r
-Kinded (chunk ANIM p b r) = Moving r
+-- chunks that come in such an order from a phase on
+abbrev pub Only : Phase → Chunks → Type 0
+Only h done = Unit {0}
+Only h (stop n p) = Unit {0}
+Only h (chunk t p b r) = Among (allowed h) t (λ g. Only g r)
 
-only-nodes : (cs : Chunks) (head : ℕ) → OnlyNodes (order NODE head (reached 3 false) cs)
-unfolding order onward next if
-only-nodes done head = tt
-only-nodes (stop n p) head = tt
-only-nodes (chunk BB3D p b r) head = tt
-only-nodes (chunk TEXS p b r) head = tt
-only-nodes (chunk BRUS p b r) head = tt
-only-nodes (chunk NODE p b r) head = only-nodes r head
-only-nodes (chunk MESH p b r) head = tt
-only-nodes (chunk VRTS p b r) head = tt
-only-nodes (chunk TRIS p b r) head = tt
-only-nodes (chunk BONE p b r) head = tt
-only-nodes (chunk KEYS p b r) head = tt
-only-nodes (chunk ANIM p b r) head = tt
+-- what is said at each tag that may come
+abbrev Answers : List (Tag × Phase) → (Tag → Type 0) → Chunks → Type 0
+Answers [] P r = Unit {0}
+Answers (a ∷ l) P r = (Only (a .1) r → P (a .0)) × Answers l P r
 
-moving : (cs : Chunks) (head : ℕ) (x : Bool) → Moving (order NODE head (reached 2 x) cs)
-unfolding order onward next if
-moving done head x = tt
-moving (stop n p) head x = tt
-moving (chunk BB3D p b r) head x = tt
-moving (chunk TEXS p b r) head x = tt
-moving (chunk BRUS p b r) head x = tt
-moving (chunk NODE p b r) head x = only-nodes r head
-moving (chunk MESH p b r) head x = tt
-moving (chunk VRTS p b r) head x = tt
-moving (chunk TRIS p b r) head x = tt
-moving (chunk BONE p b r) head x = tt
-moving (chunk KEYS p b r) head x = moving r head (x || false)
-moving (chunk ANIM p b r) head true = tt
-moving (chunk ANIM p b r) head false = moving r head true
+answer : (l : List (Tag × Phase)) (P : Tag → Type 0) (r : Chunks) → Answers l P r → (t : Tag) → Among l t (λ g. Only g r) → P t
+answer [] P r f t x = absurd x
+answer (a ∷ l) P r f t x = by (is t (a .0)) refl x (answer l P r (f .1) t)
+  where
+    by : (b : Bool) → is t (a .0) ≡ b → Either b (Only (a .1) r) (Among l t (λ g. Only g r)) → (Among l t (λ g. Only g r) → P t) → P t
+    by true e y g = subst P (sym (same-tag t (a .0) e)) (f .0 y)
+    by false e y g = g y
 
-moving-first : (cs : Chunks) (head : ℕ) → Moving (order NODE head (reached 1 true) cs)
-unfolding order onward next if
-moving-first done head = tt
-moving-first (stop n p) head = tt
-moving-first (chunk BB3D p b r) head = tt
-moving-first (chunk TEXS p b r) head = tt
-moving-first (chunk BRUS p b r) head = tt
-moving-first (chunk NODE p b r) head = only-nodes r head
-moving-first (chunk MESH p b r) head = tt
-moving-first (chunk VRTS p b r) head = tt
-moving-first (chunk TRIS p b r) head = tt
-moving-first (chunk BONE p b r) head = tt
-moving-first (chunk KEYS p b r) head = moving r head false
-moving-first (chunk ANIM p b r) head = moving r head true
+pub by-phase : (h : Phase) (P : Tag → Type 0) (r : Chunks) → Answers (allowed h) P r → (t : Tag) → Among (allowed h) t (λ g. Only g r) → P t
+by-phase h P r f t x = answer (allowed h) P r f t x
 
-pub kinded : (cs : Chunks) (head : ℕ) → Kinded (order NODE head start cs)
-unfolding order onward next if
-kinded done head = tt
-kinded (stop n p) head = tt
-kinded (chunk BB3D p b r) head = tt
-kinded (chunk TEXS p b r) head = tt
-kinded (chunk BRUS p b r) head = tt
-kinded (chunk NODE p b r) head = only-nodes r head
-kinded (chunk MESH p b r) head = moving-first r head
-kinded (chunk VRTS p b r) head = tt
-kinded (chunk TRIS p b r) head = tt
-kinded (chunk BONE p b r) head = moving-first r head
-kinded (chunk KEYS p b r) head = moving r head false
-kinded (chunk ANIM p b r) head = moving r head true
+-- ---- the nesting rule's order is such an order
 
--- ---- in a BB3D: nothing; before that a NODE; before that a BRUS; before that a TEXS
+-- how far the rule has come in each phase, inside a chunk of this tag
+data At : Tag → Phase → Reached → Type 0 where
+  nodes-at : At NODE onlyNodes (reached 3 false)
+  first-at : At NODE moving (reached 1 true)
+  moving-at : (x : Bool) → At NODE moving (reached 2 x)
+  kinded-at : At NODE kinded start
+  empty-at : At BB3D empty (reached 3 true)
+  rooted-at : At BB3D rooted (reached 2 true)
+  brushed-at : At BB3D brushed (reached 1 true)
+  textured-at : At BB3D textured start
 
-abbrev pub Nothing : Chunks → Type 0
-Nothing done = Unit {0}
-Nothing (stop n p) = Unit {0}
-Nothing (chunk BB3D p b r) = ⊥
-Nothing (chunk TEXS p b r) = ⊥
-Nothing (chunk BRUS p b r) = ⊥
-Nothing (chunk NODE p b r) = ⊥
-Nothing (chunk MESH p b r) = ⊥
-Nothing (chunk VRTS p b r) = ⊥
-Nothing (chunk TRIS p b r) = ⊥
-Nothing (chunk BONE p b r) = ⊥
-Nothing (chunk KEYS p b r) = ⊥
-Nothing (chunk ANIM p b r) = ⊥
+either : (b : Bool) (A B C D : Type 0) → (A → C) → (B → D) → Either b A B → Either b C D
+either true A B C D f g x = f x
+either false A B C D f g x = g x
 
-abbrev pub Rooted : Chunks → Type 0
-Rooted done = Unit {0}
-Rooted (stop n p) = Unit {0}
-Rooted (chunk BB3D p b r) = ⊥
-Rooted (chunk TEXS p b r) = ⊥
-Rooted (chunk BRUS p b r) = ⊥
-Rooted (chunk NODE p b r) = Nothing r
-Rooted (chunk MESH p b r) = ⊥
-Rooted (chunk VRTS p b r) = ⊥
-Rooted (chunk TRIS p b r) = ⊥
-Rooted (chunk BONE p b r) = ⊥
-Rooted (chunk KEYS p b r) = ⊥
-Rooted (chunk ANIM p b r) = ⊥
+among : (l : List (Tag × Phase)) (t : Tag) (P Q : Phase → Type 0) → ((h : Phase) → P h → Q h) → Among l t P → Among l t Q
+among [] t P Q f x = x
+among (a ∷ l) t P Q f x = either (is t (a .0)) _ _ _ _ (f (a .1)) (among l t P Q f) x
 
-abbrev pub Brushed : Chunks → Type 0
-Brushed done = Unit {0}
-Brushed (stop n p) = Unit {0}
-Brushed (chunk BB3D p b r) = ⊥
-Brushed (chunk TEXS p b r) = ⊥
-Brushed (chunk BRUS p b r) = Rooted r
-Brushed (chunk NODE p b r) = Nothing r
-Brushed (chunk MESH p b r) = ⊥
-Brushed (chunk VRTS p b r) = ⊥
-Brushed (chunk TRIS p b r) = ⊥
-Brushed (chunk BONE p b r) = ⊥
-Brushed (chunk KEYS p b r) = ⊥
-Brushed (chunk ANIM p b r) = ⊥
+onwards : (k : Tag) (h : Phase) (r : Reached) → At k h r → Each (nesting k) (λ t q. Among (allowed h) t (λ g. At k g q)) r (nesting k)
+onwards k h r nodes-at = tt ▸ tt ▸ tt ▸ tt ▸ nodes-at ▸ tt
+onwards k h r first-at = tt ▸ tt ▸ moving-at false ▸ moving-at true ▸ nodes-at ▸ tt
+onwards k h r (moving-at true) = tt ▸ tt ▸ moving-at true ▸ tt ▸ nodes-at ▸ tt
+onwards k h r (moving-at false) = tt ▸ tt ▸ moving-at false ▸ moving-at true ▸ nodes-at ▸ tt
+onwards k h r kinded-at = first-at ▸ first-at ▸ moving-at false ▸ moving-at true ▸ nodes-at ▸ tt
+onwards k h r empty-at = tt ▸ tt ▸ tt ▸ tt
+onwards k h r rooted-at = tt ▸ tt ▸ empty-at ▸ tt
+onwards k h r brushed-at = tt ▸ rooted-at ▸ empty-at ▸ tt
+onwards k h r textured-at = brushed-at ▸ rooted-at ▸ empty-at ▸ tt
 
-abbrev pub Textured : Chunks → Type 0
-Textured done = Unit {0}
-Textured (stop n p) = Unit {0}
-Textured (chunk BB3D p b r) = ⊥
-Textured (chunk TEXS p b r) = Brushed r
-Textured (chunk BRUS p b r) = Rooted r
-Textured (chunk NODE p b r) = Nothing r
-Textured (chunk MESH p b r) = ⊥
-Textured (chunk VRTS p b r) = ⊥
-Textured (chunk TRIS p b r) = ⊥
-Textured (chunk BONE p b r) = ⊥
-Textured (chunk KEYS p b r) = ⊥
-Textured (chunk ANIM p b r) = ⊥
+ordered : (k : Tag) (h : Phase) (r : Reached) → At k h r → (head : ℕ) (cs : Chunks) → Only h (order k head r cs)
+unfolding order onward if
+ordered k h r a head done = go (owed (nesting k) (r .turn) end)
+  where
+    go : (b : Bool) → Only h (if b (stop 8 head) done)
+    go true = tt
+    go false = tt
+ordered k h r a head (stop n p) = tt
+ordered k h r a head (chunk t p b l) = go (next (nesting k) (nesting k) r t) refl (λ g q x. ordered k g q x head l)
+  where
+    go : (o : Option Reached) → next (nesting k) (nesting k) r t ≡ o → ((g : Phase) (q : Reached) → At k g q → Only g (order k head q l)) → Only h (onward o p (λ q. chunk t p b (order k head q l)))
+    go none e f = tt
+    go (some q) e f = among (allowed h) t (λ g. At k g q) (λ g. Only g (order k head q l)) (λ g x. f g q x) (at-next (nesting k) (λ t q. Among (allowed h) t (λ g. At k g q)) r (nesting k) (onwards k h r a) t q e)
 
-nothing-more : (cs : Chunks) (head : ℕ) → Nothing (order BB3D head (reached 3 true) cs)
-unfolding order onward next if
-nothing-more done head = tt
-nothing-more (stop n p) head = tt
-nothing-more (chunk BB3D p b r) head = tt
-nothing-more (chunk TEXS p b r) head = tt
-nothing-more (chunk BRUS p b r) head = tt
-nothing-more (chunk NODE p b r) head = tt
-nothing-more (chunk MESH p b r) head = tt
-nothing-more (chunk VRTS p b r) head = tt
-nothing-more (chunk TRIS p b r) head = tt
-nothing-more (chunk BONE p b r) head = tt
-nothing-more (chunk KEYS p b r) head = tt
-nothing-more (chunk ANIM p b r) head = tt
+pub in-node : (cs : Chunks) (head : ℕ) → Only kinded (order NODE head start cs)
+in-node cs head = ordered NODE kinded start kinded-at head cs
 
-rooted : (cs : Chunks) (head : ℕ) → Rooted (order BB3D head (reached 2 true) cs)
-unfolding order onward next if
-rooted done head = tt
-rooted (stop n p) head = tt
-rooted (chunk BB3D p b r) head = tt
-rooted (chunk TEXS p b r) head = tt
-rooted (chunk BRUS p b r) head = tt
-rooted (chunk NODE p b r) head = nothing-more r head
-rooted (chunk MESH p b r) head = tt
-rooted (chunk VRTS p b r) head = tt
-rooted (chunk TRIS p b r) head = tt
-rooted (chunk BONE p b r) head = tt
-rooted (chunk KEYS p b r) head = tt
-rooted (chunk ANIM p b r) head = tt
-
-brushed : (cs : Chunks) (head : ℕ) → Brushed (order BB3D head (reached 1 true) cs)
-unfolding order onward next if
-brushed done head = tt
-brushed (stop n p) head = tt
-brushed (chunk BB3D p b r) head = tt
-brushed (chunk TEXS p b r) head = tt
-brushed (chunk BRUS p b r) head = rooted r head
-brushed (chunk NODE p b r) head = nothing-more r head
-brushed (chunk MESH p b r) head = tt
-brushed (chunk VRTS p b r) head = tt
-brushed (chunk TRIS p b r) head = tt
-brushed (chunk BONE p b r) head = tt
-brushed (chunk KEYS p b r) head = tt
-brushed (chunk ANIM p b r) head = tt
-
-pub textured : (cs : Chunks) (head : ℕ) → Textured (order BB3D head start cs)
-unfolding order onward next if
-textured done head = tt
-textured (stop n p) head = tt
-textured (chunk BB3D p b r) head = tt
-textured (chunk TEXS p b r) head = brushed r head
-textured (chunk BRUS p b r) head = rooted r head
-textured (chunk NODE p b r) head = nothing-more r head
-textured (chunk MESH p b r) head = tt
-textured (chunk VRTS p b r) head = tt
-textured (chunk TRIS p b r) head = tt
-textured (chunk BONE p b r) head = tt
-textured (chunk KEYS p b r) head = tt
-textured (chunk ANIM p b r) head = tt
+pub in-file : (cs : Chunks) (head : ℕ) → Only textured (order BB3D head start cs)
+in-file cs head = ordered BB3D textured start textured-at head cs

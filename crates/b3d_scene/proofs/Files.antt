@@ -1,5 +1,6 @@
 -- The laws between files and scenes: what `encode` writes `parse` reads, what `parse` reads fits.
 pub mod TagCodes
+pub mod Entries
 pub mod NestingLaws
 pub mod LeafLaws
 pub mod NodeLaws

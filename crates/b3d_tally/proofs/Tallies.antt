@@ -8,53 +8,20 @@ use Rattle.b3d_tally.specs.declared.Tally.{Tally}
 
 -- ---- sums
 
+pub same-tally : (a b : Tally) → a .textures ≡ b .textures → a .brushes ≡ b .brushes → a .nodes ≡ b .nodes → a .meshes ≡ b .meshes → a .vertices ≡ b .vertices → a .sets ≡ b .sets → a .triangles ≡ b .triangles → a .weights ≡ b .weights → a .lists ≡ b .lists → a .keys ≡ b .keys → a .copy ≡ b .copy → a ≡ b
+same-tally a b e1 e2 e3 e4 e5 e6 e7 e8 e9 e10 e11 = λ i. record { textures = e1 i; brushes = e2 i; nodes = e3 i; meshes = e4 i; vertices = e5 i; sets = e6 i; triangles = e7 i; weights = e8 i; lists = e9 i; keys = e10 i; copy = e11 i }
+
 pub none-plus : (t : Tally) → plus noTally t ≡ t
 unfolding plus noTally
-none-plus t = λ i. record {
-  textures = zero-add (t .textures) i;
-  brushes = zero-add (t .brushes) i;
-  nodes = zero-add (t .nodes) i;
-  meshes = zero-add (t .meshes) i;
-  vertices = zero-add (t .vertices) i;
-  sets = zero-add (t .sets) i;
-  triangles = zero-add (t .triangles) i;
-  weights = zero-add (t .weights) i;
-  lists = zero-add (t .lists) i;
-  keys = zero-add (t .keys) i;
-  copy = zero-add (t .copy) i;
-}
+none-plus t = same-tally _ _ (zero-add _) (zero-add _) (zero-add _) (zero-add _) (zero-add _) (zero-add _) (zero-add _) (zero-add _) (zero-add _) (zero-add _) (zero-add _)
 
 pub plus-none : (t : Tally) → plus t noTally ≡ t
 unfolding plus noTally
-plus-none t = λ i. record {
-  textures = add-zero (t .textures) i;
-  brushes = add-zero (t .brushes) i;
-  nodes = add-zero (t .nodes) i;
-  meshes = add-zero (t .meshes) i;
-  vertices = add-zero (t .vertices) i;
-  sets = add-zero (t .sets) i;
-  triangles = add-zero (t .triangles) i;
-  weights = add-zero (t .weights) i;
-  lists = add-zero (t .lists) i;
-  keys = add-zero (t .keys) i;
-  copy = add-zero (t .copy) i;
-}
+plus-none t = same-tally _ _ (add-zero _) (add-zero _) (add-zero _) (add-zero _) (add-zero _) (add-zero _) (add-zero _) (add-zero _) (add-zero _) (add-zero _) (add-zero _)
 
 pub plus-assoc : (a b c : Tally) → plus (plus a b) c ≡ plus a (plus b c)
 unfolding plus
-plus-assoc a b c = λ i. record {
-  textures = add-assoc (a .textures) (b .textures) (c .textures) i;
-  brushes = add-assoc (a .brushes) (b .brushes) (c .brushes) i;
-  nodes = add-assoc (a .nodes) (b .nodes) (c .nodes) i;
-  meshes = add-assoc (a .meshes) (b .meshes) (c .meshes) i;
-  vertices = add-assoc (a .vertices) (b .vertices) (c .vertices) i;
-  sets = add-assoc (a .sets) (b .sets) (c .sets) i;
-  triangles = add-assoc (a .triangles) (b .triangles) (c .triangles) i;
-  weights = add-assoc (a .weights) (b .weights) (c .weights) i;
-  lists = add-assoc (a .lists) (b .lists) (c .lists) i;
-  keys = add-assoc (a .keys) (b .keys) (c .keys) i;
-  copy = add-assoc (a .copy) (b .copy) (c .copy) i;
-}
+plus-assoc a b c = same-tally _ _ (add-assoc _ _ _) (add-assoc _ _ _) (add-assoc _ _ _) (add-assoc _ _ _) (add-assoc _ _ _) (add-assoc _ _ _) (add-assoc _ _ _) (add-assoc _ _ _) (add-assoc _ _ _) (add-assoc _ _ _) (add-assoc _ _ _)
 
 -- ---- bytes
 

@@ -20,6 +20,7 @@ use Rattle.b3d_scene.proofs.Files.SizeLaws.{encode-size}
 use Rattle.b3d_scene.proofs.Rows.CountLaws.{rises}
 use Rattle.b3d_tally.specs.Tally.{noTally, bytesTally, texsOf, brusOf, headTally, verticesTally, trianglesTally, weightsTally, keysTally, plus, listTally, listsTally, animTally, boneTally, setTally, setsTally, meshTally, kindTally, dataTally, forestTally, texsTally, brusTally, sceneTally, tallyOf}
 use Rattle.b3d_tally.specs.declared.Tally.{Tally}
+use Rattle.b3d_tally.proofs.Tallies.{same-tally}
 
 -- ---- the counts of nodes' tables
 
@@ -36,18 +37,12 @@ with t n = record {
   keys = n .keys + t .keys;
 }
 
+same-counts : (a b : Counts) → a .nodes ≡ b .nodes → a .meshes ≡ b .meshes → a .vertices ≡ b .vertices → a .sets ≡ b .sets → a .triangles ≡ b .triangles → a .weights ≡ b .weights → a .lists ≡ b .lists → a .keys ≡ b .keys → a ≡ b
+same-counts a b enodes emeshes evertices esets etriangles eweights elists ekeys = λ i. record { nodes = enodes i; meshes = emeshes i; vertices = evertices i; sets = esets i; triangles = etriangles i; weights = eweights i; lists = elists i; keys = ekeys i }
+
 with-plus : (a b : Tally) (n : Counts) → with b (with a n) ≡ with (plus a b) n
 unfolding plus
-with-plus a b n = λ i. record {
-  nodes = add-assoc (n .nodes) (a .nodes) (b .nodes) i;
-  meshes = add-assoc (n .meshes) (a .meshes) (b .meshes) i;
-  vertices = add-assoc (n .vertices) (a .vertices) (b .vertices) i;
-  sets = add-assoc (n .sets) (a .sets) (b .sets) i;
-  triangles = add-assoc (n .triangles) (a .triangles) (b .triangles) i;
-  weights = add-assoc (n .weights) (a .weights) (b .weights) i;
-  lists = add-assoc (n .lists) (a .lists) (b .lists) i;
-  keys = add-assoc (n .keys) (a .keys) (b .keys) i;
-}
+with-plus a b n = same-counts _ _ (add-assoc _ _ _) (add-assoc _ _ _) (add-assoc _ _ _) (add-assoc _ _ _) (add-assoc _ _ _) (add-assoc _ _ _) (add-assoc _ _ _) (add-assoc _ _ _)
 
 -- the node rows and so on of a tally, by name
 record Rows (t : Tally) (nnodes nmeshes nvertices nsets ntriangles nweights nlists nkeys : ℕ) : Type 0 where
@@ -82,12 +77,9 @@ unfolding animTally noTally bytesTally
 anim-is still = record { nodes = refl; meshes = refl; vertices = refl; sets = refl; triangles = refl; weights = refl; lists = refl; keys = refl }
 anim-is (anim ws) = record { nodes = refl; meshes = refl; vertices = refl; sets = refl; triangles = refl; weights = refl; lists = refl; keys = refl }
 
-same-counts : (a b : Counts) → a .nodes ≡ b .nodes → a .meshes ≡ b .meshes → a .vertices ≡ b .vertices → a .sets ≡ b .sets → a .triangles ≡ b .triangles → a .weights ≡ b .weights → a .lists ≡ b .lists → a .keys ≡ b .keys → a ≡ b
-same-counts a b enodes emeshes evertices esets etriangles eweights elists ekeys = λ i. record { nodes = enodes i; meshes = emeshes i; vertices = evertices i; sets = esets i; triangles = etriangles i; weights = eweights i; lists = elists i; keys = ekeys i }
-
 none-with : (n : Counts) → n ≡ with noTally n
 unfolding noTally
-none-with n = λ i. record { nodes = sym (add-zero (n .nodes)) i; meshes = sym (add-zero (n .meshes)) i; vertices = sym (add-zero (n .vertices)) i; sets = sym (add-zero (n .sets)) i; triangles = sym (add-zero (n .triangles)) i; weights = sym (add-zero (n .weights)) i; lists = sym (add-zero (n .lists)) i; keys = sym (add-zero (n .keys)) i }
+none-with n = same-counts _ _ (sym (add-zero _)) (sym (add-zero _)) (sym (add-zero _)) (sym (add-zero _)) (sym (add-zero _)) (sym (add-zero _)) (sym (add-zero _)) (sym (add-zero _))
 
 kind-adds : (name-d : Data) (k : Kind) (l : List Keys) (a : Anim) (n : Counts) → withNode (record { name = name-d .name; words = name-d .words; kind = k; keys = l; anim = a }) n ≡ with (plus (plus headTally (kindTally k)) (plus (listsTally l) (animTally a))) n
 unfolding withNode withMeshes meshesOf weightsOf plus headTally kindTally noTally meshTally verticesTally boneTally weightsTally
@@ -203,24 +195,18 @@ unfolding brusOf noTally
 brus-are slots zero = (record { nodes = refl; meshes = refl; vertices = refl; sets = refl; triangles = refl; weights = refl; lists = refl; keys = refl }, refl, refl)
 brus-are slots (suc n) = (record { nodes = refl; meshes = refl; vertices = refl; sets = refl; triangles = refl; weights = refl; lists = refl; keys = refl }, refl, refl)
 
-same-tally : (a b : Tally) → with a start ≡ with b start → a .textures ≡ b .textures → a .brushes ≡ b .brushes → a .copy ≡ b .copy → a ≡ b
+same-parts : (a b : Tally) → with a start ≡ with b start → a .textures ≡ b .textures → a .brushes ≡ b .brushes → a .copy ≡ b .copy → a ≡ b
 unfolding start
-same-tally a b e et eb ec = λ i. record {
-  textures = et i;
-  brushes = eb i;
-  nodes = (zero-of (a .nodes) (b .nodes) (ap (λ (c : Counts). c .nodes) e)) i;
-  meshes = (zero-of (a .meshes) (b .meshes) (ap (λ (c : Counts). c .meshes) e)) i;
-  vertices = (zero-of (a .vertices) (b .vertices) (ap (λ (c : Counts). c .vertices) e)) i;
-  sets = (zero-of (a .sets) (b .sets) (ap (λ (c : Counts). c .sets) e)) i;
-  triangles = (zero-of (a .triangles) (b .triangles) (ap (λ (c : Counts). c .triangles) e)) i;
-  weights = (zero-of (a .weights) (b .weights) (ap (λ (c : Counts). c .weights) e)) i;
-  lists = (zero-of (a .lists) (b .lists) (ap (λ (c : Counts). c .lists) e)) i;
-  keys = (zero-of (a .keys) (b .keys) (ap (λ (c : Counts). c .keys) e)) i;
-  copy = ec i;
-}
-  where
-    zero-of : (m n : ℕ) → 0 + m ≡ 0 + n → m ≡ n
-    zero-of m n h = omega arith
+same-parts a b e et eb ec =
+    let n = ap (λ (c : Counts). c .nodes) e in
+    let m = ap (λ (c : Counts). c .meshes) e in
+    let v = ap (λ (c : Counts). c .vertices) e in
+    let s = ap (λ (c : Counts). c .sets) e in
+    let t = ap (λ (c : Counts). c .triangles) e in
+    let w = ap (λ (c : Counts). c .weights) e in
+    let l = ap (λ (c : Counts). c .lists) e in
+    let k = ap (λ (c : Counts). c .keys) e in
+    same-tally a b et eb (omega arith) (omega arith) (omega arith) (omega arith) (omega arith) (omega arith) (omega arith) (omega arith) ec
 
 -- the counts of the scene's rows
 rows-are : (t : Scene) → withForest (t .nodes) start ≡ with (tallyOf t) start
@@ -257,5 +243,5 @@ copy-size t f = encode-size (cleared t) (cleared-fits t f)
 
 pub total : (t : Scene) → Fit t → sceneTally t ≡ tallyOf t
 total t f =
-    same-tally (sceneTally t) (tallyOf t) (sym (forest-rows t) ∙ sym (forest-adds (t .nodes) start) ∙ rows-are t) (scene-textures t) (scene-brushes t)
+    same-parts (sceneTally t) (tallyOf t) (sym (forest-rows t) ∙ sym (forest-adds (t .nodes) start) ∙ rows-are t) (scene-textures t) (scene-brushes t)
     (scene-copy t ∙ sym (copy-size t f))

@@ -59,12 +59,11 @@ pub fn texs(n: usize) -> Tally
     requires { ⌜ n ≤ mostBytes ⌝ }
     ensures { λ r. ⌜ r ≡ texsOf n ⌝ }
 {
-    let mut t = none();
     if n == 0 {
-        return t;
+        return none();
     }
+    let mut t = bytes(8 + n * 29);
     t.textures = n;
-    t.copy = 8 + n * 29;
     t
 }
 
@@ -73,12 +72,11 @@ pub fn brus(slots: usize, n: usize) -> Tally
     requires { ⌜ (n ≤ mostBytes) × (slots ≤ 8) ⌝ }
     ensures { λ r. ⌜ r ≡ brusOf slots n ⌝ }
 {
-    let mut t = none();
     if n == 0 {
-        return t;
+        return none();
     }
+    let mut t = bytes(12 + n * (29 + 4 * slots));
     t.brushes = n;
-    t.copy = 12 + n * (29 + 4 * slots);
     t
 }
 
@@ -86,9 +84,8 @@ pub fn brus(slots: usize, n: usize) -> Tally
 pub fn head() -> Tally
     ensures { λ r. ⌜ r ≡ headTally ⌝ }
 {
-    let mut t = none();
+    let mut t = bytes(49);
     t.nodes = 1;
-    t.copy = 49;
     t
 }
 
@@ -97,10 +94,9 @@ pub fn vertices(n: usize, words: usize) -> Tally
     requires { ⌜ (n ≤ mostBytes) × (words ≤ 42) ⌝ }
     ensures { λ r. ⌜ r ≡ verticesTally n words ⌝ }
 {
-    let mut t = none();
+    let mut t = bytes(32 + n * (4 * words));
     t.meshes = 1;
     t.vertices = n;
-    t.copy = 32 + n * (4 * words);
     t
 }
 
@@ -109,10 +105,9 @@ pub fn triangles(n: usize) -> Tally
     requires { ⌜ n ≤ mostBytes ⌝ }
     ensures { λ r. ⌜ r ≡ trianglesTally n ⌝ }
 {
-    let mut t = none();
+    let mut t = bytes(12 + n * 12);
     t.sets = 1;
     t.triangles = n;
-    t.copy = 12 + n * 12;
     t
 }
 
@@ -121,9 +116,8 @@ pub fn weights(n: usize) -> Tally
     requires { ⌜ n ≤ mostBytes ⌝ }
     ensures { λ r. ⌜ r ≡ weightsTally n ⌝ }
 {
-    let mut t = none();
+    let mut t = bytes(8 + n * 8);
     t.weights = n;
-    t.copy = 8 + n * 8;
     t
 }
 
@@ -132,10 +126,9 @@ pub fn keys(n: usize, words: usize) -> Tally
     requires { ⌜ (n ≤ mostBytes) × (words ≤ 11) ⌝ }
     ensures { λ r. ⌜ r ≡ keysTally n words ⌝ }
 {
-    let mut t = none();
+    let mut t = bytes(12 + n * (4 * words));
     t.lists = 1;
     t.keys = n;
-    t.copy = 12 + n * (4 * words);
     t
 }
 

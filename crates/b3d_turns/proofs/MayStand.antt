@@ -70,26 +70,26 @@ module _ (k t : Tag) (e : Entry) (here : e ≡ entryOf k t) (r : Reached) where
   abbrev Right : Permit → Type 0
   Right x = x ≡ permitOf (next (nesting k) (nesting k) (reachedOf r) t)
 
-  by-entry : (x : Permit) → x ≡ permitOf (nextBy (nesting k) (reachedOf r) e) → Right x
-  by-entry x h = h ∙ ap (λ (y : Entry). permitOf (nextBy (nesting k) (reachedOf r) y)) (here ∙ entry-is k t) ∙ ap permitOf (sym (next-by (nesting k) (nesting k) (reachedOf r) t))
+  right-by-entry : (x : Permit) → x ≡ permitOf (nextBy (nesting k) (reachedOf r) e) → Right x
+  right-by-entry x h = h ∙ ap (λ (y : Entry). permitOf (nextBy (nesting k) (reachedOf r) y)) (here ∙ entry-is k t) ∙ ap permitOf (sym (next-by (nesting k) (nesting k) (reachedOf r) t))
 
   pub stand-never : e .allowed ≡ false → Right permit.No
   unfolding if
-  stand-never a = by-entry permit.No (rw a)
+  stand-never a = right-by-entry permit.No (rw a)
 
   module _ (a : e .allowed ≡ true) where
     module _ (l : r .turn < e .turn) (b : Bool) (o : b ≡ owed (nesting k) (r .turn) (e .turn)) where
       pub stand-owed : b ≡ true → Right permit.No
       unfolding if
-      stand-owed y = by-entry permit.No (rw (a, lt-ltb (r .turn) (e .turn) l, ← o, y, ne-eqb (r .turn) (e .turn) (λ q. omega arith)))
+      stand-owed y = right-by-entry permit.No (rw (a, lt-ltb (r .turn) (e .turn) l, ← o, y, ne-eqb (r .turn) (e .turn) (λ q. omega arith)))
 
       pub stand-later : b ≡ false → Right (permit.Yes (record { turn = e .turn; spent = not (e .again) }))
       unfolding if
-      stand-later y = by-entry (permit.Yes (record { turn = e .turn; spent = not (e .again) })) (rw (a, lt-ltb (r .turn) (e .turn) l, ← o, y, ne-eqb (r .turn) (e .turn) (λ q. omega arith)))
+      stand-later y = right-by-entry (permit.Yes (record { turn = e .turn; spent = not (e .again) })) (rw (a, lt-ltb (r .turn) (e .turn) l, ← o, y, ne-eqb (r .turn) (e .turn) (λ q. omega arith)))
 
     pub stand-past : e .turn < r .turn → Right permit.No
     unfolding if
-    stand-past l = by-entry permit.No (rw (a, le-ltb (r .turn) (e .turn) (omega arith), ne-eqb (r .turn) (e .turn) (λ q. omega arith)))
+    stand-past l = right-by-entry permit.No (rw (a, le-ltb (r .turn) (e .turn) (omega arith), ne-eqb (r .turn) (e .turn) (λ q. omega arith)))
 
     module _ (l : e .turn ≤ r .turn) (m : r .turn ≤ e .turn) where
       same : r .turn ≡ e .turn
@@ -98,15 +98,15 @@ module _ (k t : Tag) (e : Entry) (here : e ≡ entryOf k t) (r : Reached) where
       pub stand-again : e .again ≡ true → Right (permit.Yes r)
       unfolding if
       stand-again g =
-          by-entry (permit.Yes r)
+          right-by-entry (permit.Yes r)
           (rw (a, le-ltb (r .turn) (e .turn) (omega arith), eq-eqb (r .turn) (e .turn) same, g) (λ i. permit.Yes (record { turn = same i; spent = sym (or-false (r .spent)) i })))
 
       pub stand-spent : e .again ≡ false → r .spent ≡ true → Right permit.No
       unfolding if
-      stand-spent g s = by-entry permit.No (rw (a, le-ltb (r .turn) (e .turn) (omega arith), eq-eqb (r .turn) (e .turn) same, g, s))
+      stand-spent g s = right-by-entry permit.No (rw (a, le-ltb (r .turn) (e .turn) (omega arith), eq-eqb (r .turn) (e .turn) same, g, s))
 
       pub stand-first : e .again ≡ false → r .spent ≡ false → Right (permit.Yes (record { turn = e .turn; spent = true }))
       unfolding if
-      stand-first g s = by-entry (permit.Yes (record { turn = e .turn; spent = true })) (rw (a, le-ltb (r .turn) (e .turn) (omega arith), eq-eqb (r .turn) (e .turn) same, g, s))
+      stand-first g s = right-by-entry (permit.Yes (record { turn = e .turn; spent = true })) (rw (a, le-ltb (r .turn) (e .turn) (omega arith), eq-eqb (r .turn) (e .turn) same, g, s))
 
 pub ruleset may-stand-laws = (stand-never, stand-owed, stand-later, stand-past, stand-again, stand-spent, stand-first)

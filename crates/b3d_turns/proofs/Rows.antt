@@ -4,7 +4,7 @@ use Prim.Native.Nat.{ℕ, _+_, _<_, _≤_}
 use native.Mathlib.Numerals.{add-one}
 use native.Mathlib.Omega.{arith}
 use mathlib.Core.Bool.{Bool, true, false, _||_}
-use mathlib.Core.List.{List, []}
+use mathlib.Core.List.{List}
 use lib.ListN.{length, drop, getD, drop-of-length-le}
 use lib.Seq.{drop-cons}
 use Rattle.wire.specs.Test.{if}
@@ -13,86 +13,50 @@ use Rattle.b3d_scene.specs.declared.Tag.the-variants.{BB3D, TEXS, BRUS, NODE, M
 use Rattle.b3d_scene.specs.Nesting.{nesting, owed}
 use Rattle.b3d_scene.proofs.Files.TagCodes.{by-tag}
 use Rattle.b3d_nesting.specs.declared.Entry.{Entry}
-use Rattle.b3d_nesting.specs.Table.{denied, entryIn, nestingTable, entryAt}
+use Rattle.b3d_nesting.specs.Table.{denied, entryIn, nestingTable}
 use Rattle.b3d_turns.specs.Turns.{indexOf, between}
-use Rattle.b3d_turns.specs.ByTable.{rowAt, owedIn, entryOf}
+use Rattle.b3d_turns.specs.ByTable.{rowAt, owedIn}
 
--- ---- the ways of `row_of`
+-- ---- the ways of `row_of` and `entry_of`: what stands at a tag's place
 
-module _ (table : List (List Entry)) (is : table ≡ nestingTable) (k : Tag) where
-  there : (i : ℕ) → i ≡ indexOf k → getD table i [] ≡ rowAt (indexOf k)
-  there i e = ap₂ (λ (x : List (List Entry)) (j : ℕ). getD x j []) is e
+module _ {A : Type 0} (d : A) (xs ys : List A) (is : xs ≡ ys) (k : Tag) where
+  abbrev Picked : Tag → Type 0
+  Picked t = k ≡ t → getD xs (indexOf t) d ≡ getD ys (indexOf k) d
 
-  pub row-bb3d : k ≡ BB3D → getD table 0 [] ≡ rowAt (indexOf k)
-  row-bb3d e = there 0 (ap indexOf (sym e))
+  picked : (t : Tag) → Picked t
+  picked t e = ap₂ (λ (x : List A) (j : ℕ). getD x j d) is (ap indexOf (sym e))
 
-  pub row-texs : k ≡ TEXS → getD table 1 [] ≡ rowAt (indexOf k)
-  row-texs e = there 1 (ap indexOf (sym e))
+  pub picked-bb3d : Picked BB3D
+  picked-bb3d = picked BB3D
 
-  pub row-brus : k ≡ BRUS → getD table 2 [] ≡ rowAt (indexOf k)
-  row-brus e = there 2 (ap indexOf (sym e))
+  pub picked-texs : Picked TEXS
+  picked-texs = picked TEXS
 
-  pub row-node : k ≡ NODE → getD table 3 [] ≡ rowAt (indexOf k)
-  row-node e = there 3 (ap indexOf (sym e))
+  pub picked-brus : Picked BRUS
+  picked-brus = picked BRUS
 
-  pub row-mesh : k ≡ MESH → getD table 4 [] ≡ rowAt (indexOf k)
-  row-mesh e = there 4 (ap indexOf (sym e))
+  pub picked-node : Picked NODE
+  picked-node = picked NODE
 
-  pub row-vrts : k ≡ VRTS → getD table 5 [] ≡ rowAt (indexOf k)
-  row-vrts e = there 5 (ap indexOf (sym e))
+  pub picked-mesh : Picked MESH
+  picked-mesh = picked MESH
 
-  pub row-tris : k ≡ TRIS → getD table 6 [] ≡ rowAt (indexOf k)
-  row-tris e = there 6 (ap indexOf (sym e))
+  pub picked-vrts : Picked VRTS
+  picked-vrts = picked VRTS
 
-  pub row-bone : k ≡ BONE → getD table 7 [] ≡ rowAt (indexOf k)
-  row-bone e = there 7 (ap indexOf (sym e))
+  pub picked-tris : Picked TRIS
+  picked-tris = picked TRIS
 
-  pub row-keys : k ≡ KEYS → getD table 8 [] ≡ rowAt (indexOf k)
-  row-keys e = there 8 (ap indexOf (sym e))
+  pub picked-bone : Picked BONE
+  picked-bone = picked BONE
 
-  pub row-anim : k ≡ ANIM → getD table 9 [] ≡ rowAt (indexOf k)
-  row-anim e = there 9 (ap indexOf (sym e))
+  pub picked-keys : Picked KEYS
+  picked-keys = picked KEYS
 
-pub ruleset row-laws = (row-bb3d, row-texs, row-brus, row-node, row-mesh, row-vrts, row-tris, row-bone, row-keys, row-anim)
+  pub picked-anim : Picked ANIM
+  picked-anim = picked ANIM
 
--- ---- the ways of `entry_of`
-
-module _ (k : Tag) (row : List Entry) (is : row ≡ rowAt (indexOf k)) (t : Tag) where
-  here : (i : ℕ) → i ≡ indexOf t → getD row i denied ≡ entryOf k t
-  unfolding entryAt
-  here i e = ap₂ (λ (l : List Entry) (j : ℕ). getD l j denied) is e
-
-  pub entry-bb3d : t ≡ BB3D → getD row 0 denied ≡ entryOf k t
-  entry-bb3d e = here 0 (ap indexOf (sym e))
-
-  pub entry-texs : t ≡ TEXS → getD row 1 denied ≡ entryOf k t
-  entry-texs e = here 1 (ap indexOf (sym e))
-
-  pub entry-brus : t ≡ BRUS → getD row 2 denied ≡ entryOf k t
-  entry-brus e = here 2 (ap indexOf (sym e))
-
-  pub entry-node : t ≡ NODE → getD row 3 denied ≡ entryOf k t
-  entry-node e = here 3 (ap indexOf (sym e))
-
-  pub entry-mesh : t ≡ MESH → getD row 4 denied ≡ entryOf k t
-  entry-mesh e = here 4 (ap indexOf (sym e))
-
-  pub entry-vrts : t ≡ VRTS → getD row 5 denied ≡ entryOf k t
-  entry-vrts e = here 5 (ap indexOf (sym e))
-
-  pub entry-tris : t ≡ TRIS → getD row 6 denied ≡ entryOf k t
-  entry-tris e = here 6 (ap indexOf (sym e))
-
-  pub entry-bone : t ≡ BONE → getD row 7 denied ≡ entryOf k t
-  entry-bone e = here 7 (ap indexOf (sym e))
-
-  pub entry-keys : t ≡ KEYS → getD row 8 denied ≡ entryOf k t
-  entry-keys e = here 8 (ap indexOf (sym e))
-
-  pub entry-anim : t ≡ ANIM → getD row 9 denied ≡ entryOf k t
-  entry-anim e = here 9 (ap indexOf (sym e))
-
-pub ruleset entry-laws = (entry-bb3d, entry-texs, entry-brus, entry-node, entry-mesh, entry-vrts, entry-tris, entry-bone, entry-keys, entry-anim)
+pub ruleset picks = (picked-bb3d, picked-texs, picked-brus, picked-node, picked-mesh, picked-vrts, picked-tris, picked-bone, picked-keys, picked-anim)
 
 -- ---- what is owed
 

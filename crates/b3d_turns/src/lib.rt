@@ -162,12 +162,7 @@ fn permit_for(found: Next, enclosing: Tag, reached: Reached) -> Permit
             }
             Permit::Yes(reached)
         }
-        Next::Chunk {
-            tag,
-            at: _,
-            body: _,
-            next: _,
-        } => may_stand(enclosing, reached, tag),
+        Next::Chunk { tag, .. } => may_stand(enclosing, reached, tag),
     }
 }
 

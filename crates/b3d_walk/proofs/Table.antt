@@ -20,6 +20,7 @@ use Rattle.cells.proofs.Storing.{Storing, store-run, store-done}
 use Rattle.b3d_file_rows.specs.Flat.{rest, flatAt}
 use Rattle.b3d_file_rows.specs.Rows.{counted, chunkRows, flatRows, fileRows}
 use Rattle.b3d_file_rows.proofs.Run.{run-done}
+use Rattle.b3d_walk.proofs.Counting.{tag-same}
 use Rattle.b3d_walk.specs.Walks.{BodyAt, ChunkIs, Ends, FlatIs, Steps}
 use Rattle.b3d_walk.specs.declared.Flat.{Flat}
 use Rattle.b3d_walk.specs.declared.Flat.the-variants as run
@@ -29,6 +30,10 @@ pub record Owns (k : ℕ) (o : Tag) (f : ℕ → List ℕ → Counts → List (L
   pub file : (s : List ℕ) → fileRows k s ≡ flatRows k start (flatAt s 12)
   pub own : (t : Tag) (p : ℕ) (b : List ℕ) (n : Counts) → T (is t o) → chunkRows k t p b n ≡ f p b n
   pub other : (t : Tag) (p : ℕ) (b : List ℕ) (n : Counts) → T (not (is t o)) → chunkRows k t p b n ≡ []
+
+pub owns-rows : (k : ℕ) (o : Tag) (f : ℕ → List ℕ → Counts → List (List ℕ)) → ((s : List ℕ) → fileRows k s ≡ flatRows k start (flatAt s 12)) → ((p : ℕ) (b : List ℕ) (n : Counts) → chunkRows k o p b n ≡ f p b n)
+    → ((t : Tag) (p : ℕ) (b : List ℕ) (n : Counts) → T (not (is t o)) → chunkRows k t p b n ≡ []) → Owns k o f
+owns-rows k o f file here other = record { file = file; own = λ t p b n h. subst (λ (u : Tag). chunkRows k u p b n ≡ f p b n) (sym (tag-same t o h)) (here p b n); other = other }
 
 -- nothing is asked of the counts
 pub record Any (n : Counts) : Type 0 where

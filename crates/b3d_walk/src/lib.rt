@@ -28,11 +28,7 @@ fn enter(file: &[u8], at: usize, p: usize, body: Cursor) -> Flat
 {
     match b3d_chunks::named_row(file, body, 10) {
         Named::Cut => Flat::End,
-        Named::Is {
-            length: _,
-            row: _,
-            next,
-        } => Flat::Chunk {
+        Named::Is { next, .. } => Flat::Chunk {
             tag: Tag::NODE,
             at: p,
             body,
@@ -56,7 +52,7 @@ pub fn flat_next(file: &[u8], at: usize) -> Flat
             body,
             next,
         } => {
-            if b3d_copy::same(tag, Tag::NODE) {
+            if b3d_chunks::same(tag, Tag::NODE) {
                 return enter(file, at, p, body);
             }
             Flat::Chunk {
@@ -99,7 +95,7 @@ pub fn seek(file: &[u8], from: Cursor, tag: Tag) -> Sought
                 body,
                 next,
             } => {
-                if b3d_copy::same(t, tag) {
+                if b3d_chunks::same(t, tag) {
                     return Sought::Found { at, body, next };
                 }
                 c = next;

@@ -1,7 +1,6 @@
 -- A node, its chunk and the list of nodes below it, which call each other: the levels left fall. The loop's measure is what is left.
-use Prim.Native.Nat.{ℕ, _+_, _-_, _*_, _<_}
-use borrow.Fn.Kinds.{In}
-use borrow.Fn.PlainCycle.{Measures, is, falls, and}
+use Prim.Native.Nat.{ℕ, _+_, _-_, _*_}
+use borrow.Fn.PlainCycle.{Measures}
 use Rattle.b3d_clear_nodes.proofs.clear_node.Reads as clear-node
 use Rattle.b3d_clear_nodes.proofs.clear_node.Kinds as clear-node-kinds
 use Rattle.b3d_clear_nodes.proofs.+clear_node+clear_nodes+node_chunk.Lts-clear_node as clear-node-lts
@@ -14,7 +13,7 @@ use Rattle.b3d_clear_nodes.proofs.+clear_node+clear_nodes+node_chunk.Lt
 use Rattle.b3d_chunks.proofs.named_row.Reads as named-row-reads
 use Rattle.b3d_chunks.proofs.next_chunk.Reads as next-chunk-reads
 use Rattle.b3d_clear_nodes.proofs.clear_own.Reads as clear-own-reads
-use Rattle.b3d_copy.proofs.same.Reads as same-reads
+use Rattle.b3d_chunks.proofs.same.Reads as same-reads
 use Rattle.emit.proofs.put_header.Reads as put-header-reads
 use Rattle.b3d_clear_nodes.proofs.+clear_node+clear_nodes+node_chunk.{statement}
 use Rattle.b3d_clear_nodes.proofs.+clear_node+clear_nodes+node_chunk.Tie.{close}
@@ -24,6 +23,7 @@ use Rattle.b3d_copy.specs.Copies.{nodeCopy}
 use Rattle.b3d_clear_copies.proofs.Chunking.{pair-laws, pair-sum-2, pair-sum-3, pair-asks, pair-done}
 use Rattle.b3d_clear_copies.proofs.Each.{EachLeft, each-laws}
 use Rattle.b3d_clear_nodes.proofs.NodeLaws.{node-laws}
+use Rattle.b3d_inside.proofs.Cycles.{askedAt, askedBelow}
 use borrow.Author.Needs.{needs}
 
 abbrev μ-clear-node : Measures 2 clear-node-kinds.ps ℕ
@@ -34,30 +34,6 @@ abbrev μ-clear-nodes : Measures 2 clear-nodes-kinds.ps ℕ
 
 abbrev μ-node-chunk : Measures 2 node-chunk-kinds.ps ℕ
 μ-node-chunk κs a = 3 * a .1 .1 .1 .0 + 2
-
-abbrev clear-node-at : ℕ → In 2 clear-node-kinds.ps
-clear-node-at t =
-    and 2 clear-node-kinds.ps (is 2 clear-node-kinds.ps μ-clear-node t) clear-node.Pre
-
-abbrev clear-node-below : ℕ → In 2 clear-node-kinds.ps
-clear-node-below t =
-    and 2 clear-node-kinds.ps (falls 2 clear-node-kinds.ps _<_ μ-clear-node t) clear-node.Pre
-
-abbrev clear-nodes-at : ℕ → In 2 clear-nodes-kinds.ps
-clear-nodes-at t =
-    and 2 clear-nodes-kinds.ps (is 2 clear-nodes-kinds.ps μ-clear-nodes t) clear-nodes.Pre
-
-abbrev clear-nodes-below : ℕ → In 2 clear-nodes-kinds.ps
-clear-nodes-below t =
-    and 2 clear-nodes-kinds.ps (falls 2 clear-nodes-kinds.ps _<_ μ-clear-nodes t) clear-nodes.Pre
-
-abbrev node-chunk-at : ℕ → In 2 node-chunk-kinds.ps
-node-chunk-at t =
-    and 2 node-chunk-kinds.ps (is 2 node-chunk-kinds.ps μ-node-chunk t) node-chunk.Pre
-
-abbrev node-chunk-below : ℕ → In 2 node-chunk-kinds.ps
-node-chunk-below t =
-    and 2 node-chunk-kinds.ps (falls 2 node-chunk-kinds.ps _<_ μ-node-chunk t) node-chunk.Pre
 
 abbrev clear-nodes-Inv-loop : clear-nodes-lts.InvT-loop
 clear-nodes-Inv-loop file levels out₀ c₀ n₀ out c n = EachLeft file NODE (nodeCopy levels) c₀ out₀ out c n
@@ -70,10 +46,10 @@ pub +clear-node+clear-nodes+node-chunk-spec : {M : Type 1} → statement M
     close μ-clear-node μ-clear-nodes μ-node-chunk (λ t. clear-node-lts.spec (
       named-row-reads.Asked,
       named-row-reads.Learnt,
-      node-chunk-below t,
+      askedBelow 2 node-chunk-kinds.ps μ-node-chunk node-chunk.Pre t,
       node-chunk.Post,
     )
-    (clear-node-at t)
+    (askedAt 2 clear-node-kinds.ps μ-clear-node clear-node.Pre t)
     clear-node.Post
     (λ c. search (node-laws, needs))
     (λ c κs. search (node-laws, needs))
@@ -89,10 +65,10 @@ pub +clear-node+clear-nodes+node-chunk-spec : {M : Type 1} → statement M
       next-chunk-reads.Learnt,
       same-reads.Asked,
       same-reads.Learnt,
-      clear-node-below t,
+      askedBelow 2 clear-node-kinds.ps μ-clear-node clear-node.Pre t,
       clear-node.Post,
     )
-    (clear-nodes-at t)
+    (askedAt 2 clear-nodes-kinds.ps μ-clear-nodes clear-nodes.Pre t)
     clear-nodes.Post
     clear-nodes-Inv-loop
     clear-nodes-μ-loop
@@ -118,12 +94,12 @@ pub +clear-node+clear-nodes+node-chunk-spec : {M : Type 1} → statement M
     λ t. node-chunk-lts.spec (
       clear-own-reads.Asked,
       clear-own-reads.Learnt,
-      clear-nodes-below t,
+      askedBelow 2 clear-nodes-kinds.ps μ-clear-nodes clear-nodes.Pre t,
       clear-nodes.Post,
       put-header-reads.Asked,
       put-header-reads.Learnt,
     )
-    (node-chunk-at t)
+    (askedAt 2 node-chunk-kinds.ps μ-node-chunk node-chunk.Pre t)
     node-chunk.Post
     (λ c. search (pair-laws, needs))
     (λ c. search (pair-laws, needs))

@@ -1,24 +1,11 @@
 -- `clear_own` writes two parts, one after the other. Facts that lie far back are named.
-use Rattle.b3d_clear_copies.proofs.Chunking.{join-laws, join-sum, join-long, join-done}
+use Rattle.b3d_clear_copies.proofs.Chunking.{join-laws}
 use borrow.Author.Needs.{needs}
 use Rattle.b3d_clear_nodes.proofs.clear_own.Statement.{statement}
 use Rattle.b3d_clear_nodes.proofs.clear_own.Tie as tie
 
 pub clear-own-spec : {M : Type 1} → statement M
-clear-own-spec =
-    tie.close
-    (tie.spec
-    (λ c κs. search (join-laws, needs))
-    (λ c. search (join-laws, needs))
-    (λ c. search (join-laws, needs))
-    (λ c. search (join-laws, needs))
-    (λ c κs. search (join-laws, needs))
-    (λ c.
-    let first = c .before .before .before .before .before .before in
-    join-sum _ _ _ (first .before .before .before .before .pre .1 .1) _ _ (first .put-unnamed .ensures) _ _ (c .before .before .clear-inside .ensures))
-    (λ c.
-    let first = c .before .before .before .before .before .before in
-    join-long _ _ _ (first .before .before .before .before .pre .1 .1) _ _ (first .put-unnamed .ensures) _ _ (c .before .before .clear-inside .ensures))
-    (λ c.
-    let first = c .before .before .before .before .before .before in
-    join-done _ _ _ (first .before .before .before .before .pre .1 .1) _ _ (first .put-unnamed .ensures) _ _ (c .before .before .clear-inside .ensures)))
+clear-own-spec = tie.close (tie.spec (λ c κs. search (join-laws, needs)) (λ c. search (join-laws, needs)) (λ c. search (join-laws, needs)) (λ c. search (join-laws, needs)) (λ c κs. search (join-laws, needs))
+    (λ c. let first = c .before .before .before .before .before .before in let r = first .before .before .before .before .pre .1 .1 in let w = first .put-unnamed .ensures in search (join-laws, needs))
+    (λ c. let first = c .before .before .before .before .before .before in let r = first .before .before .before .before .pre .1 .1 in let w = first .put-unnamed .ensures in search (join-laws, needs))
+    (λ c. let first = c .before .before .before .before .before .before in let r = first .before .before .before .before .pre .1 .1 in let w = first .put-unnamed .ensures in search (join-laws, needs)))

@@ -1,7 +1,6 @@
 -- A node and its list of children, which call each other: the levels left fall. The loop's measure is what is left.
-use Prim.Native.Nat.{ℕ, _<_, _+_, _-_, _*_}
-use borrow.Fn.Kinds.{In}
-use borrow.Fn.PlainCycle.{Measures, is, falls, and}
+use Prim.Native.Nat.{ℕ, _+_, _-_, _*_}
+use borrow.Fn.PlainCycle.{Measures}
 use Rattle.b3d_judge_tree.proofs.judge_node.Reads as judge-node
 use Rattle.b3d_judge_tree.proofs.judge_node.Kinds as judge-node-kinds
 use Rattle.b3d_judge_tree.proofs.+judge_node+judge_nodes.Lts-judge_node as judge-node-lts
@@ -18,6 +17,7 @@ use Rattle.b3d_judge_tree.proofs.+judge_node+judge_nodes.Tie.{close}
 use Rattle.b3d_scene.specs.Parse.{readNode}
 use Rattle.b3d_judge_node.specs.Answers.{aboveOf}
 use Rattle.b3d_judge_tree.proofs.NodeLaws.{node-laws, Noding, noding}
+use Rattle.b3d_inside.proofs.Cycles.{askedAt, askedBelow}
 use borrow.Author.Needs.{needs}
 
 abbrev μ-judge-node : Measures 1 judge-node-kinds.ps ℕ
@@ -25,22 +25,6 @@ abbrev μ-judge-node : Measures 1 judge-node-kinds.ps ℕ
 
 abbrev μ-judge-nodes : Measures 1 judge-nodes-kinds.ps ℕ
 μ-judge-nodes κs a = 2 * a .1 .1 .1 .0 + 1
-
-abbrev judge-node-at : ℕ → In 1 judge-node-kinds.ps
-judge-node-at t =
-    and 1 judge-node-kinds.ps (is 1 judge-node-kinds.ps μ-judge-node t) judge-node.Pre
-
-abbrev judge-node-below : ℕ → In 1 judge-node-kinds.ps
-judge-node-below t =
-    and 1 judge-node-kinds.ps (falls 1 judge-node-kinds.ps _<_ μ-judge-node t) judge-node.Pre
-
-abbrev judge-nodes-at : ℕ → In 1 judge-nodes-kinds.ps
-judge-nodes-at t =
-    and 1 judge-nodes-kinds.ps (is 1 judge-nodes-kinds.ps μ-judge-nodes t) judge-nodes.Pre
-
-abbrev judge-nodes-below : ℕ → In 1 judge-nodes-kinds.ps
-judge-nodes-below t =
-    and 1 judge-nodes-kinds.ps (falls 1 judge-nodes-kinds.ps _<_ μ-judge-nodes t) judge-nodes.Pre
 
 abbrev judge-nodes-Inv-loop : judge-nodes-lts.InvT-loop
 judge-nodes-Inv-loop s at levels brushes above mode c₀ q₀ m₀ c q m = Noding s at (readNode mode levels brushes (aboveOf above)) c₀ c q m
@@ -52,12 +36,12 @@ pub +judge-node+judge-nodes-spec : {M : Type 1} → statement M
 +judge-node+judge-nodes-spec = close μ-judge-node μ-judge-nodes (λ t. judge-node-lts.spec (
   judge-own-reads.Asked,
   judge-own-reads.Learnt,
-  judge-nodes-below t,
+  askedBelow 1 judge-nodes-kinds.ps μ-judge-nodes judge-nodes.Pre t,
   judge-nodes.Post,
   plus-reads.Asked,
   plus-reads.Learnt,
 )
-    (judge-node-at t)
+    (askedAt 1 judge-node-kinds.ps μ-judge-node judge-node.Pre t)
     judge-node.Post
     (λ c. search (node-laws, needs))
     (λ c κs. search (node-laws, needs))
@@ -78,12 +62,12 @@ pub +judge-node+judge-nodes-spec : {M : Type 1} → statement M
       next-chunk-reads.Learnt,
       next-inside-reads.Asked,
       next-inside-reads.Learnt,
-      judge-node-below t,
+      askedBelow 1 judge-node-kinds.ps μ-judge-node judge-node.Pre t,
       judge-node.Post,
       plus-reads.Asked,
       plus-reads.Learnt,
     )
-    (judge-nodes-at t)
+    (askedAt 1 judge-nodes-kinds.ps μ-judge-nodes judge-nodes.Pre t)
     judge-nodes.Post
     judge-nodes-Inv-loop
     judge-nodes-μ-loop

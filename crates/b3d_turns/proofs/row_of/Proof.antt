@@ -1,6 +1,6 @@
 -- `row_of` picks the row of the table, which is the definition's.
 use borrow.Author.Needs.{needs}
-use Rattle.b3d_turns.proofs.Rows.{row-laws}
+use Rattle.b3d_turns.proofs.Rows.{picks}
 use Rattle.b3d_turns.proofs.row_of.Statement.{statement}
 use Rattle.b3d_turns.proofs.row_of.Tie as tie
 
@@ -29,13 +29,13 @@ row-of-spec =
     (λ c. search needs)
     (λ c. search needs)
     (λ c. search needs)
-    (λ c. search (row-laws, needs))
-    (λ c. search (row-laws, needs))
-    (λ c. search (row-laws, needs))
-    (λ c. search (row-laws, needs))
-    (λ c. search (row-laws, needs))
-    (λ c. search (row-laws, needs))
-    (λ c. search (row-laws, needs))
-    (λ c. search (row-laws, needs))
-    (λ c. search (row-laws, needs))
-    (λ c. search (row-laws, needs)))
+    (λ c. search (picks, needs))
+    (λ c. search (picks, needs))
+    (λ c. search (picks, needs))
+    (λ c. search (picks, needs))
+    (λ c. search (picks, needs))
+    (λ c. search (picks, needs))
+    (λ c. search (picks, needs))
+    (λ c. search (picks, needs))
+    (λ c. search (picks, needs))
+    (λ c. search (picks, needs)))

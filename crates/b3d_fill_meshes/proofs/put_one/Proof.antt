@@ -1,8 +1,8 @@
 -- `put_one` stores the rows of a MESH in each table. Facts that lie far back are named.
-use Rattle.b3d_fill_parts.proofs.Meshes.{one-laws}
+use Rattle.b3d_fill_meshes.proofs.Meshes.{one-laws}
 use borrow.Author.Needs.{needs}
-use Rattle.b3d_fill_parts.proofs.put_one.Statement.{statement}
-use Rattle.b3d_fill_parts.proofs.put_one.Tie as tie
+use Rattle.b3d_fill_meshes.proofs.put_one.Statement.{statement}
+use Rattle.b3d_fill_meshes.proofs.put_one.Tie as tie
 
 pub put-one-spec : {M : Type 1} → statement M
 put-one-spec =

@@ -2,11 +2,11 @@
 use Prim.Native.Nat.{_-_}
 use lib.ListN.{length}
 use Rattle.b3d_walk.proofs.Table.{table-small}
-use Rattle.b3d_fill_parts.proofs.Tables.{meshes, vertices, sets, triangles}
-use Rattle.b3d_fill_parts.proofs.Meshes.{MeshesLeft, meshes-body, meshes-fit, meshes-room, meshes-laws}
+use Rattle.b3d_fill_meshes.proofs.Tables.{meshes, vertices, sets, triangles}
+use Rattle.b3d_fill_meshes.proofs.Meshes.{MeshesLeft, meshes-body, meshes-fit, meshes-room, meshes-laws}
 use borrow.Author.Needs.{needs}
-use Rattle.b3d_fill_parts.proofs.fill_meshes.Statement.{statement}
-use Rattle.b3d_fill_parts.proofs.fill_meshes.Tie as tie
+use Rattle.b3d_fill_meshes.proofs.fill_meshes.Statement.{statement}
+use Rattle.b3d_fill_meshes.proofs.fill_meshes.Tie as tie
 
 abbrev Inv-loop : tie.InvT-loop
 Inv-loop file t4₀ t5₀ t6₀ t7₀ at₀ m₀ t4 t5 t6 t7 at m = MeshesLeft file t4₀ t5₀ t6₀ t7₀ t4 t5 t6 t7 at m

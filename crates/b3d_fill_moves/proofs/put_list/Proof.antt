@@ -1,8 +1,8 @@
 -- `put_list` stores the row of a KEYS.
-use Rattle.b3d_fill_parts.proofs.ListRow.{row-laws}
+use Rattle.b3d_fill_moves.proofs.ListRow.{row-laws}
 use borrow.Author.Needs.{needs}
-use Rattle.b3d_fill_parts.proofs.put_list.Statement.{statement}
-use Rattle.b3d_fill_parts.proofs.put_list.Tie as tie
+use Rattle.b3d_fill_moves.proofs.put_list.Statement.{statement}
+use Rattle.b3d_fill_moves.proofs.put_list.Tie as tie
 
 pub put-list-spec : {M : Type 1} → statement M
 put-list-spec =

@@ -2,11 +2,11 @@
 use Prim.Native.Nat.{_-_}
 use lib.ListN.{length}
 use Rattle.b3d_walk.proofs.Table.{TableLeft, Any, any-counts, table-start, table-small, table-inside, table-long, table-done, table-less, table-body, table-room, plain-own, plain-other}
-use Rattle.b3d_fill_parts.proofs.Tables.{bones, lists, keys}
-use Rattle.b3d_fill_parts.proofs.Lists.{Moves, bones-keys, bones-node, lists-laws}
+use Rattle.b3d_fill_moves.proofs.Tables.{bones, lists, keys}
+use Rattle.b3d_fill_moves.proofs.Lists.{Moves, bones-keys, bones-node, lists-laws}
 use borrow.Author.Needs.{needs}
-use Rattle.b3d_fill_parts.proofs.fill_moves.Statement.{statement}
-use Rattle.b3d_fill_parts.proofs.fill_moves.Tie as tie
+use Rattle.b3d_fill_moves.proofs.fill_moves.Statement.{statement}
+use Rattle.b3d_fill_moves.proofs.fill_moves.Tie as tie
 
 abbrev Inv-loop : tie.InvT-loop
 Inv-loop file weights₀ lists₀ keys₀ at₀ nodes₀ count₀ to8₀ to9₀ to10₀ weights lists keys at nodes count to8 to9 to10 = TableLeft 8 Any file weights₀ weights at to8 × TableLeft 9 (Moves at to9 nodes count) file lists₀ lists at to9 × TableLeft 10 Any file keys₀ keys at to10

@@ -9,7 +9,7 @@ use Rattle.wire.specs.declared.Cursor.{Cursor}
 use Rattle.b3d_scene.specs.Tables.{words}
 use Rattle.b3d_file_rows.specs.Plain.{plainMesh}
 use Rattle.b3d_mesh_rows.specs.Meshes.{verticesIn, trianglesIn, setsIn, triangleCount, meshCells}
-use Rattle.b3d_fill_parts.specs.declared.Marks.{Marks}
+use Rattle.b3d_fill_meshes.specs.declared.Marks.{Marks}
 
 -- no more came before than there are bytes
 pub record MarksFit (at : ℕ) (m : Marks) : Type 0 where

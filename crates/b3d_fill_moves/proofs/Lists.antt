@@ -25,8 +25,8 @@ use Rattle.b3d_walk.specs.declared.Flat.{Flat}
 use Rattle.b3d_walk.specs.declared.Flat.the-variants as run
 use Rattle.b3d_walk.proofs.Counting.{tag-same, counted-nodes, counted-keys}
 use Rattle.b3d_walk.proofs.Table.{TableLeft, Any, plain-other, table-start, table-chunk, table-other, table-room, table-own}
-use Rattle.b3d_fill_parts.proofs.Tables.{bones, lists}
-use Rattle.b3d_fill_parts.proofs.ListRow.{keys-few}
+use Rattle.b3d_fill_moves.proofs.Tables.{bones, lists}
+use Rattle.b3d_fill_moves.proofs.ListRow.{keys-few}
 
 -- what is known of the counts at a place of the file
 pub record Moves (at base nodes keys : ℕ) (n : Counts) : Type 0 where

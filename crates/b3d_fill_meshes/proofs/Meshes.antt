@@ -27,9 +27,9 @@ use Rattle.b3d_walk.proofs.Table.{TableLeft, Any, any-counts, table-start, tabl
 use Rattle.b3d_mesh_rows.specs.Meshes.{verticesIn, trianglesIn, setsIn, triangleCount, SetsPut, meshCells, MeshPut}
 use Rattle.b3d_mesh_rows.specs.declared.After.{After}
 use Rattle.b3d_mesh_rows.specs.declared.Added.{Added}
-use Rattle.b3d_fill_parts.specs.Marks.{MarksFit, MeshRoom, MeshStored}
-use Rattle.b3d_fill_parts.specs.declared.Marks.{Marks}
-use Rattle.b3d_fill_parts.proofs.Tables.{meshes, vertices, sets, triangles}
+use Rattle.b3d_fill_meshes.specs.Marks.{MarksFit, MeshRoom, MeshStored}
+use Rattle.b3d_fill_meshes.specs.declared.Marks.{Marks}
+use Rattle.b3d_fill_meshes.proofs.Tables.{meshes, vertices, sets, triangles}
 
 -- ---- one MESH
 
@@ -321,23 +321,4 @@ module _ (s a4 a5 a6 a7 : List ℕ) where
                   (λ n c. same n (m .nodes) (counted-nodes p (left b s) n t ∙ if-no (is t NODE) _ _ (subst (λ (y : Bool). T (not y)) (sym u ∙ en) tt) ∙ c .nodes) m refl refl refl refl refl c)
                   (fit-later q (omega (arith, it .more))) refl refl refl refl
 
-pub ruleset meshes-laws = (
-  meshes-start,
-  meshes-inside,
-  meshes-long4,
-  meshes-long5,
-  meshes-long6,
-  meshes-long7,
-  meshes-nodes,
-  meshes-done4,
-  meshes-done5,
-  meshes-done6,
-  meshes-done7,
-  meshes-less,
-  meshes-body,
-  meshes-fit,
-  meshes-room,
-  meshes-put,
-  meshes-node,
-  meshes-other,
-)
+pub ruleset meshes-laws = (meshes-start, meshes-inside, meshes-long4, meshes-long5, meshes-long6, meshes-long7, meshes-nodes, meshes-done4, meshes-done5, meshes-done6, meshes-done7, meshes-less, meshes-body, meshes-fit, meshes-room, meshes-put, meshes-node, meshes-other)

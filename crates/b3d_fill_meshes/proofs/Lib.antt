@@ -1,0 +1,3 @@
+-- Laws of the tables of meshes.
+pub mod Tables
+pub mod Meshes

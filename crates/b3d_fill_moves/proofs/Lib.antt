@@ -1,0 +1,4 @@
+-- Laws of the tables of weights and keys.
+pub mod Tables
+pub mod ListRow
+pub mod Lists

@@ -1,5 +1,0 @@
--- Laws of the tables that nodes have.
-pub mod Tables
-pub mod ListRow
-pub mod Lists
-pub mod Meshes
