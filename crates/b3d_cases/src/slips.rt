@@ -5,42 +5,24 @@ use crate::case;
 // Slip: a vertex id held to all vertices read so far. A root whose mesh has 3 vertices (49 + 92 bytes from 12 on, as in file T of 01), and a child
 // at 153 whose mesh at 202 has one vertex; its TRIS stands at 202 + 32 + 12 = 246 and its ids at 258, 262 and 266.
 fn other_mesh() {
-    case(
-        b"vertices of two meshes",
-        b"BB3D\x06\x01\0\0\x01\0\0\0\
-          NODE\xfa\0\0\0\0\0\0\0\0\0\0\0\0\0\0\0\0\0\0\0\0\0\0\0\0\0\0\0\0\0\0\0\0\0\0\0\0\0\0\0\0\0\0\0\0\
-          MESH\x54\0\0\0\xff\xff\xff\xff\
-          VRTS\x30\0\0\0\0\0\0\0\0\0\0\0\0\0\0\0\
-          \0\0\0\0\0\0\0\0\0\0\0\0\
-          \0\0\0\0\0\0\0\0\0\0\0\0\
-          \0\0\0\0\0\0\0\0\0\0\0\0\
-          TRIS\x10\0\0\0\xff\xff\xff\xff\
-          \0\0\0\0\x01\0\0\0\x02\0\0\0\
-          NODE\x6d\0\0\0\0\0\0\0\0\0\0\0\0\0\0\0\0\0\0\0\0\0\0\0\0\0\0\0\0\0\0\0\0\0\0\0\0\0\0\0\0\0\0\0\0\
-          MESH\x3c\0\0\0\xff\xff\xff\xff\
-          VRTS\x18\0\0\0\0\0\0\0\0\0\0\0\0\0\0\0\
-          \0\0\0\0\0\0\0\0\0\0\0\0\
-          TRIS\x10\0\0\0\xff\xff\xff\xff\
-          \0\0\0\0\0\0\0\0\0\0\0\0",
-    );
-    case(
-        b"vertex of another mesh",
-        b"BB3D\x06\x01\0\0\x01\0\0\0\
-          NODE\xfa\0\0\0\0\0\0\0\0\0\0\0\0\0\0\0\0\0\0\0\0\0\0\0\0\0\0\0\0\0\0\0\0\0\0\0\0\0\0\0\0\0\0\0\0\
-          MESH\x54\0\0\0\xff\xff\xff\xff\
-          VRTS\x30\0\0\0\0\0\0\0\0\0\0\0\0\0\0\0\
-          \0\0\0\0\0\0\0\0\0\0\0\0\
-          \0\0\0\0\0\0\0\0\0\0\0\0\
-          \0\0\0\0\0\0\0\0\0\0\0\0\
-          TRIS\x10\0\0\0\xff\xff\xff\xff\
-          \0\0\0\0\x01\0\0\0\x02\0\0\0\
-          NODE\x6d\0\0\0\0\0\0\0\0\0\0\0\0\0\0\0\0\0\0\0\0\0\0\0\0\0\0\0\0\0\0\0\0\0\0\0\0\0\0\0\0\0\0\0\0\
-          MESH\x3c\0\0\0\xff\xff\xff\xff\
-          VRTS\x18\0\0\0\0\0\0\0\0\0\0\0\0\0\0\0\
-          \0\0\0\0\0\0\0\0\0\0\0\0\
-          TRIS\x10\0\0\0\xff\xff\xff\xff\
-          \0\0\0\0\0\0\0\0\x01\0\0\0",
-    );
+    let mut file = *b"BB3D\x06\x01\0\0\x01\0\0\0\
+        NODE\xfa\0\0\0\0\0\0\0\0\0\0\0\0\0\0\0\0\0\0\0\0\0\0\0\0\0\0\0\0\0\0\0\0\0\0\0\0\0\0\0\0\0\0\0\0\
+        MESH\x54\0\0\0\xff\xff\xff\xff\
+        VRTS\x30\0\0\0\0\0\0\0\0\0\0\0\0\0\0\0\
+        \0\0\0\0\0\0\0\0\0\0\0\0\
+        \0\0\0\0\0\0\0\0\0\0\0\0\
+        \0\0\0\0\0\0\0\0\0\0\0\0\
+        TRIS\x10\0\0\0\xff\xff\xff\xff\
+        \0\0\0\0\x01\0\0\0\x02\0\0\0\
+        NODE\x6d\0\0\0\0\0\0\0\0\0\0\0\0\0\0\0\0\0\0\0\0\0\0\0\0\0\0\0\0\0\0\0\0\0\0\0\0\0\0\0\0\0\0\0\0\
+        MESH\x3c\0\0\0\xff\xff\xff\xff\
+        VRTS\x18\0\0\0\0\0\0\0\0\0\0\0\0\0\0\0\
+        \0\0\0\0\0\0\0\0\0\0\0\0\
+        TRIS\x10\0\0\0\xff\xff\xff\xff\
+        \0\0\0\0\0\0\0\0\0\0\0\0";
+    case(b"vertices of two meshes", &file);
+    file[266] = 1;
+    case(b"vertex of another mesh", &file);
 }
 
 // Slip: a list ended where less than an item is left. File T of 01 with one more id in its TRIS: the second item starts at 153. The same in TEXS,

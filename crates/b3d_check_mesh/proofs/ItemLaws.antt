@@ -1,16 +1,15 @@
--- A triangle set and a key list by their cells.
+-- A triangle set by its cells.
 use mathlib.Core.Path.{_≡_}
 use Prim.Native.Nat.{ℕ, _+_, _*_}
 use native.Mathlib.Omega.{arith}
 use mathlib.Core.Bool.{Bool, _&&_, _||_}
 use mathlib.Core.List.{List}
 use lib.ListN.{getD}
-use lib.Dec.{leb, ltb, eqb}
+use lib.Dec.{ltb, eqb}
 use Rattle.layout.specs.Fit.{all}
 use Rattle.layout.specs.Rules.{NONE}
-use Rattle.b3d_scene.specs.Mask.{keyMask}
 use Rattle.b3d_scene.specs.Rules.{triangleRow}
-use Rattle.b3d_sound.specs.Check.{keeps, clean, setHere, listHere}
+use Rattle.b3d_sound.specs.Check.{keeps, setHere}
 use Rattle.b3d_check_rows.specs.Rows.{rowAt}
 use Rattle.b3d_check_rows.proofs.Rows.{row-cell, row-first}
 
@@ -19,9 +18,3 @@ pub set-parts : (brushes v mesh i own : ℕ) (t : List ℕ) (ts : List (List ℕ
     → r ≡ setHere brushes v mesh (rowAt 4 i t) ts
 unfolding setHere
 set-parts brushes v mesh i own t ts e r h = rw (row-first 4 i t (omega arith), row-cell 4 i 1 t (omega arith), ← e) h
-
-pub list-parts : (i : ℕ) (t : List ℕ) (ks : List (List ℕ)) (r : Bool)
-    → r ≡ (leb (getD t (4 * i + 1) 0) 7 && all (clean (keyMask (getD t (4 * i + 1) 0))) ks)
-    → r ≡ listHere (rowAt 4 i t) ks
-unfolding listHere
-list-parts i t ks r h = rw (row-cell 4 i 1 t (omega arith)) h

@@ -1,6 +1,3 @@
--- The laws of runs of rows, of meshes and of key lists.
-pub mod Runs
-pub mod EndLaws
-pub mod MineLaws
+-- The laws of sets and of meshes.
 pub mod ItemLaws
 pub mod MeshLaws

@@ -1,2 +1,2 @@
--- Meshes and key lists among the rows of lent tables.
+-- Meshes among the rows of lent tables.
 pub mod Parts

@@ -1,16 +1,13 @@
--- What a mesh row says by itself, and where the rows of meshes and key lists stand.
-use mathlib.Core.Path.{_≡_}
-use Prim.Native.Nat.{ℕ, _-_, _*_, _≤_, _<_}
+-- What a mesh row says by itself, and where the rows of meshes stand.
+use Prim.Native.Nat.{ℕ, _*_, _≤_, _<_}
 use mathlib.Core.Bool.{Bool, _&&_}
 use mathlib.Core.List.{List}
 use lib.ListN.{length, take, getD}
 use lib.Dec.{leb, ltb, eqb}
 use Rattle.layout.specs.Rules.{holds}
-use Rattle.b3d_scene.specs.Rebuild.{mine}
 use Rattle.b3d_scene.specs.Rules.{vertexFlags, sets, setSize, brushId}
 use Rattle.b3d_scene.specs.declared.Counts.{Counts}
 use Rattle.b3d_sound.specs.Check.{runsHere, setHere}
-use Rattle.b3d_check_rows.specs.Rows.{rowsAt}
 
 -- mesh row x of node number `node`, its first vertex being number `first`
 unfoldable pub meshHead : ℕ → ℕ → ℕ → List ℕ → Bool
@@ -35,9 +32,3 @@ pub record MeshRoom (n a : Counts) (words₄ words₅ words₆ words₇ : ℕ) :
   pub room₅ : 42 * a .vertices ≤ words₅
   pub room₆ : 4 * a .sets ≤ words₆
   pub room₇ : 3 * a .triangles ≤ words₇
-
--- of the key lists from `first` on, those of a node end before number r
-pub record MineTo (node first all : ℕ) (t : List ℕ) (r : ℕ) : Type 0 where
-  pub low : first ≤ r
-  pub high : r ≤ all
-  pub is : mine node (rowsAt 4 first (all - first) t) ≡ rowsAt 4 first (r - first) t

@@ -15,7 +15,7 @@ use Rattle.b3d_sound.specs.CellCounts.{endOf, meshCounts, weightCounts, kindCou
 use Rattle.b3d_sound.proofs.Check.Testing.{if-case}
 use Rattle.b3d_check_rows.specs.Rows.{rowAt, rowsAt}
 use Rattle.b3d_check_rows.proofs.Rows.{rows-from, rows-length}
-use Rattle.b3d_check_mesh.specs.Parts.{MineTo}
+use Rattle.b3d_check_lists.specs.Mine.{MineTo}
 use Rattle.b3d_check_node.specs.Parts.{partRows, Below, Limited}
 use Rattle.b3d_check_node.proofs.NodeLaws.{kind-cell}
 

@@ -18,7 +18,7 @@ use Rattle.b3d_sound.proofs.Check.Rows.{cells, cells-are}
 use Rattle.b3d_check_rows.specs.Rows.{rowAt, rowsAt}
 use Rattle.b3d_check_rows.proofs.Rows.{row-cell, row-length, rows-from}
 use Rattle.b3d_check_rows.proofs.RowLaws.{and-true, name-cells}
-use Rattle.b3d_check_mesh.specs.Parts.{MineTo}
+use Rattle.b3d_check_lists.specs.Mine.{MineTo}
 use Rattle.b3d_check_node.specs.Parts.{partRows, Below}
 
 -- the cells from kind on

@@ -68,21 +68,8 @@ fn own_kind(
     let o = NODE_WIDTH * n.nodes;
     let kind = t3[o + 13];
     let first = b3d_check_rows::cell(t3, o + 14);
-    let count = b3d_check_rows::cell(t3, o + 15);
-    kind_here(
-        brushes,
-        most,
-        n,
-        all,
-        kind,
-        first,
-        count,
-        t4,
-        t5,
-        t6,
-        t7,
-        t8,
-    )
+    let many = b3d_check_rows::cell(t3, o + 15);
+    kind_here(brushes, most, n, all, kind, first, many, t4, t5, t6, t7, t8)
 }
 
 // The key lists of the node that comes after n rows, with their keys.
@@ -90,8 +77,8 @@ fn own_lists(n: Counts, all: Counts, t9: &[u32], t10: &[u32]) -> bool
     requires { ⌜ Below n all × ListRoom all (length (now t9)) (length (now t10)) ⌝ }
     ensures { λ r. ⌜ r ≡ runsHere listHere (n .keys) (mine (n .nodes) (rowsAt 4 (n .lists) (all .lists - n .lists) (now (t9 .entry)))) (rowsAt 11 (n .keys) (all .keys - n .keys) (now (t10 .entry))) ⌝ }
 {
-    let end = b3d_check_mesh::lists_of(n.nodes, t9, n.lists, all.lists);
-    b3d_check_mesh::lists_here(t9, n.lists, end - n.lists, t10, n.keys, all.keys)
+    let end = b3d_check_lists::lists_of(n.nodes, t9, n.lists, all.lists);
+    b3d_check_lists::lists_here(t9, n.lists, end - n.lists, t10, n.keys, all.keys)
 }
 
 // Row i, a node: is ANIM there, and its values.
@@ -154,7 +141,7 @@ fn mesh_counts(n: Counts, all: Counts, t4: &[u32], t6: &[u32]) -> Counts
     let o = 9 * i;
     let vertices = b3d_check_rows::cell(t4, o + 6);
     let sets = b3d_check_rows::cell(t4, o + 8);
-    let triangles = b3d_check_mesh::end_of(t6, n.sets, sets, n.triangles);
+    let triangles = b3d_check_lists::end_of(t6, n.sets, sets, n.triangles);
     Counts {
         nodes: n.nodes,
         meshes: i + 1,
@@ -201,8 +188,8 @@ pub fn node_counts(n: Counts, all: Counts, t3: &[u32], t4: &[u32], t6: &[u32], t
     let o = NODE_WIDTH * n.nodes;
     let count = b3d_check_rows::cell(t3, o + 15);
     let m = kind_counts(n, all, t3[o + 13], count, t4, t6);
-    let end = b3d_check_mesh::lists_of(n.nodes, t9, n.lists, all.lists);
-    let keys = b3d_check_mesh::end_of(t9, n.lists, end - n.lists, n.keys);
+    let end = b3d_check_lists::lists_of(n.nodes, t9, n.lists, all.lists);
+    let keys = b3d_check_lists::end_of(t9, n.lists, end - n.lists, n.keys);
     Counts {
         nodes: m.nodes + 1,
         meshes: m.meshes,

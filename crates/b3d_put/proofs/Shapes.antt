@@ -76,8 +76,6 @@ module _ (ms : List ℕ) (i : ℕ) (vs : List (List ℕ)) where
   pub vertices-begin : Begins (verticesBody ms i vs) (writeWords (take 3 (drop i ms)) [])
   vertices-begin = both-begins vertices-both
 
-pub ruleset vertices-parts = (vertices-both, vertices-begin)
-
 -- the mesh row at word i, with so many vertices and sets
 module _ (ms : List ℕ) (i : ℕ) (vs : List ℕ) (v : ℕ) (ss : List ℕ) (s : ℕ) (ts : List ℕ) (t count : ℕ) (e : count ≡ getD ms (i + 6) 0) where
   pub mesh-begin : Begins (meshBody ms i vs v ss s ts t) (verticesBytes ms (i + 2) (take count (drop v (rowsIn 42 vs))))
@@ -93,5 +91,3 @@ module _ (ms : List ℕ) (i : ℕ) (vs : List ℕ) (v : ℕ) (ss : List ℕ) (s 
 pub mesh-end : (ms : List ℕ) (i : ℕ) (vs : List ℕ) (v : ℕ) (ss : List ℕ) (s : ℕ) (ts : List ℕ) (t many : ℕ) → MeshThere ms i vs v ss s ts t → many ≡ getD ms (i + 8) 0
     → endOf t (take many (drop s (rowsIn 4 ss))) ≤ length ts / 3
 mesh-end ms i vs v ss s ts t many h f = rw f (h .triangles)
-
-pub ruleset mesh-parts = (mesh-begin, mesh-both, mesh-end)

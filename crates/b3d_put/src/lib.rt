@@ -74,29 +74,7 @@ pub fn put_values(nodes: &[u32], first: usize, out: &mut [u8]) -> usize
     n + 8
 }
 
-// The body of a VRTS: flags, sets and set size, the words of the meshes from word `says` on, and `count` vertices from row `first` on.
-fn put_vertices_body(
-    meshes: &[u32],
-    says: usize,
-    vertices: &[u32],
-    first: usize,
-    count: usize,
-    out: &mut [u8],
-) -> usize
-    requires { ⌜ says + 3 ≤ length (now meshes) ⌝ }
-    requires { ⌜ first + count ≤ length (now vertices) / 42 ⌝ }
-    requires { ⌜ Room (verticesBody (now meshes) says (rowsFrom 42 (now vertices) first count)) (now out) ⌝ }
-    ensures { λ r. ⌜ Put (verticesBody (now (meshes .entry)) says (rowsFrom 42 (now (vertices .entry)) first count)) (now (out .entry)) (now (out .exit)) r ⌝ }
-{
-    let flags = meshes[says];
-    let sets = meshes[says + 1];
-    let size = meshes[says + 2];
-    let n = emit::put_words(meshes, says, 3, out);
-    let m = put_vertex_rows(flags, sets, size, vertices, first, count, &mut out[n..]);
-    n + m
-}
-
-// A VRTS of that body.
+// A VRTS of flags, sets and set size, the words of the meshes from word `says` on, and `count` vertices from row `first` on.
 fn put_vertices(
     meshes: &[u32],
     says: usize,
@@ -110,9 +88,14 @@ fn put_vertices(
     requires { ⌜ Room (verticesBytes (now meshes) says (rowsFrom 42 (now vertices) first count)) (now out) ⌝ }
     ensures { λ r. ⌜ Put (verticesBytes (now (meshes .entry)) says (rowsFrom 42 (now (vertices .entry)) first count)) (now (out .entry)) (now (out .exit)) r ⌝ }
 {
-    let n = put_vertices_body(meshes, says, vertices, first, count, &mut out[8..]);
-    emit::put_header(out, VRTS, n);
-    n + 8
+    let flags = meshes[says];
+    let sets = meshes[says + 1];
+    let size = meshes[says + 2];
+    let n = emit::put_words(meshes, says, 3, &mut out[8..]);
+    let rest = &mut out[n + 8..];
+    let m = put_vertex_rows(flags, sets, size, vertices, first, count, rest);
+    emit::put_header(out, VRTS, n + m);
+    n + m + 8
 }
 
 // A KEYS or a TRIS of a word and `count` items from row `first` on.
@@ -164,31 +147,7 @@ pub fn put_runs(
     at
 }
 
-// The body of a MESH behind its brush: the VRTS, the TRIS. The mesh's row begins at word `row`; its vertices, sets and triangles are those
-// from rows v, s and t on.
-fn put_mesh_body(
-    meshes: &[u32],
-    row: usize,
-    vertices: &[u32],
-    v: usize,
-    sets: &[u32],
-    s: usize,
-    triangles: &[u32],
-    t: usize,
-    out: &mut [u8],
-) -> usize
-    requires { ⌜ MeshThere (now meshes) row (now vertices) v (now sets) s (now triangles) t ⌝ }
-    requires { ⌜ Room (meshBody (now meshes) row (now vertices) v (now sets) s (now triangles) t) (now out) ⌝ }
-    ensures { λ r. ⌜ Put (meshBody (now (meshes .entry)) row (now (vertices .entry)) v (now (sets .entry)) s (now (triangles .entry)) t) (now (out .entry)) (now (out .exit)) r ⌝ }
-{
-    let count = number(meshes, row + 6);
-    let many = number(meshes, row + 8);
-    let n = put_vertices(meshes, row + 2, vertices, v, count, out);
-    let m = put_runs(false, sets, s, many, triangles, t, &mut out[n..]);
-    n + m
-}
-
-// The MESH of that body.
+// A MESH: its brush, the VRTS, the TRIS. The mesh's row begins at word `row`; its vertices, sets and triangles are those from rows v, s and t on.
 pub fn put_mesh(
     meshes: &[u32],
     row: usize,
@@ -205,17 +164,10 @@ pub fn put_mesh(
     ensures { λ r. ⌜ Put (meshBytes (now (meshes .entry)) row (now (vertices .entry)) v (now (sets .entry)) s (now (triangles .entry)) t) (now (out .entry)) (now (out .exit)) r ⌝ }
 {
     let brush = meshes[row + 1];
-    let n = put_mesh_body(
-        meshes,
-        row,
-        vertices,
-        v,
-        sets,
-        s,
-        triangles,
-        t,
-        &mut out[12..],
-    );
-    emit::put_opening(out, MESH, n, brush);
-    n + 12
+    let count = number(meshes, row + 6);
+    let many = number(meshes, row + 8);
+    let n = put_vertices(meshes, row + 2, vertices, v, count, &mut out[12..]);
+    let m = put_runs(false, sets, s, many, triangles, t, &mut out[n + 12..]);
+    emit::put_opening(out, MESH, n + m, brush);
+    n + m + 12
 }

@@ -1,4 +1,4 @@
--- A law for each way through `put_rest`, `put_all` and `put_file`.
+-- A law for each way through `put_rest` and `put_file`.
 use mathlib.Core.Path.{_≡_, refl, ap, sym, _∙_, subst}
 use Prim.Native.Nat.{ℕ, _+_, _-_, _/_, _<_, _≤_}
 use native.Mathlib.Omega.{arith}
@@ -9,7 +9,7 @@ use lib.ListN.{length, take, drop}
 use Rattle.wire.specs.Bytes.{bytes}
 use Rattle.emit.specs.Writing.{Wrote, Room, Put, head, chunk}
 use Rattle.emit.proofs.Appends.{chunks-append}
-use Rattle.emit.proofs.Joining.{Both, both-begins, both-room, both-inside, both-room-2, both-done, chunk-is, chunk-fits, chunk-room, chunk-long, chunk-small, chunk-done}
+use Rattle.emit.proofs.Joining.{Both, both-begins, both-room, both-inside, both-room-2, both-done, chunk-fits, two-room as room-first, two-inside as inside-first, two-room-2, two-long, two-small, two-done}
 use Rattle.b3d_scene.specs.declared.Tag.the-variants.{BB3D}
 use Rattle.b3d_scene.specs.Encode.{nodeChunks, textureChunks, brushChunks, writeScene, encode}
 use Rattle.b3d_scene.specs.Rebuild.{Rows, textureFrom, brushFrom}
@@ -104,27 +104,6 @@ module _ (ns t₂ : List ℕ) (R : Rows) (slots : ℕ) (out : List ℕ) (s : Som
 
 pub ruleset rest-laws = (rest-few, rest-there, rest-room, rest-inside, rest-some, rest-each, sum-fits)
 
--- ---- `put_all`
-
-module _ (ns t₁ t₂ : List ℕ) (R : Rows) (slots : ℕ) (out : List ℕ) (s : Some (OfAll ns t₁ t₂ R slots) allBytes out) where
-  pub all-there : NamesThere ns (rowsIn 9 t₁)
-  all-there = s .is .there
-
-  pub all-room : Room (texturesBytes ns (rowsIn 9 t₁)) out
-  all-room = two-room (OfAll ns t₁ t₂ R slots) allBytes (OfRest ns t₂ R slots) restBytes (texturesBytes ns (rowsIn 9 t₁)) (λ (t : Scene). t) (λ t h. h .rest) (all-both ns t₁ t₂ R slots) out s
-
-  module _ (ys : List ℕ) (n : ℕ) (p : Put (texturesBytes ns (rowsIn 9 t₁)) out ys n) where
-    pub all-inside : n ≤ length ys
-    all-inside = two-inside (OfAll ns t₁ t₂ R slots) allBytes (OfRest ns t₂ R slots) restBytes (texturesBytes ns (rowsIn 9 t₁)) (λ (t : Scene). t) (λ t h. h .rest) (all-both ns t₁ t₂ R slots) out s ys n p
-
-    pub all-some : Some (OfRest ns t₂ R slots) restBytes (take (length ys - n) (drop n ys))
-    all-some = two-some (OfAll ns t₁ t₂ R slots) allBytes (OfRest ns t₂ R slots) restBytes (texturesBytes ns (rowsIn 9 t₁)) (λ (t : Scene). t) (λ t h. h .rest) (all-both ns t₁ t₂ R slots) out s ys n p
-
-    pub all-each : (zs : List ℕ) (m : ℕ) → Each (OfRest ns t₂ R slots) restBytes (take (length ys - n) (drop n ys)) zs m → Each (OfAll ns t₁ t₂ R slots) allBytes out (take n ys ++ (zs ++ drop (length ys - n) (drop n ys))) (n + m)
-    all-each = two-each (OfAll ns t₁ t₂ R slots) allBytes (OfRest ns t₂ R slots) restBytes (texturesBytes ns (rowsIn 9 t₁)) (λ (t : Scene). t) (λ t h. h .rest) (all-both ns t₁ t₂ R slots) out s ys n p
-
-pub ruleset all-laws = (all-there, all-room, all-inside, all-some, all-each, sum-fits)
-
 -- ---- `put_file`
 
 module _ (ns t₁ t₂ : List ℕ) (R : Rows) (version slots : ℕ) (out : List ℕ) where
@@ -135,34 +114,50 @@ module _ (ns t₁ t₂ : List ℕ) (R : Rows) (version slots : ℕ) (out : List 
     s-room : Room (chunk (code BB3D) (bytes version []) (allBytes (s .value))) out
     s-room = as-chunk (s .value) (s .is) (s .room)
 
-    s-part : Room (allBytes (s .value)) (take (length out - 12) (drop 12 out))
-    s-part = chunk-room (code BB3D) (bytes version []) (allBytes (s .value)) out 12 s-room refl (allBytes (s .value)) refl
+    abbrev texs : List ℕ
+    texs = texturesBytes ns (rowsIn 9 t₁)
+
+    both : Both (allBytes (s .value)) texs (restBytes (s .value))
+    both = all-both ns t₁ t₂ R slots (s .value) (s .is .all)
 
     pub file-fits : 12 ≤ length out
     file-fits = chunk-fits (code BB3D) (bytes version []) (allBytes (s .value)) out 12 s-room refl
 
-    pub file-some : Some (OfAll ns t₁ t₂ R slots) allBytes (take (length out - 12) (drop 12 out))
-    file-some = record { value = s .value; is = s .is .all; room = s-part }
+    pub file-there : NamesThere ns (rowsIn 9 t₁)
+    file-there = s .is .all .there
 
-    module _ (ys : List ℕ) (n : ℕ) (p : Each (OfAll ns t₁ t₂ R slots) allBytes (take (length out - 12) (drop 12 out)) ys n) where
-      s-put : Put (allBytes (s .value)) (take (length out - 12) (drop 12 out)) ys n
-      s-put = p .bytes (s .value) (s .is .all) s-part
+    pub file-room : Room (texturesBytes ns (rowsIn 9 t₁)) (take (length out - 12) (drop 12 out))
+    file-room = room-first (code BB3D) (bytes version []) (allBytes (s .value)) out 12 s-room refl texs (both-begins both)
 
-      pub file-long : 12 ≤ length (take 12 out ++ (ys ++ drop (length out - 12) (drop 12 out)))
-      file-long = chunk-long (code BB3D) (bytes version []) (allBytes (s .value)) out 12 s-room refl (allBytes (s .value)) refl ys n s-put
+    module _ (ys : List ℕ) (n : ℕ) (w : Put (texturesBytes ns (rowsIn 9 t₁)) (take (length out - 12) (drop 12 out)) ys n) where
+      -- the output with the textures
+      abbrev mid : List ℕ
+      mid = take 12 out ++ (ys ++ drop (length out - 12) (drop 12 out))
 
-      pub file-small : n < 4294967292
-      file-small = chunk-small (code BB3D) (bytes version []) (allBytes (s .value)) out 12 s-room refl (allBytes (s .value)) refl ys n s-put 4294967292 refl
+      pub file-inside : n + 12 ≤ length (take 12 out ++ (ys ++ drop (length out - 12) (drop 12 out)))
+      file-inside = inside-first (code BB3D) (bytes version []) (allBytes (s .value)) out 12 s-room refl texs ys n w (both-begins both)
 
-      file-put : (zs : List ℕ) → Wrote (take 12 out ++ (ys ++ drop (length out - 12) (drop 12 out))) (head 0x44334242 n (bytes version [])) zs
-          → (t : Scene) → OfScene ns t₁ t₂ R version slots t → Room (encode t) out → Put (encode t) out zs (n + 12)
-      file-put zs h t i r =
-          let q = as-chunk t i r in
-          let k = p .bytes t (i .all) (chunk-room (code BB3D) (bytes version []) (allBytes t) out 12 q refl (allBytes t) refl) in
-          let d = chunk-done (code BB3D) (bytes version []) (allBytes t) out 12 q refl (allBytes t) refl ys n k zs h in
-          rw (encode-chunk t) (subst (λ (v : ℕ). Put (chunk (code BB3D) (bytes v []) (allBytes t)) out zs (n + 12)) (sym (i .version-is)) d)
+      room-rest : (t : Scene) → OfScene ns t₁ t₂ R version slots t → Room (encode t) out → Room (restBytes t) (take (length mid - (n + 12)) (drop (n + 12) mid))
+      room-rest t i r = two-room-2 (code BB3D) (bytes version []) (allBytes t) out 12 (as-chunk t i r) refl texs ys n w (restBytes t) (all-both ns t₁ t₂ R slots t (i .all))
 
-      pub file-each : (zs : List ℕ) → Wrote (take 12 out ++ (ys ++ drop (length out - 12) (drop 12 out))) (head 0x44334242 n (bytes version [])) zs → Each (OfScene ns t₁ t₂ R version slots) encode out zs (n + 12)
-      file-each zs h = record { small = file-put zs h (s .value) (s .is) (s .room) .small; bytes = file-put zs h }
+      pub file-some : Some (OfRest ns t₂ R slots) restBytes (take (length mid - (n + 12)) (drop (n + 12) mid))
+      file-some = record { value = s .value; is = s .is .all .rest; room = room-rest (s .value) (s .is) (s .room) }
 
-pub ruleset file-laws = (file-fits, file-some, file-long, file-small, file-each)
+      module _ (us : List ℕ) (m : ℕ) (q : Each (OfRest ns t₂ R slots) restBytes (take (length mid - (n + 12)) (drop (n + 12) mid)) us m) where
+        -- the output with the rest too
+        abbrev last : List ℕ
+        last = take (n + 12) mid ++ (us ++ drop (length mid - (n + 12)) (drop (n + 12) mid))
+
+        s-put : Put (restBytes (s .value)) (take (length mid - (n + 12)) (drop (n + 12) mid)) us m
+        s-put = q .bytes (s .value) (s .is .all .rest) (room-rest (s .value) (s .is) (s .room))
+
+        pub file-asks : (12 ≤ length last) × (n + m < 4294967292)
+        file-asks = (two-long (code BB3D) (bytes version []) (allBytes (s .value)) out 12 s-room refl texs ys n w (restBytes (s .value)) both us m s-put, two-small (code BB3D) (bytes version []) (allBytes (s .value)) out 12 s-room refl texs ys n w (restBytes (s .value)) both us m s-put 4294967292 refl)
+
+        file-put : (zs : List ℕ) → Wrote last (head 0x44334242 (n + m) (bytes version [])) zs → (t : Scene) → OfScene ns t₁ t₂ R version slots t → Room (encode t) out → Put (encode t) out zs (n + m + 12)
+        file-put zs h t i r =
+            let d = two-done (code BB3D) (bytes version []) (allBytes t) out 12 (as-chunk t i r) refl texs ys n w (restBytes t) (all-both ns t₁ t₂ R slots t (i .all)) us m (q .bytes t (i .all .rest) (room-rest t i r)) zs h in
+            rw (encode-chunk t) (subst (λ (v : ℕ). Put (chunk (code BB3D) (bytes v []) (allBytes t)) out zs (n + m + 12)) (sym (i .version-is)) d)
+
+        pub file-each : (zs : List ℕ) → Wrote last (head 0x44334242 (n + m) (bytes version [])) zs → Each (OfScene ns t₁ t₂ R version slots) encode out zs (n + m + 12)
+        file-each zs h = record { small = file-put zs h (s .value) (s .is) (s .room) .small; bytes = file-put zs h }

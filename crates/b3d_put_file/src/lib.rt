@@ -64,64 +64,12 @@ fn put_rest(
 {
     let a = b3d_put_lists::put_brushes(names, slots, t2, out);
     let brushes = t2.len() / 17;
-    let b = put_root(
-        names,
-        t3,
-        t4,
-        t5,
-        t6,
-        t7,
-        t8,
-        t9,
-        t10,
-        all,
-        brushes,
-        &mut out[a..],
-    );
+    let rest = &mut out[a..];
+    let b = put_root(names, t3, t4, t5, t6, t7, t8, t9, t10, all, brushes, rest);
     a + b
 }
 
-// TEXS, if there is a texture, and the rest.
-fn put_all(
-    names: &[u8],
-    slots: u32,
-    t1: &[u32],
-    t2: &[u32],
-    t3: &[u32],
-    t4: &[u32],
-    t5: &[u32],
-    t6: &[u32],
-    t7: &[u32],
-    t8: &[u32],
-    t9: &[u32],
-    t10: &[u32],
-    all: Counts,
-    out: &mut [u8],
-) -> usize
-    requires { ⌜ Sized all (now t3) (now t4) (now t5) (now t6) (now t7) (now t8) (now t9) (now t10) ⌝ }
-    requires { ⌜ Some (OfAll (now names) (now t1) (now t2) (tableRows (now t3) (now t4) (now t5) (now t6) (now t7) (now t8) (now t9) (now t10)) slots) allBytes (now out) ⌝ }
-    ensures { λ r. ⌜ Each (OfAll (now (names .entry)) (now (t1 .entry)) (now (t2 .entry)) (tableRows (now (t3 .entry)) (now (t4 .entry)) (now (t5 .entry)) (now (t6 .entry)) (now (t7 .entry)) (now (t8 .entry)) (now (t9 .entry)) (now (t10 .entry))) slots) allBytes (now (out .entry)) (now (out .exit)) r ⌝ }
-{
-    let a = b3d_put_lists::put_textures(names, t1, out);
-    let b = put_rest(
-        names,
-        slots,
-        t2,
-        t3,
-        t4,
-        t5,
-        t6,
-        t7,
-        t8,
-        t9,
-        t10,
-        all,
-        &mut out[a..],
-    );
-    a + b
-}
-
-// The whole file.
+// The whole file: its head, TEXS, if there is a texture, and the rest.
 pub fn put_file(
     names: &[u8],
     version: u32,
@@ -143,22 +91,10 @@ pub fn put_file(
     requires { ⌜ Some (OfScene (now names) (now t1) (now t2) (tableRows (now t3) (now t4) (now t5) (now t6) (now t7) (now t8) (now t9) (now t10)) version slots) encode (now out) ⌝ }
     ensures { λ r. ⌜ Each (OfScene (now (names .entry)) (now (t1 .entry)) (now (t2 .entry)) (tableRows (now (t3 .entry)) (now (t4 .entry)) (now (t5 .entry)) (now (t6 .entry)) (now (t7 .entry)) (now (t8 .entry)) (now (t9 .entry)) (now (t10 .entry))) version slots) encode (now (out .entry)) (now (out .exit)) r ⌝ }
 {
-    let n = put_all(
-        names,
-        slots,
-        t1,
-        t2,
-        t3,
-        t4,
-        t5,
-        t6,
-        t7,
-        t8,
-        t9,
-        t10,
-        all,
-        &mut out[12..],
-    );
+    let a = b3d_put_lists::put_textures(names, t1, &mut out[12..]);
+    let rest = &mut out[a + 12..];
+    let b = put_rest(names, slots, t2, t3, t4, t5, t6, t7, t8, t9, t10, all, rest);
+    let n = a + b;
     emit::put_opening(out, 0x44334242, n, version);
     n + 12
 }

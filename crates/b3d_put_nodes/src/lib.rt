@@ -33,22 +33,10 @@ fn put_body(
 {
     let own = b3d_put_own::put_own(names, t3, t4, t5, t6, t7, t8, t9, t10, n, out);
     let m = b3d_check_node::node_counts(n, all, t3, t4, t6, t9);
-    let below = put_nodes(
-        names,
-        t3,
-        t4,
-        t5,
-        t6,
-        t7,
-        t8,
-        t9,
-        t10,
-        all,
-        n.nodes,
-        levels - 1,
-        m,
-        &mut out[own..],
-    );
+    let i = n.nodes;
+    let l = levels - 1;
+    let rest = &mut out[own..];
+    let below = put_nodes(names, t3, t4, t5, t6, t7, t8, t9, t10, all, i, l, m, rest);
     let size = own + below.size;
     let counts = below.counts;
     Walked { size, counts }
@@ -74,21 +62,8 @@ pub fn put_node(
     requires { ⌜ WritableFirst nodeBytes (now names) (tableRows (now t3) (now t4) (now t5) (now t6) (now t7) (now t8) (now t9) (now t10)) levels n (now out) ⌝ }
     ensures { λ r. ⌜ WritesFirst nodeBytes (now (names .entry)) (tableRows (now (t3 .entry)) (now (t4 .entry)) (now (t5 .entry)) (now (t6 .entry)) (now (t7 .entry)) (now (t8 .entry)) (now (t9 .entry)) (now (t10 .entry))) levels n (now (out .entry)) (now (out .exit)) (r .size) (r .counts) ⌝ }
 {
-    let body = put_body(
-        names,
-        t3,
-        t4,
-        t5,
-        t6,
-        t7,
-        t8,
-        t9,
-        t10,
-        all,
-        levels,
-        n,
-        &mut out[8..],
-    );
+    let rest = &mut out[8..];
+    let body = put_body(names, t3, t4, t5, t6, t7, t8, t9, t10, all, levels, n, rest);
     emit::put_header(out, 0x45444F4E, body.size);
     let size = body.size + 8;
     let counts = body.counts;
@@ -125,21 +100,8 @@ pub fn put_nodes(
                 counts: m,
             };
         }
-        let r = put_node(
-            names,
-            t3,
-            t4,
-            t5,
-            t6,
-            t7,
-            t8,
-            t9,
-            t10,
-            all,
-            levels,
-            m,
-            &mut out[at..],
-        );
+        let rest = &mut out[at..];
+        let r = put_node(names, t3, t4, t5, t6, t7, t8, t9, t10, all, levels, m, rest);
         at += r.size;
         m = r.counts;
     }

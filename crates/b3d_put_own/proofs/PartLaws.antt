@@ -1,6 +1,6 @@
 -- The parts of a node's own, in their order, and that the rest of its body comes after them.
 use mathlib.Core.Path.{_≡_, refl, ap, ap₂, sym, _∙_}
-use Prim.Native.Nat.{ℕ, _+_, _*_, _/_, _<_}
+use Prim.Native.Nat.{ℕ, _+_, _-_, _*_, _/_, _<_, _≤_}
 use native.Mathlib.Nat.{add-zero}
 use native.Mathlib.Omega.{arith}
 use mathlib.Core.List.{List, [], _∷_, _++_, append-assoc}
@@ -9,7 +9,8 @@ use lib.Seq.{drop-drop, getD-drop}
 use Rattle.wire.specs.Test.{if}
 use Rattle.layout.specs.Write.{Chunk, writeWords, writeText, writeChunks}
 use Rattle.emit.proofs.Appends.{words-append, text-append, before-append, chunks-append}
-use Rattle.emit.proofs.Joining.{Both, Begins, both-begins}
+use Rattle.emit.specs.Writing.{Room, Put}
+use Rattle.emit.proofs.Joining.{Both, both-begins, both-room, both-inside, both-room-2, both-done}
 use Rattle.b3d_scene.specs.Encode.{writeKeys, kindChunks, keyChunks, animChunks, writeNode}
 use Rattle.b3d_scene.specs.Rebuild.{nameFrom, kindFrom, dataFrom}
 use Rattle.b3d_scene.specs.Scene.{Keys, Anim, still, anim, Data}
@@ -28,14 +29,9 @@ use Rattle.b3d_put_own.proofs.KindLaws.{kind-append}
 -- ---- the kind, and what moves
 
 module _ (ds : List ℕ) (i : ℕ) (ms vs ss ts ws ls ks : List ℕ) (n : Counts) where
-  pub parts-both : Both (partsBytes ds i ms vs ss ts ws ls ks n) (kindBytes ms vs ss ts ws n (getD ds (i + 13) 0) (getD ds (i + 15) 0)) (movesBytes ds i ls ks n)
+  parts-both : Both (partsBytes ds i ms vs ss ts ws ls ks n) (kindBytes ms vs ss ts ws n (getD ds (i + 13) 0) (getD ds (i + 15) 0)) (movesBytes ds i ls ks n)
   unfolding partsBytes kindBytes movesBytes
   parts-both = record { is = kind-append (kindFrom (tableRows [] ms vs ss ts ws [] []) n (getD ds (i + 13) 0) (getD ds (i + 15) 0)) (moveChunks ds i ls ks n) }
-
-  pub parts-begin : Begins (partsBytes ds i ms vs ss ts ws ls ks n) (kindBytes ms vs ss ts ws n (getD ds (i + 13) 0) (getD ds (i + 15) 0))
-  parts-begin = both-begins parts-both
-
-pub ruleset parts-laws = (parts-both, parts-begin)
 
 -- ---- the name and the words, and the parts
 
@@ -70,17 +66,60 @@ module _ (ns ds ms vs ss ts ws ls ks : List ℕ) (n : Counts) (h : n .nodes < le
   last : take 4 (drop 3 (drop 13 x)) ≡ take 4 (drop (nodeWidth * n .nodes + 16) ds)
   last = rw (drop-drop 3 13 x, rows-row nodeWidth ds (n .nodes) h, part-take 16 4 nodeWidth row (omega arith), drop-drop 16 (nodeWidth * n .nodes) ds)
 
-  pub own-both : Both (ownBytes ns ds ms vs ss ts ws ls ks n) (namedBytes ns ds (nodeWidth * n .nodes) (nodeWidth * n .nodes + 3) 10) (partsBytes ds (nodeWidth * n .nodes) ms vs ss ts ws ls ks n)
+  own-both : Both (ownBytes ns ds ms vs ss ts ws ls ks n) (namedBytes ns ds (nodeWidth * n .nodes) (nodeWidth * n .nodes + 3) 10) (partsBytes ds (nodeWidth * n .nodes) ms vs ss ts ws ls ks n)
   unfolding ownBytes dataFrom partsBytes kindFrom tableRows if
   own-both =
       let k : getD (drop 13 x) 0 0 ≡ getD ds (nodeWidth * n .nodes + 13) 0 = getD-drop 13 x 0 0 ∙ cell 13 (omega arith) in
       let c : getD (drop 13 x) 2 0 ≡ getD ds (nodeWidth * n .nodes + 15) 0 = getD-drop 13 x 2 0 ∙ cell 15 (omega arith) in
       record { is = node-split (dataFrom ns (tableRows ds ms vs ss ts ws ls ks) x n) [] ∙ rw (front, k, c, last) }
 
-  pub own-begin : Begins (ownBytes ns ds ms vs ss ts ws ls ks n) (namedBytes ns ds (nodeWidth * n .nodes) (nodeWidth * n .nodes + 3) 10)
-  own-begin = both-begins own-both
+  abbrev named : List ℕ
+  named = namedBytes ns ds (nodeWidth * n .nodes) (nodeWidth * n .nodes + 3) 10
 
-pub ruleset own-laws = (own-both, own-begin)
+  abbrev kind : List ℕ
+  kind = kindBytes ms vs ss ts ws n (getD ds (nodeWidth * n .nodes + 13) 0) (getD ds (nodeWidth * n .nodes + 15) 0)
+
+  abbrev moves : List ℕ
+  moves = movesBytes ds (nodeWidth * n .nodes) ls ks n
+
+  abbrev two : Both (named ++ kind) named kind
+  two = record { is = refl }
+
+  all : Both (ownBytes ns ds ms vs ss ts ws ls ks n) (named ++ kind) moves
+  all = record { is = own-both .is ∙ ap (λ (l : List ℕ). named ++ l) (parts-both ds (nodeWidth * n .nodes) ms vs ss ts ws ls ks n .is) ∙ sym (append-assoc named kind moves) }
+
+  -- one part after the other
+  module _ (out : List ℕ) (r : Room (ownBytes ns ds ms vs ss ts ws ls ks n) out) where
+    room-two : Room (named ++ kind) out
+    room-two = both-room (ownBytes ns ds ms vs ss ts ws ls ks n) out r (named ++ kind) (both-begins all)
+
+    pub own-room : Room (namedBytes ns ds (nodeWidth * n .nodes) (nodeWidth * n .nodes + 3) 10) out
+    own-room = both-room (named ++ kind) out room-two named (both-begins two)
+
+    module _ (ys : List ℕ) (a : ℕ) (w : Put (namedBytes ns ds (nodeWidth * n .nodes) (nodeWidth * n .nodes + 3) 10) out ys a) where
+      pub own-inside : a ≤ length ys
+      own-inside = both-inside (named ++ kind) out room-two named ys a w (both-begins two)
+
+      pub own-kind : Room kind (take (length ys - a) (drop a ys))
+      own-kind = both-room-2 (named ++ kind) out room-two named ys a w kind two
+
+      module _ (zs : List ℕ) (b : ℕ) (v : Put kind (take (length ys - a) (drop a ys)) zs b) where
+        -- the output with the first two
+        abbrev mid : List ℕ
+        mid = take a ys ++ (zs ++ drop (length ys - a) (drop a ys))
+
+        put-two : Put (named ++ kind) out mid (a + b)
+        put-two = both-done (named ++ kind) out room-two named ys a w kind two zs b v
+
+        pub own-inside-2 : a + b ≤ length mid
+        own-inside-2 = both-inside (ownBytes ns ds ms vs ss ts ws ls ks n) out r (named ++ kind) mid (a + b) put-two (both-begins all)
+
+        pub own-moves : Room moves (take (length mid - (a + b)) (drop (a + b) mid))
+        own-moves = both-room-2 (ownBytes ns ds ms vs ss ts ws ls ks n) out r (named ++ kind) mid (a + b) put-two moves all
+
+        pub own-done : (us : List ℕ) (c : ℕ) → Put moves (take (length mid - (a + b)) (drop (a + b) mid)) us c
+            → Put (ownBytes ns ds ms vs ss ts ws ls ks n) out (take (a + b) mid ++ (us ++ drop (length mid - (a + b)) (drop (a + b) mid))) (a + b + c)
+        own-done = both-done (ownBytes ns ds ms vs ss ts ws ls ks n) out r (named ++ kind) mid (a + b) put-two moves all
 
 -- ---- what comes after a node's own
 

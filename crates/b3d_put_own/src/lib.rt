@@ -6,7 +6,7 @@ ghost use Rattle.emit.specs.Writing.{Room, Put};
 ghost use Rattle.b3d_scene.specs.Rebuild.{mine};
 ghost use Rattle.b3d_scene.specs.Tables.{nodeWidth};
 ghost use Rattle.b3d_put_rows.specs.Lent.{rowsIn};
-ghost use Rattle.b3d_put_own.specs.Own.{kindBytes, animPart, movesBytes, partsBytes, ownBytes, KindThere, MovesThere, OwnThere};
+ghost use Rattle.b3d_put_own.specs.Own.{kindBytes, animPart, movesBytes, ownBytes, KindThere, MovesThere, OwnThere};
 use b3d_put::number;
 use b3d_put::put_mesh;
 use b3d_put::put_runs;
@@ -35,17 +35,10 @@ fn put_kind(
 {
     if nodes[row + 13] == 1 {
         let i = 9 * n.meshes;
-        return put_mesh(
-            meshes,
-            i,
-            vertices,
-            n.vertices,
-            sets,
-            n.sets,
-            triangles,
-            n.triangles,
-            out,
-        );
+        let v = n.vertices;
+        let s = n.sets;
+        let t = n.triangles;
+        return put_mesh(meshes, i, vertices, v, sets, s, triangles, t, out);
     }
     if nodes[row + 13] == 2 {
         let many = number(nodes, row + 15);
@@ -100,41 +93,6 @@ fn put_moves(
     a + b
 }
 
-// The kind of that node, then its KEYS and its ANIM.
-fn put_parts(
-    nodes: &[u32],
-    row: usize,
-    meshes: &[u32],
-    vertices: &[u32],
-    sets: &[u32],
-    triangles: &[u32],
-    weights: &[u32],
-    lists: &[u32],
-    keys: &[u32],
-    n: Counts,
-    out: &mut [u8],
-) -> usize
-    requires { ⌜ row + nodeWidth ≤ length (now nodes) ⌝ }
-    requires { ⌜ KindThere (now meshes) (now vertices) (now sets) (now triangles) (now weights) n (getD (now nodes) (row + 13) 0) (getD (now nodes) (row + 15) 0) ⌝ }
-    requires { ⌜ MovesThere (now lists) (now keys) n ⌝ }
-    requires { ⌜ Room (partsBytes (now nodes) row (now meshes) (now vertices) (now sets) (now triangles) (now weights) (now lists) (now keys) n) (now out) ⌝ }
-    ensures { λ r. ⌜ Put (partsBytes (now (nodes .entry)) row (now (meshes .entry)) (now (vertices .entry)) (now (sets .entry)) (now (triangles .entry)) (now (weights .entry)) (now (lists .entry)) (now (keys .entry)) n) (now (out .entry)) (now (out .exit)) r ⌝ }
-{
-    let a = put_kind(
-        nodes,
-        row,
-        meshes,
-        vertices,
-        sets,
-        triangles,
-        weights,
-        n,
-        out,
-    );
-    let b = put_moves(nodes, row, lists, keys, n, &mut out[a..]);
-    a + b
-}
-
 // All that the body of the node after n rows holds before the nodes below it.
 pub fn put_own(
     names: &[u8],
@@ -155,7 +113,8 @@ pub fn put_own(
 {
     let row = NODE_WIDTH * n.nodes;
     let a = put_named(names, nodes, row, row + 3, 10, out);
-    let b = put_parts(
+    let rest = &mut out[a..];
+    let b = put_kind(
         nodes,
         row,
         meshes,
@@ -163,10 +122,9 @@ pub fn put_own(
         sets,
         triangles,
         weights,
-        lists,
-        keys,
         n,
-        &mut out[a..],
+        rest,
     );
-    a + b
+    let c = put_moves(nodes, row, lists, keys, n, &mut out[a + b..]);
+    a + b + c
 }

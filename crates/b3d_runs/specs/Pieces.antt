@@ -1,44 +1,34 @@
 -- A row as pieces: so many words of the file, then so many zeros.
-use Prim.Native.Nat.{ℕ, zero, suc, _+_, _-_, _*_, _/_, _%_}
-use mathlib.Core.List.{List, [], _∷_, _++_}
+use Prim.Native.Nat.{ℕ, zero, suc, _+_, _-_, _*_}
+use mathlib.Core.List.{List, [], _++_}
 use lib.ListN.{replicate}
-use lib.Dec.{ltb}
-use Rattle.wire.specs.Test.{if}
 use Rattle.cells.specs.Words.{wordsAt}
 
 -- so many words from a place on, then so many zeros
 unfoldable pub pieceAt : ℕ → ℕ → List ℕ → ℕ → List ℕ
 pieceAt n m s p = wordsAt n s p ++ replicate m 0
 
--- the words of set k that are there
-unfoldable pub inSet : ℕ → ℕ → ℕ → ℕ
-inSet sets size k = if (ltb k sets) size 0
+-- so many sets, four cells each, of which so many are words
+unfoldable pub setsAt : ℕ → ℕ → List ℕ → ℕ → List ℕ
+setsAt zero size s p = []
+setsAt (suc n) size s p = pieceAt size (4 - size) s p ++ setsAt n size s (p + 4 * size)
 
--- so many sets from set k on, four cells each
-unfoldable pub setsAt : ℕ → ℕ → ℕ → ℕ → List ℕ → ℕ → List ℕ
-setsAt sets size zero k s p = []
-setsAt sets size (suc l) k s p = pieceAt (inSet sets size k) (4 - inSet sets size k) s p ++ setsAt sets size l (k + 1) s (p + 4 * inSet sets size k)
+-- the eight sets of a vertex: those that are there, then zeros
+unfoldable pub allSets : ℕ → ℕ → List ℕ → ℕ → List ℕ
+allSets sets size s p = setsAt sets size s p ++ replicate ((8 - sets) * 4) 0
 
--- how many words so many sets from set k on have
-unfoldable pub setWords : ℕ → ℕ → ℕ → ℕ → ℕ
-setWords sets size zero k = 0
-setWords sets size (suc l) k = inSet sets size k + setWords sets size l (k + 1)
+-- a row: h words, a words of three, b words of so many, and what comes last
+unfoldable pub partsAt : ℕ → ℕ → ℕ → ℕ → (List ℕ → ℕ → List ℕ) → List ℕ → ℕ → List ℕ
+partsAt h a wide b last s p =
+    pieceAt h 0 s p ++ (pieceAt a (3 - a) s (p + 4 * h) ++ (pieceAt b (wide - b) s (p + 4 * h + 4 * a) ++ last s (p + 4 * h + 4 * a + 4 * b)))
 
 -- a vertex: 3 words, a of a normal, b of a colour, and the sets
-unfoldable pub vertexAt : ℕ → ℕ → ℕ → ℕ → List ℕ → ℕ → List ℕ
-vertexAt a b sets size s p =
-    pieceAt 3 (3 - 3) s p ++ (pieceAt a (3 - a) s (p + 12) ++ (pieceAt b (4 - b) s (p + 12 + 4 * a) ++ setsAt sets size 8 0 s (p + 12 + 4 * a + 4 * b)))
-
-unfoldable pub vertexSize : ℕ → ℕ → ℕ → ℕ → ℕ
-vertexSize a b sets size = 3 + a + b + setWords sets size 8 0
+abbrev pub vertexAt : ℕ → ℕ → ℕ → ℕ → List ℕ → ℕ → List ℕ
+vertexAt a b sets size = partsAt 3 a 4 b (allSets sets size)
 
 -- a key: the frame, a words of a position, b of a scale, c of a rotation
-unfoldable pub keyAt : ℕ → ℕ → ℕ → List ℕ → ℕ → List ℕ
-keyAt a b c s p =
-    pieceAt 1 (1 - 1) s p ++ (pieceAt a (3 - a) s (p + 4) ++ (pieceAt b (3 - b) s (p + 4 + 4 * a) ++ pieceAt c (4 - c) s (p + 4 + 4 * a + 4 * b)))
-
-unfoldable pub keySize : ℕ → ℕ → ℕ → ℕ
-keySize a b c = 1 + a + b + c
+abbrev pub keyAt : ℕ → ℕ → ℕ → List ℕ → ℕ → List ℕ
+keyAt a b c = partsAt 1 a 3 b (pieceAt c (4 - c))
 
 -- so many rows, each of so many words of the file
 unfoldable pub rowsAt : (List ℕ → ℕ → List ℕ) → ℕ → ℕ → List ℕ → ℕ → List ℕ

@@ -10,7 +10,7 @@ ghost use Rattle.layout.specs.Parts.{itemsOf};
 ghost use Rattle.b3d_scene.specs.Rules.{vertexWords};
 ghost use Rattle.b3d_scene.specs.Mask.{ones, spread, vertexMask, keyMask};
 ghost use Rattle.b3d_scene.specs.Tables.{words as tableWords};
-ghost use Rattle.b3d_runs.specs.Pieces.{pieceAt, inSet, setsAt, setWords, vertexAt, vertexSize, keyAt, keySize, rowsAt};
+ghost use Rattle.b3d_runs.specs.Pieces.{pieceAt, allSets, vertexAt, keyAt, rowsAt};
 use wire::Cursor;
 
 // A run of words, then one of zeros.
@@ -69,8 +69,8 @@ fn zero_sets(n: usize, base: usize, out: &mut [u32])
 
 // The eight sets of a vertex.
 fn put_sets(file: &[u8], at: usize, sets: usize, size: usize, base: usize, out: &mut [u32])
-    requires { ⌜ (size ≤ 4) × (sets ≤ 8) × (at + 4 * setWords sets size 8 0 ≤ length (now file)) × (base + 32 ≤ length (now out)) ⌝ }
-    ensures { λ _. ⌜ now (out .exit) ≡ stored (now (out .entry)) base (setsAt sets size 8 0 (now (file .entry)) at) ⌝ }
+    requires { ⌜ (size ≤ 4) × (sets ≤ 8) × (at + 4 * (sets * size) ≤ length (now file)) × (base + 32 ≤ length (now out)) ⌝ }
+    ensures { λ _. ⌜ now (out .exit) ≡ stored (now (out .entry)) base (allSets sets size (now (file .entry)) at) ⌝ }
 {
     let mut k: usize = 0;
     let mut p = at;
@@ -95,7 +95,7 @@ fn put_vertex(
     base: usize,
     out: &mut [u32],
 )
-    requires { ⌜ (a ≤ 3) × (b ≤ 4) × (size ≤ 4) × (sets ≤ 8) × (at + 4 * vertexSize a b sets size ≤ length (now file)) × (base + 42 ≤ length (now out)) ⌝ }
+    requires { ⌜ (a ≤ 3) × (b ≤ 4) × (size ≤ 4) × (sets ≤ 8) × (at + 4 * (3 + a + b + sets * size) ≤ length (now file)) × (base + 42 ≤ length (now out)) ⌝ }
     ensures { λ _. ⌜ now (out .exit) ≡ stored (now (out .entry)) base (vertexAt a b sets size (now (file .entry)) at) ⌝ }
 {
     put_three(file, at, 3, base, out);
@@ -117,7 +117,7 @@ fn put_vertices(
     base: usize,
     out: &mut [u32],
 )
-    requires { ⌜ (a ≤ 3) × (b ≤ 4) × (size ≤ 4) × (sets ≤ 8) × (words ≡ vertexSize a b sets size) × (words ≤ 42) ⌝ }
+    requires { ⌜ (a ≤ 3) × (b ≤ 4) × (size ≤ 4) × (sets ≤ 8) × (words ≡ 3 + a + b + sets * size) × (words ≤ 42) ⌝ }
     requires { ⌜ (from + count * (4 * words) ≤ length (now file)) × (base + count * 42 ≤ length (now out)) ⌝ }
     ensures { λ _. ⌜ now (out .exit) ≡ stored (now (out .entry)) base (rowsAt (vertexAt a b sets size) words count (now (file .entry)) from) ⌝ }
 {
@@ -157,7 +157,7 @@ pub fn fill_vertices(
 
 // One key: a words of a position, b of a scale, c of a rotation.
 fn put_key(file: &[u8], at: usize, a: usize, b: usize, c: usize, base: usize, out: &mut [u32])
-    requires { ⌜ (a ≤ 3) × (b ≤ 3) × (c ≤ 4) × (at + 4 * keySize a b c ≤ length (now file)) × (base + 11 ≤ length (now out)) ⌝ }
+    requires { ⌜ (a ≤ 3) × (b ≤ 3) × (c ≤ 4) × (at + 4 * (1 + a + b + c) ≤ length (now file)) × (base + 11 ≤ length (now out)) ⌝ }
     ensures { λ _. ⌜ now (out .exit) ≡ stored (now (out .entry)) base (keyAt a b c (now (file .entry)) at) ⌝ }
 {
     put_piece(file, at, 1, 0, base, out);
@@ -178,7 +178,7 @@ fn put_keys(
     base: usize,
     out: &mut [u32],
 )
-    requires { ⌜ (a ≤ 3) × (b ≤ 3) × (c ≤ 4) × (words ≡ keySize a b c) × (words ≤ 11) ⌝ }
+    requires { ⌜ (a ≤ 3) × (b ≤ 3) × (c ≤ 4) × (words ≡ 1 + a + b + c) × (words ≤ 11) ⌝ }
     requires { ⌜ (from + count * (4 * words) ≤ length (now file)) × (base + count * 11 ≤ length (now out)) ⌝ }
     ensures { λ _. ⌜ now (out .exit) ≡ stored (now (out .entry)) base (rowsAt (keyAt a b c) words count (now (file .entry)) from) ⌝ }
 {
@@ -208,16 +208,6 @@ pub fn fill_keys(
 {
     let position = wire::size(flags % 2 * 3);
     let scale = wire::size(flags / 2 % 2 * 3);
-    let rotation = wire::size(flags / 4 % 2 * 4);
-    put_keys(
-        file,
-        c.at,
-        position,
-        scale,
-        rotation,
-        words,
-        count,
-        base,
-        out,
-    );
+    let turn = wire::size(flags / 4 % 2 * 4);
+    put_keys(file, c.at, position, scale, turn, words, count, base, out);
 }

@@ -29,7 +29,7 @@ use Rattle.b3d_put_own.proofs.Trimmed.{trimmed, trimmed-rows}
 use Rattle.b3d_put_nodes.specs.Walk.{Sized}
 use Rattle.b3d_put_nodes.proofs.TableLaws.{quotient}
 use Rattle.b3d_put_file.specs.Whole.{OfNodes, OfRest, OfAll, OfScene}
-use Rattle.b3d_write.specs.Writes.{LowRooms, HighRooms}
+use Rattle.b3d_write.specs.Writes.{TableRooms}
 use Rattle.b3d_write.proofs.SoundLaws.{fit, agree, sound-rooms, sound-slots, sound-rows}
 
 -- the names of rows that begin with their cells
@@ -51,34 +51,21 @@ module _ (mode : Mode) (v slots : ℕ) (counts t₁ t₂ t₃ t₄ t₅ t₆ t�
       together-back ns L t (fit mode v slots counts t₁ t₂ t₃ t₄ t₅ t₆ t₇ t₈ t₉ t₁₀ ns t e) (agree mode v slots counts t₁ t₂ t₃ t₄ t₅ t₆ t₇ t₈ t₉ t₁₀ ns t e .version)
       (agree mode v slots counts t₁ t₂ t₃ t₄ t₅ t₆ t₇ t₈ t₉ t₁₀ ns t e .slots) (agree mode v slots counts t₁ t₂ t₃ t₄ t₅ t₆ t₇ t₈ t₉ t₁₀ ns t e .named) (sound-rows mode v slots counts t₁ t₂ t₃ t₄ t₅ t₆ t₇ t₈ t₉ t₁₀ ns t e)
 
-  pub low-rooms : LowRooms (getD counts 0 0) (getD counts 1 0) (partCounts counts) (length t₁) (length t₂) (length t₃) (length t₄) (length t₅)
+  pub table-rooms : TableRooms (getD counts 0 0) (getD counts 1 0) (partCounts counts) (length t₁) (length t₂) (length t₃) (length t₄) (length t₅) (length t₆) (length t₇) (length t₈) (length t₉) (length t₁₀)
   unfolding partCounts
-  low-rooms = let r = rs in record {
+  table-rooms = let r = rs in record {
     textures = r .room₁;
     brushes = r .room₂;
     nodes = r .room₃;
     meshes = r .room₄;
     vertices = r .room₅;
-    few-textures = r .few₁;
-    few-brushes = r .few₂;
-    few-nodes = r .few₃;
-    few-meshes = r .few₄;
-    few-vertices = r .few₅;
-  }
-
-  pub high-rooms : HighRooms (partCounts counts) (length t₆) (length t₇) (length t₈) (length t₉) (length t₁₀)
-  unfolding partCounts
-  high-rooms = let r = rs in record {
     sets = r .room₆;
     triangles = r .room₇;
     weights = r .room₈;
     lists = r .room₉;
     keys = r .room₁₀;
-    few-sets = r .few₆;
-    few-triangles = r .few₇;
-    few-weights = r .few₈;
-    few-lists = r .few₉;
-    few-keys = r .few₁₀;
+    few-textures = r .few₁;
+    few-brushes = r .few₂;
   }
 
   abbrev all : Counts

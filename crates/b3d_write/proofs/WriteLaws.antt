@@ -25,8 +25,8 @@ use Rattle.b3d_check.specs.Lent.{lentOf, partCounts}
 use Rattle.b3d_put_own.specs.Own.{tableRows}
 use Rattle.b3d_put_nodes.specs.Walk.{Sized}
 use Rattle.b3d_put_file.specs.Whole.{OfScene, Some, Each}
-use Rattle.b3d_write.specs.Writes.{sizeNeeded, LowRooms, HighRooms, Writes}
-use Rattle.b3d_write.proofs.SceneLaws.{low-rooms, high-rooms, are-sized, is-scene}
+use Rattle.b3d_write.specs.Writes.{sizeNeeded, TableRooms, Writes}
+use Rattle.b3d_write.proofs.SceneLaws.{table-rooms, are-sized, is-scene}
 
 -- ---- by the size that is needed
 
@@ -94,7 +94,7 @@ module _ (mode : Mode) (L : Lent) (ns : List ℕ) (size : ℕ) (e : size ≡ siz
           let k = le-leb (length (encode (s .scene))) (length out) (omega (arith, s .bytes)) in
           record { answer = ap (λ (n : ℕ). record { number = 0; place = 0; size = n }) (s .bytes) ∙ rw (found, k); output = p .wrote .is ∙ rw (found, k) }
 
--- ---- what `put_low` is asked, and what it leaves
+-- ---- what `put_counted` is asked, and what it leaves
 
 module _ (mode : Mode) (v slots : ℕ) (counts t₁ t₂ t₃ t₄ t₅ t₆ t₇ t₈ t₉ t₁₀ ns : List ℕ) (size : ℕ) (e : size ≡ sizeNeeded (shortest (rebuild mode (lentOf v slots counts t₁ t₂ t₃ t₄ t₅ t₆ t₇ t₈ t₉ t₁₀) ns))) (d : size ≡ 0 → ⊥)
     (all : Counts) (all-is : all ≡ partCounts counts) (n₁ n₂ : ℕ) (first : n₁ ≡ getD counts 0 0) (second : n₂ ≡ getD counts 1 0) where
@@ -104,11 +104,8 @@ module _ (mode : Mode) (v slots : ℕ) (counts t₁ t₂ t₃ t₄ t₅ t₆ t�
   abbrev S : Sound mode L ns size
   S = sound mode L ns size e d
 
-  pub asked-low : LowRooms n₁ n₂ all (length t₁) (length t₂) (length t₃) (length t₄) (length t₅)
-  asked-low = rw (first, second, all-is) (low-rooms mode v slots counts t₁ t₂ t₃ t₄ t₅ t₆ t₇ t₈ t₉ t₁₀ ns (S .scene) (S .is))
-
-  pub asked-high : HighRooms all (length t₆) (length t₇) (length t₈) (length t₉) (length t₁₀)
-  asked-high = rw all-is (high-rooms mode v slots counts t₁ t₂ t₃ t₄ t₅ t₆ t₇ t₈ t₉ t₁₀ ns (S .scene) (S .is))
+  pub asked-rooms : TableRooms n₁ n₂ all (length t₁) (length t₂) (length t₃) (length t₄) (length t₅) (length t₆) (length t₇) (length t₈) (length t₉) (length t₁₀)
+  asked-rooms = rw (first, second, all-is) (table-rooms mode v slots counts t₁ t₂ t₃ t₄ t₅ t₆ t₇ t₈ t₉ t₁₀ ns (S .scene) (S .is))
 
   pub asked-sized : Sized all (take (nodeWidth * all .nodes) t₃) (take (9 * all .meshes) t₄) (take (42 * all .vertices) t₅) (take (4 * all .sets) t₆) (take (3 * all .triangles) t₇) (take (2 * all .weights) t₈) (take (4 * all .lists) t₉) (take (11 * all .keys) t₁₀)
   asked-sized = rw all-is (are-sized mode v slots counts t₁ t₂ t₃ t₄ t₅ t₆ t₇ t₈ t₉ t₁₀ ns (S .scene) (S .is))

@@ -22,28 +22,17 @@ unfoldable pub sizeNeeded : Out (List ℕ) → ℕ
 sizeNeeded (got b) = length b
 sizeNeeded (bad n p) = 0
 
--- the rows of the tables 6 to 10 are in tables of so many words, and no more than the limit
-pub record HighRooms (a : Counts) (l₆ l₇ l₈ l₉ l₁₀ : ℕ) : Type 0 where
-  pub sets : 4 * a .sets ≤ l₆
-  pub triangles : 3 * a .triangles ≤ l₇
-  pub weights : 2 * a .weights ≤ l₈
-  pub lists : 4 * a .lists ≤ l₉
-  pub keys : 11 * a .keys ≤ l₁₀
-  pub few-sets : a .sets ≤ rowLimit
-  pub few-triangles : a .triangles ≤ rowLimit
-  pub few-weights : a .weights ≤ rowLimit
-  pub few-lists : a .lists ≤ rowLimit
-  pub few-keys : a .keys ≤ rowLimit
-
--- and those of the tables 1 to 5
-pub record LowRooms (c₁ c₂ : ℕ) (a : Counts) (l₁ l₂ l₃ l₄ l₅ : ℕ) : Type 0 where
+-- the rows of the ten tables are in tables of so many words; textures and brushes are no more than the limit, the others are so by `Sized`
+pub record TableRooms (c₁ c₂ : ℕ) (a : Counts) (l₁ l₂ l₃ l₄ l₅ l₆ l₇ l₈ l₉ l₁₀ : ℕ) : Type 0 where
   pub textures : 9 * c₁ ≤ l₁
   pub brushes : 17 * c₂ ≤ l₂
   pub nodes : nodeWidth * a .nodes ≤ l₃
   pub meshes : 9 * a .meshes ≤ l₄
   pub vertices : 42 * a .vertices ≤ l₅
+  pub sets : 4 * a .sets ≤ l₆
+  pub triangles : 3 * a .triangles ≤ l₇
+  pub weights : 2 * a .weights ≤ l₈
+  pub lists : 4 * a .lists ≤ l₉
+  pub keys : 11 * a .keys ≤ l₁₀
   pub few-textures : c₁ ≤ rowLimit
   pub few-brushes : c₂ ≤ rowLimit
-  pub few-nodes : a .nodes ≤ rowLimit
-  pub few-meshes : a .meshes ≤ rowLimit
-  pub few-vertices : a .vertices ≤ rowLimit

@@ -10,7 +10,7 @@ ghost use Rattle.b3d_check.specs.Lent.{lentOf};
 ghost use Rattle.b3d_put_own.specs.Own.{tableRows};
 ghost use Rattle.b3d_put_nodes.specs.Walk.{Sized};
 ghost use Rattle.b3d_put_file.specs.Whole.{OfScene, Some, Each};
-ghost use Rattle.b3d_write.specs.Writes.{sizeNeeded, LowRooms, HighRooms, Writes};
+ghost use Rattle.b3d_write.specs.Writes.{sizeNeeded, TableRooms, Writes};
 use b3d_scene::Counts;
 use b3d_scene::Mode;
 use b3d_scene::NODE_WIDTH;
@@ -65,55 +65,8 @@ fn needed(
     n
 }
 
-// The file, the tables 6 to 10 being lent with more words than their rows.
-fn put_high(
-    names: &[u8],
-    version: u32,
-    slots: u32,
-    t1: &[u32],
-    t2: &[u32],
-    t3: &[u32],
-    t4: &[u32],
-    t5: &[u32],
-    t6: &[u32],
-    t7: &[u32],
-    t8: &[u32],
-    t9: &[u32],
-    t10: &[u32],
-    all: Counts,
-    out: &mut [u8],
-) -> usize
-    requires { ⌜ HighRooms all (length (now t6)) (length (now t7)) (length (now t8)) (length (now t9)) (length (now t10)) ⌝ }
-    requires { ⌜ Sized all (now t3) (now t4) (now t5) (take (4 * all .sets) (now t6)) (take (3 * all .triangles) (now t7)) (take (2 * all .weights) (now t8)) (take (4 * all .lists) (now t9)) (take (11 * all .keys) (now t10)) ⌝ }
-    requires { ⌜ Some (OfScene (now names) (now t1) (now t2) (tableRows (now t3) (now t4) (now t5) (take (4 * all .sets) (now t6)) (take (3 * all .triangles) (now t7)) (take (2 * all .weights) (now t8)) (take (4 * all .lists) (now t9)) (take (11 * all .keys) (now t10))) version slots) encode (now out) ⌝ }
-    ensures { λ r. ⌜ Each (OfScene (now (names .entry)) (now (t1 .entry)) (now (t2 .entry)) (tableRows (now (t3 .entry)) (now (t4 .entry)) (now (t5 .entry)) (take (4 * all .sets) (now (t6 .entry))) (take (3 * all .triangles) (now (t7 .entry))) (take (2 * all .weights) (now (t8 .entry))) (take (4 * all .lists) (now (t9 .entry))) (take (11 * all .keys) (now (t10 .entry)))) version slots) encode (now (out .entry)) (now (out .exit)) r ⌝ }
-{
-    let n6 = 4 * all.sets;
-    let n7 = 3 * all.triangles;
-    let n8 = 2 * all.weights;
-    let n9 = 4 * all.lists;
-    let n10 = 11 * all.keys;
-    b3d_put_file::put_file(
-        names,
-        version,
-        slots,
-        t1,
-        t2,
-        t3,
-        t4,
-        t5,
-        &t6[..n6],
-        &t7[..n7],
-        &t8[..n8],
-        &t9[..n9],
-        &t10[..n10],
-        all,
-        out,
-    )
-}
-
 // The file, all tables being lent with more words than their rows.
-fn put_low(
+fn put_counted(
     names: &[u8],
     version: u32,
     slots: u32,
@@ -132,8 +85,7 @@ fn put_low(
     all: Counts,
     out: &mut [u8],
 ) -> usize
-    requires { ⌜ LowRooms textures brushes all (length (now t1)) (length (now t2)) (length (now t3)) (length (now t4)) (length (now t5)) ⌝ }
-    requires { ⌜ HighRooms all (length (now t6)) (length (now t7)) (length (now t8)) (length (now t9)) (length (now t10)) ⌝ }
+    requires { ⌜ TableRooms textures brushes all (length (now t1)) (length (now t2)) (length (now t3)) (length (now t4)) (length (now t5)) (length (now t6)) (length (now t7)) (length (now t8)) (length (now t9)) (length (now t10)) ⌝ }
     requires { ⌜ Sized all (take (nodeWidth * all .nodes) (now t3)) (take (9 * all .meshes) (now t4)) (take (42 * all .vertices) (now t5)) (take (4 * all .sets) (now t6)) (take (3 * all .triangles) (now t7)) (take (2 * all .weights) (now t8)) (take (4 * all .lists) (now t9)) (take (11 * all .keys) (now t10)) ⌝ }
     requires { ⌜ Some (OfScene (now names) (take (9 * textures) (now t1)) (take (17 * brushes) (now t2)) (tableRows (take (nodeWidth * all .nodes) (now t3)) (take (9 * all .meshes) (now t4)) (take (42 * all .vertices) (now t5)) (take (4 * all .sets) (now t6)) (take (3 * all .triangles) (now t7)) (take (2 * all .weights) (now t8)) (take (4 * all .lists) (now t9)) (take (11 * all .keys) (now t10))) version slots) encode (now out) ⌝ }
     ensures { λ r. ⌜ Each (OfScene (now (names .entry)) (take (9 * textures) (now (t1 .entry))) (take (17 * brushes) (now (t2 .entry))) (tableRows (take (nodeWidth * all .nodes) (now (t3 .entry))) (take (9 * all .meshes) (now (t4 .entry))) (take (42 * all .vertices) (now (t5 .entry))) (take (4 * all .sets) (now (t6 .entry))) (take (3 * all .triangles) (now (t7 .entry))) (take (2 * all .weights) (now (t8 .entry))) (take (4 * all .lists) (now (t9 .entry))) (take (11 * all .keys) (now (t10 .entry)))) version slots) encode (now (out .entry)) (now (out .exit)) r ⌝ }
@@ -143,7 +95,12 @@ fn put_low(
     let n3 = NODE_WIDTH * all.nodes;
     let n4 = 9 * all.meshes;
     let n5 = 42 * all.vertices;
-    put_high(
+    let n6 = 4 * all.sets;
+    let n7 = 3 * all.triangles;
+    let n8 = 2 * all.weights;
+    let n9 = 4 * all.lists;
+    let n10 = 11 * all.keys;
+    b3d_put_file::put_file(
         names,
         version,
         slots,
@@ -152,11 +109,11 @@ fn put_low(
         &t3[..n3],
         &t4[..n4],
         &t5[..n5],
-        t6,
-        t7,
-        t8,
-        t9,
-        t10,
+        &t6[..n6],
+        &t7[..n7],
+        &t8[..n8],
+        &t9[..n9],
+        &t10[..n10],
         all,
         out,
     )
@@ -218,7 +175,7 @@ pub fn write(
     let all = b3d_check::sizes(counts);
     let textures = wire::size(counts[0]);
     let brushes = wire::size(counts[1]);
-    put_low(
+    put_counted(
         names,
         version,
         slots,

@@ -11,10 +11,11 @@ use Rattle.wire.specs.Test.{if}
 use Rattle.layout.specs.Out.{Out, got, bad, check, _>>=_}
 use Rattle.layout.specs.Rows.{eachOf, mostRows}
 use Rattle.layout.proofs.Outs.{by-test}
-use Rattle.cal3d_scene.specs.Meshes.{Vertex, Submesh, Mesh}
-use Rattle.cal3d_scene.specs.Tables.{meshTables, submeshRows, vertexRows, verticesOf, meshRows}
+use Rattle.cal3d_scene.specs.Meshes.{Submesh, Mesh}
+use Rattle.cal3d_scene.specs.Tables.{meshTables, submeshRows, verticesOf, meshRows}
 use Rattle.cal3d_scene.specs.Answers.{meshAnswer}
 use Rattle.cal3d_scene.specs.declared.MeshAnswer.{MeshAnswer}
+use Rattle.cal3d_mesh_rows.proofs.Widths.{vertex-rows-length}
 use Rattle.cal3d_vertices.specs.Vertices.{mapsIn, influencesIn}
 use Rattle.cal3d_submeshes.specs.Contents.{contentsIn, Within}
 use Rattle.cal3d_submeshes.specs.declared.Contents.{Contents}
@@ -106,18 +107,13 @@ unfolding submeshRows
 submesh-rows v g f [] = refl
 submesh-rows v g f (x ∷ l) = ap suc (submesh-rows (v + length (x .vertices)) (g + length (x .springs)) (f + length (x .faces)) l)
 
-vertex-rows : (m i : ℕ) (l : List Vertex) → length (vertexRows m i l) ≡ length l
-unfolding vertexRows
-vertex-rows m i [] = refl
-vertex-rows m i (x ∷ l) = ap suc (vertex-rows (m + length (x .maps)) (i + length (x .influences)) l)
-
 -- the counts of a mesh
 abbrev pub countsOf : Mesh → List ℕ
 countsOf t = rowCounts (length (t .submeshes)) (contentsIn (t .submeshes))
 
 pub counts-are : (t : Mesh) → map (λ (k : ℕ). length (meshRows k t)) meshTables ≡ countsOf t
 unfolding meshRows if contentsIn mapsIn influencesIn
-counts-are t = rw (submesh-rows 0 0 0 (t .submeshes), vertex-rows 0 0 (verticesOf (t .submeshes)))
+counts-are t = rw (submesh-rows 0 0 0 (t .submeshes), vertex-rows-length 0 0 (verticesOf (t .submeshes)))
 
 -- 10 at the first table that is over
 unfoldable pub overOut : ℕ → Out (Unit {0})
@@ -139,7 +135,7 @@ over-cases true true true true true true = refl
 pub limits-are : (t : Mesh) → eachOf 10 (λ k. leb (length (meshRows k t)) mostRows) meshTables ≡ overOut (firstOver 1 (countsOf t))
 unfolding eachOf firstOver meshRows if contentsIn mapsIn influencesIn
 limits-are t =
-    rw (submesh-rows 0 0 0 (t .submeshes), vertex-rows 0 0 (verticesOf (t .submeshes)))
+    rw (submesh-rows 0 0 0 (t .submeshes), vertex-rows-length 0 0 (verticesOf (t .submeshes)))
     (over-cases
     (leb (length (t .submeshes)) mostRows)
     (leb (contentsIn (t .submeshes) .vertices) mostRows)

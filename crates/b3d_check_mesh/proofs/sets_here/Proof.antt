@@ -1,7 +1,7 @@
 -- `sets_here` looks at each row with its items. The loop has passed those before i; its measure is how many are left.
 use Prim.Native.Nat.{_-_}
 use Rattle.b3d_sound.specs.Check.{setHere}
-use Rattle.b3d_check_mesh.proofs.Runs.{RunsFrom, runs-next, runs-laws}
+use Rattle.b3d_check_lists.proofs.Runs.{RunsFrom, runs-next, runs-laws}
 use borrow.Author.Needs.{needs}
 use Rattle.b3d_check_mesh.proofs.sets_here.Statement.{statement}
 use Rattle.b3d_check_mesh.proofs.sets_here.Tie as tie

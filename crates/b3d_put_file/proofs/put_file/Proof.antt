@@ -1,5 +1,5 @@
--- `put_file` writes what follows the version, and then its head before it.
-use Rattle.b3d_put_file.proofs.FileLaws.{file-laws}
+-- `put_file` writes the textures and the rest, and then the head of the file before them.
+use Rattle.b3d_put_file.proofs.FileLaws.{file-fits, file-there, file-room, file-inside, file-some, file-asks, file-each}
 use borrow.Author.Needs.{needs}
 use Rattle.b3d_put_file.proofs.put_file.Statement.{statement}
 use Rattle.b3d_put_file.proofs.put_file.Tie as tie
@@ -8,11 +8,17 @@ pub put-file-spec : {M : Type 1} → statement M
 put-file-spec =
     tie.close
     (tie.spec
-    (λ c. search (file-laws, needs))
-    (λ c. search (file-laws, needs))
+    (λ c. search (file-fits, needs))
+    (λ c. search (file-fits, needs))
     (λ c. search needs)
-    (λ c κs. search (file-laws, needs))
-    (λ c κs. search (file-laws, needs))
+    (λ c κs. (search file-there, search file-room))
+    (λ c. search needs)
+    (λ c. search file-inside)
+    (λ c. search file-inside)
+    (λ c. search needs)
+    (λ c κs. (search needs, search file-some))
+    (λ c. search needs)
+    (λ c κs. file-asks _ _ _ _ _ _ _ (c .before .before .before .before .before .before .before .before .before .before .before .before .before .before .before .before .before .before .before .before .before .pre .1) _ _ (c .before .before .before .before .before .before .before .put-textures .ensures) _ _ (c .before .before .before .put-rest .ensures))
     (λ c. search needs)
     (λ c. search needs)
-    (λ c. search (file-laws, needs)))
+    (λ c. file-each _ _ _ _ _ _ _ (c .before .before .before .before .before .before .before .before .before .before .before .before .before .before .before .before .before .before .before .before .before .before .before .before .pre .1) _ _ (c .before .before .before .before .before .before .before .before .before .before .put-textures .ensures) _ _ (c .before .before .before .before .before .before .put-rest .ensures) _ (c .before .before .put-opening .ensures)))

@@ -1,5 +1,5 @@
 -- `put_key` stores the parts of a key one after the other.
-use Rattle.b3d_runs.proofs.Runs.{key-laws, take-laws, key-room-3, key-put, take-4}
+use Rattle.b3d_runs.proofs.Runs.{room-1, room-2, room-3, row-put, part-1, part-2, part-3, part-4}
 use borrow.Author.Needs.{needs}
 use Rattle.b3d_runs.proofs.put_key.Statement.{statement}
 use Rattle.b3d_runs.proofs.put_key.Tie as tie
@@ -8,21 +8,21 @@ pub put-key-spec : {M : Type 1} → statement M
 put-key-spec =
     tie.close
     (tie.spec
-    (λ c κs. search (key-laws, take-laws, needs))
-    (λ c. search (key-laws, take-laws, needs))
-    (λ c. search (key-laws, take-laws, needs))
-    (λ c κs. search (key-laws, take-laws, needs))
-    (λ c. search (key-laws, take-laws, needs))
-    (λ c. search (key-laws, take-laws, needs))
-    (λ c. search (key-laws, take-laws, needs))
-    (λ c. search (key-laws, take-laws, needs))
-    (λ c κs. search (key-laws, take-laws, needs))
-    (λ c. search (key-laws, take-laws, needs))
-    (λ c. search (key-laws, take-laws, needs))
-    (λ c. search (key-laws, take-laws, needs))
-    (λ c. search (key-laws, take-laws, needs))
-    (λ c. search (key-laws, take-laws, needs))
-    (λ c. search (key-laws, take-laws, needs))
-    (λ c κs. (search (take-4, needs), search needs, search (key-room-3, needs)))
-    (λ c. search (key-laws, take-laws, needs))
-    (λ c. search (key-put, needs)))
+    (λ c κs. search (part-1 1, needs))
+    (λ c. search (part-1 1, part-2 1, part-3 1, needs))
+    (λ c. search (part-1 1, part-2 1, part-3 1, needs))
+    (λ c κs. search (room-1 1 3 4, part-2 1, needs))
+    (λ c. search (part-1 1, part-2 1, part-3 1, needs))
+    (λ c. search (part-1 1, part-2 1, part-3 1, needs))
+    (λ c. search (part-1 1, part-2 1, part-3 1, needs))
+    (λ c. search (part-1 1, part-2 1, part-3 1, needs))
+    (λ c κs. search (room-2 1 3 4, part-3 1, needs))
+    (λ c. search (part-1 1, part-2 1, part-3 1, needs))
+    (λ c. search (part-1 1, part-2 1, part-3 1, needs))
+    (λ c. search (part-1 1, part-2 1, part-3 1, needs))
+    (λ c. search (part-1 1, part-2 1, part-3 1, needs))
+    (λ c. search (part-1 1, part-2 1, part-3 1, needs))
+    (λ c. search (part-1 1, part-2 1, part-3 1, needs))
+    (λ c κs. (search (part-4 1, needs), search needs, search (room-3 1 3 4, needs)))
+    (λ c. search (part-1 1, part-2 1, part-3 1, needs))
+    (λ c. search (row-put 1 3 4, needs)))

@@ -1,6 +1,6 @@
 -- `put_keys` stores keys. The loop has stored those before the last `left`.
 use Rattle.b3d_runs.specs.Pieces.{keyAt}
-use Rattle.b3d_runs.proofs.Runs.{RowsLeft, rows-laws, key-rows}
+use Rattle.b3d_runs.proofs.Runs.{RowsLeft, rows-laws, wide-laws}
 use borrow.Author.Needs.{needs}
 use Rattle.b3d_runs.proofs.put_keys.Statement.{statement}
 use Rattle.b3d_runs.proofs.put_keys.Tie as tie
@@ -17,13 +17,13 @@ put-keys-spec =
     (tie.spec
     Inv-loop
     μ-loop
-    (λ c. search (rows-laws, key-rows, needs))
-    (λ c κs. search (rows-laws, key-rows, needs))
-    (λ c. search (rows-laws, key-rows, needs))
-    (λ c. search (rows-laws, key-rows, needs))
-    (λ c. search (rows-laws, key-rows, needs))
-    (λ c. search (rows-laws, key-rows, needs))
-    (λ c. search (rows-laws, key-rows, needs))
-    (λ c. search (rows-laws, key-rows, needs))
-    (λ c. search (rows-laws, key-rows, needs))
-    (λ c. search (rows-laws, key-rows, needs)))
+    (λ c. search (rows-laws, wide-laws, needs))
+    (λ c κs. search (rows-laws, wide-laws, needs))
+    (λ c. search (rows-laws, wide-laws, needs))
+    (λ c. search (rows-laws, wide-laws, needs))
+    (λ c. search (rows-laws, wide-laws, needs))
+    (λ c. search (rows-laws, wide-laws, needs))
+    (λ c. search (rows-laws, wide-laws, needs))
+    (λ c. search (rows-laws, wide-laws, needs))
+    (λ c. search (rows-laws, wide-laws, needs))
+    (λ c. search (rows-laws, wide-laws, needs)))

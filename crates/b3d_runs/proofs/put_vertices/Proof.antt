@@ -1,7 +1,7 @@
 -- `put_vertices` stores vertices. The loop has stored those before the last `left`.
 use borrow.Author.Needs.{needs}
 use Rattle.b3d_runs.specs.Pieces.{vertexAt}
-use Rattle.b3d_runs.proofs.Runs.{RowsLeft, rows-laws, vertex-rows}
+use Rattle.b3d_runs.proofs.Runs.{RowsLeft, rows-laws, wide-laws}
 use Rattle.b3d_runs.proofs.put_vertices.Statement.{statement}
 use Rattle.b3d_runs.proofs.put_vertices.Tie as tie
 
@@ -17,13 +17,13 @@ put-vertices-spec =
     (tie.spec
     Inv-loop
     μ-loop
-    (λ c. search (rows-laws, vertex-rows, needs))
-    (λ c κs. search (rows-laws, vertex-rows, needs))
+    (λ c. search (rows-laws, wide-laws, needs))
+    (λ c κs. search (rows-laws, wide-laws, needs))
     (λ c. search needs)
-    (λ c. search (rows-laws, vertex-rows, needs))
-    (λ c. search (rows-laws, vertex-rows, needs))
+    (λ c. search (rows-laws, wide-laws, needs))
+    (λ c. search (rows-laws, wide-laws, needs))
     (λ c. search needs)
     (λ c. search needs)
-    (λ c. search (rows-laws, vertex-rows, needs))
-    (λ c. search (rows-laws, vertex-rows, needs))
-    (λ c. search (rows-laws, vertex-rows, needs)))
+    (λ c. search (rows-laws, wide-laws, needs))
+    (λ c. search (rows-laws, wide-laws, needs))
+    (λ c. search (rows-laws, wide-laws, needs)))

@@ -1,5 +1,5 @@
 -- `write` answers as the definition, and writes the file where there is one with room.
-use Rattle.b3d_write.proofs.WriteLaws.{write-unsound, write-fits, write-short, asked-low, asked-high, asked-sized, asked-some, file-done}
+use Rattle.b3d_write.proofs.WriteLaws.{write-unsound, write-fits, write-short, asked-rooms, asked-sized, asked-some, file-done}
 use borrow.Author.Needs.{needs}
 use Rattle.b3d_write.proofs.write.Statement.{statement}
 use Rattle.b3d_write.proofs.write.Tie as tie
@@ -17,7 +17,7 @@ write-spec =
     (λ c κs. search needs)
     (λ c. search needs)
     (λ c κs. search needs)
-    (λ c κs. (asked-low _ _ _ _ _ _ _ _ _ _ _ _ _ _ _ _ (c .before .before .before .before .before .before .before .before .needed .ensures) (c .before .before .before .before .before .before .before .if1 .left) _ (c .before .before .before .before .before .sizes .ensures) _ _ (c .before .before .before .size .ensures) (c .before .size2 .ensures), (asked-high _ _ _ _ _ _ _ _ _ _ _ _ _ _ _ _ (c .before .before .before .before .before .before .before .before .needed .ensures) (c .before .before .before .before .before .before .before .if1 .left) _ (c .before .before .before .before .before .sizes .ensures) _ _ (c .before .before .before .size .ensures) (c .before .size2 .ensures), (asked-sized _ _ _ _ _ _ _ _ _ _ _ _ _ _ _ _ (c .before .before .before .before .before .before .before .before .needed .ensures) (c .before .before .before .before .before .before .before .if1 .left) _ (c .before .before .before .before .before .sizes .ensures) _ _ (c .before .before .before .size .ensures) (c .before .size2 .ensures), asked-some _ _ _ _ _ _ _ _ _ _ _ _ _ _ _ _ (c .before .before .before .before .before .before .before .before .needed .ensures) (c .before .before .before .before .before .before .before .if1 .left) _ (c .before .before .before .before .before .sizes .ensures) _ _ (c .before .before .before .size .ensures) (c .before .size2 .ensures) _ (c .before .before .before .before .before .before .if2 .left)))))
+    (λ c κs. (asked-rooms _ _ _ _ _ _ _ _ _ _ _ _ _ _ _ _ (c .before .before .before .before .before .before .before .before .needed .ensures) (c .before .before .before .before .before .before .before .if1 .left) _ (c .before .before .before .before .before .sizes .ensures) _ _ (c .before .before .before .size .ensures) (c .before .size2 .ensures), (asked-sized _ _ _ _ _ _ _ _ _ _ _ _ _ _ _ _ (c .before .before .before .before .before .before .before .before .needed .ensures) (c .before .before .before .before .before .before .before .if1 .left) _ (c .before .before .before .before .before .sizes .ensures) _ _ (c .before .before .before .size .ensures) (c .before .size2 .ensures), asked-some _ _ _ _ _ _ _ _ _ _ _ _ _ _ _ _ (c .before .before .before .before .before .before .before .before .needed .ensures) (c .before .before .before .before .before .before .before .if1 .left) _ (c .before .before .before .before .before .sizes .ensures) _ _ (c .before .before .before .size .ensures) (c .before .size2 .ensures) _ (c .before .before .before .before .before .before .if2 .left))))
     (λ c. write-fits _ _ _ _ (c .before .before .before .before .before .before .before .before .before .before .before .needed .ensures) (c .before .before .before .before .before .before .before .before .before .before .if1 .left))
     (λ c. search needs)
-    (λ c. file-done _ _ _ _ _ _ _ _ _ _ _ _ _ _ _ _ (c .before .before .before .before .before .before .before .before .before .before .before .needed .ensures) (c .before .before .before .before .before .before .before .before .before .before .if1 .left) _ (c .before .before .before .before .before .before .before .before .sizes .ensures) _ _ (c .before .before .before .before .before .before .size .ensures) (c .before .before .before .before .size2 .ensures) _ (c .before .before .before .before .before .before .before .before .before .if2 .left) _ _ (c .before .before .put-low .ensures)))
+    (λ c. file-done _ _ _ _ _ _ _ _ _ _ _ _ _ _ _ _ (c .before .before .before .before .before .before .before .before .before .before .before .needed .ensures) (c .before .before .before .before .before .before .before .before .before .before .if1 .left) _ (c .before .before .before .before .before .before .before .before .sizes .ensures) _ _ (c .before .before .before .before .before .before .size .ensures) (c .before .before .before .before .size2 .ensures) _ (c .before .before .before .before .before .before .before .before .before .if2 .left) _ _ (c .before .before .put-counted .ensures)))

@@ -1,9 +1,9 @@
 -- `list_here` answers `listHere` of the row by its parts.
 use Rattle.b3d_check_rows.proofs.Ands.{ands}
-use Rattle.b3d_check_mesh.proofs.ItemLaws.{list-parts}
+use Rattle.b3d_check_lists.proofs.ListLaws.{list-parts}
 use borrow.Author.Needs.{needs}
-use Rattle.b3d_check_mesh.proofs.list_here.Statement.{statement}
-use Rattle.b3d_check_mesh.proofs.list_here.Tie as tie
+use Rattle.b3d_check_lists.proofs.list_here.Statement.{statement}
+use Rattle.b3d_check_lists.proofs.list_here.Tie as tie
 
 pub list-here-spec : {M : Type 1} → statement M
 list-here-spec =

@@ -1,10 +1,10 @@
 -- `lists_here` looks at each row with its items. The loop has passed those before i; its measure is how many are left.
 use Prim.Native.Nat.{_-_}
 use Rattle.b3d_sound.specs.Check.{listHere}
-use Rattle.b3d_check_mesh.proofs.Runs.{RunsFrom, runs-next, runs-laws}
+use Rattle.b3d_check_lists.proofs.Runs.{RunsFrom, runs-next, runs-laws}
 use borrow.Author.Needs.{needs}
-use Rattle.b3d_check_mesh.proofs.lists_here.Statement.{statement}
-use Rattle.b3d_check_mesh.proofs.lists_here.Tie as tie
+use Rattle.b3d_check_lists.proofs.lists_here.Statement.{statement}
+use Rattle.b3d_check_lists.proofs.lists_here.Tie as tie
 
 abbrev Inv-loop : tie.InvT-loop
 Inv-loop t first count keys from total end r₀ i₀ r i = RunsFrom (listHere) 11 from first count t total keys end r i

@@ -1,9 +1,9 @@
 -- `end_of` adds up cell 3. The loop has counted the rows before i; its measure is how many are left.
 use Prim.Native.Nat.{_-_}
-use Rattle.b3d_check_mesh.proofs.EndLaws.{EndFrom, end-laws}
+use Rattle.b3d_check_lists.proofs.EndLaws.{EndFrom, end-laws}
 use borrow.Author.Needs.{needs}
-use Rattle.b3d_check_mesh.proofs.end_of.Statement.{statement}
-use Rattle.b3d_check_mesh.proofs.end_of.Tie as tie
+use Rattle.b3d_check_lists.proofs.end_of.Statement.{statement}
+use Rattle.b3d_check_lists.proofs.end_of.Tie as tie
 
 abbrev Inv-loop : tie.InvT-loop
 Inv-loop t first count from end r₀ i₀ r i = EndFrom from first count t end r i

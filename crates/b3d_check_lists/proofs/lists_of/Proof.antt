@@ -1,9 +1,9 @@
 -- `lists_of` stops at the first row that names another node. The loop has passed those before i; its measure is how many are left.
 use Prim.Native.Nat.{_-_}
-use Rattle.b3d_check_mesh.proofs.MineLaws.{MineFrom, mine-laws}
+use Rattle.b3d_check_lists.proofs.MineLaws.{MineFrom, mine-laws}
 use borrow.Author.Needs.{needs}
-use Rattle.b3d_check_mesh.proofs.lists_of.Statement.{statement}
-use Rattle.b3d_check_mesh.proofs.lists_of.Tie as tie
+use Rattle.b3d_check_lists.proofs.lists_of.Statement.{statement}
+use Rattle.b3d_check_lists.proofs.lists_of.Tie as tie
 
 abbrev Inv-loop : tie.InvT-loop
 Inv-loop node t first total i₀ i = MineFrom node first total t i

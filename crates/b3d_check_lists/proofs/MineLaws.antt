@@ -11,7 +11,7 @@ use Rattle.wire.specs.Test.{if}
 use Rattle.b3d_scene.specs.Rebuild.{mine}
 use Rattle.b3d_check_rows.specs.Rows.{rowAt, rowsAt}
 use Rattle.b3d_check_rows.proofs.Rows.{row-first, rows-none, rows-next}
-use Rattle.b3d_check_mesh.specs.Parts.{MineTo}
+use Rattle.b3d_check_lists.specs.Mine.{MineTo}
 
 -- the rows before i are the node's
 pub record MineFrom (node first all : ℕ) (t : List ℕ) (i : ℕ) : Type 0 where

@@ -1,0 +1,2 @@
+-- Key lists among the rows of lent tables.
+pub mod Mine
