@@ -1,6 +1,8 @@
 -- What the writer is lent, as code has it, and which of it code may rely on.
+use mathlib.Core.Path.{_≡_}
 use Prim.Native.Nat.{ℕ, _-_, _*_, _≤_}
 use mathlib.Core.Bool.{Bool, _&&_}
+use mathlib.Core.Option.{none, some}
 use mathlib.Core.List.{List, []}
 use lib.ListN.{getD}
 use lib.Dec.{leb, eqb}
@@ -8,7 +10,7 @@ use Rattle.wire.specs.Test.{if}
 use Rattle.layout.specs.Fit.{all}
 use Rattle.layout.specs.Rules.{holds}
 use Rattle.b3d_scene.specs.Colours.{passes}
-use Rattle.b3d_scene.specs.Rebuild.{Lent, cut}
+use Rattle.b3d_scene.specs.Rebuild.{Lent, cut, together, rebuild}
 use Rattle.b3d_scene.specs.Rules.{version, rowLimit}
 use Rattle.b3d_scene.specs.declared.Counts.{Counts}
 use Rattle.b3d_scene.specs.declared.Mode.{Mode}
@@ -35,6 +37,10 @@ lentOf version slots counts t₁ t₂ t₃ t₄ t₅ t₆ t₇ t₈ t₉ t₁₀
           (if (eqb k 9) t₉
           (if (eqb k 10) t₁₀ [])))))))));
     }
+
+-- r says whether lent tables, with names in ns, are those of a scene
+abbrev pub Says : Mode → Lent → List ℕ → Bool → Type 0
+Says mode L ns r = rebuild mode L ns ≡ if r (some (together ns L)) none
 
 -- the counts of the tables 3 to 10
 unfoldable pub partCounts : List ℕ → Counts

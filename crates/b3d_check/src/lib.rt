@@ -1,12 +1,10 @@
 // Does some accepted file have these lent tables? The writer's check of soundness, row by row.
 ghost use mathlib.Core.Path.{_≡_};
 ghost use Prim.Native.Nat.{_*_, _≤_};
-ghost use mathlib.Core.Option.{none, some};
 ghost use lib.ListN.{length, getD};
 ghost use Rattle.wire.specs.Test.{if};
-ghost use Rattle.b3d_scene.specs.Rebuild.{together, rebuild};
 ghost use Rattle.b3d_sound.specs.Check.{checkIn};
-ghost use Rattle.b3d_check.specs.Lent.{lentOf, partCounts, fitsIn, rooms, Rooms, rowsPart, coloursPart};
+ghost use Rattle.b3d_check.specs.Lent.{lentOf, Says, partCounts, fitsIn, rooms, Rooms, rowsPart, coloursPart};
 use b3d_scene::Counts;
 use b3d_scene::Mode;
 use b3d_scene::NODE_WIDTH;
@@ -37,7 +35,9 @@ fn rooms_here(
     t9: &[u32],
     t10: &[u32],
 ) -> bool
-    ensures { λ r. ⌜ r ≡ rooms (now (counts .entry)) (length (now (t1 .entry))) (length (now (t2 .entry))) (length (now (t3 .entry))) (length (now (t4 .entry))) (length (now (t5 .entry))) (length (now (t6 .entry))) (length (now (t7 .entry))) (length (now (t8 .entry))) (length (now (t9 .entry))) (length (now (t10 .entry))) ⌝ }
+    ensures { λ r. ⌜ r ≡ rooms (now (counts .entry))
+        (length (now (t1 .entry))) (length (now (t2 .entry))) (length (now (t3 .entry))) (length (now (t4 .entry))) (length (now (t5 .entry)))
+        (length (now (t6 .entry))) (length (now (t7 .entry))) (length (now (t8 .entry))) (length (now (t9 .entry))) (length (now (t10 .entry))) ⌝ }
 {
     let b1 = fits_in(counts[0], 9, t1.len());
     let b2 = fits_in(counts[1], 17, t2.len());
@@ -86,8 +86,11 @@ fn rows_here(
     t10: &[u32],
     names: &[u8],
 ) -> bool
-    requires { ⌜ Rooms (now counts) (length (now t1)) (length (now t2)) (length (now t3)) (length (now t4)) (length (now t5)) (length (now t6)) (length (now t7)) (length (now t8)) (length (now t9)) (length (now t10)) ⌝ }
-    ensures { λ r. ⌜ r ≡ rowsPart (now (names .entry)) version slots (now (counts .entry)) (now (t1 .entry)) (now (t2 .entry)) (now (t3 .entry)) (now (t4 .entry)) (now (t5 .entry)) (now (t6 .entry)) (now (t7 .entry)) (now (t8 .entry)) (now (t9 .entry)) (now (t10 .entry)) ⌝ }
+    requires { ⌜ Rooms (now counts) (length (now t1)) (length (now t2)) (length (now t3)) (length (now t4)) (length (now t5))
+        (length (now t6)) (length (now t7)) (length (now t8)) (length (now t9)) (length (now t10)) ⌝ }
+    ensures { λ r. ⌜ r ≡ rowsPart (now (names .entry)) version slots (now (counts .entry))
+        (now (t1 .entry)) (now (t2 .entry)) (now (t3 .entry)) (now (t4 .entry)) (now (t5 .entry))
+        (now (t6 .entry)) (now (t7 .entry)) (now (t8 .entry)) (now (t9 .entry)) (now (t10 .entry)) ⌝ }
 {
     let textures = counts[0];
     let brushes = counts[1];
@@ -143,7 +146,9 @@ pub fn check(
     t10: &[u32],
     names: &[u8],
 ) -> bool
-    ensures { λ r. ⌜ r ≡ checkIn mode (lentOf version slots (now (counts .entry)) (now (t1 .entry)) (now (t2 .entry)) (now (t3 .entry)) (now (t4 .entry)) (now (t5 .entry)) (now (t6 .entry)) (now (t7 .entry)) (now (t8 .entry)) (now (t9 .entry)) (now (t10 .entry))) (now (names .entry)) ⌝ }
+    ensures { λ r. ⌜ r ≡ checkIn mode (lentOf version slots (now (counts .entry))
+        (now (t1 .entry)) (now (t2 .entry)) (now (t3 .entry)) (now (t4 .entry)) (now (t5 .entry))
+        (now (t6 .entry)) (now (t7 .entry)) (now (t8 .entry)) (now (t9 .entry)) (now (t10 .entry))) (now (names .entry)) ⌝ }
 {
     if !rooms_here(counts, t1, t2, t3, t4, t5, t6, t7, t8, t9, t10) {
         return false;
@@ -188,7 +193,9 @@ pub fn sound(
     t10: &[u32],
     names: &[u8],
 ) -> bool
-    ensures { λ r. ⌜ rebuild mode (lentOf version slots (now (counts .entry)) (now (t1 .entry)) (now (t2 .entry)) (now (t3 .entry)) (now (t4 .entry)) (now (t5 .entry)) (now (t6 .entry)) (now (t7 .entry)) (now (t8 .entry)) (now (t9 .entry)) (now (t10 .entry))) (now (names .entry)) ≡ if r (some (together (now (names .entry)) (lentOf version slots (now (counts .entry)) (now (t1 .entry)) (now (t2 .entry)) (now (t3 .entry)) (now (t4 .entry)) (now (t5 .entry)) (now (t6 .entry)) (now (t7 .entry)) (now (t8 .entry)) (now (t9 .entry)) (now (t10 .entry))))) none ⌝ }
+    ensures { λ r. ⌜ Says mode (lentOf version slots (now (counts .entry))
+        (now (t1 .entry)) (now (t2 .entry)) (now (t3 .entry)) (now (t4 .entry)) (now (t5 .entry))
+        (now (t6 .entry)) (now (t7 .entry)) (now (t8 .entry)) (now (t9 .entry)) (now (t10 .entry))) (now (names .entry)) r ⌝ }
 {
     check(
         mode,

@@ -88,7 +88,8 @@ pub fn fill_tables(
     table9: &mut [u32],
     table10: &mut [u32],
 )
-    requires { ⌜ Fillable (now file) rows (length (now table1) ∷ length (now table2) ∷ length (now table3) ∷ length (now table4) ∷ length (now table5) ∷ length (now table6) ∷ length (now table7) ∷ length (now table8) ∷ length (now table9) ∷ length (now table10) ∷ []) ⌝ }
+    requires { ⌜ Fillable (now file) rows (length (now table1) ∷ length (now table2) ∷ length (now table3) ∷ length (now table4) ∷ length (now table5)
+        ∷ length (now table6) ∷ length (now table7) ∷ length (now table8) ∷ length (now table9) ∷ length (now table10) ∷ []) ⌝ }
     ensures { λ _. ⌜ Filled (now (file .entry))
         (now (table1 .entry) ∷ now (table2 .entry) ∷ now (table3 .entry) ∷ now (table4 .entry) ∷ now (table5 .entry)
         ∷ now (table6 .entry) ∷ now (table7 .entry) ∷ now (table8 .entry) ∷ now (table9 .entry) ∷ now (table10 .entry) ∷ [])

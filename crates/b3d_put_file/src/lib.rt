@@ -23,7 +23,9 @@ fn put_root(
 ) -> usize
     requires { ⌜ Sized all (now t3) (now t4) (now t5) (now t6) (now t7) (now t8) (now t9) (now t10) ⌝ }
     requires { ⌜ Some (OfNodes (now names) (tableRows (now t3) (now t4) (now t5) (now t6) (now t7) (now t8) (now t9) (now t10)) brushes) nodesBytes (now out) ⌝ }
-    ensures { λ r. ⌜ Each (OfNodes (now (names .entry)) (tableRows (now (t3 .entry)) (now (t4 .entry)) (now (t5 .entry)) (now (t6 .entry)) (now (t7 .entry)) (now (t8 .entry)) (now (t9 .entry)) (now (t10 .entry))) brushes) nodesBytes (now (out .entry)) (now (out .exit)) r ⌝ }
+    ensures { λ r. ⌜ Each (OfNodes (now (names .entry))
+        (tableRows (now (t3 .entry)) (now (t4 .entry)) (now (t5 .entry)) (now (t6 .entry)) (now (t7 .entry))
+        (now (t8 .entry)) (now (t9 .entry)) (now (t10 .entry))) brushes) nodesBytes (now (out .entry)) (now (out .exit)) r ⌝ }
 {
     if all.nodes == 0 {
         return 0;
@@ -60,7 +62,9 @@ fn put_rest(
 ) -> usize
     requires { ⌜ Sized all (now t3) (now t4) (now t5) (now t6) (now t7) (now t8) (now t9) (now t10) ⌝ }
     requires { ⌜ Some (OfRest (now names) (now t2) (tableRows (now t3) (now t4) (now t5) (now t6) (now t7) (now t8) (now t9) (now t10)) slots) restBytes (now out) ⌝ }
-    ensures { λ r. ⌜ Each (OfRest (now (names .entry)) (now (t2 .entry)) (tableRows (now (t3 .entry)) (now (t4 .entry)) (now (t5 .entry)) (now (t6 .entry)) (now (t7 .entry)) (now (t8 .entry)) (now (t9 .entry)) (now (t10 .entry))) slots) restBytes (now (out .entry)) (now (out .exit)) r ⌝ }
+    ensures { λ r. ⌜ Each (OfRest (now (names .entry)) (now (t2 .entry))
+        (tableRows (now (t3 .entry)) (now (t4 .entry)) (now (t5 .entry)) (now (t6 .entry)) (now (t7 .entry))
+        (now (t8 .entry)) (now (t9 .entry)) (now (t10 .entry))) slots) restBytes (now (out .entry)) (now (out .exit)) r ⌝ }
 {
     let a = b3d_put_lists::put_brushes(names, slots, t2, out);
     let brushes = t2.len() / 17;
@@ -89,7 +93,9 @@ pub fn put_file(
 ) -> usize
     requires { ⌜ Sized all (now t3) (now t4) (now t5) (now t6) (now t7) (now t8) (now t9) (now t10) ⌝ }
     requires { ⌜ Some (OfScene (now names) (now t1) (now t2) (tableRows (now t3) (now t4) (now t5) (now t6) (now t7) (now t8) (now t9) (now t10)) version slots) encode (now out) ⌝ }
-    ensures { λ r. ⌜ Each (OfScene (now (names .entry)) (now (t1 .entry)) (now (t2 .entry)) (tableRows (now (t3 .entry)) (now (t4 .entry)) (now (t5 .entry)) (now (t6 .entry)) (now (t7 .entry)) (now (t8 .entry)) (now (t9 .entry)) (now (t10 .entry))) version slots) encode (now (out .entry)) (now (out .exit)) r ⌝ }
+    ensures { λ r. ⌜ Each (OfScene (now (names .entry)) (now (t1 .entry)) (now (t2 .entry))
+        (tableRows (now (t3 .entry)) (now (t4 .entry)) (now (t5 .entry)) (now (t6 .entry)) (now (t7 .entry))
+        (now (t8 .entry)) (now (t9 .entry)) (now (t10 .entry))) version slots) encode (now (out .entry)) (now (out .exit)) r ⌝ }
 {
     let a = b3d_put_lists::put_textures(names, t1, &mut out[12..]);
     let rest = &mut out[a + 12..];

@@ -29,7 +29,9 @@ fn put_body(
 ) -> Walked
     requires { ⌜ Sized all (now t3) (now t4) (now t5) (now t6) (now t7) (now t8) (now t9) (now t10) ⌝ }
     requires { ⌜ WritableFirst bodyBytes (now names) (tableRows (now t3) (now t4) (now t5) (now t6) (now t7) (now t8) (now t9) (now t10)) levels n (now out) ⌝ }
-    ensures { λ r. ⌜ WritesFirst bodyBytes (now (names .entry)) (tableRows (now (t3 .entry)) (now (t4 .entry)) (now (t5 .entry)) (now (t6 .entry)) (now (t7 .entry)) (now (t8 .entry)) (now (t9 .entry)) (now (t10 .entry))) levels n (now (out .entry)) (now (out .exit)) (r .size) (r .counts) ⌝ }
+    ensures { λ r. ⌜ WritesFirst bodyBytes (now (names .entry))
+        (tableRows (now (t3 .entry)) (now (t4 .entry)) (now (t5 .entry)) (now (t6 .entry)) (now (t7 .entry))
+        (now (t8 .entry)) (now (t9 .entry)) (now (t10 .entry))) levels n (now (out .entry)) (now (out .exit)) (r .size) (r .counts) ⌝ }
 {
     let own = b3d_put_own::put_own(names, t3, t4, t5, t6, t7, t8, t9, t10, n, out);
     let m = b3d_check_node::node_counts(n, all, t3, t4, t6, t9);
@@ -60,7 +62,9 @@ pub fn put_node(
 ) -> Walked
     requires { ⌜ Sized all (now t3) (now t4) (now t5) (now t6) (now t7) (now t8) (now t9) (now t10) ⌝ }
     requires { ⌜ WritableFirst nodeBytes (now names) (tableRows (now t3) (now t4) (now t5) (now t6) (now t7) (now t8) (now t9) (now t10)) levels n (now out) ⌝ }
-    ensures { λ r. ⌜ WritesFirst nodeBytes (now (names .entry)) (tableRows (now (t3 .entry)) (now (t4 .entry)) (now (t5 .entry)) (now (t6 .entry)) (now (t7 .entry)) (now (t8 .entry)) (now (t9 .entry)) (now (t10 .entry))) levels n (now (out .entry)) (now (out .exit)) (r .size) (r .counts) ⌝ }
+    ensures { λ r. ⌜ WritesFirst nodeBytes (now (names .entry))
+        (tableRows (now (t3 .entry)) (now (t4 .entry)) (now (t5 .entry)) (now (t6 .entry)) (now (t7 .entry))
+        (now (t8 .entry)) (now (t9 .entry)) (now (t10 .entry))) levels n (now (out .entry)) (now (out .exit)) (r .size) (r .counts) ⌝ }
 {
     let rest = &mut out[8..];
     let body = put_body(names, t3, t4, t5, t6, t7, t8, t9, t10, all, levels, n, rest);
@@ -89,7 +93,9 @@ pub fn put_nodes(
 ) -> Walked
     requires { ⌜ Sized all (now t3) (now t4) (now t5) (now t6) (now t7) (now t8) (now t9) (now t10) ⌝ }
     requires { ⌜ Writable (now names) (tableRows (now t3) (now t4) (now t5) (now t6) (now t7) (now t8) (now t9) (now t10)) levels parent n (now out) ⌝ }
-    ensures { λ r. ⌜ Writes (now (names .entry)) (tableRows (now (t3 .entry)) (now (t4 .entry)) (now (t5 .entry)) (now (t6 .entry)) (now (t7 .entry)) (now (t8 .entry)) (now (t9 .entry)) (now (t10 .entry))) levels parent n (now (out .entry)) (now (out .exit)) (r .size) (r .counts) ⌝ }
+    ensures { λ r. ⌜ Writes (now (names .entry))
+        (tableRows (now (t3 .entry)) (now (t4 .entry)) (now (t5 .entry)) (now (t6 .entry)) (now (t7 .entry))
+        (now (t8 .entry)) (now (t9 .entry)) (now (t10 .entry))) levels parent n (now (out .entry)) (now (out .exit)) (r .size) (r .counts) ⌝ }
 {
     let mut at: usize = 0;
     let mut m = n;

@@ -31,7 +31,8 @@ fn put_kind(
     requires { ⌜ row + nodeWidth ≤ length (now nodes) ⌝ }
     requires { ⌜ KindThere (now meshes) (now vertices) (now sets) (now triangles) (now weights) n (getD (now nodes) (row + 13) 0) (getD (now nodes) (row + 15) 0) ⌝ }
     requires { ⌜ Room (kindBytes (now meshes) (now vertices) (now sets) (now triangles) (now weights) n (getD (now nodes) (row + 13) 0) (getD (now nodes) (row + 15) 0)) (now out) ⌝ }
-    ensures { λ r. ⌜ Put (kindBytes (now (meshes .entry)) (now (vertices .entry)) (now (sets .entry)) (now (triangles .entry)) (now (weights .entry)) n (getD (now (nodes .entry)) (row + 13) 0) (getD (now (nodes .entry)) (row + 15) 0)) (now (out .entry)) (now (out .exit)) r ⌝ }
+    ensures { λ r. ⌜ Put (kindBytes (now (meshes .entry)) (now (vertices .entry)) (now (sets .entry)) (now (triangles .entry)) (now (weights .entry))
+        n (getD (now (nodes .entry)) (row + 13) 0) (getD (now (nodes .entry)) (row + 15) 0)) (now (out .entry)) (now (out .exit)) r ⌝ }
 {
     if nodes[row + 13] == 1 {
         let i = 9 * n.meshes;
@@ -109,7 +110,8 @@ pub fn put_own(
 ) -> usize
     requires { ⌜ OwnThere (now names) (now nodes) (now meshes) (now vertices) (now sets) (now triangles) (now weights) (now lists) (now keys) n ⌝ }
     requires { ⌜ Room (ownBytes (now names) (now nodes) (now meshes) (now vertices) (now sets) (now triangles) (now weights) (now lists) (now keys) n) (now out) ⌝ }
-    ensures { λ r. ⌜ Put (ownBytes (now (names .entry)) (now (nodes .entry)) (now (meshes .entry)) (now (vertices .entry)) (now (sets .entry)) (now (triangles .entry)) (now (weights .entry)) (now (lists .entry)) (now (keys .entry)) n) (now (out .entry)) (now (out .exit)) r ⌝ }
+    ensures { λ r. ⌜ Put (ownBytes (now (names .entry)) (now (nodes .entry)) (now (meshes .entry)) (now (vertices .entry)) (now (sets .entry))
+        (now (triangles .entry)) (now (weights .entry)) (now (lists .entry)) (now (keys .entry)) n) (now (out .entry)) (now (out .exit)) r ⌝ }
 {
     let row = NODE_WIDTH * n.nodes;
     let a = put_named(names, nodes, row, row + 3, 10, out);

@@ -3,14 +3,11 @@ ghost use mathlib.Core.Path.{_≡_};
 ghost use Rattle.b3d_scene.specs.Rebuild.{rebuild};
 ghost use Rattle.b3d_scene.specs.Answers.{shortest};
 ghost use Prim.Native.Nat.{ℕ, _*_, _≤_};
-ghost use lib.ListN.{length, take};
+ghost use lib.ListN.{length};
 ghost use Rattle.b3d_scene.specs.Encode.{encode};
-ghost use Rattle.b3d_scene.specs.Tables.{nodeWidth};
 ghost use Rattle.b3d_check.specs.Lent.{lentOf};
-ghost use Rattle.b3d_put_own.specs.Own.{tableRows};
-ghost use Rattle.b3d_put_nodes.specs.Walk.{Sized};
-ghost use Rattle.b3d_put_file.specs.Whole.{OfScene, Some, Each};
-ghost use Rattle.b3d_write.specs.Writes.{sizeNeeded, TableRooms, Writes};
+ghost use Rattle.b3d_put_file.specs.Whole.{Some, Each};
+ghost use Rattle.b3d_write.specs.Writes.{sizeNeeded, CountedSized, OfCounted, TableRooms, Writes};
 use b3d_scene::Counts;
 use b3d_scene::Mode;
 use b3d_scene::NODE_WIDTH;
@@ -34,7 +31,9 @@ fn needed(
     t10: &[u32],
     names: &[u8],
 ) -> usize
-    ensures { λ r. ⌜ r ≡ sizeNeeded (shortest (rebuild mode (lentOf version slots (now (counts .entry)) (now (t1 .entry)) (now (t2 .entry)) (now (t3 .entry)) (now (t4 .entry)) (now (t5 .entry)) (now (t6 .entry)) (now (t7 .entry)) (now (t8 .entry)) (now (t9 .entry)) (now (t10 .entry))) (now (names .entry)))) ⌝ }
+    ensures { λ r. ⌜ r ≡ sizeNeeded (shortest (rebuild mode (lentOf version slots (now (counts .entry))
+        (now (t1 .entry)) (now (t2 .entry)) (now (t3 .entry)) (now (t4 .entry)) (now (t5 .entry))
+        (now (t6 .entry)) (now (t7 .entry)) (now (t8 .entry)) (now (t9 .entry)) (now (t10 .entry))) (now (names .entry)))) ⌝ }
 {
     if !b3d_check::sound(
         mode,
@@ -85,10 +84,13 @@ fn put_counted(
     all: Counts,
     out: &mut [u8],
 ) -> usize
-    requires { ⌜ TableRooms textures brushes all (length (now t1)) (length (now t2)) (length (now t3)) (length (now t4)) (length (now t5)) (length (now t6)) (length (now t7)) (length (now t8)) (length (now t9)) (length (now t10)) ⌝ }
-    requires { ⌜ Sized all (take (nodeWidth * all .nodes) (now t3)) (take (9 * all .meshes) (now t4)) (take (42 * all .vertices) (now t5)) (take (4 * all .sets) (now t6)) (take (3 * all .triangles) (now t7)) (take (2 * all .weights) (now t8)) (take (4 * all .lists) (now t9)) (take (11 * all .keys) (now t10)) ⌝ }
-    requires { ⌜ Some (OfScene (now names) (take (9 * textures) (now t1)) (take (17 * brushes) (now t2)) (tableRows (take (nodeWidth * all .nodes) (now t3)) (take (9 * all .meshes) (now t4)) (take (42 * all .vertices) (now t5)) (take (4 * all .sets) (now t6)) (take (3 * all .triangles) (now t7)) (take (2 * all .weights) (now t8)) (take (4 * all .lists) (now t9)) (take (11 * all .keys) (now t10))) version slots) encode (now out) ⌝ }
-    ensures { λ r. ⌜ Each (OfScene (now (names .entry)) (take (9 * textures) (now (t1 .entry))) (take (17 * brushes) (now (t2 .entry))) (tableRows (take (nodeWidth * all .nodes) (now (t3 .entry))) (take (9 * all .meshes) (now (t4 .entry))) (take (42 * all .vertices) (now (t5 .entry))) (take (4 * all .sets) (now (t6 .entry))) (take (3 * all .triangles) (now (t7 .entry))) (take (2 * all .weights) (now (t8 .entry))) (take (4 * all .lists) (now (t9 .entry))) (take (11 * all .keys) (now (t10 .entry)))) version slots) encode (now (out .entry)) (now (out .exit)) r ⌝ }
+    requires { ⌜ TableRooms textures brushes all (length (now t1)) (length (now t2)) (length (now t3)) (length (now t4)) (length (now t5))
+        (length (now t6)) (length (now t7)) (length (now t8)) (length (now t9)) (length (now t10)) ⌝ }
+    requires { ⌜ CountedSized all (now t3) (now t4) (now t5) (now t6) (now t7) (now t8) (now t9) (now t10) ⌝ }
+    requires { ⌜ Some (OfCounted (now names) textures brushes all version slots (now t1) (now t2) (now t3) (now t4) (now t5) (now t6) (now t7) (now t8) (now t9) (now t10)) encode (now out) ⌝ }
+    ensures { λ r. ⌜ Each (OfCounted (now (names .entry)) textures brushes all version slots
+        (now (t1 .entry)) (now (t2 .entry)) (now (t3 .entry)) (now (t4 .entry)) (now (t5 .entry))
+        (now (t6 .entry)) (now (t7 .entry)) (now (t8 .entry)) (now (t9 .entry)) (now (t10 .entry))) encode (now (out .entry)) (now (out .exit)) r ⌝ }
 {
     let n1 = 9 * textures;
     let n2 = 17 * brushes;
@@ -139,7 +141,9 @@ pub fn write(
     names: &[u8],
     out: &mut [u8],
 ) -> Written
-    ensures { λ r. ⌜ Writes mode (lentOf version slots (now (counts .entry)) (now (t1 .entry)) (now (t2 .entry)) (now (t3 .entry)) (now (t4 .entry)) (now (t5 .entry)) (now (t6 .entry)) (now (t7 .entry)) (now (t8 .entry)) (now (t9 .entry)) (now (t10 .entry))) (now (names .entry)) (now (out .entry)) (now (out .exit)) r ⌝ }
+    ensures { λ r. ⌜ Writes mode (lentOf version slots (now (counts .entry))
+        (now (t1 .entry)) (now (t2 .entry)) (now (t3 .entry)) (now (t4 .entry)) (now (t5 .entry))
+        (now (t6 .entry)) (now (t7 .entry)) (now (t8 .entry)) (now (t9 .entry)) (now (t10 .entry))) (now (names .entry)) (now (out .entry)) (now (out .exit)) r ⌝ }
 {
     let size = needed(
         mode,
