@@ -1,4 +1,4 @@
-# `make demo` lists a sample, clears it of names and writes its slip, and lists a skeleton and a mesh; `make test` is the gate.
+# `make demo` lists a sample, judges it piece by piece, clears it of names and writes its slip, and lists a skeleton and a mesh; `make test` is the gate.
 CLI = rust/target/release/kelompuris
 
 .PHONY: demo cli peers test
@@ -6,6 +6,7 @@ CLI = rust/target/release/kelompuris
 demo: cli
 	$(CLI) check samples/*.b3d
 	$(CLI) list samples/kitchen.b3d
+	$(CLI) stream < samples/kitchen.b3d
 	$(CLI) clear samples/kitchen.b3d target/kitchen_cleared.b3d
 	$(CLI) list target/kitchen_cleared.b3d
 	$(CLI) slip samples/kitchen.b3d target/kitchen.slip

@@ -190,6 +190,109 @@ typedef struct {
  */
 kelompuris_label kelompuris_b3d_label(const uint8_t *file, size_t file_len);
 
+/* A file in pieces, for a terminal that is handed a file some bytes at a time and cannot hold it.
+ *
+ *     kelompuris_b3d_open_chunk row[KELOMPURIS_B3D_OPEN_CHUNKS];
+ *     kelompuris_b3d_piece_state state = kelompuris_b3d_pieces_start();
+ *     while ((n = next_bytes(bytes, sizeof bytes)) > 0) {
+ *         state = kelompuris_b3d_pieces_piece(state, row, KELOMPURIS_B3D_OPEN_CHUNKS, bytes, n).state;
+ *     }
+ *     answer = kelompuris_b3d_pieces_close(state, row, KELOMPURIS_B3D_OPEN_CHUNKS).answer;
+ *
+ * The close answers what kelompuris_b3d_judge, in strict mode, says of all bytes joined, however they were cut; a piece may have no bytes. It
+ * begins with a fresh state and any row; each later call is given state and row as the last left them. A call that is given others, or a
+ * state that no call left, still ends and stays inside what it is lent; it is taken or refused.
+ *
+ * Two refusals, in this order; they leave the state unchanged, and they and the close change no record:
+ *
+ *    number                                                              place
+ *   11  fewer than 19 records are lent                                   19, the records needed
+ *   15  a piece or a close after the close, or a state and a row that    0
+ *       no calls lead to
+ *
+ * A record and the state hold no bytes of the file but those of the number that is being read.
+ */
+
+/* The records that are enough for every file: a BB3D, 16 nodes, a MESH and a chunk of items. */
+enum {
+    KELOMPURIS_B3D_OPEN_CHUNKS = 19
+};
+
+/* A record: a chunk that is open, around the innermost one. Bytes are counted from the start of the file. */
+typedef struct {
+    size_t tag;    /* 0 BB3D, 1 TEXS, 2 BRUS, 3 NODE, 4 MESH, 5 VRTS, 6 TRIS, 7 BONE, 8 KEYS, 9 ANIM */
+    size_t head;   /* byte of its header */
+    size_t end;    /* byte behind it */
+    size_t turn;   /* how far the order of the chunks inside it has come */
+    size_t spent;  /* 1 where one that may not come again at this turn has come */
+    size_t level;  /* levels of nodes that may still be opened inside it */
+    size_t first;  /* its first fixed numbers */
+    size_t second;
+    size_t third;
+    size_t count;  /* items so far */
+    size_t told;   /* of a node: how many vertices bones may name, as the nodes above it say */
+} kelompuris_b3d_open_chunk;
+
+/* What is kept between two calls beside the row. */
+typedef struct {
+    uint32_t kind;    /* what stands at the present place: 0 a text, 1 a row of numbers, 2 a chunk that is passed over, 3 a refusal, 4 all was read */
+    uint32_t number;  /* the refusal */
+    size_t size;      /* bytes so far, at most 16,777,217 */
+    size_t worth;     /* of BB3D's header: what the bytes of its present number are worth */
+    size_t letters;   /* its tag as a number */
+    size_t length;    /* its length */
+    size_t shut;      /* 1 after the close */
+    size_t depth;     /* records of the row in use */
+    size_t at;        /* the present place, or that of the refusal */
+    size_t fixed;     /* 1 in fixed data, 0 in an item */
+    size_t start;     /* where the text or row begins, or the passed-over chunk ends */
+    size_t index;     /* of a row: the present number */
+    size_t came;      /* how many of its bytes came */
+    size_t value;     /* what they are worth */
+    size_t first;     /* the first numbers of the row */
+    size_t second;
+    size_t third;
+    kelompuris_b3d_open_chunk inner; /* the innermost chunk */
+    size_t version;   /* the file's version */
+    size_t slots;     /* n_texs */
+    size_t textures;  /* rows so far of tables 1 and 2 */
+    size_t brushes;
+    size_t own;       /* of the present node: vertices of its mesh, */
+    size_t told;      /* how many vertices bones may name, as the nodes above it say, */
+    size_t below;     /* and as it says to those below */
+    size_t nodes;     /* rows so far of tables 3 to 10 */
+    size_t meshes;
+    size_t vertices;
+    size_t sets;
+    size_t triangles;
+    size_t weights;
+    size_t lists;
+    size_t keys;
+} kelompuris_b3d_piece_state;
+
+/* What a piece is answered: 0 and 0 where it was taken, else 11 or 15; and the state for the next call. */
+typedef struct {
+    uint32_t number, place;
+    kelompuris_b3d_piece_state state;
+} kelompuris_b3d_piece_fed;
+
+/* What the close is answered: 0 to 10, 11 or 15; and the state for the next call. */
+typedef struct {
+    kelompuris_answer answer;
+    kelompuris_b3d_piece_state state;
+} kelompuris_b3d_piece_closed;
+
+/* A fresh state. */
+kelompuris_b3d_piece_state kelompuris_b3d_pieces_start(void);
+
+/* The next bytes of a file: answers 0, 11 or 15. row_len is a number of records. The bytes are not written. */
+kelompuris_b3d_piece_fed kelompuris_b3d_pieces_piece(
+    kelompuris_b3d_piece_state state, kelompuris_b3d_open_chunk *row, size_t row_len, const uint8_t *bytes, size_t bytes_len);
+
+/* No byte is left: answers 0 to 10 for all bytes joined, or 11 or 15. Writes no record. */
+kelompuris_b3d_piece_closed kelompuris_b3d_pieces_close(
+    kelompuris_b3d_piece_state state, const kelompuris_b3d_open_chunk *row, size_t row_len);
+
 /* What a skeleton file of cal3d is answered (binary form, CSF version 1300).
  *
  * number 0: accepted. place is 0; head has the header's numbers (version, number of bones, ambient red, green, blue) and counts the rows of

@@ -27,10 +27,8 @@ use Rattle.b3d_scene.specs.Scene.{Texture, Brush, Forest, leaf, Scene}
 use Rattle.b3d_scene.specs.Rules.{version, rowLimit}
 use Rattle.b3d_scene.specs.Nesting.{start, inside}
 use Rattle.b3d_scene.specs.Parse.{readOne, readTextures, readBrushes, readRoot, slotsOf, readBody, parse}
-use Rattle.b3d_scene.specs.Tables.{rows, tables, nodeTables}
-use Rattle.b3d_scene.specs.Answers.{firstNot, judge}
-use Rattle.b3d_scene.proofs.AnswerLaws.{first-none, first-some, over-not}
-use Rattle.b3d_scene.proofs.Rows.Numbers.{each-table}
+use Rattle.b3d_scene.specs.Tables.{rows, tables}
+use Rattle.b3d_scene.specs.Answers.{judge}
 use Rattle.b3d_scene.proofs.Laws.{fine}
 use Rattle.b3d_tally.specs.Tally.{sceneTally, tallyOf}
 use Rattle.b3d_inside.specs.Places.{Body, restIn, Among}
@@ -38,6 +36,7 @@ use Rattle.b3d_inside.proofs.Heads.{head-cut, head-numbered, head-over, head-wi
 use Rattle.b3d_judge_file.specs.Answers.{readLast, readRest}
 use Rattle.b3d_judge.specs.Answers.{readChunks, walked, WalkedIn, Walks, verdictOf}
 use Rattle.b3d_limits.specs.Limits.{overLimit}
+use Rattle.b3d_limits.proofs.Limits.{over-none, over-some}
 use Rattle.b3d_judge.specs.declared.Summary.{Summary}
 use Rattle.b3d_judge.specs.declared.Verdict.{Verdict}
 use Rattle.b3d_judge.specs.declared.Verdict.the-variants as verdict
@@ -140,22 +139,6 @@ module _ (mode : Mode) (s : List ℕ) (lo : 8 ≤ length s) (hi : length s ≤ m
 
 pub ruleset body-laws = (body-cut, body-version, body-among, body-twelve, body-chunks)
 
--- ---- the row limits
-
-over : (ℕ → ℕ) → List ℕ → ℕ
-over f [] = 0
-over f (k ∷ ks) = if (ltb rowLimit (f k)) k (over f ks)
-
--- that is the first table whose rows are not within the limit
-over-first : (f : ℕ → ℕ) (ks : List ℕ) → over f ks ≡ firstNot (λ k. leb (f k) rowLimit) ks
-unfolding over firstNot
-over-first f [] = refl
-over-first f (k ∷ ks) = ap (λ (n : ℕ). if (ltb rowLimit (f k)) k n) (over-first f ks) ∙ over-not rowLimit (f k) k (firstNot (λ k. leb (f k) rowLimit) ks)
-
-over-is : (t : Scene) → overLimit (tallyOf t) ≡ over (λ k. length (rows k t)) tables
-unfolding overLimit over tables nodeTables
-over-is t = refl
-
 -- ---- the whole
 
 pub first-word : (s : List ℕ) → 8 ≤ length s → getD (wordsOf 2 s) 0 0 ≡ wordAt s 0
@@ -233,13 +216,13 @@ module _ (mode : Mode) (s : List ℕ) where
           tally-is = gave .has ∙ total (gave .value) (fine mode s (gave .value) b (gave .is) .0)
 
           module _ (n : ℕ) (en : n ≡ overLimit (x .tally)) where
-            over-at : n ≡ firstNot (λ k. leb (length (rows k (gave .value))) rowLimit) tables
-            over-at = en ∙ ap overLimit tally-is ∙ over-is (gave .value) ∙ over-first (λ k. length (rows k (gave .value))) tables
+            over-at : n ≡ overLimit (tallyOf (gave .value))
+            over-at = en ∙ ap overLimit tally-is
 
             pub judge-over : (n ≡ 0 → ⊥) → verdict.Bad 10 n ≡ verdictOf (judge mode s)
             unfolding judge
             judge-over d = finish (parse mode s) (gave .value) (gave .is)
-                (first-some 10 (λ k. leb (length (rows k (gave .value))) rowLimit) tables (λ q. d (over-at ∙ q)) ∙ ap (λ (i : ℕ). bad 10 i) (sym over-at))
+                (over-some (λ k. length (rows k (gave .value))) (tallyOf (gave .value) .copy) n over-at d)
               where
                 finish : (o : Out Scene) (t : Scene) → o ≡ got t → eachOf 10 (λ k. leb (length (rows k t)) rowLimit) tables ≡ bad 10 n
                     → verdict.Bad 10 n ≡ verdictOf (o >>= λ t. eachOf 10 (λ k. leb (length (rows k t)) rowLimit) tables >>= λ _. got t)
@@ -247,7 +230,7 @@ module _ (mode : Mode) (s : List ℕ) where
 
             pub judge-good : n ≡ 0 → verdict.Good x ≡ verdictOf (judge mode s)
             unfolding judge
-            judge-good q = finish (parse mode s) (gave .value) (gave .is) (first-none 10 (λ k. leb (length (rows k (gave .value))) rowLimit) tables (each-table (λ k. 0 < k) (λ k a b. a)) (sym over-at ∙ q))
+            judge-good q = finish (parse mode s) (gave .value) (gave .is) (over-none (λ k. length (rows k (gave .value))) (tallyOf (gave .value) .copy) n over-at q)
                 (λ i. record { version = gave .version i; «n_texs» = gave .slots i; tally = tally-is i })
               where
                 finish : (o : Out Scene) (t : Scene) → o ≡ got t → eachOf 10 (λ k. leb (length (rows k t)) rowLimit) tables ≡ got tt

@@ -5,6 +5,23 @@ use Rattle.wire.specs.Test.{if}
 use Rattle.b3d_scene.specs.Rules.{rowLimit}
 use Rattle.b3d_tally.specs.declared.Tally.{Tally}
 
+-- a tally with f k rows of table k
+abbrev pub tallied : (ℕ → ℕ) → ℕ → Tally
+tallied f copy =
+    record {
+      textures = f 1;
+      brushes = f 2;
+      nodes = f 3;
+      meshes = f 4;
+      vertices = f 5;
+      sets = f 6;
+      triangles = f 7;
+      weights = f 8;
+      lists = f 9;
+      keys = f 10;
+      copy = copy;
+    }
+
 -- the first table of a tally with more rows than the limit, by its number; 0 where there is none
 unfoldable pub overLimit : Tally → ℕ
 overLimit t =

@@ -103,7 +103,7 @@ refusal-some (names m) e = omega arith
 refusal-some (namesOrNone m) e = omega arith
 refusal-some unit e = omega arith
 
-fault-0 : (x : Rule) (w n : ℕ) → n ≡ faultOf x w → n ≡ 0 → holds x w ≡ true
+pub fault-0 : (x : Rule) (w n : ℕ) → n ≡ faultOf x w → n ≡ 0 → holds x w ≡ true
 unfolding faultOf if
 fault-0 x w n e z = go (holds x w) refl
   where

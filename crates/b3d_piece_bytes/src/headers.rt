@@ -70,19 +70,9 @@ fn stand_here(t: Tag, head: usize, e: usize, at: usize, g: Totals, f: Open) -> N
     match stands(tag, turn, spent, t) {
         Permit::No => Now::Fault(4, head),
         Permit::Yes(reached) => {
-            let kept = f.kept;
-            let to = reached.turn as usize;
-            let y = Open {
-                tag: tag,
-                head: f.head,
-                end: f.end,
-                turn: to,
-                spent: reached.spent,
-                level: f.level,
-                kept: kept,
-                count: f.count,
-                told: f.told,
-            };
+            let mut y = f;
+            y.turn = reached.turn as usize;
+            y.spent = reached.spent;
             open_chunk(t, head, e, at, g, y)
         }
     }

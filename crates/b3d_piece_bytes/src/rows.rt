@@ -22,28 +22,20 @@ use b3d_pieces::Totals;
 pub fn keep(i: usize, w: usize, k: Kept) -> Kept
     ensures { λ r. ⌜ r ≡ keepOf i w k ⌝ }
 {
+    let mut x = k;
     if i == 0 {
-        return Kept {
-            first: w,
-            second: k.second,
-            third: k.third,
-        };
+        x.first = w;
+        return x;
     }
     if i == 1 {
-        return Kept {
-            first: k.first,
-            second: w,
-            third: k.third,
-        };
+        x.second = w;
+        return x;
     }
     if i == 2 {
-        return Kept {
-            first: k.first,
-            second: k.second,
-            third: w,
-        };
+        x.third = w;
+        return x;
     }
-    k
+    x
 }
 
 pub fn row_done(fixed: bool, start: usize, at: usize, k: Kept, g: Totals, f: Open) -> Now
@@ -59,18 +51,8 @@ pub fn row_done(fixed: bool, start: usize, at: usize, k: Kept, g: Totals, f: Ope
         let n = k.second;
         return header_done(start, letters, n, at, g, f);
     }
-    let kept = f.kept;
-    let y = Open {
-        tag: tag,
-        head: f.head,
-        end: f.end,
-        turn: f.turn,
-        spent: f.spent,
-        level: f.level,
-        kept: kept,
-        count: f.count + 1,
-        told: f.told,
-    };
+    let mut y = f;
+    y.count = y.count + 1;
     edge(at, g, y)
 }
 

@@ -1,6 +1,6 @@
 -- The laws of the calls, in the words of the code.
 use mathlib.Core.Path.{_≡_, refl, ap, sym, subst, _∙_}
-use Prim.Native.Nat.{ℕ, _<_, _≤_}
+use Prim.Native.Nat.{ℕ, _/_, _<_, _≤_}
 use native.Mathlib.Omega.{arith}
 use mathlib.Core.Bool.{Bool, true, false}
 use mathlib.Core.List.{List}
@@ -8,22 +8,20 @@ use lib.ListN.{length}
 use Rattle.wire.specs.Test.{if}
 use Rattle.b3d_pieces.specs.declared.Totals.{Totals}
 use Rattle.b3d_pieces.specs.Row.{openAt}
-use Rattle.b3d_pieces.specs.Close.{nothing}
+use Rattle.b3d_pieces.specs.Close.{nothing, closing}
 use Rattle.b3d_pieces.specs.Good.{worth}
 use Rattle.b3d_piece_parts.specs.declared.Now.the-variants.{Over}
 use Rattle.b3d_piece_turn.specs.Turns.{pends}
 use Rattle.b3d_piece_turn.proofs.TurnLaws.{none}
 use Rattle.b3d_piece_take.specs.declared.Judge.{Judge}
 use Rattle.b3d_piece_take.specs.Takes.{heldOf}
-use Rattle.b3d_piece_words.specs.Words.{CanRun, RunIs}
+use Rattle.b3d_piece_take.specs.Runs.{CanRun, RunIs}
 use Rattle.b3d_piece_entry.specs.Tests.{Tests}
-use Rattle.b3d_piece_calls.specs.declared.Fed.{Fed}
 use Rattle.b3d_scene.specs.declared.Answer.{Answer}
-use Rattle.b3d_piece_calls.specs.declared.Closing.{Closing}
-use Rattle.b3d_piece_calls.specs.declared.Closing.the-variants.{Bad}
-use Rattle.b3d_piece_calls.specs.declared.Closed.{Closed}
-use Rattle.b3d_piece_calls.specs.Closes.{asWord, answerBy, wordAnswer, Closes}
-use Rattle.b3d_piece_calls.specs.Called.{Fresh, PieceIs, CloseIs}
+use Rattle.b3d_piece_answers.specs.declared.Closing.{Closing}
+use Rattle.b3d_piece_answers.specs.declared.Closing.the-variants.{Bad}
+use Rattle.b3d_piece_answers.specs.Closes.{closingOf, asWord, answerBy, wordAnswer, Closes}
+use Rattle.b3d_piece_calls.specs.Called.{Holding, words, Fresh, PieceIs, shutting, CloseIs}
 
 pub fresh-is : (g : Totals) → g ≡ nothing → (r : Judge) → r ≡ record { size = 0; worth = 0; letters = 0; length = 0; shut = false; depth = 0; now = Over g } → Fresh r
 unfolding heldOf
@@ -34,60 +32,101 @@ fresh-is g e r q = rw q (record {
   good = λ rs. record { size = omega arith; depth = omega arith; calm = λ l. refl; head = λ l. omega arith; body = λ l. absurd (omega arith) };
 })
 
--- ---- a piece
+-- ---- a piece, however state and row are held
 
-module _ (j : Judge) (row s : List ℕ) (r : Fed) (after : List ℕ) where
-  pub piece-short : length row < 209 → r ≡ record { number = 11; place = 19; judge = j } → after ≡ row → PieceIs j row s r after
-  piece-short h q e = record { short = λ l. (q, e); shut = λ l z. absurd (omega arith); taken = λ l z c. absurd (omega arith); other = λ l z c. absurd (omega arith) }
+module _ {S R : Type 0} (h : Holding S R) (st : S) (row : R) (s : List ℕ) (n p : ℕ) (next : S) (after : R) where
+  pub short-piece : h .count row < 19 → n ≡ 11 → p ≡ 19 → next ≡ st → after ≡ row → PieceIs h st row s n p next after
+  short-piece k en ep es er = record {
+    short = λ l. record { number = en; place = ep; state = es; records = er };
+    shut = λ l z. absurd (omega arith);
+    taken = λ l z c. absurd (omega arith);
+    other = λ l z c. absurd (omega arith);
+  }
 
-  module _ (l : 209 ≤ length row) where
-    pub piece-shut : j .shut ≡ true → r ≡ record { number = 15; place = 0; judge = j } → after ≡ row → PieceIs j row s r after
-    piece-shut h q e = record { short = λ k. absurd (omega arith); shut = λ k z. (q, e); taken = λ k z c. none (sym z ∙ h); other = λ k z c. none (sym z ∙ h) }
+  module _ (l : 19 ≤ h .count row) where
+    pub shut-piece : h .judge st .shut ≡ true → n ≡ 15 → p ≡ 0 → next ≡ st → after ≡ row → PieceIs h st row s n p next after
+    shut-piece o en ep es er = record {
+      short = λ k. absurd (omega arith);
+      shut = λ k z. record { number = en; place = ep; state = es; records = er };
+      taken = λ k z c. none (sym z ∙ o);
+      other = λ k z c. none (sym z ∙ o);
+    }
 
-    module _ (o : j .shut ≡ false) (b : Bool) (tb : Tests b (CanRun j row)) where
-      pub piece-other : b ≡ false → r ≡ record { number = 15; place = 0; judge = j } → after ≡ row → PieceIs j row s r after
-      piece-other h q e = record { short = λ k. absurd (omega arith); shut = λ k z. none (sym o ∙ z); taken = λ k z c. none (sym h ∙ tb .all c); other = λ k z c. (q, e) }
-
-      pub piece-taken : b ≡ true → (x : Judge) → RunIs j row s x after → r ≡ record { number = 0; place = 0; judge = x } → PieceIs j row s r after
-      piece-taken h x t q = record {
+    module _ (o : h .judge st .shut ≡ false) where
+      pub other-piece : (CanRun (h .judge st) (h .count row) (h .at row) → ⊥) → n ≡ 15 → p ≡ 0 → next ≡ st → after ≡ row → PieceIs h st row s n p next after
+      other-piece f en ep es er = record {
         short = λ k. absurd (omega arith);
         shut = λ k z. none (sym o ∙ z);
-        taken = λ k z c. (ap (λ (y : Fed). y .number) q, ap (λ (y : Fed). y .place) q, subst (λ (y : Fed). RunIs j row s (y .judge) after) (sym q) t);
-        other = λ k z c. absurd (c (tb .yes h));
+        taken = λ k z c. absurd (f c);
+        other = λ k z c. record { number = en; place = ep; state = es; records = er };
       }
 
-pub can-run : (j : Judge) (row : List ℕ) (b : Bool) → Tests b (CanRun j row) → b ≡ true → CanRun j row
+      pub taken-piece : CanRun (h .judge st) (h .count row) (h .at row) → n ≡ 0 → p ≡ 0 → RunIs (h .judge st) (h .at row) s (h .judge next) (h .count after) (h .at after) → PieceIs h st row s n p next after
+      taken-piece f en ep t = record { short = λ k. absurd (omega arith); shut = λ k z. none (sym o ∙ z); taken = λ k z c. (en, ep, t); other = λ k z c. absurd (c f) }
+
+-- ---- over words
+
+refuses : {P : Type 0} (b : Bool) → Tests b P → b ≡ false → P → ⊥
+refuses b t e p = none (sym e ∙ t .all p)
+
+module _ (j : Judge) (row s : List ℕ) (n p : ℕ) (x : Judge) (after : List ℕ) where
+  pub piece-short : length row < 209 → n ≡ 11 → p ≡ 19 → x ≡ j → after ≡ row → PieceIs words j row s n p x after
+  piece-short h = short-piece words j row s n p x after (omega arith)
+
+  module _ (l : 209 ≤ length row) where
+    pub piece-shut : j .shut ≡ true → n ≡ 15 → p ≡ 0 → x ≡ j → after ≡ row → PieceIs words j row s n p x after
+    piece-shut = shut-piece words j row s n p x after (omega arith)
+
+    module _ (o : j .shut ≡ false) (b : Bool) (tb : Tests b (CanRun j (length row / 11) (openAt row))) where
+      pub piece-other : b ≡ false → n ≡ 15 → p ≡ 0 → x ≡ j → after ≡ row → PieceIs words j row s n p x after
+      piece-other e = other-piece words j row s n p x after (omega arith) o (refuses b tb e)
+
+      pub piece-taken : b ≡ true → n ≡ 0 → p ≡ 0 → RunIs j (openAt row) s x (length after / 11) (openAt after) → PieceIs words j row s n p x after
+      piece-taken e = taken-piece words j row s n p x after (omega arith) o (tb .yes e)
+
+pub can-run : (j : Judge) (row : List ℕ) (b : Bool) → Tests b (CanRun j (length row / 11) (openAt row)) → b ≡ true → CanRun j (length row / 11) (openAt row)
 can-run j row b t e = t .yes e
 
 pub ruleset piece-laws = (can-run, piece-short, piece-shut, piece-other, piece-taken)
 
--- ---- the close
+-- ---- the close, however state and row are held
 
-module _ (j : Judge) (row : List ℕ) (r : Closed) where
-  pub close-short : length row < 209 → (x : Answer) → x ≡ wordAnswer (answerBy (Bad 11 19)) → r ≡ record { answer = x; judge = j } → CloseIs j row r
+module _ {S R : Type 0} (h : Holding S R) (st : S) (row : R) (x : Answer) (next : S) where
+  pub short-close : h .count row < 19 → x ≡ wordAnswer (answerBy (Bad 11 19)) → next ≡ st → CloseIs h st row x next
   unfolding asWord if
-  close-short h x ex q = record { short = λ l. rw (← ex) q; shut = λ l z. absurd (omega arith); taken = λ l z c. absurd (omega arith); other = λ l z c. absurd (omega arith) }
+  short-close k ex es = record { short = λ l. record { answer = ex; state = es }; shut = λ l z. absurd (omega arith); taken = λ l z c. absurd (omega arith); other = λ l z c. absurd (omega arith) }
 
-  module _ (l : 209 ≤ length row) (x : Answer) where
-    pub close-shut : x ≡ wordAnswer (answerBy (Bad 15 0)) → j .shut ≡ true → r ≡ record { answer = x; judge = j } → CloseIs j row r
+  module _ (l : 19 ≤ h .count row) where
+    pub shut-close : h .judge st .shut ≡ true → x ≡ wordAnswer (answerBy (Bad 15 0)) → next ≡ st → CloseIs h st row x next
     unfolding asWord if
-    close-shut ex h q = record { short = λ k. absurd (omega arith); shut = λ k z. rw (← ex) q; taken = λ k z c. none (sym z ∙ h); other = λ k z c. none (sym z ∙ h) }
+    shut-close o ex es = record { short = λ k. absurd (omega arith); shut = λ k z. record { answer = ex; state = es }; taken = λ k z c. none (sym z ∙ o); other = λ k z c. none (sym z ∙ o) }
 
-    module _ (o : j .shut ≡ false) (b : Bool) (tb : Tests b (CanRun j row)) where
-      pub close-other : x ≡ wordAnswer (answerBy (Bad 15 0)) → b ≡ false → r ≡ record { answer = x; judge = j } → CloseIs j row r
+    module _ (o : h .judge st .shut ≡ false) where
+      pub other-close : (CanRun (h .judge st) (h .count row) (h .at row) → ⊥) → x ≡ wordAnswer (answerBy (Bad 15 0)) → next ≡ st → CloseIs h st row x next
       unfolding asWord if
-      close-other ex h q = record { short = λ k. absurd (omega arith); shut = λ k z. none (sym o ∙ z); taken = λ k z c. none (sym h ∙ tb .all c); other = λ k z c. rw (← ex) q }
+      other-close f ex es = record { short = λ k. absurd (omega arith); shut = λ k z. none (sym o ∙ z); taken = λ k z c. absurd (f c); other = λ k z c. record { answer = ex; state = es } }
 
-      pub close-taken : b ≡ true → (v : Closing) → Closes j v → x ≡ wordAnswer (answerBy v)
-          → r ≡ record { answer = x; judge = record { size = j .size; worth = j .worth; letters = j .letters; length = j .length; shut = true; depth = j .depth; now = j .now } } → CloseIs j row r
-      close-taken h v w ex q = record {
-        short = λ k. absurd (omega arith);
-        shut = λ k z. none (sym o ∙ z);
-        taken = λ k z c. (ap (λ (y : Closed). y .answer) q ∙ ex ∙ ap (λ (y : Closing). wordAnswer (answerBy y)) (w .is (c .calm) (openAt row)), ap (λ (y : Closed). y .judge) q);
-        other = λ k z c. absurd (c (tb .yes h));
-      }
+      pub taken-close : CanRun (h .judge st) (h .count row) (h .at row) → x ≡ wordAnswer (answerBy (closingOf (closing (heldOf (h .judge st) (h .at row))))) → h .judge next ≡ shutting (h .judge st) → CloseIs h st row x next
+      taken-close f ex es = record { short = λ k. absurd (omega arith); shut = λ k z. none (sym o ∙ z); taken = λ k z c. (ex, es); other = λ k z c. absurd (c f) }
 
-pub calm-run : (j : Judge) (row : List ℕ) (b : Bool) → Tests b (CanRun j row) → b ≡ true → pends (j .now) ≡ false
+-- ---- over words
+
+module _ (j : Judge) (row : List ℕ) (x : Answer) (y : Judge) where
+  pub close-short : length row < 209 → x ≡ wordAnswer (answerBy (Bad 11 19)) → y ≡ j → CloseIs words j row x y
+  close-short h = short-close words j row x y (omega arith)
+
+  module _ (l : 209 ≤ length row) where
+    pub close-shut : j .shut ≡ true → x ≡ wordAnswer (answerBy (Bad 15 0)) → y ≡ j → CloseIs words j row x y
+    close-shut = shut-close words j row x y (omega arith)
+
+    module _ (o : j .shut ≡ false) (b : Bool) (tb : Tests b (CanRun j (length row / 11) (openAt row))) where
+      pub close-other : b ≡ false → x ≡ wordAnswer (answerBy (Bad 15 0)) → y ≡ j → CloseIs words j row x y
+      close-other e = other-close words j row x y (omega arith) o (refuses b tb e)
+
+      pub close-taken : b ≡ true → (v : Closing) → Closes j v → x ≡ wordAnswer (answerBy v) → y ≡ shutting j → CloseIs words j row x y
+      close-taken e v w ex = taken-close words j row x y (omega arith) o (tb .yes e) (ex ∙ ap (λ (c : Closing). wordAnswer (answerBy c)) (w .is (tb .yes e .calm) (openAt row)))
+
+pub calm-run : (j : Judge) (row : List ℕ) (b : Bool) → Tests b (CanRun j (length row / 11) (openAt row)) → b ≡ true → pends (j .now) ≡ false
 calm-run j row b t e = t .yes e .calm
 
 pub ruleset close-laws = (calm-run, close-short, close-shut, close-other, close-taken)

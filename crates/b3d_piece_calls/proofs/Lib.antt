@@ -1,3 +1,2 @@
-pub mod ClosingLaws
 pub mod Calling
-pub mod InWords
+pub mod Judged

@@ -1,11 +1,11 @@
 // The three calls. 11 with size 19 where fewer records are lent; then 15 at place 0 after the close, or for a state and a row that do not keep
 // what calls keep: these leave the state as it was, and they and the close change no record.
-ghost use Rattle.b3d_piece_calls.specs.Called.{Fresh, PieceIs, CloseIs};
+ghost use Rattle.b3d_piece_calls.specs.Called.{words, Fresh, PieceIs, CloseIs};
 use crate::Closed;
 use crate::Fed;
-use crate::answers::answer_of;
-use crate::answers::joined;
-use crate::answers::refused;
+use b3d_piece_answers::answer_of;
+use b3d_piece_answers::joined;
+use b3d_piece_answers::refused;
 use b3d_piece_entry::state::judge_fine;
 use b3d_piece_parts::Now;
 use b3d_piece_take::Judge;
@@ -30,7 +30,7 @@ pub fn start() -> Judge
 
 // The next bytes of the file.
 pub fn judge_piece(state: Judge, row: &mut [usize], piece: &[u8]) -> Fed
-    ensures { λ r. ⌜ PieceIs state (now (row .entry)) (now (piece .entry)) r (now (row .exit)) ⌝ }
+    ensures { λ r. ⌜ PieceIs words state (now (row .entry)) (now (piece .entry)) (r .number) (r .place) (r .judge) (now (row .exit)) ⌝ }
 {
     if row.len() < 209 {
         return Fed {
@@ -63,7 +63,7 @@ pub fn judge_piece(state: Judge, row: &mut [usize], piece: &[u8]) -> Fed
 
 // No byte is left: what the reader says of all bytes joined.
 pub fn judge_close(state: Judge, row: &[usize]) -> Closed
-    ensures { λ r. ⌜ CloseIs state (now (row .entry)) r ⌝ }
+    ensures { λ r. ⌜ CloseIs words state (now (row .entry)) (r .answer) (r .judge) ⌝ }
 {
     if row.len() < 209 {
         let few = refused(11, 19);

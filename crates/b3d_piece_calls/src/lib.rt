@@ -1,10 +1,8 @@
 // The judge of pieces over a row of plain words: a fresh state, a piece, the close. The calls ask nothing of the caller: with any state and any row
 // they end, and what does not keep what calls keep (`CanRun`) is refused. The row is 19 records of 11 words.
-pub mod answers;
 pub mod calls;
 
 use b3d_piece_take::Judge;
-use b3d_pieces::Totals;
 use b3d_scene::Answer;
 
 // What a piece answers: 0 and 0 where it was taken, else the refusal and its place; and the state for the next call.
@@ -12,12 +10,6 @@ pub struct Fed {
     pub number: u32,
     pub place: u32,
     pub judge: Judge,
-}
-
-// What all bytes joined come to: the totals, or a refusal and its place.
-pub enum Closing {
-    Good(Totals),
-    Bad(u32, usize),
 }
 
 // What the close answers, and the state for the next call.

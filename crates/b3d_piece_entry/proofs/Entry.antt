@@ -3,7 +3,6 @@ use mathlib.Core.Path.{_≡_, refl, sym, subst, _∙_}
 use Prim.Native.Nat.{ℕ, zero, suc, _+_, _-_, _<_, _≤_}
 use native.Mathlib.Omega.{arith}
 use mathlib.Core.Bool.{Bool, true, false}
-use mathlib.Core.List.{List}
 use lib.Dec.{eqb, leb}
 use borrow.Author.Tests.{le-leb, leb-true, eq-eqb, eqb-true}
 use Rattle.b3d_pieces.specs.declared.Totals.{Totals}
@@ -11,11 +10,10 @@ use Rattle.b3d_pieces.specs.declared.Kept.{Kept}
 use Rattle.b3d_pieces.specs.declared.Open.{Open}
 use Rattle.b3d_pieces.specs.declared.Part.{Part}
 use Rattle.b3d_pieces.specs.declared.Part.the-variants.{Text, Row, Skip}
-use Rattle.b3d_pieces.specs.Row.{openAt}
 use Rattle.b3d_pieces.specs.Good.{Words, Bound, Off, sum, extra, worth}
 use Rattle.b3d_piece_turn.proofs.TurnLaws.{none, stack-length, off-came, came-spare}
-use Rattle.b3d_piece_entry.specs.Tests.{Tests, Weighs, OpenFits, RowFits}
-use Rattle.b3d_piece_entry.specs.Entry.{Small, RowOff, LiveFits}
+use Rattle.b3d_piece_entry.specs.Tests.{Tests, Weighs, OpenFits}
+use Rattle.b3d_piece_entry.specs.Entry.{Small, RowOff, LiveTests}
 
 never : {P : Type 0} (r : Bool) → r ≡ false → (P → ⊥) → Tests r P
 never r q z = record { yes = λ e. none (sym q ∙ e); all = λ p. absurd (z p) }
@@ -105,31 +103,33 @@ module _ (m : Part) (at size : ℕ) (r : Bool) where
 
 pub ruleset mode-laws = (mode-text, mode-skip, mode-row)
 
-module _ (at : ℕ) (m : Part) (g : Totals) (f : Open) (size n : ℕ) (row : List ℕ) (r : Bool) (l : size ≤ 16777217) (b : Bool) (tb : Tests b (Off m at size)) where
-  pub live-mode : b ≡ false → r ≡ false → Tests r (LiveFits at m g f size n row)
-  live-mode e q = never r q (λ p. none (sym e ∙ tb .all (p .1)))
+module _ (at : ℕ) (m : Part) (g : Totals) (f : Open) (size n w : ℕ) (r : Bool) (l : size ≤ 16777217) (b : Bool) (tb : Tests b (Off m at size)) where
+  pub live-mode : b ≡ false → r ≡ false → LiveTests at m g f size n w r
+  live-mode e q = record { is = λ rs tw. never r q (λ p. none (sym e ∙ tb .all (p .1))) }
 
-  pub live-sum : b ≡ true → (v : ℕ) → Weighs (OpenFits f n) (f .count + extra (f .tag)) v → (w : ℕ) → RowFits row n w → (s : ℕ) → Small 167772180 (sum g) s → r ≡ leb (s + (v + w)) at → Tests r (LiveFits at m g f size n row)
-  live-sum e v tv w tw s ts q =
-      let o = tb .yes e in
-      let c = off-came m at size o in
-      let d = came-spare m at in
-      let k = stack-length (openAt row) n in
-      record {
-        yes = λ y.
-            let h = leb-true (s + (v + w)) at (sym q ∙ y) in
-            let es = ts .yes (omega arith) in
-            let ev = tv .yes (omega arith) in
-            let ew = tw .yes (omega arith) in
-            let xv = ev .1 in
-            let xw = ew .1 in
-            (((subst (λ (x : ℕ). Bound (f .tag) (f .level) x) (sym k) (ev .0 .0), ev .0 .1, ew .0), omega arith), o);
-        all = λ p.
-            let h = p .0 .1 in
-            let es = ts .all (omega arith) in
-            let ev = tv .all (subst (λ (x : ℕ). Bound (f .tag) (f .level) x) k (p .0 .0 .0), p .0 .0 .1) (omega arith) in
-            let ew = tw .all (p .0 .0 .2) (omega arith) in
-            q ∙ le-leb (s + (v + w)) at (omega arith);
-      }
+  pub live-sum : b ≡ true → (v : ℕ) → Weighs (OpenFits f n) (f .count + extra (f .tag)) v → (s : ℕ) → Small 167772180 (sum g) s → r ≡ leb (s + (v + w)) at → LiveTests at m g f size n w r
+  live-sum e v tv s ts q = record {
+    is = λ rs tw.
+        let o = tb .yes e in
+        let c = off-came m at size o in
+        let d = came-spare m at in
+        let k = stack-length rs n in
+        record {
+          yes = λ y.
+              let h = leb-true (s + (v + w)) at (sym q ∙ y) in
+              let es = ts .yes (omega arith) in
+              let ev = tv .yes (omega arith) in
+              let ew = tw .yes (omega arith) in
+              let xv = ev .1 in
+              let xw = ew .1 in
+              (((subst (λ (x : ℕ). Bound (f .tag) (f .level) x) (sym k) (ev .0 .0), ev .0 .1, ew .0), omega arith), o);
+          all = λ p.
+              let h = p .0 .1 in
+              let es = ts .all (omega arith) in
+              let ev = tv .all (subst (λ (x : ℕ). Bound (f .tag) (f .level) x) k (p .0 .0 .0), p .0 .0 .1) (omega arith) in
+              let ew = tw .all (p .0 .0 .2) (omega arith) in
+              q ∙ le-leb (s + (v + w)) at (omega arith);
+        };
+  }
 
 pub ruleset live-laws = (live-mode, live-sum)

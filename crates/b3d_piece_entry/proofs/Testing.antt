@@ -117,54 +117,54 @@ deep-at rs i (suc n) h d = go (leb (suc i) n) refl (λ l. deep-at rs i n l (d .2
         last : n < suc i → i ≡ n
         last l = omega arith
 
-pub record Loaded (row : List ℕ) (n total i : ℕ) : Type 0 where
+pub record Loaded (rs : ℕ → Open) (n total i : ℕ) : Type 0 where
   pub upTo : i ≤ n
-  pub deep : Deep (stackBy (openAt row) i)
-  pub load : load (stackBy (openAt row) i) ≡ total
+  pub deep : Deep (stackBy rs i)
+  pub load : load (stackBy rs i) ≡ total
   pub few : total ≤ 16777217
 
-pub loaded-none : (row : List ℕ) (n : ℕ) → Loaded row n 0 0
-loaded-none row n = record { upTo = omega arith; deep = tt; load = refl; few = omega arith }
+pub loaded-none : (rs : ℕ → Open) (n : ℕ) → Loaded rs n 0 0
+loaded-none rs n = record { upTo = omega arith; deep = tt; load = refl; few = omega arith }
 
 pub loaded-room : (row : List ℕ) (n total i : ℕ) → n ≤ 18 → 209 ≤ length row → i < n → i * 11 + 11 ≤ length row
 loaded-room row n total i h l k = omega arith
 
-module _ (row : List ℕ) (n total i : ℕ) (h : Loaded row n total i) (l : i < n) (f : Open) (ef : f ≡ openAt row i) (v : ℕ) (wv : Weighs (OpenFits f i) (f .count + extra (f .tag)) v) where
-  same : Weighs (OpenFits (openAt row i) i) (openAt row i .count + extra (openAt row i .tag)) v
+module _ (rs : ℕ → Open) (n total i : ℕ) (h : Loaded rs n total i) (l : i < n) (f : Open) (ef : f ≡ rs i) (v : ℕ) (wv : Weighs (OpenFits f i) (f .count + extra (f .tag)) v) where
+  same : Weighs (OpenFits (rs i) i) (rs i .count + extra (rs i .tag)) v
   same = rw (← ef) wv
 
   pub loaded-few : total + v ≤ 33554436
   loaded-few = let a = h .few in let b = wv .most in omega arith
 
-  pub loaded-over : 16777217 < total + v → (r : ℕ) → r ≡ 16777218 → RowFits row n r
+  pub loaded-over : 16777217 < total + v → (r : ℕ) → r ≡ 16777218 → RowFits rs n r
   loaded-over o r q =
-      heavy (load (stackBy (openAt row) n)) r q (λ p m.
-      let x = deep-at (openAt row) i n l p in
+      heavy (load (stackBy rs n)) r q (λ p m.
+      let x = deep-at rs i n l p in
       let y = x .1 in
       let w = h .load in
       let z = same .all (x .0) (omega arith) in
       omega arith)
 
-  pub loaded-next : total + v ≤ 16777217 → Loaded row n (total + v) (i + 1)
+  pub loaded-next : total + v ≤ 16777217 → Loaded rs n (total + v) (i + 1)
   loaded-next m =
       let z = same .yes (omega arith) in
       let e = z .1 in
       let w = h .load in
-      let s = stack-length (openAt row) i in
-      let k : Loaded row n (total + v) (suc i) = record {
+      let s = stack-length rs i in
+      let k : Loaded rs n (total + v) (suc i) = record {
         upTo = omega arith;
-        deep = (subst (λ (x : ℕ). Bound (openAt row i .tag) (openAt row i .level) x) (sym s) (z .0 .0), z .0 .1, h .deep);
+        deep = (subst (λ (x : ℕ). Bound (rs i .tag) (rs i .level) x) (sym s) (z .0 .0), z .0 .1, h .deep);
         load = omega arith;
         few = m;
       } in
       rw (add-one i) k
 
-pub loaded-all : (row : List ℕ) (n total i : ℕ) → Loaded row n total i → n ≤ i → (r : ℕ) → r ≡ total → RowFits row n r
-loaded-all row n total i h l r q =
+pub loaded-all : (rs : ℕ → Open) (n total i : ℕ) → Loaded rs n total i → n ≤ i → (r : ℕ) → r ≡ total → RowFits rs n r
+loaded-all rs n total i h l r q =
     let u = h .upTo in
     let e : i ≡ n = omega arith in
-    let d : Deep (stackBy (openAt row) n) = subst (λ (x : ℕ). Deep (stackBy (openAt row) x)) e (h .deep) in
-    let w : load (stackBy (openAt row) n) ≡ total = subst (λ (x : ℕ). load (stackBy (openAt row) x) ≡ total) e (h .load) in
+    let d : Deep (stackBy rs n) = subst (λ (x : ℕ). Deep (stackBy rs x)) e (h .deep) in
+    let w : load (stackBy rs n) ≡ total = subst (λ (x : ℕ). load (stackBy rs x) ≡ total) e (h .load) in
     let f = h .few in
     record { yes = λ m. (d, q ∙ sym w); all = λ p m. q ∙ sym w; most = omega arith }
 

@@ -1,17 +1,19 @@
 -- What the test at the entry asks.
 use mathlib.Core.Path.{_≡_}
 use Prim.Native.Nat.{ℕ, _+_, _<_, _≤_}
-use mathlib.Core.Bool.{false}
-use mathlib.Core.List.{List, _∷_}
+use mathlib.Core.Bool.{Bool, false}
+use mathlib.Core.List.{_∷_}
 use Rattle.b3d_pieces.specs.declared.Totals.{Totals}
 use Rattle.b3d_pieces.specs.declared.Kept.{Kept}
 use Rattle.b3d_pieces.specs.declared.Open.{Open}
 use Rattle.b3d_pieces.specs.declared.Part.{Part}
-use Rattle.b3d_pieces.specs.Row.{openAt}
 use Rattle.b3d_pieces.specs.Good.{Words, Fits, Off, worth}
 use Rattle.b3d_piece_parts.specs.declared.Now.{Now}
 use Rattle.b3d_piece_parts.specs.Nows.{GoodNow}
 use Rattle.b3d_piece_turn.specs.Turns.{stackBy, pends}
+use Rattle.b3d_piece_take.specs.declared.Judge.{Judge}
+use Rattle.b3d_piece_take.specs.Runs.{CanRun}
+use Rattle.b3d_piece_entry.specs.Tests.{Tests, RowFits}
 
 -- r is n where either is at most 16,777,217
 pub record Small (m n r : ℕ) : Type 0 where
@@ -22,8 +24,19 @@ pub record Small (m n r : ℕ) : Type 0 where
 abbrev pub RowOff : ℕ → ℕ → ℕ → Kept → ℕ → ℕ → Type 0
 RowOff i j acc k at n = (at + j ≡ n) × (j ≤ 3) × (i ≤ at) × (acc < worth j) × Words k
 
-abbrev pub LiveFits : ℕ → Part → Totals → Open → ℕ → ℕ → List ℕ → Type 0
-LiveFits at m g f size n row = Fits at g (f ∷ stackBy (openAt row) n) × Off m at size
+abbrev pub LiveFits : ℕ → Part → Totals → Open → ℕ → ℕ → (ℕ → Open) → Type 0
+LiveFits at m g f size n rs = Fits at g (f ∷ stackBy rs n) × Off m at size
 
-abbrev pub NowFits : Now → ℕ → ℕ → List ℕ → Type 0
-NowFits now size n row = GoodNow size (stackBy (openAt row) n) now × (pends now ≡ false)
+abbrev pub NowFits : Now → ℕ → ℕ → (ℕ → Open) → Type 0
+NowFits now size n rs = GoodNow size (stackBy rs n) now × (pends now ≡ false)
+
+-- tests that are handed the load w of the first n chunks, whatever row they stand in
+pub record LiveTests (at : ℕ) (m : Part) (g : Totals) (f : Open) (size n w : ℕ) (b : Bool) : Type 0 where
+  pub is : (rs : ℕ → Open) → RowFits rs n w → Tests b (LiveFits at m g f size n rs)
+
+pub record NowTests (now : Now) (size n w : ℕ) (b : Bool) : Type 0 where
+  pub is : (rs : ℕ → Open) → RowFits rs n w → Tests b (NowFits now size n rs)
+
+-- a test of what is held that is handed the load w of the chunks in use, over any row of 19 records and more
+pub record StateTests (j : Judge) (w : ℕ) (b : Bool) : Type 0 where
+  pub is : (n : ℕ) (rs : ℕ → Open) → 19 ≤ n → RowFits rs (j .depth) w → Tests b (CanRun j n rs)

@@ -1,10 +1,8 @@
--- Tests that hold just where a statement does, and sums that are right where they are small.
+-- Tests that hold just where a statement does, and sums that are right where they are small. A row is known by the record at each place.
 use mathlib.Core.Path.{_≡_}
 use Prim.Native.Nat.{ℕ, _≤_}
 use mathlib.Core.Bool.{Bool, true}
-use mathlib.Core.List.{List}
 use Rattle.b3d_pieces.specs.declared.Open.{Open}
-use Rattle.b3d_pieces.specs.Row.{openAt}
 use Rattle.b3d_pieces.specs.Good.{Words, Bound, Deep, load}
 use Rattle.b3d_piece_turn.specs.Turns.{stackBy}
 
@@ -21,5 +19,6 @@ pub record Weighs (P : Type 0) (n r : ℕ) : Type 0 where
 abbrev pub OpenFits : Open → ℕ → Type 0
 OpenFits f n = Bound (f .tag) (f .level) n × Words (f .kept)
 
-abbrev pub RowFits : List ℕ → ℕ → ℕ → Type 0
-RowFits row n r = Weighs (Deep (stackBy (openAt row) n)) (load (stackBy (openAt row) n)) r
+-- the first n chunks of a row
+abbrev pub RowFits : (ℕ → Open) → ℕ → ℕ → Type 0
+RowFits rs n r = Weighs (Deep (stackBy rs n)) (load (stackBy rs n)) r

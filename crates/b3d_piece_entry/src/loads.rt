@@ -3,6 +3,7 @@ ghost use mathlib.Core.Path.{_≡_};
 ghost use Prim.Native.Nat.{_+_, _≤_};
 ghost use lib.ListN.{length};
 ghost use Rattle.b3d_pieces.specs.Good.{Words, Bound, extra as extraOf};
+ghost use Rattle.b3d_pieces.specs.Row.{openAt};
 ghost use Rattle.b3d_piece_entry.specs.Tests.{Tests, Weighs, OpenFits, RowFits};
 use b3d_piece_words::records::open_at;
 use b3d_pieces::Kept;
@@ -88,7 +89,7 @@ pub fn open_load(f: Open, n: usize) -> usize
 // What the first n chunks of a row will add, or 16,777,218.
 pub fn row_load(row: &[usize], n: usize) -> usize
     requires { ⌜ (n ≤ 18) × (209 ≤ length (now row)) ⌝ }
-    ensures { λ r. ⌜ RowFits (now (row .entry)) n r ⌝ }
+    ensures { λ r. ⌜ RowFits (openAt (now (row .entry))) n r ⌝ }
 {
     let mut total: usize = 0;
     let mut i = 0;

@@ -1,12 +1,10 @@
 // The part that is being read, the totals, the innermost chunk.
 ghost use mathlib.Core.Path.{_≡_};
 ghost use Prim.Native.Nat.{_+_, _≤_};
-ghost use lib.ListN.{length};
 ghost use Rattle.b3d_pieces.specs.Good.{Off, sum, worth as worthOf};
 ghost use Rattle.b3d_piece_entry.specs.Tests.{Tests};
-ghost use Rattle.b3d_piece_entry.specs.Entry.{Small, RowOff, LiveFits};
+ghost use Rattle.b3d_piece_entry.specs.Entry.{Small, RowOff, LiveTests};
 use crate::loads::open_load;
-use crate::loads::row_load;
 use crate::loads::words_fine;
 use b3d_pieces::Kept;
 use b3d_pieces::Open;
@@ -85,23 +83,15 @@ pub fn part_fine(m: Part, at: usize, size: usize) -> bool
     }
 }
 
-pub fn live_fine(
-    at: usize,
-    m: Part,
-    g: Totals,
-    f: Open,
-    size: usize,
-    n: usize,
-    row: &[usize],
-) -> bool
-    requires { ⌜ (n ≤ 18) × (209 ≤ length (now row)) × (size ≤ 16777217) ⌝ }
-    ensures { λ r. ⌜ Tests r (LiveFits at m g f size n (now (row .entry))) ⌝ }
+// The load is what the n chunks around will add.
+pub fn live_fine(at: usize, m: Part, g: Totals, f: Open, size: usize, n: usize, load: usize) -> bool
+    requires { ⌜ (size ≤ 16777217) × (load ≤ 16777218) ⌝ }
+    ensures { λ r. ⌜ LiveTests at m g f size n load r ⌝ }
 {
     if part_fine(m, at, size) {
         let v = open_load(f, n);
-        let w = row_load(row, n);
         let s = sum_of(g);
-        return s + (v + w) <= at;
+        return s + (v + load) <= at;
     }
     false
 }

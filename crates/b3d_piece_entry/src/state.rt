@@ -1,11 +1,13 @@
-// All that is held, and the row.
+// All that is held, the load of the row's chunks once known; and all that is held, with a row of words.
 ghost use mathlib.Core.Path.{_≡_};
-ghost use Prim.Native.Nat.{_<_, _≤_};
+ghost use Prim.Native.Nat.{_/_, _<_, _≤_};
 ghost use lib.ListN.{length};
 ghost use Rattle.b3d_piece_take.specs.Takes.{headLow};
-ghost use Rattle.b3d_piece_words.specs.Words.{CanRun};
+ghost use Rattle.b3d_pieces.specs.Row.{openAt};
+ghost use Rattle.b3d_piece_take.specs.Runs.{CanRun};
 ghost use Rattle.b3d_piece_entry.specs.Tests.{Tests};
-ghost use Rattle.b3d_piece_entry.specs.Entry.{NowFits};
+ghost use Rattle.b3d_piece_entry.specs.Entry.{NowTests, StateTests};
+use crate::loads::row_load;
 use crate::parts::live_fine;
 use crate::parts::sum_of;
 use crate::parts::worth;
@@ -13,12 +15,12 @@ use b3d_piece_parts::Now;
 use b3d_piece_take::Judge;
 use b3d_piece_turn::turning::pending;
 
-pub fn now_fine(held: Now, size: usize, n: usize, row: &[usize]) -> bool
-    requires { ⌜ (n ≤ 18) × (209 ≤ length (now row)) × (size ≤ 16777217) ⌝ }
-    ensures { λ r. ⌜ Tests r (NowFits held size n (now (row .entry))) ⌝ }
+pub fn now_fine(held: Now, size: usize, n: usize, load: usize) -> bool
+    requires { ⌜ (size ≤ 16777217) × (load ≤ 16777218) ⌝ }
+    ensures { λ r. ⌜ NowTests held size n load r ⌝ }
 {
     match held {
-        Now::Live(at, m, g, f) => live_fine(at, m, g, f, size, n, row),
+        Now::Live(at, m, g, f) => live_fine(at, m, g, f, size, n, load),
         Now::Push(_, _, _, _) => false,
         Now::Pop(_, _) => false,
         Now::Fault(_, _) => true,
@@ -36,9 +38,10 @@ pub fn head_low(size: usize) -> usize
     worth(size - 4)
 }
 
-pub fn judge_fine(j: Judge, row: &[usize]) -> bool
-    requires { ⌜ 209 ≤ length (now row) ⌝ }
-    ensures { λ r. ⌜ Tests r (CanRun j (now (row .entry))) ⌝ }
+// What is held, over any row whose chunks in use have this load.
+pub fn state_fine(j: Judge, load: usize) -> bool
+    requires { ⌜ load ≤ 16777218 ⌝ }
+    ensures { λ r. ⌜ StateTests j load r ⌝ }
 {
     let size = j.size;
     let n = j.depth;
@@ -56,5 +59,17 @@ pub fn judge_fine(j: Judge, row: &[usize]) -> bool
         let w = head_low(size);
         return j.worth < w;
     }
-    now_fine(now, size, n, row)
+    now_fine(now, size, n, load)
+}
+
+pub fn judge_fine(j: Judge, row: &[usize]) -> bool
+    requires { ⌜ 209 ≤ length (now row) ⌝ }
+    ensures { λ r. ⌜ Tests r (CanRun j (length (now (row .entry)) / 11) (openAt (now (row .entry)))) ⌝ }
+{
+    let n = j.depth;
+    if 18 < n {
+        return false;
+    }
+    let load = row_load(row, n);
+    state_fine(j, load)
 }

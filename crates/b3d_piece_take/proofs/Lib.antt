@@ -1,3 +1,4 @@
 pub mod TakeLaws
 pub mod StepLaws
 pub mod LoopLaws
+pub mod RunLaws

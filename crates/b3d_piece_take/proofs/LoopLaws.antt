@@ -20,7 +20,7 @@ use Rattle.b3d_piece_turn.proofs.TurnLaws.{stack-pop, off-came, came-spare, non
 use Rattle.b3d_piece_take.specs.declared.Judge.{Judge}
 use Rattle.b3d_piece_take.specs.Takes.{heldOf, GoodJudge, TakeReady, Changes, afterTake}
 use Rattle.b3d_piece_take.specs.declared.Turn.{Turn}
-use Rattle.b3d_piece_take.specs.Loops.{Begins, nextAt, StepIs}
+use Rattle.b3d_piece_take.specs.Loops.{Begins, nextAt, StepIs, wait, leftOf, restAt, restOf, Going}
 
 -- ---- what is good is ready for a turn
 
@@ -59,13 +59,6 @@ good-ready j rs rec g t = record {
 
 -- ---- the number that falls at each turn
 
-abbrev pub wait : Bool → ℕ → ℕ
-wait true n = n
-wait false n = 31
-
-unfoldable pub leftOf : Turn → ℕ
-leftOf t = 32 * (t .end - t .at) + wait (pends (t .judge .now)) (pendOf (t .judge .now) (t .judge .depth))
-
 pend-some : (x : Now) (n : ℕ) → pends x ≡ true → 0 < pendOf x n
 pend-some (Live at m g f) n e = none e
 pend-some (Push at g f o) n e = omega arith
@@ -87,21 +80,6 @@ falls false true e a x y l u v m = omega arith
 falls false false e a x y l u v m = omega arith
 
 -- ---- what is still to come
-
--- the bytes that are still to be taken begin here
-abbrev pub restAt : Bool → ℕ → ℕ
-restAt true a = a + 1
-restAt false a = a
-
-unfoldable pub restOf : Turn → (ℕ → Open) → List ℕ → Held
-restOf t rs p = piece (heldOf (t .judge) rs) (drop (restAt (pends (t .judge .now)) (t .at)) p)
-
-pub record Going (t : Turn) (rs : ℕ → Open) (p : List ℕ) : Type 0 where
-  pub good : GoodJudge (t .judge) rs
-  pub get : t .get ≡ slotOf (t .judge .depth)
-  pub end : t .end ≡ length p
-  pub within : t .at ≤ t .end
-  pub calm : pends (t .judge .now) ≡ true → t .at < t .end
 
 get-top : (n g : ℕ) (rs : ℕ → Open) (rec : Open) → g ≡ slotOf n → rec ≡ rs g → (n ≡ 0 → ⊥) → rs (n - 1) ≡ rec
 get-top n g rs rec e r z = sym (r ∙ ap rs (e ∙ sym (slot-some n (n - 1) z refl)))
@@ -200,3 +178,7 @@ last-calm t rs p g h = go (pends (t .judge .now)) refl
     go : (q : Bool) → pends (t .judge .now) ≡ q → pends (t .judge .now) ≡ false
     go true e = absurd (let l = g .calm e in omega arith)
     go false e = e
+
+pub last-less : (t r : Turn) (rs : ℕ → Open) (p : List ℕ) → Going r rs p → r .end ≤ r .at → t .at < t .end → leftOf r < leftOf t
+unfolding leftOf
+last-less t r rs p g h l = rw (last-calm r rs p g h) (omega arith)

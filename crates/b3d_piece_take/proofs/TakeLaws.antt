@@ -110,11 +110,11 @@ held-head : (j : Judge) (rs : ℕ → Open) → j .size < 8 → heldOf j rs ≡ 
 unfolding heldOf
 held-head j rs h = rw (lt-ltb (j .size) 8 h)
 
-held-body : (j : Judge) (rs : ℕ → Open) → 8 ≤ j .size → heldOf j rs ≡ record { size = j .size; whole = inside (j .letters) (j .length) (stateWith (stackBy rs (j .depth)) (j .now)) }
+pub held-body : (j : Judge) (rs : ℕ → Open) → 8 ≤ j .size → heldOf j rs ≡ record { size = j .size; whole = inside (j .letters) (j .length) (stateWith (stackBy rs (j .depth)) (j .now)) }
 unfolding heldOf
 held-body j rs h = rw (le-ltb (j .size) 8 h)
 
-byte-on : (s : ℕ) (w : Whole) (b : ℕ) → s ≤ 16777216 → byte (record { size = s; whole = w }) b ≡ record { size = s + 1; whole = wholeByte w b }
+pub byte-on : (s : ℕ) (w : Whole) (b : ℕ) → s ≤ 16777216 → byte (record { size = s; whole = w }) b ≡ record { size = s + 1; whole = wholeByte w b }
 unfolding byte if
 byte-on s w b h = rw (le-leb s mostBytes h)
 

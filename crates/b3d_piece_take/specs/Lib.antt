@@ -1,2 +1,3 @@
 pub mod Takes
 pub mod Loops
+pub mod Runs

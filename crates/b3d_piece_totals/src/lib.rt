@@ -13,33 +13,21 @@ use b3d_scene::Tag;
 fn with_rows(g: Totals, rows: Counts) -> Totals
     ensures { λ r. ⌜ r ≡ rowsWith g rows ⌝ }
 {
-    Totals {
-        version: g.version,
-        slots: g.slots,
-        textures: g.textures,
-        brushes: g.brushes,
-        own: g.own,
-        told: g.told,
-        below: g.below,
-        rows: rows,
-    }
+    let mut x = g;
+    x.rows = rows;
+    x
 }
 
 // With this version, n_texs, textures and brushes.
 fn with_file(g: Totals, version: usize, slots: usize, textures: usize, brushes: usize) -> Totals
     ensures { λ r. ⌜ r ≡ fileWith g version slots textures brushes ⌝ }
 {
-    let rows = g.rows;
-    Totals {
-        version: version,
-        slots: slots,
-        textures: textures,
-        brushes: brushes,
-        own: g.own,
-        told: g.told,
-        below: g.below,
-        rows: rows,
-    }
+    let mut x = g;
+    x.version = version;
+    x.slots = slots;
+    x.textures = textures;
+    x.brushes = brushes;
+    x
 }
 
 // How many vertices the bones below the present node may name, if it has so many of its own, and an ANIM or none.
@@ -61,17 +49,10 @@ fn says(anim: bool, own: usize, g: Totals) -> Totals
     ensures { λ r. ⌜ r ≡ saying anim own g ⌝ }
 {
     let below = bones_below(anim, own, g);
-    let rows = g.rows;
-    Totals {
-        version: g.version,
-        slots: g.slots,
-        textures: g.textures,
-        brushes: g.brushes,
-        own: own,
-        told: g.told,
-        below: below,
-        rows: rows,
-    }
+    let mut x = g;
+    x.own = own;
+    x.below = below;
+    x
 }
 
 // BB3D's fixed data is its version.
@@ -97,27 +78,12 @@ pub fn node_begins(g: Totals) -> Totals
     requires { ⌜ sum g + 1 ≤ 16777217 ⌝ }
     ensures { λ r. ⌜ r ≡ entered g ⌝ }
 {
-    let n = g.rows;
-    let rows = Counts {
-        nodes: n.nodes + 1,
-        meshes: n.meshes,
-        vertices: n.vertices,
-        sets: n.sets,
-        triangles: n.triangles,
-        weights: n.weights,
-        lists: n.lists,
-        keys: n.keys,
-    };
-    let x = Totals {
-        version: g.version,
-        slots: g.slots,
-        textures: g.textures,
-        brushes: g.brushes,
-        own: 0,
-        told: g.below,
-        below: g.below,
-        rows: rows,
-    };
+    let mut rows = g.rows;
+    rows.nodes = rows.nodes + 1;
+    let mut x = g;
+    x.own = 0;
+    x.told = g.below;
+    x.rows = rows;
     says(false, 0, x)
 }
 
@@ -135,81 +101,41 @@ fn rows_after(tag: Tag, c: usize, g: Totals) -> Counts
     requires { ⌜ sum g + c ≤ 16777217 ⌝ }
     ensures { λ r. ⌜ r ≡ rowsAfter tag c (g .rows) ⌝ }
 {
-    let n = g.rows;
+    let mut n = g.rows;
     match tag {
-        Tag::MESH => Counts {
-            nodes: n.nodes,
-            meshes: n.meshes + 1,
-            vertices: n.vertices,
-            sets: n.sets,
-            triangles: n.triangles,
-            weights: n.weights,
-            lists: n.lists,
-            keys: n.keys,
-        },
-        Tag::VRTS => Counts {
-            nodes: n.nodes,
-            meshes: n.meshes,
-            vertices: n.vertices + c,
-            sets: n.sets,
-            triangles: n.triangles,
-            weights: n.weights,
-            lists: n.lists,
-            keys: n.keys,
-        },
-        Tag::TRIS => Counts {
-            nodes: n.nodes,
-            meshes: n.meshes,
-            vertices: n.vertices,
-            sets: n.sets + 1,
-            triangles: n.triangles + c,
-            weights: n.weights,
-            lists: n.lists,
-            keys: n.keys,
-        },
-        Tag::BONE => Counts {
-            nodes: n.nodes,
-            meshes: n.meshes,
-            vertices: n.vertices,
-            sets: n.sets,
-            triangles: n.triangles,
-            weights: n.weights + c,
-            lists: n.lists,
-            keys: n.keys,
-        },
-        Tag::KEYS => Counts {
-            nodes: n.nodes,
-            meshes: n.meshes,
-            vertices: n.vertices,
-            sets: n.sets,
-            triangles: n.triangles,
-            weights: n.weights,
-            lists: n.lists + 1,
-            keys: n.keys + c,
-        },
-        Tag::BB3D => n,
-        Tag::TEXS => n,
-        Tag::BRUS => n,
-        Tag::NODE => n,
-        Tag::ANIM => n,
+        Tag::MESH => {
+            n.meshes = n.meshes + 1;
+        }
+        Tag::VRTS => {
+            n.vertices = n.vertices + c;
+        }
+        Tag::TRIS => {
+            n.sets = n.sets + 1;
+            n.triangles = n.triangles + c;
+        }
+        Tag::BONE => {
+            n.weights = n.weights + c;
+        }
+        Tag::KEYS => {
+            n.lists = n.lists + 1;
+            n.keys = n.keys + c;
+        }
+        Tag::BB3D => {}
+        Tag::TEXS => {}
+        Tag::BRUS => {}
+        Tag::NODE => {}
+        Tag::ANIM => {}
     }
+    n
 }
 
 // After a node the one around it says what that one was told.
 fn said_above(g: Totals, told: usize) -> Totals
     ensures { λ r. ⌜ r ≡ saidAbove g told ⌝ }
 {
-    let rows = g.rows;
-    Totals {
-        version: g.version,
-        slots: g.slots,
-        textures: g.textures,
-        brushes: g.brushes,
-        own: g.own,
-        told: g.told,
-        below: told,
-        rows: rows,
-    }
+    let mut x = g;
+    x.below = told;
+    x
 }
 
 // A chunk is left.

@@ -2,28 +2,12 @@
 ghost use mathlib.Core.Path.{_≡_};
 ghost use Prim.Native.Nat.{_+_, _*_, _≤_};
 ghost use lib.ListN.{length};
-ghost use Rattle.b3d_pieces.specs.Row.{tagNumber, tagBy, flag, openAt, putOpen};
+ghost use Rattle.b3d_pieces.specs.Row.{openAt, putOpen};
+use b3d_piece_state::records::flag_of;
+use b3d_piece_state::records::tag_by;
+use b3d_piece_state::records::tag_number;
 use b3d_pieces::Kept;
 use b3d_pieces::Open;
-use b3d_scene::Tag;
-
-// A tag by its number, the last for every other number.
-fn tag_by(n: usize) -> Tag
-    ensures { λ r. ⌜ r ≡ tagBy n ⌝ }
-{
-    match n {
-        0 => Tag::BB3D,
-        1 => Tag::TEXS,
-        2 => Tag::BRUS,
-        3 => Tag::NODE,
-        4 => Tag::MESH,
-        5 => Tag::VRTS,
-        6 => Tag::TRIS,
-        7 => Tag::BONE,
-        8 => Tag::KEYS,
-        _ => Tag::ANIM,
-    }
-}
 
 // The record at place `i`.
 pub fn open_at(row: &[usize], i: usize) -> Open
@@ -48,32 +32,6 @@ pub fn open_at(row: &[usize], i: usize) -> Open
         count: row[p + 9],
         told: row[p + 10],
     }
-}
-
-fn tag_number(t: Tag) -> usize
-    ensures { λ r. ⌜ r ≡ tagNumber t ⌝ }
-{
-    match t {
-        Tag::BB3D => 0,
-        Tag::TEXS => 1,
-        Tag::BRUS => 2,
-        Tag::NODE => 3,
-        Tag::MESH => 4,
-        Tag::VRTS => 5,
-        Tag::TRIS => 6,
-        Tag::BONE => 7,
-        Tag::KEYS => 8,
-        Tag::ANIM => 9,
-    }
-}
-
-fn flag_of(b: bool) -> usize
-    ensures { λ r. ⌜ r ≡ flag b ⌝ }
-{
-    if b {
-        return 1;
-    }
-    0
 }
 
 // Writes the record `f` at place `i`.

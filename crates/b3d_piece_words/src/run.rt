@@ -1,25 +1,30 @@
-// A piece: a turn for each byte, and for each chunk that is entered or left.
-ghost use Rattle.b3d_piece_words.specs.Words.{CanRun, RunIs};
+// A piece: a turn for each byte that is not passed over, and for each chunk that is entered or left.
+ghost use Prim.Native.Nat.{_/_};
+ghost use lib.ListN.{length};
+ghost use Rattle.b3d_pieces.specs.Row.{openAt};
+ghost use Rattle.b3d_piece_take.specs.Runs.{CanRun, RunIs};
 use crate::records::open_at;
 use crate::records::put_open;
+use b3d_piece_pass::passing::pass;
 use b3d_piece_take::Judge;
 use b3d_piece_take::steps::begin;
 use b3d_piece_take::steps::step;
 
-// The bytes of a piece, one after the other.
+// The bytes of a piece.
 pub fn run(j: Judge, row: &mut [usize], piece: &[u8]) -> Judge
-    requires { ⌜ CanRun j (now row) ⌝ }
-    ensures { λ r. ⌜ RunIs j (now (row .entry)) (now (piece .entry)) r (now (row .exit)) ⌝ }
+    requires { ⌜ CanRun j (length (now row) / 11) (openAt (now row)) ⌝ }
+    ensures { λ r. ⌜ RunIs j (openAt (now (row .entry))) (now (piece .entry)) r (length (now (row .exit)) / 11) (openAt (now (row .exit))) ⌝ }
 {
-    let mut t = begin(j, piece.len());
+    let mut t = pass(begin(j, piece.len()), piece);
     while t.at < t.end {
         let get = t.get;
         let at = t.at;
         let top = open_at(row, get);
-        t = step(t, top, piece[at]);
-        let put = t.put;
-        let rec = t.rec;
+        let s = step(t, top, piece[at]);
+        let put = s.put;
+        let rec = s.rec;
         put_open(row, put, rec);
+        t = pass(s, piece);
     }
     t.judge
 }

@@ -45,11 +45,11 @@ tag-back BONE = refl
 tag-back KEYS = refl
 tag-back ANIM = refl
 
-flag-back : (b : Bool) → eqb (flag b) 1 ≡ b
+pub flag-back : (b : Bool) → eqb (flag b) 1 ≡ b
 flag-back true = refl
 flag-back false = refl
 
-of-words : (f : Open) → openOf (tagNumber (f .tag)) (f .head) (f .end) (f .turn) (flag (f .spent)) (f .level) (f .kept .first) (f .kept .second) (f .kept .third) (f .count) (f .told) ≡ f
+pub of-words : (f : Open) → openOf (tagNumber (f .tag)) (f .head) (f .end) (f .turn) (flag (f .spent)) (f .level) (f .kept .first) (f .kept .second) (f .kept .third) (f .count) (f .told) ≡ f
 of-words f = λ i. record { tag = tag-back (f .tag) i; head = f .head; end = f .end; turn = f .turn; spent = flag-back (f .spent) i; level = f .level; kept = f .kept; count = f .count; told = f .told }
 
 pub open-put : (row : List ℕ) (i : ℕ) (f : Open) → i * 11 + 11 ≤ length row → openAt (putOpen row i f) i ≡ f

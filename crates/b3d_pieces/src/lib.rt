@@ -6,6 +6,7 @@ use b3d_scene::Tag;
 
 // What was counted so far: version, n_texs and the rows of each table. Of the present node: the vertices of its mesh, how many vertices the
 // nodes above it told it that bones may name, and how many it tells those below.
+#[repr(C)]
 pub struct Totals {
     pub version: usize,
     pub slots: usize,
@@ -18,6 +19,7 @@ pub struct Totals {
 }
 
 // The first three numbers of a row.
+#[repr(C)]
 pub struct Kept {
     pub first: usize,
     pub second: usize,

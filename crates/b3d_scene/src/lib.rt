@@ -28,6 +28,7 @@ pub enum Mode {
 pub const NODE_WIDTH: usize = 21;
 
 // How many rows of tables 3 to 10 came before.
+#[repr(C)]
 pub struct Counts {
     pub nodes: usize,
     pub meshes: usize,

@@ -9,6 +9,7 @@
 //! last columns are ratios of medians.
 
 mod cal3d;
+mod pieces;
 
 use kelompuris::{slices, Mode};
 use scenes::Chunk;
@@ -55,6 +56,7 @@ fn main() {
     }
     colours();
     label_line();
+    pieces::lines();
     cal3d::lines();
 }
 

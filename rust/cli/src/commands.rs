@@ -1,4 +1,4 @@
-//! The commands, those on scenes in a mode but for `clear`, `slip` and `label`. What goes to standard output is added to `out`, by those
+//! The commands, those on scenes in a mode but for `clear`, `slip`, `label` and `stream`. What goes to standard output is added to `out`, by those
 //! that print; the others say nothing unless they stop.
 
 use crate::answer::{about, in_words, Stop, SCENE};
@@ -6,8 +6,10 @@ use crate::columns::{Table, HEAD, NODES, TABLES};
 use crate::output::{put_file, put_folder};
 use crate::scene::{self, load, name, Scene};
 use crate::text;
+use kelompuris::pieces::Pieces;
 use kelompuris::{judge, read_slip, Answer, Mode};
 use std::fs;
+use std::io::{ErrorKind, Read};
 use std::path::Path;
 
 /// A line for each file: its answer in words.
@@ -58,6 +60,35 @@ pub fn list(mode: Mode, path: &Path, out: &mut Vec<u8>) -> Result<(), Stop> {
     for node in scene.tables[NODES].chunks(TABLES[NODES].words()) {
         add_line(out, shown(name(&scene.names, node)));
     }
+    Ok(())
+}
+
+/// How many bytes `stream` takes at a time, and the most that it can be told to.
+pub const PIECE: usize = 200;
+pub const LARGEST_PIECE: usize = 65_536;
+
+/// The same without names for a file that comes by an input, so many bytes at a
+/// time. It is never held; behind the largest file nothing is read.
+pub fn stream(most: usize, input: &mut impl Read, out: &mut Vec<u8>) -> Result<(), Stop> {
+    let path = Path::new("standard input");
+    let mut input = input.take(scene::LARGEST + 1);
+    let mut bytes = vec![0; most];
+    let mut pieces = Pieces::default();
+    loop {
+        match input.read(&mut bytes) {
+            Ok(0) => break,
+            Ok(count) => pieces.piece(&bytes[..count]),
+            Err(error) if error.kind() == ErrorKind::Interrupted => {}
+            Err(error) => return Err(Stop::failed(path, error)),
+        }
+    }
+    let answer = pieces.close();
+    add_numbers(out, &[answer.number, answer.place]);
+    if answer.number != 0 {
+        return Err(Stop::refused(&SCENE, path, answer.number, answer.place));
+    }
+    add_numbers(out, &[answer.version, answer.n_texs]);
+    add_numbers(out, &answer.counts);
     Ok(())
 }
 

@@ -1,4 +1,4 @@
-//! `kelompuris`: B3D scene files checked, listed, labelled, taken apart, put
+//! `kelompuris`: B3D scene files checked, also as they come, listed, labelled, taken apart, put
 //! together and cleared of names, and their slips; skeletons and meshes of cal3d
 //! checked, listed and taken apart; all by the proved functions.
 
@@ -22,6 +22,7 @@ use std::process::ExitCode;
 const USAGE: &str = "\
 usage: kelompuris check [--lenient] FILE..
        kelompuris list [--lenient] FILE
+       kelompuris stream [--piece N]
        kelompuris label FILE
        kelompuris tables [--lenient] FILE DIR
        kelompuris build [--lenient] DIR OUT
@@ -42,6 +43,8 @@ check   one line for each file: accepted and what it holds, or the refusal's
         number, its place and what that means
 list    number and place; if accepted version and n_texs, the ten row counts
         and the name of each node
+stream  the first three lines of `list` for a file that comes by standard input: it
+        is taken N bytes at a time (1 to 65536, 200 without N) and never held
 label   number and place; if found the root's name and the vertices of its
         mesh, by a walk over headers that does not check the file
 tables  the ten tables of a file and scene.tsv (version, n_texs) as texts in
@@ -105,6 +108,10 @@ fn run(args: &[OsString], out: &mut Vec<u8>) -> Result<(), Stop> {
     match (command, &paths[..]) {
         (Some("check"), [_, ..]) => commands::check(mode, &paths, out),
         (Some("list"), [file]) => commands::list(mode, file, out),
+        (Some("stream"), words) => match most_of(words) {
+            Some(most) => commands::stream(most, &mut io::stdin().lock(), out),
+            None => usage(),
+        },
         (Some("label"), [file]) => commands::label(file, out),
         (Some("tables"), [file, folder]) => commands::tables(mode, file, folder),
         (Some("build"), [folder, target]) => commands::build(mode, folder, target),
@@ -124,6 +131,20 @@ fn run(args: &[OsString], out: &mut Vec<u8>) -> Result<(), Stop> {
             Ok(())
         }
         _ => usage(),
+    }
+}
+
+/// The most bytes of a piece that the words behind `stream` ask for.
+fn most_of(words: &[&Path]) -> Option<usize> {
+    match words {
+        [] => Some(commands::PIECE),
+        [flag, most] if *flag == Path::new("--piece") => {
+            let most = most.to_str()?.parse().ok()?;
+            (1..=commands::LARGEST_PIECE)
+                .contains(&most)
+                .then_some(most)
+        }
+        _ => None,
     }
 }
 

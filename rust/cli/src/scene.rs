@@ -8,7 +8,7 @@ use std::io::{self, Read};
 use std::path::Path;
 
 /// The largest file of the format.
-const LARGEST: u64 = 16_777_216;
+pub const LARGEST: u64 = 16_777_216;
 
 /// Ten tables with version, n_texs and the bytes that hold the names.
 pub struct Scene {

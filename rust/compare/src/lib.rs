@@ -6,12 +6,14 @@
 //! - `cal3d`: skeletons and meshes of cal3d.
 //! - `lent`: tables to lend, and what becomes of them.
 //! - `output`: writing, clearing and slips of files.
+//! - `pieces`: a file in pieces.
 //! - `slip`: reading slips.
 //! - `run`: runs groups of comparisons and prints what was compared.
 
 mod cal3d;
 mod lent;
 mod output;
+pub mod pieces;
 mod run;
 mod slip;
 
@@ -42,6 +44,8 @@ pub struct Compared {
     pub bytes: usize,
     /// Slips that were read.
     pub slips: usize,
+    /// Pieces of files that were handed over.
+    pub pieces: usize,
     /// How often each number was answered.
     pub numbers: [usize; NUMBERS],
 }

@@ -49,6 +49,7 @@ impl Compared {
             (self.outputs, "outputs"),
             (self.bytes, "bytes"),
             (self.slips, "slips"),
+            (self.pieces, "pieces"),
         ];
         let met = counts.iter().filter(|(count, _)| *count > 0);
         let parts: Vec<String> = met.map(|(count, what)| format!("{count} {what}")).collect();

@@ -2,6 +2,7 @@
 //! each stand in `include/kelompuris.h`.
 
 pub mod cal3d;
+pub mod pieces;
 
 /// Whether a red, green, blue or alpha outside 0 to 1 is refused.
 #[repr(u32)]

@@ -5,7 +5,7 @@ use std::path::Path;
 use std::process::Command;
 
 /// Each program and what it prints.
-const SAMPLES: [(&str, &str); 4] = [
+const SAMPLES: [(&str, &str); 5] = [
     (
         "read_sample",
         "\
@@ -49,6 +49,19 @@ cut slip: 13 14, 0 0 0 0 0 0 0 0 0 0 0 0
 spare byte: 13 15, 0 0 0 0 0 0 0 0 0 0 0 0
 four groups: 13 2, 0 0 0 0 0 0 0 0 0 0 0 0
 no slip: 13 0, 0 0 0 0 0 0 0 0 0 0 0 0
+",
+    ),
+    (
+        "pieces_sample",
+        "\
+byte by byte: 0 0, 1 0, 0 0 1 0 0 0 0 0 0 0
+piece after the close: 15 0
+close after the close: 15 0, 0 0, 0 0 0 0 0 0 0 0 0 0
+18 records: 11 19
+close with none: 11 19, 0 0, 0 0 0 0 0 0 0 0 0 0
+changed: 0
+cuts accepted: 66
+cut short: 2 4, 0 0, 0 0 0 0 0 0 0 0 0 0
 ",
     ),
     (

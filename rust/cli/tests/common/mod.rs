@@ -40,6 +40,14 @@ pub fn run(folder: &Path, args: &[&str]) -> Run {
     outcome(folder, Command::new(PROGRAM).args(args))
 }
 
+/// The same with these bytes as its standard input.
+pub fn run_on(folder: &Path, args: &[&str], input: &[u8]) -> Run {
+    let path = folder.join("standard_input");
+    fs::write(&path, input).expect("an input");
+    let input = fs::File::open(path).expect("an input");
+    outcome(folder, Command::new(PROGRAM).args(args).stdin(input))
+}
+
 /// The same where every write to a file fails.
 pub fn run_on_full_disk(folder: &Path, args: &[&str]) -> Run {
     let script = "trap '' XFSZ; ulimit -f 0; exec \"$0\" \"$@\"";

@@ -1,12 +1,13 @@
 -- `row_load` holds just where the statement does.
 use Prim.Native.Nat.{_-_}
 use borrow.Author.Needs.{needs}
+use Rattle.b3d_pieces.specs.Row.{openAt}
 use Rattle.b3d_piece_entry.proofs.Testing.{Loaded, loaded-laws}
 use Rattle.b3d_piece_entry.proofs.loads.row_load.Statement.{statement}
 use Rattle.b3d_piece_entry.proofs.loads.row_load.Tie as tie
 
 abbrev Inv-loop : tie.InvT-loop
-Inv-loop row n total₀ i₀ total i = Loaded row n total i
+Inv-loop row n total₀ i₀ total i = Loaded (openAt row) n total i
 
 abbrev μ-loop : tie.MeasureT-loop
 μ-loop row n total₀ i₀ total i = n - i

@@ -1,6 +1,6 @@
--- `run` takes the piece's bytes one after the other.
+-- `run` takes the piece's bytes.
 use borrow.Author.Needs.{needs}
-use Rattle.b3d_piece_take.proofs.LoopLaws.{leftOf}
+use Rattle.b3d_piece_take.specs.Loops.{leftOf}
 use Rattle.b3d_piece_words.proofs.Running.{Inv, run-laws}
 use Rattle.b3d_piece_words.proofs.run.run.Statement.{statement}
 use Rattle.b3d_piece_words.proofs.run.run.Tie as tie
@@ -18,9 +18,11 @@ run-spec =
     Inv-loop
     μ-loop
     (λ c κs. search (run-laws, needs))
+    (λ c κs. search (run-laws, needs))
     (λ c. search (run-laws, needs))
     (λ c κs. search (run-laws, needs))
     (λ c. search (run-laws, needs))
+    (λ c κs. search (run-laws, needs))
     (λ c κs. search (run-laws, needs))
     (λ c κs. search (run-laws, needs))
     (λ c. search (run-laws, needs))

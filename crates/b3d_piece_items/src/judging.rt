@@ -1,0 +1,118 @@
+// Which numbers of a row are judged, by the tag of its chunk.
+ghost use mathlib.Core.Path.{_≡_};
+ghost use Rattle.b3d_pieces.specs.Good.{Words};
+ghost use Rattle.b3d_piece_numbers.specs.Places.{JudgedIs, RulesAre};
+ghost use Rattle.b3d_piece_items.specs.Items.{AnyRow, idsOf, FixedIs, AgainIs};
+ghost use mathlib.Core.Bool.{false as inside};
+use b3d_piece_numbers::Judged;
+use b3d_piece_numbers::RowRules;
+use b3d_piece_rules::faults::bone_vertices;
+use b3d_piece_rules::lengths::row_len;
+use b3d_pieces::Kept;
+use b3d_pieces::Open;
+use b3d_pieces::Totals;
+use b3d_scene::Tag;
+
+// Rows that are left to the machine's own turns: every number is judged, and none is passed over.
+fn every() -> Judged
+    ensures { λ r. ⌜ AnyRow r ⌝ }
+{
+    Judged {
+        first: 0,
+        past: 4294967295,
+        colour: false,
+        names: 0,
+    }
+}
+
+fn ids(past: usize, names: usize) -> Judged
+    ensures { λ r. ⌜ r ≡ idsOf past names ⌝ }
+{
+    Judged {
+        first: 0,
+        past: past,
+        colour: false,
+        names: names,
+    }
+}
+
+// Fixed data.
+fn fixed_judged(tag: Tag) -> Judged
+    ensures { λ r. ⌜ FixedIs tag r ⌝ }
+{
+    match tag {
+        Tag::TEXS => ids(0, 0),
+        Tag::NODE => ids(0, 0),
+        Tag::BONE => ids(0, 0),
+        Tag::ANIM => ids(0, 0),
+        _ => every(),
+    }
+}
+
+// An item, or the header of a chunk inside.
+fn inner_judged(tag: Tag, k: Kept, g: Totals) -> Judged
+    ensures { λ r. ⌜ JudgedIs r inside tag k g ⌝ }
+{
+    match tag {
+        Tag::BB3D => ids(0, 0),
+        Tag::TEXS => ids(0, 0),
+        Tag::BRUS => every(),
+        Tag::NODE => ids(0, 0),
+        Tag::MESH => ids(0, 0),
+        Tag::VRTS => {
+            let first = 3 + k.first / 1 % 2 * 3;
+            Judged {
+                first: first,
+                past: first + k.first / 2 % 2 * 4,
+                colour: true,
+                names: 0,
+            }
+        }
+        Tag::TRIS => ids(3, g.own),
+        Tag::BONE => ids(1, bone_vertices(g)),
+        Tag::KEYS => ids(0, 0),
+        Tag::ANIM => ids(0, 0),
+    }
+}
+
+// Rows of numbers, one after the other.
+fn again(fixed: bool, tag: Tag) -> bool
+    ensures { λ r. ⌜ AgainIs fixed tag r ⌝ }
+{
+    if fixed {
+        return false;
+    }
+    match tag {
+        Tag::VRTS => true,
+        Tag::TRIS => true,
+        Tag::BONE => true,
+        Tag::KEYS => true,
+        _ => false,
+    }
+}
+
+fn judged(fixed: bool, tag: Tag, k: Kept, g: Totals) -> Judged
+    ensures { λ r. ⌜ JudgedIs r fixed tag k g ⌝ }
+{
+    if fixed {
+        return fixed_judged(tag);
+    }
+    inner_judged(tag, k, g)
+}
+
+pub fn row_rules(fixed: bool, g: Totals, f: Open) -> RowRules
+    requires { ⌜ Words (f .kept) ⌝ }
+    ensures { λ r. ⌜ RulesAre r fixed g f ⌝ }
+{
+    let tag = f.tag;
+    let kept = f.kept;
+    let n = row_len(fixed, tag, kept, g);
+    let q = judged(fixed, tag, kept, g);
+    let more = again(fixed, tag);
+    RowRules {
+        long: n,
+        judged: q,
+        again: more,
+        end: f.end,
+    }
+}

@@ -1,0 +1,105 @@
+// Rows of numbers in a piece.
+ghost use Prim.Native.Nat.{_≤_};
+ghost use lib.ListN.{length};
+ghost use Rattle.b3d_piece_numbers.specs.Places.{Sound, Took};
+ghost use Rattle.b3d_piece_items.specs.Items.{WholeRows, Skips};
+use b3d_piece_numbers::RowPlace;
+use b3d_piece_numbers::RowRules;
+use b3d_piece_numbers::numbers::gather;
+use b3d_piece_numbers::numbers::last_byte;
+use b3d_piece_numbers::numbers::lower;
+use b3d_piece_numbers::numbers::numbers;
+use b3d_piece_parts::between::less;
+use b3d_pieces::Kept;
+
+// As many rows of n numbers as stand in so many bytes, with one more in so many.
+fn whole_rows(a: usize, b: usize, n: usize) -> usize
+    ensures { λ r. ⌜ WholeRows a b n r ⌝ }
+{
+    if n == 0 {
+        return 0;
+    }
+    let there = b / 4 / n;
+    if there == 0 {
+        return 0;
+    }
+    lower(a / 4 / n, there - 1)
+}
+
+// The rows that stand whole in the piece, with one more in the chunk after them, if no number of them is judged.
+fn free_rows(x: RowPlace, q: RowRules, last: usize) -> RowPlace
+    requires { ⌜ Sound last x ⌝ }
+    ensures { λ r. ⌜ Skips last q x r ⌝ }
+{
+    if x.i != 0 {
+        return x;
+    }
+    if x.j != 0 {
+        return x;
+    }
+    let judged = q.judged;
+    if judged.first < judged.past {
+        return x;
+    }
+    if q.again {
+        let n = q.long;
+        let from = x.from;
+        let at = x.at;
+        let left = less(q.end, at);
+        let m = whole_rows(last - from, left, n);
+        if m != 0 {
+            let bytes = 4 * (m * n);
+            let none = Kept {
+                first: 0,
+                second: 0,
+                third: 0,
+            };
+            return RowPlace {
+                from: from + bytes,
+                at: at + bytes,
+                start: at + bytes,
+                i: 0,
+                j: 0,
+                acc: 0,
+                kept: none,
+                count: x.count + m,
+            };
+        }
+    }
+    x
+}
+
+// The number that was begun, to its end.
+fn rest_of_number(x: RowPlace, q: RowRules, piece: &[u8], last: usize) -> RowPlace
+    requires { ⌜ Sound last x × (last ≤ length (now piece)) ⌝ }
+    ensures { λ r. ⌜ Took (now (piece .entry)) last q x r ⌝ }
+{
+    if x.j == 0 {
+        return x;
+    }
+    let y = gather(x, piece, last);
+    last_byte(y, q, piece, last)
+}
+
+// The item that was begun, to its end.
+fn rest_of_item(x: RowPlace, q: RowRules, piece: &[u8], last: usize) -> RowPlace
+    requires { ⌜ Sound last x × (last ≤ length (now piece)) ⌝ }
+    ensures { λ r. ⌜ Took (now (piece .entry)) last q x r ⌝ }
+{
+    let y = rest_of_number(x, q, piece, last);
+    if y.i == 0 {
+        return y;
+    }
+    numbers(y, q, true, piece, last)
+}
+
+// A row of numbers and the rows after it, but a last number whose end is more than the end of an item.
+pub fn rows(x: RowPlace, q: RowRules, piece: &[u8], last: usize) -> RowPlace
+    requires { ⌜ Sound last x × (last ≤ length (now piece)) ⌝ }
+    ensures { λ r. ⌜ Took (now (piece .entry)) last q x r ⌝ }
+{
+    let a = rest_of_item(x, q, piece, last);
+    let b = free_rows(a, q, last);
+    let c = numbers(b, q, false, piece, last);
+    gather(c, piece, last)
+}

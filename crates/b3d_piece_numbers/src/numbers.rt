@@ -1,0 +1,190 @@
+// Numbers of a row that stand whole in the piece, and the bytes of one that does not.
+ghost use mathlib.Core.Path.{_≡_};
+ghost use Prim.Native.Nat.{_+_, _-_, _<_, _≤_};
+ghost use lib.ListN.{length, getD};
+ghost use Rattle.wire.specs.Bytes.{IsWord};
+ghost use Rattle.b3d_pieces.specs.Good.{worth};
+ghost use Rattle.b3d_piece_numbers.specs.Places.{KeepsIs, Sound, Took, NumberReady, NumberIs, Gathered, Adds};
+use crate::Judged;
+use crate::RowPlace;
+use crate::RowRules;
+use b3d_colour::colour_ok;
+use b3d_piece_bytes::rows::keep;
+use b3d_piece_parts::between::less;
+use b3d_pieces::Kept;
+use wire::number_at;
+use wire::size;
+
+// Number i keeps its rule with w.
+fn keeps(q: Judged, i: usize, w: usize) -> bool
+    requires { ⌜ IsWord w ⌝ }
+    ensures { λ r. ⌜ KeepsIs q i w r ⌝ }
+{
+    if i < q.first {
+        return true;
+    }
+    if q.past <= i {
+        return true;
+    }
+    if q.colour {
+        let bits = w as u32;
+        return colour_ok(bits);
+    }
+    w < q.names
+}
+
+// Number i is w: the place after it, before the byte at `next`, if the row goes on or another item of the chunk begins there. Else the same place.
+fn after_number(x: RowPlace, w: usize, next: usize, q: RowRules) -> RowPlace
+    requires { ⌜ NumberReady x w ⌝ }
+    ensures { λ r. ⌜ NumberIs x w next q r ⌝ }
+{
+    let judged = q.judged;
+    let i = x.i;
+    if keeps(judged, i, w) {
+        let at = x.at + 4;
+        if i + 1 != q.long {
+            let k = x.kept;
+            let more = keep(i, w, k);
+            return RowPlace {
+                from: next,
+                at: at,
+                start: x.start,
+                i: i + 1,
+                j: 0,
+                acc: 0,
+                kept: more,
+                count: x.count,
+            };
+        }
+        if q.again {
+            let left = less(q.end, at);
+            if q.long <= left / 4 {
+                let none = Kept {
+                    first: 0,
+                    second: 0,
+                    third: 0,
+                };
+                return RowPlace {
+                    from: next,
+                    at: at,
+                    start: at,
+                    i: 0,
+                    j: 0,
+                    acc: 0,
+                    kept: none,
+                    count: x.count + 1,
+                };
+            }
+        }
+    }
+    x
+}
+
+fn byte_at(piece: &[u8], from: usize) -> usize
+    requires { ⌜ from < length (now piece) ⌝ }
+    ensures { λ r. ⌜ (r ≡ getD (now (piece .entry)) from 0) × (r < 256) ⌝ }
+{
+    piece[from] as usize
+}
+
+// The next number, which stands whole in the piece.
+fn number(x: RowPlace, q: RowRules, piece: &[u8], last: usize) -> RowPlace
+    requires { ⌜ Sound last x × (last ≤ length (now piece)) × (4 ≤ last - x .from) ⌝ }
+    ensures { λ r. ⌜ Took (now (piece .entry)) last q x r ⌝ }
+{
+    if x.j != 0 {
+        return x;
+    }
+    let from = x.from;
+    let w = size(number_at(piece, from));
+    after_number(x, w, from + 4, q)
+}
+
+// The next numbers, as many as can be taken; up to the end of an item where `item` is set.
+pub fn numbers(x: RowPlace, q: RowRules, item: bool, piece: &[u8], last: usize) -> RowPlace
+    requires { ⌜ Sound last x × (last ≤ length (now piece)) ⌝ }
+    ensures { λ r. ⌜ Took (now (piece .entry)) last q x r ⌝ }
+{
+    let mut y = x;
+    while 4 <= last - y.from {
+        let from = y.from;
+        y = number(y, q, piece, last);
+        if y.from == from {
+            return y;
+        }
+        if item {
+            if y.i == 0 {
+                return y;
+            }
+        }
+    }
+    y
+}
+
+// The last byte of a number, if it stands in the piece.
+pub fn last_byte(x: RowPlace, q: RowRules, piece: &[u8], last: usize) -> RowPlace
+    requires { ⌜ Sound last x × (last ≤ length (now piece)) ⌝ }
+    ensures { λ r. ⌜ Took (now (piece .entry)) last q x r ⌝ }
+{
+    if x.j != 3 {
+        return x;
+    }
+    let from = x.from;
+    if last == from {
+        return x;
+    }
+    let w = x.acc + 16777216 * byte_at(piece, from);
+    after_number(x, w, from + 1, q)
+}
+
+// What j bytes of a number and one more are worth.
+fn gathered(j: usize, acc: usize, b: u8) -> usize
+    requires { ⌜ (j < 3) × (acc < worth j) × (acc < 16777216) ⌝ }
+    ensures { λ r. ⌜ Adds j acc b r ⌝ }
+{
+    let v = b as usize;
+    if j == 0 {
+        return v;
+    }
+    if j == 1 {
+        return acc + 256 * v;
+    }
+    acc + 65536 * v
+}
+
+pub fn lower(a: usize, b: usize) -> usize
+    ensures { λ r. ⌜ (r ≤ a) × (r ≤ b) ⌝ }
+{
+    if a < b {
+        return a;
+    }
+    b
+}
+
+// The next bytes of a number, but its last.
+pub fn gather(x: RowPlace, piece: &[u8], last: usize) -> RowPlace
+    requires { ⌜ Sound last x × (last ≤ length (now piece)) ⌝ }
+    ensures { λ r. ⌜ Gathered (now (piece .entry)) last x r ⌝ }
+{
+    let mut from = x.from;
+    let mut j = x.j;
+    let mut acc = x.acc;
+    let more = lower(last - from, 3 - j);
+    let stop = from + more;
+    while from < stop {
+        acc = gathered(j, acc, piece[from]);
+        j += 1;
+        from += 1;
+    }
+    let kept = x.kept;
+    RowPlace {
+        from: from,
+        at: x.at,
+        start: x.start,
+        i: x.i,
+        j: j,
+        acc: acc,
+        kept: kept,
+        count: x.count,
+    }
+}

@@ -1,0 +1,4 @@
+pub mod RoundLaws
+pub mod TestRounds
+pub mod PieceRounds
+pub mod CloseRounds

@@ -1,0 +1,20 @@
+-- `closed` does what its promise says.
+use mathlib.Core.Path.{refl}
+use borrow.Author.Needs.{needs}
+use Rattle.b3d_piece_rounds.proofs.RoundLaws.{close-calm, closed-taken, closed-refused}
+use Rattle.b3d_piece_rounds.proofs.closing.closed.Statement.{statement}
+use Rattle.b3d_piece_rounds.proofs.closing.closed.Tie as tie
+
+pub closed-spec : {M : Type 1} → statement M
+closed-spec =
+    tie.close
+    (tie.spec
+    (λ c κs. close-calm _ (c .before .before .before .pre) (c .if1 .taken))
+    (λ c κs. search needs)
+    (λ c κs. search needs)
+    (λ c κs. search needs)
+    (λ c. closed-taken _ _ _ (c .before .before .before .before .before .before .before .pre) (c .before .before .before .before .if1 .taken) _ (c .before .before .before .joined .ensures) _ (c .before .before .answer-of .ensures) _ (c .before .outward .ensures) _ (c .state-of .ensures) refl)
+    (λ c. search needs)
+    (λ c κs. search needs)
+    (λ c κs. search needs)
+    (λ c. closed-refused _ _ _ (c .before .before .before .if1 .left) _ (c .before .refused .ensures) _ (c .outward2 .ensures) refl))

@@ -1,0 +1,13 @@
+-- `first` does what its promise says.
+use borrow.Author.Needs.{needs}
+use Rattle.b3d_piece_rounds.proofs.RoundLaws.{first-by}
+use Rattle.b3d_piece_rounds.proofs.tests.first.Statement.{statement}
+use Rattle.b3d_piece_rounds.proofs.tests.first.Tie as tie
+
+pub first-spec : {M : Type 1} → statement M
+first-spec =
+    tie.close
+    (tie.spec
+    (λ c κs. search needs)
+    (λ c κs. search needs)
+    (λ c. first-by _ _ (c .before .judge-of .ensures) _ _ _ (c .first-of .ensures)))
