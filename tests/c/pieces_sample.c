@@ -2,6 +2,7 @@
  * cut short. Counts the calls that changed what they must not.
  * The test rust/kelompuris/tests/c_program.rs builds and runs it, as C and as C++. */
 #include "hall.h"
+#include "answer.h"
 #include "kelompuris.h"
 #include <assert.h>
 #include <stdio.h>
@@ -11,16 +12,6 @@ static_assert(sizeof(kelompuris_b3d_open_chunk) == 11 * sizeof(size_t), "eleven 
 static_assert(sizeof(kelompuris_b3d_piece_state) == 8 + 41 * sizeof(size_t), "forty-three numbers, no gap");
 
 static kelompuris_b3d_open_chunk row[KELOMPURIS_B3D_OPEN_CHUNKS];
-
-static void print(const char *about, kelompuris_answer answer) {
-    int i;
-    printf("%s: %u %u, %u %u,", about, (unsigned)answer.number, (unsigned)answer.place,
-           (unsigned)answer.version, (unsigned)answer.n_texs);
-    for (i = 0; i < 10; i++) {
-        printf(" %u", (unsigned)answer.counts[i]);
-    }
-    printf("\n");
-}
 
 /* The state after these bytes, handed over in pieces of so many. */
 static kelompuris_b3d_piece_state after(kelompuris_b3d_piece_state state, const uint8_t *bytes, size_t len, size_t most) {

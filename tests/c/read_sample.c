@@ -2,6 +2,7 @@
  * a file with a brush whose alpha is not a number, in both modes and in one that is none. Then prints the label of H, and of H cut.
  * The test rust/kelompuris/tests/c_program.rs builds and runs it, as C and as C++. */
 #include "hall.h"
+#include "answer.h"
 #include "kelompuris.h"
 #include <assert.h>
 #include <stdio.h>
@@ -12,16 +13,6 @@ static_assert(sizeof(kelompuris_answer) == 14 * 4, "fourteen words, no gap");
 static const uint8_t brush[53] = {
     'B', 'B', '3', 'D', 45, 0, 0, 0, 1, 0, 0, 0, 'B', 'R', 'U', 'S', 33, 0, 0, 0, 0, 0, 0, 0, 0,
     0, 0, 0x80, 0x3F, 0, 0, 0x80, 0x3F, 0, 0, 0x80, 0x3F, 0, 0, 0xC0, 0x7F};
-
-static void print(const char *about, kelompuris_answer answer) {
-    int i;
-    printf("%s: %u %u, %u %u,", about, (unsigned)answer.number, (unsigned)answer.place,
-           (unsigned)answer.version, (unsigned)answer.n_texs);
-    for (i = 0; i < 10; i++) {
-        printf(" %u", (unsigned)answer.counts[i]);
-    }
-    printf("\n");
-}
 
 /* Reads into a table of nodes of this many words; the other tables have none. */
 static kelompuris_answer read_nodes(const uint8_t *file, size_t len, uint32_t *nodes, size_t words) {

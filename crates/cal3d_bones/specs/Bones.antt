@@ -10,7 +10,7 @@ use Rattle.layout.specs.Out.{Out, got, bad, _>>=_}
 use Rattle.layout.specs.Parts.{Step, wordsOf, row, number}
 use Rattle.layout.specs.Counted.{times}
 use Rattle.layout.specs.Rows.{nameCells}
-use Rattle.layout.proofs.Lists.{All}
+use Rattle.layout.specs.Lists.{All}
 use Rattle.cal3d_scene.specs.Rules.{boneNumbers, childrenAt, childNumbers}
 use Rattle.cal3d_scene.specs.Skeletons.{Bone, parentOf, listOf}
 use Rattle.cal3d_scene.specs.Tables.{childRows}
