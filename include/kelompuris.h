@@ -208,7 +208,7 @@ kelompuris_label kelompuris_b3d_label(const uint8_t *file, size_t file_len);
  *    number                                                              place
  *   11  fewer than 19 records are lent                                   19, the records needed
  *   15  a piece or a close after the close, or a state and a row that    0
- *       no calls lead to
+ *       cannot be gone on with
  *
  * A record and the state hold no bytes of the file but those of the number that is being read.
  */

@@ -19,8 +19,8 @@ use Rattle.b3d_pieces.specs.declared.Totals.{Totals}
 use Rattle.b3d_pieces.specs.declared.Open.{Open}
 use Rattle.b3d_pieces.specs.Bodies.{entered}
 use Rattle.b3d_pieces.specs.Machine.{fault, fresh, reachedBy, enter, enterNode, opened, skipFrom, stand, known, headerDone}
-use Rattle.b3d_pieces.specs.Good.{Deep, Bound, sum, load, extra}
-use Rattle.b3d_pieces.proofs.Depth.{Child, none-words, child}
+use Rattle.b3d_pieces.specs.Good.{Deep, Bound, sum, load, extra, Child}
+use Rattle.b3d_pieces.proofs.Depth.{none-words, child}
 use Rattle.b3d_turns.specs.declared.Reached.{Reached as Turns}
 use Rattle.b3d_turns.specs.declared.Permit.{Permit}
 use Rattle.b3d_turns.specs.declared.Permit.the-variants.{No, Yes}

@@ -8,8 +8,7 @@ use Rattle.b3d_scene.specs.Nesting.{nesting, next}
 use Rattle.b3d_pieces.specs.declared.Totals.{Totals}
 use Rattle.b3d_pieces.specs.declared.Open.{Open}
 use Rattle.b3d_pieces.specs.Machine.{State, opened, stand, reachedBy}
-use Rattle.b3d_pieces.specs.Good.{Deep, sum, load}
-use Rattle.b3d_pieces.proofs.Depth.{Child}
+use Rattle.b3d_pieces.specs.Good.{Deep, sum, load, Child}
 use Rattle.b3d_piece_parts.specs.declared.Now.{Now}
 use Rattle.b3d_piece_parts.specs.Nows.{stateWith, GoodNow}
 

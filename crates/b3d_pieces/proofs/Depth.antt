@@ -28,7 +28,7 @@ use Rattle.b3d_pieces.specs.declared.Part.the-variants.{Text, Row, Skip}
 use Rattle.b3d_pieces.specs.Bodies.{fixedRow, ruleAt, nests, textItems, wrongFor, noneKept, keep, headed, entered, closed}
 use Rattle.b3d_pieces.specs.Machine.{State, live, fault, over, rules, fresh, numbered, counting, reaching, reachedBy, begin, edge, textFrom, fixedDone, fixedRowFrom, enter, enterNode, opened, skipFrom, stand, known, headerDone, innerDone, rowDone, rowFrom, wordDone, textDone, textByte, rowByte, byteIn, step, run}
 use Rattle.b3d_pieces.specs.Close.{nothing, body, Whole, heading, inside, Held, headByte, wholeByte, byte, piece, freshHeld}
-use Rattle.b3d_pieces.specs.Good.{Bound, Words, Deep, sum, extra, load, Fits, worth, Off, Good, GoodWhole, GoodHeld}
+use Rattle.b3d_pieces.specs.Good.{Bound, Words, Deep, sum, extra, load, Fits, worth, Off, Good, GoodWhole, GoodHeld, Child}
 
 pub bound-most : (t : Tag) (l n : ℕ) → Bound t l n → n ≤ 18
 bound-most = by-tag (λ t. (l n : ℕ) → Bound t l n → n ≤ 18) (λ l n h. omega arith, λ l n h. omega arith, λ l n h. omega arith, λ l n h. omega arith, λ l n h. omega arith, λ l n h. omega arith, λ l n h. omega arith, λ l n h. omega arith, λ l n h. omega arith, λ l n h. omega arith)
@@ -36,19 +36,6 @@ bound-most = by-tag (λ t. (l n : ℕ) → Bound t l n → n ≤ 18) (λ l n h. 
 -- at most 19 open chunks, 18 around the innermost
 pub good-depth : (n at : ℕ) (m : Part) (g : Totals) (f : Open) (R : List Open) → Good n (live at m g f R) → length R ≤ 18
 good-depth n at m g f R h = bound-most (f .tag) (f .level) (length R) (h .0 .0 .0)
-
--- a chunk of tag t inside one with so many levels left and so many chunks around it
-abbrev pub Child : Tag → ℕ → ℕ → Type 0
-Child BB3D l n = ⊥
-Child TEXS l n = suc n ≤ 18
-Child BRUS l n = suc n ≤ 18
-Child NODE l n = (m : ℕ) → l ≡ suc m → suc n + m ≤ 16
-Child MESH l n = suc n ≤ 17
-Child VRTS l n = suc n ≤ 18
-Child TRIS l n = suc n ≤ 18
-Child BONE l n = suc n ≤ 18
-Child KEYS l n = suc n ≤ 18
-Child ANIM l n = suc n ≤ 18
 
 children : (k : Tag) (l n : ℕ) → Bound k l n → EachTag (λ t. Child t l n) (nesting k)
 children BB3D l n h = omega arith ▸ omega arith ▸ (λ m z. omega arith) ▸ tt

@@ -29,6 +29,19 @@ Bound BONE l n = n ≤ 18
 Bound KEYS l n = n ≤ 18
 Bound ANIM l n = n ≤ 18
 
+-- a chunk of tag t inside one with so many levels left and so many chunks around it
+abbrev pub Child : Tag → ℕ → ℕ → Type 0
+Child BB3D l n = ⊥
+Child TEXS l n = suc n ≤ 18
+Child BRUS l n = suc n ≤ 18
+Child NODE l n = (m : ℕ) → l ≡ suc m → suc n + m ≤ 16
+Child MESH l n = suc n ≤ 17
+Child VRTS l n = suc n ≤ 18
+Child TRIS l n = suc n ≤ 18
+Child BONE l n = suc n ≤ 18
+Child KEYS l n = suc n ≤ 18
+Child ANIM l n = suc n ≤ 18
+
 -- numbers of four bytes
 abbrev pub Words : Kept → Type 0
 Words k = IsWord (k .first) × IsWord (k .second) × IsWord (k .third)
