@@ -11,22 +11,23 @@ use Rattle.layout.specs.Out.{got, bad, _>>=_}
 use Rattle.layout.specs.Lists.{All}
 use Rattle.b3d_scene.specs.declared.Answer.{Answer}
 use Rattle.b3d_scene.specs.declared.Mode.{Mode}
-use Rattle.b3d_scene.specs.Answers.{firstNot, judge, read, answer, readAnswer}
+use Rattle.b3d_scene.specs.Answers.{judge, read, answer, readAnswer}
 use Rattle.b3d_scene.specs.Rules.{rowLimit}
 use Rattle.b3d_scene.specs.Scene.{Scene}
 use Rattle.b3d_scene.specs.Tables.{width, rows, tables, nodeTables, counts}
 use Rattle.b3d_scene.proofs.Refusals.{judge-place}
 use Rattle.b3d_scene.proofs.Rows.Numbers.{each-table}
-use Rattle.b3d_scene.proofs.AnswerLaws.{first-none, first-some, judge-got, judge-first}
+use Rattle.b3d_scene.proofs.AnswerLaws.{judge-got, judge-first}
 use Rattle.b3d_tally.specs.Tally.{tallyOf}
 use Rattle.b3d_judge.specs.Answers.{verdictOf}
 use Rattle.b3d_judge.specs.declared.Summary.{Summary}
 use Rattle.b3d_judge.specs.declared.Verdict.{Verdict}
 use Rattle.b3d_judge.specs.declared.Verdict.the-variants as verdict
-use Rattle.b3d_limits.specs.Rooms.{numberOf, countsIn, firstShort}
+use Rattle.counted.specs.Rooms.{numberOf, firstShort}
+use Rattle.counted.proofs.Rooms.{short-at-most, each-short, each-room}
+use Rattle.b3d_limits.specs.Rooms.{countsIn}
 use Rattle.b3d_limits.specs.Limits.{Limited}
 use Rattle.b3d_answers.specs.Answers.{acceptedAs}
-use Rattle.b3d_limits.proofs.RoomLaws.{short-first, short-at-most}
 use mir.Syntax.{w32}
 use mir.Val.{Fits}
 use Rattle.layout.proofs.Lists.{All}
@@ -39,7 +40,7 @@ cell-fits h = record { fits = omega arith }
 -- ---- `judge` and `answer_for`
 
 -- the counts of the tally are those of the scene
-short-is : (t : Scene) (room : ℕ → ℕ) → firstShort (numberOf (countsIn (tallyOf t))) room tables ≡ firstShort (λ k. length (rows k t)) room tables
+short-is : (t : Scene) (room : ℕ → ℕ) → firstShort width (numberOf (countsIn (tallyOf t))) room tables ≡ firstShort width (λ k. length (rows k t)) room tables
 unfolding firstShort countsIn tables nodeTables
 short-is t room = refl
 
@@ -89,33 +90,30 @@ module _ (mode : Mode) (s : List ℕ) (v : Verdict) (ev : v ≡ verdictOf (judge
     pub judge-good : (y : Answer) → y ≡ acceptedAs x → y ≡ answer (judge mode s)
     judge-good y h = h ∙ ap acceptedAs (good .same) ∙ accepted-is (good .scene) ∙ ap answer (sym (good .is))
 
-    module _ (room : ℕ → ℕ) (n : ℕ) (en : n ≡ firstShort (numberOf (countsIn (x .tally))) room tables) where
+    module _ (room : ℕ → ℕ) (n : ℕ) (en : n ≡ firstShort width (numberOf (countsIn (x .tally))) room tables) where
       abbrev count : ℕ → ℕ
       count k = length (rows k (good .scene))
 
-      short-count : n ≡ firstShort count room tables
-      short-count = en ∙ ap (λ (y : Summary). firstShort (numberOf (countsIn (y .tally))) room tables) (good .same) ∙ short-is (good .scene) room
-
-      first-is : n ≡ firstNot (λ k. leb (width k * count k) (room k)) tables
-      first-is = short-count ∙ short-first count room tables
+      short-count : n ≡ firstShort width count room tables
+      short-count = en ∙ ap (λ (y : Summary). firstShort width (numberOf (countsIn (y .tally))) room tables) (good .same) ∙ short-is (good .scene) room
 
       opened : read mode room s ≡ (eachOf 11 (λ k. leb (width k * count k) (room k)) tables >>= λ _. got (good .scene))
       unfolding read
       opened = rw (good .is)
 
       pub short-fits : n < 4294967296
-      short-fits = let h = short-at-most count room 10 tables (each-table (λ k. k ≤ 10) (λ k a b. b)) in omega (arith, short-count)
+      short-fits = let h = short-at-most width count room 10 tables (each-table (λ k. k ≤ 10) (λ k a b. b)) in omega (arith, short-count)
 
       pub answer-short : (n ≡ 0 → ⊥) → (y : Answer) → y ≡ answer (bad 11 n) → y ≡ readAnswer mode room s
       unfolding readAnswer
       answer-short d y h =
-          let e : read mode room s ≡ bad 11 (firstNot (λ k. leb (width k * count k) (room k)) tables) = rw (opened, first-some 11 (λ k. leb (width k * count k) (room k)) tables (λ q. d (first-is ∙ q))) in
-          h ∙ ap (λ (i : ℕ). answer (bad 11 i)) first-is ∙ ap answer (sym e)
+          let e : read mode room s ≡ bad 11 (firstShort width count room tables) = rw (opened, each-short width count room 11 tables (λ q. d (short-count ∙ q))) in
+          h ∙ ap (λ (i : ℕ). answer (bad 11 i)) short-count ∙ ap answer (sym e)
 
       pub answer-good : n ≡ 0 → (y : Answer) → y ≡ acceptedAs x → y ≡ readAnswer mode room s
       unfolding readAnswer
       answer-good z y h =
-          let e : read mode room s ≡ got (good .scene) = rw (opened, first-none 11 (λ k. leb (width k * count k) (room k)) tables (each-table (λ k. 0 < k) (λ k a b. a)) (sym first-is ∙ z)) in
+          let e : read mode room s ≡ got (good .scene) = rw (opened, each-room width count room 11 tables (each-table (λ k. 0 < k) (λ k a b. a)) (sym short-count ∙ z)) in
           h ∙ ap acceptedAs (good .same) ∙ accepted-is (good .scene) ∙ ap answer (sym e)
 
 pub ruleset judge-laws = (place-fits, judge-bad, good-limited, judge-good)

@@ -4,7 +4,7 @@ ghost use mathlib.Core.List.{[], _∷_};
 ghost use Prim.Native.Nat.{_<_};
 ghost use Rattle.layout.specs.Out.{bad};
 ghost use Rattle.b3d_scene.specs.Answers.{judge, answer, readAnswer};
-ghost use Rattle.b3d_limits.specs.Rooms.{numberOf};
+ghost use Rattle.counted.specs.Rooms.{numberOf};
 ghost use Rattle.b3d_limits.specs.Limits.{Limited};
 ghost use Rattle.b3d_answers.specs.Answers.{acceptedAs};
 use b3d_judge::Summary;

@@ -3,3 +3,4 @@ pub mod Judging
 pub mod KeyLaws
 pub mod IdLaws
 pub mod VertexLaws
+pub mod Going

@@ -8,11 +8,11 @@ use borrow.Author.Tests.{le-leb, lt-leb}
 use Rattle.wire.specs.Bytes.{wordAt}
 use Rattle.wire.specs.Cursors.{Inside, left}
 use Rattle.wire.specs.declared.Cursor.{Cursor}
-use Rattle.wire.proofs.Left.{span, left-length, left-four, left-drop}
+use Rattle.wire.proofs.Left.{span, left-length, left-drop}
 use Rattle.layout.specs.Out.{Out, got, bad, check}
 use Rattle.layout.specs.Parts.{wordsOf, judged, row, items}
 use Rattle.layout.specs.Rules.{Rule, any, unit}
-use Rattle.layout.proofs.StepLaws.{row-enough, row-short}
+use Rattle.layout.proofs.StepLaws.{row-enough, row-short, three-left}
 use Rattle.b3d_scene.specs.declared.Mode.{Mode}
 use Rattle.b3d_scene.specs.declared.Mode.the-variants.{Strict, Lenient}
 use Rattle.b3d_scene.specs.Parse.{Vertices, readVertices}
@@ -83,12 +83,6 @@ after b = span (b .at + 12) (b .end)
 abbrev verticesAt : Mode → List ℕ → Cursor → ℕ → ℕ → ℕ → Out (List (List ℕ))
 verticesAt mode s c flags sets size = items (row (vertexRow mode flags sets size)) (c .at) (left c s)
 
--- one more word of those that a cursor has left
-one-word : (s : List ℕ) (c n : Cursor) (k : ℕ) → Inside c (length s) → c .at + 4 ≤ c .end → n .at ≡ c .at + 4 → n .end ≡ c .end
-    → wordsOf (suc k) (left c s) ≡ wordAt s (c .at) ∷ wordsOf k (left n s)
-unfolding wordAt
-one-word s c n k i h a e = rw (left-four s c n i h a e)
-
 refuses : (o : Out Vertices) (b : Cursor) (n p : ℕ) → o ≡ bad n p → p ≤ b .end → Shapes o b (shape.Not n p)
 refuses o b n p e h = record { is = rw e; within = h }
 
@@ -108,15 +102,7 @@ module _ (mode : Mode) (s : List ℕ) (at : ℕ) (b : Cursor) (body : Body at b 
     inside-after = record { before = omega arith; within = body .within }
 
     three : wordsOf 3 (left b s) ≡ flags ∷ sets ∷ size ∷ []
-    three =
-        rw (
-          f,
-          g,
-          h,
-          one-word s b (span (b .at + 4) (b .end)) 2 inside (omega arith) refl refl,
-          one-word s (span (b .at + 4) (b .end)) (span (b .at + 8) (b .end)) 1 (omega arith) (omega arith) (omega arith) refl,
-          one-word s (span (b .at + 8) (b .end)) (after b) 0 (omega arith) (omega arith) (omega arith) refl,
-        )
+    three = three-left s b inside room ∙ rw (f, g, h)
 
     head : row verticesHead (at + 8) (left b s)
         ≡ judged verticesHead (b .at) (flags ∷ sets ∷ size ∷ []) (record { value = flags ∷ sets ∷ size ∷ []; place = b .at + 12; left = left (after b) s })

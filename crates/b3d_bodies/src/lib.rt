@@ -120,7 +120,7 @@ pub fn judge_triangles(s: &[u8], at: usize, body: Cursor, brushes: usize, vertic
     match body.number(s) {
         Number::Cut => Judged::Bad(5, body.at),
         Number::Is(brush, items) => {
-            if !b3d_items::id_named(brush, brushes, true) {
+            if !counted::id_named(brush, brushes, true) {
                 return Judged::Bad(7, body.at);
             }
             match b3d_items::id_items(s, items, 3, 3, vertices) {

@@ -15,26 +15,15 @@ pub fn nodes_before(file: &[u8], from: usize, end: usize) -> u32
     let mut at = from;
     let mut count: u32 = 0;
     loop {
-        match b3d_walk::flat_next(file, at) {
-            Flat::End => {
+        let Flat::Chunk(tag, p, _, next) = b3d_walk::flat_next(file, at) else {
+            return count;
+        };
+        if b3d_chunks::same(tag, Tag::NODE) {
+            if end <= p {
                 return count;
             }
-            Flat::Chunk {
-                tag,
-                at: p,
-                next,
-                ..
-            } => {
-                if b3d_chunks::same(tag, Tag::NODE) {
-                    if end <= p {
-                        return count;
-                    }
-                    count += 1;
-                    at = next;
-                } else {
-                    at = next;
-                }
-            }
+            count += 1;
         }
+        at = next;
     }
 }

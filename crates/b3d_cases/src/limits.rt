@@ -1,9 +1,9 @@
 // The cases of 01's "Worked files" without a star: n_texs and depth. Those of rows are run by the Rust comparison, which builds their files.
 use crate::case;
 
-// BRUS without a brush: its n_texs stands behind the header of BB3D, the version and its own header, at 12 + 8. Without a brush n_texs counts
-// as 0, and the copy has no BRUS: 12 bytes.
-fn no_brush() {
+pub fn cases() {
+    // BRUS without a brush: its n_texs stands behind the header of BB3D, the version and its own header, at 12 + 8. Without a brush n_texs counts
+    // as 0, and the copy has no BRUS: 12 bytes.
     case(
         b"n_texs 8, no brush",
         b"BB3D\x10\0\0\0\x01\0\0\0\
@@ -14,11 +14,9 @@ fn no_brush() {
         b"BB3D\x10\0\0\0\x01\0\0\0\
           BRUS\x04\0\0\0\x09\0\0\0",
     );
-}
 
-// One texture, and one brush with as many slots as n_texs says. TEXS has 8 + 29 bytes, so BRUS stands at 49 and its n_texs at 57; the brush has
-// 29 + 4 n_texs bytes from 61 on.
-fn one_brush() {
+    // One texture, and one brush with as many slots as n_texs says. TEXS has 8 + 29 bytes, so BRUS stands at 49 and its n_texs at 57; the brush has
+    // 29 + 4 n_texs bytes from 61 on.
     case(
         b"n_texs 8, one brush",
         b"BB3D\x72\0\0\0\x01\0\0\0\
@@ -35,11 +33,9 @@ fn one_brush() {
           \0\0\0\0\0\0\0\0\0\0\0\0\0\0\0\0\0\0\0\0\0\0\0\0\0\0\0\0\0\
           \0\0\0\0\0\0\0\0\0\0\0\0\0\0\0\0\0\0\0\0\0\0\0\0\0\0\0\0\0\0\0\0\0\0\0\0",
     );
-}
 
-// Nodes, each the only child of the one before; they end together. The node at level k stands at 12 + 49 (k - 1), that at 17 at 796. The last twelve
-// bytes of the first node, three of its words, are the head of a file too: that from 49 on, which has the 16 nodes below it.
-fn depth() {
+    // Nodes, each the only child of the one before; they end together. The node at level k stands at 12 + 49 (k - 1), that at 17 at 796. The last twelve
+    // bytes of the first node, three of its words, are the head of a file too: that from 49 on, which has the 16 nodes below it.
     let file: &[u8] = b"BB3D\x45\x03\0\0\x01\0\0\0\
         NODE\x39\x03\0\0\0\0\0\0\0\0\0\0\0\0\0\0\0\0\0\0\0\0\0\0\0\0\0\0\0\0\0\0\0\
         BB3D\x14\x03\0\0\x01\0\0\0\
@@ -61,10 +57,4 @@ fn depth() {
         NODE\x29\0\0\0\0\0\0\0\0\0\0\0\0\0\0\0\0\0\0\0\0\0\0\0\0\0\0\0\0\0\0\0\0\0\0\0\0\0\0\0\0\0\0\0\0";
     case(b"depth 16", &file[49..]);
     case(b"depth 17", file);
-}
-
-pub fn cases() {
-    no_brush();
-    one_brush();
-    depth();
 }

@@ -1,10 +1,10 @@
 // One file for each slip of 01's "Slips that look right" that a judge can make: the slip would answer otherwise. Tables filled while checking
-// are no slip of a judge, which writes nothing; `rows_then_fault` has rows before its fault, and the answer no count.
+// are no slip of a judge, which writes nothing; the last file has rows before its fault, and the answer no count.
 use crate::case;
 
-// Slip: a vertex id held to all vertices read so far. A root whose mesh has 3 vertices (49 + 92 bytes from 12 on, as in file T of 01), and a child
-// at 153 whose mesh at 202 has one vertex; its TRIS stands at 202 + 32 + 12 = 246 and its ids at 258, 262 and 266.
-fn other_mesh() {
+pub fn cases() {
+    // Slip: a vertex id held to all vertices read so far. A root whose mesh has 3 vertices (49 + 92 bytes from 12 on, as in file T of 01), and a child
+    // at 153 whose mesh at 202 has one vertex; its TRIS stands at 202 + 32 + 12 = 246 and its ids at 258, 262 and 266.
     let mut file = *b"BB3D\x06\x01\0\0\x01\0\0\0\
         NODE\xfa\0\0\0\0\0\0\0\0\0\0\0\0\0\0\0\0\0\0\0\0\0\0\0\0\0\0\0\0\0\0\0\0\0\0\0\0\0\0\0\0\0\0\0\0\
         MESH\x54\0\0\0\xff\xff\xff\xff\
@@ -23,11 +23,9 @@ fn other_mesh() {
     case(b"vertices of two meshes", &file);
     file[266] = 1;
     case(b"vertex of another mesh", &file);
-}
 
-// Slip: a list ended where less than an item is left. File T of 01 with one more id in its TRIS: the second item starts at 153. The same in TEXS,
-// whose items are no multiple of 4 bytes: the first has 29 bytes from 20 on, the second stands at 49 and lacks its last number.
-fn cut_items() {
+    // Slip: a list ended where less than an item is left. File T of 01 with one more id in its TRIS: the second item starts at 153. The same in TEXS,
+    // whose items are no multiple of 4 bytes: the first has 29 bytes from 20 on, the second stands at 49 and lacks its last number.
     case(
         b"cut triangle",
         b"BB3D\x95\0\0\0\x01\0\0\0\
@@ -47,11 +45,9 @@ fn cut_items() {
           TEXS\x36\0\0\0\0\0\0\0\0\0\0\0\0\0\0\0\0\0\0\0\0\0\0\0\0\0\0\0\0\0\0\0\0\
           \0\0\0\0\0\0\0\0\0\0\0\0\0\0\0\0\0\0\0\0\0\0\0\0\0",
     );
-}
 
-// Slip: lengths rounded up to even. TEXS has length 29, XTRA 3, BRUS 4 + 29 + 4 = 37 and NODE 41; the copy leaves out XTRA and has
-// 12 + 37 + 45 + 49 bytes.
-fn odd_lengths() {
+    // Slip: lengths rounded up to even. TEXS has length 29, XTRA 3, BRUS 4 + 29 + 4 = 37 and NODE 41; the copy leaves out XTRA and has
+    // 12 + 37 + 45 + 49 bytes.
     case(
         b"odd lengths",
         b"BB3D\x92\0\0\0\x01\0\0\0\
@@ -62,20 +58,16 @@ fn odd_lengths() {
           \0\0\0\0\
           NODE\x29\0\0\0\0\0\0\0\0\0\0\0\0\0\0\0\0\0\0\0\0\0\0\0\0\0\0\0\0\0\0\0\0\0\0\0\0\0\0\0\0\0\0\0\0",
     );
-}
 
-// Slip: place and length added in 32 bits. The length of XTRA at 12 is 0xFFFFFFFC: 12 + 8 + that is 16 in 32 bits, where those four bytes and four
-// zero bytes would make the header of an empty chunk that ends with the file.
-fn wrapping_length() {
+    // Slip: place and length added in 32 bits. The length of XTRA at 12 is 0xFFFFFFFC: 12 + 8 + that is 16 in 32 bits, where those four bytes and four
+    // zero bytes would make the header of an empty chunk that ends with the file.
     case(
         b"length that wraps",
         b"BB3D\x10\0\0\0\x01\0\0\0\
           XTRA\xfc\xff\xff\xff\0\0\0\0",
     );
-}
 
-// A root at 12 with a child at 61, then five bytes at 110 where a chunk may stand.
-fn rows_then_fault() {
+    // A root at 12 with a child at 61, then five bytes at 110 where a chunk may stand.
     case(
         b"rows, then a fault",
         b"BB3D\x6b\0\0\0\x01\0\0\0\
@@ -83,12 +75,4 @@ fn rows_then_fault() {
           NODE\x29\0\0\0\0\0\0\0\0\0\0\0\0\0\0\0\0\0\0\0\0\0\0\0\0\0\0\0\0\0\0\0\0\0\0\0\0\0\0\0\0\0\0\0\0\
           \0\0\0\0\0",
     );
-}
-
-pub fn cases() {
-    other_mesh();
-    cut_items();
-    odd_lengths();
-    wrapping_length();
-    rows_then_fault();
 }

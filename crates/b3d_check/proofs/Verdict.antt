@@ -19,10 +19,6 @@ pub all-words : (l : List ℕ) → ((i : ℕ) → getD l i 0 < 4294967296) → A
 all-words [] h = tt
 all-words (x ∷ l) h = (h 0, all-words l (λ i. h (suc i)))
 
-pub all-bytes : (l : List ℕ) → ((i : ℕ) → getD l i 0 < 256) → AllBytes l
-all-bytes [] h = tt
-all-bytes (x ∷ l) h = (h 0, all-bytes l (λ i. h (suc i)))
-
 pub lent-typed : (ns : List ℕ) (v slots : ℕ) (counts t₁ t₂ t₃ t₄ t₅ t₆ t₇ t₈ t₉ t₁₀ : List ℕ) → IsWord v → IsWord slots
     → All IsWord t₁
     → All IsWord t₂

@@ -7,16 +7,13 @@ use mathlib.Core.List.{List, []}
 use lib.ListN.{getD}
 use lib.Dec.{leb, eqb}
 use Rattle.wire.specs.Test.{if}
-use Rattle.layout.specs.Fit.{all}
-use Rattle.layout.specs.Rules.{holds}
 use Rattle.b3d_scene.specs.Colours.{passes}
 use Rattle.b3d_scene.specs.Rebuild.{Lent, cut, together, rebuild}
-use Rattle.b3d_scene.specs.Rules.{version, rowLimit}
+use Rattle.b3d_scene.specs.Rules.{rowLimit}
 use Rattle.b3d_scene.specs.declared.Counts.{Counts}
 use Rattle.b3d_scene.specs.declared.Mode.{Mode}
 use Rattle.b3d_scene.specs.Tables.{nodeWidth}
-use Rattle.b3d_sound.specs.Check.{nameHere, brushHere, slotsHere, treeHere}
-use Rattle.b3d_check_node.specs.Parts.{partRows}
+use Rattle.b3d_check_node.specs.Parts.{Limited, KindRoom, ListRoom}
 
 -- ten counts and ten tables
 unfoldable pub lentOf : ℕ → ℕ → List ℕ → List ℕ → List ℕ → List ℕ → List ℕ → List ℕ → List ℕ → List ℕ → List ℕ → List ℕ → List ℕ → Lent
@@ -60,52 +57,31 @@ partCounts counts =
 unfoldable pub fitsIn : ℕ → ℕ → ℕ → Bool
 fitsIn c w l = leb c rowLimit && leb (w * c) l
 
--- the counted rows of each table are there: the tables have so many words
-unfoldable pub rooms : List ℕ → ℕ → ℕ → ℕ → ℕ → ℕ → ℕ → ℕ → ℕ → ℕ → ℕ → Bool
-rooms counts l₁ l₂ l₃ l₄ l₅ l₆ l₇ l₈ l₉ l₁₀ =
-    fitsIn (getD counts 0 0) 9 l₁
-    && (fitsIn (getD counts 1 0) 17 l₂
-    && (fitsIn (getD counts 2 0) nodeWidth l₃
-    && (fitsIn (getD counts 3 0) 9 l₄
-    && (fitsIn (getD counts 4 0) 42 l₅
-    && (fitsIn (getD counts 5 0) 4 l₆
-    && (fitsIn (getD counts 6 0) 3 l₇
-    && (fitsIn (getD counts 7 0) 2 l₈
-    && (fitsIn (getD counts 8 0) 4 l₉
-    && fitsIn (getD counts 9 0) 11 l₁₀))))))))
+-- the counted rows of each table are there: c₁ textures, c₂ brushes and the rows that a counts, in tables of so many words
+unfoldable pub rooms : ℕ → ℕ → Counts → ℕ → ℕ → ℕ → ℕ → ℕ → ℕ → ℕ → ℕ → ℕ → ℕ → Bool
+rooms c₁ c₂ a l₁ l₂ l₃ l₄ l₅ l₆ l₇ l₈ l₉ l₁₀ =
+    fitsIn c₁ 9 l₁
+    && (fitsIn c₂ 17 l₂
+    && (fitsIn (a .nodes) nodeWidth l₃
+    && (fitsIn (a .meshes) 9 l₄
+    && (fitsIn (a .vertices) 42 l₅
+    && (fitsIn (a .sets) 4 l₆
+    && (fitsIn (a .triangles) 3 l₇
+    && (fitsIn (a .weights) 2 l₈
+    && (fitsIn (a .lists) 4 l₉
+    && fitsIn (a .keys) 11 l₁₀))))))))
 
 -- the same, as facts
-pub record Rooms (counts : List ℕ) (l₁ l₂ l₃ l₄ l₅ l₆ l₇ l₈ l₉ l₁₀ : ℕ) : Type 0 where
-  pub few₁ : getD counts 0 0 ≤ rowLimit
-  pub few₂ : getD counts 1 0 ≤ rowLimit
-  pub few₃ : getD counts 2 0 ≤ rowLimit
-  pub few₄ : getD counts 3 0 ≤ rowLimit
-  pub few₅ : getD counts 4 0 ≤ rowLimit
-  pub few₆ : getD counts 5 0 ≤ rowLimit
-  pub few₇ : getD counts 6 0 ≤ rowLimit
-  pub few₈ : getD counts 7 0 ≤ rowLimit
-  pub few₉ : getD counts 8 0 ≤ rowLimit
-  pub few₁₀ : getD counts 9 0 ≤ rowLimit
-  pub room₁ : 9 * getD counts 0 0 ≤ l₁
-  pub room₂ : 17 * getD counts 1 0 ≤ l₂
-  pub room₃ : nodeWidth * getD counts 2 0 ≤ l₃
-  pub room₄ : 9 * getD counts 3 0 ≤ l₄
-  pub room₅ : 42 * getD counts 4 0 ≤ l₅
-  pub room₆ : 4 * getD counts 5 0 ≤ l₆
-  pub room₇ : 3 * getD counts 6 0 ≤ l₇
-  pub room₈ : 2 * getD counts 7 0 ≤ l₈
-  pub room₉ : 4 * getD counts 8 0 ≤ l₉
-  pub room₁₀ : 11 * getD counts 9 0 ≤ l₁₀
+pub record Rooms (c₁ c₂ : ℕ) (a : Counts) (l₁ l₂ l₃ l₄ l₅ l₆ l₇ l₈ l₉ l₁₀ : ℕ) : Type 0 where
+  pub few₁ : c₁ ≤ rowLimit
+  pub few₂ : c₂ ≤ rowLimit
+  pub limited : Limited a
+  pub room₁ : 9 * c₁ ≤ l₁
+  pub room₂ : 17 * c₂ ≤ l₂
+  pub room₃ : nodeWidth * a .nodes ≤ l₃
+  pub kinds : KindRoom a l₄ l₅ l₆ l₇ l₈
+  pub lists : ListRoom a l₉ l₁₀
 
--- what is asked after that
-unfoldable pub rowsPart : List ℕ → ℕ → ℕ → List ℕ → List ℕ → List ℕ → List ℕ → List ℕ → List ℕ → List ℕ → List ℕ → List ℕ → List ℕ → List ℕ → Bool
-rowsPart ns v slots counts t₁ t₂ t₃ t₄ t₅ t₆ t₇ t₈ t₉ t₁₀ =
-    holds version v
-    && (slotsHere slots (getD counts 1 0)
-    && (all (nameHere ns) (cut 9 (getD counts 0 0) t₁)
-    && (all (brushHere ns slots (getD counts 0 0)) (cut 17 (getD counts 1 0) t₂)
-    && treeHere ns (getD counts 1 0) (partRows (partCounts counts) t₄ t₅ t₆ t₇ t₈ t₉ t₁₀) (cut nodeWidth (getD counts 2 0) t₃))))
-
--- what a mode asks of colours: the rows of brushes and of vertices
-unfoldable pub coloursPart : Mode → List ℕ → List ℕ → List ℕ → Bool
-coloursPart mode counts t₂ t₅ = passes mode (λ k. if (eqb k 2) (cut 17 (getD counts 1 0) t₂) (cut 42 (getD counts 4 0) t₅))
+-- what a mode asks of colours: so many rows of brushes and of vertices
+unfoldable pub coloursPart : Mode → ℕ → List ℕ → ℕ → List ℕ → Bool
+coloursPart mode brushes t₂ vertices t₅ = passes mode (λ k. if (eqb k 2) (cut 17 brushes t₂) (cut 42 vertices t₅))

@@ -2,7 +2,6 @@
 use mathlib.Core.Path.{_≡_, refl, ap, sym, _∙_}
 use Prim.Native.Nat.{ℕ, zero, suc, _+_, _-_, _*_, _<_, _≤_}
 use native.Mathlib.Nat.{add-zero, suc-mul}
-use native.Mathlib.Numerals.{add-one}
 use native.Mathlib.Omega.{arith}
 use mathlib.Core.Bool.{Bool, true, false, _&&_}
 use mathlib.Core.List.{List, [], _∷_, _++_}
@@ -10,13 +9,12 @@ use lib.ListN.{length, take, drop, getD, replicate}
 use lib.Seq.{drop-cons}
 use lib.Dec.{eqb}
 use Rattle.layout.specs.Fit.{all}
+use Rattle.layout.proofs.Testing.{and-true, and-assoc}
 use Rattle.b3d_sound.specs.Check.{clean}
 use Rattle.b3d_masks.specs.Runs.{run, setRuns, runMask, width, Short, OfKey, OfVertex}
 use Rattle.b3d_masks.specs.declared.RowRuns.{RowRuns}
 use Rattle.b3d_masks.proofs.Masks.{mask-width}
 use Rattle.b3d_check_rows.specs.Rows.{rowAt, rowsAt}
-use Rattle.b3d_check_rows.proofs.Ands.{and-both, and-assoc}
-use Rattle.b3d_check_rows.proofs.RowLaws.{and-true}
 use Rattle.b3d_check_absent.specs.Zeros.{everyAt, zerosAt, setsClean, rowClean}
 
 -- ---- a loop over places

@@ -1,16 +1,16 @@
 -- The colours of a row by its cells.
-use mathlib.Core.Path.{_≡_, refl, ap, sym, _∙_}
+use mathlib.Core.Path.{_≡_, ap, sym, _∙_}
 use Prim.Native.Nat.{ℕ, suc, _+_, _*_, _≤_, _<_}
 use native.Mathlib.Omega.{arith}
-use mathlib.Core.Bool.{Bool, true, _&&_}
-use mathlib.Core.List.{List, _∷_}
+use mathlib.Core.Bool.{Bool, _&&_}
+use mathlib.Core.List.{List}
 use lib.ListN.{length, take, drop, getD}
 use lib.Seq.{drop-cons}
 use Rattle.layout.specs.Fit.{all}
 use Rattle.layout.specs.Rules.{unit, holds}
+use Rattle.layout.proofs.Testing.{and-true}
 use Rattle.b3d_scene.specs.Colours.{coloured}
 use Rattle.b3d_check_rows.specs.Rows.{rowAt}
-use Rattle.b3d_check_rows.proofs.RowLaws.{and-true}
 use Rattle.b3d_check_rows.proofs.Rows.{row-cell, row-length, row-room}
 
 -- four words of a list

@@ -7,13 +7,9 @@ use lib.ListN.{getD}
 use mir.Syntax.{w64}
 use mir.Val.{Fits}
 use Rattle.b3d_sound.specs.CellCounts.{endOf}
+use Rattle.b3d_sound.proofs.Below.{end-rises}
 use Rattle.b3d_check_rows.specs.Rows.{rowsAt}
 use Rattle.b3d_check_rows.proofs.Rows.{row-cell, rows-none, rows-next}
-
-pub end-rises : (r : ℕ) (xs : List (List ℕ)) → r ≤ endOf r xs
-unfolding endOf
-end-rises r [] = omega arith
-end-rises r (x ∷ xs) = omega (arith, end-rises (r + getD x 3 0) xs)
 
 end-cons : (r : ℕ) (x : List ℕ) (xs : List (List ℕ)) → endOf r (x ∷ xs) ≡ endOf (r + getD x 3 0) xs
 unfolding endOf

@@ -1,5 +1,5 @@
--- The laws of runs of rows and of key lists.
+-- The laws of runs of rows and of rows with their items.
 pub mod Runs
 pub mod EndLaws
 pub mod MineLaws
-pub mod ListLaws
+pub mod ItemLaws

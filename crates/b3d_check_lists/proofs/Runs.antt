@@ -1,6 +1,7 @@
 -- A loop over rows whose items stand in another table one run after the other.
 use mathlib.Core.Path.{_≡_, refl, sym, _∙_}
 use Prim.Native.Nat.{ℕ, suc, _+_, _-_, _*_, _≤_, _<_}
+use native.Mathlib.Nat.{mul-le-mul-left}
 use native.Mathlib.Omega.{arith}
 use mathlib.Core.Bool.{Bool, true, false, not, _&&_}
 use mathlib.Core.List.{List}
@@ -30,6 +31,12 @@ module _ (f : List ℕ → List (List ℕ) → Bool) (w from first count : ℕ) 
     pub runs-done : end ≤ i → true ≡ runsHere f from (rowsAt 4 first count xs) (rowsAt w from (all - from) is)
     unfolding runsHere
     runs-done h = let e : end - i ≡ 0 = omega arith in rw (← a .same, e, rows-none 4 i xs)
+
+    -- the items of the next row are there
+    pub runs-room : (c n : ℕ) → c ≤ all - r → w * all ≤ n → w * (r + c) ≤ n
+    runs-room c n l h =
+        let k : w * (r + c) ≤ w * all = mul-le-mul-left w (omega (arith, a .inside)) in
+        omega arith
 
     module _ (h : i < end) (b c : ℕ) (eb : b ≡ getD xs (4 * i + 2) 0) (ec : c ≡ getD xs (4 * i + 3) 0) where
       abbrev rest : Bool
@@ -63,4 +70,4 @@ module _ (f : List ℕ → List (List ℕ) → Bool) (w from first count : ℕ) 
           pub runs-next : not s ≡ false → RunsFrom f w from first count xs all is end (r + c) (i + 1)
           runs-next n = record { last = a .last; before = omega arith; inside = omega (arith, a .inside); same = and-go s (f (rowAt 4 i xs) (rowsAt w r c is)) _ _ e n refl ∙ sym turn }
 
-pub ruleset runs-laws = (runs-none, runs-done, runs-wrong, runs-past, runs-stop, runs-next)
+pub ruleset runs-laws = (runs-none, runs-done, runs-room, runs-wrong, runs-past, runs-stop, runs-next)

@@ -1,2 +1,3 @@
--- Key lists among the rows of lent tables.
+-- Rows with runs of items among the rows of lent tables; key lists.
+pub mod Items
 pub mod Mine

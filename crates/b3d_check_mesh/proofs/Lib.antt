@@ -1,3 +1,2 @@
--- The laws of sets and of meshes.
-pub mod ItemLaws
+-- The laws of meshes.
 pub mod MeshLaws

@@ -5,74 +5,12 @@ ghost use Prim.Native.Nat.{_+_, _-_, _*_, _<_, _≤_};
 ghost use lib.ListN.{length};
 ghost use Rattle.b3d_scene.specs.Mask.{vertexMask};
 ghost use Rattle.b3d_scene.specs.Rules.{weightRow};
-ghost use Rattle.b3d_sound.specs.Check.{keeps, clean, rowsHere, runsHere, setHere, meshHere};
+ghost use Rattle.b3d_sound.specs.Check.{keeps, clean, rowsHere, meshHere};
 ghost use Rattle.b3d_check_rows.specs.Rows.{rowAt, rowsAt};
 ghost use Rattle.b3d_check_mesh.specs.Parts.{meshHead, meshSets, MeshRoom};
+use b3d_check_lists::Run;
+use b3d_check_rows::Ids;
 use b3d_scene::Counts;
-
-// ---- triangle sets
-
-// Row i, a set of mesh number `mesh`, which has v vertices, with so many triangles from row `first` on.
-fn set_here(
-    brushes: u32,
-    v: u32,
-    mesh: usize,
-    t: &[u32],
-    i: usize,
-    triangles: &[u32],
-    first: usize,
-    count: usize,
-) -> bool
-    requires { ⌜ (4 * i + 4 ≤ length (now t)) × (3 * (first + count) ≤ length (now triangles)) ⌝ }
-    ensures { λ r. ⌜ r ≡ setHere brushes v mesh (rowAt 4 i (now (t .entry))) (rowsAt 3 first count (now (triangles .entry))) ⌝ }
-{
-    let o = 4 * i;
-    let own = b3d_check_rows::cell(t, o);
-    let brush = t[o + 1];
-    if !(own == mesh) {
-        return false;
-    }
-    if !((brush == 0xFFFFFFFF) | (brush < brushes)) {
-        return false;
-    }
-    b3d_check_rows::triangles_here(triangles, v, first, count)
-}
-
-// So many sets from row `first` on; their triangles are those from number `from` on, of which there are `total` in all.
-fn sets_here(
-    brushes: u32,
-    v: u32,
-    mesh: usize,
-    t: &[u32],
-    first: usize,
-    count: usize,
-    triangles: &[u32],
-    from: usize,
-    total: usize,
-) -> bool
-    requires { ⌜ (4 * (first + count) ≤ length (now t)) × (from ≤ total) × (3 * total ≤ length (now triangles)) ⌝ }
-    ensures { λ r. ⌜ r ≡ runsHere (setHere brushes v mesh) from (rowsAt 4 first count (now (t .entry))) (rowsAt 3 from (total - from) (now (triangles .entry))) ⌝ }
-{
-    let end = first + count;
-    let mut r = from;
-    let mut i = first;
-    while i < end {
-        let to = b3d_check_rows::cell(t, 4 * i + 2);
-        let many = b3d_check_rows::cell(t, 4 * i + 3);
-        if !(to == r) {
-            return false;
-        }
-        if total - r < many {
-            return false;
-        }
-        if !set_here(brushes, v, mesh, t, i, triangles, r, many) {
-            return false;
-        }
-        r += many;
-        i += 1;
-    }
-    true
-}
 
 // ---- vertices and weights
 
@@ -103,7 +41,7 @@ pub fn weights_left(t: &[u32], bones: u32, count: usize, first: usize, total: us
     if total - first < count {
         return false;
     }
-    b3d_check_rows::weights_here(t, bones, first, count)
+    b3d_check_rows::id_rows_here(Ids::Weights, t, bones, first, count)
 }
 
 // ---- meshes
@@ -151,7 +89,8 @@ fn mesh_sets(
         return false;
     }
     let v = t[o + 6];
-    sets_here(brushes, v, i, sets, first, count, triangles, from, all)
+    let run = Run::Triangles(brushes, v, i);
+    b3d_check_lists::runs_here(run, sets, first, count, triangles, from, all)
 }
 
 // The mesh that comes after n rows, of those that `all` counts, in the tables 4 to 7.

@@ -8,11 +8,11 @@ use lib.Dec.{eqb}
 use mir.Syntax.{w64}
 use mir.Val.{Fits}
 use Rattle.wire.specs.Test.{if}
+use Rattle.layout.proofs.Outs.{if-case}
 use Rattle.b3d_scene.specs.Rebuild.{Rows, mine}
 use Rattle.b3d_scene.specs.declared.Counts.{Counts}
 use Rattle.b3d_scene.specs.Tables.{nodeWidth}
 use Rattle.b3d_sound.specs.CellCounts.{endOf, meshCounts, weightCounts, kindCounts, nodeCounts, cellCounts}
-use Rattle.b3d_sound.proofs.Check.Testing.{if-case}
 use Rattle.b3d_check_rows.specs.Rows.{rowAt, rowsAt}
 use Rattle.b3d_check_rows.proofs.Rows.{rows-from, rows-length}
 use Rattle.b3d_check_lists.specs.Mine.{MineTo}

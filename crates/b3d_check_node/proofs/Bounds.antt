@@ -1,6 +1,6 @@
 -- Where a node is sound, the counts after it are among those of the tables.
 use mathlib.Core.Path.{_≡_, sym, _∙_, subst}
-use Prim.Native.Nat.{ℕ, suc, _+_, _-_, _≤_, _<_}
+use Prim.Native.Nat.{ℕ, _+_, _-_, _≤_, _<_}
 use native.Mathlib.Omega.{arith}
 use mathlib.Core.Bool.{Bool, false, not, _&&_}
 use mathlib.Core.List.{List, [], _∷_}
@@ -15,10 +15,10 @@ use Rattle.b3d_scene.specs.Mask.{vertexMask}
 use Rattle.b3d_scene.specs.Rebuild.{Rows, mine}
 use Rattle.b3d_scene.specs.Rules.{vertexFlags, sets, setSize, brushId, weightRow}
 use Rattle.b3d_scene.specs.declared.Counts.{Counts}
-use Rattle.b3d_scene.proofs.Rows.RowLists.{cut-length}
+use Rattle.b3d_scene.proofs.Rows.RowLists.{cut-length, mine-length}
 use Rattle.b3d_sound.specs.CellCounts.{endOf, meshCounts, weightCounts, kindCounts, nodeCounts, cellCounts}
 use Rattle.b3d_sound.specs.Check.{keeps, clean, rowsHere, runsHere, nameHere, setHere, listHere, meshHere, kindHere, nodeHere}
-use Rattle.b3d_sound.proofs.Check.Testing.{if-case, if-both}
+use Rattle.b3d_sound.proofs.Check.Testing.{if-both}
 use Rattle.b3d_check_node.specs.Parts.{partRows, Below}
 use Rattle.b3d_check_node.proofs.AfterLaws.{kind-keeps}
 
@@ -56,12 +56,6 @@ runs-bound f r (x ∷ xs) is t =
     let l : c ≤ length is = leb→le c (length is) (and-yes (leb c (length is)) _ u .0) in
     let v = and-yes (f x (take c is)) _ (and-yes (leb c (length is)) _ u .1) .1 in
     omega (arith, runs-bound f (r + c) xs (drop c is) v, length-drop c is)
-
-mine-length : (i : ℕ) (xs : List (List ℕ)) → length (mine i xs) ≤ length xs
-unfolding mine
-mine-length i [] = omega arith
-mine-length i (x ∷ xs) =
-    if-case (λ (l : List (List ℕ)). length l ≤ suc (length xs)) (eqb (getD x 0 0) i) (x ∷ mine i xs) [] (λ t. omega (arith, mine-length i xs)) (λ t. omega arith)
 
 -- ---- what a sound mesh row says of the rows that are its own
 

@@ -10,6 +10,7 @@ use lib.Dec.{eqb}
 use borrow.Author.Tests.{eq-eqb, ne-eqb}
 use Rattle.wire.specs.Test.{if}
 use Rattle.layout.specs.Fit.{all}
+use Rattle.layout.proofs.Testing.{and-true}
 use Rattle.b3d_scene.specs.Rebuild.{mine}
 use Rattle.b3d_scene.specs.declared.Counts.{Counts}
 use Rattle.b3d_scene.specs.Tables.{nodeWidth}
@@ -17,7 +18,7 @@ use Rattle.b3d_sound.specs.Check.{runsHere, nameHere, kindHere, listHere, animH
 use Rattle.b3d_sound.proofs.Check.Rows.{cells, cells-are}
 use Rattle.b3d_check_rows.specs.Rows.{rowAt, rowsAt}
 use Rattle.b3d_check_rows.proofs.Rows.{row-cell, row-length, rows-from}
-use Rattle.b3d_check_rows.proofs.RowLaws.{and-true, name-cells}
+use Rattle.b3d_check_rows.proofs.RowLaws.{name-cells}
 use Rattle.b3d_check_lists.specs.Mine.{MineTo}
 use Rattle.b3d_check_node.specs.Parts.{partRows, Below}
 
@@ -61,13 +62,6 @@ module _ (i : ℕ) (t : List ℕ) where
       ∙ rw (c₀, c₁, c₂, c₃) at q)
 
 -- ---- the whole
-
-pub kind-row : (brushes bones : ℕ) (n a : Counts) (t₃ t₄ t₅ t₆ t₇ t₈ : List ℕ) (first count : ℕ) → first ≡ getD t₃ (nodeWidth * n .nodes + 14) 0 → count ≡ getD t₃ (nodeWidth * n .nodes + 15) 0
-    → (r : Bool) → r ≡ kindHere brushes bones (partRows a t₄ t₅ t₆ t₇ t₈ [] []) n (getD t₃ (nodeWidth * n .nodes + 13) 0 ∷ first ∷ count ∷ [])
-    → r ≡ kindHere brushes bones (partRows a t₄ t₅ t₆ t₇ t₈ [] []) n (drop 13 (rowAt nodeWidth (n .nodes) t₃))
-unfolding kindHere
-kind-row brushes bones n a t₃ t₄ t₅ t₆ t₇ t₈ first count ef ec r e =
-    e ∙ rw (kind-cell (n .nodes) 0 t₃ (omega arith), kind-cell (n .nodes) 1 t₃ (omega arith), kind-cell (n .nodes) 2 t₃ (omega arith), ef, ec)
 
 -- a kind needs the tables 4 to 8 alone
 kind-few : (brushes bones : ℕ) (n a : Counts) (y t₄ t₅ t₆ t₇ t₈ t₉ t₁₀ : List ℕ)

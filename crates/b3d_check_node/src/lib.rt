@@ -9,47 +9,12 @@ ghost use Rattle.b3d_sound.specs.CellCounts.{meshCounts, kindCounts, cellCounts
 ghost use Rattle.b3d_sound.specs.Check.{runsHere, listHere, kindHere, animHere, nodeHere};
 ghost use Rattle.b3d_check_rows.specs.Rows.{rowAt, rowsAt};
 ghost use Rattle.b3d_check_node.specs.Parts.{partRows, Below, Limited, KindRoom, ListRoom, MeshEnds};
+use b3d_check_lists::Run;
 use b3d_scene::Counts;
 use b3d_scene::NODE_WIDTH;
 
 // The kind, first and count of the node that comes after n rows, of those that `all` counts; a weight may name so many vertices at most.
 fn kind_here(
-    brushes: u32,
-    most: u32,
-    n: Counts,
-    all: Counts,
-    kind: u32,
-    first: usize,
-    count: usize,
-    t4: &[u32],
-    t5: &[u32],
-    t6: &[u32],
-    t7: &[u32],
-    t8: &[u32],
-) -> bool
-    requires { ⌜ Below n all × KindRoom all (length (now t4)) (length (now t5)) (length (now t6)) (length (now t7)) (length (now t8)) ⌝ }
-    ensures { λ r. ⌜ r ≡ kindHere brushes most (partRows all (now (t4 .entry)) (now (t5 .entry)) (now (t6 .entry)) (now (t7 .entry)) (now (t8 .entry)) [] []) n (kind ∷ first ∷ count ∷ []) ⌝ }
-{
-    if kind == 1 {
-        if !((first == n.meshes) & (count == 1)) {
-            return false;
-        }
-        if all.meshes <= n.meshes {
-            return false;
-        }
-        return b3d_check_mesh::mesh_here(brushes, n, all, t4, t5, t6, t7);
-    }
-    if kind == 2 {
-        if !(first == n.weights) {
-            return false;
-        }
-        return b3d_check_mesh::weights_left(t8, most, count, n.weights, all.weights);
-    }
-    (kind == 0) & ((first == 0) & (count == 0))
-}
-
-// The same, of the cells of its row.
-fn own_kind(
     brushes: u32,
     most: u32,
     n: Counts,
@@ -68,8 +33,23 @@ fn own_kind(
     let o = NODE_WIDTH * n.nodes;
     let kind = t3[o + 13];
     let first = b3d_check_rows::cell(t3, o + 14);
-    let many = b3d_check_rows::cell(t3, o + 15);
-    kind_here(brushes, most, n, all, kind, first, many, t4, t5, t6, t7, t8)
+    let count = b3d_check_rows::cell(t3, o + 15);
+    if kind == 1 {
+        if !((first == n.meshes) & (count == 1)) {
+            return false;
+        }
+        if all.meshes <= n.meshes {
+            return false;
+        }
+        return b3d_check_mesh::mesh_here(brushes, n, all, t4, t5, t6, t7);
+    }
+    if kind == 2 {
+        if !(first == n.weights) {
+            return false;
+        }
+        return b3d_check_mesh::weights_left(t8, most, count, n.weights, all.weights);
+    }
+    (kind == 0) & ((first == 0) & (count == 0))
 }
 
 // The key lists of the node that comes after n rows, with their keys.
@@ -78,7 +58,7 @@ fn own_lists(n: Counts, all: Counts, t9: &[u32], t10: &[u32]) -> bool
     ensures { λ r. ⌜ r ≡ runsHere listHere (n .keys) (mine (n .nodes) (rowsAt 4 (n .lists) (all .lists - n .lists) (now (t9 .entry)))) (rowsAt 11 (n .keys) (all .keys - n .keys) (now (t10 .entry))) ⌝ }
 {
     let end = b3d_check_lists::lists_of(n.nodes, t9, n.lists, all.lists);
-    b3d_check_lists::lists_here(t9, n.lists, end - n.lists, t10, n.keys, all.keys)
+    b3d_check_lists::runs_here(Run::Keys, t9, n.lists, end - n.lists, t10, n.keys, all.keys)
 }
 
 // Row i, a node: is ANIM there, and its values.
@@ -121,7 +101,7 @@ pub fn node_here(
     if !b3d_check_rows::name_here(text, t3[o], t3[o + 1]) {
         return false;
     }
-    if !own_kind(brushes, most, n, all, t3, t4, t5, t6, t7, t8) {
+    if !kind_here(brushes, most, n, all, t3, t4, t5, t6, t7, t8) {
         return false;
     }
     if !own_lists(n, all, t9, t10) {
@@ -142,16 +122,12 @@ fn mesh_counts(n: Counts, all: Counts, t4: &[u32], t6: &[u32]) -> Counts
     let vertices = b3d_check_rows::cell(t4, o + 6);
     let sets = b3d_check_rows::cell(t4, o + 8);
     let triangles = b3d_check_lists::end_of(t6, n.sets, sets, n.triangles);
-    Counts {
-        nodes: n.nodes,
-        meshes: i + 1,
-        vertices: n.vertices + vertices,
-        sets: n.sets + sets,
-        triangles,
-        weights: n.weights,
-        lists: n.lists,
-        keys: n.keys,
-    }
+    let mut m = n;
+    m.meshes = i + 1;
+    m.vertices = n.vertices + vertices;
+    m.sets = n.sets + sets;
+    m.triangles = triangles;
+    m
 }
 
 // After the kind and count of the node that comes after n rows.
@@ -164,16 +140,9 @@ fn kind_counts(n: Counts, all: Counts, kind: u32, count: usize, t4: &[u32], t6: 
         return mesh_counts(n, all, t4, t6);
     }
     if kind == 2 {
-        return Counts {
-            nodes: n.nodes,
-            meshes: n.meshes,
-            vertices: n.vertices,
-            sets: n.sets,
-            triangles: n.triangles,
-            weights: n.weights + count,
-            lists: n.lists,
-            keys: n.keys,
-        };
+        let mut m = n;
+        m.weights = n.weights + count;
+        return m;
     }
     n
 }
@@ -190,14 +159,9 @@ pub fn node_counts(n: Counts, all: Counts, t3: &[u32], t4: &[u32], t6: &[u32], t
     let m = kind_counts(n, all, t3[o + 13], count, t4, t6);
     let end = b3d_check_lists::lists_of(n.nodes, t9, n.lists, all.lists);
     let keys = b3d_check_lists::end_of(t9, n.lists, end - n.lists, n.keys);
-    Counts {
-        nodes: m.nodes + 1,
-        meshes: m.meshes,
-        vertices: m.vertices,
-        sets: m.sets,
-        triangles: m.triangles,
-        weights: m.weights,
-        lists: end,
-        keys,
-    }
+    let mut after = m;
+    after.nodes = m.nodes + 1;
+    after.lists = end;
+    after.keys = keys;
+    after
 }

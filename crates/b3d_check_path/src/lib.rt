@@ -46,12 +46,20 @@ pub fn all_end(ends: &[usize], depth: usize, i: usize) -> bool
     true
 }
 
-// The row behind node i and so many nodes below it.
-pub fn branch_end(i: usize, below: u32) -> usize
-    requires { ⌜ i < 0x100000000 ⌝ }
-    ensures { λ r. ⌜ r ≡ i + 1 + below ⌝ }
+// The parent that the row of node i says.
+pub fn parent(t3: &[u32], i: usize) -> usize
+    requires { ⌜ nodeWidth * i + 2 < length (now t3) ⌝ }
+    ensures { λ r. ⌜ r ≡ getD (now (t3 .entry)) (nodeWidth * i + 2) 0 ⌝ }
 {
-    i + 1 + wire::size(below)
+    wire::size(t3[NODE_WIDTH * i + 2])
+}
+
+// The row behind node i and the nodes that its row says are below it.
+pub fn branch_end(t3: &[u32], i: usize) -> usize
+    requires { ⌜ (i < 0x100000000) × (nodeWidth * i + 20 < length (now t3)) ⌝ }
+    ensures { λ r. ⌜ r ≡ i + 1 + getD (now (t3 .entry)) (nodeWidth * i + 20) 0 ⌝ }
+{
+    i + 1 + wire::size(t3[NODE_WIDTH * i + 20])
 }
 
 // What a node says of bones to those below, where it was told so many vertices: rows are counted before it and after it.

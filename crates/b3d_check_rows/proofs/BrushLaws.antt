@@ -2,12 +2,12 @@
 use mathlib.Core.Path.{_≡_, refl, ap, ap₂, sym, _∙_}
 use Prim.Native.Nat.{ℕ, zero, suc, _+_, _-_, _*_, _≤_}
 use native.Mathlib.Omega.{arith}
-use mathlib.Core.Bool.{Bool, _&&_}
+use mathlib.Core.Bool.{Bool, true, false, _&&_, _||_}
 use mathlib.Core.List.{List, [], _∷_}
 use lib.ListN.{take, drop, getD, replicate}
 use lib.Seq.{drop-drop, take-take}
 use lib.Dec.{leb, eqb}
-use borrow.Author.Tests.{eq-eqb, ne-eqb}
+use borrow.Author.Tests.{eq-eqb, ne-eqb, le-ltb}
 use Rattle.wire.specs.Test.{if}
 use Rattle.layout.specs.Fit.{all}
 use Rattle.layout.specs.Rules.{NONE, Rule, holds}
@@ -34,6 +34,18 @@ keeps-all r zero l = refl
 keeps-all r (suc n) [] = refl
 keeps-all r (suc n) (x ∷ l) = ap (λ (b : Bool). holds r x && b) (keeps-all r n l)
 
+-- a cell that names one of no textures is NONE
+or-false : (b : Bool) → (b || false) ≡ b
+or-false true = refl
+or-false false = refl
+
+none-id : (x : ℕ) → holds (textureId 0) x ≡ eqb x NONE
+none-id x = rw (le-ltb x 0 (omega arith)) (or-false (eqb x NONE))
+
+none-ids : (l : List ℕ) → all (holds (textureId 0)) l ≡ all (λ w. eqb w NONE) l
+none-ids [] = refl
+none-ids (x ∷ l) = ap₂ _&&_ (none-id x) (none-ids l)
+
 -- ---- brushes
 
 module _ (ns : List ℕ) (slots many textures i : ℕ) (ws : List ℕ) (few : slots ≤ 8) (e : many ≡ slots) where
@@ -51,12 +63,12 @@ module _ (ns : List ℕ) (slots many textures i : ℕ) (ws : List ℕ) (few : sl
 
   pub brush-parts : (r : Bool)
       → r ≡ (nameHere ns (getD ws (17 * i) 0 ∷ getD ws (17 * i + 1) 0 ∷ [])
-      && (all (holds (textureId textures)) (take many (drop (17 * i + 9) ws)) && all (λ w. eqb w NONE) (take (8 - many) (drop (17 * i + 9 + many) ws))))
+      && (all (holds (textureId textures)) (take many (drop (17 * i + 9) ws)) && all (holds (textureId 0)) (take (8 - many) (drop (17 * i + 9 + many) ws))))
       → r ≡ brushHere ns slots textures (rowAt 17 i ws)
   unfolding brushHere
   brush-parts r h =
       rw (← e) (h ∙ ap₂ _&&_ (name-cells ns 17 i ws (omega arith))
-      (ap₂ _&&_ (ap (all (holds (textureId textures))) (sym used) ∙ sym (keeps-all (textureId textures) many (drop 9 (rowAt 17 i ws)))) (ap (all (λ w. eqb w NONE)) (sym unused))))
+      (ap₂ _&&_ (ap (all (holds (textureId textures))) (sym used) ∙ sym (keeps-all (textureId textures) many (drop 9 (rowAt 17 i ws)))) (none-ids (take (8 - many) (drop (17 * i + 9 + many) ws)) ∙ ap (all (λ w. eqb w NONE)) (sym unused))))
 
 -- ---- how many slots
 

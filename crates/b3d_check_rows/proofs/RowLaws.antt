@@ -1,23 +1,25 @@
 -- A row of ids against its rules, by its cells; and a name.
-use mathlib.Core.Path.{_≡_, refl, ap, sym, _∙_}
-use Prim.Native.Nat.{ℕ, _+_, _*_, _≤_, _<_}
+use mathlib.Core.Path.{_≡_, ap, sym, _∙_}
+use Prim.Native.Nat.{ℕ, _+_, _*_, _^_, _≤_, _<_}
 use native.Mathlib.Omega.{arith}
-use mathlib.Core.Bool.{Bool, true, false, _&&_}
+use mathlib.Core.Bool.{Bool, false, _&&_}
 use mathlib.Core.List.{List, [], _∷_}
 use lib.ListN.{length, take, drop, getD}
 use lib.Dec.{ltb}
 use borrow.Author.Tests.{lt-leb, le-leb}
+use mir.Syntax.{w64}
+use mir.Val.{Fits}
 use Rattle.layout.specs.Fit.{all}
 use Rattle.layout.specs.Rules.{Rule}
+use Rattle.layout.proofs.Testing.{and-true}
 use Rattle.b3d_scene.specs.Rules.{triangleRow, weightRow}
 use Rattle.b3d_sound.specs.Check.{keeps, nameHere}
 use Rattle.b3d_sound.proofs.Check.Rows.{cells, cells-are}
+use Rattle.b3d_check_rows.specs.declared.Ids.{Ids}
+use Rattle.b3d_check_rows.specs.declared.Ids.the-variants.{Triangles, Weights}
+use Rattle.b3d_check_rows.specs.IdRows.{idWidth, idRow}
 use Rattle.b3d_check_rows.specs.Rows.{rowAt}
 use Rattle.b3d_check_rows.proofs.Rows.{row-cell, row-first, row-length}
-
-pub and-true : (b : Bool) → (b && true) ≡ b
-and-true true = refl
-and-true false = refl
 
 -- a row of w words as its cells
 keeps-cells : (rs : List Rule) (w i : ℕ) (ws : List ℕ) → w * i + w ≤ length ws → keeps rs (cells (rowAt w i ws) 0 w) ≡ keeps rs (rowAt w i ws)
@@ -36,6 +38,35 @@ unfolding keeps cells
 weight-row bones i ws h =
     rw (← row-first 2 i ws (omega arith))
     (sym (and-true (ltb (getD (rowAt 2 i ws) 0 0) bones)) ∙ keeps-cells (weightRow bones) 2 i ws h)
+
+-- ---- either as a row of ids
+
+some-width : (ids : Ids) (a : ℕ) → a ≤ idWidth ids * a
+some-width Triangles a = omega arith
+some-width Weights a = omega arith
+
+module _ (ids : Ids) where
+  -- a number of rows that stand among n words
+  pub id-fits : (a n : ℕ) → idWidth ids * a ≤ n → n < 2 ^ 64 → Fits w64 a
+  id-fits a n h l = record { fits = omega (arith, some-width ids a) }
+
+  pub id-next : (first count end i n : ℕ) → i < end → end ≡ first + count → idWidth ids * (first + count) ≤ n → n < 2 ^ 64 → Fits w64 (i + 1)
+  id-next first count end i n k e h l = record { fits = omega (arith, some-width ids (first + count)) }
+
+  module _ (v i : ℕ) (ws : List ℕ) where
+    pub triangle-room : ids ≡ Triangles → (n : ℕ) → idWidth ids * i + idWidth ids ≤ n → 3 * i + 3 ≤ n
+    triangle-room e n h = rw e at h
+
+    pub triangle-id : ids ≡ Triangles → (r : Bool) → r ≡ keeps (triangleRow v) (rowAt 3 i ws) → r ≡ keeps (idRow ids v) (rowAt (idWidth ids) i ws)
+    triangle-id e r h = rw e h
+
+    pub weight-room : ids ≡ Weights → (n : ℕ) → idWidth ids * i + idWidth ids ≤ n → 2 * i + 2 ≤ n
+    weight-room e n h = rw e at h
+
+    pub weight-id : ids ≡ Weights → (r : Bool) → r ≡ keeps (weightRow v) (rowAt 2 i ws) → r ≡ keeps (idRow ids v) (rowAt (idWidth ids) i ws)
+    weight-id e r h = rw e h
+
+pub ruleset id-laws = (triangle-room, triangle-id, weight-room, weight-id)
 
 -- ---- names
 

@@ -1,3 +1,4 @@
 -- Rows of a lent table by their number.
 pub mod Rows
 pub mod Cells
+pub mod IdRows

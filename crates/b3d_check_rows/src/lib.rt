@@ -4,11 +4,12 @@ ghost use mathlib.Core.Path.{_≡_};
 ghost use mathlib.Core.List.{[], _∷_};
 ghost use Prim.Native.Nat.{_+_, _*_, _<_, _≤_};
 ghost use lib.ListN.{length, getD, take, drop};
-ghost use lib.Dec.{ltb, eqb};
+ghost use lib.Dec.{ltb};
 ghost use Rattle.layout.specs.Fit.{all};
-ghost use Rattle.layout.specs.Rules.{NONE, holds};
+ghost use Rattle.layout.specs.Rules.{holds};
 ghost use Rattle.b3d_scene.specs.Rules.{textureId, triangleRow, weightRow};
 ghost use Rattle.b3d_sound.specs.Check.{keeps, nameHere, brushHere, slotsHere};
+ghost use Rattle.b3d_check_rows.specs.IdRows.{idWidth, idRow};
 ghost use Rattle.b3d_check_rows.specs.Rows.{rowAt, rowsAt};
 
 // A cell as a number of rows.
@@ -68,7 +69,7 @@ pub fn textures_here(names: &[u8], t: &[u32], count: usize) -> bool
 
 // ---- brushes
 
-// So many cells from a place on each name a texture or none.
+// So many cells from a place on each name one of so many textures or none.
 fn ids_here(t: &[u32], textures: u32, place: usize, count: usize) -> bool
     requires { ⌜ place + count ≤ length (now t) ⌝ }
     ensures { λ r. ⌜ r ≡ all (holds (textureId textures)) (take count (drop place (now (t .entry)))) ⌝ }
@@ -85,24 +86,7 @@ fn ids_here(t: &[u32], textures: u32, place: usize, count: usize) -> bool
     true
 }
 
-// So many cells from a place on are NONE.
-fn none_here(t: &[u32], place: usize, count: usize) -> bool
-    requires { ⌜ place + count ≤ length (now t) ⌝ }
-    ensures { λ r. ⌜ r ≡ all (λ w. eqb w NONE) (take count (drop place (now (t .entry)))) ⌝ }
-{
-    let end = place + count;
-    let mut i = place;
-    while i < end {
-        let one = t[i];
-        if !(one == 0xFFFFFFFF) {
-            return false;
-        }
-        i += 1;
-    }
-    true
-}
-
-// Row i, a brush of so many slots beside so many textures.
+// Row i, a brush of so many slots beside so many textures: a slot that is not used names none.
 fn brush_here(names: &[u8], slots: u32, textures: u32, t: &[u32], i: usize) -> bool
     requires { ⌜ (slots ≤ 8) × (17 * i + 17 ≤ length (now t)) ⌝ }
     ensures { λ r. ⌜ r ≡ brushHere (now (names .entry)) slots textures (rowAt 17 i (now (t .entry))) ⌝ }
@@ -115,7 +99,7 @@ fn brush_here(names: &[u8], slots: u32, textures: u32, t: &[u32], i: usize) -> b
     if !ids_here(t, textures, o + 9, many) {
         return false;
     }
-    none_here(t, o + 9 + many, 8 - many)
+    ids_here(t, 0, o + 9 + many, 8 - many)
 }
 
 // Each brush.
@@ -145,6 +129,12 @@ pub fn slots_here(slots: u32, brushes: u32) -> bool
 
 // ---- ids
 
+// Rows that name vertices.
+pub enum Ids {
+    Triangles,
+    Weights,
+}
+
 // Row i, a triangle, names three of v vertices.
 fn triangle_here(t: &[u32], v: u32, i: usize) -> bool
     requires { ⌜ 3 * i + 3 ≤ length (now t) ⌝ }
@@ -152,22 +142,6 @@ fn triangle_here(t: &[u32], v: u32, i: usize) -> bool
 {
     let o = 3 * i;
     (t[o] < v) & ((t[o + 1] < v) & (t[o + 2] < v))
-}
-
-// So many triangles from row `first` on.
-pub fn triangles_here(t: &[u32], v: u32, first: usize, count: usize) -> bool
-    requires { ⌜ 3 * (first + count) ≤ length (now t) ⌝ }
-    ensures { λ r. ⌜ r ≡ all (keeps (triangleRow v)) (rowsAt 3 first count (now (t .entry))) ⌝ }
-{
-    let end = first + count;
-    let mut i = first;
-    while i < end {
-        if !triangle_here(t, v, i) {
-            return false;
-        }
-        i += 1;
-    }
-    true
 }
 
 // Row i, a weight, names one of so many vertices.
@@ -178,15 +152,26 @@ fn weight_here(t: &[u32], bones: u32, i: usize) -> bool
     t[2 * i] < bones
 }
 
-// So many weights from row `first` on.
-pub fn weights_here(t: &[u32], bones: u32, first: usize, count: usize) -> bool
-    requires { ⌜ 2 * (first + count) ≤ length (now t) ⌝ }
-    ensures { λ r. ⌜ r ≡ all (keeps (weightRow bones)) (rowsAt 2 first count (now (t .entry))) ⌝ }
+// Row i, a triangle or a weight.
+fn id_row_here(ids: Ids, t: &[u32], v: u32, i: usize) -> bool
+    requires { ⌜ idWidth ids * i + idWidth ids ≤ length (now t) ⌝ }
+    ensures { λ r. ⌜ r ≡ keeps (idRow ids v) (rowAt (idWidth ids) i (now (t .entry))) ⌝ }
+{
+    match ids {
+        Ids::Triangles => triangle_here(t, v, i),
+        Ids::Weights => weight_here(t, v, i),
+    }
+}
+
+// So many of them from row `first` on.
+pub fn id_rows_here(ids: Ids, t: &[u32], v: u32, first: usize, count: usize) -> bool
+    requires { ⌜ idWidth ids * (first + count) ≤ length (now t) ⌝ }
+    ensures { λ r. ⌜ r ≡ all (keeps (idRow ids v)) (rowsAt (idWidth ids) first count (now (t .entry))) ⌝ }
 {
     let end = first + count;
     let mut i = first;
     while i < end {
-        if !weight_here(t, bones, i) {
+        if !id_row_here(ids, t, v, i) {
             return false;
         }
         i += 1;

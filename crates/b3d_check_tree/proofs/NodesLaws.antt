@@ -7,18 +7,20 @@ use mathlib.Core.List.{List, [], _∷_}
 use lib.ListN.{length, drop, getD, set, length-set}
 use lib.Dec.{T, leb, ltb, eqb, leb→le}
 use borrow.Author.Tests.{lt-ltb, le-ltb}
+use mir.Syntax.{w64}
+use mir.Val.{Fits}
 use Rattle.wire.specs.Test.{if}
+use Rattle.layout.proofs.Testing.{and-true}
+use Rattle.layout.proofs.Outs.{if-case}
 use Rattle.b3d_scene.specs.Rebuild.{Rows}
 use Rattle.b3d_scene.specs.Rules.{levels}
 use Rattle.b3d_scene.specs.Tables.{reached, nodeWidth}
 use Rattle.b3d_scene.specs.declared.Counts.{Counts}
 use Rattle.b3d_scene.proofs.Rows.RowLists.{cut-length}
 use Rattle.b3d_sound.specs.CellCounts.{meshCounts, weightCounts, kindCounts, nodeCounts, cellCounts, cellBones}
-use Rattle.b3d_sound.specs.Check.{nodeHere, spent, Level, upTo, endHere, endFrom, toldBy, nodesHere}
-use Rattle.b3d_sound.proofs.Check.Testing.{if-case}
+use Rattle.b3d_sound.specs.Check.{nodeHere, spent, Level, upTo, endFrom, toldBy, nodesHere}
 use Rattle.b3d_check_rows.specs.Rows.{rowAt, rowsAt}
 use Rattle.b3d_check_rows.proofs.Ands.{and-stop, and-go}
-use Rattle.b3d_check_rows.proofs.RowLaws.{and-true}
 use Rattle.b3d_check_rows.proofs.Rows.{row-cell, rows-none, rows-next}
 use Rattle.b3d_check_node.specs.Parts.{partRows, Below, Limited}
 use Rattle.b3d_check_node.proofs.AfterLaws.{kind-keeps}
@@ -61,6 +63,17 @@ vertices-grow R x n =
 -- a node's number is small
 pub nodes-small : (a : Counts) → Limited a → (n : ℕ) → n < a .nodes → n < 0x100000000
 nodes-small a l n h = omega (arith, l .nodes)
+
+-- a level of the path, and the one above it
+pub level-above : (d k : ℕ) → d < k → d - 1 < k
+level-above d k h = omega arith
+
+pub level-below : (d : ℕ) → d < 16 → Fits w64 (d + 1)
+level-below d h = record { fits = omega arith }
+
+-- a cell of its row is there
+pub cell-there : (k n a l : ℕ) → n < a → nodeWidth * a ≤ l → k < nodeWidth → nodeWidth * n + k < l
+cell-there k n a l h r w = omega arith
 
 -- where node n's is sound, so many rows are counted after it
 module _ (ns : List ℕ) (brushes told : ℕ) (a : Counts) (t₃ t₄ t₅ t₆ t₇ t₈ t₉ t₁₀ : List ℕ) (n : Counts) (i : Below n a) (h : n .nodes < a .nodes)
@@ -110,6 +123,12 @@ module _ (ns : List ℕ) (brushes root end : ℕ) (a : Counts) (t₃ t₄ t₅ t
       record { below = h; path-long = refl; path-room = lp; ends-long = refl; ends-room = le; bones-long = refl; bones-room = lb; deep = omega arith; same = rw (ep, ee, eb) }
 
   module _ (path ends bones : List ℕ) (depth : ℕ) (n : Counts) (i : NodesFrom ns brushes root end (partRows a t₄ t₅ t₆ t₇ t₈ t₉ t₁₀) a t₃ path₀ ends₀ bones₀ from path ends bones depth n) where
+    pub path-there : depth ≤ length path
+    path-there = omega (arith, i .deep, i .path-long, i .path-room)
+
+    pub ends-there : depth ≤ length ends
+    ends-there = omega (arith, i .deep, i .ends-long, i .ends-room)
+
     -- no node is left
     module _ (h : a .nodes ≤ n .nodes) (b : Bool) (eb : Ending ends depth (n .nodes) b) where
       last : All ≡ (b && spent R n)
@@ -155,9 +174,6 @@ module _ (ns : List ℕ) (brushes root end : ℕ) (a : Counts) (t₃ t₄ t₅ t
         pub nodes-deep : (k : ℕ) → k ≤ d → T (leb 16 k) → false ≡ nodesHere ns brushes (partRows a t₄ t₅ t₆ t₇ t₈ t₉ t₁₀) (record { node = 0; end = end; bones = root } ∷ []) (rowsAt nodeWidth (from .nodes) (a .nodes - from .nodes) t₃) from
         nodes-deep k g t = let l = leb→le 16 k t in rw (step, lt-ltb 0 d z, le-ltb d 16 (omega arith))
 
-        pub told-there : d < 16 → d - 1 < length bones
-        told-there k = omega (arith, i .bones-long, i .bones-room)
-
         module _ (k : d < 16) (told : ℕ) (et : told ≡ getD bones (d - 1) 0) (r : Bool) (er : r ≡ nodeHere ns brushes told (partRows a t₄ t₅ t₆ t₇ t₈ t₉ t₁₀) (rowAt nodeWidth (n .nodes) t₃) n) where
           on : All ≡ turn told
           on = step ∙ rw (lt-ltb 0 d z, lt-ltb d 16 k) (ap turn (path-told path ends bones d z ∙ sym et))
@@ -198,5 +214,3 @@ module _ (ns : List ℕ) (brushes root end : ℕ) (a : Counts) (t₃ t₄ t₅ t
                           ∙ (λ j. nodesHere ns brushes R (record { node = n .nodes; end = end-is j; bones = bones-is j } ∷ pathOf path ends bones d) (rowsAt nodeWidth (one j) (a .nodes - one j) t₃) (whole j))
                           ∙ and-go r (nodeHere ns brushes told R x n) _ _ er f refl ∙ sym on;
                     }
-
-pub ruleset nodes-laws = (nodes-none, nodes-open, nodes-done, nodes-wrong, nodes-deep, told-there, nodes-stop, nodes-after, nodes-less, bones-grow, bones-small, nodes-next)

@@ -8,22 +8,18 @@ use lib.ListN.{drop, getD}
 use lib.Dec.{eqb}
 use Rattle.layout.specs.Rules.{NONE}
 use Rattle.b3d_scene.specs.Rebuild.{Rows, cut}
-use Rattle.b3d_scene.specs.Tables.{start, nodeWidth}
+use Rattle.b3d_scene.specs.Tables.{start, nodeWidth, noRows}
 use Rattle.b3d_scene.specs.declared.Counts.{Counts}
 use Rattle.b3d_sound.specs.CellCounts.{nodeCounts, cellCounts}
 use Rattle.b3d_sound.specs.Check.{nodeHere, endFrom, nodesHere, treeHere}
 use Rattle.b3d_check_rows.specs.Rows.{rowAt, rowsAt}
 use Rattle.b3d_check_rows.proofs.Ands.{and-stop, and-go}
 use Rattle.b3d_check_rows.proofs.Rows.{row-cell, rows-next, rows-whole}
-use Rattle.b3d_check_node.specs.Parts.{partRows, Below, Limited}
+use Rattle.b3d_check_node.specs.Parts.{partRows, Below}
 use Rattle.b3d_check_node.proofs.AfterLaws.{kind-keeps}
 use Rattle.b3d_check_node.proofs.Bounds.{after-below}
 use Rattle.b3d_check_tree.specs.Ended.{ended}
 use Rattle.b3d_check_tree.proofs.NodesLaws.{ended-spent, counts-few}
-
--- no row came before
-abbrev pub none-before : Counts
-none-before = record { nodes = 0; meshes = 0; vertices = 0; sets = 0; triangles = 0; weights = 0; lists = 0; keys = 0 }
 
 module _ (ns : List ℕ) (brushes : ℕ) (a : Counts) (t₃ t₄ t₅ t₆ t₇ t₈ t₉ t₁₀ : List ℕ) where
   abbrev R : Rows
@@ -35,14 +31,14 @@ module _ (ns : List ℕ) (brushes : ℕ) (a : Counts) (t₃ t₄ t₅ t₆ t₇ 
   abbrev x : List ℕ
   x = rowAt nodeWidth 0 t₃
 
-  pub tree-empty : a .nodes ≤ 0 → (r : Bool) → r ≡ ended none-before a → r ≡ treeHere ns brushes (partRows a t₄ t₅ t₆ t₇ t₈ t₉ t₁₀) (cut nodeWidth (a .nodes) t₃)
+  pub tree-empty : a .nodes ≤ 0 → (r : Bool) → r ≡ ended noRows a → r ≡ treeHere ns brushes (partRows a t₄ t₅ t₆ t₇ t₈ t₉ t₁₀) (cut nodeWidth (a .nodes) t₃)
   unfolding treeHere cut start
-  tree-empty h r e = let z : a .nodes ≡ 0 = omega arith in e ∙ ended-spent none-before a t₄ t₅ t₆ t₇ t₈ t₉ t₁₀ ∙ sym (ap (λ (k : ℕ). treeHere ns brushes R (cut nodeWidth k t₃)) z)
+  tree-empty h r e = let z : a .nodes ≡ 0 = omega arith in e ∙ ended-spent noRows a t₄ t₅ t₆ t₇ t₈ t₉ t₁₀ ∙ sym (ap (λ (k : ℕ). treeHere ns brushes R (cut nodeWidth k t₃)) z)
 
   module _ (h : 0 < a .nodes) where
     whole : treeHere ns brushes R (cut nodeWidth (a .nodes) t₃)
-        ≡ (eqb (getD t₃ 2 0) NONE && (nodeHere ns brushes 0 R x none-before
-        && nodesHere ns brushes R (record { node = 0; end = endFrom 0 x; bones = (cellCounts R x none-before) .vertices } ∷ []) (rowsAt nodeWidth 1 (a .nodes - 1) t₃) (cellCounts R x none-before)))
+        ≡ (eqb (getD t₃ 2 0) NONE && (nodeHere ns brushes 0 R x noRows
+        && nodesHere ns brushes R (record { node = 0; end = endFrom 0 x; bones = (cellCounts R x noRows) .vertices } ∷ []) (rowsAt nodeWidth 1 (a .nodes - 1) t₃) (cellCounts R x noRows)))
     unfolding treeHere start
     whole =
         let c : a .nodes ≡ suc (a .nodes - 1) = omega arith in
@@ -52,35 +48,29 @@ module _ (ns : List ℕ) (brushes : ℕ) (a : Counts) (t₃ t₄ t₅ t₆ t₇ 
     pub tree-wrong : not (eqb (getD t₃ 2 0) NONE) ≡ true → false ≡ treeHere ns brushes (partRows a t₄ t₅ t₆ t₇ t₈ t₉ t₁₀) (cut nodeWidth (a .nodes) t₃)
     tree-wrong k = and-stop (eqb (getD t₃ 2 0) NONE) _ _ refl k ∙ sym whole
 
-    module _ (b : Bool) (e : b ≡ nodeHere ns brushes 0 (partRows a t₄ t₅ t₆ t₇ t₈ t₉ t₁₀) (rowAt nodeWidth 0 t₃) none-before) where
+    module _ (b : Bool) (e : b ≡ nodeHere ns brushes 0 (partRows a t₄ t₅ t₆ t₇ t₈ t₉ t₁₀) (rowAt nodeWidth 0 t₃) noRows) where
       pub tree-node : not (eqb (getD t₃ 2 0) NONE) ≡ false → not b ≡ true → false ≡ treeHere ns brushes (partRows a t₄ t₅ t₆ t₇ t₈ t₉ t₁₀) (cut nodeWidth (a .nodes) t₃)
-      tree-node k f = and-go (eqb (getD t₃ 2 0) NONE) _ _ false refl k (and-stop b (nodeHere ns brushes 0 R x none-before) _ e f) ∙ sym whole
+      tree-node k f = and-go (eqb (getD t₃ 2 0) NONE) _ _ false refl k (and-stop b (nodeHere ns brushes 0 R x noRows) _ e f) ∙ sym whole
 
       module _ (f : not b ≡ false) where
-        pub root-after : Below (cellCounts (partRows a t₄ [] t₆ [] [] t₉ []) (rowAt nodeWidth 0 t₃) none-before) a
+        pub root-after : Below (cellCounts (partRows a t₄ [] t₆ [] [] t₉ []) (rowAt nodeWidth 0 t₃) noRows) a
         root-after =
-            let z : Below none-before a = record { nodes = omega arith; meshes = omega arith; vertices = omega arith; sets = omega arith; triangles = omega arith; weights = omega arith; lists = omega arith; keys = omega arith } in
-            after-below ns brushes 0 none-before a t₃ t₄ t₅ t₆ t₇ t₈ t₉ t₁₀ x z h b e f
+            let z : Below noRows a = record { nodes = omega arith; meshes = omega arith; vertices = omega arith; sets = omega arith; triangles = omega arith; weights = omega arith; lists = omega arith; keys = omega arith } in
+            after-below ns brushes 0 noRows a t₃ t₄ t₅ t₆ t₇ t₈ t₉ t₁₀ x z h b e f
 
-        module _ (m : Counts) (em : m ≡ cellCounts (partRows a t₄ [] t₆ [] [] t₉ []) (rowAt nodeWidth 0 t₃) none-before) where
+        module _ (m : Counts) (em : m ≡ cellCounts (partRows a t₄ [] t₆ [] [] t₉ []) (rowAt nodeWidth 0 t₃) noRows) where
           pub root-below : Below m a
           root-below = rw em root-after
 
-          pub root-small : Limited a → m .vertices < 0x100000000
-          root-small l = omega (arith, root-below .vertices, l .vertices)
-
           one : m .nodes ≡ 1
           unfolding cellCounts nodeCounts
-          one = ap (λ (k : Counts). k .nodes) em ∙ ap (λ (k : ℕ). k + 1) (kind-keeps few none-before (drop 13 x) .nodes)
+          one = ap (λ (k : Counts). k .nodes) em ∙ ap (λ (k : ℕ). k + 1) (kind-keeps few noRows (drop 13 x) .nodes)
 
-          pub tree-nodes : (k : not (eqb (getD t₃ 2 0) NONE) ≡ false) (bones : ℕ) → bones ≡ m .vertices → (end : ℕ) → end ≡ 0 + 1 + getD t₃ (nodeWidth * 0 + 20) 0 → (c : Bool)
-              → c ≡ nodesHere ns brushes (partRows a t₄ t₅ t₆ t₇ t₈ t₉ t₁₀) (record { node = 0; end = end; bones = bones } ∷ []) (rowsAt nodeWidth (m .nodes) (a .nodes - m .nodes) t₃) m
+          pub tree-nodes : (k : not (eqb (getD t₃ 2 0) NONE) ≡ false) (end : ℕ) → end ≡ 0 + 1 + getD t₃ (nodeWidth * 0 + 20) 0 → (c : Bool)
+              → c ≡ nodesHere ns brushes (partRows a t₄ t₅ t₆ t₇ t₈ t₉ t₁₀) (record { node = 0; end = end; bones = m .vertices } ∷ []) (rowsAt nodeWidth (m .nodes) (a .nodes - m .nodes) t₃) m
               → c ≡ treeHere ns brushes (partRows a t₄ t₅ t₆ t₇ t₈ t₉ t₁₀) (cut nodeWidth (a .nodes) t₃)
-          tree-nodes k bones eb end ee c ec =
-              let w : m ≡ cellCounts R x none-before = em ∙ counts-few none-before a x t₄ t₅ t₆ t₇ t₈ t₉ t₁₀ in
-              let told : bones ≡ (cellCounts R x none-before) .vertices = eb ∙ ap (λ (q : Counts). q .vertices) w in
+          tree-nodes k end ee c ec =
+              let w : m ≡ cellCounts R x noRows = em ∙ counts-few noRows a x t₄ t₅ t₆ t₇ t₈ t₉ t₁₀ in
               let at : end ≡ endFrom 0 x = ee ∙ ap (λ (j : ℕ). 0 + 1 + j) (sym (row-cell nodeWidth 0 20 t₃ (omega arith))) in
-              let is = ec ∙ (λ i. nodesHere ns brushes R (record { node = 0; end = at i; bones = told i } ∷ []) (rowsAt nodeWidth (one i) (a .nodes - one i) t₃) (w i)) in
-              and-go (eqb (getD t₃ 2 0) NONE) _ _ c refl k (and-go b (nodeHere ns brushes 0 R x none-before) _ c e f is) ∙ sym whole
-
-pub ruleset tree-laws = (tree-empty, tree-wrong, tree-node, root-after, root-below, root-small, tree-nodes)
+              let is = ec ∙ (λ i. nodesHere ns brushes R (record { node = 0; end = at i; bones = w i .vertices } ∷ []) (rowsAt nodeWidth (one i) (a .nodes - one i) t₃) (w i)) in
+              and-go (eqb (getD t₃ 2 0) NONE) _ _ c refl k (and-go b (nodeHere ns brushes 0 R x noRows) _ c e f is) ∙ sym whole

@@ -11,19 +11,7 @@ ghost use Rattle.b3d_check_node.specs.Parts.{partRows, Below, Limited, KindRoom
 ghost use Rattle.b3d_check_tree.specs.Ended.{ended};
 use b3d_check_node::node_here;
 use b3d_scene::Counts;
-use b3d_scene::NODE_WIDTH;
-
-// No row came before.
-const START: Counts = Counts {
-    nodes: 0,
-    meshes: 0,
-    vertices: 0,
-    sets: 0,
-    triangles: 0,
-    weights: 0,
-    lists: 0,
-    keys: 0,
-};
+use b3d_scene::START;
 
 // No row that `all` counts is left over after n rows.
 fn ended(n: Counts, all: Counts) -> bool
@@ -34,12 +22,11 @@ fn ended(n: Counts, all: Counts) -> bool
     (all.meshes <= n.meshes) & ((all.vertices <= n.vertices) & rest)
 }
 
-// The nodes after the rows `from`, of those that `all` counts, in the tables 3 to 10. The names are in `text`; the root says to those
-// below it that a weight may name so many vertices, and ends at this row. The path has 16 levels: each its node, where that ends, and what it says of bones.
+// The nodes after the root, whose rows are `from`, of those that `all` counts, in the tables 3 to 10. The names are in `text`; the root says to
+// those below it that a weight may name its vertices, and ends at this row. The path has 16 levels: each its node, where that ends, and what it says of bones.
 fn nodes_here(
     text: &[u8],
     brushes: u32,
-    root: u32,
     end: usize,
     from: Counts,
     all: Counts,
@@ -55,17 +42,17 @@ fn nodes_here(
     requires { ⌜ Below from all × KindRoom all (length (now t4)) (length (now t5)) (length (now t6)) (length (now t7)) (length (now t8)) ⌝ }
     requires { ⌜ Limited all × (nodeWidth * all .nodes ≤ length (now t3)) × ListRoom all (length (now t9)) (length (now t10)) ⌝ }
     ensures { λ r. ⌜ r ≡ nodesHere (now (text .entry)) brushes (partRows all (now (t4 .entry)) (now (t5 .entry)) (now (t6 .entry)) (now (t7 .entry)) (now (t8 .entry)) (now (t9 .entry)) (now (t10 .entry)))
-        (record { node = 0; end = end; bones = root } ∷ []) (rowsAt nodeWidth (from .nodes) (all .nodes - from .nodes) (now (t3 .entry))) from ⌝ }
+        (record { node = 0; end = end; bones = from .vertices } ∷ []) (rowsAt nodeWidth (from .nodes) (all .nodes - from .nodes) (now (t3 .entry))) from ⌝ }
 {
     let mut path: [usize; 16] = [0; 16];
     let mut ends: [usize; 16] = [0; 16];
     ends[0] = end;
     let mut bones: [u32; 16] = [0; 16];
-    bones[0] = root;
+    bones[0] = cells::cell(from.vertices);
     let mut depth: usize = 1;
     let mut n = from;
     while n.nodes < all.nodes {
-        let p = b3d_check_rows::cell(t3, NODE_WIDTH * n.nodes + 2);
+        let p = b3d_check_path::parent(t3, n.nodes);
         let d = b3d_check_path::up_to(&path, &ends, depth, n.nodes, p);
         if d <= 0 {
             return false;
@@ -79,7 +66,7 @@ fn nodes_here(
         }
         let m = b3d_check_node::node_counts(n, all, t3, t4, t6, t9);
         path[d] = n.nodes;
-        ends[d] = b3d_check_path::branch_end(n.nodes, t3[NODE_WIDTH * n.nodes + 20]);
+        ends[d] = b3d_check_path::branch_end(t3, n.nodes);
         bones[d] = b3d_check_path::bones_below(told, n, m, t3);
         depth = d + 1;
         n = m;
@@ -120,22 +107,6 @@ pub fn tree_here(
         return false;
     }
     let m = b3d_check_node::node_counts(n, all, t3, t4, t6, t9);
-    let root = cells::cell(m.vertices);
-    let end = b3d_check_path::branch_end(0, t3[20]);
-    nodes_here(
-        text,
-        brushes,
-        root,
-        end,
-        m,
-        all,
-        t3,
-        t4,
-        t5,
-        t6,
-        t7,
-        t8,
-        t9,
-        t10,
-    )
+    let end = b3d_check_path::branch_end(t3, 0);
+    nodes_here(text, brushes, end, m, all, t3, t4, t5, t6, t7, t8, t9, t10)
 }

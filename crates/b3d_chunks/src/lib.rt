@@ -6,6 +6,7 @@ ghost use Rattle.wire.specs.Cursors.{Inside};
 ghost use Rattle.b3d_scene.specs.Tags.{code, is, tagOf};
 ghost use Rattle.b3d_chunks.specs.Chunks.{tagged, NextIs, namedAt, NamedIn};
 use b3d_scene::Tag;
+use b3d_scene::letters;
 use wire::Cursor;
 use wire::Header;
 use wire::Text;
@@ -21,16 +22,16 @@ pub fn tag_of(n: u32) -> Tagged
     ensures { λ r. ⌜ r ≡ tagged (tagOf n) ⌝ }
 {
     match n {
-        0x44334242 => Tagged::Known(Tag::BB3D),
-        0x53584554 => Tagged::Known(Tag::TEXS),
-        0x53555242 => Tagged::Known(Tag::BRUS),
-        0x45444F4E => Tagged::Known(Tag::NODE),
-        0x4853454D => Tagged::Known(Tag::MESH),
-        0x53545256 => Tagged::Known(Tag::VRTS),
-        0x53495254 => Tagged::Known(Tag::TRIS),
-        0x454E4F42 => Tagged::Known(Tag::BONE),
-        0x5359454B => Tagged::Known(Tag::KEYS),
-        0x4D494E41 => Tagged::Known(Tag::ANIM),
+        letters::BB3D => Tagged::Known(Tag::BB3D),
+        letters::TEXS => Tagged::Known(Tag::TEXS),
+        letters::BRUS => Tagged::Known(Tag::BRUS),
+        letters::NODE => Tagged::Known(Tag::NODE),
+        letters::MESH => Tagged::Known(Tag::MESH),
+        letters::VRTS => Tagged::Known(Tag::VRTS),
+        letters::TRIS => Tagged::Known(Tag::TRIS),
+        letters::BONE => Tagged::Known(Tag::BONE),
+        letters::KEYS => Tagged::Known(Tag::KEYS),
+        letters::ANIM => Tagged::Known(Tag::ANIM),
         _ => Tagged::Other,
     }
 }
@@ -40,16 +41,16 @@ pub fn letters(tag: Tag) -> u32
     ensures { λ r. ⌜ r ≡ code tag ⌝ }
 {
     match tag {
-        Tag::BB3D => 0x44334242,
-        Tag::TEXS => 0x53584554,
-        Tag::BRUS => 0x53555242,
-        Tag::NODE => 0x45444F4E,
-        Tag::MESH => 0x4853454D,
-        Tag::VRTS => 0x53545256,
-        Tag::TRIS => 0x53495254,
-        Tag::BONE => 0x454E4F42,
-        Tag::KEYS => 0x5359454B,
-        Tag::ANIM => 0x4D494E41,
+        Tag::BB3D => letters::BB3D,
+        Tag::TEXS => letters::TEXS,
+        Tag::BRUS => letters::BRUS,
+        Tag::NODE => letters::NODE,
+        Tag::MESH => letters::MESH,
+        Tag::VRTS => letters::VRTS,
+        Tag::TRIS => letters::TRIS,
+        Tag::BONE => letters::BONE,
+        Tag::KEYS => letters::KEYS,
+        Tag::ANIM => letters::ANIM,
     }
 }
 

@@ -18,7 +18,7 @@ use Rattle.b3d_scene.specs.Scene.{Scene}
 use Rattle.b3d_scene.specs.Tags.{code}
 use Rattle.b3d_scene.specs.declared.Tag.the-variants.{BB3D}
 use Rattle.b3d_scene.specs.declared.Written.{Written}
-use Rattle.b3d_scene.proofs.AnswerLaws.{judge-got, clear-first}
+use Rattle.b3d_scene.proofs.AnswerLaws.{judge-got, clear-first, of-size}
 use Rattle.b3d_scene.proofs.Files.FileLaws.{size-low, size-bound}
 use Rattle.b3d_scene.proofs.Files.NameLaws.{copy-short}
 use Rattle.b3d_tally.specs.declared.Tally.{Tally}
@@ -65,9 +65,6 @@ unfolding parse
 size-within s t e = by-check (sizeFits (length s)) 1 0 _ e (λ z _. (size-low (length s) z, size-bound (length s) z))
 
 -- ---- answers
-
-of-size : (m n : ℕ) → m ≡ n → _≡_ {A = Written} (record { number = 0; place = 0; size = m }) (record { number = 0; place = 0; size = n })
-of-size m n e = rw e
 
 module _ (s out : List ℕ) where
   answered : (o : Out (List ℕ)) → clear s (length out) ≡ o → (w : Written) → w ≡ written o → w ≡ clearAnswer s out

@@ -15,6 +15,7 @@ use b3d_judge::Verdict;
 use b3d_scene::Mode;
 use b3d_scene::Tag;
 use b3d_scene::Written;
+use b3d_scene::letters;
 use wire::Cursor;
 
 // The brushes, then the nodes.
@@ -51,7 +52,7 @@ fn clear_file(file: &[u8], out: &mut [u8]) -> usize
     };
     let version = wire::number_at(file, 8);
     let n = clear_chunks(file, from, &mut out[12..]);
-    emit::put_opening(out, 0x44334242, n, version);
+    emit::put_opening(out, letters::BB3D, n, version);
     n + 12
 }
 

@@ -8,8 +8,8 @@ ghost use Rattle.layout.specs.Rows.{mostBytes};
 ghost use Rattle.emit.specs.Writing.{Room, Put};
 ghost use Rattle.b3d_scene.specs.Tags.{code};
 ghost use Rattle.b3d_copy.specs.Copies.{chunkOf, each, chunksAt, asIs};
-use b3d_chunks::Next;
 use b3d_scene::Tag;
+use b3d_walk::Sought;
 use wire::Cursor;
 
 // A chunk of this tag whose body is the bytes of a cursor.
@@ -34,26 +34,14 @@ pub fn copy_each(file: &[u8], from: Cursor, tag: Tag, out: &mut [u8]) -> usize
     let mut c = from;
     let mut n: usize = 0;
     loop {
-        match b3d_chunks::next_chunk(file, c) {
-            Next::Done => {
+        match b3d_walk::seek(file, c, tag) {
+            Sought::Nothing => {
                 return n;
             }
-            Next::Cut(_) => {
-                return n;
-            }
-            Next::Chunk {
-                tag: t,
-                body,
-                next,
-                ..
-            } => {
-                if b3d_chunks::same(t, tag) {
-                    let m = copy_chunk(file, body, tag, &mut out[n..]);
-                    n += m;
-                    c = next;
-                } else {
-                    c = next;
-                }
+            Sought::Found { body, next, .. } => {
+                let m = copy_chunk(file, body, tag, &mut out[n..]);
+                n += m;
+                c = next;
             }
         }
     }

@@ -10,6 +10,7 @@ ghost use Rattle.b3d_scene.specs.declared.Tag.the-variants.{TEXS, BRUS};
 ghost use Rattle.b3d_inside.specs.Places.{Body};
 ghost use Rattle.b3d_copy.specs.Copies.{chunkOf, unnamed, unnamedItems, texsCopy, brusCopy};
 use b3d_chunks::Named;
+use b3d_scene::letters;
 use wire::Cursor;
 use wire::Number;
 
@@ -57,7 +58,7 @@ fn texs_chunk(file: &[u8], items: Cursor, out: &mut [u8]) -> usize
     ensures { λ r. ⌜ Put (chunkOf (code TEXS) (unnamedItems 7 (items .at) (left items (now (file .entry))))) (now (out .entry)) (now (out .exit)) r ⌝ }
 {
     let n = clear_items(file, items, 7, &mut out[8..]);
-    emit::put_header(out, 0x53584554, n);
+    emit::put_header(out, letters::TEXS, n);
     n + 8
 }
 
@@ -80,7 +81,7 @@ fn brus_chunk(file: &[u8], items: Cursor, slots: u32, words: usize, out: &mut [u
     ensures { λ r. ⌜ Put (chunkOf (code BRUS) (bytes slots (unnamedItems words (items .at) (left items (now (file .entry)))))) (now (out .entry)) (now (out .exit)) r ⌝ }
 {
     let n = clear_items(file, items, words, &mut out[12..]);
-    emit::put_opening(out, 0x53555242, n, slots);
+    emit::put_opening(out, letters::BRUS, n, slots);
     n + 12
 }
 

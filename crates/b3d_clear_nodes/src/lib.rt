@@ -12,8 +12,9 @@ ghost use Rattle.b3d_scene.specs.declared.Tag.the-variants.{NODE, BONE, KEYS, A
 ghost use Rattle.b3d_inside.specs.Places.{Body};
 ghost use Rattle.b3d_copy.specs.Copies.{chunkOf, each, chunksAt, asIs, inNode, ownCopy, nodeCopy};
 use b3d_chunks::Named;
-use b3d_chunks::Next;
 use b3d_scene::Tag;
+use b3d_scene::letters;
+use b3d_walk::Sought;
 use wire::Cursor;
 
 // What stands inside a NODE besides meshes and nodes: BONE, KEYS, ANIM.
@@ -75,7 +76,7 @@ fn node_chunk(file: &[u8], row: Cursor, next: Cursor, levels: u32, out: &mut [u8
     let n = clear_own(file, row, next, &mut out[8..]);
     let behind = n + 8;
     let m = clear_nodes(file, next, levels, &mut out[behind..]);
-    emit::put_header(out, 0x45444F4E, n + m);
+    emit::put_header(out, letters::NODE, n + m);
     n + m + 8
 }
 
@@ -88,26 +89,14 @@ pub fn clear_nodes(file: &[u8], from: Cursor, levels: u32, out: &mut [u8]) -> us
     let mut c = from;
     let mut n: usize = 0;
     loop {
-        match b3d_chunks::next_chunk(file, c) {
-            Next::Done => {
+        match b3d_walk::seek(file, c, Tag::NODE) {
+            Sought::Nothing => {
                 return n;
             }
-            Next::Cut(_) => {
-                return n;
-            }
-            Next::Chunk {
-                tag,
-                at,
-                body,
-                next,
-            } => {
-                if b3d_chunks::same(tag, Tag::NODE) {
-                    let m = clear_node(file, at, body, levels, &mut out[n..]);
-                    n += m;
-                    c = next;
-                } else {
-                    c = next;
-                }
+            Sought::Found { at, body, next } => {
+                let m = clear_node(file, at, body, levels, &mut out[n..]);
+                n += m;
+                c = next;
             }
         }
     }

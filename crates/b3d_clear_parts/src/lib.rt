@@ -9,8 +9,9 @@ ghost use Rattle.b3d_scene.specs.Tags.{code};
 ghost use Rattle.b3d_scene.specs.declared.Tag.the-variants.{MESH};
 ghost use Rattle.b3d_inside.specs.Places.{Body};
 ghost use Rattle.b3d_copy.specs.Copies.{chunkOf, each, chunksAt, inMesh, meshCopy, partCopy};
-use b3d_chunks::Next;
 use b3d_scene::Tag;
+use b3d_scene::letters;
+use b3d_walk::Sought;
 use wire::Cursor;
 use wire::Number;
 
@@ -21,7 +22,7 @@ fn mesh_chunk(file: &[u8], from: Cursor, brush: u32, out: &mut [u8]) -> usize
     ensures { λ r. ⌜ Put (chunkOf (code MESH) (bytes brush (inMesh (chunksAt (now (file .entry)) from)))) (now (out .entry)) (now (out .exit)) r ⌝ }
 {
     let n = b3d_clear_copies::copy_two(file, from, Tag::VRTS, Tag::TRIS, &mut out[12..]);
-    emit::put_opening(out, 0x4853454D, n, brush);
+    emit::put_opening(out, letters::MESH, n, brush);
     n + 12
 }
 
@@ -60,26 +61,14 @@ pub fn clear_each(file: &[u8], from: Cursor, tag: Tag, out: &mut [u8]) -> usize
     let mut c = from;
     let mut n: usize = 0;
     loop {
-        match b3d_chunks::next_chunk(file, c) {
-            Next::Done => {
+        match b3d_walk::seek(file, c, tag) {
+            Sought::Nothing => {
                 return n;
             }
-            Next::Cut(_) => {
-                return n;
-            }
-            Next::Chunk {
-                tag: t,
-                at,
-                body,
-                next,
-            } => {
-                if b3d_chunks::same(t, tag) {
-                    let m = clear_chunk(file, at, body, tag, &mut out[n..]);
-                    n += m;
-                    c = next;
-                } else {
-                    c = next;
-                }
+            Sought::Found { at, body, next } => {
+                let m = clear_chunk(file, at, body, tag, &mut out[n..]);
+                n += m;
+                c = next;
             }
         }
     }

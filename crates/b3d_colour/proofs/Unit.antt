@@ -1,20 +1,21 @@
 -- Which patterns of binary32 lie from 0.0 to 1.0. Assumes nothing.
 use mathlib.Core.Path.{_≡_, refl, sym, ap, _∙_, subst}
 use mathlib.Core.Logic.{_⊎_, inl, inr, ⊎-elim}
-use Prim.Native.Nat.{ℕ, zero, suc, _+_, _-_, _*_, _/_, _%_, _^_, _≤_, _<_}
-use native.Mathlib.Nat.{le-trans, le-of-eq, eq-or-lt-of-le, mul-assoc, mul-le-mul-right, mul-le-mul-left, pow-succ', mul-pos, lt-of-lt-of-le, mod-eq-of-lt}
+use Prim.Native.Nat.{ℕ, zero, suc, _+_, _*_, _/_, _%_, _^_, _≤_, _<_}
+use native.Mathlib.Nat.{le-trans, eq-or-lt-of-le, mul-assoc, mul-le-mul-right, mul-le-mul-left, pow-succ', mul-pos, lt-of-lt-of-le, mod-eq-of-lt}
 use native.Mathlib.Omega.{arith}
-use mathlib.Core.Bool.{Bool, true, false, cond, not, _&&_, _||_, true≢false}
-use lib.Dec.{T, leb, ltb, eqb, eqb→eq, not-T, lit<, lit≤}
+use mathlib.Core.Bool.{Bool, true, false, cond, not, _&&_, true≢false}
+use lib.Dec.{T, leb, eqb, eqb→eq, not-T, lit<, lit≤}
 use lib.Pow.{pow-pos, pow-mono}
-use lib.Ieee.{Float, nan, inf, fin, binary32, odd, ofFields, ofBits, le, lt, eq, ne, div, toBits, up, down, nanBits, isNan, hid, ones, top}
-use lib.Ieee.Bits.{is-true, is-false, cond-no, nanBits-above, nanBits-is, toBits-ofBits}
-use lib.Ieee.Fits.{up-pos, down-pos}
+use lib.Ieee.{Float, nan, inf, fin, binary32, odd, ofFields, ofBits, le, lt, eq, up, down, nanBits}
+use lib.Ieee.Bits.{is-true, is-false, cond-no, nanBits-above}
+use lib.Ieee.Fits.{down-pos}
 use lib.Ieee.Exact.{HasValue, odd-sign}
 use lib.Ieee.Order.{le-of-values}
 use lib.Ieee.Positive.{positive, positive-of-value, values-of-le}
-use borrow.Author.Tests.{le-leb, lt-leb, eq-eqb, ne-eqb, le-ltb, lt-ltb, leb-true, leb-false, ltb-false}
+use borrow.Author.Tests.{le-leb, lt-leb, ne-eqb, le-ltb, leb-true, leb-false}
 use Rattle.layout.specs.Rules.{unit, holds}
+use Rattle.layout.proofs.Testing.{and-false}
 
 -- the size of a finite value with the exponent's field x and the digits t, in units of 2 ^ -149
 abbrev pub size : ℕ → ℕ → ℕ
@@ -183,10 +184,6 @@ split a b = go (leb a b) refl
     go true e = inl (leb-true a b e)
     go false e = inr (leb-false a b e)
 
-not-and : (x : Bool) → (x && false) ≡ false
-not-and true = refl
-not-and false = refl
-
 -- the value's tests are the pattern's
 pub law : (b : ℕ) → b < 4294967296 → b % 2147483648 ≤ 2139095040 → (le Z (ofBits binary32 b) && le (ofBits binary32 b) O) ≡ holds unit b
 law b w n =
@@ -194,7 +191,7 @@ law b w n =
     (λ h. rw (low b h .0, low b h .1, le-leb b 1065353216 h))
     (λ h.
     ⊎-elim
-    (λ (k : b ≤ 2147483648). ⊎-elim (λ (e : b ≡ 2147483648). neg-zero b e ∙ sym (rw e)) (λ (l : b < 2147483648). rw (high b h (omega arith), lt-leb b 1065353216 h, ne-eqb b 2147483648 (omega arith)) (not-and (le Z (ofBits binary32 b)))) (eq-or-lt-of-le k))
+    (λ (k : b ≤ 2147483648). ⊎-elim (λ (e : b ≡ 2147483648). neg-zero b e ∙ sym (rw e)) (λ (l : b < 2147483648). rw (high b h (omega arith), lt-leb b 1065353216 h, ne-eqb b 2147483648 (omega arith)) (and-false (le Z (ofBits binary32 b)))) (eq-or-lt-of-le k))
     (λ (k : 2147483648 < b). rw (neg b k (omega arith), lt-leb b 1065353216 h, ne-eqb b 2147483648 (omega arith)))
     (split b 2147483648))
     (split b 1065353216)

@@ -12,6 +12,7 @@ use Rattle.layout.specs.Write.{writeWords, writeItems}
 use Rattle.layout.proofs.Outs.{by-got, bad-got, got-inj}
 use Rattle.layout.proofs.StepLaws.{judged-got}
 use Rattle.layout.proofs.PartLaws.{row-fine, length-fits}
+use Rattle.layout.proofs.ListLaws.{three-cells}
 
 -- ---- words
 
@@ -94,11 +95,4 @@ module _ (p : ℕ) (s : List ℕ) (h : Step (List ℕ)) (all : AllBytes s) where
 
   pub three-exact : (q r t : Rule) → row (q ∷ r ∷ t ∷ []) p s ≡ got h → writeWords (number h 0 ∷ number h 1 ∷ number h 2 ∷ []) (h .left) ≡ s
   three-exact q r t e =
-      ap (λ (ws : List ℕ). writeWords ws (h .left)) (three-are (h .value) (long (q ∷ r ∷ t ∷ []) e)) ∙ row-exact (q ∷ r ∷ t ∷ []) p s h all e
-    where
-      three-are : (ws : List ℕ) → length ws ≡ 3 → getD ws 0 0 ∷ getD ws 1 0 ∷ getD ws 2 0 ∷ [] ≡ ws
-      three-are [] l = absurd (omega arith)
-      three-are (a ∷ []) l = absurd (omega arith)
-      three-are (a ∷ b ∷ []) l = absurd (omega arith)
-      three-are (a ∷ b ∷ c ∷ []) l = refl
-      three-are (a ∷ b ∷ c ∷ d ∷ ws) l = absurd (omega arith)
+      ap (λ (ws : List ℕ). writeWords ws (h .left)) (three-cells (h .value) (long (q ∷ r ∷ t ∷ []) e)) ∙ row-exact (q ∷ r ∷ t ∷ []) p s h all e

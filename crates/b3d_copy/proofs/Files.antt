@@ -26,15 +26,14 @@ use Rattle.b3d_scene.specs.declared.Tag.the-variants.{BB3D, TEXS, BRUS, NODE}
 use Rattle.b3d_scene.specs.Answers.{copy}
 use Rattle.b3d_scene.specs.Encode.{nodeChunks, writeScene, encode}
 use Rattle.b3d_scene.specs.Names.{renameForest, noName, rename, cleared}
-use Rattle.b3d_scene.specs.Nesting.{start, next, onward, order, inside}
+use Rattle.b3d_scene.specs.Nesting.{start, next, onward, order, inside, reachedAt}
 use Rattle.b3d_scene.specs.Parse.{readOne, readTextures, readBrushes, readNode, readRoot, slotsOf, readBody, parse}
 use Rattle.b3d_scene.specs.Rules.{header, fileHead, levels}
 use Rattle.b3d_scene.specs.Scene.{Texture, Brush, Forest, leaf, Scene}
 use Rattle.b3d_scene.specs.Tags.{Chunks, Found, split, tagOf, code}
 use Rattle.b3d_scene.proofs.Files.FileLaws.{size-low}
-use Rattle.b3d_items.proofs.Ids.{word-at}
+use Rattle.counted.proofs.Ids.{word-at}
 use Rattle.b3d_scene.proofs.Files.Entries.{_▸_, by-entry}
-use Rattle.b3d_inside.specs.Places.{reached}
 use Rattle.b3d_inside.proofs.Heads.{head-is}
 use Rattle.b3d_copy.specs.Copies.{chunkOf, each, chunksAt, texsCopy, brusCopy, nodeCopy, inFile, fileCopy}
 use Rattle.b3d_copy.proofs.Lists.{texs-copied, brus-copied}
@@ -58,12 +57,12 @@ nothing = record { texs = refl; brus = refl; nodes = sym leaf-none }
 module _ (t u : Scene) where
   -- ---- after the nodes
 
-  last-read : (cs : Chunks) → ended (order BB3D 0 (reached 3 true) cs) t ≡ got u → Has cs [] 0 [] leaf
+  last-read : (cs : Chunks) → ended (order BB3D 0 (reachedAt 3 true) cs) t ≡ got u → Has cs [] 0 [] leaf
   unfolding ended order onward next if
   last-read done e = nothing
   last-read (stop i p) e = bad-got e
   last-read (chunk k p b r) e =
-      by-entry BB3D 0 (reached 3 true) p b r (λ v o. ended o t ≡ got u → Has (chunk v p b r) [] 0 [] leaf) (λ v e. bad-got e)
+      by-entry BB3D 0 (reachedAt 3 true) p b r (λ v o. ended o t ≡ got u → Has (chunk v p b r) [] 0 [] leaf) (λ v e. bad-got e)
       (tt ▸ tt ▸ tt ▸ tt) k e
 
   -- ---- nodes
@@ -79,13 +78,13 @@ module _ (t u : Scene) where
             ap₂ _++_ (node-copied levels brushes none p b x h ex) (rest .nodes) ∙ sym (node-written (x .self) (x .below) leaf) ∙ ap nodesBytes (got-inj e₁);
       })
 
-  root-read : (brushes : ℕ) (cs : Chunks) (n : ℕ) → Of n cs → (x : Found Forest) → readOne NODE leaf (readRoot Lenient brushes) (order BB3D 0 (reached 2 true) cs) ≡ got x → ended (x .rest) t ≡ got u
+  root-read : (brushes : ℕ) (cs : Chunks) (n : ℕ) → Of n cs → (x : Found Forest) → readOne NODE leaf (readRoot Lenient brushes) (order BB3D 0 (reachedAt 2 true) cs) ≡ got x → ended (x .rest) t ≡ got u
       → Has cs [] 0 [] (x .value)
   unfolding readOne order onward next if
   root-read brushes done n h x e z = subst (λ (y : Found Forest). Has done [] 0 [] (y .value)) (got-inj e) nothing
   root-read brushes (stop i p) n h x e z = bad-got e
   root-read brushes (chunk k p b r) n h x e z =
-      by-entry BB3D 0 (reached 2 true) p b r (λ u o. readOne NODE leaf (readRoot Lenient brushes) o ≡ got x → Has (chunk u p b r) [] 0 [] (x .value)) (λ u e. bad-got e)
+      by-entry BB3D 0 (reachedAt 2 true) p b r (λ u o. readOne NODE leaf (readRoot Lenient brushes) o ≡ got x → Has (chunk u p b r) [] 0 [] (x .value)) (λ u e. bad-got e)
       (tt ▸ tt
       ▸ (λ e. by-got (readRoot Lenient brushes p b) _ e (λ f ef e₁.
       subst (λ (y : Found Forest). Has (chunk NODE p b r) [] 0 [] (y .value)) (got-inj e₁)
@@ -100,7 +99,7 @@ module _ (t u : Scene) where
       record { texs = rest .texs; brus = ap₂ _++_ (brus-copied textures p b v h e) (rest .brus) ∙ append-nil _; nodes = rest .nodes }
 
   -- no BRUS stands first
-  no-brus : (cs rest : Chunks) (n : ℕ) → Of n cs → (v : Found (ℕ × List Brush)) → got (record { value = (0, []); rest = rest }) ≡ got v → order BB3D 0 (reached 2 true) cs ≡ rest
+  no-brus : (cs rest : Chunks) (n : ℕ) → Of n cs → (v : Found (ℕ × List Brush)) → got (record { value = (0, []); rest = rest }) ≡ got v → order BB3D 0 (reachedAt 2 true) cs ≡ rest
       → (x : Found Forest) → readOne NODE leaf (readRoot Lenient (length (v .value .1))) (v .rest) ≡ got x → ended (x .rest) t ≡ got u → Has cs [] (slotsOf (v .value .0) (v .value .1)) (v .value .1) (x .value)
   unfolding slotsOf
   no-brus cs rest n h v e same x ex z =
@@ -108,13 +107,13 @@ module _ (t u : Scene) where
       subst (λ (y : Found (ℕ × List Brush)). Has cs [] (slotsOf (y .value .0) (y .value .1)) (y .value .1) (x .value)) g
       (root-read 0 cs n h x (ap (readOne NODE leaf (readRoot Lenient 0)) same ∙ ap (λ (y : Found (ℕ × List Brush)). readOne NODE leaf (readRoot Lenient (length (y .value .1))) (y .rest)) g ∙ ex) z)
 
-  brus-read : (textures : ℕ) (cs : Chunks) (n : ℕ) → Of n cs → (v : Found (ℕ × List Brush)) → readOne BRUS (0, []) (readBrushes Lenient textures) (order BB3D 0 (reached 1 true) cs) ≡ got v
+  brus-read : (textures : ℕ) (cs : Chunks) (n : ℕ) → Of n cs → (v : Found (ℕ × List Brush)) → readOne BRUS (0, []) (readBrushes Lenient textures) (order BB3D 0 (reachedAt 1 true) cs) ≡ got v
       → (x : Found Forest) → readOne NODE leaf (readRoot Lenient (length (v .value .1))) (v .rest) ≡ got x → ended (x .rest) t ≡ got u → Has cs [] (slotsOf (v .value .0) (v .value .1)) (v .value .1) (x .value)
   unfolding readOne order onward next if
   brus-read textures done n h v e x ex z = no-brus done done n h v e refl x ex z
   brus-read textures (stop i p) n h v e x ex z = bad-got e
   brus-read textures (chunk k p b r) n h v e x ex z =
-      by-entry BB3D 0 (reached 1 true) p b r (λ u o. readOne BRUS (0, []) (readBrushes Lenient textures) o ≡ got v → Has (chunk u p b r) [] (slotsOf (v .value .0) (v .value .1)) (v .value .1) (x .value)) (λ u e. bad-got e)
+      by-entry BB3D 0 (reachedAt 1 true) p b r (λ u o. readOne BRUS (0, []) (readBrushes Lenient textures) o ≡ got v → Has (chunk u p b r) [] (slotsOf (v .value .0) (v .value .1)) (v .value .1) (x .value)) (λ u e. bad-got e)
       (tt
       ▸ (λ e. by-got (readBrushes Lenient textures p b) _ e (λ w ew e₁.
       let g = got-inj e₁ in
@@ -132,7 +131,7 @@ module _ (t u : Scene) where
   abbrev Reads : Found (List Texture) → Found (ℕ × List Brush) → Found Forest → Type 0
   Reads w v x = (readOne BRUS (0, []) (readBrushes Lenient (length (w .value))) (w .rest) ≡ got v) × (readOne NODE leaf (readRoot Lenient (length (v .value .1))) (v .rest) ≡ got x) × (ended (x .rest) t ≡ got u)
 
-  no-texs : (cs rest : Chunks) (n : ℕ) → Of n cs → (w : Found (List Texture)) → got (record { value = []; rest = rest }) ≡ got w → order BB3D 0 (reached 1 true) cs ≡ rest
+  no-texs : (cs rest : Chunks) (n : ℕ) → Of n cs → (w : Found (List Texture)) → got (record { value = []; rest = rest }) ≡ got w → order BB3D 0 (reachedAt 1 true) cs ≡ rest
       → (v : Found (ℕ × List Brush)) (x : Found Forest) → Reads w v x → Rest cs (w .value) v x
   no-texs cs rest n h w e same v x (ev, ex, z) =
       let g = got-inj e in

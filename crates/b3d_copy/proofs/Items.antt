@@ -3,15 +3,15 @@ use mathlib.Core.Path.{_≡_, refl, ap, sym, _∙_}
 use Prim.Native.Nat.{ℕ, zero, suc, _<_, _≤_}
 use native.Mathlib.Omega.{arith}
 use mathlib.Core.List.{List, [], _∷_, _++_}
-use lib.ListN.{length, replicate, length-replicate}
+use lib.ListN.{length, replicate}
 use Rattle.wire.specs.Bytes.{bytes, AllBytes}
 use Rattle.layout.specs.Out.{Out, got, bad, _>>=_}
-use Rattle.layout.specs.Parts.{Name, Step, text, words, named, itemsIn, items}
+use Rattle.layout.specs.Parts.{Name, Step, text, named, itemsIn, items}
 use Rattle.layout.specs.Rules.{Rule, any}
 use Rattle.layout.specs.Write.{writeWords, writeItems}
 use Rattle.layout.proofs.Outs.{by-got, bad-got, got-inj}
 use Rattle.layout.proofs.PartLaws.{length-fits, named-fine}
-use Rattle.layout.proofs.StepLaws.{judged-any, judged-got, named-shrinks}
+use Rattle.layout.proofs.StepLaws.{named-shrinks, named-plain}
 use Rattle.b3d_copy.specs.Copies.{itemOf, unnamedIn, unnamedItems}
 
 -- ---- one by one
@@ -42,14 +42,6 @@ module _ (n : ℕ) where
 
 -- ---- those that were read
 
--- what keeps rules is read the same where the words are not looked at
-plain : (rs : List Rule) (p : ℕ) (s : List ℕ) (x : Step (Name × List ℕ)) → named rs p s ≡ got x → named (replicate (length rs) any) p s ≡ got x
-unfolding named
-plain rs p s x e =
-    by-got (text p p s) _ e (λ n en e₁.
-    by-got (words p (length rs) (n .place) (n .left)) _ e₁ (λ y ey e₂.
-    rw (length-replicate (length rs) any, en, ey) (judged-any (length rs) (n .place) (y .value) _ ∙ ap got (judged-got rs (n .place) (y .value) _ x e₂))))
-
 -- items made of a text and words that keep rules; each is written, its name empty, as an empty text and its words
 module _ {A : Type 0} (make : Name × List ℕ → A) (rs : List Rule) (write : A → List ℕ → List ℕ)
     (one : (x : Name × List ℕ) (r : List ℕ) → length (x .1) ≡ length rs → write (make x) r ≡ 0 ∷ (writeWords (x .1) [] ++ r)) where
@@ -69,7 +61,7 @@ module _ {A : Type 0} (make : Name × List ℕ → A) (rs : List Rule) (write : 
       let g = got-inj ez in
       let rest = read-in f (y .place) (y .left) m (fine .bytes) (rw (← g) at em) in
       let long = length-fits rs (y .value .1) (fine .ok .1) in
-      ap (itemOf (unnamedIn f (length rs))) (plain rs p (c ∷ s) y ey)
+      ap (itemOf (unnamedIn f (length rs))) (named-plain rs p (c ∷ s) y ey)
       ∙ ap (λ (r : List ℕ). 0 ∷ (writeWords (y .value .1) [] ++ r)) rest
       ∙ sym (one (y .value) (writeItems write m) long)
       ∙ ap (λ (a : Step A). write (a .value) (writeItems write m)) g

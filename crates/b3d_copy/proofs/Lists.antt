@@ -6,21 +6,21 @@ use mathlib.Core.List.{List, [], _∷_, _++_, map}
 use lib.ListN.{length, take, drop, length-append, length-replicate, take-append-drop}
 use Rattle.wire.specs.Bytes.{bytes, AllBytes}
 use Rattle.layout.specs.Out.{got}
-use Rattle.layout.specs.Parts.{Name, row, number, items}
+use Rattle.layout.specs.Parts.{row, number, items}
 use Rattle.layout.specs.Write.{writeWords, writeItems}
 use Rattle.layout.proofs.Outs.{by-got, got-inj}
-use Rattle.layout.proofs.PartLaws.{row-fine}
+use Rattle.layout.proofs.PartLaws.{row-fine, words-append}
 use Rattle.b3d_scene.specs.declared.Mode.the-variants.{Lenient}
 use Rattle.b3d_scene.specs.declared.Tag.the-variants.{TEXS, BRUS}
 use Rattle.b3d_scene.specs.Encode.{writeTexture, writeBrush}
 use Rattle.b3d_scene.specs.Names.{renameTexture, renameBrush, noName}
-use Rattle.b3d_scene.specs.Parse.{readTexture, readTextures, readBrush, readBrushes, slotsOf}
+use Rattle.b3d_scene.specs.Parse.{readTexture, readTextures, readBrush, readBrushes, slotsOf, textureOf, brushOf}
 use Rattle.b3d_scene.specs.Rules.{textureRow, brushesHead, brushRow, brushIds, textureId}
 use Rattle.b3d_scene.specs.Scene.{Texture, Brush}
 use Rattle.b3d_scene.specs.Tags.{code}
 use Rattle.b3d_copy.specs.Copies.{chunkOf, unnamedItems, ifAny, texsCopy, brusOf, brusCopy}
 use Rattle.b3d_copy.proofs.Items.{items-read, none-read, some-read}
-use Rattle.b3d_copy.proofs.Parts.{words-append, texsBytes, brusBytes}
+use Rattle.b3d_copy.proofs.Parts.{texsBytes, brusBytes}
 
 -- words before words
 words-then : (ws vs r : List ℕ) → writeWords ws (writeWords vs r) ≡ writeWords (ws ++ vs) r
@@ -33,13 +33,10 @@ items-map write f (a ∷ l) = ap (write (f a)) (items-map write f l)
 
 -- ---- textures
 
-texture : Name × List ℕ → Texture
-texture x = record { name = x .0; words = x .1 }
-
 textures-items : (p : ℕ) (s : List ℕ) (l : List Texture) → AllBytes s → items readTexture p s ≡ got l → unnamedItems 7 p s ≡ writeItems writeTexture (map (renameTexture noName) l)
-unfolding readTexture texture
+unfolding readTexture
 textures-items p s l h e =
-    items-read texture textureRow (λ t. writeTexture (renameTexture noName t)) (λ x r n. ap (λ (y : List ℕ). 0 ∷ y) (words-append (x .1) r)) p s l h e
+    items-read textureOf textureRow (λ t. writeTexture (renameTexture noName t)) (λ x r n. ap (λ (y : List ℕ). 0 ∷ y) (words-append (x .1) r)) p s l h e
     ∙ items-map writeTexture (renameTexture noName) l
 
 pub texs-copied : (p : ℕ) (b : List ℕ) (l : List Texture) → AllBytes b → readTextures p b ≡ got l → texsCopy p b ≡ texsBytes l
@@ -50,17 +47,14 @@ texs-copied p (c ∷ s) (t ∷ l) h e = ap (chunkOf (code TEXS)) (textures-items
 
 -- ---- brushes
 
-brush : Name × List ℕ → Brush
-brush x = record { name = x .0; words = take 7 (x .1); ids = drop 7 (x .1) }
-
 brushes-items : (slots textures p : ℕ) (s : List ℕ) (l : List Brush) → AllBytes s → items (readBrush Lenient slots textures) p s ≡ got l
     → unnamedItems (7 + slots) p s ≡ writeItems writeBrush (map (renameBrush noName) l)
-unfolding readBrush brush
+unfolding readBrush
 brushes-items slots textures p s l h e =
     let rs = brushRow Lenient ++ brushIds slots textures in
     let n : length rs ≡ 7 + slots = length-append (brushRow Lenient) (brushIds slots textures) ∙ ap (λ (k : ℕ). 7 + k) (length-replicate slots (textureId textures)) in
     ap (λ (k : ℕ). unnamedItems k p s) (sym n)
-    ∙ items-read brush rs (λ b. writeBrush (renameBrush noName b))
+    ∙ items-read brushOf rs (λ b. writeBrush (renameBrush noName b))
     (λ x r m. ap (λ (y : List ℕ). 0 ∷ y) (words-then (take 7 (x .1)) (drop 7 (x .1)) r ∙ ap (λ (ws : List ℕ). writeWords ws r) (take-append-drop 7 (x .1)) ∙ words-append (x .1) r)) p s l h e
     ∙ items-map writeBrush (renameBrush noName) l
 

@@ -13,22 +13,21 @@ use Rattle.layout.specs.Parts.{named}
 use Rattle.layout.specs.Write.{writeWords, writeChunks as writeChunksOf}
 use Rattle.layout.proofs.ChunkLaws.{Of, split-fine}
 use Rattle.layout.proofs.Outs.{by-got, bad-got, got-inj}
-use Rattle.layout.proofs.PartLaws.{named-fine}
+use Rattle.layout.proofs.PartLaws.{named-fine, words-append}
 use Rattle.b3d_scene.specs.declared.Mode.the-variants.{Lenient}
 use Rattle.b3d_scene.specs.declared.Tag.the-variants.{NODE, MESH, BONE, KEYS, ANIM}
 use Rattle.b3d_scene.specs.Encode.{nodeChunks}
-use Rattle.b3d_scene.specs.Nesting.{start, next, onward, order, inside}
+use Rattle.b3d_scene.specs.Nesting.{start, next, onward, order, inside, reachedAt}
 use Rattle.b3d_scene.specs.Parse.{readMesh, readBone, readKeys, readAnim, aMesh, aBone, readKind, Moves, withKeys, readMoves, Inner, readNodes, readBelow, readNode}
 use Rattle.b3d_scene.specs.Rules.{nodeRow, boneVertices, bonesBelow}
 use Rattle.b3d_scene.specs.Scene.{Kind, pivot, mesh, bone, Keys, Anim, still, anim, Data, Forest, leaf}
 use Rattle.b3d_scene.specs.Tags.{Chunks, Found, split, tagOf, code}
 use Rattle.b3d_scene.proofs.Files.Entries.{_▸_, by-entry}
-use Rattle.b3d_inside.specs.Places.{reached}
 use Rattle.b3d_inside.proofs.Turns.{kind-order}
 use Rattle.b3d_copy.specs.Copies.{chunkOf, each, asIs, meshCopy, ownCopy, nodeOf, nodeCopy}
 use Rattle.b3d_copy.proofs.Leaves.{bone-exact, keys-exact, anim-exact}
 use Rattle.b3d_copy.proofs.Meshes.{mesh-copied}
-use Rattle.b3d_copy.proofs.Parts.{words-append, meshBytes, boneBytes, keysBytes, animBytes, nodesBytes, nodeBytes, node-written}
+use Rattle.b3d_copy.proofs.Parts.{meshBytes, boneBytes, keysBytes, animBytes, nodesBytes, nodeBytes, node-written}
 
 -- among these chunks are this kind, these KEYS, this ANIM and these nodes
 record Has (one : ℕ → List ℕ → List ℕ) (cs : Chunks) (k : Kind) (ks : List Keys) (a : Anim) (f : Forest) : Type 0 where
@@ -41,12 +40,12 @@ record Has (one : ℕ → List ℕ → List ℕ) (cs : Chunks) (k : Kind) (ks : 
 module _ (one : ℕ → List ℕ → List ℕ) (read : ℕ → List ℕ → Out Inner) (same : (p : ℕ) (b : List ℕ) (x : Inner) → AllBytes b → read p b ≡ got x → one p b ≡ nodeBytes (x .self) (x .below)) (head : ℕ) where
   -- ---- nodes
 
-  one-node : (p : ℕ) (b : List ℕ) (r : Chunks) → AllBytes b → ((g : Forest) → readNodes read (order NODE head (reached 3 false) r) ≡ got g → Has one r pivot [] still g)
-      → (f : Forest) → readNodes read (chunk NODE p b (order NODE head (reached 3 false) r)) ≡ got f → Has one (chunk NODE p b r) pivot [] still f
+  one-node : (p : ℕ) (b : List ℕ) (r : Chunks) → AllBytes b → ((g : Forest) → readNodes read (order NODE head (reachedAt 3 false) r) ≡ got g → Has one r pivot [] still g)
+      → (f : Forest) → readNodes read (chunk NODE p b (order NODE head (reachedAt 3 false) r)) ≡ got f → Has one (chunk NODE p b r) pivot [] still f
   unfolding readNodes each if
   one-node p b r h more f e =
       by-got (read p b) _ e (λ x ex e₁.
-      by-got (readNodes read (order NODE head (reached 3 false) r)) _ e₁ (λ g eg e₂.
+      by-got (readNodes read (order NODE head (reachedAt 3 false) r)) _ e₁ (λ g eg e₂.
       let rest = more g eg in
       record {
         meshes = rest .meshes;
@@ -60,12 +59,12 @@ module _ (one : ℕ → List ℕ → List ℕ) (read : ℕ → List ℕ → Out 
   unfolding each meshBytes boneBytes keysBytes animBytes nodesBytes nodeChunks writeChunksOf
   none-left f e = record { meshes = refl; bones = refl; keys = refl; anims = refl; nodes = ap nodesBytes e }
 
-  nodes-read : (cs : Chunks) (n : ℕ) → Of n cs → (f : Forest) → readNodes read (order NODE head (reached 3 false) cs) ≡ got f → Has one cs pivot [] still f
+  nodes-read : (cs : Chunks) (n : ℕ) → Of n cs → (f : Forest) → readNodes read (order NODE head (reachedAt 3 false) cs) ≡ got f → Has one cs pivot [] still f
   unfolding readNodes order onward next if
   nodes-read done n h f e = none-left f (got-inj e)
   nodes-read (stop i p) n h f e = bad-got e
   nodes-read (chunk t p b r) n h f e =
-      by-entry NODE head (reached 3 false) p b r (λ u o. readNodes read o ≡ got f → Has one (chunk u p b r) pivot [] still f) (λ u e. bad-got e)
+      by-entry NODE head (reachedAt 3 false) p b r (λ u o. readNodes read o ≡ got f → Has one (chunk u p b r) pivot [] still f) (λ u e. bad-got e)
       (tt ▸ tt ▸ tt ▸ tt
       ▸ (λ e. one-node p b r (h .0) (λ g eg. nodes-read r (n - (8 + length b)) (h .2) g eg) f e) ▸ tt) t e
 
@@ -107,15 +106,15 @@ module _ (one : ℕ → List ℕ → List ℕ) (read : ℕ → List ℕ → Out 
   after-step : (seen : Anim) (p : ℕ) (b : List ℕ) (r : Chunks) (k : Keys) (m : Moves) (f : Forest) → AllBytes b → readKeys p b ≡ got k → After seen r m f → After seen (chunk KEYS p b r) (record { keys = k ∷ m .keys; anim = m .anim }) f
   after-step seen p b r k m f h e v = record { has = one-keys p b r k (m .keys) still f h e (v .has); kept = v .kept }
 
-  after-anim : (cs : Chunks) (n : ℕ) → Of n cs → (seen : Anim) (y : Found Moves) → readMoves seen (order NODE head (reached 2 true) cs) ≡ got y → (f : Forest) → readNodes read (y .rest) ≡ got f → After seen cs (y .value) f
+  after-anim : (cs : Chunks) (n : ℕ) → Of n cs → (seen : Anim) (y : Found Moves) → readMoves seen (order NODE head (reachedAt 2 true) cs) ≡ got y → (f : Forest) → readNodes read (y .rest) ≡ got f → After seen cs (y .value) f
   unfolding readMoves readNodes order onward next if
   after-anim done n h seen y e f ef = by-none seen (After seen) (after-step seen) done y done e f ef (λ g. record { has = none-left f (got-inj g); kept = refl })
   after-anim (stop i p) n h seen y e f ef = bad-got e
   after-anim (chunk t p b r) n h seen y e f ef =
-      by-entry NODE head (reached 2 true) p b r (λ u o. readMoves seen o ≡ got y → After seen (chunk u p b r) (y .value) f) (λ u e. bad-got e)
+      by-entry NODE head (reachedAt 2 true) p b r (λ u o. readMoves seen o ≡ got y → After seen (chunk u p b r) (y .value) f) (λ u e. bad-got e)
       (tt ▸ tt
-      ▸ (λ e. by-keys seen (After seen) (after-step seen) p b r (order NODE head (reached 2 true) r) (h .0) (λ z ez g eg. after-anim r (n - (8 + length b)) (h .2) seen z ez g eg) y e f ef) ▸ tt
-      ▸ (λ e. by-none seen (After seen) (after-step seen) (chunk NODE p b r) y (chunk NODE p b (order NODE head (reached 3 false) r)) e f ef (λ g. record { has = nodes-read (chunk NODE p b r) n h f g; kept = refl })) ▸ tt) t e
+      ▸ (λ e. by-keys seen (After seen) (after-step seen) p b r (order NODE head (reachedAt 2 true) r) (h .0) (λ z ez g eg. after-anim r (n - (8 + length b)) (h .2) seen z ez g eg) y e f ef) ▸ tt
+      ▸ (λ e. by-none seen (After seen) (after-step seen) (chunk NODE p b r) y (chunk NODE p b (order NODE head (reachedAt 3 false) r)) e f ef (λ g. record { has = nodes-read (chunk NODE p b r) n h f g; kept = refl })) ▸ tt) t e
 
   -- no ANIM yet
 
@@ -125,7 +124,7 @@ module _ (one : ℕ → List ℕ → List ℕ) (read : ℕ → List ℕ → Out 
   moved-step : (p : ℕ) (b : List ℕ) (r : Chunks) (k : Keys) (m : Moves) (f : Forest) → AllBytes b → readKeys p b ≡ got k → Moved r m f → Moved (chunk KEYS p b r) (record { keys = k ∷ m .keys; anim = m .anim }) f
   moved-step p b r k m f h e v = one-keys p b r k (m .keys) (m .anim) f h e v
 
-  moved-anim : (p : ℕ) (b : List ℕ) (r : Chunks) (n : ℕ) → Of n r → AllBytes b → (y : Found Moves) → readMoves still (chunk ANIM p b (order NODE head (reached 2 true) r)) ≡ got y
+  moved-anim : (p : ℕ) (b : List ℕ) (r : Chunks) (n : ℕ) → Of n r → AllBytes b → (y : Found Moves) → readMoves still (chunk ANIM p b (order NODE head (reachedAt 2 true) r)) ≡ got y
       → (f : Forest) → readNodes read (y .rest) ≡ got f → Moved (chunk ANIM p b r) (y .value) f
   unfolding readMoves each animBytes if
   moved-anim p b r n hr h y e f ef =
@@ -141,21 +140,21 @@ module _ (one : ℕ → List ℕ → List ℕ) (read : ℕ → List ℕ → Out 
         nodes = v .has .nodes;
       })
 
-  moves-read : (cs : Chunks) (n : ℕ) → Of n cs → (y : Found Moves) → readMoves still (order NODE head (reached 2 false) cs) ≡ got y → (f : Forest) → readNodes read (y .rest) ≡ got f → Moved cs (y .value) f
+  moves-read : (cs : Chunks) (n : ℕ) → Of n cs → (y : Found Moves) → readMoves still (order NODE head (reachedAt 2 false) cs) ≡ got y → (f : Forest) → readNodes read (y .rest) ≡ got f → Moved cs (y .value) f
   unfolding readMoves readNodes order onward next if
   moves-read done n h y e f ef = by-none still Moved moved-step done y done e f ef (λ g. none-left f (got-inj g))
   moves-read (stop i p) n h y e f ef = bad-got e
   moves-read (chunk t p b r) n h y e f ef =
-      by-entry NODE head (reached 2 false) p b r (λ u o. readMoves still o ≡ got y → Moved (chunk u p b r) (y .value) f) (λ u e. bad-got e)
+      by-entry NODE head (reachedAt 2 false) p b r (λ u o. readMoves still o ≡ got y → Moved (chunk u p b r) (y .value) f) (λ u e. bad-got e)
       (tt ▸ tt
-      ▸ (λ e. by-keys still Moved moved-step p b r (order NODE head (reached 2 false) r) (h .0) (λ z ez g eg. moves-read r (n - (8 + length b)) (h .2) z ez g eg) y e f ef)
+      ▸ (λ e. by-keys still Moved moved-step p b r (order NODE head (reachedAt 2 false) r) (h .0) (λ z ez g eg. moves-read r (n - (8 + length b)) (h .2) z ez g eg) y e f ef)
       ▸ (λ e. moved-anim p b r (n - (8 + length b)) (h .2) (h .0) y e f ef)
-      ▸ (λ e. by-none still Moved moved-step (chunk NODE p b r) y (chunk NODE p b (order NODE head (reached 3 false) r)) e f ef (λ g. nodes-read (chunk NODE p b r) n h f g)) ▸ tt) t e
+      ▸ (λ e. by-none still Moved moved-step (chunk NODE p b r) y (chunk NODE p b (order NODE head (reachedAt 3 false) r)) e f ef (λ g. nodes-read (chunk NODE p b r) n h f g)) ▸ tt) t e
 
   -- ---- a kind
 
   -- a MESH or a BONE that gives the kind k, before others
-  one-kind : (k : Kind) (cs : Chunks) (n : ℕ) → Of n cs → (x : Found Kind) → got (record { value = k; rest = order NODE head (reached 1 true) cs }) ≡ got x
+  one-kind : (k : Kind) (cs : Chunks) (n : ℕ) → Of n cs → (x : Found Kind) → got (record { value = k; rest = order NODE head (reachedAt 1 true) cs }) ≡ got x
       → (y : Found Moves) → readMoves still (x .rest) ≡ got y → (f : Forest) → readNodes read (y .rest) ≡ got f → (w : Chunks) → ((h : Moved cs (y .value) f) → Has one w k (y .value .keys) (y .value .anim) f)
       → Has one w (x .value) (y .value .keys) (y .value .anim) f
   one-kind k cs n h x e y ey f ef w make =
@@ -163,13 +162,13 @@ module _ (one : ℕ → List ℕ → List ℕ) (read : ℕ → List ℕ → Out 
       (make (moves-read cs n h y (ap (readMoves still) (sym (kind-order head cs)) ∙ ap (λ (u : Found Kind). readMoves still (u .rest)) (got-inj e) ∙ ey) f ef))
 
   -- none: the moves are read from the same chunks
-  no-kind : (cs rest : Chunks) (n : ℕ) → Of n cs → (x : Found Kind) → got (record { value = pivot; rest = rest }) ≡ got x → order NODE head (reached 2 false) cs ≡ rest
+  no-kind : (cs rest : Chunks) (n : ℕ) → Of n cs → (x : Found Kind) → got (record { value = pivot; rest = rest }) ≡ got x → order NODE head (reachedAt 2 false) cs ≡ rest
       → (y : Found Moves) → readMoves still (x .rest) ≡ got y → (f : Forest) → readNodes read (y .rest) ≡ got f → Has one cs (x .value) (y .value .keys) (y .value .anim) f
   no-kind cs rest n h x e same-rest y ey f ef =
       subst (λ (u : Found Kind). Has one cs (u .value) (y .value .keys) (y .value .anim) f) (got-inj e)
       (moves-read cs n h y (ap (readMoves still) same-rest ∙ ap (λ (u : Found Kind). readMoves still (u .rest)) (got-inj e) ∙ ey) f ef)
 
-  kind-mesh : (brushes p : ℕ) (b : List ℕ) (r : Chunks) (n : ℕ) → Of n r → AllBytes b → (x : Found Kind) → aMesh Lenient brushes p b (order NODE head (reached 1 true) r) ≡ got x
+  kind-mesh : (brushes p : ℕ) (b : List ℕ) (r : Chunks) (n : ℕ) → Of n r → AllBytes b → (x : Found Kind) → aMesh Lenient brushes p b (order NODE head (reachedAt 1 true) r) ≡ got x
       → (y : Found Moves) → readMoves still (x .rest) ≡ got y → (f : Forest) → readNodes read (y .rest) ≡ got f → Has one (chunk MESH p b r) (x .value) (y .value .keys) (y .value .anim) f
   unfolding aMesh each meshBytes boneBytes if
   kind-mesh brushes p b r n h hb x e y ey f ef =
@@ -182,7 +181,7 @@ module _ (one : ℕ → List ℕ → List ℕ) (read : ℕ → List ℕ → Out 
         nodes = v .nodes;
       }))
 
-  kind-bone : (vertices p : ℕ) (b : List ℕ) (r : Chunks) (n : ℕ) → Of n r → AllBytes b → (x : Found Kind) → aBone vertices p b (order NODE head (reached 1 true) r) ≡ got x
+  kind-bone : (vertices p : ℕ) (b : List ℕ) (r : Chunks) (n : ℕ) → Of n r → AllBytes b → (x : Found Kind) → aBone vertices p b (order NODE head (reachedAt 1 true) r) ≡ got x
       → (y : Found Moves) → readMoves still (x .rest) ≡ got y → (f : Forest) → readNodes read (y .rest) ≡ got f → Has one (chunk BONE p b r) (x .value) (y .value .keys) (y .value .anim) f
   unfolding aBone each meshBytes boneBytes if
   kind-bone vertices p b r n h hb x e y ey f ef =

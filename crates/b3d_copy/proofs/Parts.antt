@@ -11,11 +11,6 @@ use Rattle.b3d_scene.specs.Scene.{Texture, Brush, TriangleSet, Kind, pivot, mes
 use Rattle.b3d_scene.specs.Tags.{Chunk, writeChunks, code}
 use Rattle.b3d_copy.specs.Copies.{chunkOf}
 
--- words before what follows
-pub words-append : (ws r : List ℕ) → writeWords ws r ≡ writeWords ws [] ++ r
-words-append [] r = refl
-words-append (w ∷ ws) r = ap (λ (l : List ℕ). bytes w l) (words-append ws r)
-
 -- ---- of a mesh and a node
 
 unfoldable pub setsBytes : List TriangleSet → List ℕ

@@ -12,7 +12,7 @@ use Rattle.wire.specs.Bytes.{AllBytes, over}
 use Rattle.layout.specs.Out.{Out, got, bad, check, _>>=_}
 use Rattle.layout.proofs.Lists.{All, all-map, all-zip}
 use Rattle.layout.proofs.Outs.{by-test, bad-got, got-inj}
-use Rattle.layout.specs.Rows.{eachOf}
+use Rattle.layout.specs.Rows.{eachOf, joined}
 use Rattle.b3d_scene.specs.declared.Mode.{Mode}
 use Rattle.b3d_scene.specs.declared.Mode.the-variants.{Lenient}
 use Rattle.b3d_scene.specs.Answers.{judge, read, answer, tableAfter, readAnswer, readTable, roomFor, write, written, outputAfter, writeAnswer, writeOutput, copy, clear, clearAnswer, clearOutput}
@@ -21,7 +21,7 @@ use Rattle.b3d_scene.specs.Parse.{parse}
 use Rattle.b3d_scene.specs.Rebuild.{Lent, cut, lentRows}
 use Rattle.b3d_scene.specs.Rules.{rowLimit}
 use Rattle.b3d_scene.specs.Scene.{Scene}
-use Rattle.b3d_scene.specs.Tables.{width, rows, words, table, tables, nodeTables, counts}
+use Rattle.b3d_scene.specs.Tables.{width, rows, table, tables, nodeTables, counts}
 use Rattle.b3d_scene.specs.declared.Written.{Written}
 use Rattle.b3d_scene.proofs.AnswerLaws.{judge-got, read-got}
 use Rattle.b3d_scene.proofs.Files.RefusalLaws.{parse-refusal}
@@ -177,7 +177,7 @@ module _ (mode : Mode) (xs : ℕ → List ℕ) (s : List ℕ) (bytes : AllBytes 
   unfolding filled readAnswer answer counts tables nodeTables
   filled-counts = rw e (refl, (refl, (refl, (refl, (refl, (refl, (refl, (refl, (refl, (refl, tt))))))))))
 
-  filled-words : (k : ℕ) → F .words k ≡ words (rows k t) ++ drop (length (table k t)) (xs k)
+  filled-words : (k : ℕ) → F .words k ≡ joined (rows k t) ++ drop (length (table k t)) (xs k)
   unfolding filled readTable tableAfter over table
   filled-words k = rw e
 
@@ -194,9 +194,9 @@ module _ (mode : Mode) (xs : ℕ → List ℕ) (s : List ℕ) (bytes : AllBytes 
   filled-lent : All (λ k. width k * F .count k ≤ length (F .words k)) tables
   unfolding table
   filled-lent =
-      all-zip (λ k. length (words (rows k t)) ≡ width k * length (rows k t)) (λ k. F .count k ≡ length (rows k t)) _
+      all-zip (λ k. length (joined (rows k t)) ≡ width k * length (rows k t)) (λ k. F .count k ≡ length (rows k t)) _
       (λ k l c. let n = ap length (filled-words k) in
-      let m = length-append (words (rows k t)) (drop (length (words (rows k t))) (xs k)) in
+      let m = length-append (joined (rows k t)) (drop (length (joined (rows k t))) (xs k)) in
       let z : width k * F .count k ≡ width k * length (rows k t) = ap (λ (i : ℕ). width k * i) c in
       omega arith) tables
       (table-length t (fine mode s t bytes (judge-got mode s t accepted .0) .0)) filled-counts

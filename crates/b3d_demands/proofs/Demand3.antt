@@ -19,7 +19,8 @@ use Rattle.b3d_scene.specs.Names.{rename, cleared, bare, named, unplaced, unnam
 use Rattle.b3d_scene.specs.Rebuild.{Lent, cut, lentRows, names}
 use Rattle.b3d_scene.specs.Rules.{rowLimit}
 use Rattle.b3d_scene.specs.Scene.{Scene}
-use Rattle.b3d_scene.specs.Tables.{width, rows, words, tables}
+use Rattle.layout.specs.Rows.{joined}
+use Rattle.b3d_scene.specs.Tables.{width, rows, tables}
 use Rattle.b3d_scene.proofs.AnswerLaws.{judge-got, judge-yes, clear-first, read-yes}
 use Rattle.b3d_scene.proofs.Files.FileLaws.{parse-size}
 use Rattle.b3d_scene.proofs.Files.NameLaws.{Copied, cleared-fits, bare-cleared, copy-short}
@@ -115,8 +116,8 @@ module _ (s : List ℕ) (t : Scene) (e : judge Lenient s ≡ got t) where
     unfolding lentRows emptied
     emptied-rows =
         all-zip (λ k. All (Wide (width k)) (rows k (cleared t))) (λ k. rows k (cleared t) ≡ named unnamed k (rows k t)) _
-        (λ k w c. ap₂ (λ (n : ℕ) (l : List (List ℕ)). cut (width k) n (words l)) (sym (named-length unnamed k (rows k t)) ∙ ap length (sym c)) (sym c)
-        ∙ ap (cut (width k) (length (rows k (cleared t)))) (sym (append-nil (words (rows k (cleared t))))) ∙ cut-words (width k) (rows k (cleared t)) [] w) tables
+        (λ k w c. ap₂ (λ (n : ℕ) (l : List (List ℕ)). cut (width k) n (joined l)) (sym (named-length unnamed k (rows k t)) ∙ ap length (sym c)) (sym c)
+        ∙ ap (cut (width k) (length (rows k (cleared t)))) (sym (append-nil (joined (rows k (cleared t))))) ∙ cut-words (width k) (rows k (cleared t)) [] w) tables
         (rows-wide (cleared t) (cleared-fits t (fine Lenient s t b (judge-got Lenient s t e .0) .0))) (cleared-rows t)
 
     emptied-lent : All (λ k. width k * (emptied t) .count k ≤ length ((emptied t) .words k)) tables
@@ -125,7 +126,7 @@ module _ (s : List ℕ) (t : Scene) (e : judge Lenient s ≡ got t) where
         all-zip (λ k. All (Wide (width k)) (rows k (cleared t))) (λ k. rows k (cleared t) ≡ named unnamed k (rows k t)) _
         (λ k w c. let l = words-length (width k) (rows k (cleared t)) w in
         let n : length (rows k (cleared t)) ≡ length (rows k t) = ap length c ∙ named-length unnamed k (rows k t) in
-        let z : length (words (named unnamed k (rows k t))) ≡ width k * length (rows k t) = ap (λ (x : List (List ℕ)). length (words x)) (sym c) ∙ l ∙ ap (λ (i : ℕ). width k * i) n in
+        let z : length (joined (named unnamed k (rows k t))) ≡ width k * length (rows k t) = ap (λ (x : List (List ℕ)). length (joined x)) (sym c) ∙ l ∙ ap (λ (i : ℕ). width k * i) n in
         omega arith) tables
         (rows-wide (cleared t) (cleared-fits t (fine Lenient s t b (judge-got Lenient s t e .0) .0))) (cleared-rows t)
 

@@ -33,6 +33,7 @@ use Rattle.b3d_scene.proofs.Fitting.{FitTexture, FitBrush, FitSlots, FitNodes, 
 use Rattle.b3d_scene.proofs.Modes.{mode-got, passes-same}
 use Rattle.b3d_scene.proofs.Join.{stand, all-in}
 use Rattle.layout.proofs.PlaceLaws.{NameIn}
+use Rattle.layout.proofs.ListLaws.{same-length}
 use Rattle.layout.specs.Rows.{nameCells}
 use Rattle.b3d_scene.proofs.Rows.RebuildLaws.{together-back, roomy-is, sound-is}
 use Rattle.b3d_scene.proofs.Rows.Rename.{bare-same}
@@ -182,9 +183,6 @@ module _ (mode : Mode) (s : List ℕ) (bytes : AllBytes s) (T : Lent) (ns : List
   pub placed-bare : bare placed ≡ bare t
   unfolding bare rename placed
   placed-bare i = record { version = t .version; textures = X .same i; slots = t .slots; brushes = B .same i; nodes = N .same i }
-
-  same-length : {A C : Type 0} (f : A → C) (xs ys : List A) → map f xs ≡ map f ys → length xs ≡ length ys
-  same-length f xs ys e = sym (length-map xs f) ∙ ap length e ∙ length-map ys f
 
   slots-fit : (n : ℕ) (xs ys : List Brush) → map (renameBrush bareName) ys ≡ map (renameBrush bareName) xs → FitSlots n xs → FitSlots n ys
   slots-fit n [] [] e f = f

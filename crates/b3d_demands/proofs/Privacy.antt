@@ -4,7 +4,7 @@ use Prim.Native.Nat.{ℕ, _+_, _≤_}
 use native.Mathlib.Omega.{arith}
 use mathlib.Core.Option.{none}
 use mathlib.Core.List.{List, [], _∷_, _++_, map, append-nil}
-use lib.ListN.{length, getD, length-map, length-append}
+use lib.ListN.{length, getD, length-append}
 use lib.Dec.{T, eqb, eqb-refl}
 use Rattle.wire.specs.Bytes.{AllBytes, bytes}
 use Rattle.wire.specs.Test.{if}
@@ -15,6 +15,7 @@ use Rattle.layout.proofs.Lists.{All, all-zip}
 use Rattle.layout.proofs.Outs.{by-got, by-check, check-yes, bad-got, bind-bind}
 use Rattle.layout.proofs.PartLaws.{row-back}
 use Rattle.layout.proofs.StepLaws.{row-shrinks}
+use Rattle.layout.proofs.ListLaws.{same-length}
 use Rattle.layout.specs.Rows.{sizeFits, mostBytes}
 use Rattle.b3d_scene.specs.declared.Mode.the-variants.{Lenient}
 use Rattle.b3d_scene.specs.Answers.{judge}
@@ -111,9 +112,6 @@ Cleared t u = cleared t ≡ cleared u
 
 abbrev Laids : Laid → Laid → Type 0
 Laids x y = (slotsOf (x .0) (x .1) ≡ slotsOf (y .0) (y .1)) × Brushes (x .1) (y .1)
-
-same-length : {A B : Type 0} (f : A → B) (xs ys : List A) → map f xs ≡ map f ys → length xs ≡ length ys
-same-length f xs ys e = sym (length-map xs f) ∙ ap length e ∙ length-map ys f
 
 slots-same : (n m : ℕ) (l k : List Brush) → n ≡ m → Brushes l k → slotsOf n l ≡ slotsOf m k
 unfolding slotsOf

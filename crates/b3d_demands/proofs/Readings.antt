@@ -2,7 +2,7 @@
 use mathlib.Core.Path.{_≡_, refl, ap, ap₂, sym, _∙_, subst}
 use Prim.Native.Nat.{ℕ, zero, suc, _+_, _*_}
 use native.Mathlib.Omega.{arith}
-use mathlib.Core.Option.{Option, none, some}
+use mathlib.Core.Option.{Option}
 use mathlib.Core.List.{List, [], _∷_, _++_, map}
 use lib.ListN.{length, take, drop, getD, length-append, length-replicate}
 use Rattle.wire.specs.Bytes.{bytes, IsWord}
@@ -13,6 +13,7 @@ use Rattle.layout.specs.Parts.{Name, Step, words, row, number, named, itemsIn, 
 use Rattle.layout.specs.Rules.{Rule}
 use Rattle.layout.proofs.Outs.{by-got, bad-got, got-inj}
 use Rattle.layout.proofs.StepLaws.{judged-got, Shrinks, row-shrinks, named-shrinks}
+use Rattle.layout.proofs.ListLaws.{map-id}
 use Rattle.b3d_scene.specs.declared.Mode.the-variants.{Lenient}
 use Rattle.b3d_scene.specs.Names.{renameTexture, renameBrush, renameData, renameForest, noName}
 use Rattle.b3d_scene.specs.Nesting.{inside}
@@ -27,10 +28,6 @@ use Rattle.b3d_demands.proofs.Splits.{Short, split-rel}
 use Rattle.b3d_demands.proofs.Shapes.{Sets, s-end, s-cut, s-one, Meshed, v-cut, v-one, meshed, Nodes, n-end, n-cut, n-one, Moves, m-nodes, m-keys, m-anim, m-after, Inside, i-moves, i-mesh, i-bone, noded}
 
 -- ---- the same body at two places
-
-map-id : {A : Type 0} (l : List A) → map (λ (a : A). a) l ≡ l
-map-id [] = refl
-map-id {A} (a ∷ l) = ap (λ (m : List A). a ∷ m) (map-id l)
 
 abbrev itself : List ℕ → List ℕ
 itself w = w

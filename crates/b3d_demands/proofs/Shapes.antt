@@ -1,19 +1,16 @@
 -- What the nesting rule leaves of the chunks of a stretch and of the same without some of what is private: the shape that the readers go by.
 use mathlib.Core.Path.{_≡_, refl}
 use Prim.Native.Nat.{ℕ}
-use mathlib.Core.Bool.{Bool, true, false}
+use mathlib.Core.Bool.{true, false}
 use mathlib.Core.List.{List, []}
 use Rattle.wire.specs.Bytes.{bytes, IsWord}
 use Rattle.wire.specs.Test.{if}
 use Rattle.layout.specs.Chunks.{done, stop, chunk}
 use Rattle.b3d_scene.specs.declared.Tag.the-variants.{BB3D, TEXS, BRUS, NODE, MESH, VRTS, TRIS, BONE, KEYS, ANIM}
 use Rattle.b3d_scene.specs.Tags.{Chunks}
-use Rattle.b3d_scene.specs.Nesting.{Reached, start, next, onward, order}
+use Rattle.b3d_scene.specs.Nesting.{Reached, start, next, onward, order, reachedAt}
 use Rattle.b3d_demands.specs.Private.{bodyOf, Without, same}
 use Rattle.b3d_demands.proofs.Splits.{Short, Rel, ends, stops, one, after, texs, brus}
-
-abbrev at : ℕ → Bool → Reached
-at n b = record { turn = n; spent = b }
 
 -- ---- bodies without anything private
 
@@ -44,7 +41,7 @@ pub data Meshed : Chunks → Chunks → Type 0 where
   v-one : {p q : ℕ} {b c : List ℕ} {r s : Chunks} → b ≡ c → Sets r s → Meshed (chunk VRTS p b r) (chunk VRTS q c s)
 
 in-mesh : {cs ds : Chunks} → Rel MESH cs ds → (h k : ℕ)
-    → Sets (order MESH h (at 2 false) cs) (order MESH k (at 2 false) ds) × Sets (order MESH h (at 1 true) cs) (order MESH k (at 1 true) ds) × Meshed (order MESH h start cs) (order MESH k start ds)
+    → Sets (order MESH h (reachedAt 2 false) cs) (order MESH k (reachedAt 2 false) ds) × Sets (order MESH h (reachedAt 1 true) cs) (order MESH k (reachedAt 1 true) ds) × Meshed (order MESH h start cs) (order MESH k start ds)
 unfolding order onward next if
 in-mesh ends h k = (s-end, s-cut, v-cut)
 in-mesh stops h k = (s-cut, s-cut, v-cut)
@@ -80,12 +77,12 @@ pub data Inside : Chunks → Chunks → Type 0 where
   i-mesh : {p q : ℕ} {b c : List ℕ} {r s : Chunks} → Without (bodyOf MESH) b c → Short b → Moves r s → Inside (chunk MESH p b r) (chunk MESH q c s)
   i-bone : {p q : ℕ} {b c : List ℕ} {r s : Chunks} → b ≡ c → Moves r s → Inside (chunk BONE p b r) (chunk BONE q c s)
 
--- by how far they have come: at NODE; among KEYS, without and with ANIM; after a kind; at the start
+-- by how far they have come: reachedAt NODE; among KEYS, without and with ANIM; after a kind; reachedAt the start
 record Turns (h k : ℕ) (cs ds : Chunks) : Type 0 where
-  nodes : Nodes (order NODE h (at 3 false) cs) (order NODE k (at 3 false) ds)
-  moves : Moves (order NODE h (at 2 false) cs) (order NODE k (at 2 false) ds)
-  moved : Moves (order NODE h (at 2 true) cs) (order NODE k (at 2 true) ds)
-  kind : Moves (order NODE h (at 1 true) cs) (order NODE k (at 1 true) ds)
+  nodes : Nodes (order NODE h (reachedAt 3 false) cs) (order NODE k (reachedAt 3 false) ds)
+  moves : Moves (order NODE h (reachedAt 2 false) cs) (order NODE k (reachedAt 2 false) ds)
+  moved : Moves (order NODE h (reachedAt 2 true) cs) (order NODE k (reachedAt 2 true) ds)
+  kind : Moves (order NODE h (reachedAt 1 true) cs) (order NODE k (reachedAt 1 true) ds)
   all : Inside (order NODE h start cs) (order NODE k start ds)
 
 m-stop : {n p : ℕ} {ds : Chunks} → Moves (stop n p) ds
@@ -125,9 +122,9 @@ pub data Phase : Type 0 where
 
 abbrev pub reached : Phase → Reached
 reached fresh = start
-reached textured = at 1 true
-reached brushed = at 2 true
-reached over = at 3 true
+reached textured = reachedAt 1 true
+reached brushed = reachedAt 2 true
+reached over = reachedAt 3 true
 
 -- a BRUS may come; a NODE may come
 abbrev pub Early : Phase → Type 0

@@ -12,7 +12,8 @@ use Rattle.b3d_scene.specs.declared.Mode.{Mode}
 use Rattle.b3d_scene.specs.Answers.{judge, readAnswer, readTable}
 use Rattle.b3d_scene.specs.Rebuild.{Lent, lentRows}
 use Rattle.b3d_scene.specs.Scene.{Scene}
-use Rattle.b3d_scene.specs.Tables.{width, rows, words, tables}
+use Rattle.layout.specs.Rows.{joined}
+use Rattle.b3d_scene.specs.Tables.{width, rows, tables}
 use Rattle.b3d_scene.specs.Names.{named, unplaced, unnamed}
 
 -- the name of a row that begins with a place and a length, if it lies in the bytes that hold the names
@@ -63,4 +64,4 @@ pub record ReadBack (mode : Mode) (b : List ℕ) (T : Lent) (ns : List ℕ) (xs 
 
 -- the tables of a scene with each name empty
 unfoldable pub emptied : Scene → Lent
-emptied t = record { version = t .version; slots = t .slots; count = λ k. length (rows k t); words = λ k. words (named unnamed k (rows k t)) }
+emptied t = record { version = t .version; slots = t .slots; count = λ k. length (rows k t); words = λ k. joined (named unnamed k (rows k t)) }

@@ -17,7 +17,7 @@ use Rattle.layout.proofs.Outs.{by-got, by-check, bad-got, got-inj}
 use Rattle.layout.specs.Rows.{sizeFits}
 use Rattle.b3d_scene.specs.declared.Mode.the-variants.{Lenient}
 use Rattle.b3d_scene.specs.declared.Tag.the-variants.{BB3D, TEXS, BRUS, NODE}
-use Rattle.b3d_scene.specs.Nesting.{start, next, onward, order, inside}
+use Rattle.b3d_scene.specs.Nesting.{start, next, onward, order, inside, reachedAt}
 use Rattle.b3d_scene.specs.Parse.{readOne, readTextures, readBrushes, readNode, readRoot, slotsOf, readBody, parse, Inner}
 use Rattle.b3d_scene.specs.Rules.{header, fileHead, levels}
 use Rattle.b3d_scene.specs.Scene.{Texture, Brush, Forest, leaf, node, Scene}
@@ -25,7 +25,6 @@ use Rattle.b3d_scene.specs.Tables.{textureRow, brushRow}
 use Rattle.b3d_scene.specs.Tags.{Chunks, Found, split, code}
 use Rattle.b3d_scene.proofs.Files.FileLaws.{size-low}
 use Rattle.b3d_scene.proofs.Files.Entries.{_▸_, by-entry}
-use Rattle.b3d_inside.specs.Places.{reached}
 use Rattle.b3d_inside.proofs.Heads.{head-is}
 use Rattle.b3d_file_rows.proofs.ItemLaws.{row-read}
 use Rattle.b3d_file_rows.specs.Flat.{rest}
@@ -54,12 +53,12 @@ module _ (s : List ℕ) (P : ℕ → Forest → Type 0) (says : Says s P) where
   module _ (t u : Scene) where
     -- ---- after the nodes
 
-    last-flat : (cs : Chunks) (at : ℕ) → Laid s (length s) at cs → ended (order BB3D 0 (reached 3 true) cs) t ≡ got u → Has at cs [] [] leaf
+    last-flat : (cs : Chunks) (at : ℕ) → Laid s (length s) at cs → ended (order BB3D 0 (reachedAt 3 true) cs) t ≡ got u → Has at cs [] [] leaf
     unfolding ended order onward next if
     last-flat done at h e = nothing at h
     last-flat (stop i p) at h e = bad-got e
     last-flat (chunk k p b r) at h e =
-        by-entry BB3D 0 (reached 3 true) p b r (λ v o. ended o t ≡ got u → Has at (chunk v p b r) [] [] leaf) (λ v e. bad-got e)
+        by-entry BB3D 0 (reachedAt 3 true) p b r (λ v o. ended o t ≡ got u → Has at (chunk v p b r) [] [] leaf) (λ v e. bad-got e)
         (tt ▸ tt ▸ tt ▸ tt) k e
 
     -- ---- nodes
@@ -70,13 +69,13 @@ module _ (s : List ℕ) (P : ℕ → Forest → Type 0) (says : Says s P) where
         by-got (readNode Lenient levels brushes none p b) _ e (λ x ex e₁.
         record { texs = more .texs; brus = more .brus; nodes = subst (P at) (got-inj e₁) (says .root brushes at p b x h ex (more .nodes)) })
 
-    root-flat : (brushes : ℕ) (cs : Chunks) (at : ℕ) → Laid s (length s) at cs → (x : Found Forest) → readOne NODE leaf (readRoot Lenient brushes) (order BB3D 0 (reached 2 true) cs) ≡ got x → ended (x .rest) t ≡ got u
+    root-flat : (brushes : ℕ) (cs : Chunks) (at : ℕ) → Laid s (length s) at cs → (x : Found Forest) → readOne NODE leaf (readRoot Lenient brushes) (order BB3D 0 (reachedAt 2 true) cs) ≡ got x → ended (x .rest) t ≡ got u
         → Has at cs [] [] (x .value)
     unfolding readOne order onward next if
     root-flat brushes done at h x e z = subst (λ (y : Found Forest). Has at done [] [] (y .value)) (got-inj e) (nothing at h)
     root-flat brushes (stop i p) at h x e z = bad-got e
     root-flat brushes (chunk k p b r) at h x e z =
-        by-entry BB3D 0 (reached 2 true) p b r (λ u o. Laid s (length s) at (chunk u p b r) → readOne NODE leaf (readRoot Lenient brushes) o ≡ got x → Has at (chunk u p b r) [] [] (x .value)) (λ u h e. bad-got e)
+        by-entry BB3D 0 (reachedAt 2 true) p b r (λ u o. Laid s (length s) at (chunk u p b r) → readOne NODE leaf (readRoot Lenient brushes) o ≡ got x → Has at (chunk u p b r) [] [] (x .value)) (λ u h e. bad-got e)
         (tt ▸ tt
         ▸ (λ h e. by-got (readRoot Lenient brushes p b) _ e (λ f ef e₁.
         subst (λ (y : Found Forest). Has at (chunk NODE p b r) [] [] (y .value)) (got-inj e₁)
@@ -89,20 +88,20 @@ module _ (s : List ℕ) (P : ℕ → Forest → Type 0) (says : Says s P) where
     unfolding firstOf if
     one-brus textures at p b r f h v e more = record { texs = more .texs; brus = brushes-plain textures p b v e; nodes = says .brus at p b f h (more .nodes) }
 
-    no-brus : (cs o : Chunks) (at : ℕ) → Laid s (length s) at cs → (v : Found (ℕ × List Brush)) → got (record { value = (0, []); rest = o }) ≡ got v → order BB3D 0 (reached 2 true) cs ≡ o
+    no-brus : (cs o : Chunks) (at : ℕ) → Laid s (length s) at cs → (v : Found (ℕ × List Brush)) → got (record { value = (0, []); rest = o }) ≡ got v → order BB3D 0 (reachedAt 2 true) cs ≡ o
         → (x : Found Forest) → readOne NODE leaf (readRoot Lenient (length (v .value .1))) (v .rest) ≡ got x → ended (x .rest) t ≡ got u → Has at cs [] (v .value .1) (x .value)
     no-brus cs o at h v e same x ex z =
         let g = got-inj e in
         subst (λ (y : Found (ℕ × List Brush)). Has at cs [] (y .value .1) (x .value)) g
         (root-flat 0 cs at h x (ap (readOne NODE leaf (readRoot Lenient 0)) same ∙ ap (λ (y : Found (ℕ × List Brush)). readOne NODE leaf (readRoot Lenient (length (y .value .1))) (y .rest)) g ∙ ex) z)
 
-    brus-flat : (textures : ℕ) (cs : Chunks) (at : ℕ) → Laid s (length s) at cs → (v : Found (ℕ × List Brush)) → readOne BRUS (0, []) (readBrushes Lenient textures) (order BB3D 0 (reached 1 true) cs) ≡ got v
+    brus-flat : (textures : ℕ) (cs : Chunks) (at : ℕ) → Laid s (length s) at cs → (v : Found (ℕ × List Brush)) → readOne BRUS (0, []) (readBrushes Lenient textures) (order BB3D 0 (reachedAt 1 true) cs) ≡ got v
         → (x : Found Forest) → readOne NODE leaf (readRoot Lenient (length (v .value .1))) (v .rest) ≡ got x → ended (x .rest) t ≡ got u → Has at cs [] (v .value .1) (x .value)
     unfolding readOne order onward next if
     brus-flat textures done at h v e x ex z = no-brus done done at h v e refl x ex z
     brus-flat textures (stop i p) at h v e x ex z = bad-got e
     brus-flat textures (chunk k p b r) at h v e x ex z =
-        by-entry BB3D 0 (reached 1 true) p b r (λ u o. Laid s (length s) at (chunk u p b r) → readOne BRUS (0, []) (readBrushes Lenient textures) o ≡ got v → Has at (chunk u p b r) [] (v .value .1) (x .value)) (λ u h e. bad-got e)
+        by-entry BB3D 0 (reachedAt 1 true) p b r (λ u o. Laid s (length s) at (chunk u p b r) → readOne BRUS (0, []) (readBrushes Lenient textures) o ≡ got v → Has at (chunk u p b r) [] (v .value .1) (x .value)) (λ u h e. bad-got e)
         (tt
         ▸ (λ h e. by-got (readBrushes Lenient textures p b) _ e (λ w ew e₁.
         let g = got-inj e₁ in
@@ -116,7 +115,7 @@ module _ (s : List ℕ) (P : ℕ → Forest → Type 0) (says : Says s P) where
     abbrev Reads : Found (List Texture) → Found (ℕ × List Brush) → Found Forest → Type 0
     Reads w v x = (readOne BRUS (0, []) (readBrushes Lenient (length (w .value))) (w .rest) ≡ got v) × (readOne NODE leaf (readRoot Lenient (length (v .value .1))) (v .rest) ≡ got x) × (ended (x .rest) t ≡ got u)
 
-    no-texs : (cs o : Chunks) (at : ℕ) → Laid s (length s) at cs → (w : Found (List Texture)) → got (record { value = []; rest = o }) ≡ got w → order BB3D 0 (reached 1 true) cs ≡ o
+    no-texs : (cs o : Chunks) (at : ℕ) → Laid s (length s) at cs → (w : Found (List Texture)) → got (record { value = []; rest = o }) ≡ got w → order BB3D 0 (reachedAt 1 true) cs ≡ o
         → (v : Found (ℕ × List Brush)) (x : Found Forest) → Reads w v x → Has at cs (w .value) (v .value .1) (x .value)
     no-texs cs o at h w e same v x (ev, ex, z) =
         let g = got-inj e in

@@ -3,15 +3,15 @@ use Prim.Native.Nat.{ℕ, zero, suc, _+_, _*_, _≤_}
 use native.Mathlib.Nat.{suc-mul, zero-mul}
 use native.Mathlib.Omega.{arith}
 use mathlib.Core.Path.{_≡_, refl, ap, sym, _∙_}
-use mathlib.Core.List.{List, [], _∷_, _++_}
+use mathlib.Core.List.{List, [], _∷_}
 use lib.ListN.{length, drop, length-drop}
 use lib.Dec.{ltb, ltb→lt, nltb→le}
-use Rattle.layout.specs.Out.{Out, got, bad, _>>=_}
+use Rattle.layout.specs.Out.{got}
 use Rattle.layout.specs.Parts.{Step, wordsOf, itemsOf, row, itemsIn, items}
 use Rattle.layout.specs.Rules.{Rule}
 use Rattle.layout.proofs.Outs.{by-test, by-got, bad-got, got-inj}
-use Rattle.layout.proofs.StepLaws.{row-enough, row-short, judged-got}
-use Rattle.b3d_scene.specs.Tables.{words}
+use Rattle.layout.proofs.StepLaws.{row-enough, row-short, judged-got, words-add}
+use Rattle.layout.specs.Rows.{joined}
 
 -- ---- one item
 
@@ -64,21 +64,10 @@ items-read rs p s l e = in-read rs (length s) p s l e
 
 -- ---- their words
 
-words-more : (a b : ℕ) (s : List ℕ) → 4 * a ≤ length s → wordsOf (a + b) s ≡ wordsOf a s ++ wordsOf b (drop (4 * a) s)
-words-more zero b s h = let e : zero + b ≡ b = omega arith in rw e
-words-more (suc a) b [] h = absurd (omega arith)
-words-more (suc a) b (x ∷ []) h = absurd (omega arith)
-words-more (suc a) b (x ∷ y ∷ []) h = absurd (omega arith)
-words-more (suc a) b (x ∷ y ∷ z ∷ []) h = absurd (omega arith)
-words-more (suc a) b (x ∷ y ∷ z ∷ w ∷ s) h =
-    let f : 4 * suc a ≡ suc (suc (suc (suc (4 * a)))) = omega arith in
-    let g : suc a + b ≡ suc (a + b) = omega arith in
-    rw (f, g, words-more a b s (omega arith))
-
-pub words-items : (k w : ℕ) (s : List ℕ) → k * (4 * w) ≤ length s → words (itemsOf k w s) ≡ wordsOf (k * w) s
-unfolding words
+pub words-items : (k w : ℕ) (s : List ℕ) → k * (4 * w) ≤ length s → joined (itemsOf k w s) ≡ wordsOf (k * w) s
+unfolding joined
 words-items zero w s h = rw (zero-mul w)
 words-items (suc k) w s h =
     let m = suc-mul k (4 * w) in
     let f : suc k * w ≡ w + k * w = omega (arith, suc-mul k w) in
-    rw (f, words-more w (k * w) s (omega arith), words-items k w (drop (4 * w) s) (omega (arith, length-drop (4 * w) s)))
+    rw (f, words-add w (k * w) s (omega arith), words-items k w (drop (4 * w) s) (omega (arith, length-drop (4 * w) s)))

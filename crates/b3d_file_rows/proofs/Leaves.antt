@@ -1,5 +1,5 @@
 -- What the parser read of a body is what the body plainly holds: chunks of numbers, and a MESH.
-use mathlib.Core.Path.{_≡_, refl, ap, ap₂, sym, subst, _∙_}
+use mathlib.Core.Path.{_≡_, ap, ap₂, sym, subst, _∙_}
 use Prim.Native.Nat.{ℕ, _+_, _*_, _/_, _<_, _≤_}
 use native.Mathlib.Nat.{mul-div-cancel}
 use native.Mathlib.Omega.{arith}
@@ -13,18 +13,18 @@ use Rattle.layout.specs.Parts.{Step, words, wordsOf, itemsOf, judged, row, numb
 use Rattle.layout.specs.Rules.{Rule, any, upTo, holds, refusal}
 use Rattle.layout.proofs.Outs.{by-got, by-check, bad-got, got-inj}
 use Rattle.layout.proofs.StepLaws.{judged-got, length-words-of}
+use Rattle.layout.proofs.ListLaws.{three-cells}
 use mathlib.Core.Bool.{true, false}
 use Rattle.b3d_scene.specs.declared.Mode.the-variants.{Lenient}
 use Rattle.b3d_scene.specs.declared.Tag.the-variants.{MESH, VRTS, TRIS}
 use Rattle.b3d_scene.specs.Mask.{ones, vertexMask, keyMask}
-use Rattle.b3d_scene.specs.Nesting.{start, next, onward, order, inside}
+use Rattle.b3d_scene.specs.Nesting.{start, next, onward, order, inside, reachedAt}
 use Rattle.b3d_scene.specs.Parse.{readOne, Vertices, noVertices, readVertices, readTriangles, readSets, readMesh, readBone, readKeys, filled, readAnim}
 use Rattle.b3d_scene.specs.Rules.{vertexWords, keyWords, meshHead, verticesHead, vertexRow, trianglesHead, triangleRow, weightRow, keysHead, keyRow, animRow}
 use Rattle.b3d_scene.specs.Scene.{TriangleSet, Mesh, Keys}
 use Rattle.b3d_scene.specs.Tags.{Chunks, Found, split}
 use Rattle.b3d_scene.proofs.Rows.MaskLaws.{vertex-words, key-words}
 use Rattle.b3d_scene.proofs.Files.Entries.{_▸_, by-entry}
-use Rattle.b3d_inside.specs.Places.{reached}
 use Rattle.b3d_file_rows.proofs.ItemLaws.{row-read, ItemsRead, items-read}
 use Rattle.b3d_file_rows.specs.Plain.{whole, plainKeys, plainWeights, plainAnim, plainVertices, plainTriangles, shapeOf, setsOf, meshOf, plainMesh}
 
@@ -88,14 +88,7 @@ bone-plain vertices p b ws e = whole-read 2 b ws (omega arith) (items-read (weig
 
 three : (b : List ℕ) → 12 ≤ length b → plainAnim b ≡ wordsOf 3 b
 unfolding plainAnim
-three b h = by-length (wordsOf 3 b) (length-words-of 3 b (omega arith))
-  where
-    by-length : (l : List ℕ) → length l ≡ 3 → getD l 0 0 ∷ getD l 1 0 ∷ getD l 2 0 ∷ [] ≡ l
-    by-length [] e = absurd (omega (arith, e))
-    by-length (x ∷ []) e = absurd (omega (arith, e))
-    by-length (x ∷ y ∷ []) e = absurd (omega (arith, e))
-    by-length (x ∷ y ∷ z ∷ []) e = refl
-    by-length (x ∷ y ∷ z ∷ w ∷ l) e = absurd (omega (arith, e))
+three b h = three-cells (wordsOf 3 b) (length-words-of 3 b (omega arith))
 
 pub anim-plain : (p : ℕ) (b ws : List ℕ) → readAnim p b ≡ got ws → plainAnim b ≡ ws
 unfolding readAnim filled
@@ -159,23 +152,23 @@ module _ (brushes vertices head : ℕ) where
       by-got (readSets brushes vertices o) _ e₁ (λ m em e₂.
       ap₂ _∷_ (triangles-plain brushes vertices p b x ex) (more m em) ∙ got-inj e₂))
 
-  sets-more : (cs : Chunks) (l : List TriangleSet) → readSets brushes vertices (order MESH head (reached 2 false) cs) ≡ got l → setsOf cs ≡ l
+  sets-more : (cs : Chunks) (l : List TriangleSet) → readSets brushes vertices (order MESH head (reachedAt 2 false) cs) ≡ got l → setsOf cs ≡ l
   unfolding readSets order onward next if setsOf
   sets-more done l e = got-inj e
   sets-more (stop i p) l e = bad-got e
   sets-more (chunk t p b r) l e =
-      by-entry MESH head (reached 2 false) p b r (λ u o. readSets brushes vertices o ≡ got l → setsOf (chunk u p b r) ≡ l) (λ u e. bad-got e)
+      by-entry MESH head (reachedAt 2 false) p b r (λ u o. readSets brushes vertices o ≡ got l → setsOf (chunk u p b r) ≡ l) (λ u e. bad-got e)
       (tt
-      ▸ (λ e. one-set p b r (order MESH head (reached 2 false) r) (λ m em. sets-more r m em) l e) ▸ tt) t e
+      ▸ (λ e. one-set p b r (order MESH head (reachedAt 2 false) r) (λ m em. sets-more r m em) l e) ▸ tt) t e
 
-  sets-first : (cs : Chunks) (l : List TriangleSet) → readSets brushes vertices (order MESH head (reached 1 true) cs) ≡ got l → setsOf cs ≡ l
+  sets-first : (cs : Chunks) (l : List TriangleSet) → readSets brushes vertices (order MESH head (reachedAt 1 true) cs) ≡ got l → setsOf cs ≡ l
   unfolding readSets order onward next if
   sets-first done l e = bad-got e
   sets-first (stop i p) l e = bad-got e
   sets-first (chunk t p b r) l e =
-      by-entry MESH head (reached 1 true) p b r (λ u o. readSets brushes vertices o ≡ got l → setsOf (chunk u p b r) ≡ l) (λ u e. bad-got e)
+      by-entry MESH head (reachedAt 1 true) p b r (λ u o. readSets brushes vertices o ≡ got l → setsOf (chunk u p b r) ≡ l) (λ u e. bad-got e)
       (tt
-      ▸ (λ e. one-set p b r (order MESH head (reached 2 false) r) (λ m em. sets-more r m em) l e) ▸ tt) t e
+      ▸ (λ e. one-set p b r (order MESH head (reachedAt 2 false) r) (λ m em. sets-more r m em) l e) ▸ tt) t e
 
 abbrev meshBy : ℕ → Vertices → List TriangleSet → Mesh
 meshBy brush v l = record { brush = brush; flags = v .flags; sets = v .sets; size = v .size; vertices = v .items; triangleSets = l }

@@ -1,32 +1,24 @@
 -- The rows of TEXS and BRUS that were read are those that the bytes plainly hold.
-use mathlib.Core.Path.{_≡_, refl, ap, ap₂, sym, _∙_}
+use mathlib.Core.Path.{_≡_, ap, ap₂, sym, _∙_}
 use Prim.Native.Nat.{ℕ, zero, suc, _+_, _≤_}
 use native.Mathlib.Omega.{arith}
 use mathlib.Core.List.{List, [], _∷_, _++_, map}
-use lib.ListN.{length, drop, getD, replicate, length-append, length-replicate}
+use lib.ListN.{length, getD, length-append, length-replicate}
 use lib.Dec.{leb, le→leb}
 use Rattle.layout.specs.Out.{Out, got, _>>=_}
-use Rattle.layout.specs.Parts.{Name, Step, text, words, wordsOf, named, row, number, itemsIn, items}
-use Rattle.layout.specs.Rules.{Rule, any}
+use Rattle.layout.specs.Parts.{Name, Step, text, named, row, number, itemsIn, items}
+use Rattle.layout.specs.Rules.{Rule}
 use Rattle.layout.proofs.Outs.{by-got, bad-got, got-inj, if-yes}
-use Rattle.layout.proofs.StepLaws.{judged-any, judged-got}
+use Rattle.layout.proofs.StepLaws.{named-plain}
 use Rattle.b3d_scene.specs.declared.Mode.the-variants.{Lenient}
-use Rattle.b3d_scene.specs.Parse.{readTexture, readTextures, readBrush, readBrushes}
+use Rattle.b3d_scene.specs.Parse.{readTexture, readTextures, readBrush, readBrushes, textureOf, brushOf}
 use Rattle.b3d_scene.specs.Rules.{textureRow, brushesHead, brushRow, brushIds, textureId}
 use Rattle.b3d_scene.specs.Scene.{Texture, Brush}
 use Rattle.b3d_scene.specs.Tables as tables
 use Rattle.b3d_file_rows.proofs.ItemLaws.{row-read}
-use Rattle.b3d_file_rows.specs.Plain.{nextItem, namedIn, namedItems, textureOf, brushOf}
+use Rattle.b3d_file_rows.specs.Plain.{nextItem, namedIn, namedItems}
 use Rattle.b3d_file_rows.specs.Rows.{textureRows, brushesOf, brushRows}
 use Rattle.b3d_file_rows.proofs.Leaves.{first-low, judged-row}
-
--- what keeps rules is read the same where the words are not looked at
-plain : (rs : List Rule) (p : ℕ) (s : List ℕ) (x : Step (Name × List ℕ)) → named rs p s ≡ got x → named (replicate (length rs) any) p s ≡ got x
-unfolding named
-plain rs p s x e =
-    by-got (text p p s) _ e (λ n en e₁.
-    by-got (words p (length rs) (n .place) (n .left)) _ e₁ (λ y ey e₂.
-    rw (length-replicate (length rs) any, en, ey) (judged-any (length rs) (n .place) (y .value) _ ∙ ap got (judged-got rs (n .place) (y .value) _ x e₂))))
 
 module _ {A : Type 0} (make : Name × List ℕ → A) (rs : List Rule) where
   abbrev readBy : ℕ → List ℕ → Out (Step A)
@@ -43,7 +35,7 @@ module _ {A : Type 0} (make : Name × List ℕ → A) (rs : List Rule) where
       by-got (itemsIn f readBy (x .place) (x .left)) _ e₁ (λ m em e₂.
       let g = got-inj ez in
       let rest = read-in f (y .place) (y .left) m (rw (← g) at em) in
-      ap (λ (o : Out (Step (Name × List ℕ))). map make (nextItem (namedIn f (length rs)) o)) (plain rs p (c ∷ s) y ey)
+      ap (λ (o : Out (Step (Name × List ℕ))). map make (nextItem (namedIn f (length rs)) o)) (named-plain rs p (c ∷ s) y ey)
       ∙ ap (λ (r : List A). make (y .value) ∷ r) rest
       ∙ ap (λ (a : Step A). a .value ∷ m) g
       ∙ got-inj e₂)))

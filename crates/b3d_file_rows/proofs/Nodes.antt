@@ -14,14 +14,13 @@ use Rattle.b3d_scene.specs.declared.Mode.the-variants.{Lenient}
 use Rattle.b3d_scene.specs.declared.Counts.{Counts}
 use Rattle.b3d_scene.specs.declared.Tag.{Tag}
 use Rattle.b3d_scene.specs.declared.Tag.the-variants.{NODE, MESH, BONE, KEYS, ANIM}
-use Rattle.b3d_scene.specs.Nesting.{start, next, onward, order, inside}
+use Rattle.b3d_scene.specs.Nesting.{start, next, onward, order, inside, reachedAt}
 use Rattle.b3d_scene.specs.Parse.{readMesh, readBone, readKeys, readAnim, aMesh, aBone, readKind, Moves, withKeys, readMoves, Inner, readNodes, readBelow, readNode}
 use Rattle.b3d_scene.specs.Rules.{nodeRow, boneVertices, bonesBelow}
 use Rattle.b3d_scene.specs.Scene.{Mesh, Kind, pivot, mesh, bone, Keys, Anim, still, anim, Data, Forest}
 use Rattle.b3d_scene.specs.Tables.{nodesIn, ownRows, withNode, withForest, forestRows}
 use Rattle.b3d_scene.specs.Tags.{Chunks, Found, split}
 use Rattle.b3d_scene.proofs.Files.Entries.{_▸_, by-entry}
-use Rattle.b3d_inside.specs.Places.{reached}
 use Rattle.b3d_inside.proofs.Turns.{kind-order}
 use Rattle.b3d_file_rows.specs.Flat.{rest, flatAt}
 use Rattle.b3d_file_rows.specs.Rows.{addNode, addKeys, current, keyListRows, counted, chunkRows, flatRows}
@@ -58,15 +57,15 @@ module _ (s : List ℕ) (k : ℕ) where
       (same : (p : ℕ) (b : List ℕ) (x : Inner) → read p b ≡ got x → (at : ℕ) → Here s at NODE p b → (n : Counts) (parent : ℕ) → from n at ≡ nodeThen (x .self) (x .below) parent n (p + 8 + length b)) (head : ℕ) where
     -- ---- nodes
 
-    nodes-flat : (cs : Chunks) (at e : ℕ) → Laid s e at cs → (f : Forest) → readNodes read (order NODE head (reached 3 false) cs) ≡ got f → (n : Counts) (parent : ℕ) → from n at ≡ nodesThen f parent n e
+    nodes-flat : (cs : Chunks) (at e : ℕ) → Laid s e at cs → (f : Forest) → readNodes read (order NODE head (reachedAt 3 false) cs) ≡ got f → (n : Counts) (parent : ℕ) → from n at ≡ nodesThen f parent n e
     unfolding readNodes order onward next if forestRows withForest
     nodes-flat done at e h f g n parent = subst (λ (x : Forest). from n at ≡ nodesThen x parent n e) (got-inj g) (ap (flatRows k n) (run-same s at e h))
     nodes-flat (stop i p) at e h f g n parent = bad-got g
     nodes-flat (chunk t p b r) at e h f g n parent =
-        by-entry NODE head (reached 3 false) p b r (λ u o. Laid s e at (chunk u p b r) → readNodes read o ≡ got f → from n at ≡ nodesThen f parent n e) (λ u h g. bad-got g)
+        by-entry NODE head (reachedAt 3 false) p b r (λ u o. Laid s e at (chunk u p b r) → readNodes read o ≡ got f → from n at ≡ nodesThen f parent n e) (λ u h g. bad-got g)
         (tt ▸ tt ▸ tt ▸ tt
         ▸ (λ h g. by-got (read p b) _ g (λ x ex g₁.
-        by-got (readNodes read (order NODE head (reached 3 false) r)) _ g₁ (λ y ey g₂.
+        by-got (readNodes read (order NODE head (reachedAt 3 false) r)) _ g₁ (λ y ey g₂.
         let m = withNode (x .self) n in
         let q = withForest (x .below) m in
         let own = ownRows k (x .self) parent (nodesIn (x .below)) n in
@@ -118,29 +117,29 @@ module _ (s : List ℕ) (k : ℕ) where
         let w = got-inj g in
         subst (λ (u : Found Moves). Lists at e (u .value .keys) f) w (no-lists at e f (h (ap (λ (u : Found Moves). readNodes read (u .rest)) w ∙ ef)))
 
-    lists-flat : (cs : Chunks) (spent : Bool) (seen : Anim) (at e : ℕ) → Laid s e at cs → (y : Found Moves) → readMoves seen (order NODE head (reached 2 spent) cs) ≡ got y
+    lists-flat : (cs : Chunks) (spent : Bool) (seen : Anim) (at e : ℕ) → Laid s e at cs → (y : Found Moves) → readMoves seen (order NODE head (reachedAt 2 spent) cs) ≡ got y
         → (f : Forest) → readNodes read (y .rest) ≡ got f → Lists at e (y .value .keys) f
     unfolding readMoves order onward next if
     lists-flat done spent seen at e h y g f ef = by-none seen at e done y g f ef (λ ef′. nodes-flat done at e h f ef′)
     lists-flat (stop i p) spent seen at e h y g f ef = bad-got g
     lists-flat (chunk t p b r) true seen at e h y g f ef =
-        by-entry NODE head (reached 2 true) p b r (λ u o. Laid s e at (chunk u p b r) → readMoves seen o ≡ got y → Lists at e (y .value .keys) f) (λ u h g. bad-got g)
+        by-entry NODE head (reachedAt 2 true) p b r (λ u o. Laid s e at (chunk u p b r) → readMoves seen o ≡ got y → Lists at e (y .value .keys) f) (λ u h g. bad-got g)
         (tt ▸ tt
-        ▸ (λ h g. by-list seen at e p b (order NODE head (reached 2 true) r) (h .0) (λ z ez f′ ef′. lists-flat r true seen (p + 8 + length b) e (h .1) z ez f′ ef′) y g f ef) ▸ tt
-        ▸ (λ h g. by-none seen at e (chunk NODE p b (order NODE head (reached 3 false) r)) y g f ef (λ ef′. nodes-flat (chunk NODE p b r) at e h f ef′)) ▸ tt) t h g
+        ▸ (λ h g. by-list seen at e p b (order NODE head (reachedAt 2 true) r) (h .0) (λ z ez f′ ef′. lists-flat r true seen (p + 8 + length b) e (h .1) z ez f′ ef′) y g f ef) ▸ tt
+        ▸ (λ h g. by-none seen at e (chunk NODE p b (order NODE head (reachedAt 3 false) r)) y g f ef (λ ef′. nodes-flat (chunk NODE p b r) at e h f ef′)) ▸ tt) t h g
     lists-flat (chunk t p b r) false seen at e h y g f ef =
-        by-entry NODE head (reached 2 false) p b r (λ u o. Laid s e at (chunk u p b r) → readMoves seen o ≡ got y → Lists at e (y .value .keys) f) (λ u h g. bad-got g)
+        by-entry NODE head (reachedAt 2 false) p b r (λ u o. Laid s e at (chunk u p b r) → readMoves seen o ≡ got y → Lists at e (y .value .keys) f) (λ u h g. bad-got g)
         (tt ▸ tt
-        ▸ (λ h g. by-list seen at e p b (order NODE head (reached 2 false) r) (h .0) (λ z ez f′ ef′. lists-flat r false seen (p + 8 + length b) e (h .1) z ez f′ ef′) y g f ef)
-        ▸ (λ h g. by-anim seen at e p b (order NODE head (reached 2 true) r) (h .0) (λ seen′ z ez f′ ef′. lists-flat r true seen′ (p + 8 + length b) e (h .1) z ez f′ ef′) y g f ef)
-        ▸ (λ h g. by-none seen at e (chunk NODE p b (order NODE head (reached 3 false) r)) y g f ef (λ ef′. nodes-flat (chunk NODE p b r) at e h f ef′)) ▸ tt) t h g
+        ▸ (λ h g. by-list seen at e p b (order NODE head (reachedAt 2 false) r) (h .0) (λ z ez f′ ef′. lists-flat r false seen (p + 8 + length b) e (h .1) z ez f′ ef′) y g f ef)
+        ▸ (λ h g. by-anim seen at e p b (order NODE head (reachedAt 2 true) r) (h .0) (λ seen′ z ez f′ ef′. lists-flat r true seen′ (p + 8 + length b) e (h .1) z ez f′ ef′) y g f ef)
+        ▸ (λ h g. by-none seen at e (chunk NODE p b (order NODE head (reachedAt 3 false) r)) y g f ef (λ ef′. nodes-flat (chunk NODE p b r) at e h f ef′)) ▸ tt) t h g
 
     -- ---- a kind
 
     abbrev Kinds : ℕ → ℕ → Kind → List Keys → Forest → Type 0
     Kinds at e kind ks f = (n : Counts) (parent : ℕ) → from n at ≡ kindThen kind ks f parent n e
 
-    no-kind : (at e : ℕ) (cs o : Chunks) → Laid s e at cs → (x : Found Kind) → got (record { value = pivot; rest = o }) ≡ got x → order NODE head (reached 2 false) cs ≡ o
+    no-kind : (at e : ℕ) (cs o : Chunks) → Laid s e at cs → (x : Found Kind) → got (record { value = pivot; rest = o }) ≡ got x → order NODE head (reachedAt 2 false) cs ≡ o
         → (y : Found Moves) → readMoves still (x .rest) ≡ got y → (f : Forest) → readNodes read (y .rest) ≡ got f → Kinds at e (x .value) (y .value .keys) f
     unfolding kindRows withKind
     no-kind at e cs o h x g alike y ey f ef =
@@ -151,7 +150,7 @@ module _ (s : List ℕ) (k : ℕ) where
     -- a MESH or a BONE that gives this kind, before others
     one-kind : (at e : ℕ) (t : Tag) (p : ℕ) (b : List ℕ) (r : Chunks) (kind : Kind) → Laid s e (p + 8 + length b) r
         → ((n : Counts) → from n at ≡ kindRows k kind (current n) ++ from (withKind kind n) (p + 8 + length b))
-        → (x : Found Kind) → got (record { value = kind; rest = order NODE head (reached 1 true) r }) ≡ got x
+        → (x : Found Kind) → got (record { value = kind; rest = order NODE head (reachedAt 1 true) r }) ≡ got x
         → (y : Found Moves) → readMoves still (x .rest) ≡ got y → (f : Forest) → readNodes read (y .rest) ≡ got f → Kinds at e (x .value) (y .value .keys) f
     one-kind at e t p b r kind h first x g y ey f ef =
         let w = got-inj g in
@@ -159,7 +158,7 @@ module _ (s : List ℕ) (k : ℕ) where
         (λ n parent. first n ∙ ap (λ (l : List (List ℕ)). kindRows k kind (current n) ++ l)
         (lists-flat r false still (p + 8 + length b) e h y (ap (readMoves still) (sym (kind-order head r)) ∙ ap (λ (u : Found Kind). readMoves still (u .rest)) w ∙ ey) f ef (withKind kind n) parent))
 
-    kind-mesh : (brushes at e p : ℕ) (b : List ℕ) (r : Chunks) → Here s at MESH p b → Laid s e (p + 8 + length b) r → (x : Found Kind) → aMesh Lenient brushes p b (order NODE head (reached 1 true) r) ≡ got x
+    kind-mesh : (brushes at e p : ℕ) (b : List ℕ) (r : Chunks) → Here s at MESH p b → Laid s e (p + 8 + length b) r → (x : Found Kind) → aMesh Lenient brushes p b (order NODE head (reachedAt 1 true) r) ≡ got x
         → (y : Found Moves) → readMoves still (x .rest) ≡ got y → (f : Forest) → readNodes read (y .rest) ≡ got f → Kinds at e (x .value) (y .value .keys) f
     unfolding aMesh kindRows withKind
     kind-mesh brushes at e p b r h l x g y ey f ef =
@@ -168,7 +167,7 @@ module _ (s : List ℕ) (k : ℕ) where
         (λ n. past at MESH p b h (run-past s at MESH p b h tt) n ∙ ap (λ (z : Mesh). kindRows k (mesh z) (current n) ++ from (withKind (mesh z) n) (p + 8 + length b)) (mesh-plain brushes p b m em))
         x g₁ y ey f ef)
 
-    kind-bone : (vertices at e p : ℕ) (b : List ℕ) (r : Chunks) → Here s at BONE p b → Laid s e (p + 8 + length b) r → (x : Found Kind) → aBone vertices p b (order NODE head (reached 1 true) r) ≡ got x
+    kind-bone : (vertices at e p : ℕ) (b : List ℕ) (r : Chunks) → Here s at BONE p b → Laid s e (p + 8 + length b) r → (x : Found Kind) → aBone vertices p b (order NODE head (reachedAt 1 true) r) ≡ got x
         → (y : Found Moves) → readMoves still (x .rest) ≡ got y → (f : Forest) → readNodes read (y .rest) ≡ got f → Kinds at e (x .value) (y .value .keys) f
     unfolding aBone kindRows withKind
     kind-bone vertices at e p b r h l x g y ey f ef =

@@ -17,14 +17,13 @@ use Rattle.b3d_scene.specs.declared.Mode.the-variants.{Lenient}
 use Rattle.b3d_scene.specs.declared.Counts.{Counts}
 use Rattle.b3d_scene.specs.declared.Tag.{Tag}
 use Rattle.b3d_scene.specs.declared.Tag.the-variants.{NODE, MESH, BONE, KEYS, ANIM}
-use Rattle.b3d_scene.specs.Nesting.{start, next, onward, order, inside}
+use Rattle.b3d_scene.specs.Nesting.{start, next, onward, order, inside, reachedAt}
 use Rattle.b3d_scene.specs.Parse.{readMesh, readBone, readKeys, readAnim, aMesh, aBone, readKind, Moves, withKeys, readMoves, Inner, readNodes, readBelow, readNode}
 use Rattle.b3d_scene.specs.Rules.{nodeRow as nodeWords, boneVertices, bonesBelow}
 use Rattle.b3d_scene.specs.Scene.{Mesh, Kind, pivot, mesh, bone, Keys, Anim, still, anim, Data, Forest, leaf, node}
 use Rattle.b3d_scene.specs.Tables.{nodesIn, nodeRow, ownRows, withNode, withForest, forestRows}
 use Rattle.b3d_scene.specs.Tags.{Chunks, Found, split, is}
 use Rattle.b3d_scene.proofs.Files.Entries.{_▸_, by-entry}
-use Rattle.b3d_inside.specs.Places.{reached}
 use Rattle.b3d_inside.proofs.Turns.{kind-order}
 use Rattle.b3d_file_rows.specs.Flat.{rest, flatAt}
 use Rattle.b3d_file_rows.specs.Rows.{Open, addNode, addKeys, counted, kindOf, animOf, parentAt, nodesBefore, rowOf, opened, nodeRows}
@@ -118,12 +117,12 @@ module _ (s : List ℕ) where
     here-clean : (at p : ℕ) (b : List ℕ) → Here s at NODE p b → Clean (flatAt s at)
     here-clean at p b h = run-node s at NODE p b h tt Clean (λ r. node-clean p b r) stop-clean
 
-    nodes-clean : (cs : Chunks) (at : ℕ) → Laid s e at cs → (f : Forest) → readNodes read (order NODE head (reached 3 false) cs) ≡ got f → Clean (flatAt s at)
+    nodes-clean : (cs : Chunks) (at : ℕ) → Laid s e at cs → (f : Forest) → readNodes read (order NODE head (reachedAt 3 false) cs) ≡ got f → Clean (flatAt s at)
     unfolding readNodes order onward next if
     nodes-clean done at h f g = subst Clean (sym (run-same s at e h)) follows
     nodes-clean (stop i p) at h f g = bad-got g
     nodes-clean (chunk t p b r) at h f g =
-        by-entry NODE head (reached 3 false) p b r (λ u o. Laid s e at (chunk u p b r) → readNodes read o ≡ got f → Clean (flatAt s at)) (λ u h g. bad-got g)
+        by-entry NODE head (reachedAt 3 false) p b r (λ u o. Laid s e at (chunk u p b r) → readNodes read o ≡ got f → Clean (flatAt s at)) (λ u h g. bad-got g)
         (tt ▸ tt ▸ tt ▸ tt
         ▸ (λ h g. here-clean at p b (h .0)) ▸ tt) t h g
 
@@ -142,15 +141,15 @@ module _ (s : List ℕ) where
         (subst (λ (r : List (List ℕ)). Went l n at e r (withForest g m) (suc (nodesIn f) + nodesIn g)) (append-assoc (ownRows 3 d parent (nodesIn f) n) (forestRows 3 f (n .nodes) (withNode d n)) (forestRows 3 g parent m))
         (went-on l n at (p + 8 + length b) e _ _ m (withForest g m) (suc (nodesIn f)) (nodesIn g) le w v))
 
-    nodes-flat : (cs : Chunks) (at : ℕ) → Laid s e at cs → (f : Forest) → readNodes read (order NODE head (reached 3 false) cs) ≡ got f → Nodes at e f
+    nodes-flat : (cs : Chunks) (at : ℕ) → Laid s e at cs → (f : Forest) → readNodes read (order NODE head (reachedAt 3 false) cs) ≡ got f → Nodes at e f
     unfolding readNodes order onward next if
     nodes-flat done at h f g = subst (Nodes at e) (got-inj g) (no-nodes at h)
     nodes-flat (stop i p) at h f g = bad-got g
     nodes-flat (chunk t p b r) at h f g =
-        by-entry NODE head (reached 3 false) p b r (λ u o. Laid s e at (chunk u p b r) → readNodes read o ≡ got f → Nodes at e f) (λ u h g. bad-got g)
+        by-entry NODE head (reachedAt 3 false) p b r (λ u o. Laid s e at (chunk u p b r) → readNodes read o ≡ got f → Nodes at e f) (λ u h g. bad-got g)
         (tt ▸ tt ▸ tt ▸ tt
         ▸ (λ h g. by-got (read p b) _ g (λ x ex g₁.
-        by-got (readNodes read (order NODE head (reached 3 false) r)) _ g₁ (λ y ey g₂.
+        by-got (readNodes read (order NODE head (reachedAt 3 false) r)) _ g₁ (λ y ey g₂.
         subst (Nodes at e) (got-inj g₂)
         (more-nodes at p b (x .self) (x .below) y (h .0) (h .2) (nodes-clean r (p + 8 + length b) (h .1) y ey) (same p b x ex at (h .0)) (nodes-flat r (p + 8 + length b) (h .1) y ey))))) ▸ tt) t h g
 
@@ -226,22 +225,22 @@ module _ (s : List ℕ) where
         let ef′ = ap (λ (u : Found Moves). readNodes read (u .rest)) w ∙ ef in
         subst (λ (u : Found Moves). Lists spent seen at (u .value) f) w (no-lists spent seen at f (c ef′) (h ef′))
 
-    lists-flat : (cs : Chunks) (spent : Bool) (seen : Anim) (at : ℕ) → Laid s e at cs → (y : Found Moves) → readMoves seen (order NODE head (reached 2 spent) cs) ≡ got y
+    lists-flat : (cs : Chunks) (spent : Bool) (seen : Anim) (at : ℕ) → Laid s e at cs → (y : Found Moves) → readMoves seen (order NODE head (reachedAt 2 spent) cs) ≡ got y
         → (f : Forest) → readNodes read (y .rest) ≡ got f → Lists spent seen at (y .value) f
     unfolding readMoves order onward next if
     lists-flat done spent seen at h y g f ef = by-none spent seen at done y g f ef (λ ef′. nodes-clean done at h f ef′) (λ ef′. nodes-flat done at h f ef′)
     lists-flat (stop i p) spent seen at h y g f ef = bad-got g
     lists-flat (chunk t p b r) true seen at h y g f ef =
-        by-entry NODE head (reached 2 true) p b r (λ u o. Laid s e at (chunk u p b r) → readMoves seen o ≡ got y → Lists true seen at (y .value) f) (λ u h g. bad-got g)
+        by-entry NODE head (reachedAt 2 true) p b r (λ u o. Laid s e at (chunk u p b r) → readMoves seen o ≡ got y → Lists true seen at (y .value) f) (λ u h g. bad-got g)
         (tt ▸ tt
-        ▸ (λ h g. by-list true seen at p b (order NODE head (reached 2 true) r) (h .0) (λ z ez f′ ef′. lists-flat r true seen (p + 8 + length b) (h .1) z ez f′ ef′) y g f ef) ▸ tt
-        ▸ (λ h g. by-none true seen at (chunk NODE p b (order NODE head (reached 3 false) r)) y g f ef (λ ef′. nodes-clean (chunk NODE p b r) at h f ef′) (λ ef′. nodes-flat (chunk NODE p b r) at h f ef′)) ▸ tt) t h g
+        ▸ (λ h g. by-list true seen at p b (order NODE head (reachedAt 2 true) r) (h .0) (λ z ez f′ ef′. lists-flat r true seen (p + 8 + length b) (h .1) z ez f′ ef′) y g f ef) ▸ tt
+        ▸ (λ h g. by-none true seen at (chunk NODE p b (order NODE head (reachedAt 3 false) r)) y g f ef (λ ef′. nodes-clean (chunk NODE p b r) at h f ef′) (λ ef′. nodes-flat (chunk NODE p b r) at h f ef′)) ▸ tt) t h g
     lists-flat (chunk t p b r) false seen at h y g f ef =
-        by-entry NODE head (reached 2 false) p b r (λ u o. Laid s e at (chunk u p b r) → readMoves seen o ≡ got y → Lists false seen at (y .value) f) (λ u h g. bad-got g)
+        by-entry NODE head (reachedAt 2 false) p b r (λ u o. Laid s e at (chunk u p b r) → readMoves seen o ≡ got y → Lists false seen at (y .value) f) (λ u h g. bad-got g)
         (tt ▸ tt
-        ▸ (λ h g. by-list false seen at p b (order NODE head (reached 2 false) r) (h .0) (λ z ez f′ ef′. lists-flat r false seen (p + 8 + length b) (h .1) z ez f′ ef′) y g f ef)
-        ▸ (λ h g. by-anim seen at p b (order NODE head (reached 2 true) r) (h .0) (λ seen′ z ez f′ ef′. lists-flat r true seen′ (p + 8 + length b) (h .1) z ez f′ ef′) y g f ef)
-        ▸ (λ h g. by-none false seen at (chunk NODE p b (order NODE head (reached 3 false) r)) y g f ef (λ ef′. nodes-clean (chunk NODE p b r) at h f ef′) (λ ef′. nodes-flat (chunk NODE p b r) at h f ef′)) ▸ tt) t h g
+        ▸ (λ h g. by-list false seen at p b (order NODE head (reachedAt 2 false) r) (h .0) (λ z ez f′ ef′. lists-flat r false seen (p + 8 + length b) (h .1) z ez f′ ef′) y g f ef)
+        ▸ (λ h g. by-anim seen at p b (order NODE head (reachedAt 2 true) r) (h .0) (λ seen′ z ez f′ ef′. lists-flat r true seen′ (p + 8 + length b) (h .1) z ez f′ ef′) y g f ef)
+        ▸ (λ h g. by-none false seen at (chunk NODE p b (order NODE head (reachedAt 3 false) r)) y g f ef (λ ef′. nodes-clean (chunk NODE p b r) at h f ef′) (λ ef′. nodes-flat (chunk NODE p b r) at h f ef′)) ▸ tt) t h g
 
     -- ---- a kind
 
@@ -251,7 +250,7 @@ module _ (s : List ℕ) where
       went : (l : List Open) (n : Counts) (parent : ℕ) → Under l at e parent
           → Went l n at e (forestRows 3 f parent (withLists (m .keys) (withKind kind n))) (withForest f (withLists (m .keys) (withKind kind n))) (nodesIn f)
 
-    no-kind : (at : ℕ) (cs o : Chunks) → Laid s e at cs → (x : Found Kind) → got (record { value = pivot; rest = o }) ≡ got x → order NODE head (reached 2 false) cs ≡ o
+    no-kind : (at : ℕ) (cs o : Chunks) → Laid s e at cs → (x : Found Kind) → got (record { value = pivot; rest = o }) ≡ got x → order NODE head (reachedAt 2 false) cs ≡ o
         → (y : Found Moves) → readMoves still (x .rest) ≡ got y → (f : Forest) → readNodes read (y .rest) ≡ got f → Kinds at (x .value) (y .value) f
     unfolding withKind
     no-kind at cs o h x g alike y ey f ef =
@@ -262,7 +261,7 @@ module _ (s : List ℕ) where
     -- a MESH or a BONE that gives this kind, before others
     one-kind : (at : ℕ) (t : Tag) (p : ℕ) (b : List ℕ) (r : Chunks) (kind : Kind) → Here s at t p b → Laid s e (p + 8 + length b) r → T (not (is t NODE))
         → kindOf (flatAt s at) ≡ kind → animOf (flatAt s at) ≡ animOf (flatAt s (p + 8 + length b)) → ((n : Counts) → counted t p b n ≡ withKind kind n)
-        → (x : Found Kind) → got (record { value = kind; rest = order NODE head (reached 1 true) r }) ≡ got x
+        → (x : Found Kind) → got (record { value = kind; rest = order NODE head (reachedAt 1 true) r }) ≡ got x
         → (y : Found Moves) → readMoves still (x .rest) ≡ got y → (f : Forest) → readNodes read (y .rest) ≡ got f → Kinds at (x .value) (y .value) f
     one-kind at t p b r kind h laid other ek ea ec x g y ey f ef =
         let w = got-inj g in
@@ -276,7 +275,7 @@ module _ (s : List ℕ) where
               (m .went l (withKind kind n) parent (λ q lo hi. u q (omega (arith, h .from)) hi)));
         })
 
-    kind-mesh : (brushes at p : ℕ) (b : List ℕ) (r : Chunks) → Here s at MESH p b → Laid s e (p + 8 + length b) r → (x : Found Kind) → aMesh Lenient brushes p b (order NODE head (reached 1 true) r) ≡ got x
+    kind-mesh : (brushes at p : ℕ) (b : List ℕ) (r : Chunks) → Here s at MESH p b → Laid s e (p + 8 + length b) r → (x : Found Kind) → aMesh Lenient brushes p b (order NODE head (reachedAt 1 true) r) ≡ got x
         → (y : Found Moves) → readMoves still (x .rest) ≡ got y → (f : Forest) → readNodes read (y .rest) ≡ got f → Kinds at (x .value) (y .value) f
     unfolding aMesh withKind kindOf animOf if
     kind-mesh brushes at p b r h l x g y ey f ef =
@@ -285,7 +284,7 @@ module _ (s : List ℕ) where
         let run = run-past s at MESH p b h tt in
         one-kind at MESH p b r (mesh m) h l tt (ap kindOf run ∙ ap mesh same-mesh) (ap animOf run) (λ n. ap (λ (z : Mesh). withKind (mesh z) n) same-mesh) x g₁ y ey f ef)
 
-    kind-bone : (vertices at p : ℕ) (b : List ℕ) (r : Chunks) → Here s at BONE p b → Laid s e (p + 8 + length b) r → (x : Found Kind) → aBone vertices p b (order NODE head (reached 1 true) r) ≡ got x
+    kind-bone : (vertices at p : ℕ) (b : List ℕ) (r : Chunks) → Here s at BONE p b → Laid s e (p + 8 + length b) r → (x : Found Kind) → aBone vertices p b (order NODE head (reachedAt 1 true) r) ≡ got x
         → (y : Found Moves) → readMoves still (x .rest) ≡ got y → (f : Forest) → readNodes read (y .rest) ≡ got f → Kinds at (x .value) (y .value) f
     unfolding aBone withKind kindOf animOf if
     kind-bone vertices at p b r h l x g y ey f ef =

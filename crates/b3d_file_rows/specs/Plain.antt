@@ -1,7 +1,7 @@
 -- What the body of a chunk holds, on any bytes and with no rule: a number that is not there is 0, an item that is not all there is left out.
 use Prim.Native.Nat.{ℕ, zero, suc, _+_, _*_, _/_}
 use mathlib.Core.List.{List, [], _∷_}
-use lib.ListN.{length, take, drop, getD, replicate}
+use lib.ListN.{length, drop, getD, replicate}
 use Rattle.wire.specs.Test.{if}
 use Rattle.layout.specs.Chunks.{done, stop, chunk}
 use Rattle.layout.specs.Out.{Out, got, bad}
@@ -10,7 +10,7 @@ use Rattle.layout.specs.Rules.{any}
 use Rattle.b3d_scene.specs.declared.Tag.the-variants.{VRTS, TRIS}
 use Rattle.b3d_scene.specs.Mask.{ones, vertexMask, keyMask}
 use Rattle.b3d_scene.specs.Parse.{Vertices, noVertices}
-use Rattle.b3d_scene.specs.Scene.{Texture, Brush, TriangleSet, Mesh, Keys}
+use Rattle.b3d_scene.specs.Scene.{TriangleSet, Mesh, Keys}
 use Rattle.b3d_scene.specs.Tags.{Chunks, split, is}
 
 -- the items of n words that are all there
@@ -81,9 +81,3 @@ namedIn (suc f) words p s = nextItem (namedIn f words) (named (replicate words a
 
 unfoldable pub namedItems : ℕ → ℕ → List ℕ → List (Name × List ℕ)
 namedItems words p s = namedIn (length s) words p s
-
-abbrev pub textureOf : Name × List ℕ → Texture
-textureOf x = record { name = x .0; words = x .1 }
-
-abbrev pub brushOf : Name × List ℕ → Brush
-brushOf x = record { name = x .0; words = take 7 (x .1); ids = drop 7 (x .1) }

@@ -13,10 +13,11 @@ use Rattle.b3d_scene.specs.declared.Tag.{Tag}
 use Rattle.b3d_scene.specs.declared.Tag.the-variants.{BB3D, TEXS, BRUS, NODE, MESH, VRTS, TRIS, BONE, KEYS, ANIM}
 use Rattle.b3d_scene.specs.Mask.{spread, keyMask}
 use Rattle.b3d_scene.specs.Rules.{nodeRow as nodeWords}
-use Rattle.b3d_scene.specs.Scene.{Mesh, Kind, pivot, mesh, bone, Keys, Anim, still, anim}
+use Rattle.b3d_scene.specs.Scene.{Kind, pivot, mesh, bone, Keys, Anim, still, anim}
 use Rattle.b3d_scene.specs.Tables.{start, textureRow, brushRow, nodeRow, meshRows, withMeshes}
 use Rattle.b3d_scene.specs.Tags.{Chunks, is}
-use Rattle.b3d_file_rows.specs.Plain.{plainKeys, plainWeights, plainAnim, plainMesh, namedItems, textureOf, brushOf}
+use Rattle.b3d_scene.specs.Parse.{textureOf, brushOf}
+use Rattle.b3d_file_rows.specs.Plain.{plainKeys, plainWeights, plainAnim, plainMesh, namedItems}
 use Rattle.b3d_file_rows.specs.Flat.{rest, flat}
 
 -- ---- running counts

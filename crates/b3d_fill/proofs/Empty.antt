@@ -1,6 +1,6 @@
 -- A table without rows stays. Without meshes there are no vertices, sets and triangles; without key lists there are no keys.
 use mathlib.Core.Path.{_≡_, refl, ap, sym, _∙_}
-use Prim.Native.Nat.{ℕ}
+use Prim.Native.Nat.{ℕ, _≤_}
 use native.Mathlib.Omega.{arith}
 use mathlib.Core.List.{List, [], _∷_, _++_}
 use lib.ListN.{length}
@@ -11,7 +11,8 @@ use Rattle.layout.proofs.Outs.{by-test}
 use Rattle.b3d_scene.specs.declared.Counts.{Counts}
 use Rattle.b3d_scene.specs.declared.Tag.{Tag}
 use Rattle.b3d_scene.specs.declared.Tag.the-variants.{MESH, KEYS}
-use Rattle.b3d_scene.specs.Tables.{start, words}
+use Rattle.layout.specs.Rows.{joined}
+use Rattle.b3d_scene.specs.Tables.{start}
 use Rattle.b3d_scene.specs.Tags.{Chunks, is}
 use Rattle.b3d_file_rows.specs.Flat.{flatAt}
 use Rattle.b3d_file_rows.specs.Rows.{counted, chunkRows, flatRows, fileRows}
@@ -46,24 +47,44 @@ a-row : {A : Type 0} (x : A) → x ∷ [] ≡ [] → ⊥
 a-row x e = let z : _≡_ {A = ℕ} 0 1 = cc in absurd (omega arith)
 
 module _ (s out : List ℕ) where
-  stays : (rows : List (List ℕ)) → rows ≡ [] → out ≡ sets out 0 (words rows)
-  unfolding words
-  stays rows e = sym (ap (λ (l : List (List ℕ)). sets out 0 (words l)) e)
+  stays : (rows : List (List ℕ)) → rows ≡ [] → out ≡ sets out 0 (joined rows)
+  unfolding joined
+  stays rows e = sym (ap (λ (l : List (List ℕ)). sets out 0 (joined l)) e)
 
-  pub empty-stays : (k n : ℕ) → n ≡ length (fileRows k s) → n ≡ 0 → out ≡ sets out 0 (words (fileRows k s))
+  pub empty-stays : (k n : ℕ) → n ≡ length (fileRows k s) → n ≡ 0 → out ≡ sets out 0 (joined (fileRows k s))
   empty-stays k n e z = stays (fileRows k s) (nothing (fileRows k s) (sym e ∙ z))
 
   module _ (n : ℕ) (e : n ≡ length (fileRows 4 s)) (z : n ≡ 0) where
-    pub no-vertices : out ≡ sets out 0 (words (fileRows 5 s))
+    pub no-vertices : out ≡ sets out 0 (joined (fileRows 5 s))
     no-vertices = stays (fileRows 5 s) (no-rows meshes vertices (λ p b m. a-row _) s (sym e ∙ z))
 
-    pub no-sets : out ≡ sets out 0 (words (fileRows 6 s))
+    pub no-sets : out ≡ sets out 0 (joined (fileRows 6 s))
     no-sets = stays (fileRows 6 s) (no-rows meshes triangleSets (λ p b m. a-row _) s (sym e ∙ z))
 
-    pub no-triangles : out ≡ sets out 0 (words (fileRows 7 s))
+    pub no-triangles : out ≡ sets out 0 (joined (fileRows 7 s))
     no-triangles = stays (fileRows 7 s) (no-rows meshes triangles (λ p b m. a-row _) s (sym e ∙ z))
 
-  pub no-keys : (n : ℕ) → n ≡ length (fileRows 9 s) → n ≡ 0 → out ≡ sets out 0 (words (fileRows 10 s))
+  pub no-keys : (n : ℕ) → n ≡ length (fileRows 9 s) → n ≡ 0 → out ≡ sets out 0 (joined (fileRows 10 s))
   no-keys n e z = stays (fileRows 10 s) (no-rows lists keys (λ p b m. a-row _) s (sym e ∙ z))
+
+-- a table by its number
+module _ (s : List ℕ) (k j : ℕ) (e : k ≡ j) where
+  pub table-room : (n : ℕ) → length (joined (fileRows k s)) ≤ n → length (joined (fileRows j s)) ≤ n
+  table-room n h = rw (← e) h
+
+  pub table-filled : (out put : List ℕ) → put ≡ sets out 0 (joined (fileRows j s)) → put ≡ sets out 0 (joined (fileRows k s))
+  table-filled out put h = rw e h
+
+module _ (s : List ℕ) (k : ℕ) (low : 1 ≤ k) (high : k ≤ 3) (one : k ≡ 1 → ⊥) (two : k ≡ 2 → ⊥) where
+  third : k ≡ 3
+  third = omega (arith, low, high, one, two)
+
+  pub third-room : (n : ℕ) → length (joined (fileRows k s)) ≤ n → length (joined (fileRows 3 s)) ≤ n
+  third-room = table-room s k 3 third
+
+  pub third-filled : (out put : List ℕ) → put ≡ sets out 0 (joined (fileRows 3 s)) → put ≡ sets out 0 (joined (fileRows k s))
+  third-filled = table-filled s k 3 third
+
+pub ruleset table-laws = (empty-stays, table-room, table-filled, third-room, third-filled)
 
 pub ruleset empty-laws = (empty-stays, no-vertices, no-sets, no-triangles, no-keys)

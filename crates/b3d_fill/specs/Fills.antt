@@ -4,15 +4,15 @@ use Prim.Native.Nat.{ℕ, _-_, _<_, _≤_}
 use mathlib.Core.List.{List, []}
 use lib.ListN.{length, getD}
 use lib.Seq.{sets as stored}
-use Rattle.b3d_scene.specs.Tables.{words}
+use Rattle.layout.specs.Rows.{joined}
 use Rattle.b3d_file_rows.specs.Rows.{fileRows}
 
 -- so many rows has each table of the file, and tables of these lengths have room for them
 pub record Fillable (s counts rooms : List ℕ) : Type 0 where
   pub small : length s < 0x100000000
   pub rows : (k : ℕ) → 1 ≤ k → k ≤ 10 → getD counts (k - 1) 0 ≡ length (fileRows k s)
-  pub room : (k : ℕ) → 1 ≤ k → k ≤ 10 → length (words (fileRows k s)) ≤ getD rooms (k - 1) 0
+  pub room : (k : ℕ) → 1 ≤ k → k ≤ 10 → length (joined (fileRows k s)) ≤ getD rooms (k - 1) 0
 
 -- each table has its rows, then what stood there
 pub record Filled (s : List ℕ) (before after : List (List ℕ)) : Type 0 where
-  pub table : (k : ℕ) → 1 ≤ k → k ≤ 10 → getD after (k - 1) [] ≡ stored (getD before (k - 1) []) 0 (words (fileRows k s))
+  pub table : (k : ℕ) → 1 ≤ k → k ≤ 10 → getD after (k - 1) [] ≡ stored (getD before (k - 1) []) 0 (joined (fileRows k s))

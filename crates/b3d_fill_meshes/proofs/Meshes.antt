@@ -15,7 +15,8 @@ use Rattle.layout.proofs.Outs.{if-yes, if-no}
 use Rattle.b3d_scene.specs.declared.Counts.{Counts}
 use Rattle.b3d_scene.specs.declared.Tag.{Tag}
 use Rattle.b3d_scene.specs.declared.Tag.the-variants.{NODE, MESH}
-use Rattle.b3d_scene.specs.Tables.{start, words, triangleRows}
+use Rattle.layout.specs.Rows.{joined}
+use Rattle.b3d_scene.specs.Tables.{start, triangleRows}
 use Rattle.b3d_scene.specs.Tags.{is}
 use Rattle.b3d_file_rows.specs.Plain.{plainMesh, meshOf}
 use Rattle.b3d_file_rows.specs.Rows.{counted, fileRows}
@@ -32,6 +33,18 @@ use Rattle.b3d_fill_meshes.specs.declared.Marks.{Marks}
 use Rattle.b3d_fill_meshes.proofs.Tables.{meshes, vertices, sets, triangles}
 
 -- ---- one MESH
+
+-- marks that fit at a place fit at each behind it
+marks-later : (m : Marks) (i j : ℕ) → i ≤ j → MarksFit i m → MarksFit j m
+marks-later m i j le f = record {
+  nodes = omega (arith, f .nodes);
+  meshes = omega (arith, f .meshes);
+  vertices = omega (arith, f .vertices);
+  sets = omega (arith, f .sets);
+  triangles = omega (arith, f .triangles);
+  words4 = omega (arith, f .words4);
+  words6 = omega (arith, f .words6);
+}
 
 module _ (s : List ℕ) (p : ℕ) (b : Cursor) (y : BodyAt s p b) (small : length s < 0x100000000) (m : Marks) (f : MarksFit p m) where
   before : p + 8 ≤ length s
@@ -68,8 +81,8 @@ module _ (s : List ℕ) (p : ℕ) (b : Cursor) (y : BodyAt s p b) (small : lengt
     pub next-sets : Fits w64 (m .sets + a .sets)
     next-sets = record { fits = omega (arith, f .sets, h4 .few-sets, before, y .within) }
 
-    pub one-stored : (t5 t6 t7 u5 u6 u7 : List ℕ) (n5 n7 : ℕ) (c : After) → u5 ≡ stored t5 (m .to5) (words (verticesIn p (left b s))) → n5 ≡ m .to5 + length (words (verticesIn p (left b s)))
-        → u7 ≡ stored t7 (m .to7) (words (trianglesIn p (left b s))) → n7 ≡ m .to7 + length (words (trianglesIn p (left b s)))
+    pub one-stored : (t5 t6 t7 u5 u6 u7 : List ℕ) (n5 n7 : ℕ) (c : After) → u5 ≡ stored t5 (m .to5) (joined (verticesIn p (left b s))) → n5 ≡ m .to5 + length (joined (verticesIn p (left b s)))
+        → u7 ≡ stored t7 (m .to7) (joined (trianglesIn p (left b s))) → n7 ≡ m .to7 + length (joined (trianglesIn p (left b s)))
         → SetsPut s p b (m .meshes) (m .triangles) (m .to6) t6 u6 c
         → (r : Marks) → r ≡ record {
           nodes = m .nodes;
@@ -114,13 +127,13 @@ module _ (s : List ℕ) (p : ℕ) (b : Cursor) (m : Marks) (l4 l5 l6 l7 : ℕ) (
   pub one-room4 : m .to4 + 9 ≤ l4
   one-room4 = k .room4
 
-  pub one-room5 : m .to5 + length (words (verticesIn p (left b s))) ≤ l5
+  pub one-room5 : m .to5 + length (joined (verticesIn p (left b s))) ≤ l5
   one-room5 = k .room5
 
-  pub one-room6 : m .to6 + length (words (setsIn p (left b s) (m .meshes) (m .triangles))) ≤ l6
+  pub one-room6 : m .to6 + length (joined (setsIn p (left b s) (m .meshes) (m .triangles))) ≤ l6
   one-room6 = k .room6
 
-  pub one-room7 : m .to7 + length (words (trianglesIn p (left b s))) ≤ l7
+  pub one-room7 : m .to7 + length (joined (trianglesIn p (left b s))) ≤ l7
   one-room7 = k .room7
 
 pub ruleset one-laws =
@@ -144,7 +157,7 @@ pub record MeshesLeft (s a4 a5 a6 a7 o4 o5 o6 o7 : List ℕ) (at : ℕ) (m : Mar
   pub left7 : TableLeft 7 Any s a7 o7 at (m .to7)
 
 module _ (s a4 a5 a6 a7 : List ℕ) where
-  pub meshes-start : 12 ≤ length s → length (words (fileRows 4 s)) ≤ length a4 → length (words (fileRows 5 s)) ≤ length a5 → length (words (fileRows 6 s)) ≤ length a6 → length (words (fileRows 7 s)) ≤ length a7
+  pub meshes-start : 12 ≤ length s → length (joined (fileRows 4 s)) ≤ length a4 → length (joined (fileRows 5 s)) ≤ length a5 → length (joined (fileRows 6 s)) ≤ length a6 → length (joined (fileRows 7 s)) ≤ length a7
       → (m : Marks) → m ≡ record { nodes = 0; meshes = 0; vertices = 0; sets = 0; triangles = 0; to4 = 0; to5 = 0; to6 = 0; to7 = 0 }
       → MeshesLeft s a4 a5 a6 a7 a4 a5 a6 a7 12 m
   unfolding start
@@ -179,16 +192,16 @@ module _ (s a4 a5 a6 a7 : List ℕ) where
 
     module _ (r : Flat) (x : Steps s at r) where
       module _ (w : r ≡ run.End) where
-        pub meshes-done4 : o4 ≡ stored a4 0 (words (fileRows 4 s))
+        pub meshes-done4 : o4 ≡ stored a4 0 (joined (fileRows 4 s))
         meshes-done4 = table-done meshes s a4 (Counted m) o4 at (m .to4) (v .left4) r x w
 
-        pub meshes-done5 : o5 ≡ stored a5 0 (words (fileRows 5 s))
+        pub meshes-done5 : o5 ≡ stored a5 0 (joined (fileRows 5 s))
         meshes-done5 = table-done vertices s a5 Any o5 at (m .to5) (v .left5) r x w
 
-        pub meshes-done6 : o6 ≡ stored a6 0 (words (fileRows 6 s))
+        pub meshes-done6 : o6 ≡ stored a6 0 (joined (fileRows 6 s))
         meshes-done6 = table-done sets s a6 (Counted m) o6 at (m .to6) (v .left6) r x w
 
-        pub meshes-done7 : o7 ≡ stored a7 0 (words (fileRows 7 s))
+        pub meshes-done7 : o7 ≡ stored a7 0 (joined (fileRows 7 s))
         meshes-done7 = table-done triangles s a7 Any o7 at (m .to7) (v .left7) r x w
 
       module _ (t : Tag) (p : ℕ) (b : Cursor) (q : ℕ) (w : r ≡ run.Chunk t p b q) where
@@ -202,15 +215,7 @@ module _ (s a4 a5 a6 a7 : List ℕ) where
         meshes-body = it .body
 
         fit-later : (j : ℕ) → at ≤ j → MarksFit j m
-        fit-later j le = record {
-          nodes = omega (arith, v .fit .nodes);
-          meshes = omega (arith, v .fit .meshes);
-          vertices = omega (arith, v .fit .vertices);
-          sets = omega (arith, v .fit .sets);
-          triangles = omega (arith, v .fit .triangles);
-          words4 = omega (arith, v .fit .words4);
-          words6 = omega (arith, v .fit .words6);
-        }
+        fit-later j le = marks-later m at j le (v .fit)
 
         pub meshes-fit : MarksFit p m
         meshes-fit = fit-later p (it .from)
@@ -224,7 +229,7 @@ module _ (s a4 a5 a6 a7 : List ℕ) where
             not-node = subst (λ (y : Tag). T (not (is y NODE))) (sym (tag-same t MESH is-mesh)) tt
 
             pub meshes-room : MeshRoom s p b m (length o4) (length o5) (length o6) (length o7)
-            unfolding words meshCells
+            unfolding joined meshCells
             meshes-room = record {
               room4 = table-room meshes s a4 (Counted m) o4 at (m .to4) (v .left4) r x t p b q w ok eo z;
               room5 = table-room vertices s a5 Any o5 at (m .to5) (v .left5) r x t p b q w ok eo z;
@@ -247,20 +252,10 @@ module _ (s a4 a5 a6 a7 : List ℕ) where
               }
 
               fit-on : MarksFit q g
-              fit-on =
-                  let e : b .end ≤ q = it .past not-node in
-                  record {
-                    nodes = omega (arith, h .fit .nodes);
-                    meshes = omega (arith, h .fit .meshes);
-                    vertices = omega (arith, h .fit .vertices);
-                    sets = omega (arith, h .fit .sets);
-                    triangles = omega (arith, h .fit .triangles);
-                    words4 = omega (arith, h .fit .words4);
-                    words6 = omega (arith, h .fit .words6);
-                  }
+              fit-on = marks-later g (b .end) q (it .past not-node) (h .fit)
 
               pub meshes-put : MeshesLeft s a4 a5 a6 a7 u4 u5 u6 u7 q g
-              unfolding words meshCells
+              unfolding joined meshCells
               meshes-put = record {
                 fit = fit-on;
                 left4 = table-own meshes s a4 (Counted m) o4 at (m .to4) (v .left4) r x t p b q w ok eo z (Counted g) (counted-on (v .left4 .counts) (v .left4 .known)) u4 (g .to4) (h .next4)

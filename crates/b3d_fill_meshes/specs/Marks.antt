@@ -6,7 +6,7 @@ use lib.ListN.{length}
 use lib.Seq.{sets as stored}
 use Rattle.wire.specs.Cursors.{left}
 use Rattle.wire.specs.declared.Cursor.{Cursor}
-use Rattle.b3d_scene.specs.Tables.{words}
+use Rattle.layout.specs.Rows.{joined}
 use Rattle.b3d_file_rows.specs.Plain.{plainMesh}
 use Rattle.b3d_mesh_rows.specs.Meshes.{verticesIn, trianglesIn, setsIn, triangleCount, meshCells}
 use Rattle.b3d_fill_meshes.specs.declared.Marks.{Marks}
@@ -24,23 +24,23 @@ pub record MarksFit (at : ℕ) (m : Marks) : Type 0 where
 -- tables of these lengths have room for the rows of a MESH
 pub record MeshRoom (s : List ℕ) (p : ℕ) (b : Cursor) (m : Marks) (l4 l5 l6 l7 : ℕ) : Type 0 where
   pub room4 : m .to4 + 9 ≤ l4
-  pub room5 : m .to5 + length (words (verticesIn p (left b s))) ≤ l5
-  pub room6 : m .to6 + length (words (setsIn p (left b s) (m .meshes) (m .triangles))) ≤ l6
-  pub room7 : m .to7 + length (words (trianglesIn p (left b s))) ≤ l7
+  pub room5 : m .to5 + length (joined (verticesIn p (left b s))) ≤ l5
+  pub room6 : m .to6 + length (joined (setsIn p (left b s) (m .meshes) (m .triangles))) ≤ l6
+  pub room7 : m .to7 + length (joined (trianglesIn p (left b s))) ≤ l7
 
 -- the four tables before and after, and how far they are filled then
 pub record MeshStored (s : List ℕ) (p : ℕ) (b : Cursor) (m : Marks) (t4 t5 t6 t7 u4 u5 u6 u7 : List ℕ) (r : Marks) : Type 0 where
   pub rows4 : u4 ≡ stored t4 (m .to4) (meshCells (m .nodes - 1) (m .vertices) (m .sets) (plainMesh p (left b s)))
-  pub rows5 : u5 ≡ stored t5 (m .to5) (words (verticesIn p (left b s)))
-  pub rows6 : u6 ≡ stored t6 (m .to6) (words (setsIn p (left b s) (m .meshes) (m .triangles)))
-  pub rows7 : u7 ≡ stored t7 (m .to7) (words (trianglesIn p (left b s)))
+  pub rows5 : u5 ≡ stored t5 (m .to5) (joined (verticesIn p (left b s)))
+  pub rows6 : u6 ≡ stored t6 (m .to6) (joined (setsIn p (left b s) (m .meshes) (m .triangles)))
+  pub rows7 : u7 ≡ stored t7 (m .to7) (joined (trianglesIn p (left b s)))
   pub nodes : r .nodes ≡ m .nodes
   pub meshes : r .meshes ≡ m .meshes + 1
   pub vertices : r .vertices ≡ m .vertices + length (plainMesh p (left b s) .vertices)
   pub sets : r .sets ≡ m .sets + length (plainMesh p (left b s) .triangleSets)
   pub triangles : r .triangles ≡ m .triangles + triangleCount p (left b s)
   pub next4 : r .to4 ≡ m .to4 + 9
-  pub next5 : r .to5 ≡ m .to5 + length (words (verticesIn p (left b s)))
-  pub next6 : r .to6 ≡ m .to6 + length (words (setsIn p (left b s) (m .meshes) (m .triangles)))
-  pub next7 : r .to7 ≡ m .to7 + length (words (trianglesIn p (left b s)))
+  pub next5 : r .to5 ≡ m .to5 + length (joined (verticesIn p (left b s)))
+  pub next6 : r .to6 ≡ m .to6 + length (joined (setsIn p (left b s) (m .meshes) (m .triangles)))
+  pub next7 : r .to7 ≡ m .to7 + length (joined (trianglesIn p (left b s)))
   pub fit : MarksFit (b .end) r

@@ -3,7 +3,7 @@ ghost use mathlib.Core.Path.{_≡_};
 ghost use Prim.Native.Nat.{_+_, _-_, _<_, _≤_};
 ghost use lib.ListN.{length};
 ghost use lib.Seq.{sets as stored};
-ghost use Rattle.b3d_scene.specs.Tables.{words};
+ghost use Rattle.layout.specs.Rows.{joined};
 ghost use Rattle.b3d_file_rows.specs.Rows.{fileRows};
 ghost use Rattle.b3d_walk.specs.Walks.{BodyAt};
 ghost use Rattle.b3d_fill_meshes.specs.Marks.{MarksFit, MeshRoom, MeshStored};
@@ -64,12 +64,12 @@ fn put_one(
 
 // Tables 4 to 7 of a file: the meshes, their vertices, sets and triangles.
 pub fn fill_meshes(file: &[u8], t4: &mut [u32], t5: &mut [u32], t6: &mut [u32], t7: &mut [u32])
-    requires { ⌜ (length (now file) < 0x100000000) × (length (words (fileRows 4 (now file))) ≤ length (now t4)) × (length (words (fileRows 5 (now file))) ≤ length (now t5))
-        × (length (words (fileRows 6 (now file))) ≤ length (now t6)) × (length (words (fileRows 7 (now file))) ≤ length (now t7)) ⌝ }
-    ensures { λ _. ⌜ (now (t4 .exit) ≡ stored (now (t4 .entry)) 0 (words (fileRows 4 (now (file .entry)))))
-        × (now (t5 .exit) ≡ stored (now (t5 .entry)) 0 (words (fileRows 5 (now (file .entry)))))
-        × (now (t6 .exit) ≡ stored (now (t6 .entry)) 0 (words (fileRows 6 (now (file .entry)))))
-        × (now (t7 .exit) ≡ stored (now (t7 .entry)) 0 (words (fileRows 7 (now (file .entry))))) ⌝ }
+    requires { ⌜ (length (now file) < 0x100000000) × (length (joined (fileRows 4 (now file))) ≤ length (now t4)) × (length (joined (fileRows 5 (now file))) ≤ length (now t5))
+        × (length (joined (fileRows 6 (now file))) ≤ length (now t6)) × (length (joined (fileRows 7 (now file))) ≤ length (now t7)) ⌝ }
+    ensures { λ _. ⌜ (now (t4 .exit) ≡ stored (now (t4 .entry)) 0 (joined (fileRows 4 (now (file .entry)))))
+        × (now (t5 .exit) ≡ stored (now (t5 .entry)) 0 (joined (fileRows 5 (now (file .entry)))))
+        × (now (t6 .exit) ≡ stored (now (t6 .entry)) 0 (joined (fileRows 6 (now (file .entry)))))
+        × (now (t7 .exit) ≡ stored (now (t7 .entry)) 0 (joined (fileRows 7 (now (file .entry))))) ⌝ }
 {
     if file.len() < 12 {
         return;
@@ -87,26 +87,14 @@ pub fn fill_meshes(file: &[u8], t4: &mut [u32], t5: &mut [u32], t6: &mut [u32], 
         to7: 0,
     };
     loop {
-        match b3d_walk::flat_next(file, at) {
-            Flat::End => {
-                return;
-            }
-            Flat::Chunk {
-                tag,
-                at: p,
-                body,
-                next,
-            } => {
-                if b3d_chunks::same(tag, Tag::MESH) {
-                    m = put_one(file, p, body, m, t4, t5, t6, t7);
-                    at = next;
-                } else if b3d_chunks::same(tag, Tag::NODE) {
-                    m.nodes = m.nodes + 1;
-                    at = next;
-                } else {
-                    at = next;
-                }
-            }
+        let Flat::Chunk(tag, p, body, next) = b3d_walk::flat_next(file, at) else {
+            return;
+        };
+        if b3d_chunks::same(tag, Tag::MESH) {
+            m = put_one(file, p, body, m, t4, t5, t6, t7);
+        } else if b3d_chunks::same(tag, Tag::NODE) {
+            m.nodes = m.nodes + 1;
         }
+        at = next;
     }
 }

@@ -1,4 +1,3 @@
 -- Laws of the tables of weights and keys.
 pub mod Tables
-pub mod ListRow
 pub mod Lists

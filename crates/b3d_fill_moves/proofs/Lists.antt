@@ -16,7 +16,8 @@ use Rattle.layout.proofs.Outs.{if-yes, if-no}
 use Rattle.b3d_scene.specs.declared.Counts.{Counts}
 use Rattle.b3d_scene.specs.declared.Tag.{Tag}
 use Rattle.b3d_scene.specs.declared.Tag.the-variants.{NODE, BONE, KEYS}
-use Rattle.b3d_scene.specs.Tables.{start, words}
+use Rattle.layout.specs.Rows.{joined}
+use Rattle.b3d_scene.specs.Tables.{start}
 use Rattle.b3d_scene.specs.Tags.{is}
 use Rattle.b3d_file_rows.specs.Plain.{plainKeys}
 use Rattle.b3d_file_rows.specs.Rows.{counted, listRow, fileRows}
@@ -25,8 +26,8 @@ use Rattle.b3d_walk.specs.declared.Flat.{Flat}
 use Rattle.b3d_walk.specs.declared.Flat.the-variants as run
 use Rattle.b3d_walk.proofs.Counting.{tag-same, counted-nodes, counted-keys}
 use Rattle.b3d_walk.proofs.Table.{TableLeft, Any, plain-other, table-start, table-chunk, table-other, table-room, table-own}
+use Rattle.b3d_item_rows.proofs.Groups.{group-few}
 use Rattle.b3d_fill_moves.proofs.Tables.{bones, lists}
-use Rattle.b3d_fill_moves.proofs.ListRow.{keys-few}
 
 -- what is known of the counts at a place of the file
 pub record Moves (at base nodes keys : ℕ) (n : Counts) : Type 0 where
@@ -37,7 +38,7 @@ pub record Moves (at base nodes keys : ℕ) (n : Counts) : Type 0 where
   pub few-words : base ≤ 4 * at
 
 module _ (s out₀ : List ℕ) where
-  pub lists-start : 12 ≤ length s → length (words (fileRows 9 s)) ≤ length out₀ → TableLeft 9 (Moves 12 0 0 0) s out₀ out₀ 12 0
+  pub lists-start : 12 ≤ length s → length (joined (fileRows 9 s)) ≤ length out₀ → TableLeft 9 (Moves 12 0 0 0) s out₀ out₀ 12 0
   unfolding start
   lists-start h r = table-start lists s out₀ (Moves 12 0 0 0) (record { nodes-are = refl; keys-are = refl; few-nodes = omega arith; few-keys = omega arith; few-words = omega arith }) h r
 
@@ -51,7 +52,7 @@ module _ (s out₀ : List ℕ) where
         not-node = subst (λ (y : Tag). T (not (is y NODE))) (sym (tag-same t KEYS is-keys)) tt
 
         pub lists-room : base + 4 ≤ length out
-        unfolding words listRow
+        unfolding joined listRow
         lists-room = table-room lists s out₀ (Moves at base nodes keys) out at base v r x t p b q w ok eo z
 
         module _ (n : ℕ) (en : n ≡ length (plainKeys (left b s) .items)) where
@@ -59,7 +60,7 @@ module _ (s out₀ : List ℕ) where
           fits-keys =
               let f = table-chunk lists s out₀ (Moves at base nodes keys) out at base v r x t p b q w in
               let k : b .end ≤ q = f .past not-node in
-              omega (arith, keys-few (left b s), left-most s b, f .from, f .body .head, f .body .room, v .known .few-keys)
+              omega (arith, group-few true (left b s), left-most s b, f .from, f .body .head, f .body .room, v .known .few-keys)
 
           pub lists-sum : length s < 0x100000000 → Fits w64 (keys + n)
           lists-sum small =
@@ -68,7 +69,7 @@ module _ (s out₀ : List ℕ) where
 
           pub lists-keys : (node : ℕ) → node ≡ nodes - 1 → (put : List ℕ) → put ≡ sets out base (listRow node keys (plainKeys (left b s)))
               → TableLeft 9 (Moves q (base + 4) nodes (keys + n)) s out₀ put q (base + 4)
-          unfolding words listRow
+          unfolding joined listRow
           lists-keys node ei put ep =
               let f = table-chunk lists s out₀ (Moves at base nodes keys) out at base v r x t p b q w in
               let m = v .counts in

@@ -12,8 +12,7 @@ use Rattle.layout.specs.Out.{Out, got, bad}
 use Rattle.layout.specs.Parts.{Name, Step, wordsOf, named as namedOf}
 use Rattle.layout.specs.Rules.{any, NONE}
 use Rattle.layout.proofs.StepLaws.{length-words-of}
-use Rattle.layout.specs.Rows.{nameCells}
-use Rattle.b3d_scene.specs.Tables.{words}
+use Rattle.layout.specs.Rows.{nameCells, joined}
 use Rattle.b3d_chunks.specs.Chunks.{namedAt, NamedIn}
 use Rattle.b3d_chunks.specs.declared.Named.{Named}
 use Rattle.b3d_chunks.specs.declared.Named.the-variants as named
@@ -25,7 +24,7 @@ use Rattle.b3d_fill_texts.specs.Texts.{namedRow}
 
 -- the words of the rows from a cursor on
 abbrev pub textsFrom : List ℕ → ℕ → ℕ → Cursor → List ℕ
-textsFrom s n rest c = words (map (namedRow rest) (namedItems n (c .at) (left c s)))
+textsFrom s n rest c = joined (map (namedRow rest) (namedItems n (c .at) (left c s)))
 
 -- of the rows from `from` on what is left stands from c on
 pub record TextsLeft (s : List ℕ) (n rest : ℕ) (out₀ : List ℕ) (from : Cursor) (out : List ℕ) (c : Cursor) (base : ℕ) : Type 0 where
@@ -48,10 +47,10 @@ module _ (s : List ℕ) (n rest : ℕ) (out₀ : List ℕ) (from : Cursor) where
 
     module _ (r : Named) (e : r ≡ namedAt s c n) where
       pub texts-cut : r ≡ named.Cut → out ≡ sets out₀ 0 (textsFrom s n rest from)
-      unfolding nextItem words
+      unfolding nextItem joined
       texts-cut q =
           let z = items-from n (c .at) (left c s) ∙ ap (nextItem (namedItems n)) (named-cut s c n (v .inside) (replicate n any) (length-replicate n any) r e q) in
-          put-done (v .puts) (ap (λ (l : List (Name × List ℕ)). words (map (namedRow rest) l)) z)
+          put-done (v .puts) (ap (λ (l : List (Name × List ℕ)). joined (map (namedRow rest) l)) z)
 
       module _ (b : NamedIn c n r) (len : ℕ) (w m : Cursor) (q : r ≡ named.Is len w m) where
         abbrev cells : List ℕ
@@ -61,12 +60,12 @@ module _ (s : List ℕ) (n rest : ℕ) (out₀ : List ℕ) (from : Cursor) where
         text-size small = let f = named-among c n r b len w m q in omega (arith, v .inside .within, f .row, f .after, f .to, f .same)
 
         one : textsFrom s n rest c ≡ cells ++ textsFrom s n rest m
-        unfolding nextItem words namedRow nameCells
+        unfolding nextItem joined namedRow nameCells
         one =
             let f = named-among c n r b len w m q in
             let l : length (take len (left c s)) ≡ len = length-take-le len (left c s) (omega (arith, left-length s c (v .inside), f .row, f .after, f .to, f .same)) in
             let z = items-from n (c .at) (left c s) ∙ ap (nextItem (namedItems n)) (named-any s c n (v .inside) r e len w m q) in
-            ap (λ (y : List (Name × List ℕ)). words (map (namedRow rest) y)) z
+            ap (λ (y : List (Name × List ℕ)). joined (map (namedRow rest) y)) z
             ∙ ap (λ (k : ℕ). (c .at ∷ k ∷ (wordsOf n (left w s) ++ replicate rest NONE)) ++ textsFrom s n rest m) l
 
         cells-long : length cells ≡ 2 + n + rest

@@ -1,11 +1,11 @@
 -- Tables 1 and 2 are rows of texts: the first TEXS and the first BRUS of a file.
 use mathlib.Core.Path.{_≡_, refl, ap, ap₂, sym, _∙_}
-use Prim.Native.Nat.{ℕ, zero, suc, _+_, _-_, _<_, _≤_}
+use Prim.Native.Nat.{ℕ, zero, suc, _+_, _-_, _*_, _<_, _≤_}
 use native.Mathlib.Omega.{arith}
 use mathlib.Core.List.{List, [], _∷_, _++_, map, append-nil, append-assoc}
 use lib.ListN.{length, take, drop, getD, replicate, length-drop, length-replicate, take-append-drop, drop-of-length-le}
 use lib.Seq.{sets}
-use lib.Dec.{T, leb}
+use lib.Dec.{T, leb, leb→le, nleb→lt}
 use borrow.Author.Tests.{le-leb, lt-leb}
 use mathlib.Core.Bool.{Bool, not}
 use Rattle.wire.specs.Test.{if}
@@ -17,36 +17,33 @@ use Rattle.layout.specs.Out.{Out, got, bad}
 use Rattle.layout.specs.Parts.{Name, Step, text, words as wordsIn, wordsOf, named}
 use Rattle.layout.specs.Rules.{any, NONE}
 use Rattle.layout.proofs.ChunkLaws.{split-none}
-use Rattle.layout.proofs.Outs.{by-got, bad-got, got-inj, if-yes, if-no}
-use Rattle.layout.proofs.StepLaws.{judged-got}
-use Rattle.layout.specs.Rows.{nameCells}
+use Rattle.layout.proofs.Outs.{by-got, bad-got, got-inj, by-test, if-yes, if-no}
+use Rattle.layout.proofs.StepLaws.{judged-got, words-enough, words-short, length-words-of}
+use Rattle.layout.specs.Rows.{nameCells, joined}
 use Rattle.b3d_scene.specs.declared.Tag.{Tag}
 use Rattle.b3d_scene.specs.declared.Tag.the-variants.{TEXS, BRUS}
-use Rattle.b3d_scene.specs.Tables.{words, textureRow, brushRow}
+use Rattle.b3d_scene.specs.Tables.{textureRow, brushRow}
 use Rattle.b3d_scene.specs.Tags.{Chunks, split, tagOf, is}
+use Rattle.b3d_scene.specs.Parse.{textureOf, brushOf}
 use Rattle.b3d_scene.proofs.Files.TagCodes.{by-tag}
 use Rattle.b3d_file_rows.specs.Flat.{rest}
-use Rattle.b3d_file_rows.specs.Plain.{nextItem, namedIn, namedItems, textureOf, brushOf}
+use Rattle.b3d_file_rows.specs.Plain.{nextItem, namedIn, namedItems}
 use Rattle.b3d_file_rows.specs.Rows.{firstOf, textureRows, brushesOf, brushRows, fileRows}
-use Rattle.b3d_walk.specs.Seeks.{ahead, seekOf, Seeks, FirstWord}
+use Rattle.b3d_walk.specs.Seeks.{seekOf, soughtOf, Seeks, FirstWord}
 use Rattle.b3d_walk.specs.declared.Headed.{Headed}
 use Rattle.b3d_walk.specs.declared.Sought.{Sought}
 use Rattle.b3d_walk.specs.declared.Sought.the-variants as sought
-use Rattle.b3d_walk.proofs.Seeking.{by-seek, sought-none, sought-is, sought-among, sought-body}
+use Rattle.b3d_walk.proofs.Seeking.{by-seek, sought-among, sought-body}
 use Rattle.b3d_walk.proofs.Stepping.{from-left}
-use Rattle.b3d_fill_texts.specs.Texts.{namedRow}
+use Rattle.b3d_fill_texts.specs.Texts.{namedRow, FirstIs}
 
 -- ---- rows of textures and brushes as rows of texts
 
 words-long : (start n p : ℕ) (s : List ℕ) (x : Step (List ℕ)) → wordsIn start n p s ≡ got x → length (x .value) ≡ n
-unfolding wordsIn
-words-long start zero p s x e = ap (λ (v : Step (List ℕ)). length (v .value)) (sym (got-inj e))
-words-long start (suc n) p [] x e = bad-got e
-words-long start (suc n) p (a ∷ []) x e = bad-got e
-words-long start (suc n) p (a ∷ b ∷ []) x e = bad-got e
-words-long start (suc n) p (a ∷ b ∷ c ∷ []) x e = bad-got e
-words-long start (suc n) p (a ∷ b ∷ c ∷ d ∷ s) x e =
-    by-got (wordsIn start n (p + 4) s) _ e (λ y ey e₁. ap (λ (v : Step (List ℕ)). length (v .value)) (sym (got-inj e₁)) ∙ ap suc (words-long start n (p + 4) s y ey))
+words-long start n p s x e =
+    by-test (leb (4 * n) (length s))
+    (λ t. let h = leb→le (4 * n) (length s) t in ap (λ (y : Step (List ℕ)). length (y .value)) (got-inj (sym e ∙ words-enough start n p s h)) ∙ length-words-of n s h)
+    (λ t. bad-got (sym (words-short start n p s (nleb→lt (4 * n) (length s) t)) ∙ e))
 
 named-long : (n p : ℕ) (s : List ℕ) (x : Step (Name × List ℕ)) → named (replicate n any) p s ≡ got x → length (x .value .1) ≡ n
 unfolding named
@@ -102,43 +99,54 @@ no-brushes k p s h = rw (lt-leb k 8 h)
 
 -- ---- the first chunk of a tag
 
-same-tag : (t : Tag) → T (is t t)
-same-tag = by-tag (λ t. T (is t t)) (tt, tt, tt, tt, tt, tt, tt, tt, tt, tt)
+is-itself : (t : Tag) → T (is t t)
+is-itself = by-tag (λ t. T (is t t)) (tt, tt, tt, tt, tt, tt, tt, tt, tt, tt)
 
 first-seek : (k : Tag) (one : ℕ → List ℕ → List (List ℕ)) (cs : Chunks) → firstOf k one cs ≡ firstOf k one (seekOf k cs)
 unfolding firstOf
 first-seek k one cs =
     by-seek k (firstOf k one) (λ n p. refl)
-    (λ t p b r y. if-yes (is t k) (one p b) (firstOf k one r) y ∙ sym (if-yes (is k k) (one p b) (firstOf k one r) (same-tag k)))
+    (λ t p b r y. if-yes (is t k) (one p b) (firstOf k one r) y ∙ sym (if-yes (is k k) (one p b) (firstOf k one r) (is-itself k)))
     (λ t p b r y. if-no (is t k) (one p b) (firstOf k one r) y)
     cs
-
-module _ (s : List ℕ) (k : Tag) (one : ℕ → List ℕ → List (List ℕ)) where
-  pub small-file : length s < 12 → firstOf k one (rest s 12) ≡ []
-  unfolding rest firstOf
-  small-file h = ap (firstOf k one) (ap (split 12) (drop-of-length-le s {i = 12} (omega arith)) ∙ split-none tagOf 12)
-
-  module _ (r : Sought) (x : Seeks s (span 12 (length s)) k r) where
-    from-here : firstOf k one (rest s 12) ≡ firstOf k one (seekOf k (ahead s (span 12 (length s))))
-    unfolding rest
-    from-here = ap (λ (l : List ℕ). firstOf k one (split 12 l)) (sym (from-left s 12)) ∙ first-seek k one (ahead s (span 12 (length s)))
-
-    pub first-none : r ≡ sought.Nothing → firstOf k one (rest s 12) ≡ []
-    unfolding firstOf
-    first-none w = from-here ∙ ap (firstOf k one) (sought-none s (span 12 (length s)) k r x w)
-
-    pub first-is : (p : ℕ) (b n : Cursor) → r ≡ sought.Found p b n → T (is k k) → firstOf k one (rest s 12) ≡ one p (left b s)
-    unfolding firstOf
-    first-is p b n w y = from-here ∙ ap (firstOf k one) (sought-is s (span 12 (length s)) k r x p b n w) ∙ if-yes (is k k) _ _ y
-
--- ---- the tables
 
 pub file-inside : (s : List ℕ) → 12 ≤ length s → Inside (span 12 (length s)) (length s)
 file-inside s h = record { before = h; within = omega arith }
 
-none-put : (l : List (List ℕ)) → l ≡ [] → (out : List ℕ) → out ≡ sets out 0 (words l)
-unfolding words
-none-put l e out = sym (ap (λ y. sets out 0 (words y)) e)
+module _ (s : List ℕ) (k : Tag) where
+  pub first-small : length s < 12 → FirstIs s k sought.Nothing
+  unfolding rest seekOf
+  first-small h = record { says = ap (seekOf k) (ap (split 12) (drop-of-length-le s {i = 12} (omega arith)) ∙ split-none tagOf 12); body = λ p b n w. let z : _≡_ {A = ℕ} 0 1 = cc in absurd (omega arith) }
+
+  pub first-sought : 12 ≤ length s → (r : Sought) → Seeks s (span 12 (length s)) k r → FirstIs s k r
+  unfolding rest
+  first-sought le r x = record {
+    says = ap (λ (l : List ℕ). seekOf k (split 12 l)) (sym (from-left s 12)) ∙ x .says;
+    body = λ p b n w.
+        let f = sought-among s (span 12 (length s)) k r x p b n w in
+        let i = sought-body s (span 12 (length s)) k r x p b n w (length s) (file-inside s le) in
+        record { head = f .body; room = i .before; within = i .within };
+  }
+
+pub ruleset chunk-laws = (file-inside, first-small, first-sought)
+
+module _ (s : List ℕ) (k : Tag) (one : ℕ → List ℕ → List (List ℕ)) (r : Sought) (x : FirstIs s k r) where
+  found : (y : Sought) → r ≡ y → firstOf k one (rest s 12) ≡ firstOf k one (soughtOf s k y)
+  found y w = first-seek k one (rest s 12) ∙ ap (firstOf k one) (x .says ∙ ap (soughtOf s k) w)
+
+  first-none : r ≡ sought.Nothing → firstOf k one (rest s 12) ≡ []
+  unfolding firstOf
+  first-none w = found sought.Nothing w
+
+  first-is : (p : ℕ) (b n : Cursor) → r ≡ sought.Found p b n → firstOf k one (rest s 12) ≡ one p (left b s)
+  unfolding firstOf
+  first-is p b n w = found (sought.Found p b n) w ∙ if-yes (is k k) _ _ (is-itself k)
+
+-- ---- the tables
+
+none-put : (l : List (List ℕ)) → l ≡ [] → (out : List ℕ) → out ≡ sets out 0 (joined l)
+unfolding joined
+none-put l e out = sym (ap (λ y. sets out 0 (joined y)) e)
 
 module _ (s out : List ℕ) where
   file-one : fileRows 1 s ≡ firstOf TEXS textureRows (rest s 12)
@@ -149,39 +157,33 @@ module _ (s out : List ℕ) where
   unfolding fileRows if
   file-two = refl
 
-  pub textures-small : length s < 12 → out ≡ sets out 0 (words (fileRows 1 s))
-  textures-small h = none-put (fileRows 1 s) (file-one ∙ small-file s TEXS textureRows h) out
-
-  pub brushes-small : length s < 12 → out ≡ sets out 0 (words (fileRows 2 s))
-  brushes-small h = none-put (fileRows 2 s) (file-two ∙ small-file s BRUS brushRows h) out
-
-  module _ (le : 12 ≤ length s) (r : Sought) where
-    module _ (x : Seeks s (span 12 (length s)) TEXS r) where
-      pub textures-none : r ≡ sought.Nothing → out ≡ sets out 0 (words (fileRows 1 s))
+  module _ (r : Sought) where
+    module _ (x : FirstIs s TEXS r) where
+      pub textures-none : r ≡ sought.Nothing → out ≡ sets out 0 (joined (fileRows 1 s))
       textures-none w = none-put (fileRows 1 s) (file-one ∙ first-none s TEXS textureRows r x w) out
 
       module _ (p : ℕ) (b n : Cursor) (w : r ≡ sought.Found p b n) where
         pub textures-body : Inside b (length s)
-        textures-body = sought-body s (span 12 (length s)) TEXS r x p b n w (length s) (file-inside s le)
+        textures-body = let y = x .body p b n w in record { before = y .room; within = y .within }
 
         rows-are : fileRows 1 s ≡ map (namedRow 0) (namedItems 7 (b .at) (left b s))
         rows-are =
-            let f = sought-among s (span 12 (length s)) TEXS r x p b n w in
-            file-one ∙ first-is s TEXS textureRows r x p b n w tt ∙ textures-are p (left b s) ∙ ap (λ (k : ℕ). map (namedRow 0) (namedItems 7 k (left b s))) (sym (f .body))
+            let y = x .body p b n w in
+            file-one ∙ first-is s TEXS textureRows r x p b n w ∙ textures-are p (left b s) ∙ ap (λ (k : ℕ). map (namedRow 0) (namedItems 7 k (left b s))) (sym (y .head))
 
-        pub textures-room : length (words (fileRows 1 s)) ≤ length out → length (words (map (namedRow 0) (namedItems 7 (b .at) (left b s)))) ≤ length out
+        pub textures-room : length (joined (fileRows 1 s)) ≤ length out → length (joined (map (namedRow 0) (namedItems 7 (b .at) (left b s)))) ≤ length out
         textures-room h = rw (← rows-are) h
 
-        pub textures-put : (put : List ℕ) → put ≡ sets out 0 (words (map (namedRow 0) (namedItems 7 (b .at) (left b s)))) → put ≡ sets out 0 (words (fileRows 1 s))
+        pub textures-put : (put : List ℕ) → put ≡ sets out 0 (joined (map (namedRow 0) (namedItems 7 (b .at) (left b s)))) → put ≡ sets out 0 (joined (fileRows 1 s))
         textures-put put e = rw rows-are e
 
-    module _ (x : Seeks s (span 12 (length s)) BRUS r) where
-      pub brushes-none : r ≡ sought.Nothing → out ≡ sets out 0 (words (fileRows 2 s))
+    module _ (x : FirstIs s BRUS r) where
+      pub brushes-none : r ≡ sought.Nothing → out ≡ sets out 0 (joined (fileRows 2 s))
       brushes-none w = none-put (fileRows 2 s) (file-two ∙ first-none s BRUS brushRows r x w) out
 
       module _ (p : ℕ) (b n : Cursor) (w : r ≡ sought.Found p b n) where
         pub brushes-body : Inside b (length s)
-        brushes-body = sought-body s (span 12 (length s)) BRUS r x p b n w (length s) (file-inside s le)
+        brushes-body = let y = x .body p b n w in record { before = y .room; within = y .within }
 
         module _ (h : Headed) (f : FirstWord s b h) where
           pub brushes-rest : Inside (h .rest) (length s)
@@ -189,16 +191,16 @@ module _ (s out : List ℕ) where
 
           head-is : fileRows 2 s ≡ brushesOf (h .word) (p + 12) (drop 4 (left b s))
           unfolding brushRows
-          head-is = file-two ∙ first-is s BRUS brushRows r x p b n w tt ∙ ap (λ (k : ℕ). brushesOf k (p + 12) (drop 4 (left b s))) (sym (f .number))
+          head-is = file-two ∙ first-is s BRUS brushRows r x p b n w ∙ ap (λ (k : ℕ). brushesOf k (p + 12) (drop 4 (left b s))) (sym (f .number))
 
-          pub brushes-over : 8 < h .word → out ≡ sets out 0 (words (fileRows 2 s))
+          pub brushes-over : 8 < h .word → out ≡ sets out 0 (joined (fileRows 2 s))
           brushes-over k = none-put (fileRows 2 s) (head-is ∙ no-brushes (h .word) (p + 12) (drop 4 (left b s)) k) out
 
           module _ (k : h .word ≤ 8) (ids : ℕ) (ei : ids ≡ h .word) where
             texts-are : fileRows 2 s ≡ map (namedRow (8 - ids)) (namedItems (7 + ids) (h .rest .at) (left (h .rest) s))
             texts-are =
-                let a = sought-among s (span 12 (length s)) BRUS r x p b n w in
-                let q : b .at + 4 ≡ p + 12 = omega (arith, a .body) in
+                let y = x .body p b n w in
+                let q : b .at + 4 ≡ p + 12 = omega (arith, y .head) in
                 head-is ∙ ap (λ (i : ℕ). brushesOf i (p + 12) (drop 4 (left b s))) (sym ei) ∙ brushes-are ids (p + 12) (drop 4 (left b s)) (omega (arith, ei))
                 ∙ ap (λ (i : ℕ). map (namedRow (8 - ids)) (namedItems (7 + ids) i (drop 4 (left b s)))) (sym q) ∙ ap (map (namedRow (8 - ids))) (sym (f .items (7 + ids)))
 
@@ -208,12 +210,12 @@ module _ (s out : List ℕ) where
             pub brushes-few : ids ≤ 8
             brushes-few = omega (arith, ei)
 
-            pub brushes-room : length (words (fileRows 2 s)) ≤ length out → length (words (map (namedRow (8 - ids)) (namedItems (7 + ids) (h .rest .at) (left (h .rest) s)))) ≤ length out
+            pub brushes-room : length (joined (fileRows 2 s)) ≤ length out → length (joined (map (namedRow (8 - ids)) (namedItems (7 + ids) (h .rest .at) (left (h .rest) s)))) ≤ length out
             brushes-room m = rw (← texts-are) m
 
-            pub brushes-put : (put : List ℕ) → put ≡ sets out 0 (words (map (namedRow (8 - ids)) (namedItems (7 + ids) (h .rest .at) (left (h .rest) s)))) → put ≡ sets out 0 (words (fileRows 2 s))
+            pub brushes-put : (put : List ℕ) → put ≡ sets out 0 (joined (map (namedRow (8 - ids)) (namedItems (7 + ids) (h .rest .at) (left (h .rest) s)))) → put ≡ sets out 0 (joined (fileRows 2 s))
             brushes-put put e = rw texts-are e
 
-pub ruleset textures-laws = (file-inside, textures-small, textures-none, textures-body, textures-room, textures-put)
+pub ruleset textures-laws = (textures-none, textures-body, textures-room, textures-put)
 
-pub ruleset brushes-laws = (file-inside, brushes-small, brushes-none, brushes-body, brushes-rest, brushes-over, brushes-ids, brushes-few, brushes-room, brushes-put)
+pub ruleset brushes-laws = (brushes-none, brushes-body, brushes-rest, brushes-over, brushes-ids, brushes-few, brushes-room, brushes-put)

@@ -1,11 +1,24 @@
--- The row that a text with its words makes.
+-- The row that a text with its words makes, and the first chunk of a tag in a file.
+use mathlib.Core.Path.{_≡_}
 use Prim.Native.Nat.{ℕ}
 use mathlib.Core.List.{List, _++_}
 use lib.ListN.{replicate}
 use Rattle.layout.specs.Parts.{Name}
 use Rattle.layout.specs.Rules.{NONE}
 use Rattle.layout.specs.Rows.{nameCells}
+use Rattle.wire.specs.declared.Cursor.{Cursor}
+use Rattle.b3d_scene.specs.declared.Tag.{Tag}
+use Rattle.b3d_file_rows.specs.Flat.{rest}
+use Rattle.b3d_walk.specs.Seeks.{seekOf, soughtOf}
+use Rattle.b3d_walk.specs.Walks.{BodyAt}
+use Rattle.b3d_walk.specs.declared.Sought.{Sought}
+use Rattle.b3d_walk.specs.declared.Sought.the-variants as sought
 
 -- the cells of the name, the words, and so many cells that name nothing
 unfoldable pub namedRow : ℕ → Name × List ℕ → List ℕ
 namedRow rest x = nameCells (x .0) ++ (x .1 ++ replicate rest NONE)
+
+-- r is the first chunk of tag k behind the head of the file
+pub record FirstIs (s : List ℕ) (k : Tag) (r : Sought) : Type 0 where
+  pub says : seekOf k (rest s 12) ≡ soughtOf s k r
+  pub body : (p : ℕ) (b n : Cursor) → r ≡ sought.Found p b n → BodyAt s p b

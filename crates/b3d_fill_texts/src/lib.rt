@@ -7,10 +7,10 @@ ghost use lib.Seq.{sets as stored};
 ghost use Rattle.wire.specs.Cursors.{Inside, left};
 ghost use Rattle.layout.specs.Parts.{wordsOf};
 ghost use Rattle.layout.specs.Rules.{NONE};
-ghost use Rattle.b3d_scene.specs.Tables.{words};
+ghost use Rattle.layout.specs.Rows.{joined};
 ghost use Rattle.b3d_file_rows.specs.Plain.{namedItems};
 ghost use Rattle.b3d_file_rows.specs.Rows.{fileRows};
-ghost use Rattle.b3d_fill_texts.specs.Texts.{namedRow};
+ghost use Rattle.b3d_fill_texts.specs.Texts.{namedRow, FirstIs};
 use b3d_chunks::Named;
 use b3d_scene::Tag;
 use b3d_walk::Sought;
@@ -44,8 +44,8 @@ fn put_row(
 // A row for each text with so many words, up to the first that is not all there.
 fn fill_named(file: &[u8], from: Cursor, n: usize, rest: usize, out: &mut [u32])
     requires { ⌜ Inside from (length (now file)) × (length (now file) < 0x100000000) × (n ≤ 64) ⌝ }
-    requires { ⌜ length (words (map (namedRow rest) (namedItems n (from .at) (left from (now file))))) ≤ length (now out) ⌝ }
-    ensures { λ _. ⌜ now (out .exit) ≡ stored (now (out .entry)) 0 (words (map (namedRow rest) (namedItems n (from .at) (left from (now (file .entry)))))) ⌝ }
+    requires { ⌜ length (joined (map (namedRow rest) (namedItems n (from .at) (left from (now file))))) ≤ length (now out) ⌝ }
+    ensures { λ _. ⌜ now (out .exit) ≡ stored (now (out .entry)) 0 (joined (map (namedRow rest) (namedItems n (from .at) (left from (now (file .entry)))))) ⌝ }
 {
     let mut c = from;
     let mut base: usize = 0;
@@ -62,41 +62,40 @@ fn fill_named(file: &[u8], from: Cursor, n: usize, rest: usize, out: &mut [u32])
     }
 }
 
-// Table 1 of a file.
-pub fn fill_textures(file: &[u8], out: &mut [u32])
-    requires { ⌜ (length (now file) < 0x100000000) × (length (words (fileRows 1 (now file))) ≤ length (now out)) ⌝ }
-    ensures { λ _. ⌜ now (out .exit) ≡ stored (now (out .entry)) 0 (words (fileRows 1 (now (file .entry)))) ⌝ }
+// The first chunk of a tag behind the head of a file.
+fn first_chunk(file: &[u8], tag: Tag) -> Sought
+    ensures { λ r. ⌜ FirstIs (now (file .entry)) tag r ⌝ }
 {
     let end = file.len();
     if end < 12 {
+        return Sought::Nothing;
+    }
+    b3d_walk::seek(file, Cursor { at: 12, end }, tag)
+}
+
+// Table 1 of a file.
+pub fn fill_textures(file: &[u8], out: &mut [u32])
+    requires { ⌜ (length (now file) < 0x100000000) × (length (joined (fileRows 1 (now file))) ≤ length (now out)) ⌝ }
+    ensures { λ _. ⌜ now (out .exit) ≡ stored (now (out .entry)) 0 (joined (fileRows 1 (now (file .entry)))) ⌝ }
+{
+    let Sought::Found { body, .. } = first_chunk(file, Tag::TEXS) else {
         return;
-    }
-    match b3d_walk::seek(file, Cursor { at: 12, end }, Tag::TEXS) {
-        Sought::Nothing => {}
-        Sought::Found { body, .. } => {
-            fill_named(file, body, 7, 0, out);
-        }
-    }
+    };
+    fill_named(file, body, 7, 0, out);
 }
 
 // Table 2 of a file. A row has room for eight ids.
 pub fn fill_brushes(file: &[u8], out: &mut [u32])
-    requires { ⌜ (length (now file) < 0x100000000) × (length (words (fileRows 2 (now file))) ≤ length (now out)) ⌝ }
-    ensures { λ _. ⌜ now (out .exit) ≡ stored (now (out .entry)) 0 (words (fileRows 2 (now (file .entry)))) ⌝ }
+    requires { ⌜ (length (now file) < 0x100000000) × (length (joined (fileRows 2 (now file))) ≤ length (now out)) ⌝ }
+    ensures { λ _. ⌜ now (out .exit) ≡ stored (now (out .entry)) 0 (joined (fileRows 2 (now (file .entry)))) ⌝ }
 {
-    let end = file.len();
-    if end < 12 {
+    let Sought::Found { body, .. } = first_chunk(file, Tag::BRUS) else {
+        return;
+    };
+    let head = b3d_walk::first_word(file, body);
+    if 8 < head.word {
         return;
     }
-    match b3d_walk::seek(file, Cursor { at: 12, end }, Tag::BRUS) {
-        Sought::Nothing => {}
-        Sought::Found { body, .. } => {
-            let head = b3d_walk::first_word(file, body);
-            if 8 < head.word {
-                return;
-            }
-            let ids = wire::size(head.word);
-            fill_named(file, head.rest, 7 + ids, 8 - ids, out);
-        }
-    }
+    let ids = wire::size(head.word);
+    fill_named(file, head.rest, 7 + ids, 8 - ids, out);
 }

@@ -1,6 +1,6 @@
 -- Table 3 has a row of each NODE: the loop of `fill_nodes`.
 use mathlib.Core.Path.{_≡_, refl, ap, ap₂, sym, subst, _∙_}
-use Prim.Native.Nat.{ℕ, zero, suc, _+_, _-_, _*_, _/_, _<_, _≤_, _^_}
+use Prim.Native.Nat.{ℕ, suc, _+_, _-_, _*_, _/_, _<_, _≤_}
 use native.Mathlib.Nat.{div-le-self}
 use native.Mathlib.Omega.{arith}
 use mathlib.Core.Bool.{Bool, true, false, not}
@@ -8,48 +8,42 @@ use mathlib.Core.List.{List, [], _∷_, _++_}
 use mir.Syntax.{w64}
 use mir.Val.{Fits}
 use lib.ListN.{length, getD, set, length-set, length-append, drop-of-length-le}
-use lib.Seq.{sets, length-sets, getD-set-same, getD-set-other}
+use lib.Seq.{sets, getD-set-same}
 use lib.Dec.{T}
 use Rattle.wire.specs.Test.{if}
-use Rattle.wire.specs.Bytes.{wordAt}
-use Rattle.wire.specs.Cursors.{Inside, left}
+use Rattle.wire.specs.Cursors.{left}
 use Rattle.wire.specs.declared.Cursor.{Cursor}
 use Rattle.wire.proofs.Left.{left-length}
-use Rattle.layout.specs.Chunks.{chunk}
 use Rattle.layout.specs.Out.{Out, got, bad}
 use Rattle.layout.specs.Parts.{Name, Step, named}
-use Rattle.layout.specs.Rules.{NONE}
 use Rattle.layout.proofs.ChunkLaws.{split-none}
 use Rattle.layout.proofs.Outs.{if-yes, if-no}
-use Rattle.layout.specs.Rows.{nameCells}
+use Rattle.layout.proofs.ListLaws.{sets-below}
+use Rattle.layout.specs.Rows.{nameCells, joined}
 use Rattle.b3d_scene.specs.declared.Counts.{Counts}
 use Rattle.b3d_scene.specs.declared.Tag.{Tag}
 use Rattle.b3d_scene.specs.declared.Tag.the-variants.{NODE, MESH, BONE}
 use Rattle.b3d_scene.specs.Rules.{nodeRow as nodeWords}
 use Rattle.b3d_scene.specs.Scene.{Kind, pivot, mesh, bone}
-use Rattle.b3d_scene.specs.Tables.{start, words, kindCells, animCells, nodeRow, nodeWidth}
+use Rattle.b3d_scene.specs.Tables.{start, kindCells, animCells, nodeRow, nodeWidth}
 use Rattle.b3d_scene.specs.Tags.{Chunks, is, split, tagOf}
 use Rattle.cells.proofs.Storing.{Storing, store-run, store-done}
 use Rattle.b3d_file_rows.specs.Flat.{rest, flatAt, flat}
-use Rattle.b3d_file_rows.specs.Plain.{plainWeights}
 use Rattle.b3d_file_rows.specs.Rows.{Open, parentAt, counted, opened, kindOf, animOf, nodesBefore, rowOf, nodeRows, fileRows}
 use Rattle.b3d_file_rows.proofs.Run.{run-done}
 use Rattle.b3d_walk.specs.Walks.{BodyAt, NodeRead, ChunkIs, Ends, FlatIs, Steps}
 use Rattle.b3d_walk.specs.declared.Flat.{Flat}
 use Rattle.b3d_walk.specs.declared.Flat.the-variants as run
 use Rattle.b3d_walk.proofs.Counting.{tag-same, counted-nodes, counted-meshes, counted-weights}
-use Rattle.b3d_fill_tree.specs.Own.{told}
+use Rattle.b3d_node_parts.specs.Parts.{told}
 use Rattle.b3d_fill_tree.specs.Links.{Link, Linked, Climbable, ParentIs}
-use Rattle.b3d_fill_tree.proofs.Cells.{bone-count, kind-long, anim-long}
+use Rattle.b3d_node_parts.proofs.Own.{bone-count}
+use Rattle.b3d_node_parts.proofs.Cells.{kind-long, anim-long}
 
 -- ---- cells that stand
 
-below : (vs l : List ℕ) (i j : ℕ) → j < i → getD (sets l i vs) j 0 ≡ getD l j 0
-below [] l i j h = refl
-below (v ∷ vs) l i j h = below vs (set l i v) (suc i) j (omega arith) ∙ getD-set-other l i j v 0 (λ e. absurd (omega (arith, e)))
-
 first-cell : (a : ℕ) (vs l : List ℕ) (i : ℕ) → i < length l → getD (sets l i (a ∷ vs)) i 0 ≡ a
-first-cell a vs l i h = below vs (set l i a) (suc i) i (omega arith) ∙ getD-set-same l i a 0 h
+first-cell a vs l i h = sets-below vs (set l i a) (suc i) i (omega arith) ∙ getD-set-same l i a 0 h
 
 third-cell : (a b c : ℕ) (vs l : List ℕ) (i : ℕ) → i + 2 < length l → getD (sets l i (a ∷ b ∷ c ∷ vs)) (i + 2) 0 ≡ c
 third-cell a b c vs l i h =
@@ -111,7 +105,7 @@ row-of s p b x cs parent end n =
 -- ---- the loop
 
 abbrev nodesFrom : List ℕ → List Open → Counts → ℕ → List ℕ
-nodesFrom s l n at = words (nodeRows l n (flatAt s at))
+nodesFrom s l n at = joined (nodeRows l n (flatAt s at))
 
 -- the rows of so many nodes stand in the table; what is left stands from `at` on, and has room
 pub record TreeLeft (s out₀ out : List ℕ) (at nodes meshes weights : ℕ) : Type 0 where
@@ -127,14 +121,14 @@ pub record TreeLeft (s out₀ out : List ℕ) (at nodes meshes weights : ℕ) : 
   pub few-weights : weights ≤ at
   pub inside : at ≤ length s
   pub room : nodeWidth * nodes + length (nodesFrom s opens counts at) ≤ length out₀
-  pub stores : Storing out₀ 0 (words (fileRows 3 s)) out (nodeWidth * nodes) (nodesFrom s opens counts at)
+  pub stores : Storing out₀ 0 (joined (fileRows 3 s)) out (nodeWidth * nodes) (nodesFrom s opens counts at)
 
 module _ (s out₀ : List ℕ) where
   file-is : fileRows 3 s ≡ nodeRows [] start (flatAt s 12)
   unfolding fileRows flat if
   file-is = refl
 
-  pub tree-start : 12 ≤ length s → length (words (fileRows 3 s)) ≤ length out₀ → TreeLeft s out₀ out₀ 12 0 0 0
+  pub tree-start : 12 ≤ length s → length (joined (fileRows 3 s)) ≤ length out₀ → TreeLeft s out₀ out₀ 12 0 0 0
   unfolding start
   tree-start h r = record {
     opens = [];
@@ -148,16 +142,16 @@ module _ (s out₀ : List ℕ) where
     few-meshes = omega arith;
     few-weights = omega arith;
     inside = h;
-    room = omega (arith, ap (λ l. length (words l)) file-is);
-    stores = record { long = refl; same = ap (λ l. sets out₀ 0 (words l)) (sym file-is) };
+    room = omega (arith, ap (λ l. length (joined l)) file-is);
+    stores = record { long = refl; same = ap (λ l. sets out₀ 0 (joined l)) (sym file-is) };
   }
 
   -- a file without a version
-  pub tree-small : length s < 12 → out₀ ≡ sets out₀ 0 (words (fileRows 3 s))
-  unfolding rest nodeRows words
+  pub tree-small : length s < 12 → out₀ ≡ sets out₀ 0 (joined (fileRows 3 s))
+  unfolding rest nodeRows joined
   tree-small h =
       let d : split 12 _ ≡ _ = ap (split 12) (drop-of-length-le s {i = 12} (omega arith)) ∙ split-none tagOf 12 in
-      let z : words (fileRows 3 s) ≡ [] = ap words file-is ∙ ap (λ c. words (nodeRows [] start c)) (run-done s 12 d) in
+      let z : joined (fileRows 3 s) ≡ [] = ap joined file-is ∙ ap (λ c. joined (nodeRows [] start c)) (run-done s 12 d) in
       sym (ap (sets out₀ 0) z)
 
   module _ (out : List ℕ) (at nodes meshes weights : ℕ) (v : TreeLeft s out₀ out at nodes meshes weights) where
@@ -184,9 +178,9 @@ module _ (s out₀ : List ℕ) where
       more-meshes = record { fits = omega (arith, v .few-meshes, v .inside) }
 
     module _ (r : Flat) (x : Steps s at r) where
-      pub tree-done : r ≡ run.End → out ≡ sets out₀ 0 (words (fileRows 3 s))
-      unfolding words
-      tree-done w = let e : Ends (flatAt s at) = subst (FlatIs s at) w (x .is) in store-done (v .stores) (ap words (e .nodes (v .opens) (v .counts)))
+      pub tree-done : r ≡ run.End → out ≡ sets out₀ 0 (joined (fileRows 3 s))
+      unfolding joined
+      tree-done w = let e : Ends (flatAt s at) = subst (FlatIs s at) w (x .is) in store-done (v .stores) (ap joined (e .nodes (v .opens) (v .counts)))
 
       module _ (t : Tag) (p : ℕ) (b : Cursor) (q : ℕ) (w : r ≡ run.Chunk t p b q) where
         it : ChunkIs s at t p b q
@@ -224,7 +218,7 @@ module _ (s out₀ : List ℕ) where
         module _ (m : ℕ) (no : T (not (is t NODE))) where
           others : nodesFrom s (v .opens) (v .counts) at ≡ nodesFrom s (v .opens) (counted t p (left b s) (v .counts)) q
           unfolding nodeRows
-          others = ap (λ c. words (nodeRows (v .opens) (v .counts) c)) (it .run) ∙ ap words (if-no (is t NODE) _ _ no)
+          others = ap (λ c. joined (nodeRows (v .opens) (v .counts) c)) (it .run) ∙ ap joined (if-no (is t NODE) _ _ no)
 
           pub passed : (k : ℕ) → counted t p (left b s) (v .counts) .meshes ≡ m → counted t p (left b s) (v .counts) .weights ≡ k → m ≤ q → k ≤ q → TreeLeft s out₀ out q nodes m k
           passed k em ek fm fk = record {
@@ -265,9 +259,9 @@ module _ (s out₀ : List ℕ) where
 
             -- a row, and those after it
             one : nodesFrom s (v .opens) (v .counts) at ≡ rowFor (parentAt p (v .opens)) ++ nodesFrom s (opened p (left b s) nodes (v .opens)) (counted t p (left b s) (v .counts)) q
-            unfolding nodeRows words
+            unfolding nodeRows joined
             one =
-                ap (λ c. words (nodeRows (v .opens) (v .counts) c)) (it .run) ∙ ap words (if-yes (is t NODE) _ _ is-node)
+                ap (λ c. joined (nodeRows (v .opens) (v .counts) c)) (it .run) ∙ ap joined (if-yes (is t NODE) _ _ is-node)
                 ∙ ap (λ (l : List ℕ). l ++ nodesFrom s (opened p (left b s) (v .counts .nodes) (v .opens)) (counted t p (left b s) (v .counts)) q)
                 (ap (λ (e : ℕ). rowOf (named nodeWords (p + 8) (left b s)) (flatAt s q) (parentAt p (v .opens)) e (v .counts)) end-is
                 ∙ row-told (named nodeWords (p + 8) (left b s)) (flatAt s q) (parentAt p (v .opens)) (b .end) (v .counts)
@@ -304,7 +298,7 @@ module _ (s out₀ : List ℕ) where
                       ∙ third-cell (p + 8) (x .size) parent (x .others) out (nodeWidth * nodes) (omega (arith, tree-room)) ∙ pe;
                 } in
                 let before : (j : ℕ) → j < nodeWidth * length l → getD put j 0 ≡ getD out j 0 =
-                λ j i. ap (λ (y : List ℕ). getD y j 0) ep ∙ below (rowFor parent) out (nodeWidth * nodes) j (omega (arith, v .long)) in
+                λ j i. ap (λ (y : List ℕ). getD y j 0) ep ∙ sets-below (rowFor parent) out (nodeWidth * nodes) j (omega (arith, v .long)) in
                 record {
                   opens = opened p (left b s) nodes l;
                   counts = counted t p (left b s) (v .counts);

@@ -1,3 +1,2 @@
--- A node's own chunks, and the way up from a row to those above it.
-pub mod Own
+-- The way up from a row to those above it.
 pub mod Links

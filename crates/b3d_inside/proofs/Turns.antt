@@ -10,10 +10,10 @@ use Rattle.layout.specs.Chunks.{done, stop, chunk}
 use Rattle.b3d_scene.specs.declared.Tag.{Tag}
 use Rattle.b3d_scene.specs.declared.Tag.the-variants.{BB3D, TEXS, BRUS, NODE, MESH, VRTS, TRIS, BONE, KEYS, ANIM}
 use Rattle.b3d_scene.specs.Tags.{Chunks}
-use Rattle.b3d_scene.specs.Nesting.{nesting, Reached, next, onward, order}
-use Rattle.b3d_inside.specs.Places.{reached, restIn}
+use Rattle.b3d_scene.specs.Nesting.{nesting, Reached, next, onward, order, reachedAt}
+use Rattle.b3d_inside.specs.Places.{restIn}
 
-kind-turn : (t : Tag) → next (nesting NODE) (nesting NODE) (reached 1 true) t ≡ next (nesting NODE) (nesting NODE) (reached 2 false) t
+kind-turn : (t : Tag) → next (nesting NODE) (nesting NODE) (reachedAt 1 true) t ≡ next (nesting NODE) (nesting NODE) (reachedAt 2 false) t
 unfolding next if
 kind-turn BB3D = refl
 kind-turn TEXS = refl
@@ -26,13 +26,13 @@ kind-turn BONE = refl
 kind-turn KEYS = refl
 kind-turn ANIM = refl
 
-pub kind-order : (head : ℕ) (cs : Chunks) → order NODE head (reached 1 true) cs ≡ order NODE head (reached 2 false) cs
+pub kind-order : (head : ℕ) (cs : Chunks) → order NODE head (reachedAt 1 true) cs ≡ order NODE head (reachedAt 2 false) cs
 unfolding order if
 kind-order head done = refl
 kind-order head (stop n p) = refl
 kind-order head (chunk t p b l) = ap (λ (o : Option Reached). onward o p (λ q. chunk t p b (order NODE head q l))) (kind-turn t)
 
 -- after a MESH or a BONE it is as before KEYS
-pub after-kind : (s : List ℕ) (head : ℕ) (c : Cursor) → restIn s NODE head (reached 1 true) c ≡ restIn s NODE head (reached 2 false) c
+pub after-kind : (s : List ℕ) (head : ℕ) (c : Cursor) → restIn s NODE head (reachedAt 1 true) c ≡ restIn s NODE head (reachedAt 2 false) c
 unfolding restIn
 after-kind s head c = kind-order head _

@@ -1,7 +1,6 @@
 -- Where a cursor stands, in the body of a chunk or among the chunks inside one, and the chunks that it has left there.
 use mathlib.Core.Path.{_≡_}
 use Prim.Native.Nat.{ℕ, _≤_, _+_}
-use mathlib.Core.Bool.{Bool}
 use mathlib.Core.List.{List}
 use Rattle.wire.specs.Cursors.{left}
 use Rattle.wire.specs.declared.Cursor.{Cursor}
@@ -23,10 +22,6 @@ pub record Among (at : ℕ) (c : Cursor) (n : ℕ) : Type 0 where
   pub room : c .at ≤ c .end
   pub within : c .end ≤ n
   pub small : n ≤ mostBytes
-
--- the turn of the last chunk, and whether one stood there that may not be repeated
-abbrev pub reached : ℕ → Bool → Reached
-reached turn spent = record { turn = turn; spent = spent }
 
 -- the chunks from a cursor on, inside a chunk of tag k whose header is at `head`
 unfoldable pub restIn : List ℕ → Tag → ℕ → Reached → Cursor → Chunks

@@ -1,13 +1,13 @@
 -- A vertex has no more than 8 sets of 4 numbers: larger numbers give the same mask.
-use mathlib.Core.Path.{_≡_, refl, ap, ap₂, sym, subst, _∙_}
+use mathlib.Core.Path.{_≡_, refl}
 use Prim.Native.Nat.{ℕ, zero, suc, _+_, _-_, _*_, _/_, _%_, _<_, _≤_}
 use native.Mathlib.Omega.{arith}
-use mathlib.Core.Bool.{Bool, true, false, _&&_}
-use mathlib.Core.List.{List, [], _∷_}
-use lib.Dec.{T, ltb, ltb→lt, lt→ltb, eqb, leb, leb→le, nleb→lt}
-use Rattle.wire.specs.Test.{if}
+use mathlib.Core.Bool.{Bool, true, false}
+use mathlib.Core.List.{[]}
+use lib.Dec.{T, ltb, ltb→lt, lt→ltb, leb, leb→le, nleb→lt}
 use Rattle.layout.proofs.Outs.{by-test}
-use Rattle.b3d_scene.specs.Mask.{mask, vertexHas, vertexMask}
+use Rattle.b3d_scene.specs.Mask.{vertexHas, vertexMask}
+use Rattle.b3d_scene.proofs.Rows.MaskLaws.{mask-same}
 use Rattle.b3d_item_rows.specs.Items.{Clipped}
 
 pub clip-low : (x most : ℕ) → x < most → Clipped x most x
@@ -30,11 +30,6 @@ clip-test i x most r h c =
     both (ltb i x) (ltb i r)
     (λ t. lt→ltb i r (by-test (leb x most) (λ k. omega (arith, ltb→lt i x t, c .same (leb→le x most k))) (λ k. let m : most ≤ x = omega (arith, nleb→lt x most k) in omega (arith, c .top m))))
     (λ t. lt→ltb i x (by-test (leb x most) (λ k. omega (arith, ltb→lt i r t, c .same (leb→le x most k))) (λ k. omega (arith, nleb→lt x most k))))
-
-mask-same : (f g : ℕ → Bool) (n w : ℕ) → ((i : ℕ) → i < w + n → f i ≡ g i) → mask f n w ≡ mask g n w
-unfolding mask
-mask-same f g zero w h = refl
-mask-same f g (suc n) w h = ap₂ _∷_ (h w (omega arith)) (mask-same f g n (w + 1) (λ i k. h i (omega arith)))
 
 parity : (x c i j : ℕ) → x < 2 → c < 2 → 2 * i + x ≡ 2 * j + c → x ≡ c
 parity zero zero i j h k e = refl

@@ -13,7 +13,7 @@ use Rattle.wire.specs.declared.Cursor.{Cursor}
 use Rattle.wire.proofs.Left.{span, left-length}
 use Rattle.layout.specs.Parts.{wordsOf, itemsOf}
 use Rattle.layout.proofs.StepLaws.{length-words-of}
-use Rattle.b3d_scene.specs.Tables.{words}
+use Rattle.layout.specs.Rows.{joined}
 use Rattle.b3d_file_rows.proofs.ItemLaws.{words-items}
 use Rattle.b3d_file_rows.specs.Plain.{whole}
 
@@ -28,16 +28,16 @@ module _ (s : List ℕ) (c : Cursor) (i : Inside c (length s)) (w n : ℕ) (en :
   place : c .at + 4 * n ≤ c .end
   place = rw en (omega (arith, four ((c .end - c .at) / (4 * w)) w, enough, i .before))
 
-  are : words (whole w (left c s)) ≡ wordsOf n (left c s)
+  are : joined (whole w (left c s)) ≡ wordsOf n (left c s)
   unfolding whole
   are =
       let l = left-length s c i in
       rw (l, en) (words-items ((c .end - c .at) / (4 * w)) w (left c s) (omega (arith, l, enough)))
 
-  long : length (words (whole w (left c s))) ≡ n
+  long : length (joined (whole w (left c s))) ≡ n
   long = ap length are ∙ length-words-of n (left c s) (omega (arith, left-length s c i, place, i .before))
 
-module _ (s : List ℕ) (c : Cursor) (i : Inside c (length s)) (w base : ℕ) (out : List ℕ) (room : base + length (words (whole w (left c s))) ≤ length out) where
+module _ (s : List ℕ) (c : Cursor) (i : Inside c (length s)) (w base : ℕ) (out : List ℕ) (room : base + length (joined (whole w (left c s))) ≤ length out) where
   pub items-many : length out * 4 < 2 ^ 63 → Fits w64 ((c .end - c .at) / (4 * w) * w)
   items-many slice = record { fits = omega (arith, long s c i w ((c .end - c .at) / (4 * w) * w) refl) }
 
@@ -51,10 +51,10 @@ module _ (s : List ℕ) (c : Cursor) (i : Inside c (length s)) (w base : ℕ) (o
     pub items-sum : length out * 4 < 2 ^ 63 → Fits w64 (base + n)
     items-sum slice = record { fits = omega (arith, long s c i w n en) }
 
-    pub items-end : base + n ≡ base + length (words (whole w (left c s)))
+    pub items-end : base + n ≡ base + length (joined (whole w (left c s)))
     items-end = ap (λ (k : ℕ). base + k) (sym (long s c i w n en))
 
-  pub items-put : (put : List ℕ) → put ≡ sets out base (wordsOf ((c .end - c .at) / (4 * w) * w) (left c s)) → put ≡ sets out base (words (whole w (left c s)))
+  pub items-put : (put : List ℕ) → put ≡ sets out base (wordsOf ((c .end - c .at) / (4 * w) * w) (left c s)) → put ≡ sets out base (joined (whole w (left c s)))
   items-put put e = e ∙ ap (sets out base) (sym (are s c i w ((c .end - c .at) / (4 * w) * w) refl))
 
 pub ruleset items-laws = (items-many, items-place, items-room, items-sum, items-end, items-put)

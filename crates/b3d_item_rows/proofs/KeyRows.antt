@@ -21,7 +21,7 @@ use Rattle.layout.specs.Parts.{wordsOf, itemsOf}
 use Rattle.layout.proofs.Outs.{by-test}
 use Rattle.layout.proofs.StepLaws.{length-items-of}
 use Rattle.b3d_scene.specs.Mask.{mask, ones, spread, keyHas, keyMask}
-use Rattle.b3d_scene.specs.Tables.{words}
+use Rattle.layout.specs.Rows.{joined}
 use Rattle.b3d_scene.proofs.Rows.MaskLaws.{mask-length, spread-length}
 use Rattle.b3d_file_rows.specs.Plain.{whole, plainKeys}
 use Rattle.b3d_item_rows.specs.Items.{keyRowsOf}
@@ -60,10 +60,10 @@ width-is flags r e =
 
 -- ---- the rows
 
-pub spread-cells : (m : List Bool) (l : List (List ℕ)) → length (words (map (spread m) l)) ≡ length l * length m
-unfolding words
+pub spread-cells : (m : List Bool) (l : List (List ℕ)) → length (joined (map (spread m) l)) ≡ length l * length m
+unfolding joined
 spread-cells m [] = sym (zero-mul (length m))
-spread-cells m (x ∷ l) = rw (length-append (spread m x) (words (map (spread m) l)), spread-length m x, spread-cells m l) (omega (arith, suc-mul (length l) (length m)))
+spread-cells m (x ∷ l) = rw (length-append (spread m x) (joined (map (spread m) l)), spread-length m x, spread-cells m l) (omega (arith, suc-mul (length l) (length m)))
 
 module _ (s : List ℕ) (b : Cursor) (i : Inside b (length s)) where
   -- fewer bytes than the flags
@@ -75,12 +75,12 @@ module _ (s : List ℕ) (b : Cursor) (i : Inside b (length s)) where
       rw (z, zero-div)
 
   module _ (h : b .end - b .at < 4) (base : ℕ) where
-    pub short-end : base ≡ base + length (words (keyRowsOf (left b s)))
-    unfolding words
+    pub short-end : base ≡ base + length (joined (keyRowsOf (left b s)))
+    unfolding joined
     short-end = rw (none h) (omega arith)
 
-    pub short-put : (out : List ℕ) → out ≡ sets out base (words (keyRowsOf (left b s)))
-    unfolding words
+    pub short-put : (out : List ℕ) → out ≡ sets out base (joined (keyRowsOf (left b s)))
+    unfolding joined
     short-put out = rw (none h)
 
   module _ (h : 4 ≤ b .end - b .at) (flags : ℕ) (ef : flags ≡ wordAt s (b .at)) (width : ℕ) (ew : width ≡ ones (keyMask flags)) (count : ℕ) (ec : count ≡ (b .end - (b .at + 4)) / (4 * width)) where
@@ -98,11 +98,11 @@ module _ (s : List ℕ) (b : Cursor) (i : Inside b (length s)) where
         let l = left-length s (span (b .at + 4) (b .end)) (record { before = omega arith; within = i .within }) in
         rw (flags-are, ← d, l, ← ew, ← ec)
 
-    cells : length (words (keyRowsOf (left b s))) ≡ count * 11
+    cells : length (joined (keyRowsOf (left b s))) ≡ count * 11
     unfolding keyMask
     cells =
         let l = itemsOf count width (left (span (b .at + 4) (b .end)) s) in
-        ap (λ (x : List (List ℕ)). length (words x)) rows-are ∙ spread-cells (mask (keyHas flags) 11 0) l
+        ap (λ (x : List (List ℕ)). length (joined x)) rows-are ∙ spread-cells (mask (keyHas flags) 11 0) l
         ∙ ap₂ _*_ (length-items-of count width (left (span (b .at + 4) (b .end)) s)) (mask-length (keyHas flags) 11 0)
 
     pub keys-inside : Inside (span (b .at + 4) (b .end)) (length s)
@@ -112,13 +112,13 @@ module _ (s : List ℕ) (b : Cursor) (i : Inside b (length s)) where
     keys-place = rw ec (omega (arith, div-mul-le-self (b .end - (b .at + 4)) (4 * width)))
 
     module _ (base : ℕ) (out : List ℕ) where
-      pub keys-room : base + length (words (keyRowsOf (left b s))) ≤ length out → base + count * 11 ≤ length out
+      pub keys-room : base + length (joined (keyRowsOf (left b s))) ≤ length out → base + count * 11 ≤ length out
       keys-room room = omega (arith, cells)
 
-      pub keys-put : (put : List ℕ) → put ≡ sets out base (words (map (spread (keyMask flags)) (itemsOf count width (left (span (b .at + 4) (b .end)) s)))) → put ≡ sets out base (words (keyRowsOf (left b s)))
-      keys-put put e = e ∙ ap (λ (l : List (List ℕ)). sets out base (words l)) (sym rows-are)
+      pub keys-put : (put : List ℕ) → put ≡ sets out base (joined (map (spread (keyMask flags)) (itemsOf count width (left (span (b .at + 4) (b .end)) s)))) → put ≡ sets out base (joined (keyRowsOf (left b s)))
+      keys-put put e = e ∙ ap (λ (l : List (List ℕ)). sets out base (joined l)) (sym rows-are)
 
-    module _ (base : ℕ) (out : List ℕ) (room : base + length (words (keyRowsOf (left b s))) ≤ length out) where
+    module _ (base : ℕ) (out : List ℕ) (room : base + length (joined (keyRowsOf (left b s))) ≤ length out) where
       module _ (slice : length out * 4 < 2 ^ 63) where
         pub keys-many : Fits w64 (count * 11)
         keys-many = record { fits = omega (arith, cells) }
@@ -126,7 +126,7 @@ module _ (s : List ℕ) (b : Cursor) (i : Inside b (length s)) where
         pub keys-sum : Fits w64 (base + count * 11)
         keys-sum = record { fits = omega (arith, cells) }
 
-    pub keys-end : (base : ℕ) → base + count * 11 ≡ base + length (words (keyRowsOf (left b s)))
+    pub keys-end : (base : ℕ) → base + count * 11 ≡ base + length (joined (keyRowsOf (left b s)))
     keys-end base = ap (λ (k : ℕ). base + k) (sym cells)
 
 pub ruleset key-laws = (short-end, short-put, keys-inside, keys-place, keys-room, keys-put, keys-end, keys-many, keys-sum)

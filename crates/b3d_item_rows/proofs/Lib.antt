@@ -3,3 +3,4 @@ pub mod Items
 pub mod Clips
 pub mod KeyRows
 pub mod Shapes
+pub mod Groups

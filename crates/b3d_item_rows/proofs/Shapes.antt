@@ -16,7 +16,7 @@ use Rattle.layout.specs.Parts.{wordsOf, itemsOf}
 use Rattle.layout.proofs.StepLaws.{length-items-of}
 use Rattle.b3d_scene.specs.Mask.{mask, ones, spread, vertexHas, vertexMask}
 use Rattle.b3d_scene.specs.Rules.{vertexWords}
-use Rattle.b3d_scene.specs.Tables.{words}
+use Rattle.layout.specs.Rows.{joined}
 use Rattle.b3d_scene.proofs.Rows.MaskLaws.{mask-length, spread-length, vertex-words}
 use Rattle.b3d_file_rows.specs.Plain.{whole, plainVertices}
 use Rattle.b3d_walk.specs.Seeks.{ThreeWords}
@@ -25,7 +25,7 @@ use Rattle.b3d_item_rows.specs.Items.{Clipped, shapeRows}
 use Rattle.b3d_item_rows.proofs.Clips.{mask-clipped}
 use Rattle.b3d_item_rows.proofs.KeyRows.{spread-cells}
 
-vertex-cells : (f n z : ℕ) (l : List (List ℕ)) → length (words (map (spread (vertexMask f n z)) l)) ≡ length l * 42
+vertex-cells : (f n z : ℕ) (l : List (List ℕ)) → length (joined (map (spread (vertexMask f n z)) l)) ≡ length l * 42
 unfolding vertexMask
 vertex-cells f n z l = spread-cells (mask (vertexHas f n z) 42 0) l ∙ ap (λ (k : ℕ). length l * k) (mask-length (vertexHas f n z) 42 0)
 
@@ -41,15 +41,15 @@ module _ (s : List ℕ) (b : Cursor) (h : Three) (x : ThreeWords s b h) where
         let l = left-length s (h .rest) (x .inside) in
         rw (x .first-is, x .second-is, x .third-is, x .bytes-are, mask-clipped (h .first) (h .second) (h .third) m k cn cz, o, l, ew)
 
-    cells : length (words (shapeRows (plainVertices (left b s)))) ≡ (h .rest .end - h .rest .at) / (4 * w) * 42
+    cells : length (joined (shapeRows (plainVertices (left b s)))) ≡ (h .rest .end - h .rest .at) / (4 * w) * 42
     cells =
-        ap (λ l. length (words l)) rows-are ∙ vertex-cells (h .first % 4) m k (itemsOf ((h .rest .end - h .rest .at) / (4 * w)) (vertexWords (h .first % 4) m k) (left (h .rest) s))
+        ap (λ l. length (joined l)) rows-are ∙ vertex-cells (h .first % 4) m k (itemsOf ((h .rest .end - h .rest .at) / (4 * w)) (vertexWords (h .first % 4) m k) (left (h .rest) s))
         ∙ ap (λ (j : ℕ). j * 42) (length-items-of ((h .rest .end - h .rest .at) / (4 * w)) (vertexWords (h .first % 4) m k) (left (h .rest) s))
 
     pub shape-place : h .rest .at + (h .rest .end - h .rest .at) / (4 * w) * (4 * vertexWords (h .first % 4) m k) ≤ h .rest .end
     shape-place = rw (← ew) (omega (arith, div-mul-le-self (h .rest .end - h .rest .at) (4 * w), x .inside .before))
 
-    module _ (base : ℕ) (out : List ℕ) (room : base + length (words (shapeRows (plainVertices (left b s)))) ≤ length out) where
+    module _ (base : ℕ) (out : List ℕ) (room : base + length (joined (shapeRows (plainVertices (left b s)))) ≤ length out) where
       pub shape-room : base + (h .rest .end - h .rest .at) / (4 * w) * 42 ≤ length out
       shape-room = omega (arith, cells)
 
@@ -60,13 +60,13 @@ module _ (s : List ℕ) (b : Cursor) (h : Three) (x : ThreeWords s b h) where
         pub shape-sum : Fits w64 (base + (h .rest .end - h .rest .at) / (4 * w) * 42)
         shape-sum = record { fits = omega (arith, cells) }
 
-    pub shape-end : (base : ℕ) → base + (h .rest .end - h .rest .at) / (4 * w) * 42 ≡ base + length (words (shapeRows (plainVertices (left b s))))
+    pub shape-end : (base : ℕ) → base + (h .rest .end - h .rest .at) / (4 * w) * 42 ≡ base + length (joined (shapeRows (plainVertices (left b s))))
     shape-end base = ap (λ (j : ℕ). base + j) (sym cells)
 
     pub shape-put : (base : ℕ) (out put : List ℕ)
-        → put ≡ sets out base (words (map (spread (vertexMask (h .first % 4) m k)) (itemsOf ((h .rest .end - h .rest .at) / (4 * w)) (vertexWords (h .first % 4) m k) (left (h .rest) s))))
-        → put ≡ sets out base (words (shapeRows (plainVertices (left b s))))
-    shape-put base out put e = e ∙ ap (λ l. sets out base (words l)) (sym rows-are)
+        → put ≡ sets out base (joined (map (spread (vertexMask (h .first % 4) m k)) (itemsOf ((h .rest .end - h .rest .at) / (4 * w)) (vertexWords (h .first % 4) m k) (left (h .rest) s))))
+        → put ≡ sets out base (joined (shapeRows (plainVertices (left b s))))
+    shape-put base out put e = e ∙ ap (λ l. sets out base (joined l)) (sym rows-are)
 
 pub count-is : (f n z a e m k : ℕ) → Clipped n 8 m → Clipped z 4 k → (w : ℕ) → w ≡ vertexWords (f % 4) m k → (e - a) / (4 * w) ≡ (e - a) / (4 * ones (vertexMask f n z))
 count-is f n z a e m k cn cz w ew =

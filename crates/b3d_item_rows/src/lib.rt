@@ -1,21 +1,21 @@
-// Rows of the items of one chunk, from its body: items that are copied as they stand, vertices, keys.
+// Rows of the items of one chunk, from its body: items that are copied as they stand, vertices, keys; and the row that a chunk of items has itself.
 ghost use mathlib.Core.Path.{_≡_};
 ghost use Prim.Native.Nat.{ℕ, _+_, _-_, _*_, _/_, _<_, _≤_};
 ghost use lib.ListN.{length};
 ghost use lib.Seq.{sets as stored};
 ghost use Rattle.wire.specs.Cursors.{Inside, left};
 ghost use Rattle.b3d_scene.specs.Mask.{ones, vertexMask, keyMask};
-ghost use Rattle.b3d_scene.specs.Tables.{words};
+ghost use Rattle.layout.specs.Rows.{joined};
 ghost use Rattle.b3d_file_rows.specs.Plain.{whole, plainVertices};
-ghost use Rattle.b3d_item_rows.specs.Items.{Clipped, shapeRows, keyRowsOf};
+ghost use Rattle.b3d_item_rows.specs.Items.{Clipped, shapeRows, keyRowsOf, groupWidth, groupItems, groupRow};
 use b3d_walk::Three;
 use wire::Cursor;
 
 // The items of so many words that are all there, from word `base` of the table on; gives the word after them.
 pub fn put_items(file: &[u8], c: Cursor, width: usize, base: usize, out: &mut [u32]) -> usize
-    requires { ⌜ Inside c (length (now file)) × (0 < width) × (width ≤ 64) × (base + length (words (whole width (left c (now file)))) ≤ length (now out)) ⌝ }
-    ensures { λ r. ⌜ (r ≡ base + length (words (whole width (left c (now (file .entry))))))
-        × (now (out .exit) ≡ stored (now (out .entry)) base (words (whole width (left c (now (file .entry)))))) ⌝ }
+    requires { ⌜ Inside c (length (now file)) × (0 < width) × (width ≤ 64) × (base + length (joined (whole width (left c (now file)))) ≤ length (now out)) ⌝ }
+    ensures { λ r. ⌜ (r ≡ base + length (joined (whole width (left c (now (file .entry))))))
+        × (now (out .exit) ≡ stored (now (out .entry)) base (joined (whole width (left c (now (file .entry)))))) ⌝ }
 {
     let at = c.at;
     let end = c.end;
@@ -47,9 +47,9 @@ pub fn shape_count(h: Three) -> usize
 
 // The rows of a VRTS with this body, from word `base` of the table on; gives the word after them. A row has room for 8 sets of 4, whatever the numbers say.
 pub fn put_shape(file: &[u8], body: Cursor, base: usize, out: &mut [u32]) -> usize
-    requires { ⌜ Inside body (length (now file)) × (base + length (words (shapeRows (plainVertices (left body (now file))))) ≤ length (now out)) ⌝ }
-    ensures { λ r. ⌜ (r ≡ base + length (words (shapeRows (plainVertices (left body (now (file .entry)))))))
-        × (now (out .exit) ≡ stored (now (out .entry)) base (words (shapeRows (plainVertices (left body (now (file .entry))))))) ⌝ }
+    requires { ⌜ Inside body (length (now file)) × (base + length (joined (shapeRows (plainVertices (left body (now file))))) ≤ length (now out)) ⌝ }
+    ensures { λ r. ⌜ (r ≡ base + length (joined (shapeRows (plainVertices (left body (now (file .entry)))))))
+        × (now (out .exit) ≡ stored (now (out .entry)) base (joined (shapeRows (plainVertices (left body (now (file .entry))))))) ⌝ }
 {
     let h = b3d_walk::three_words(file, body);
     let flags = h.first % 4;
@@ -74,7 +74,7 @@ pub fn put_shape(file: &[u8], body: Cursor, base: usize, out: &mut [u32]) -> usi
 }
 
 // How many words a key has.
-pub fn key_width(flags: u32) -> usize
+fn key_width(flags: u32) -> usize
     ensures { λ r. ⌜ (r ≡ ones (keyMask flags)) × (1 ≤ r) × (r ≤ 11) ⌝ }
 {
     wire::size(1 + flags % 2 * 3 + flags / 2 % 2 * 3 + flags / 4 % 2 * 4)
@@ -82,9 +82,9 @@ pub fn key_width(flags: u32) -> usize
 
 // The rows of a KEYS with this body, from word `base` of the table on; gives the word after them.
 pub fn put_keys(file: &[u8], body: Cursor, base: usize, out: &mut [u32]) -> usize
-    requires { ⌜ Inside body (length (now file)) × (base + length (words (keyRowsOf (left body (now file)))) ≤ length (now out)) ⌝ }
-    ensures { λ r. ⌜ (r ≡ base + length (words (keyRowsOf (left body (now (file .entry))))))
-        × (now (out .exit) ≡ stored (now (out .entry)) base (words (keyRowsOf (left body (now (file .entry)))))) ⌝ }
+    requires { ⌜ Inside body (length (now file)) × (base + length (joined (keyRowsOf (left body (now file)))) ≤ length (now out)) ⌝ }
+    ensures { λ r. ⌜ (r ≡ base + length (joined (keyRowsOf (left body (now (file .entry))))))
+        × (now (out .exit) ≡ stored (now (out .entry)) base (joined (keyRowsOf (left body (now (file .entry)))))) ⌝ }
 {
     let at = body.at;
     let end = body.end;
@@ -105,4 +105,46 @@ pub fn put_keys(file: &[u8], body: Cursor, base: usize, out: &mut [u32]) -> usiz
         out,
     );
     base + count * 11
+}
+
+// How many words an item of a KEYS with these flags has, or one of a TRIS.
+fn item_width(keys: bool, flags: u32) -> usize
+    ensures { λ r. ⌜ (r ≡ groupWidth keys flags) × (1 ≤ r) × (r ≤ 11) ⌝ }
+{
+    if keys {
+        return key_width(flags);
+    }
+    3
+}
+
+// The row of a KEYS of a node, or of a TRIS of a mesh: the node or mesh, the first number of the body, the number of the first item, and how many
+// there are, which is the answer.
+pub fn put_group(
+    file: &[u8],
+    body: Cursor,
+    keys: bool,
+    owner: usize,
+    first: usize,
+    base: usize,
+    out: &mut [u32],
+) -> usize
+    requires { ⌜ Inside body (length (now file)) × (length (now file) < 0x100000000) × (owner < 0x100000000) × (first < 0x100000000) × (base + 4 ≤ length (now out)) ⌝ }
+    ensures { λ r. ⌜ (r ≡ length (groupItems keys (left body (now (file .entry)))))
+        × (now (out .exit) ≡ stored (now (out .entry)) base (groupRow keys owner first (left body (now (file .entry))))) ⌝ }
+{
+    let head = b3d_walk::first_word(file, body);
+    let number = head.word;
+    let rest = head.rest;
+    let at = rest.at;
+    let end = rest.end;
+    let width = item_width(keys, number);
+    let count = (end - at) / (4 * width);
+    let row = [
+        cells::cell(owner),
+        number,
+        cells::cell(first),
+        cells::cell(count),
+    ];
+    cells::put_cells(out, base, &row);
+    count
 }

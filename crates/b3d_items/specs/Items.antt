@@ -1,26 +1,15 @@
--- Ids and colours, and items to the end of a chunk.
-use Prim.Native.Nat.{ℕ, zero, suc, _+_, _-_, _*_, _/_, _%_, _≤_}
-use mathlib.Core.Bool.{Bool, true, false}
-use mathlib.Core.List.{List, [], _∷_, _++_}
+-- Items with ids or colours, to the end of a chunk.
+use Prim.Native.Nat.{ℕ, _+_, _-_, _*_, _/_, _%_, _≤_}
+use mathlib.Core.List.{List, _++_}
 use lib.ListN.{length, replicate}
 use lib.Dec.{eqb}
 use Rattle.wire.specs.Test.{if}
 use Rattle.wire.specs.declared.Cursor.{Cursor}
 use Rattle.layout.specs.Out.{Out, got, bad}
-use Rattle.layout.specs.Rules.{Rule, any, names, namesOrNone, unit, holds}
+use Rattle.layout.specs.Rules.{Rule, any, names, unit}
 use Rattle.layout.specs.Parts.{row, items}
 use Rattle.b3d_items.specs.declared.Counted.{Counted}
 use Rattle.b3d_items.specs.declared.Counted.the-variants as counts
-
--- an id of so many things; where it may be absent, -1 too
-abbrev pub idRule : Bool → ℕ → Rule
-idRule false limit = names limit
-idRule true limit = namesOrNone limit
-
--- how many words keep the rule before one that does not
-unfoldable pub firstBad : Rule → List ℕ → ℕ
-firstBad r [] = 0
-firstBad r (w ∷ ws) = if (holds r w) (suc (firstBad r ws)) 0
 
 -- so many words that are not looked at, so many under one rule, and words that are not looked at again
 abbrev pub partRow : Rule → ℕ → ℕ → ℕ → List Rule

@@ -6,38 +6,9 @@ ghost use Rattle.wire.specs.Cursors.{Inside, left};
 ghost use Rattle.layout.specs.Parts.{wordsOf};
 ghost use Rattle.layout.specs.Rules.{unit, holds};
 ghost use Rattle.b3d_scene.specs.Rules.{vertexWords, keyWords};
-ghost use Rattle.b3d_items.specs.Items.{idRule, firstBad, dividedAt, CountedIn, idItems, colourItems, counted};
+ghost use Rattle.counted.specs.Ids.{firstBad};
+ghost use Rattle.b3d_items.specs.Items.{dividedAt, CountedIn, idItems, colourItems, counted};
 use wire::Cursor;
-
-// An id names one of so many things, from 0 on; where it may be absent, -1 holds too.
-pub fn id_named(id: u32, limit: usize, absent: bool) -> bool
-    ensures { λ r. ⌜ r ≡ holds (idRule absent limit) id ⌝ }
-{
-    if wire::size(id) < limit {
-        return true;
-    }
-    if absent {
-        return id == 0xFFFFFFFF;
-    }
-    false
-}
-
-// How many of the first n words are ids of so many things before one that is not; -1 is one where an id may be absent.
-pub fn first_bad(s: &[u8], c: Cursor, n: usize, limit: usize, absent: bool) -> usize
-    requires { ⌜ Inside c (length (now s)) × (c .at + 4 * n ≤ c .end) × (n ≤ 64) ⌝ }
-    ensures { λ r. ⌜ (r ≡ firstBad (idRule absent limit) (wordsOf n (left c (now (s .entry))))) × (r ≤ n) ⌝ }
-{
-    let start = c.at;
-    let mut i: usize = 0;
-    while i < n {
-        let id = wire::number_at(s, start + 4 * i);
-        if !id_named(id, limit, absent) {
-            return i;
-        }
-        i += 1;
-    }
-    i
-}
 
 // How many of the first n words are colours before one that is not.
 pub fn first_bad_colour(s: &[u8], c: Cursor, n: usize) -> usize
@@ -90,7 +61,7 @@ pub fn id_items(s: &[u8], from: Cursor, words: usize, ids: usize, limit: usize) 
         if end - at < size {
             return Counted::Not(5, at);
         }
-        let good = first_bad(s, Cursor { at, end }, ids, limit, false);
+        let good = counted::first_bad(s, Cursor { at, end }, ids, limit, false);
         if good < ids {
             return Counted::Not(7, at + 4 * good);
         }

@@ -12,7 +12,7 @@ use Rattle.b3d_scene.specs.declared.Mode.{Mode}
 use Rattle.b3d_scene.specs.declared.Tag.the-variants.{BB3D, TEXS}
 use Rattle.b3d_scene.specs.Tags.{Found}
 use Rattle.b3d_scene.specs.Scene.{Texture, Brush, Forest, Scene}
-use Rattle.b3d_scene.specs.Nesting.{start}
+use Rattle.b3d_scene.specs.Nesting.{start, reachedAt}
 use Rattle.b3d_scene.specs.Parse.{readOne, readTextures}
 use Rattle.b3d_tally.specs.Tally.{bytesTally, texsTally, brusTally, forestTally, sceneTally, plus, Within}
 use Rattle.b3d_judge_lists.specs.Answers.{SlottedIn}
@@ -20,7 +20,7 @@ use Rattle.b3d_judge_lists.specs.declared.Slotted.{Slotted}
 use Rattle.b3d_judge_lists.specs.declared.Slotted.the-variants as slotted
 use Rattle.b3d_tally.specs.declared.Tally.{Tally}
 use Rattle.b3d_tally.proofs.Tallies.{plus-assoc, within-more, within-plus, within-bytes}
-use Rattle.b3d_inside.specs.Places.{reached, restIn, Among}
+use Rattle.b3d_inside.specs.Places.{restIn, Among}
 use Rattle.b3d_judge_file.specs.Answers.{readRest, PhasedIn, Phases, brushes, Rests}
 use Rattle.b3d_judge.specs.Answers.{readChunks, walked, Walks}
 use Rattle.b3d_tally.specs.Answers.{Onward}
@@ -47,7 +47,7 @@ pub ruleset file-rows-laws = (rows-head-small, rows-first-small, rows-sum)
 -- ---- the ways of `judge_chunks`
 
 module _ (mode : Mode) (s : List ℕ) (v : ℕ) (from : Cursor) (g : Among 0 from (length s)) (twelve : from .at ≡ 12)
-    (j : Phase) (hj : Phases texsTally (readOne TEXS [] readTextures (restIn s BB3D 0 start from)) (restIn s BB3D 0 (reached 1 true)) from j) where
+    (j : Phase) (hj : Phases texsTally (readOne TEXS [] readTextures (restIn s BB3D 0 start from)) (restIn s BB3D 0 (reachedAt 1 true)) from j) where
   abbrev Right : Verdict → Type 0
   Right y = Walks (readChunks mode v (restIn s BB3D 0 start from)) (from .end) y
 
@@ -61,15 +61,15 @@ module _ (mode : Mode) (s : List ℕ) (v : ℕ) (from : Cursor) (g : Among 0 fro
   pub chunks-texs-bad : (e q : ℕ) → j ≡ phase.Not e q → Right (verdict.Bad e q)
   unfolding readChunks
   chunks-texs-bad e q z =
-      let b = tallied-bad texsTally (readOne TEXS [] readTextures (restIn s BB3D 0 start from)) e q (phases-at texsTally (readOne TEXS [] readTextures (restIn s BB3D 0 start from)) (restIn s BB3D 0 (reached 1 true)) from j hj z) in
+      let b = tallied-bad texsTally (readOne TEXS [] readTextures (restIn s BB3D 0 start from)) e q (phases-at texsTally (readOne TEXS [] readTextures (restIn s BB3D 0 start from)) (restIn s BB3D 0 (reachedAt 1 true)) from j hj z) in
       record { is = rw b; within = subst (PhasedIn from) z (hj .within) }
 
   module _ (t : Tally) (c : Cursor) (z : j ≡ phase.To t c) where
     texs-on : Onward from c t
     texs-on = subst (PhasedIn from) z (hj .within)
 
-    pub gave-texs : GaveFound texsTally (readOne TEXS [] readTextures (restIn s BB3D 0 start from)) t (restIn s BB3D 0 (reached 1 true) c)
-    gave-texs = tallied-good texsTally (readOne TEXS [] readTextures (restIn s BB3D 0 start from)) t (restIn s BB3D 0 (reached 1 true) c) (phases-at texsTally (readOne TEXS [] readTextures (restIn s BB3D 0 start from)) (restIn s BB3D 0 (reached 1 true)) from j hj z)
+    pub gave-texs : GaveFound texsTally (readOne TEXS [] readTextures (restIn s BB3D 0 start from)) t (restIn s BB3D 0 (reachedAt 1 true) c)
+    gave-texs = tallied-good texsTally (readOne TEXS [] readTextures (restIn s BB3D 0 start from)) t (restIn s BB3D 0 (reachedAt 1 true) c) (phases-at texsTally (readOne TEXS [] readTextures (restIn s BB3D 0 start from)) (restIn s BB3D 0 (reachedAt 1 true)) from j hj z)
 
     pub chunks-among : Among 0 c (length s)
     chunks-among = let o = texs-on in record { head = omega (arith, g .head, o .from-at); room = o .room; within = omega (arith, g .within, o .same); small = g .small }
@@ -83,17 +83,17 @@ module _ (mode : Mode) (s : List ℕ) (v : ℕ) (from : Cursor) (g : Among 0 fro
     pub chunks-first-small : Within (plus (bytesTally 12) t) mostBytes
     chunks-first-small = let a = chunks-among in within-more (c .at) mostBytes first-within (omega (arith, a .room, a .within, a .small))
 
-    texs-read : readChunks mode v (restIn s BB3D 0 start from) ≡ then (gave-texs .value) (readRest mode (t .textures) (restIn s BB3D 0 (reached 1 true) c))
+    texs-read : readChunks mode v (restIn s BB3D 0 start from) ≡ then (gave-texs .value) (readRest mode (t .textures) (restIn s BB3D 0 (reachedAt 1 true) c))
     unfolding readChunks
     texs-read =
         let a = gave-texs in
         let e : length (a .value) ≡ t .textures = sym (ap (λ (q : Tally). q .textures) (a .has) ∙ texs-count (a .value)) in
-        ap all (a .is) ∙ ap (λ (n : ℕ). then (a .value) (readRest mode n (restIn s BB3D 0 (reached 1 true) c))) e
+        ap all (a .is) ∙ ap (λ (n : ℕ). then (a .value) (readRest mode n (restIn s BB3D 0 (reachedAt 1 true) c))) e
 
-    module _ (i : Slotted) (hi : Rests (readRest mode (t .textures) (restIn s BB3D 0 (reached 1 true) c)) (c .at) (c .end) i) where
+    module _ (i : Slotted) (hi : Rests (readRest mode (t .textures) (restIn s BB3D 0 (reachedAt 1 true) c)) (c .at) (c .end) i) where
       pub chunks-rest-bad : (e q : ℕ) → i ≡ slotted.Not e q → Right (verdict.Bad e q)
       chunks-rest-bad e q w =
-          let n = rested-bad (readRest mode (t .textures) (restIn s BB3D 0 (reached 1 true) c)) e q (sym (hi .is) ∙ w) in
+          let n = rested-bad (readRest mode (t .textures) (restIn s BB3D 0 (reachedAt 1 true) c)) e q (sym (hi .is) ∙ w) in
           let le : q ≤ c .end = subst (SlottedIn (c .at) (c .end)) w (hi .within) in
           let o = texs-on in
           record { is = rw (texs-read, n); within = omega (arith, o .same) }
@@ -110,7 +110,7 @@ module _ (mode : Mode) (s : List ℕ) (v : ℕ) (from : Cursor) (g : Among 0 fro
         chunks-good m e =
             let o = texs-on in
             let a = gave-texs in
-            let x = rested-good (readRest mode (t .textures) (restIn s BB3D 0 (reached 1 true) c)) slots r (sym (hi .is) ∙ w) in
+            let x = rested-good (readRest mode (t .textures) (restIn s BB3D 0 (reachedAt 1 true) c)) slots r (sym (hi .is) ∙ w) in
             let to : readChunks mode v (restIn s BB3D 0 start from) ≡ got (record { version = v; textures = a .value; slots = x .value .0 .0; brushes = x .value .0 .1; nodes = x .value .1 }) =
             texs-read ∙ ap (then (a .value)) (x .is) in
             let total : m ≡ plus (plus (plus (bytesTally 12) (texsTally (a .value))) (brusTally (x .value .0 .0) (x .value .0 .1))) (forestTally (x .value .1)) =

@@ -1,14 +1,13 @@
 -- A law for each way through `are_bytes`, `judge_body` and `judge`.
 use mathlib.Core.Path.{_≡_, refl, ap, sym, subst, _∙_}
-use Prim.Native.Nat.{ℕ, suc, _≤_, _<_, _-_}
+use Prim.Native.Nat.{ℕ, _≤_, _<_, _-_}
 use native.Mathlib.Omega.{arith}
 use mathlib.Core.Bool.{true, false}
 use mathlib.Core.List.{List, [], _∷_}
 use lib.ListN.{length, drop, getD, length-drop}
 use lib.Seq.{take-all}
-use lib.Dec.{leb, ltb}
+use lib.Dec.{leb}
 use borrow.Author.Tests.{lt-leb, le-leb, eq-eqb, ne-eqb}
-use Rattle.wire.specs.Test.{if}
 use Rattle.wire.specs.Bytes.{wordAt, AllBytes}
 use Rattle.wire.specs.Cursors.{left, numberAt}
 use Rattle.wire.specs.declared.Cursor.{Cursor}
@@ -43,10 +42,6 @@ use Rattle.b3d_judge.specs.declared.Verdict.the-variants as verdict
 use Rattle.b3d_tally.proofs.Totals.{total}
 
 -- ---- a slice's bytes
-
-pub all-bytes : (s : List ℕ) → ((i : ℕ) → getD s i 0 < 256) → AllBytes s
-all-bytes [] h = tt
-all-bytes (x ∷ s) h = (h 0, all-bytes s (λ i. h (suc i)))
 
 pub no-bytes : (s : List ℕ) → length s ≡ 0 → AllBytes s
 no-bytes [] h = tt

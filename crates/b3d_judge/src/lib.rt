@@ -15,6 +15,7 @@ ghost use Rattle.b3d_scene.specs.Answers.{judge};
 use b3d_judge_file::Phase;
 use b3d_judge_lists::Slotted;
 use b3d_scene::Mode;
+use b3d_scene::letters;
 use b3d_tally::Tally;
 use wire::Cursor;
 use wire::Number;
@@ -99,7 +100,7 @@ pub fn judge(mode: Mode, file: &[u8]) -> Verdict
     if 16777216 < n {
         return Verdict::Bad(1, 0);
     }
-    if wire::number_at(file, 0) != 0x44334242 {
+    if wire::number_at(file, 0) != letters::BB3D {
         return Verdict::Bad(2, 0);
     }
     if wire::size(wire::number_at(file, 4)) != n - 8 {

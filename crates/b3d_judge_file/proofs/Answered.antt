@@ -51,23 +51,6 @@ brus-count slots l = go (length l)
     go zero = refl
     go (suc n) = refl
 
-pub brushes-bad : (o : Out (Found (ℕ × List Brush))) (e q : ℕ) → bad e q ≡ brushes o → o ≡ bad e q
-brushes-bad (got x) e q h = let z : _≡_ {A = ℕ} 0 1 = cc in absurd (omega arith)
-brushes-bad (bad n p) e q h = cc
-
-pub record GaveBrushes (o : Out (Found (ℕ × List Brush))) (k : ℕ) (t : Tally) (rest : Chunks) : Type 0 where
-  pub value : ℕ × List Brush
-  pub is : o ≡ got (record { value = value; rest = rest })
-  pub slots : k ≡ slotsOf (value .0) (value .1)
-  pub has : t ≡ brusTally (slotsOf (value .0) (value .1)) (value .1)
-
-pub brushes-good : (o : Out (Found (ℕ × List Brush))) (k : ℕ) (t : Tally) (rest : Chunks) → got (k, t, rest) ≡ brushes o → GaveBrushes o k t rest
-brushes-good (got x) k t rest h =
-    let n = slotsOf (x .value .0) (x .value .1) in
-    let e : _≡_ {A = ℕ × Tally × Chunks} (k, t, rest) (n, brusTally n (x .value .1), x .rest) = got-inj h in
-    record { value = x .value; is = λ i. got (record { value = x .value; rest = sym e i .2 }); slots = ap (λ (z : ℕ × Tally × Chunks). z .0) e; has = ap (λ (z : ℕ × Tally × Chunks). z .1) e }
-brushes-good (bad n p) k t rest h = let z : _≡_ {A = ℕ} 0 1 = cc in absurd (omega arith)
-
 pub brushes-at : (o : Out (Found (ℕ × List Brush))) (rest : Cursor → Chunks) (from : Cursor) (k : Brushed) → Brushes o rest from k → {x : Brushed} → k ≡ x → brushedBy rest x ≡ brushes o
 brushes-at o rest from k h z = subst (λ (x : Brushed). brushedBy rest x ≡ brushes o) z (h .is)
 

@@ -18,14 +18,14 @@ use Rattle.b3d_scene.specs.declared.Tag.{Tag}
 use Rattle.b3d_scene.specs.declared.Tag.the-variants.{BB3D, TEXS, BRUS, NODE}
 use Rattle.b3d_scene.specs.Tags.{is}
 use Rattle.b3d_scene.specs.Scene.{Brush, leaf, node}
-use Rattle.b3d_scene.specs.Nesting.{nesting, Reached, start, next as nextTurn}
+use Rattle.b3d_scene.specs.Nesting.{nesting, Reached, start, next as nextTurn, reachedAt}
 use Rattle.b3d_scene.specs.Parse.{Inner, readOne, readTextures, readBrushes, readNode, readRoot, slotsOf}
 use Rattle.b3d_scene.proofs.Tag.{the-type}
 use Rattle.b3d_scene.proofs.Files.TagCodes.{by-tag}
 use Rattle.b3d_chunks.specs.Chunks.{NextIs}
 use Rattle.b3d_chunks.specs.declared.Next.the-variants as next
 use Rattle.b3d_tally.specs.Tally.{noTally, texsOf, brusOf, texsTally, brusTally, dataTally, forestTally, innerTally, plus, Within}
-use Rattle.b3d_inside.specs.Places.{Body, reached, restIn, Among}
+use Rattle.b3d_inside.specs.Places.{Body, restIn, Among}
 use Rattle.b3d_tally.specs.Answers.{JudgedIn, Judges, Onward}
 use Rattle.b3d_judge_lists.specs.Answers.{slotted, SlottedIn, SlotsAre}
 use Rattle.b3d_tally.specs.declared.Tally.{Tally}
@@ -125,30 +125,30 @@ none-texs = refl
 
 module _ (s : List ℕ) (from : Cursor) (g : Among 0 from (length s)) (r : Enclosed) (x : EnclosedIs s BB3D 0 (record { turn = 0; spent = false }) from r) where
   abbrev Texs : Phase → Type 0
-  Texs y = Phases texsTally (readOne TEXS [] readTextures (restIn s BB3D 0 start from)) (restIn s BB3D 0 (reached 1 true)) from y
+  Texs y = Phases texsTally (readOne TEXS [] readTextures (restIn s BB3D 0 start from)) (restIn s BB3D 0 (reachedAt 1 true)) from y
 
   pub texs-end : r ≡ enclosed.End → (m : Tally) → m ≡ noTally → Texs (phase.To m from)
-  texs-end = phase-end s from g (record { turn = 0; spent = false }) r x TEXS [] readTextures (reached 1 true) texsTally none-texs
+  texs-end = phase-end s from g (record { turn = 0; spent = false }) r x TEXS [] readTextures (reachedAt 1 true) texsTally none-texs
 
   pub texs-stop : (e p : ℕ) → r ≡ enclosed.Not e p → Texs (phase.Not e p)
-  texs-stop = phase-stop s from g (record { turn = 0; spent = false }) r x TEXS [] readTextures (reached 1 true) texsTally none-texs
+  texs-stop = phase-stop s from g (record { turn = 0; spent = false }) r x TEXS [] readTextures (reachedAt 1 true) texsTally none-texs
 
   module _ (t : Tag) (p : ℕ) (b n : Cursor) (v : State) (w : r ≡ enclosed.Chunk t p b n v) where
-    pub texs-plain : (ks : List ℕ) → OneOf ks (tagOf the-type t) → T (plain BB3D (λ u. is u TEXS) start (reached 1 true) ks) → (m : Tally) → m ≡ noTally → Texs (phase.To m from)
-    texs-plain = phase-plain s from g (record { turn = 0; spent = false }) r x TEXS [] readTextures (reached 1 true) texsTally none-texs t p b n v w
+    pub texs-plain : (ks : List ℕ) → OneOf ks (tagOf the-type t) → T (plain BB3D (λ u. is u TEXS) start (reachedAt 1 true) ks) → (m : Tally) → m ≡ noTally → Texs (phase.To m from)
+    texs-plain = phase-plain s from g (record { turn = 0; spent = false }) r x TEXS [] readTextures (reachedAt 1 true) texsTally none-texs t p b n v w
 
     module _ (e : t ≡ TEXS) (j : Judged) (hj : Judges texsTally (readTextures p (left b s)) p (b .end) j) where
-      texs-read : readOne TEXS [] readTextures (restIn s BB3D 0 start from) ≡ (readTextures p (left b s) >>= λ y. got (record { value = y; rest = restIn s BB3D 0 (reached 1 true) n }))
+      texs-read : readOne TEXS [] readTextures (restIn s BB3D 0 start from) ≡ (readTextures p (left b s) >>= λ y. got (record { value = y; rest = restIn s BB3D 0 (reachedAt 1 true) n }))
       unfolding nextTurn if
-      texs-read = one-read s from (next.Chunk t p b n) (found s from g (record { turn = 0; spent = false }) r x t p b n v w) TEXS [] readTextures start (reached 1 true) t p b n refl e refl tt
+      texs-read = one-read s from (next.Chunk t p b n) (found s from g (record { turn = 0; spent = false }) r x t p b n v w) TEXS [] readTextures start (reachedAt 1 true) t p b n refl e refl tt
 
       pub texs-bad : (i q : ℕ) → j ≡ judge.Bad i q → Texs (phase.Not i q)
-      texs-bad = phase-bad s from g (record { turn = 0; spent = false }) r x TEXS [] readTextures (reached 1 true) texsTally none-texs t p b n v w texs-read j hj
+      texs-bad = phase-bad s from g (record { turn = 0; spent = false }) r x TEXS [] readTextures (reachedAt 1 true) texsTally none-texs t p b n v w texs-read j hj
 
       pub texs-good : (m : Tally) → j ≡ judge.Good m → Texs (phase.To m n)
-      texs-good = phase-good s from g (record { turn = 0; spent = false }) r x TEXS [] readTextures (reached 1 true) texsTally none-texs t p b n v w texs-read j hj
+      texs-good = phase-good s from g (record { turn = 0; spent = false }) r x TEXS [] readTextures (reachedAt 1 true) texsTally none-texs t p b n v w texs-read j hj
 
-pub texs-follows : T (plain BB3D (λ u. is u TEXS) start (reached 1 true) (0 ∷ 2 ∷ 3 ∷ 4 ∷ 5 ∷ 6 ∷ 7 ∷ 8 ∷ 9 ∷ []))
+pub texs-follows : T (plain BB3D (λ u. is u TEXS) start (reachedAt 1 true) (0 ∷ 2 ∷ 3 ∷ 4 ∷ 5 ∷ 6 ∷ 7 ∷ 8 ∷ 9 ∷ []))
 unfolding plain isNone sameTurn boolSame nextTurn if
 texs-follows = tt
 
@@ -167,26 +167,26 @@ root-judges (bad n p) from to j h = record { is = h .is; within = h .within }
 root-judges (got i) from to j h = record { is = h .is ∙ ap judge.Good (sym (plus-none (plus (dataTally (i .self)) (forestTally (i .below))))); within = h .within }
 
 -- after the brushes only the root may stand
-root-turn : (y : Reached) (t : Tag) → nextTurn (nesting BB3D) (nesting BB3D) (reached 2 true) t ≡ some y → t ≡ NODE
+root-turn : (y : Reached) (t : Tag) → nextTurn (nesting BB3D) (nesting BB3D) (reachedAt 2 true) t ≡ some y → t ≡ NODE
 unfolding nextTurn if
 root-turn y t =
-    by-tag (λ t. nextTurn (nesting BB3D) (nesting BB3D) (reached 2 true) t ≡ some y → t ≡ NODE) (never, never, never, (λ h. refl), never, never, never, never, never, never) t
+    by-tag (λ t. nextTurn (nesting BB3D) (nesting BB3D) (reachedAt 2 true) t ≡ some y → t ≡ NODE) (never, never, never, (λ h. refl), never, never, never, never, never, never) t
 
 module _ (mode : Mode) (s : List ℕ) (from : Cursor) (g : Among 0 from (length s)) (r : Enclosed) (x : EnclosedIs s BB3D 0 (record { turn = 2; spent = true }) from r) (count : ℕ) where
   abbrev Root : Phase → Type 0
-  Root y = Phases forestTally (readOne NODE leaf (readRoot mode count) (restIn s BB3D 0 (reached 2 true) from)) (restIn s BB3D 0 (reached 3 true)) from y
+  Root y = Phases forestTally (readOne NODE leaf (readRoot mode count) (restIn s BB3D 0 (reachedAt 2 true) from)) (restIn s BB3D 0 (reachedAt 3 true)) from y
 
   pub root-end : r ≡ enclosed.End → (m : Tally) → m ≡ noTally → Root (phase.To m from)
-  root-end = phase-end s from g (record { turn = 2; spent = true }) r x NODE leaf (readRoot mode count) (reached 3 true) forestTally none-root
+  root-end = phase-end s from g (record { turn = 2; spent = true }) r x NODE leaf (readRoot mode count) (reachedAt 3 true) forestTally none-root
 
   pub root-stop : (e p : ℕ) → r ≡ enclosed.Not e p → Root (phase.Not e p)
-  root-stop = phase-stop s from g (record { turn = 2; spent = true }) r x NODE leaf (readRoot mode count) (reached 3 true) forestTally none-root
+  root-stop = phase-stop s from g (record { turn = 2; spent = true }) r x NODE leaf (readRoot mode count) (reachedAt 3 true) forestTally none-root
 
   module _ (t : Tag) (p : ℕ) (b n : Cursor) (v : State) (w : r ≡ enclosed.Chunk t p b n v) (j : Judged) (hj : Judges innerTally (readNode mode 16 count none p (left b s)) p (b .end) j) where
-    root-read : readOne NODE leaf (readRoot mode count) (restIn s BB3D 0 (reached 2 true) from) ≡ (readRoot mode count p (left b s) >>= λ y. got (record { value = y; rest = restIn s BB3D 0 (reached 3 true) n }))
+    root-read : readOne NODE leaf (readRoot mode count) (restIn s BB3D 0 (reachedAt 2 true) from) ≡ (readRoot mode count p (left b s) >>= λ y. got (record { value = y; rest = restIn s BB3D 0 (reachedAt 3 true) n }))
     unfolding nextTurn if
     root-read =
-        one-read s from (next.Chunk t p b n) (found s from g (record { turn = 2; spent = true }) r x t p b n v w) NODE leaf (readRoot mode count) (reached 2 true) (reached 3 true) t p b n refl
+        one-read s from (next.Chunk t p b n) (found s from g (record { turn = 2; spent = true }) r x t p b n v w) NODE leaf (readRoot mode count) (reachedAt 2 true) (reachedAt 3 true) t p b n refl
         (root-turn (reachedOf v) t (step-turn s BB3D 0 (record { turn = 2; spent = true }) from r x t p b n v w)) refl tt
 
     root-is : Judges forestTally (readRoot mode count p (left b s)) p (b .end) j
@@ -194,10 +194,10 @@ module _ (mode : Mode) (s : List ℕ) (from : Cursor) (g : Among 0 from (length 
     root-is = root-judges (readNode mode 16 count none p (left b s)) p (b .end) j hj
 
     pub root-bad : (i q : ℕ) → j ≡ judge.Bad i q → Root (phase.Not i q)
-    root-bad = phase-bad s from g (record { turn = 2; spent = true }) r x NODE leaf (readRoot mode count) (reached 3 true) forestTally none-root t p b n v w root-read j root-is
+    root-bad = phase-bad s from g (record { turn = 2; spent = true }) r x NODE leaf (readRoot mode count) (reachedAt 3 true) forestTally none-root t p b n v w root-read j root-is
 
     pub root-good : (m : Tally) → j ≡ judge.Good m → Root (phase.To m n)
-    root-good = phase-good s from g (record { turn = 2; spent = true }) r x NODE leaf (readRoot mode count) (reached 3 true) forestTally none-root t p b n v w root-read j root-is
+    root-good = phase-good s from g (record { turn = 2; spent = true }) r x NODE leaf (readRoot mode count) (reachedAt 3 true) forestTally none-root t p b n v w root-read j root-is
 
 pub ruleset root-laws = (among-inside, among-head, file-body, root-end, root-stop, root-bad, root-good)
 
@@ -217,33 +217,33 @@ slotted-good : (o : Out (ℕ × List Brush)) (k : ℕ) (t : Tally) → slotted o
 slotted-good (got v) k t h = record { value = v; is = refl; slots = cc; has = cc }
 slotted-good (bad n p) k t h = let z : _≡_ {A = ℕ} 0 1 = cc in absurd (omega arith)
 
-pub brus-follows : T (plain BB3D (λ u. is u BRUS) (reached 1 true) (reached 2 true) (0 ∷ 1 ∷ 3 ∷ 4 ∷ 5 ∷ 6 ∷ 7 ∷ 8 ∷ 9 ∷ []))
+pub brus-follows : T (plain BB3D (λ u. is u BRUS) (reachedAt 1 true) (reachedAt 2 true) (0 ∷ 1 ∷ 3 ∷ 4 ∷ 5 ∷ 6 ∷ 7 ∷ 8 ∷ 9 ∷ []))
 unfolding plain isNone sameTurn boolSame nextTurn if
 brus-follows = tt
 
 module _ (mode : Mode) (s : List ℕ) (from : Cursor) (g : Among 0 from (length s)) (r : Enclosed) (x : EnclosedIs s BB3D 0 (record { turn = 1; spent = true }) from r) (textures : ℕ) where
   abbrev Brus : Brushed → Type 0
-  Brus y = Brushes (readOne BRUS (0, []) (readBrushes mode textures) (restIn s BB3D 0 (reached 1 true) from)) (restIn s BB3D 0 (reached 2 true)) from y
+  Brus y = Brushes (readOne BRUS (0, []) (readBrushes mode textures) (restIn s BB3D 0 (reachedAt 1 true) from)) (restIn s BB3D 0 (reachedAt 2 true)) from y
 
-  brus-left : (m : Tally) → m ≡ noTally → readOne BRUS (0, []) (readBrushes mode textures) (restIn s BB3D 0 (reached 1 true) from) ≡ got (record { value = (0, []); rest = restIn s BB3D 0 (reached 2 true) from })
+  brus-left : (m : Tally) → m ≡ noTally → readOne BRUS (0, []) (readBrushes mode textures) (restIn s BB3D 0 (reachedAt 1 true) from) ≡ got (record { value = (0, []); rest = restIn s BB3D 0 (reachedAt 2 true) from })
       → Brus (brushed.To 0 m from)
   unfolding slotsOf brusTally brusOf
   brus-left m e h = record { is = rw (h, e); within = onward-none from m (g .room) e }
 
   pub brus-end : r ≡ enclosed.End → (m : Tally) → m ≡ noTally → Brus (brushed.To 0 m from)
-  brus-end w m e = brus-left m e (first-end s from g (record { turn = 1; spent = true }) r x BRUS (0, []) (readBrushes mode textures) (reached 2 true) w)
+  brus-end w m e = brus-left m e (first-end s from g (record { turn = 1; spent = true }) r x BRUS (0, []) (readBrushes mode textures) (reachedAt 2 true) w)
 
   pub brus-stop : (e p : ℕ) → r ≡ enclosed.Not e p → Brus (brushed.Not e p)
-  brus-stop e p w = record { is = rw (first-stop s from g (record { turn = 1; spent = true }) r x BRUS (0, []) (readBrushes mode textures) (reached 2 true) e p w); within = stop-before s BB3D 0 (record { turn = 1; spent = true }) from r x e p w }
+  brus-stop e p w = record { is = rw (first-stop s from g (record { turn = 1; spent = true }) r x BRUS (0, []) (readBrushes mode textures) (reachedAt 2 true) e p w); within = stop-before s BB3D 0 (record { turn = 1; spent = true }) from r x e p w }
 
   module _ (t : Tag) (p : ℕ) (b n : Cursor) (v : State) (w : r ≡ enclosed.Chunk t p b n v) where
-    pub brus-plain : (ks : List ℕ) → OneOf ks (tagOf the-type t) → T (plain BB3D (λ u. is u BRUS) (reached 1 true) (reached 2 true) ks) → (m : Tally) → m ≡ noTally → Brus (brushed.To 0 m from)
-    brus-plain ks o h m e = brus-left m e (first-plain s from g (record { turn = 1; spent = true }) r x BRUS (0, []) (readBrushes mode textures) (reached 2 true) t p b n v w ks o h)
+    pub brus-plain : (ks : List ℕ) → OneOf ks (tagOf the-type t) → T (plain BB3D (λ u. is u BRUS) (reachedAt 1 true) (reachedAt 2 true) ks) → (m : Tally) → m ≡ noTally → Brus (brushed.To 0 m from)
+    brus-plain ks o h m e = brus-left m e (first-plain s from g (record { turn = 1; spent = true }) r x BRUS (0, []) (readBrushes mode textures) (reachedAt 2 true) t p b n v w ks o h)
 
     module _ (e : t ≡ BRUS) (j : Slotted) (hj : SlotsAre (readBrushes mode textures p (left b s)) p (b .end) j) where
-      brus-read : readOne BRUS (0, []) (readBrushes mode textures) (restIn s BB3D 0 (reached 1 true) from) ≡ (readBrushes mode textures p (left b s) >>= λ y. got (record { value = y; rest = restIn s BB3D 0 (reached 2 true) n }))
+      brus-read : readOne BRUS (0, []) (readBrushes mode textures) (restIn s BB3D 0 (reachedAt 1 true) from) ≡ (readBrushes mode textures p (left b s) >>= λ y. got (record { value = y; rest = restIn s BB3D 0 (reachedAt 2 true) n }))
       unfolding nextTurn if
-      brus-read = one-read s from (next.Chunk t p b n) (found s from g (record { turn = 1; spent = true }) r x t p b n v w) BRUS (0, []) (readBrushes mode textures) (reached 1 true) (reached 2 true) t p b n refl e refl tt
+      brus-read = one-read s from (next.Chunk t p b n) (found s from g (record { turn = 1; spent = true }) r x t p b n v w) BRUS (0, []) (readBrushes mode textures) (reachedAt 1 true) (reachedAt 2 true) t p b n refl e refl tt
 
       pub brus-bad : (i q : ℕ) → j ≡ slotty.Not i q → Brus (brushed.Not i q)
       brus-bad i q y = record {
@@ -256,8 +256,8 @@ module _ (mode : Mode) (s : List ℕ) (from : Cursor) (g : Among 0 from (length 
           let u = slotted-good (readBrushes mode textures p (left b s)) k m (sym (hj .is) ∙ y) in
           record {
             is =
-                (λ i. got (u .slots i, u .has i, restIn s BB3D 0 (reached 2 true) n))
-                ∙ ap (λ (o : Out (ℕ × List Brush)). brushes (o >>= λ y. got (record { value = y; rest = restIn s BB3D 0 (reached 2 true) n }))) (sym (u .is)) ∙ ap brushes (sym brus-read);
+                (λ i. got (u .slots i, u .has i, restIn s BB3D 0 (reachedAt 2 true) n))
+                ∙ ap (λ (o : Out (ℕ × List Brush)). brushes (o >>= λ y. got (record { value = y; rest = restIn s BB3D 0 (reachedAt 2 true) n }))) (sym (u .is)) ∙ ap brushes (sym brus-read);
             within = beyond s from g (record { turn = 1; spent = true }) r x t p b n v w m (subst (SlottedIn p (b .end)) y (hj .within));
           }
 

@@ -17,7 +17,7 @@ use Rattle.b3d_scene.specs.declared.Tag.{Tag}
 use Rattle.b3d_scene.specs.declared.Tag.the-variants.{BB3D, TEXS, BRUS, NODE, MESH, VRTS, TRIS, BONE, KEYS, ANIM}
 use Rattle.b3d_scene.specs.Tags.{Chunks, Found}
 use Rattle.b3d_scene.specs.Scene.{Brush, Forest, leaf}
-use Rattle.b3d_scene.specs.Nesting.{nesting, next as nextTurn}
+use Rattle.b3d_scene.specs.Nesting.{nesting, next as nextTurn, reachedAt}
 use Rattle.b3d_scene.specs.Parse.{readOne, readBrushes, readRoot, slotsOf}
 use Rattle.b3d_tally.specs.Tally.{forestTally, plus, Within}
 use Rattle.b3d_tally.specs.Answers.{judged, JudgedIn, Judges, Onward}
@@ -32,20 +32,20 @@ use Rattle.b3d_turns.specs.declared.Enclosed.{Enclosed}
 use Rattle.b3d_turns.specs.declared.Enclosed.the-variants as enclosed
 use Rattle.b3d_turns.specs.Steps.{EnclosedIs}
 use Rattle.b3d_turns.proofs.Stepping.{step-turn, stop-before}
-use Rattle.b3d_inside.specs.Places.{reached, restIn, Among}
-use Rattle.b3d_judge_file.specs.Answers.{readLast, readRest, PhasedIn, Phases, BrushedIn, Brushes, rested, Rests}
+use Rattle.b3d_inside.specs.Places.{restIn, Among}
+use Rattle.b3d_judge_file.specs.Answers.{slotsIn, brusIn, readLast, readRest, PhasedIn, Phases, BrushedIn, Brushes, rested, Rests}
 use Rattle.b3d_judge_file.specs.declared.Phase.{Phase}
 use Rattle.b3d_judge_file.specs.declared.Phase.the-variants as phase
 use Rattle.b3d_judge_file.specs.declared.Brushed.{Brushed}
 use Rattle.b3d_judge_file.specs.declared.Brushed.the-variants as brushed
-use Rattle.b3d_tally.proofs.Answered.{judged-bad, judged-good}
-use Rattle.b3d_judge_file.proofs.Answered.{tallied-bad, GaveFound, tallied-good, phases-at, brus-count, brushes-bad, GaveBrushes, brushes-good, brushes-at}
+use Rattle.b3d_tally.proofs.Answered.{GaveBeside, beside-bad, beside-good, judged-bad, judged-good}
+use Rattle.b3d_judge_file.proofs.Answered.{tallied-bad, GaveFound, tallied-good, phases-at, brus-count, brushes-at}
 use Rattle.b3d_inside.proofs.Rests.{rest-stop, rest-end}
 use Rattle.b3d_inside.proofs.TagTests.{never}
 
 -- ---- the end of a file
 
-file-next : (t : Tag) → nextTurn (nesting BB3D) (nesting BB3D) (reached 3 true) t ≡ none
+file-next : (t : Tag) → nextTurn (nesting BB3D) (nesting BB3D) (reachedAt 3 true) t ≡ none
 unfolding nextTurn if
 file-next BB3D = refl
 file-next TEXS = refl
@@ -61,14 +61,14 @@ file-next ANIM = refl
 -- ---- the nodes, and nothing after them
 
 module _ (mode : Mode) (s : List ℕ) (from : Cursor) (g : Among 0 from (length s)) (count : ℕ)
-    (i : Phase) (hi : Phases forestTally (readOne NODE leaf (readRoot mode count) (restIn s BB3D 0 (reached 2 true) from)) (restIn s BB3D 0 (reached 3 true)) from i) where
+    (i : Phase) (hi : Phases forestTally (readOne NODE leaf (readRoot mode count) (restIn s BB3D 0 (reachedAt 2 true) from)) (restIn s BB3D 0 (reachedAt 3 true)) from i) where
   abbrev Last : Judged → Type 0
-  Last y = Judges forestTally (readLast mode count (restIn s BB3D 0 (reached 2 true) from)) (from .at) (from .end) y
+  Last y = Judges forestTally (readLast mode count (restIn s BB3D 0 (reachedAt 2 true) from)) (from .at) (from .end) y
 
   pub last-bad : (e q : ℕ) → i ≡ phase.Not e q → Last (judge.Bad e q)
   unfolding readLast
   last-bad e q w =
-      let n = tallied-bad forestTally (readOne NODE leaf (readRoot mode count) (restIn s BB3D 0 (reached 2 true) from)) e q (phases-at forestTally (readOne NODE leaf (readRoot mode count) (restIn s BB3D 0 (reached 2 true) from)) (restIn s BB3D 0 (reached 3 true)) from i hi w) in
+      let n = tallied-bad forestTally (readOne NODE leaf (readRoot mode count) (restIn s BB3D 0 (reachedAt 2 true) from)) e q (phases-at forestTally (readOne NODE leaf (readRoot mode count) (restIn s BB3D 0 (reachedAt 2 true) from)) (restIn s BB3D 0 (reachedAt 3 true)) from i hi w) in
       record { is = rw n; within = subst (PhasedIn from) w (hi .within) }
 
   module _ (f : Tally) (end : Cursor) (w : i ≡ phase.To f end) where
@@ -81,10 +81,10 @@ module _ (mode : Mode) (s : List ℕ) (from : Cursor) (g : Among 0 from (length 
     pub last-head : 0 ≤ end .at
     last-head = omega arith
 
-    gave : GaveFound forestTally (readOne NODE leaf (readRoot mode count) (restIn s BB3D 0 (reached 2 true) from)) f (restIn s BB3D 0 (reached 3 true) end)
-    gave = tallied-good forestTally (readOne NODE leaf (readRoot mode count) (restIn s BB3D 0 (reached 2 true) from)) f (restIn s BB3D 0 (reached 3 true) end) (phases-at forestTally (readOne NODE leaf (readRoot mode count) (restIn s BB3D 0 (reached 2 true) from)) (restIn s BB3D 0 (reached 3 true)) from i hi w)
+    gave : GaveFound forestTally (readOne NODE leaf (readRoot mode count) (restIn s BB3D 0 (reachedAt 2 true) from)) f (restIn s BB3D 0 (reachedAt 3 true) end)
+    gave = tallied-good forestTally (readOne NODE leaf (readRoot mode count) (restIn s BB3D 0 (reachedAt 2 true) from)) f (restIn s BB3D 0 (reachedAt 3 true) end) (phases-at forestTally (readOne NODE leaf (readRoot mode count) (restIn s BB3D 0 (reachedAt 2 true) from)) (restIn s BB3D 0 (reachedAt 3 true)) from i hi w)
 
-    last-read : readLast mode count (restIn s BB3D 0 (reached 2 true) from) ≡ ended (restIn s BB3D 0 (reached 3 true) end) (gave .value)
+    last-read : readLast mode count (restIn s BB3D 0 (reachedAt 2 true) from) ≡ ended (restIn s BB3D 0 (reachedAt 3 true) end) (gave .value)
     unfolding readLast
     last-read = ap (λ (o : Out (Found Forest)). o >>= λ n. ended (n .rest) (n .value)) (gave .is)
 
@@ -114,9 +114,9 @@ pub ruleset last-laws = (last-bad, last-inside, last-head, last-stop, last-end, 
 -- ---- the ways of `judge_rest`
 
 module _ (mode : Mode) (s : List ℕ) (c : Cursor) (g : Among 0 c (length s)) (textures : ℕ)
-    (k : Brushed) (hk : Brushes (readOne BRUS (0, []) (readBrushes mode textures) (restIn s BB3D 0 (reached 1 true) c)) (restIn s BB3D 0 (reached 2 true)) c k) where
+    (k : Brushed) (hk : Brushes (readOne BRUS (0, []) (readBrushes mode textures) (restIn s BB3D 0 (reachedAt 1 true) c)) (restIn s BB3D 0 (reachedAt 2 true)) c k) where
   abbrev Right-rest : Slotted → Type 0
-  Right-rest y = Rests (readRest mode textures (restIn s BB3D 0 (reached 1 true) c)) (c .at) (c .end) y
+  Right-rest y = Rests (readRest mode textures (restIn s BB3D 0 (reachedAt 1 true) c)) (c .at) (c .end) y
 
   -- the nodes after brushes
   abbrev after : ℕ × List Brush → Out Forest → Out ((ℕ × List Brush) × Forest)
@@ -128,15 +128,15 @@ module _ (mode : Mode) (s : List ℕ) (c : Cursor) (g : Among 0 c (length s)) (t
   pub rest-brus-bad : (e q : ℕ) → k ≡ brushed.Not e q → Right-rest (slotted.Not e q)
   unfolding readRest
   rest-brus-bad e q y =
-      let b = brushes-bad (readOne BRUS (0, []) (readBrushes mode textures) (restIn s BB3D 0 (reached 1 true) c)) e q (brushes-at (readOne BRUS (0, []) (readBrushes mode textures) (restIn s BB3D 0 (reached 1 true) c)) (restIn s BB3D 0 (reached 2 true)) c k hk y) in
+      let b = beside-bad slotsIn brusIn (readOne BRUS (0, []) (readBrushes mode textures) (restIn s BB3D 0 (reachedAt 1 true) c)) e q (brushes-at (readOne BRUS (0, []) (readBrushes mode textures) (restIn s BB3D 0 (reachedAt 1 true) c)) (restIn s BB3D 0 (reachedAt 2 true)) c k hk y) in
       record { is = rw b; within = subst (BrushedIn c) y (hk .within) }
 
   module _ (slots : ℕ) (b : Tally) (d : Cursor) (y : k ≡ brushed.To slots b d) where
     brus-on : Onward c d b
     brus-on = subst (BrushedIn c) y (hk .within)
 
-    pub gave-brus : GaveBrushes (readOne BRUS (0, []) (readBrushes mode textures) (restIn s BB3D 0 (reached 1 true) c)) slots b (restIn s BB3D 0 (reached 2 true) d)
-    gave-brus = brushes-good (readOne BRUS (0, []) (readBrushes mode textures) (restIn s BB3D 0 (reached 1 true) c)) slots b (restIn s BB3D 0 (reached 2 true) d) (brushes-at (readOne BRUS (0, []) (readBrushes mode textures) (restIn s BB3D 0 (reached 1 true) c)) (restIn s BB3D 0 (reached 2 true)) c k hk y)
+    pub gave-brus : GaveBeside slotsIn brusIn (readOne BRUS (0, []) (readBrushes mode textures) (restIn s BB3D 0 (reachedAt 1 true) c)) slots b (restIn s BB3D 0 (reachedAt 2 true) d)
+    gave-brus = beside-good slotsIn brusIn (readOne BRUS (0, []) (readBrushes mode textures) (restIn s BB3D 0 (reachedAt 1 true) c)) slots b (restIn s BB3D 0 (reachedAt 2 true) d) (brushes-at (readOne BRUS (0, []) (readBrushes mode textures) (restIn s BB3D 0 (reachedAt 1 true) c)) (restIn s BB3D 0 (reachedAt 2 true)) c k hk y)
 
     pub rest-among : Among 0 d (length s)
     rest-among = let o = brus-on in record { head = omega (arith, g .head, o .from-at); room = o .room; within = omega (arith, g .within, o .same); small = g .small }
@@ -144,17 +144,17 @@ module _ (mode : Mode) (s : List ℕ) (c : Cursor) (g : Among 0 c (length s)) (t
     pub rest-brus-small : Within b mostBytes
     rest-brus-small = let o = brus-on in let a = rest-among in within-more (d .at - c .at) mostBytes (o .within) (omega (arith, a .room, a .within, a .small))
 
-    brus-read : readRest mode textures (restIn s BB3D 0 (reached 1 true) c) ≡ after (gave-brus .value) (readLast mode (b .brushes) (restIn s BB3D 0 (reached 2 true) d))
+    brus-read : readRest mode textures (restIn s BB3D 0 (reachedAt 1 true) c) ≡ after (gave-brus .value) (readLast mode (b .brushes) (restIn s BB3D 0 (reachedAt 2 true) d))
     unfolding readRest
     brus-read =
         let a = gave-brus in
         let e : length (a .value .1) ≡ b .brushes = sym (ap (λ (q : Tally). q .brushes) (a .has) ∙ brus-count (slotsOf (a .value .0) (a .value .1)) (a .value .1)) in
-        ap go (a .is) ∙ ap (λ (n : ℕ). after (a .value) (readLast mode n (restIn s BB3D 0 (reached 2 true) d))) e
+        ap go (a .is) ∙ ap (λ (n : ℕ). after (a .value) (readLast mode n (restIn s BB3D 0 (reachedAt 2 true) d))) e
 
-    module _ (i : Judged) (hi : Judges forestTally (readLast mode (b .brushes) (restIn s BB3D 0 (reached 2 true) d)) (d .at) (d .end) i) where
+    module _ (i : Judged) (hi : Judges forestTally (readLast mode (b .brushes) (restIn s BB3D 0 (reachedAt 2 true) d)) (d .at) (d .end) i) where
       pub rest-last-bad : (e q : ℕ) → i ≡ judge.Bad e q → Right-rest (slotted.Not e q)
       rest-last-bad e q w =
-          let n = judged-bad forestTally (readLast mode (b .brushes) (restIn s BB3D 0 (reached 2 true) d)) e q (sym (hi .is) ∙ w) in
+          let n = judged-bad forestTally (readLast mode (b .brushes) (restIn s BB3D 0 (reachedAt 2 true) d)) e q (sym (hi .is) ∙ w) in
           let le : q ≤ d .end = subst (JudgedIn (d .at) (d .end)) w (hi .within) in
           let o = brus-on in
           record { is = rw (brus-read, n); within = omega (arith, o .same) }
@@ -170,11 +170,11 @@ module _ (mode : Mode) (s : List ℕ) (c : Cursor) (g : Among 0 c (length s)) (t
         rest-good m e =
             let o = brus-on in
             let u = gave-brus in
-            let v = judged-good forestTally (readLast mode (b .brushes) (restIn s BB3D 0 (reached 2 true) d)) f (sym (hi .is) ∙ w) in
+            let v = judged-good forestTally (readLast mode (b .brushes) (restIn s BB3D 0 (reachedAt 2 true) d)) f (sym (hi .is) ∙ w) in
             let n = slotsOf (u .value .0) (u .value .1) in
-            let to : readRest mode textures (restIn s BB3D 0 (reached 1 true) c) ≡ got ((n, u .value .1), v .value) = brus-read ∙ ap (after (u .value)) (v .is) in
+            let to : readRest mode textures (restIn s BB3D 0 (reachedAt 1 true) c) ≡ got ((n, u .value .1), v .value) = brus-read ∙ ap (after (u .value)) (v .is) in
             record {
-              is = ap₂ slotted.Is (u .slots) (e ∙ ap₂ plus (u .has) (v .has)) ∙ ap rested (sym to);
+              is = ap₂ slotted.Is (u .first) (e ∙ ap₂ plus (u .has) (v .has)) ∙ ap rested (sym to);
               within = rw e (within-plus b f (d .at - c .at) (d .end - d .at) (c .end - c .at) (o .within) last-within (omega (arith, o .from-at, o .room, o .same)));
             }
 

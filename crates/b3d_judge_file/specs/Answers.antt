@@ -20,7 +20,7 @@ use Rattle.b3d_judge_file.specs.declared.Phase.{Phase}
 use Rattle.b3d_judge_file.specs.declared.Phase.the-variants as phase
 use Rattle.b3d_judge_file.specs.declared.Brushed.{Brushed}
 use Rattle.b3d_judge_file.specs.declared.Brushed.the-variants as brushed
-use Rattle.b3d_tally.specs.Answers.{Onward}
+use Rattle.b3d_tally.specs.Answers.{beside, Onward}
 
 -- the nodes, if NODE comes first, and nothing known after it
 unfoldable pub readLast : Mode → ℕ → Chunks → Out Forest
@@ -52,10 +52,16 @@ pub record Phases {A : Type 0} (tally : A → Tally) (o : Out (Found A)) (rest :
   pub is : phased rest r ≡ tallied tally o
   pub within : PhasedIn from r
 
+-- brushes that were read: the slots of each, and their tally
+abbrev pub slotsIn : ℕ × List Brush → ℕ
+slotsIn x = slotsOf (x .0) (x .1)
+
+abbrev pub brusIn : ℕ × List Brush → Tally
+brusIn x = brusTally (slotsIn x) (x .1)
+
 -- brushes: the slots of a brush beside their tally
 abbrev pub brushes : Out (Found (ℕ × List Brush)) → Out (ℕ × Tally × Chunks)
-brushes (got x) = let k = slotsOf (x .value .0) (x .value .1) in got (k, brusTally k (x .value .1), x .rest)
-brushes (bad n p) = bad n p
+brushes = beside slotsIn brusIn
 
 abbrev pub brushedBy : (Cursor → Chunks) → Brushed → Out (ℕ × Tally × Chunks)
 brushedBy rest (brushed.To k t c) = got (k, t, rest c)

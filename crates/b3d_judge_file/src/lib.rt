@@ -4,11 +4,11 @@ ghost use mathlib.Core.List.{[]};
 ghost use lib.ListN.{length};
 ghost use Rattle.b3d_scene.specs.declared.Tag.the-variants.{BB3D, TEXS, BRUS, NODE};
 ghost use Rattle.b3d_scene.specs.Scene.{leaf};
-ghost use Rattle.b3d_scene.specs.Nesting.{start};
+ghost use Rattle.b3d_scene.specs.Nesting.{start, reachedAt};
 ghost use Rattle.b3d_scene.specs.Parse.{readOne, readTextures, readBrushes, readRoot};
 ghost use Rattle.b3d_tally.specs.Tally.{texsTally, forestTally};
 ghost use Rattle.b3d_tally.specs.Answers.{Judges};
-ghost use Rattle.b3d_inside.specs.Places.{reached, restIn, Among};
+ghost use Rattle.b3d_inside.specs.Places.{restIn, Among};
 ghost use Rattle.b3d_judge_file.specs.Answers.{readLast, readRest, Phases, Brushes, Rests};
 use b3d_judge_lists::Slotted;
 use b3d_judge_node::Above;
@@ -51,7 +51,7 @@ const ROOT_READ: Reached = Reached {
 // The textures, if TEXS comes first.
 pub fn judge_texs(s: &[u8], from: Cursor) -> Phase
     requires { ⌜ Among 0 from (length (now s)) ⌝ }
-    ensures { λ r. ⌜ Phases texsTally (readOne TEXS [] readTextures (restIn (now (s .entry)) BB3D 0 start from)) (restIn (now (s .entry)) BB3D 0 (reached 1 true)) from r ⌝ }
+    ensures { λ r. ⌜ Phases texsTally (readOne TEXS [] readTextures (restIn (now (s .entry)) BB3D 0 start from)) (restIn (now (s .entry)) BB3D 0 (reachedAt 1 true)) from r ⌝ }
 {
     let found = b3d_chunks::next_chunk(s, from);
     match b3d_turns::first_inside(s, from, found, Tag::BB3D, 0) {
@@ -76,7 +76,7 @@ pub fn judge_texs(s: &[u8], from: Cursor) -> Phase
 // The brushes, if BRUS comes first.
 pub fn judge_brus(s: &[u8], from: Cursor, textures: usize, mode: Mode) -> Brushed
     requires { ⌜ Among 0 from (length (now s)) ⌝ }
-    ensures { λ r. ⌜ Brushes (readOne BRUS (0, []) (readBrushes mode textures) (restIn (now (s .entry)) BB3D 0 (reached 1 true) from)) (restIn (now (s .entry)) BB3D 0 (reached 2 true)) from r ⌝ }
+    ensures { λ r. ⌜ Brushes (readOne BRUS (0, []) (readBrushes mode textures) (restIn (now (s .entry)) BB3D 0 (reachedAt 1 true) from)) (restIn (now (s .entry)) BB3D 0 (reachedAt 2 true)) from r ⌝ }
 {
     let found = b3d_chunks::next_chunk(s, from);
     match b3d_turns::next_inside(s, from, found, Tag::BB3D, 0, TEXS_READ) {
@@ -101,7 +101,7 @@ pub fn judge_brus(s: &[u8], from: Cursor, textures: usize, mode: Mode) -> Brushe
 // The nodes, if NODE comes first.
 fn judge_root(s: &[u8], from: Cursor, brushes: usize, mode: Mode) -> Phase
     requires { ⌜ Among 0 from (length (now s)) ⌝ }
-    ensures { λ r. ⌜ Phases forestTally (readOne NODE leaf (readRoot mode brushes) (restIn (now (s .entry)) BB3D 0 (reached 2 true) from)) (restIn (now (s .entry)) BB3D 0 (reached 3 true)) from r ⌝ }
+    ensures { λ r. ⌜ Phases forestTally (readOne NODE leaf (readRoot mode brushes) (restIn (now (s .entry)) BB3D 0 (reachedAt 2 true) from)) (restIn (now (s .entry)) BB3D 0 (reachedAt 3 true)) from r ⌝ }
 {
     let found = b3d_chunks::next_chunk(s, from);
     match b3d_turns::next_inside(s, from, found, Tag::BB3D, 0, BRUS_READ) {
@@ -119,7 +119,7 @@ fn judge_root(s: &[u8], from: Cursor, brushes: usize, mode: Mode) -> Phase
 // The nodes, if NODE comes first, and nothing known after it.
 fn judge_last(s: &[u8], from: Cursor, brushes: usize, mode: Mode) -> Judged
     requires { ⌜ Among 0 from (length (now s)) ⌝ }
-    ensures { λ r. ⌜ Judges forestTally (readLast mode brushes (restIn (now (s .entry)) BB3D 0 (reached 2 true) from)) (from .at) (from .end) r ⌝ }
+    ensures { λ r. ⌜ Judges forestTally (readLast mode brushes (restIn (now (s .entry)) BB3D 0 (reachedAt 2 true) from)) (from .at) (from .end) r ⌝ }
 {
     match judge_root(s, from, brushes, mode) {
         Phase::Not(e, p) => Judged::Bad(e, p),
@@ -138,7 +138,7 @@ fn judge_last(s: &[u8], from: Cursor, brushes: usize, mode: Mode) -> Judged
 // BRUS and NODE.
 pub fn judge_rest(s: &[u8], from: Cursor, textures: usize, mode: Mode) -> Slotted
     requires { ⌜ Among 0 from (length (now s)) ⌝ }
-    ensures { λ r. ⌜ Rests (readRest mode textures (restIn (now (s .entry)) BB3D 0 (reached 1 true) from)) (from .at) (from .end) r ⌝ }
+    ensures { λ r. ⌜ Rests (readRest mode textures (restIn (now (s .entry)) BB3D 0 (reachedAt 1 true) from)) (from .at) (from .end) r ⌝ }
 {
     match judge_brus(s, from, textures, mode) {
         Brushed::Not(e, p) => Slotted::Not(e, p),

@@ -4,7 +4,7 @@ use native.Mathlib.Omega.{arith}
 use native.Mathlib.Nat.{mul-le-mul-left}
 use mathlib.Core.Path.{_≡_, refl, sym, ap, subst, _∙_}
 use mathlib.Core.List.{List, [], _∷_, _++_}
-use lib.ListN.{length, take, drop, replicate, length-replicate}
+use lib.ListN.{length, drop, replicate, length-replicate}
 use mir.Val.{Fits}
 use mir.Syntax.{w64}
 use borrow.Author.Tests.{lt-leb, le-leb}
@@ -16,23 +16,23 @@ use Rattle.wire.specs.declared.Number.the-variants as number
 use Rattle.wire.proofs.Left.{span, left-length, left-four, left-drop}
 use Rattle.wire.proofs.Found.{numbered, number-cut}
 use Rattle.layout.specs.Out.{Out, got, bad, check, _>>=_}
-use Rattle.layout.specs.Parts.{Name, words, wordsOf, judged, row, items}
+use Rattle.layout.specs.Parts.{words, wordsOf, judged, row, items}
 use Rattle.layout.specs.Rules.{Rule, any, unit, holds, refusal}
-use Rattle.layout.proofs.StepLaws.{length-words-of, row-short}
+use Rattle.layout.proofs.StepLaws.{length-words-of, row-short, words-add}
 use Rattle.layout.specs.Rows.{mostBytes}
 use Rattle.b3d_scene.specs.declared.Mode.{Mode}
 use Rattle.b3d_scene.specs.declared.Mode.the-variants.{Strict, Lenient}
 use Rattle.b3d_scene.specs.Scene.{Brush}
 use Rattle.b3d_scene.specs.Rules.{slots, brushRow, textureId, brushIds}
-use Rattle.b3d_scene.specs.Parse.{readBrush, readBrushes, slotsOf}
+use Rattle.b3d_scene.specs.Parse.{readBrush, readBrushes, slotsOf, brushOf}
 use Rattle.b3d_chunks.specs.Chunks.{namedAt, NamedIn}
-use Rattle.b3d_items.specs.Items.{firstBad}
+use Rattle.counted.specs.Ids.{firstBad}
 use Rattle.b3d_chunks.specs.declared.Named.{Named}
 use Rattle.b3d_chunks.specs.declared.Named.the-variants as named
 use Rattle.b3d_items.specs.declared.Counted.{Counted}
 use Rattle.b3d_items.specs.declared.Counted.the-variants as counts
 use Rattle.b3d_chunks.proofs.Names.{named-among}
-use Rattle.b3d_items.proofs.Ids.{words-add, ids-pass, ids-stop, after-good, after-bad}
+use Rattle.counted.proofs.Ids.{ids-pass, ids-stop, after-good, after-bad}
 use Rattle.b3d_tally.specs.Tally.{noTally, brusOf, brusTally, Within}
 use Rattle.b3d_inside.specs.Places.{Body}
 use Rattle.b3d_judge_lists.specs.Answers.{countedBrushes, BrushesIn, slotted, SlotsAre, brushColours}
@@ -43,9 +43,6 @@ use Rattle.b3d_tally.proofs.Tallies.{within-none}
 use Rattle.b3d_judge_lists.proofs.Counting.{countedFrom, Counting, count-none, count-done, count-cut, count-bad, count-one}
 
 -- ---- the loop
-
-brush : Name × List ℕ → Brush
-brush x = record { name = x .0; words = take 7 (x .1); ids = drop 7 (x .1) }
 
 -- so many brushes have been passed, each the zero of a text, seven words and its slots at least
 abbrev pub Brushes : Mode → ℕ → ℕ → List ℕ → Cursor → Cursor → ℕ → Type 0
@@ -79,16 +76,16 @@ module _ (mode : Mode) (slots textures : ℕ) (s : List ℕ) (from : Cursor) whe
 
   module _ (c : Cursor) (count : ℕ) (k₀ : Brushes mode slots textures s from c count) where
     pub brushes-done : c .end ≤ c .at → counts.Is count ≡ countedBrushes all
-    unfolding readBrush brush
-    brushes-done h = from-none all _ (count-done brush rules k₀ h)
+    unfolding readBrush
+    brushes-done h = from-none all _ (count-done brushOf rules k₀ h)
 
     pub brushes-room : count * (29 + 4 * slots) ≤ from .end - from .at
     brushes-room = omega arith
 
     module _ (h : c .at < c .end) (r : Named) (e : r ≡ namedAt s c (7 + slots)) where
       pub brushes-cut : r ≡ named.Cut → counts.Not 5 (c .at) ≡ countedBrushes all
-      unfolding readBrush brush
-      brushes-cut q = from-none all _ (count-cut brush rules k₀ h long e q)
+      unfolding readBrush
+      brushes-cut q = from-none all _ (count-cut brushOf rules k₀ h long e q)
 
       module _ (len : ℕ) (w n : Cursor) (q : r ≡ named.Is len w n) (b : NamedIn c (7 + slots) r) where
         abbrev ids : Cursor
@@ -145,9 +142,9 @@ module _ (mode : Mode) (slots textures : ℕ) (s : List ℕ) (from : Cursor) whe
 
           module _ (d : ℕ) (ed : d ≡ firstBad unit (wordsOf k (left w s))) where
             pub brushes-colour : d < k → counts.Not 6 (w .at + 4 * d) ≡ countedBrushes all
-            unfolding readBrush brush
+            unfolding readBrush
             brushes-colour z =
-                from-none all _ (count-bad brush rules k₀ h long e q (λ a. rw ed (in-two a
+                from-none all _ (count-bad brushOf rules k₀ h long e q (λ a. rw ed (in-two a
                 ∙ ids-stop unit k (w .at) (wordsOf k (left w s)) (wordsOf (7 - k + slots) (left past s)) _ a long-colours (omega arith))))
 
             module _ (kd : k ≤ d) (dk : d ≤ k) (g : ℕ) (f : g ≡ firstBad (textureId textures) (wordsOf slots (left ids s))) where
@@ -164,14 +161,14 @@ module _ (mode : Mode) (slots textures : ℕ) (s : List ℕ) (from : Cursor) whe
               past-to = omega (arith, few)
 
               pub brushes-bad : g < slots → counts.Not 7 (ids .at + 4 * g) ≡ countedBrushes all
-              unfolding readBrush brush
+              unfolding readBrush
               brushes-bad z =
-                  from-none all _ (count-bad brush rules k₀ h long e q (λ a. passed a ∙ after-bad s past ids (textureId textures) (7 - k) slots a past-inside past-room past-to refl g f z))
+                  from-none all _ (count-bad brushOf rules k₀ h long e q (λ a. passed a ∙ after-bad s past ids (textureId textures) (7 - k) slots a past-inside past-room past-to refl g f z))
 
               pub brushes-one : slots ≤ g → g ≤ slots → Brushes mode slots textures s from n (count + 1)
-              unfolding readBrush brush
+              unfolding readBrush
               brushes-one y z =
-                  count-one brush rules k₀ h long e q b (omega arith) (λ a. passed a ∙ after-good s past ids (textureId textures) (7 - k) slots a past-inside past-room past-to refl g f y z)
+                  count-one brushOf rules k₀ h long e q b (omega arith) (λ a. passed a ∙ after-good s past ids (textureId textures) (7 - k) slots a past-inside past-room past-to refl g f y z)
 
 pub ruleset brushes =
     (brushes-none, brushes-done, brushes-room, brushes-cut, ids-room, ids-inside, ids-fit, id-fits, id-before, row-inside, colours-few, colours-room, colour-fits, colour-before, brushes-colour, brushes-bad, brushes-one)
@@ -202,7 +199,7 @@ module _ (k : ℕ) where
   slots-not (got l) x p e = let z : _≡_ {A = ℕ} 0 1 = cc in absurd (omega arith)
   slots-not (bad n q) x p e = cc
 
-  -- without a brush there are no slots
+  -- without a brushOf there are no slots
   slots-none : (o : Out (List Brush)) → counts.Is 0 ≡ countedBrushes o → slot.Is 0 noTally ≡ slotted (o >>= λ l. got (k, l))
   unfolding slotsOf brusTally brusOf
   slots-none (got []) e = refl

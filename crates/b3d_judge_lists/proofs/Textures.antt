@@ -7,11 +7,11 @@ use lib.ListN.{length}
 use Rattle.wire.specs.Cursors.{left}
 use Rattle.wire.specs.declared.Cursor.{Cursor}
 use Rattle.layout.specs.Out.{Out, got, bad}
-use Rattle.layout.specs.Parts.{Name, wordsOf, items}
+use Rattle.layout.specs.Parts.{wordsOf, items}
 use Rattle.layout.proofs.StepLaws.{judged-any}
 use Rattle.b3d_scene.specs.Scene.{Texture}
 use Rattle.b3d_scene.specs.Rules.{textureRow}
-use Rattle.b3d_scene.specs.Parse.{readTexture, readTextures}
+use Rattle.b3d_scene.specs.Parse.{readTexture, readTextures, textureOf}
 use Rattle.b3d_chunks.specs.Chunks.{namedAt, NamedIn}
 use Rattle.b3d_chunks.specs.declared.Named.{Named}
 use Rattle.b3d_chunks.specs.declared.Named.the-variants as named
@@ -46,9 +46,6 @@ texs-bad (bad m q) n p e = cc
 
 -- ---- the loop
 
-texture : Name × List ℕ → Texture
-texture x = record { name = x .0; words = x .1 }
-
 -- so many textures have been passed, each the zero of a text and seven words at least
 abbrev pub Textures : List ℕ → Cursor → Cursor → ℕ → Type 0
 Textures s from c count = Counting readTexture 29 s from c count
@@ -62,22 +59,22 @@ module _ (s : List ℕ) (at : ℕ) (body : Cursor) (b : Body at body (length s))
 
   module _ (c : Cursor) (count : ℕ) (k : Textures s body c count) where
     pub textures-done : c .end ≤ c .at → (t : Tally) → t ≡ texsOf count → Answer (judge.Good t)
-    unfolding readTextures readTexture texture
+    unfolding readTextures readTexture
     textures-done h t e = record {
-      is = rw (e, ← b .head) (texs-good (items readTexture (body .at) (left body s)) count (count-done texture textureRow k h));
+      is = rw (e, ← b .head) (texs-good (items readTexture (body .at) (left body s)) count (count-done textureOf textureRow k h));
       within = rw e (within-texs count (body .end - at) (omega arith));
     }
 
     module _ (h : c .at < c .end) (r : Named) (e : r ≡ namedAt s c 7) where
       pub textures-cut : r ≡ named.Cut → Answer (judge.Bad 5 (c .at))
-      unfolding readTextures readTexture texture
+      unfolding readTextures readTexture
       textures-cut q = record {
-        is = rw (← b .head) (texs-bad (items readTexture (body .at) (left body s)) 5 (c .at) (count-cut texture textureRow k h refl e q));
+        is = rw (← b .head) (texs-bad (items readTexture (body .at) (left body s)) 5 (c .at) (count-cut textureOf textureRow k h refl e q));
         within = omega arith;
       }
 
       pub textures-one : (len : ℕ) (w n : Cursor) → r ≡ named.Is len w n → NamedIn c 7 r → Textures s body n (count + 1)
-      unfolding readTexture texture
-      textures-one len w n q i = count-one texture textureRow k h refl e q i refl (judged-any 7 (w .at) (wordsOf 7 (left w s)))
+      unfolding readTexture
+      textures-one len w n q i = count-one textureOf textureRow k h refl e q i refl (judged-any 7 (w .at) (wordsOf 7 (left w s)))
 
 pub ruleset textures = (textures-none, textures-done, textures-cut, textures-one)

@@ -76,7 +76,7 @@ fn brush_items(s: &[u8], from: Cursor, slots: usize, textures: usize, mode: Mode
                     at: row.at + 28,
                     end: row.end,
                 };
-                let good = b3d_items::first_bad(s, ids, slots, textures, true);
+                let good = counted::first_bad(s, ids, slots, textures, true);
                 if good < slots {
                     return Counted::Not(7, ids.at + 4 * good);
                 }

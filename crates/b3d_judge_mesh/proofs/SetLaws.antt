@@ -1,6 +1,6 @@
 -- The loop of `judge_sets`, and `judge_inside`: a law for each way.
 use mathlib.Core.Path.{_≡_, refl, ap, ap₂, sym, subst, _∙_}
-use Prim.Native.Nat.{ℕ, _≤_, _<_, _+_, _-_, _*_}
+use Prim.Native.Nat.{ℕ, _≤_, _+_, _-_, _*_}
 use native.Mathlib.Nat.{mul-le-mul-left}
 use native.Mathlib.Omega.{arith}
 use mathlib.Core.Bool.{true, false}
@@ -8,7 +8,7 @@ use mathlib.Core.Option.{some}
 use mathlib.Core.List.{List, [], _∷_}
 use lib.ListN.{length}
 use Rattle.wire.specs.Test.{if}
-use Rattle.wire.specs.Cursors.{Inside, left}
+use Rattle.wire.specs.Cursors.{left}
 use Rattle.wire.specs.declared.Cursor.{Cursor}
 use Rattle.layout.specs.Out.{Out, got, bad, _>>=_}
 use Rattle.layout.specs.Chunks.{done, stop}
@@ -19,13 +19,13 @@ use Rattle.b3d_scene.specs.declared.Tag.{Tag}
 use Rattle.b3d_scene.specs.declared.Tag.the-variants.{MESH, VRTS}
 use Rattle.b3d_scene.specs.Scene.{TriangleSet, Mesh}
 use Rattle.b3d_scene.specs.Rules.{vertexWords}
-use Rattle.b3d_scene.specs.Nesting.{nesting, start, next as nextTurn, order}
+use Rattle.b3d_scene.specs.Nesting.{nesting, start, next as nextTurn, order, reachedAt}
 use Rattle.b3d_scene.specs.Parse.{readOne, Vertices, readVertices, readTriangles, readSets}
 use Rattle.b3d_scene.proofs.Files.TagCodes.{by-tag}
 use Rattle.b3d_chunks.specs.Chunks.{Among as Chunked}
 use Rattle.b3d_chunks.specs.declared.Next.the-variants as next
 use Rattle.b3d_tally.specs.Tally.{noTally, verticesTally, setTally, setsTally, meshTally, plus, Within}
-use Rattle.b3d_inside.specs.Places.{Body, reached, restIn, Among}
+use Rattle.b3d_inside.specs.Places.{Body, restIn, Among}
 use Rattle.b3d_tally.specs.Answers.{judged, JudgedIn, Judges, judgedFrom}
 use Rattle.b3d_bodies.specs.Answers.{shaped, ShapedIn, Shapes}
 use Rattle.b3d_tally.specs.declared.Tally.{Tally}
@@ -33,18 +33,19 @@ use Rattle.b3d_tally.specs.declared.Judged.{Judged}
 use Rattle.b3d_tally.specs.declared.Judged.the-variants as judge
 use Rattle.b3d_bodies.specs.declared.Shaped.{Shaped}
 use Rattle.b3d_bodies.specs.declared.Shaped.the-variants as shape
-use Rattle.b3d_tally.proofs.Tallies.{within-none, within-more, within-plus, within-vertices}
+use Rattle.b3d_tally.proofs.Tallies.{within-more, within-plus, within-vertices}
 use Rattle.b3d_turns.specs.declared.Reached.{Reached as State}
 use Rattle.b3d_turns.specs.declared.Enclosed.{Enclosed}
 use Rattle.b3d_turns.specs.declared.Enclosed.the-variants as enclosed
 use Rattle.b3d_turns.specs.Turns.{reachedOf}
 use Rattle.b3d_turns.specs.Steps.{EnclosedIs}
 use Rattle.b3d_turns.proofs.Stepping.{step-among, step-turn, stop-before, end-next}
+use Rattle.b3d_bodies.proofs.Going.{Going, going-start, going-refused, going-done, going-place, going-more, going}
 use Rattle.b3d_judge_mesh.specs.Answers.{readAfter, readInside, meshed, MeshedIn, Meshes}
 use Rattle.b3d_judge_mesh.specs.declared.Meshed.{Meshed}
 use Rattle.b3d_judge_mesh.specs.declared.Meshed.the-variants as meshes
 use Rattle.b3d_tally.proofs.Answered.{judged-bad, judged-good}
-use Rattle.b3d_tally.proofs.Chains.{judged-start, judged-end, judged-more}
+use Rattle.b3d_tally.proofs.Chains.{judged-start, judged-more}
 use Rattle.b3d_inside.proofs.Rests.{rest-done, rest-step, rest-stop, rest-end, step-body, among-inside, among-head}
 use Rattle.b3d_inside.proofs.TagTests.{never, some-inj}
 
@@ -52,11 +53,8 @@ use Rattle.b3d_inside.proofs.TagTests.{never, some-inj}
 
 -- at c, after q, with the tally m of the sets before
 pub record Setting (s : List ℕ) (at brushes vertices : ℕ) (from c : Cursor) (q : State) (m : Tally) : Type 0 where
-  pub among : Among at c (length s)
-  pub from-at : from .at ≤ c .at
-  pub same : c .end ≡ from .end
-  pub within : Within m (c .at - from .at)
-  pub so-far : judged setsTally (readSets brushes vertices (restIn s MESH at (reached 1 true) from)) ≡ judgedFrom m setsTally (readSets brushes vertices (restIn s MESH at (reachedOf q) c))
+  pub going : Going s at from c m
+  pub so-far : judged setsTally (readSets brushes vertices (restIn s MESH at (reachedAt 1 true) from)) ≡ judgedFrom m setsTally (readSets brushes vertices (restIn s MESH at (reachedOf q) c))
 
 sets-more : (x : TriangleSet) (l : List TriangleSet) → setsTally (x ∷ l) ≡ plus (setTally x) (setsTally l)
 unfolding setsTally
@@ -64,82 +62,45 @@ sets-more x l = refl
 
 module _ (s : List ℕ) (at brushes vertices : ℕ) (from : Cursor) where
   abbrev Sets : Judged → Type 0
-  Sets x = Judges setsTally (readSets brushes vertices (restIn s MESH at (reached 1 true) from)) (from .at) (from .end) x
+  Sets x = Judges setsTally (readSets brushes vertices (restIn s MESH at (reachedAt 1 true) from)) (from .at) (from .end) x
 
   pub setting-start : Among at from (length s) → (m : Tally) → m ≡ noTally → Setting s at brushes vertices from from (record { turn = 1; spent = true }) m
-  setting-start g m e = record {
-    among = g;
-    from-at = omega arith;
-    same = refl;
-    within = rw e (within-none (from .at - from .at));
-    so-far = rw e (judged-start setsTally (readSets brushes vertices (restIn s MESH at (reached 1 true) from)));
-  }
+  setting-start g m e = record { going = going-start s at from m g e; so-far = rw e (judged-start setsTally (readSets brushes vertices (restIn s MESH at (reachedAt 1 true) from))) }
 
-  module _ (c : Cursor) (q : State) (m : Tally) (v : Setting s at brushes vertices from c q m) where
-    pub setting-inside : Inside c (length s)
-    setting-inside = record { before = v .among .room; within = v .among .within }
-
-    pub setting-head : at ≤ c .at
-    setting-head = omega (arith, v .among .head)
-
-    pub setting-small : Within m mostBytes
-    setting-small = within-more (c .at - from .at) mostBytes (v .within) (omega (arith, v .among .room, v .among .within, v .among .small))
-
+  module _ (c : Cursor) (q : State) (m : Tally) (v : Setting s at brushes vertices from c q m) (r : Enclosed) (x : EnclosedIs s MESH at q c r) where
     refuse : (e i : ℕ) → readSets brushes vertices (restIn s MESH at (reachedOf q) c) ≡ bad e i → i ≤ c .end → Sets (judge.Bad e i)
-    refuse e i h le = record { is = sym (v .so-far ∙ rw h); within = omega (arith, v .same) }
+    refuse = going-refused s at from c m (v .going) setsTally _ _ (v .so-far)
 
-    module _ (r : Enclosed) (x : EnclosedIs s MESH at q c r) where
-      pub setting-stop : (e p : ℕ) → r ≡ enclosed.Not e p → Sets (judge.Bad e p)
+    pub setting-stop : (e p : ℕ) → r ≡ enclosed.Not e p → Sets (judge.Bad e p)
+    unfolding readSets
+    setting-stop e p w = refuse e p (rw (rest-stop s MESH at q c r x e p w)) (stop-before s MESH at q c r x e p w)
+
+    pub setting-end : r ≡ enclosed.End → Sets (judge.Good m)
+    unfolding readSets setsTally
+    setting-end w =
+        let none : readSets brushes vertices (restIn s MESH at (reachedOf q) c) ≡ got [] = rw (rest-end s MESH at q c r x w) in
+        going-done s at from c m (v .going) setsTally _ _ (v .so-far) [] none refl
+
+    module _ (t : Tag) (p : ℕ) (b n : Cursor) (z : State) (w : r ≡ enclosed.Chunk t p b n z) (j : Judged) (h : Judges setTally (readTriangles brushes vertices p (left b s)) p (b .end) j) where
+      more : readSets brushes vertices (restIn s MESH at (reachedOf q) c)
+          ≡ (readTriangles brushes vertices p (left b s) >>= λ i. readSets brushes vertices (restIn s MESH at (reachedOf z) n) >>= λ l. got (i ∷ l))
       unfolding readSets
-      setting-stop e p w = refuse e p (rw (rest-stop s MESH at q c r x e p w)) (stop-before s MESH at q c r x e p w)
+      more = rw (rest-step s MESH at q c r x t p b n z w)
 
-      pub setting-end : r ≡ enclosed.End → Sets (judge.Good m)
-      unfolding readSets setsTally
-      setting-end w = record {
-        is = sym (v .so-far ∙ rw (rest-end s MESH at q c r x w) (judged-end setsTally m [] refl));
-        within = within-more (c .at - from .at) (from .end - from .at) (v .within) (omega (arith, v .among .room, v .same));
-      }
+      pub setting-bad : (e i : ℕ) → j ≡ judge.Bad e i → Sets (judge.Bad e i)
+      setting-bad e i y = refuse e i (rw (more, judged-bad setTally (readTriangles brushes vertices p (left b s)) e i (sym (h .is) ∙ y))) (going-place s at from c m (v .going) MESH q r x t p b n z w setTally _ j h e i y)
 
-      module _ (t : Tag) (p : ℕ) (b n : Cursor) (z : State) (w : r ≡ enclosed.Chunk t p b n z) where
-        pub setting-body : Body p b (length s)
-        setting-body = step-body s MESH at q c r x at (v .among) t p b n z w
+      pub setting-more : (k u : Tally) → j ≡ judge.Good k → u ≡ plus m k → Setting s at brushes vertices from n z u
+      setting-more k u y e =
+          let g = judged-good setTally (readTriangles brushes vertices p (left b s)) k (sym (h .is) ∙ y) in
+          record {
+            going = going-more s at from c m (v .going) MESH q r x t p b n z w setTally _ j h k u y e;
+            so-far =
+                v .so-far ∙ ap (judgedFrom m setsTally) more
+                ∙ judged-more setTally setsTally (λ i l. i ∷ l) sets-more (readTriangles brushes vertices p (left b s)) k g m u e (readSets brushes vertices (restIn s MESH at (reachedOf z) n));
+          }
 
-        pub setting-less : n .end - n .at < c .end - c .at
-        setting-less = let f = step-among s MESH at q c r x t p b n z w in omega arith
-
-        module _ (j : Judged) (h : Judges setTally (readTriangles brushes vertices p (left b s)) p (b .end) j) where
-          more : readSets brushes vertices (restIn s MESH at (reachedOf q) c)
-              ≡ (readTriangles brushes vertices p (left b s) >>= λ i. readSets brushes vertices (restIn s MESH at (reachedOf z) n) >>= λ l. got (i ∷ l))
-          unfolding readSets
-          more = rw (rest-step s MESH at q c r x t p b n z w)
-
-          pub setting-bad : (e i : ℕ) → j ≡ judge.Bad e i → Sets (judge.Bad e i)
-          setting-bad e i y =
-              let f = step-among s MESH at q c r x t p b n z w in
-              let le : i ≤ b .end = subst (JudgedIn p (b .end)) y (h .within) in
-              refuse e i (rw (more, judged-bad setTally (readTriangles brushes vertices p (left b s)) e i (sym (h .is) ∙ y))) (omega arith)
-
-          pub setting-one-small : (k : Tally) → j ≡ judge.Good k → Within k mostBytes
-          setting-one-small k y =
-              let i : Within k (b .end - p) = subst (JudgedIn p (b .end)) y (h .within) in
-              within-more (b .end - p) mostBytes i (let f = setting-body in omega (arith, f .within, f .small))
-
-          pub setting-more : (k u : Tally) → j ≡ judge.Good k → u ≡ plus m k → Setting s at brushes vertices from n z u
-          setting-more k u y e =
-              let f = step-among s MESH at q c r x t p b n z w in
-              let g = judged-good setTally (readTriangles brushes vertices p (left b s)) k (sym (h .is) ∙ y) in
-              let i : Within k (b .end - p) = subst (JudgedIn p (b .end)) y (h .within) in
-              record {
-                among = record { head = omega (arith, v .among .head); room = f .to; within = omega (arith, v .among .within); small = v .among .small };
-                from-at = omega (arith, v .from-at);
-                same = f .same ∙ v .same;
-                within = rw e (within-plus m k (c .at - from .at) (b .end - p) (n .at - from .at) (v .within) i (omega (arith, v .from-at)));
-                so-far =
-                    v .so-far ∙ ap (judgedFrom m setsTally) more
-                    ∙ judged-more setTally setsTally (λ i l. i ∷ l) sets-more (readTriangles brushes vertices p (left b s)) k g m u e (readSets brushes vertices (restIn s MESH at (reachedOf z) n));
-              }
-
-pub ruleset setting = (setting-start, setting-inside, setting-head, setting-small, setting-stop, setting-end, setting-body, setting-less, setting-bad, setting-one-small, setting-more)
+pub ruleset setting = (setting-start, setting-stop, setting-end, setting-bad, setting-more, going)
 
 -- ---- the chunks inside a mesh
 
@@ -164,7 +125,7 @@ madeOf v o = o >>= λ l. got (record { brush = 0; flags = v .flags; sets = v .se
 module _ (mode : Mode) (s : List ℕ) (at brushes p : ℕ) (b n : Cursor) (gb : Body p b (length s)) (gn : Among at n (length s)) (far : at + 12 ≤ p) (join : b .end ≡ n .at)
     (j : Shaped) (h : Shapes (readVertices mode p (left b s)) b j) where
   abbrev Shape-right : Meshed → Type 0
-  Shape-right y = Meshes (readAfter brushes 0 (readVertices mode p (left b s)) (restIn s MESH at (reached 1 true) n)) at (n .end) y
+  Shape-right y = Meshes (readAfter brushes 0 (readVertices mode p (left b s)) (restIn s MESH at (reachedAt 1 true) n)) at (n .end) y
 
   pub shape-bad : (e i : ℕ) → j ≡ shape.Not e i → Shape-right (meshes.Not e i)
   unfolding readAfter
@@ -188,17 +149,17 @@ module _ (mode : Mode) (s : List ℕ) (at brushes p : ℕ) (b n : Cursor) (gb : 
     gave : GaveShape (readVertices mode p (left b s)) k words
     gave = shaped-good (readVertices mode p (left b s)) k words (sym (h .is) ∙ z)
 
-    module _ (i : Judged) (hi : Judges setsTally (readSets brushes k (restIn s MESH at (reached 1 true) n)) (n .at) (n .end) i) where
-      sets-read : readAfter brushes 0 (readVertices mode p (left b s)) (restIn s MESH at (reached 1 true) n) ≡ madeOf (gave .value) (readSets brushes k (restIn s MESH at (reached 1 true) n))
+    module _ (i : Judged) (hi : Judges setsTally (readSets brushes k (restIn s MESH at (reachedAt 1 true) n)) (n .at) (n .end) i) where
+      sets-read : readAfter brushes 0 (readVertices mode p (left b s)) (restIn s MESH at (reachedAt 1 true) n) ≡ madeOf (gave .value) (readSets brushes k (restIn s MESH at (reachedAt 1 true) n))
       unfolding readAfter
       sets-read =
           let v = gave in
-          ap (λ (o : Out Vertices). o >>= λ v. madeOf v (readSets brushes (length (v .items)) (restIn s MESH at (reached 1 true) n))) (v .is)
-          ∙ ap (λ (m : ℕ). madeOf (v .value) (readSets brushes m (restIn s MESH at (reached 1 true) n))) (sym (v .many))
+          ap (λ (o : Out Vertices). o >>= λ v. madeOf v (readSets brushes (length (v .items)) (restIn s MESH at (reachedAt 1 true) n))) (v .is)
+          ∙ ap (λ (m : ℕ). madeOf (v .value) (readSets brushes m (restIn s MESH at (reachedAt 1 true) n))) (sym (v .many))
 
       pub shape-sets-bad : (e c : ℕ) → i ≡ judge.Bad e c → Shape-right (meshes.Not e c)
       shape-sets-bad e c y = record {
-        is = rw (sets-read, judged-bad setsTally (readSets brushes k (restIn s MESH at (reached 1 true) n)) e c (sym (hi .is) ∙ y));
+        is = rw (sets-read, judged-bad setsTally (readSets brushes k (restIn s MESH at (reachedAt 1 true) n)) e c (sym (hi .is) ∙ y));
         within = subst (JudgedIn (n .at) (n .end)) y (hi .within);
       }
 
@@ -219,9 +180,9 @@ module _ (mode : Mode) (s : List ℕ) (at brushes p : ℕ) (b n : Cursor) (gb : 
         unfolding meshTally
         shape-good m e =
             let v = gave in
-            let l = judged-good setsTally (readSets brushes k (restIn s MESH at (reached 1 true) n)) u (sym (hi .is) ∙ y) in
+            let l = judged-good setsTally (readSets brushes k (restIn s MESH at (reachedAt 1 true) n)) u (sym (hi .is) ∙ y) in
             let M : Mesh = record { brush = 0; flags = v .value .flags; sets = v .value .sets; size = v .value .size; vertices = v .value .items; triangleSets = l .value } in
-            let to : readAfter brushes 0 (readVertices mode p (left b s)) (restIn s MESH at (reached 1 true) n) ≡ got M = sets-read ∙ ap (madeOf (v .value)) (l .is) in
+            let to : readAfter brushes 0 (readVertices mode p (left b s)) (restIn s MESH at (reachedAt 1 true) n) ≡ got M = sets-read ∙ ap (madeOf (v .value)) (l .is) in
             record {
               is = made M (v .many) (e ∙ ap₂ plus (ap₂ verticesTally (v .many) (v .wide)) (l .has)) ∙ ap meshed (sym to);
               within = rw e (within-plus (verticesTally k words) u (n .at - at) (n .end - n .at) (n .end - at) first tail (omega (arith, gn .head, gn .room)));
@@ -243,10 +204,10 @@ pub ruleset rows-laws = (rows-small, rows-are)
 pub ruleset shape-laws = (shape-bad, shape-few, shape-wide, shape-sets-bad, shape-sets-small, shape-vertices-small, shape-good)
 
 -- the first chunk of a mesh is its VRTS
-first-turn : (t : Tag) (z : State) → nextTurn (nesting MESH) (nesting MESH) start t ≡ some (reachedOf z) → (t ≡ VRTS) × (reachedOf z ≡ reached 1 true)
+first-turn : (t : Tag) (z : State) → nextTurn (nesting MESH) (nesting MESH) start t ≡ some (reachedOf z) → (t ≡ VRTS) × (reachedOf z ≡ reachedAt 1 true)
 unfolding nextTurn if
 first-turn t z =
-    by-tag (λ t. nextTurn (nesting MESH) (nesting MESH) start t ≡ some (reachedOf z) → (t ≡ VRTS) × (reachedOf z ≡ reached 1 true))
+    by-tag (λ t. nextTurn (nesting MESH) (nesting MESH) start t ≡ some (reachedOf z) → (t ≡ VRTS) × (reachedOf z ≡ reachedAt 1 true))
     (never, never, never, never, never, (λ h. (refl, some-inj h)), never, never, never, never) t
 
 module _ (mode : Mode) (s : List ℕ) (at brushes : ℕ) (from : Cursor) (g : Among at from (length s)) (far : at + 12 ≤ from .at) (r : Enclosed) (x : EnclosedIs s MESH at (record { turn = 0; spent = false }) from r) where
@@ -284,12 +245,12 @@ module _ (mode : Mode) (s : List ℕ) (at brushes : ℕ) (from : Cursor) (g : Am
     pub inside-join : b .end ≡ n .at
     inside-join = sym (among .after)
 
-    pub inside-shape : (y : Meshed) → Meshes (readAfter brushes 0 (readVertices mode p (left b s)) (restIn s MESH at (reached 1 true) n)) at (n .end) y → Inside-mesh y
+    pub inside-shape : (y : Meshed) → Meshes (readAfter brushes 0 (readVertices mode p (left b s)) (restIn s MESH at (reachedAt 1 true) n)) at (n .end) y → Inside-mesh y
     unfolding readInside readAfter readOne if
     inside-shape y m =
         let f = among in
         let u = first-turn t z (step-turn s MESH at (record { turn = 0; spent = false }) from r x t p b n z w) in
-        let opened : readInside mode brushes 0 (restIn s MESH at start from) ≡ readAfter brushes 0 (readVertices mode p (left b s)) (restIn s MESH at (reached 1 true) n) =
+        let opened : readInside mode brushes 0 (restIn s MESH at start from) ≡ readAfter brushes 0 (readVertices mode p (left b s)) (restIn s MESH at (reachedAt 1 true) n) =
         rw (rest-step s MESH at (record { turn = 0; spent = false }) from r x t p b n z w, u .0, u .1) (bind-bind (readVertices mode p (left b s)) _ _) in
         record {
           is = m .is ∙ ap meshed (sym opened);

@@ -8,9 +8,9 @@ ghost use Rattle.layout.specs.Rows.{mostBytes};
 ghost use Rattle.b3d_scene.specs.declared.Tag.the-variants.{MESH};
 ghost use Rattle.b3d_scene.specs.Parse.{readVertices, readSets, readMesh};
 ghost use Rattle.b3d_tally.specs.Tally.{plus, setsTally, verticesTally, Within};
-ghost use Rattle.b3d_inside.specs.Places.{Body, reached, restIn, Among};
+ghost use Rattle.b3d_inside.specs.Places.{Body, restIn, Among};
 ghost use Rattle.b3d_tally.specs.Answers.{Judges};
-ghost use Rattle.b3d_scene.specs.Nesting.{start};
+ghost use Rattle.b3d_scene.specs.Nesting.{start, reachedAt};
 ghost use Rattle.b3d_judge_mesh.specs.Answers.{readAfter, readInside, Meshes};
 use b3d_bodies::Shaped;
 use b3d_scene::Mode;
@@ -37,7 +37,7 @@ const VRTS_READ: Reached = Reached {
 // The TRIS chunks of a mesh whose header is at `at`, with so many vertices: one or more.
 pub fn judge_sets(s: &[u8], at: usize, from: Cursor, brushes: usize, vertices: usize) -> Judged
     requires { ⌜ Among at from (length (now s)) ⌝ }
-    ensures { λ r. ⌜ Judges setsTally (readSets brushes vertices (restIn (now (s .entry)) MESH at (reached 1 true) from)) (from .at) (from .end) r ⌝ }
+    ensures { λ r. ⌜ Judges setsTally (readSets brushes vertices (restIn (now (s .entry)) MESH at (reachedAt 1 true) from)) (from .at) (from .end) r ⌝ }
 {
     let mut c = from;
     let mut q = VRTS_READ;
@@ -90,7 +90,7 @@ fn judge_shape(
     mode: Mode,
 ) -> Meshed
     requires { ⌜ Body p body (length (now s)) × Among at next (length (now s)) × (at + 12 ≤ p) × (body .end ≡ next .at) ⌝ }
-    ensures { λ r. ⌜ Meshes (readAfter brushes 0 (readVertices mode p (left body (now (s .entry)))) (restIn (now (s .entry)) MESH at (reached 1 true) next)) at (next .end) r ⌝ }
+    ensures { λ r. ⌜ Meshes (readAfter brushes 0 (readVertices mode p (left body (now (s .entry)))) (restIn (now (s .entry)) MESH at (reachedAt 1 true) next)) at (next .end) r ⌝ }
 {
     match b3d_bodies::judge_vertices(s, p, body, mode) {
         Shaped::Not(e, q) => Meshed::Not(e, q),
@@ -128,7 +128,7 @@ pub fn judge_mesh(s: &[u8], at: usize, body: Cursor, brushes: usize, mode: Mode)
     match body.number(s) {
         Number::Cut => Meshed::Not(5, body.at),
         Number::Is(brush, c) => {
-            if !b3d_items::id_named(brush, brushes, true) {
+            if !counted::id_named(brush, brushes, true) {
                 return Meshed::Not(7, body.at);
             }
             judge_inside(s, at, c, brushes, mode)

@@ -1,48 +1,23 @@
 -- Laws of KEYS and ANIM, and of `with_anim`.
 use mathlib.Core.Path.{refl, ap, sym, _≡_, _∙_}
-use Prim.Native.Nat.{ℕ, _≤_, _+_, _-_}
+use Prim.Native.Nat.{ℕ}
 use native.Mathlib.Omega.{arith}
 use mathlib.Core.Bool.{Bool, true, false}
-use mathlib.Core.List.{List, [], _∷_}
-use lib.ListN.{length, drop, length-drop}
-use lib.Dec.{ltb, ltb→lt, nltb→le}
+use mathlib.Core.List.{List, []}
+use lib.Dec.{ltb→lt, nltb→le}
 use Rattle.wire.specs.Test.{if}
 use Rattle.layout.specs.Out.{Out, got, bad, _>>=_}
 use Rattle.layout.specs.Chunks.{done, stop, chunk}
-use Rattle.layout.specs.Parts.{wordsOf}
-use Rattle.layout.proofs.Outs.{by-test}
-use Rattle.layout.proofs.StepLaws.{row-any, any-short}
 use Rattle.layout.specs.Rows.{mostBytes}
 use Rattle.b3d_scene.specs.declared.Tag.the-variants.{KEYS, ANIM}
 use Rattle.b3d_scene.specs.Tags.{Chunks, Found, is}
 use Rattle.b3d_scene.specs.Scene.{Keys, anim}
 use Rattle.b3d_scene.specs.Rules.{animated}
-use Rattle.b3d_scene.specs.Parse.{Moves, withKeys, readKeys, filled, readAnim, readMoves}
+use Rattle.b3d_scene.specs.Parse.{Moves, withKeys, readKeys, readAnim, readMoves}
 use Rattle.b3d_tally.specs.Tally.{noTally, listTally, listsTally, animTally, movesTally, plus, bytesTally, Within}
 use Rattle.b3d_tally.specs.declared.Tally.{Tally}
 use Rattle.b3d_tally.proofs.Tallies.{none-plus, plus-assoc, within-none, within-bytes}
 use Rattle.b3d_judge_moves.specs.Answers.{moved, movedFrom, animOf}
-
--- ---- an ANIM
-
-pub anim-whole : (p : ℕ) (b : List ℕ) → length b ≡ 12 → readAnim p b ≡ got (wordsOf 3 b)
-unfolding readAnim filled
-anim-whole p b h = rw (row-any 3 (p + 8) b (omega arith)) (nothing (drop 12 b) (length-drop 12 b ∙ omega arith))
-  where
-    nothing : (r : List ℕ) → length r ≡ 0 → filled (p + 8) r (wordsOf 3 b) ≡ got (wordsOf 3 b)
-    nothing [] e = refl
-    nothing (c ∷ r) e = absurd (omega arith)
-
-pub anim-other : (p : ℕ) (b : List ℕ) → (length b ≡ 12 → ⊥) → readAnim p b ≡ bad 5 (p + 8)
-unfolding readAnim filled
-anim-other p b h =
-    by-test (ltb (length b) 12)
-    (λ t. let l = ltb→lt (length b) 12 t in rw (any-short 3 (p + 8) b (omega arith)))
-    (λ t. let l = nltb→le (length b) 12 t in rw (row-any 3 (p + 8) b (omega arith)) (more (drop 12 b) (length-drop 12 b) l))
-  where
-    more : (r : List ℕ) → length r ≡ length b - 12 → 12 ≤ length b → filled (p + 8) r (wordsOf 3 b) ≡ bad 5 (p + 8)
-    more [] e l = absurd (h (omega arith))
-    more (c ∷ r) e l = refl
 
 -- ---- tallies of moves
 

@@ -1,6 +1,6 @@
 -- The loop of `judge_moves`: what it has come to, and a law for each way on.
 use mathlib.Core.Path.{refl, ap, sym, subst, _≡_, _∙_}
-use Prim.Native.Nat.{ℕ, _≤_, _<_, _+_, _-_}
+use Prim.Native.Nat.{ℕ, _≤_, _+_, _-_}
 use native.Mathlib.Omega.{arith}
 use mathlib.Core.Bool.{Bool, true, false, not, _||_}
 use mathlib.Core.Option.{some}
@@ -11,7 +11,7 @@ use mir.Val.{hasKey}
 use types.Run.{OneOf}
 use denote.Enum.Declared.{tagOf}
 use Rattle.wire.specs.Test.{if}
-use Rattle.wire.specs.Cursors.{Inside, left}
+use Rattle.wire.specs.Cursors.{left}
 use Rattle.wire.specs.declared.Cursor.{Cursor}
 use Rattle.wire.proofs.Left.{left-length}
 use Rattle.layout.specs.Out.{Out, got, bad, _>>=_}
@@ -22,19 +22,20 @@ use Rattle.b3d_scene.specs.declared.Tag.the-variants.{NODE, KEYS, ANIM}
 use Rattle.b3d_scene.specs.Tags.{Chunks, Found, is}
 use Rattle.b3d_scene.specs.Scene.{Keys, still, anim}
 use Rattle.b3d_scene.specs.Rules.{animated}
-use Rattle.b3d_scene.specs.Nesting.{nesting, Reached, next as nextTurn, onward, order}
+use Rattle.b3d_scene.specs.Nesting.{nesting, Reached, next as nextTurn, onward, order, reachedAt}
 use Rattle.b3d_scene.specs.Parse.{Moves, readKeys, readAnim, readMoves, withKeys}
 use Rattle.b3d_scene.proofs.Tag.{the-type}
 use Rattle.b3d_scene.proofs.Files.TagCodes.{by-tag}
+use Rattle.b3d_scene.proofs.Files.LeafLaws.{anim-whole, anim-other}
 use Rattle.b3d_chunks.specs.Chunks.{Among as Chunked}
 use Rattle.b3d_chunks.specs.declared.Next.the-variants as next
 use Rattle.b3d_tally.specs.Tally.{noTally, bytesTally, listTally, listsTally, animTally, movesTally, plus, Within}
-use Rattle.b3d_inside.specs.Places.{Body, reached, restIn, Among}
-use Rattle.b3d_tally.specs.Answers.{JudgedIn, Judges}
+use Rattle.b3d_inside.specs.Places.{restIn, Among}
+use Rattle.b3d_tally.specs.Answers.{Judges}
 use Rattle.b3d_tally.specs.declared.Tally.{Tally}
 use Rattle.b3d_tally.specs.declared.Judged.{Judged}
 use Rattle.b3d_tally.specs.declared.Judged.the-variants as judge
-use Rattle.b3d_tally.proofs.Tallies.{none-plus, within-none, within-more, within-plus}
+use Rattle.b3d_tally.proofs.Tallies.{none-plus}
 use Rattle.b3d_turns.specs.declared.Reached.{Reached as State}
 use Rattle.b3d_turns.specs.declared.Enclosed.{Enclosed}
 use Rattle.b3d_turns.specs.declared.Enclosed.the-variants as enclosed
@@ -45,25 +46,23 @@ use Rattle.b3d_judge_moves.specs.Answers.{animOf, moved, movedFrom, Moti
 use Rattle.b3d_judge_moves.specs.declared.Motion.{Motion}
 use Rattle.b3d_judge_moves.specs.declared.Motion.the-variants as motion
 use Rattle.b3d_tally.proofs.Answered.{Gave, judged-bad, judged-good}
-use Rattle.b3d_inside.proofs.Rests.{rest-chunk, rest-done, rest-step, rest-stop, rest-end, step-body}
+use Rattle.b3d_inside.proofs.Rests.{rest-chunk, rest-done, rest-step, rest-stop, rest-end}
+use Rattle.b3d_bodies.proofs.Going.{Going, going-start, going-small, going-body, going-to, going-place, going-one, going}
 use Rattle.b3d_inside.proofs.TagTests.{ten, one-of, never, some-inj}
-use Rattle.b3d_judge_moves.proofs.MoveLaws.{anim-whole, anim-other, keys-first, anim-same, moved-first}
+use Rattle.b3d_judge_moves.proofs.MoveLaws.{keys-first, anim-same, moved-first}
 
 -- what the moves of a node come to
 abbrev whole : List ℕ → ℕ → Cursor → Out (Bool × Tally × Chunks)
-whole s at from = moved (readMoves still (restIn s NODE at (reached 2 false) from))
+whole s at from = moved (readMoves still (restIn s NODE at (reachedAt 2 false) from))
 
 -- the answers that are right
 abbrev Right : List ℕ → ℕ → Cursor → Motion → Type 0
-Right s at from r = Motions (readMoves still (restIn s NODE at (reached 2 false) from)) (restIn s NODE at (reached 3 false)) from r
+Right s at from r = Motions (readMoves still (restIn s NODE at (reachedAt 2 false) from)) (restIn s NODE at (reachedAt 3 false)) from r
 
 -- at c, after q, which is at the turn of KEYS and ANIM and is spent where an ANIM was seen, with the tally m of keys
 pub record Moving (s : List ℕ) (at : ℕ) (from c : Cursor) (q : State) (m : Tally) : Type 0 where
   pub turn : q .turn ≡ 2
-  pub among : Among at c (length s)
-  pub from-at : from .at ≤ c .at
-  pub same : c .end ≡ from .end
-  pub within : Within (plus m (animTally (animOf (q .spent)))) (c .at - from .at)
+  pub going : Going s at from c (plus m (animTally (animOf (q .spent))))
   pub so-far : whole s at from ≡ movedFrom m (readMoves (animOf (q .spent)) (restIn s NODE at (reachedOf q) c))
 
 within-left : (a b : Tally) (n : ℕ) → Within (plus a b) n → Within a n
@@ -90,24 +89,24 @@ twenty m i n h le = record { rows = omega arith; copy = omega arith }
 
 -- ---- how far a chunk brings the moves
 
-keys-turn : (b : Bool) (z : State) → nextTurn (nesting NODE) (nesting NODE) (reached 2 b) KEYS ≡ some (reachedOf z) → (z .turn ≡ 2) × (z .spent ≡ b)
+keys-turn : (b : Bool) (z : State) → nextTurn (nesting NODE) (nesting NODE) (reachedAt 2 b) KEYS ≡ some (reachedOf z) → (z .turn ≡ 2) × (z .spent ≡ b)
 unfolding nextTurn if
 keys-turn true z h = let e = some-inj h in (ap (λ (y : Reached). y .turn) e, ap (λ (y : Reached). y .spent) e)
 keys-turn false z h = let e = some-inj h in (ap (λ (y : Reached). y .turn) e, ap (λ (y : Reached). y .spent) e)
 
-anim-turn : (b : Bool) (z : State) → nextTurn (nesting NODE) (nesting NODE) (reached 2 b) ANIM ≡ some (reachedOf z) → (b ≡ false) × (z .turn ≡ 2) × (z .spent ≡ true)
+anim-turn : (b : Bool) (z : State) → nextTurn (nesting NODE) (nesting NODE) (reachedAt 2 b) ANIM ≡ some (reachedOf z) → (b ≡ false) × (z .turn ≡ 2) × (z .spent ≡ true)
 unfolding nextTurn if
 anim-turn true z h = never h
 anim-turn false z h = let e = some-inj h in (refl, ap (λ (y : Reached). y .turn) e, ap (λ (y : Reached). y .spent) e)
 
 -- a chunk that may stand there and is neither KEYS nor ANIM is a NODE
-node-turn : (b : Bool) (y : Reached) (t : Tag) → nextTurn (nesting NODE) (nesting NODE) (reached 2 b) t ≡ some y → T (not (is t KEYS || is t ANIM)) → (t ≡ NODE) × (y ≡ reached 3 false)
+node-turn : (b : Bool) (y : Reached) (t : Tag) → nextTurn (nesting NODE) (nesting NODE) (reachedAt 2 b) t ≡ some y → T (not (is t KEYS || is t ANIM)) → (t ≡ NODE) × (y ≡ reachedAt 3 false)
 unfolding nextTurn if
 node-turn true y t =
-    by-tag (λ t. nextTurn (nesting NODE) (nesting NODE) (reached 2 true) t ≡ some y → T (not (is t KEYS || is t ANIM)) → (t ≡ NODE) × (y ≡ reached 3 false))
+    by-tag (λ t. nextTurn (nesting NODE) (nesting NODE) (reachedAt 2 true) t ≡ some y → T (not (is t KEYS || is t ANIM)) → (t ≡ NODE) × (y ≡ reachedAt 3 false))
     (never, never, never, (λ e n. (refl, some-inj e)), never, never, never, never, (λ e n. absurd n), (λ e n. absurd n)) t
 node-turn false y t =
-    by-tag (λ t. nextTurn (nesting NODE) (nesting NODE) (reached 2 false) t ≡ some y → T (not (is t KEYS || is t ANIM)) → (t ≡ NODE) × (y ≡ reached 3 false))
+    by-tag (λ t. nextTurn (nesting NODE) (nesting NODE) (reachedAt 2 false) t ≡ some y → T (not (is t KEYS || is t ANIM)) → (t ≡ NODE) × (y ≡ reachedAt 3 false))
     (never, never, never, (λ e n. (refl, some-inj e)), never, never, never, never, (λ e n. absurd n), (λ e n. absurd n)) t
 
 -- none of those numbered ks is KEYS or ANIM
@@ -125,35 +124,24 @@ module _ (s : List ℕ) (at : ℕ) (from : Cursor) where
   unfolding animTally
   moving-start g m e = record {
     turn = refl;
-    among = g;
-    from-at = omega arith;
-    same = refl;
-    within = rw e (within-plus noTally noTally 0 0 (from .at - from .at) (within-none 0) (within-none 0) (omega arith));
-    so-far = rw e (moved-first (readMoves still (restIn s NODE at (reached 2 false) from)));
+    going = going-start s at from _ g (rw e (none-plus noTally));
+    so-far = rw e (moved-first (readMoves still (restIn s NODE at (reachedAt 2 false) from)));
   }
 
   module _ (c : Cursor) (q : State) (m : Tally) (v : Moving s at from c q m) where
-    pub moving-inside : Inside c (length s)
-    moving-inside = record { before = v .among .room; within = v .among .within }
-
-    pub moving-head : at ≤ c .at
-    moving-head = omega (arith, v .among .head)
-
     pub moving-small : Within m mostBytes
-    moving-small =
-        within-more (c .at - from .at) mostBytes (within-left m (animTally (animOf (q .spent))) (c .at - from .at) (v .within))
-        (omega (arith, v .among .room, v .among .within, v .among .small))
+    moving-small = within-left m (animTally (animOf (q .spent))) mostBytes (going-small s at from c _ (v .going))
 
     refuse : (e i : ℕ) → movedFrom m (readMoves (animOf (q .spent)) (restIn s NODE at (reachedOf q) c)) ≡ bad e i → i ≤ c .end → Right s at from (motion.Not e i)
-    refuse e i h le = record { is = sym (v .so-far ∙ h); within = omega (arith, v .same) }
+    refuse e i h le = record { is = sym (v .so-far ∙ h); within = omega (arith, v .going .same) }
 
     finish : (t : Tally) → t ≡ plus m (animTally (animOf (q .spent)))
-        → readMoves (animOf (q .spent)) (restIn s NODE at (reachedOf q) c) ≡ got (record { value = record { keys = []; anim = animOf (q .spent) }; rest = restIn s NODE at (reached 3 false) c })
+        → readMoves (animOf (q .spent)) (restIn s NODE at (reachedOf q) c) ≡ got (record { value = record { keys = []; anim = animOf (q .spent) }; rest = restIn s NODE at (reachedAt 3 false) c })
         → Right s at from (motion.To (q .spent) t c)
     unfolding movesTally listsTally
     finish t e h = record {
       is = sym (v .so-far ∙ rw (h, none-plus, e, seen-anim (q .spent)));
-      within = record { from-at = v .from-at; room = v .among .room; same = v .same; within = rw e (v .within) };
+      within = record { from-at = v .going .from-at; room = v .going .among .room; same = v .going .same; within = rw e (v .going .within) };
     }
 
     module _ (r : Enclosed) (x : EnclosedIs s NODE at q c r) where
@@ -163,33 +151,27 @@ module _ (s : List ℕ) (at : ℕ) (from : Cursor) where
 
       pub moving-end : r ≡ enclosed.End → (t : Tally) → t ≡ plus m (animTally (animOf (q .spent))) → Right s at from (motion.To (q .spent) t c)
       unfolding readMoves order if
-      moving-end w t e = finish t e (rw (rest-end s NODE at q c r x w, rest-done s c next.Done (end-next s NODE at q c r x w) NODE at (reached 3 false) refl))
+      moving-end w t e = finish t e (rw (rest-end s NODE at q c r x w, rest-done s c next.Done (end-next s NODE at q c r x w) NODE at (reachedAt 3 false) refl))
 
       module _ (t : Tag) (p : ℕ) (b n : Cursor) (z : State) (w : r ≡ enclosed.Chunk t p b n z) where
         among : Chunked c p b n
         among = step-among s NODE at q c r x t p b n z w
 
         -- how far the moves come with this chunk
-        goes : nextTurn (nesting NODE) (nesting NODE) (reached 2 (q .spent)) t ≡ some (reachedOf z)
-        goes = subst (λ (i : ℕ). nextTurn (nesting NODE) (nesting NODE) (reached i (q .spent)) t ≡ some (reachedOf z)) (v .turn) (step-turn s NODE at q c r x t p b n z w)
+        goes : nextTurn (nesting NODE) (nesting NODE) (reachedAt 2 (q .spent)) t ≡ some (reachedOf z)
+        goes = subst (λ (i : ℕ). nextTurn (nesting NODE) (nesting NODE) (reachedAt i (q .spent)) t ≡ some (reachedOf z)) (v .turn) (step-turn s NODE at q c r x t p b n z w)
 
-        pub moving-body : Body p b (length s)
-        moving-body = step-body s NODE at q c r x at (v .among) t p b n z w
+        to : (u : Tally) → Within u (n .at - from .at) → Going s at from n u
+        to = going-to s at from c _ (v .going) NODE q r x t p b n z w
 
         pub moving-room : b .at ≤ b .end
         moving-room = among .room
-
-        pub moving-less : n .end - n .at < c .end - c .at
-        moving-less = let f = among in omega arith
-
-        among-next : Among at n (length s)
-        among-next = let f = among in record { head = omega (arith, v .among .head); room = f .to; within = omega (arith, v .among .within); small = v .among .small }
 
         pub moving-node : (ks : List ℕ) → OneOf ks (tagOf the-type t) → T (unmoved ks) → (u : Tally) → u ≡ plus m (animTally (animOf (q .spent))) → Right s at from (motion.To (q .spent) u c)
         unfolding unmoved readMoves nextTurn onward if
         moving-node ks o h u e =
             let (k, y) = node-turn (q .spent) (reachedOf z) t goes (one-of (λ t. not (is t KEYS || is t ANIM)) ks h t o) in
-            finish u e (rw (rest-step s NODE at q c r x t p b n z w, rest-chunk s c (next.Chunk t p b n) (step-next s NODE at q c r x t p b n z w) NODE at (reached 3 false) t p b n refl, k, y))
+            finish u e (rw (rest-step s NODE at q c r x t p b n z w, rest-chunk s c (next.Chunk t p b n) (step-next s NODE at q c r x t p b n z w) NODE at (reachedAt 3 false) t p b n refl, k, y))
 
         -- KEYS
 
@@ -201,27 +183,17 @@ module _ (s : List ℕ) (at : ℕ) (from : Cursor) where
 
           pub moving-keys-bad : (e i : ℕ) → j ≡ judge.Bad e i → Right s at from (motion.Not e i)
           moving-keys-bad e i y =
-              let f = among in
-              let le : i ≤ b .end = subst (JudgedIn p (b .end)) y (h .within) in
-              refuse e i (rw (keys-read, judged-bad listTally (readKeys p (left b s)) e i (sym (h .is) ∙ y))) (omega arith)
-
-          pub moving-keys-small : (u : Tally) → j ≡ judge.Good u → Within u mostBytes
-          moving-keys-small u y =
-              let i : Within u (b .end - p) = subst (JudgedIn p (b .end)) y (h .within) in
-              within-more (b .end - p) mostBytes i (let f = moving-body in omega (arith, f .within, f .small))
+              refuse e i (rw (keys-read, judged-bad listTally (readKeys p (left b s)) e i (sym (h .is) ∙ y))) (going-place s at from c _ (v .going) NODE q r x t p b n z w listTally _ j h e i y)
 
           pub moving-keys : (u a : Tally) → j ≡ judge.Good u → a ≡ plus m u → Moving s at from n z a
           moving-keys u a y e =
               let f = among in
               let g = judged-good listTally (readKeys p (left b s)) u (sym (h .is) ∙ y) in
-              let i : Within u (b .end - p) = subst (JudgedIn p (b .end)) y (h .within) in
-              let l = keys-turn (q .spent) z (subst (λ (t : Tag). nextTurn (nesting NODE) (nesting NODE) (reached 2 (q .spent)) t ≡ some (reachedOf z)) k goes) in
+              let i = going-one s at from c _ (v .going) NODE q r x t p b n z w listTally _ j h u y in
+              let l = keys-turn (q .spent) z (subst (λ (t : Tag). nextTurn (nesting NODE) (nesting NODE) (reachedAt 2 (q .spent)) t ≡ some (reachedOf z)) k goes) in
               record {
                 turn = l .0;
-                among = among-next;
-                from-at = omega (arith, v .from-at);
-                same = f .same ∙ v .same;
-                within = rw (e, l .1) (swapped m u (animTally (animOf (q .spent))) (c .at - from .at) (b .end - p) (n .at - from .at) (v .within) i (omega (arith, v .from-at)));
+                going = to _ (rw (e, l .1) (swapped m u (animTally (animOf (q .spent))) (c .at - from .at) (b .end - p) (n .at - from .at) (v .going .within) i (omega (arith, v .going .from-at))));
                 so-far =
                     v .so-far ∙ ap (movedFrom m) keys-read
                     ∙ keys-on (readKeys p (left b s)) u g m a e (readMoves (animOf (q .spent)) (restIn s NODE at (reachedOf z) n))
@@ -232,14 +204,14 @@ module _ (s : List ℕ) (at : ℕ) (from : Cursor) where
 
         module _ (k : t ≡ ANIM) where
           once : (q .spent ≡ false) × (z .turn ≡ 2) × (z .spent ≡ true)
-          once = anim-turn (q .spent) z (subst (λ (t : Tag). nextTurn (nesting NODE) (nesting NODE) (reached 2 (q .spent)) t ≡ some (reachedOf z)) k goes)
+          once = anim-turn (q .spent) z (subst (λ (t : Tag). nextTurn (nesting NODE) (nesting NODE) (reachedAt 2 (q .spent)) t ≡ some (reachedOf z)) k goes)
 
           anim-read : readMoves (animOf (q .spent)) (restIn s NODE at (reachedOf q) c) ≡ (readAnim p (left b s) >>= λ ws. readMoves (anim ws) (restIn s NODE at (reachedOf z) n))
           unfolding readMoves if
           anim-read = rw (rest-step s NODE at q c r x t p b n z w, k)
 
           size : length (left b s) ≡ b .end - b .at
-          size = let f = moving-body in left-length s b (record { before = f .room; within = f .within })
+          size = let f = going-body s at from c _ (v .going) NODE q r x t p b n z w in left-length s b (record { before = f .room; within = f .within })
 
           pub moving-anim-short : (b .end - b .at ≡ 12 → ⊥) → Right s at from (motion.Not 5 (b .at))
           moving-anim-short d =
@@ -253,15 +225,12 @@ module _ (s : List ℕ) (at : ℕ) (from : Cursor) where
               let (first, turn, spent) = once in
               record {
                 turn = turn;
-                among = among-next;
-                from-at = omega (arith, v .from-at);
-                same = f .same ∙ v .same;
-                within =
-                    subst (λ (d : Bool). Within (plus m (animTally (animOf d))) (n .at - from .at)) (sym spent)
-                    (twenty m (c .at - from .at) (n .at - from .at) (subst (λ (d : Bool). Within (plus m (animTally (animOf d))) (c .at - from .at)) first (v .within)) (omega (arith, v .from-at, f .body, f .from)));
+                going = to _
+                    (subst (λ (d : Bool). Within (plus m (animTally (animOf d))) (n .at - from .at)) (sym spent)
+                    (twenty m (c .at - from .at) (n .at - from .at) (subst (λ (d : Bool). Within (plus m (animTally (animOf d))) (c .at - from .at)) first (v .going .within)) (omega (arith, v .going .from-at, f .body, f .from))));
                 so-far =
                     v .so-far ∙ rw (anim-read, anim-whole p (left b s) (size ∙ d)) (anim-same (restIn s NODE at (reachedOf z) n) m (wordsOf 3 (left b s)) [])
                     ∙ ap (λ (d : Bool). movedFrom m (readMoves (animOf d) (restIn s NODE at (reachedOf z) n))) (sym spent);
               }
 
-pub ruleset moving-laws = (not-moves, moving-start, moving-inside, moving-head, moving-small, moving-stop, moving-end, moving-body, moving-room, moving-less, moving-node, moving-keys-bad, moving-keys-small, moving-keys, moving-anim-short, moving-anim)
+pub ruleset moving-laws = (not-moves, moving-start, moving-small, moving-stop, moving-end, moving-room, moving-node, moving-keys-bad, moving-keys, moving-anim-short, moving-anim, going)

@@ -13,7 +13,7 @@ use Rattle.b3d_tally.specs.Tally.{plus, movesTally}
 use Rattle.b3d_tally.specs.declared.Tally.{Tally}
 use Rattle.b3d_judge_moves.specs.declared.Motion.{Motion}
 use Rattle.b3d_judge_moves.specs.declared.Motion.the-variants as motion
-use Rattle.b3d_tally.specs.Answers.{Onward}
+use Rattle.b3d_tally.specs.Answers.{beside, Onward}
 
 -- an ANIM that was seen or not; its values are not kept
 abbrev pub animOf : Bool → Anim
@@ -22,13 +22,11 @@ animOf false = still
 
 -- KEYS and ANIM: whether there is an ANIM, beside their tally
 abbrev pub moved : Out (Found Moves) → Out (Bool × Tally × Chunks)
-moved (got x) = got (animated (x .value .anim), movesTally (x .value), x .rest)
-moved (bad n p) = bad n p
+moved = beside (λ x. animated (x .anim)) movesTally
 
 -- the same after a tally that was made before
 abbrev pub movedFrom : Tally → Out (Found Moves) → Out (Bool × Tally × Chunks)
-movedFrom m (got x) = got (animated (x .value .anim), plus m (movesTally (x .value)), x .rest)
-movedFrom m (bad n p) = bad n p
+movedFrom m = beside (λ x. animated (x .anim)) (λ x. plus m (movesTally x))
 
 abbrev pub movedBy : (Cursor → Chunks) → Motion → Out (Bool × Tally × Chunks)
 movedBy rest (motion.To a t c) = got (a, t, rest c)

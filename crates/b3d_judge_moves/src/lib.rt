@@ -7,7 +7,8 @@ ghost use Rattle.b3d_scene.specs.declared.Tag.the-variants.{NODE};
 ghost use Rattle.b3d_scene.specs.Scene.{still};
 ghost use Rattle.b3d_scene.specs.Parse.{readMoves};
 ghost use Rattle.b3d_tally.specs.Tally.{plus, animTally, Within};
-ghost use Rattle.b3d_inside.specs.Places.{reached, restIn, Among};
+ghost use Rattle.b3d_scene.specs.Nesting.{reachedAt};
+ghost use Rattle.b3d_inside.specs.Places.{restIn, Among};
 ghost use Rattle.b3d_judge_moves.specs.Answers.{animOf, Motions};
 use b3d_scene::Tag;
 use b3d_tally::Judged;
@@ -42,7 +43,7 @@ fn with_anim(m: Tally, seen: bool) -> Tally
 // KEYS and ANIM, in any mix, up to the first NODE.
 pub fn judge_moves(s: &[u8], at: usize, from: Cursor) -> Motion
     requires { ⌜ Among at from (length (now s)) ⌝ }
-    ensures { λ r. ⌜ Motions (readMoves still (restIn (now (s .entry)) NODE at (reached 2 false) from)) (restIn (now (s .entry)) NODE at (reached 3 false)) from r ⌝ }
+    ensures { λ r. ⌜ Motions (readMoves still (restIn (now (s .entry)) NODE at (reachedAt 2 false) from)) (restIn (now (s .entry)) NODE at (reachedAt 3 false)) from r ⌝ }
 {
     let mut c = from;
     let mut q = KIND_READ;

@@ -20,14 +20,14 @@ use Rattle.layout.proofs.Outs.{if-no}
 use Rattle.b3d_scene.specs.Tags.{is}
 use Rattle.b3d_scene.specs.Scene.{Kind, mesh, bone}
 use Rattle.b3d_scene.specs.Rules.{ownVertices}
-use Rattle.b3d_scene.specs.Nesting.{start, next as nextTurn, onward, order}
+use Rattle.b3d_scene.specs.Nesting.{start, next as nextTurn, onward, order, reachedAt}
 use Rattle.b3d_scene.specs.Parse.{readMesh, readBone, aMesh, aBone, readKind}
 use Rattle.b3d_scene.proofs.Tag.{the-type}
 use Rattle.b3d_chunks.specs.Chunks.{NextIs}
 use Rattle.b3d_chunks.specs.declared.Next.the-variants as next
 use Rattle.b3d_chunks.proofs.Nexts.{chunk-among}
 use Rattle.b3d_tally.specs.Tally.{noTally, boneTally, kindTally, Within}
-use Rattle.b3d_inside.specs.Places.{Body, reached, restIn, Among}
+use Rattle.b3d_inside.specs.Places.{Body, restIn, Among}
 use Rattle.b3d_tally.specs.Answers.{JudgedIn, Judges}
 use Rattle.b3d_tally.specs.declared.Tally.{Tally}
 use Rattle.b3d_tally.specs.declared.Judged.{Judged}
@@ -60,16 +60,16 @@ neither false b h = (tt, h)
 
 module _ (mode : Mode) (s : List ℕ) (at : ℕ) (from : Cursor) (g : Among at from (length s)) (brushes bones : ℕ) (r : Enclosed) (x : EnclosedIs s NODE at (record { turn = 0; spent = false }) from r) where
   pub kind-end : r ≡ enclosed.End → (t : Tally) → t ≡ noTally
-      → Kinds (readKind mode brushes bones (restIn s NODE at start from)) (restIn s NODE at (reached 2 false)) from (kind.To 0 t from)
+      → Kinds (readKind mode brushes bones (restIn s NODE at start from)) (restIn s NODE at (reachedAt 2 false)) from (kind.To 0 t from)
   unfolding readKind order if kindTally
   kind-end w t e =
       let d = end-next s NODE at (record { turn = 0; spent = false }) from r x w in
       record {
-        is = rw (rest-done s from next.Done d NODE at start refl, rest-done s from next.Done d NODE at (reached 2 false) refl, e);
+        is = rw (rest-done s from next.Done d NODE at start refl, rest-done s from next.Done d NODE at (reachedAt 2 false) refl, e);
         within = onward-none from t (g .room) e;
       }
 
-  pub kind-stop : (e p : ℕ) → r ≡ enclosed.Not e p → Kinds (readKind mode brushes bones (restIn s NODE at start from)) (restIn s NODE at (reached 2 false)) from (kind.Not e p)
+  pub kind-stop : (e p : ℕ) → r ≡ enclosed.Not e p → Kinds (readKind mode brushes bones (restIn s NODE at start from)) (restIn s NODE at (reachedAt 2 false)) from (kind.Not e p)
   unfolding readKind
   kind-stop e p w = record {
     is = rw (rest-stop s NODE at (record { turn = 0; spent = false }) from r x e p w);
@@ -84,24 +84,24 @@ module _ (mode : Mode) (s : List ℕ) (at : ℕ) (from : Cursor) (g : Among at f
     kind-body = step-body s NODE at (record { turn = 0; spent = false }) from r x at g t p b n z w
 
     -- a chunk of what follows a kind
-    pub kind-plain : (ks : List ℕ) → OneOf ks (tagOf the-type t) → T (plain NODE takes start (reached 2 false) ks) → (m : Tally) → m ≡ noTally
-        → Kinds (readKind mode brushes bones (restIn s NODE at start from)) (restIn s NODE at (reached 2 false)) from (kind.To 0 m from)
+    pub kind-plain : (ks : List ℕ) → OneOf ks (tagOf the-type t) → T (plain NODE takes start (reachedAt 2 false) ks) → (m : Tally) → m ≡ noTally
+        → Kinds (readKind mode brushes bones (restIn s NODE at start from)) (restIn s NODE at (reachedAt 2 false)) from (kind.To 0 m from)
     unfolding readKind onward kindTally
     kind-plain ks o h m e =
-        let f = plain-here NODE takes start (reached 2 false) ks h t o (reachedOf z) (step-turn s NODE at (record { turn = 0; spent = false }) from r x t p b n z w) in
+        let f = plain-here NODE takes start (reachedAt 2 false) ks h t o (reachedOf z) (step-turn s NODE at (record { turn = 0; spent = false }) from r x t p b n z w) in
         let not-either = neither (is t MESH) (is t BONE) (f .0) in
         let e₁ = rest-chunk s from (next.Chunk t p b n) found NODE at start t p b n refl ∙ ap (λ g. onward g p (λ y. chunk t p (left b s) (restIn s NODE at y n))) (f .1 .first) in
-        let e₂ = rest-chunk s from (next.Chunk t p b n) found NODE at (reached 2 false) t p b n refl ∙ ap (λ g. onward g p (λ y. chunk t p (left b s) (restIn s NODE at y n))) (f .1 .second) in
+        let e₂ = rest-chunk s from (next.Chunk t p b n) found NODE at (reachedAt 2 false) t p b n refl ∙ ap (λ g. onward g p (λ y. chunk t p (left b s) (restIn s NODE at y n))) (f .1 .second) in
         record { is = rw (e₁, e₂, if-no (is t MESH) _ _ (not-either .0), if-no (is t BONE) _ _ (not-either .1), e); within = onward-none from m (g .room) e }
 
     -- a MESH or a BONE that was read as o, and then the chunks after it
     module _ {A : Type 0} (o : Out A) (wrap : A → Kind)
-        (h : readKind mode brushes bones (restIn s NODE at start from) ≡ (o >>= λ a. got (record { value = wrap a; rest = restIn s NODE at (reached 1 true) n }))) where
-      taken-bad : (e q : ℕ) → o ≡ bad e q → q ≤ b .end → Kinds (readKind mode brushes bones (restIn s NODE at start from)) (restIn s NODE at (reached 2 false)) from (kind.Not e q)
+        (h : readKind mode brushes bones (restIn s NODE at start from) ≡ (o >>= λ a. got (record { value = wrap a; rest = restIn s NODE at (reachedAt 1 true) n }))) where
+      taken-bad : (e q : ℕ) → o ≡ bad e q → q ≤ b .end → Kinds (readKind mode brushes bones (restIn s NODE at start from)) (restIn s NODE at (reachedAt 2 false)) from (kind.Not e q)
       taken-bad e q k le = record { is = rw (h, k); within = let f = chunk-among s from (next.Chunk t p b n) found t p b n refl in omega arith }
 
       taken : (a : A) (own : ℕ) (m : Tally) → o ≡ got a → own ≡ ownVertices (wrap a) → m ≡ kindTally (wrap a) → Within m (b .end - p)
-          → Kinds (readKind mode brushes bones (restIn s NODE at start from)) (restIn s NODE at (reached 2 false)) from (kind.To own m n)
+          → Kinds (readKind mode brushes bones (restIn s NODE at start from)) (restIn s NODE at (reachedAt 2 false)) from (kind.To own m n)
       taken a own m k eo em i = record {
         is = rw (h, k, eo, em, ← after-kind s at n);
         within =
@@ -110,36 +110,36 @@ module _ (mode : Mode) (s : List ℕ) (at : ℕ) (from : Cursor) (g : Among at f
       }
 
     module _ (e : t ≡ MESH) (j : Meshed) (h : Meshes (readMesh mode brushes p (left b s)) p (b .end) j) where
-      mesh-read : readKind mode brushes bones (restIn s NODE at start from) ≡ (readMesh mode brushes p (left b s) >>= λ a. got (record { value = mesh a; rest = restIn s NODE at (reached 1 true) n }))
+      mesh-read : readKind mode brushes bones (restIn s NODE at start from) ≡ (readMesh mode brushes p (left b s) >>= λ a. got (record { value = mesh a; rest = restIn s NODE at (reachedAt 1 true) n }))
       unfolding readKind aMesh nextTurn onward if
       mesh-read = rw (rest-chunk s from (next.Chunk t p b n) found NODE at start t p b n refl, e)
 
-      pub kind-mesh-bad : (i q : ℕ) → j ≡ meshes.Not i q → Kinds (readKind mode brushes bones (restIn s NODE at start from)) (restIn s NODE at (reached 2 false)) from (kind.Not i q)
+      pub kind-mesh-bad : (i q : ℕ) → j ≡ meshes.Not i q → Kinds (readKind mode brushes bones (restIn s NODE at start from)) (restIn s NODE at (reachedAt 2 false)) from (kind.Not i q)
       kind-mesh-bad i q y =
           taken-bad (readMesh mode brushes p (left b s)) mesh mesh-read i q (meshed-bad _ i q (sym (h .is) ∙ y)) (subst (MeshedIn p (b .end)) y (h .within))
 
-      pub kind-mesh : (own : ℕ) (m : Tally) → j ≡ meshes.Is own m → Kinds (readKind mode brushes bones (restIn s NODE at start from)) (restIn s NODE at (reached 2 false)) from (kind.To own m n)
+      pub kind-mesh : (own : ℕ) (m : Tally) → j ≡ meshes.Is own m → Kinds (readKind mode brushes bones (restIn s NODE at start from)) (restIn s NODE at (reachedAt 2 false)) from (kind.To own m n)
       unfolding kindTally
       kind-mesh own m y =
           let v = meshed-good (readMesh mode brushes p (left b s)) own m (sym (h .is) ∙ y) in
           taken (readMesh mode brushes p (left b s)) mesh mesh-read (v .value) own m (v .is) (v .own-is) (v .has) (subst (MeshedIn p (b .end)) y (h .within))
 
     module _ (e : t ≡ BONE) (j : Judged) (h : Judges boneTally (readBone bones p (left b s)) p (b .end) j) where
-      bone-read : readKind mode brushes bones (restIn s NODE at start from) ≡ (readBone bones p (left b s) >>= λ a. got (record { value = bone a; rest = restIn s NODE at (reached 1 true) n }))
+      bone-read : readKind mode brushes bones (restIn s NODE at start from) ≡ (readBone bones p (left b s) >>= λ a. got (record { value = bone a; rest = restIn s NODE at (reachedAt 1 true) n }))
       unfolding readKind aBone nextTurn onward if
       bone-read = rw (rest-chunk s from (next.Chunk t p b n) found NODE at start t p b n refl, e)
 
-      pub kind-bone-bad : (i q : ℕ) → j ≡ judge.Bad i q → Kinds (readKind mode brushes bones (restIn s NODE at start from)) (restIn s NODE at (reached 2 false)) from (kind.Not i q)
+      pub kind-bone-bad : (i q : ℕ) → j ≡ judge.Bad i q → Kinds (readKind mode brushes bones (restIn s NODE at start from)) (restIn s NODE at (reachedAt 2 false)) from (kind.Not i q)
       kind-bone-bad i q y =
           taken-bad (readBone bones p (left b s)) bone bone-read i q (judged-bad boneTally _ i q (sym (h .is) ∙ y)) (subst (JudgedIn p (b .end)) y (h .within))
 
-      pub kind-bone : (m : Tally) → j ≡ judge.Good m → Kinds (readKind mode brushes bones (restIn s NODE at start from)) (restIn s NODE at (reached 2 false)) from (kind.To 0 m n)
+      pub kind-bone : (m : Tally) → j ≡ judge.Good m → Kinds (readKind mode brushes bones (restIn s NODE at start from)) (restIn s NODE at (reachedAt 2 false)) from (kind.To 0 m n)
       unfolding kindTally
       kind-bone m y =
           let v = judged-good boneTally (readBone bones p (left b s)) m (sym (h .is) ∙ y) in
           taken (readBone bones p (left b s)) bone bone-read (v .value) 0 m (v .is) refl (v .has) (subst (JudgedIn p (b .end)) y (h .within))
 
-pub kind-follows : T (plain NODE takes start (reached 2 false) (0 ∷ 1 ∷ 2 ∷ 3 ∷ 5 ∷ 6 ∷ 8 ∷ 9 ∷ []))
+pub kind-follows : T (plain NODE takes start (reachedAt 2 false) (0 ∷ 1 ∷ 2 ∷ 3 ∷ 5 ∷ 6 ∷ 8 ∷ 9 ∷ []))
 unfolding plain isNone sameTurn boolSame nextTurn if
 kind-follows = tt
 

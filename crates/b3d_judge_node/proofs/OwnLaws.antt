@@ -9,7 +9,6 @@ use lib.ListN.{length, take}
 use Rattle.wire.specs.Cursors.{Inside, left}
 use Rattle.wire.specs.declared.Cursor.{Cursor}
 use Rattle.layout.specs.Out.{Out, got, bad, _>>=_}
-use Rattle.layout.proofs.Outs.{got-inj}
 use Rattle.layout.specs.Parts.{wordsOf}
 use Rattle.layout.specs.Rows.{mostBytes}
 use Rattle.b3d_scene.specs.declared.Mode.{Mode}
@@ -17,14 +16,15 @@ use Rattle.b3d_scene.specs.declared.Tag.the-variants.{NODE}
 use Rattle.b3d_scene.specs.Tags.{Chunks, Found}
 use Rattle.b3d_scene.specs.Scene.{Kind, still, Data}
 use Rattle.b3d_scene.specs.Rules.{nodeRow, ownVertices, boneVertices, animated, bonesFrom}
-use Rattle.b3d_scene.specs.Nesting.{start, inside}
+use Rattle.b3d_scene.specs.Nesting.{start, inside, reachedAt}
 use Rattle.b3d_scene.specs.Parse.{Moves, readKind, readMoves}
 use Rattle.b3d_chunks.specs.Chunks.{namedAt, NamedIn}
 use Rattle.b3d_chunks.specs.declared.Named.{Named}
 use Rattle.b3d_chunks.specs.declared.Named.the-variants as named
 use Rattle.b3d_chunks.proofs.Names.{named-cut, named-any, named-among}
+use Rattle.b3d_tally.proofs.Answered.{GaveBeside, beside-bad, beside-good}
 use Rattle.b3d_tally.specs.Tally.{headTally, kindTally, movesTally, dataTally, plus, Within}
-use Rattle.b3d_inside.specs.Places.{Body, reached, restIn, Among}
+use Rattle.b3d_inside.specs.Places.{Body, restIn, Among}
 use Rattle.b3d_tally.specs.declared.Tally.{Tally}
 use Rattle.b3d_tally.proofs.Tallies.{within-more, within-plus, within-head}
 use Rattle.b3d_judge_node.specs.Answers.{readParts, readOwn, kinded, kindedBy, KindedIn, Kinds, aboveOf, owned, OwnedIn, parted, Parted, Owns}
@@ -41,40 +41,8 @@ use Rattle.b3d_judge_node.specs.declared.Above.the-variants as above
 
 -- ---- what the answers say
 
-kinded-bad : (o : Out (Found Kind)) (e q : ℕ) → bad e q ≡ kinded o → o ≡ bad e q
-kinded-bad (got x) e q h = let z : _≡_ {A = ℕ} 0 1 = cc in absurd (omega arith)
-kinded-bad (bad n p) e q h = cc
-
-record GaveKind (o : Out (Found Kind)) (k : ℕ) (t : Tally) (rest : Chunks) : Type 0 where
-  value : Kind
-  is : o ≡ got (record { value = value; rest = rest })
-  vertices : k ≡ ownVertices value
-  has : t ≡ kindTally value
-
-kinded-good : (o : Out (Found Kind)) (k : ℕ) (t : Tally) (rest : Chunks) → got (k, t, rest) ≡ kinded o → GaveKind o k t rest
-kinded-good (got x) k t rest h =
-    let e : _≡_ {A = ℕ × Tally × Chunks} (k, t, rest) (ownVertices (x .value), kindTally (x .value), x .rest) = got-inj h in
-    record { value = x .value; is = λ i. got (record { value = x .value; rest = sym e i .2 }); vertices = ap (λ (z : ℕ × Tally × Chunks). z .0) e; has = ap (λ (z : ℕ × Tally × Chunks). z .1) e }
-kinded-good (bad n p) k t rest h = let z : _≡_ {A = ℕ} 0 1 = cc in absurd (omega arith)
-
 kinds-at : (o : Out (Found Kind)) (rest : Cursor → Chunks) (from : Cursor) (k : Kinded) → Kinds o rest from k → {x : Kinded} → k ≡ x → kindedBy rest x ≡ kinded o
 kinds-at o rest from k h z = subst (λ (x : Kinded). kindedBy rest x ≡ kinded o) z (h .is)
-
-moved-bad : (o : Out (Found Moves)) (e q : ℕ) → bad e q ≡ moved o → o ≡ bad e q
-moved-bad (got x) e q h = let z : _≡_ {A = ℕ} 0 1 = cc in absurd (omega arith)
-moved-bad (bad n p) e q h = cc
-
-record GaveMoves (o : Out (Found Moves)) (b : Bool) (t : Tally) (rest : Chunks) : Type 0 where
-  value : Moves
-  is : o ≡ got (record { value = value; rest = rest })
-  seen : b ≡ animated (value .anim)
-  has : t ≡ movesTally value
-
-moved-good : (o : Out (Found Moves)) (b : Bool) (t : Tally) (rest : Chunks) → got (b, t, rest) ≡ moved o → GaveMoves o b t rest
-moved-good (got x) b t rest h =
-    let e : _≡_ {A = Bool × Tally × Chunks} (b, t, rest) (animated (x .value .anim), movesTally (x .value), x .rest) = got-inj h in
-    record { value = x .value; is = λ i. got (record { value = x .value; rest = sym e i .2 }); seen = ap (λ (z : Bool × Tally × Chunks). z .0) e; has = ap (λ (z : Bool × Tally × Chunks). z .1) e }
-moved-good (bad n p) b t rest h = let z : _≡_ {A = ℕ} 0 1 = cc in absurd (omega arith)
 
 motions-at : (o : Out (Found Moves)) (rest : Cursor → Chunks) (from : Cursor) (k : Motion) → Motions o rest from k → {x : Motion} → k ≡ x → movedBy rest x ≡ moved o
 motions-at o rest from k h z = subst (λ (x : Motion). movedBy rest x ≡ moved o) z (h .is)
@@ -111,9 +79,9 @@ pub ruleset own-rows-laws = (own-head-small, own-rows-small, own-rows-are)
 -- ---- the ways of `judge_parts`
 
 module _ (mode : Mode) (s : List ℕ) (at : ℕ) (from : Cursor) (g : Among at from (length s)) (far : at + 49 ≤ from .at) (brushes : ℕ) (a : Option ℕ) (bones : ℕ) (eb : bones ≡ boneVertices a)
-    (k : Kinded) (hk : Kinds (readKind mode brushes bones (restIn s NODE at start from)) (restIn s NODE at (reached 2 false)) from k) where
+    (k : Kinded) (hk : Kinds (readKind mode brushes bones (restIn s NODE at start from)) (restIn s NODE at (reachedAt 2 false)) from k) where
   abbrev Right-parts : Owned → Type 0
-  Right-parts x = Parted a (readParts mode brushes (boneVertices a) (restIn s NODE at start from)) (restIn s NODE at (reached 3 false)) at from x
+  Right-parts x = Parted a (readParts mode brushes (boneVertices a) (restIn s NODE at start from)) (restIn s NODE at (reachedAt 3 false)) at from x
 
   -- the moves after a kind
   abbrev made : Kind → Out (Found Moves) → Out (Found (Kind × Moves))
@@ -125,15 +93,15 @@ module _ (mode : Mode) (s : List ℕ) (at : ℕ) (from : Cursor) (g : Among at f
   pub parts-kind-bad : (e q : ℕ) → k ≡ kind.Not e q → Right-parts (own.Not e q)
   unfolding readParts
   parts-kind-bad e q z =
-      let b = kinded-bad (readKind mode brushes bones (restIn s NODE at start from)) e q (kinds-at (readKind mode brushes bones (restIn s NODE at start from)) (restIn s NODE at (reached 2 false)) from k hk z) in
+      let b = beside-bad ownVertices kindTally (readKind mode brushes bones (restIn s NODE at start from)) e q (kinds-at (readKind mode brushes bones (restIn s NODE at start from)) (restIn s NODE at (reachedAt 2 false)) from k hk z) in
       record { is = rw (← eb, b); within = subst (KindedIn from) z (hk .within) }
 
   module _ (have : ℕ) (t : Tally) (c : Cursor) (z : k ≡ kind.To have t c) where
     on : Onward from c t
     on = subst (KindedIn from) z (hk .within)
 
-    gave : GaveKind (readKind mode brushes bones (restIn s NODE at start from)) have t (restIn s NODE at (reached 2 false) c)
-    gave = kinded-good (readKind mode brushes bones (restIn s NODE at start from)) have t (restIn s NODE at (reached 2 false) c) (kinds-at (readKind mode brushes bones (restIn s NODE at start from)) (restIn s NODE at (reached 2 false)) from k hk z)
+    gave : GaveBeside ownVertices kindTally (readKind mode brushes bones (restIn s NODE at start from)) have t (restIn s NODE at (reachedAt 2 false) c)
+    gave = beside-good ownVertices kindTally (readKind mode brushes bones (restIn s NODE at start from)) have t (restIn s NODE at (reachedAt 2 false) c) (kinds-at (readKind mode brushes bones (restIn s NODE at start from)) (restIn s NODE at (reachedAt 2 false)) from k hk z)
 
     pub parts-among : Among at c (length s)
     parts-among = let o = on in record { head = omega (arith, g .head, o .from-at); room = o .room; within = omega (arith, g .within, o .same); small = g .small }
@@ -149,13 +117,13 @@ module _ (mode : Mode) (s : List ℕ) (at : ℕ) (from : Cursor) (g : Among at f
     pub parts-first-small : Within (plus headTally t) mostBytes
     parts-first-small = let q = parts-among in within-more (c .at - at) mostBytes first-within (omega (arith, q .room, q .within, g .small))
 
-    module _ (j : Motion) (hj : Motions (readMoves still (restIn s NODE at (reached 2 false) c)) (restIn s NODE at (reached 3 false)) c j) where
+    module _ (j : Motion) (hj : Motions (readMoves still (restIn s NODE at (reachedAt 2 false) c)) (restIn s NODE at (reachedAt 3 false)) c j) where
       pub parts-moves-bad : (e q : ℕ) → j ≡ motion.Not e q → Right-parts (own.Not e q)
       unfolding readParts
       parts-moves-bad e q y =
           let o = on in
           let v = gave in
-          let b = moved-bad (readMoves still (restIn s NODE at (reached 2 false) c)) e q (motions-at (readMoves still (restIn s NODE at (reached 2 false) c)) (restIn s NODE at (reached 3 false)) c j hj y) in
+          let b = beside-bad (λ x. animated (x .anim)) movesTally (readMoves still (restIn s NODE at (reachedAt 2 false) c)) e q (motions-at (readMoves still (restIn s NODE at (reachedAt 2 false) c)) (restIn s NODE at (reachedAt 3 false)) c j hj y) in
           let le : q ≤ c .end = subst (MovedIn c) y (hj .within) in
           record { is = rw (← eb, v .is, b); within = omega (arith, o .same) }
 
@@ -172,13 +140,13 @@ module _ (mode : Mode) (s : List ℕ) (at : ℕ) (from : Cursor) (g : Among at f
             let o = on in
             let m = after-moves in
             let kd = gave in
-            let mv = moved-good (readMoves still (restIn s NODE at (reached 2 false) c)) seen u (restIn s NODE at (reached 3 false) d) (motions-at (readMoves still (restIn s NODE at (reached 2 false) c)) (restIn s NODE at (reached 3 false)) c j hj y) in
-            let to : readParts mode brushes bones (restIn s NODE at start from) ≡ got (record { value = (kd .value, mv .value); rest = restIn s NODE at (reached 3 false) d }) =
+            let mv = beside-good (λ x. animated (x .anim)) movesTally (readMoves still (restIn s NODE at (reachedAt 2 false) c)) seen u (restIn s NODE at (reachedAt 3 false) d) (motions-at (readMoves still (restIn s NODE at (reachedAt 2 false) c)) (restIn s NODE at (reachedAt 3 false)) c j hj y) in
+            let to : readParts mode brushes bones (restIn s NODE at start from) ≡ got (record { value = (kd .value, mv .value); rest = restIn s NODE at (reachedAt 3 false) d }) =
             ap go (kd .is) ∙ ap (made (kd .value)) (mv .is) in
-            let eq-below : aboveOf below ≡ bonesFrom a (animated (mv .value .anim)) (ownVertices (kd .value)) = e-below ∙ ap₂ (bonesFrom a) (mv .seen) (kd .vertices) in
+            let eq-below : aboveOf below ≡ bonesFrom a (animated (mv .value .anim)) (ownVertices (kd .value)) = e-below ∙ ap₂ (bonesFrom a) (mv .first) (kd .first) in
             let eq-tally : x ≡ plus (plus headTally (kindTally (kd .value))) (movesTally (mv .value)) = ex ∙ ap (λ (q : Tally). plus q u) (ap (plus headTally) (kd .has)) ∙ ap (plus (plus headTally (kindTally (kd .value)))) (mv .has) in
             record {
-              is = rw (← eb, to) (λ i. got (eq-below i, eq-tally i, restIn s NODE at (reached 3 false) d));
+              is = rw (← eb, to) (λ i. got (eq-below i, eq-tally i, restIn s NODE at (reachedAt 3 false) d));
               within = (
                 record {
                   from-at = omega (arith, far, o .from-at, m .from-at);
@@ -210,7 +178,7 @@ module _ (s : List ℕ) (at : ℕ) (body : Cursor) (g : Body at body (length s))
 module _ (mode : Mode) (s : List ℕ) (at : ℕ) (body : Cursor) (g : Body at body (length s)) (brushes : ℕ) (a : Option ℕ) (r : Named) (er : r ≡ namedAt s body 10) where
   -- the answers that are right
   abbrev Right : Owned → Type 0
-  Right x = Owns a (readOwn mode brushes a at (left body s)) (restIn s NODE at (reached 3 false)) at body x
+  Right x = Owns a (readOwn mode brushes a at (left body s)) (restIn s NODE at (reachedAt 3 false)) at body x
 
   inside-body : Inside body (length s)
   inside-body = record { before = g .room; within = g .within }
@@ -246,7 +214,7 @@ module _ (mode : Mode) (s : List ℕ) (at : ℕ) (body : Cursor) (g : Body at bo
     owned-parted (got x) = refl
     owned-parted (bad e q) = refl
 
-    pub own-parts : (k : Owned) → Parted a (readParts mode brushes (boneVertices a) (restIn s NODE at start n)) (restIn s NODE at (reached 3 false)) at n k → Right k
+    pub own-parts : (k : Owned) → Parted a (readParts mode brushes (boneVertices a) (restIn s NODE at start n)) (restIn s NODE at (reachedAt 3 false)) at n k → Right k
     own-parts k h =
         let f = named-among body 10 r ir len v n w in
         record {

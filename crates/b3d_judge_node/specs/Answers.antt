@@ -21,7 +21,7 @@ use Rattle.b3d_judge_node.specs.declared.Above.{Above}
 use Rattle.b3d_judge_node.specs.declared.Above.the-variants as above
 use Rattle.b3d_judge_node.specs.declared.Owned.{Owned}
 use Rattle.b3d_judge_node.specs.declared.Owned.the-variants as own
-use Rattle.b3d_tally.specs.Answers.{Onward}
+use Rattle.b3d_tally.specs.Answers.{beside, Onward}
 
 -- the chunks inside a NODE up to the nodes below it: its kind, its KEYS and ANIM, and the chunks that are left
 unfoldable pub readParts : Mode → ℕ → ℕ → Chunks → Out (Found (Kind × Moves))
@@ -44,8 +44,7 @@ readOwn mode brushes above p b = do
 
 -- a kind: the vertices of its mesh beside its tally
 abbrev pub kinded : Out (Found Kind) → Out (ℕ × Tally × Chunks)
-kinded (got x) = got (ownVertices (x .value), kindTally (x .value), x .rest)
-kinded (bad n p) = bad n p
+kinded = beside ownVertices kindTally
 
 abbrev pub kindedBy : (Cursor → Chunks) → Kinded → Out (ℕ × Tally × Chunks)
 kindedBy rest (kind.To k t c) = got (k, t, rest c)
@@ -66,8 +65,7 @@ aboveOf (above.Of n) = some n
 
 -- a node's own: what it says of bones to those below, beside its tally
 abbrev pub owned : Option ℕ → Out (Found Data) → Out (Option ℕ × Tally × Chunks)
-owned a (got x) = got (bonesBelow a (x .value), dataTally (x .value), x .rest)
-owned a (bad n p) = bad n p
+owned a = beside (bonesBelow a) dataTally
 
 abbrev pub ownedBy : (Cursor → Chunks) → Owned → Out (Option ℕ × Tally × Chunks)
 ownedBy rest (own.To a t c) = got (aboveOf a, t, rest c)
@@ -80,9 +78,7 @@ OwnedIn at body (own.Not n p) = p ≤ body .end
 
 -- a node's kind with its KEYS and ANIM: the same, from those alone
 abbrev pub parted : Option ℕ → Out (Found (Kind × Moves)) → Out (Option ℕ × Tally × Chunks)
-parted a (got x) =
-    got (bonesFrom a (animated (x .value .1 .anim)) (ownVertices (x .value .0)), plus (plus headTally (kindTally (x .value .0))) (movesTally (x .value .1)), x .rest)
-parted a (bad n p) = bad n p
+parted a = beside (λ x. bonesFrom a (animated (x .1 .anim)) (ownVertices (x .0))) (λ x. plus (plus headTally (kindTally (x .0))) (movesTally (x .1)))
 
 pub record Parted (a : Option ℕ) (o : Out (Found (Kind × Moves))) (rest : Cursor → Chunks) (at : ℕ) (from : Cursor) (r : Owned) : Type 0 where
   pub is : ownedBy rest r ≡ parted a o

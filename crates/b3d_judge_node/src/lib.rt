@@ -7,10 +7,10 @@ ghost use Rattle.wire.specs.Cursors.{left};
 ghost use Rattle.layout.specs.Rows.{mostBytes};
 ghost use Rattle.b3d_scene.specs.declared.Tag.the-variants.{NODE};
 ghost use Rattle.b3d_scene.specs.Rules.{boneVertices, bonesFrom};
-ghost use Rattle.b3d_scene.specs.Nesting.{start};
+ghost use Rattle.b3d_scene.specs.Nesting.{start, reachedAt};
 ghost use Rattle.b3d_scene.specs.Parse.{readKind};
 ghost use Rattle.b3d_tally.specs.Tally.{plus, headTally, Within};
-ghost use Rattle.b3d_inside.specs.Places.{Body, reached, restIn, Among};
+ghost use Rattle.b3d_inside.specs.Places.{Body, restIn, Among};
 ghost use Rattle.b3d_judge_node.specs.Answers.{readParts, readOwn, Kinds, Parted, Owns, aboveOf};
 use b3d_chunks::Named;
 use b3d_judge_mesh::Meshed;
@@ -75,7 +75,7 @@ pub fn judge_kind(
     mode: Mode,
 ) -> Kinded
     requires { ⌜ Among at from (length (now s)) ⌝ }
-    ensures { λ r. ⌜ Kinds (readKind mode brushes bones (restIn (now (s .entry)) NODE at start from)) (restIn (now (s .entry)) NODE at (reached 2 false)) from r ⌝ }
+    ensures { λ r. ⌜ Kinds (readKind mode brushes bones (restIn (now (s .entry)) NODE at start from)) (restIn (now (s .entry)) NODE at (reachedAt 2 false)) from r ⌝ }
 {
     let found = b3d_chunks::next_chunk(s, from);
     match b3d_turns::first_inside(s, from, found, Tag::NODE, at) {
@@ -112,7 +112,7 @@ fn own_rows(kind: Tally, moves: Tally) -> Tally
 // The chunks inside a NODE up to the nodes below it.
 fn judge_parts(s: &[u8], at: usize, from: Cursor, brushes: usize, above: Above, mode: Mode) -> Owned
     requires { ⌜ Among at from (length (now s)) × (at + 49 ≤ from .at) ⌝ }
-    ensures { λ r. ⌜ Parted (aboveOf above) (readParts mode brushes (boneVertices (aboveOf above)) (restIn (now (s .entry)) NODE at start from)) (restIn (now (s .entry)) NODE at (reached 3 false)) at from r ⌝ }
+    ensures { λ r. ⌜ Parted (aboveOf above) (readParts mode brushes (boneVertices (aboveOf above)) (restIn (now (s .entry)) NODE at start from)) (restIn (now (s .entry)) NODE at (reachedAt 3 false)) at from r ⌝ }
 {
     match judge_kind(s, at, from, brushes, bone_vertices(above), mode) {
         Kinded::Not(e, q) => Owned::Not(e, q),
@@ -133,7 +133,7 @@ pub fn judge_own(
     mode: Mode,
 ) -> Owned
     requires { ⌜ Body at body (length (now s)) ⌝ }
-    ensures { λ r. ⌜ Owns (aboveOf above) (readOwn mode brushes (aboveOf above) at (left body (now (s .entry)))) (restIn (now (s .entry)) NODE at (reached 3 false)) at body r ⌝ }
+    ensures { λ r. ⌜ Owns (aboveOf above) (readOwn mode brushes (aboveOf above) at (left body (now (s .entry)))) (restIn (now (s .entry)) NODE at (reachedAt 3 false)) at body r ⌝ }
 {
     match b3d_chunks::named_row(s, body, 10) {
         Named::Cut => Owned::Not(5, body.at),

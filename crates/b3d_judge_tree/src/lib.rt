@@ -5,7 +5,8 @@ ghost use Rattle.wire.specs.Cursors.{left};
 ghost use Rattle.b3d_scene.specs.declared.Tag.the-variants.{NODE};
 ghost use Rattle.b3d_scene.specs.Parse.{readNodes, readNode};
 ghost use Rattle.b3d_tally.specs.Tally.{forestTally, innerTally};
-ghost use Rattle.b3d_inside.specs.Places.{Body, reached, restIn, Among};
+ghost use Rattle.b3d_scene.specs.Nesting.{reachedAt};
+ghost use Rattle.b3d_inside.specs.Places.{Body, restIn, Among};
 ghost use Rattle.b3d_tally.specs.Answers.{Judges};
 ghost use Rattle.b3d_judge_node.specs.Answers.{aboveOf};
 use b3d_judge_node::Above;
@@ -59,7 +60,7 @@ pub fn judge_nodes(
     mode: Mode,
 ) -> Judged
     requires { ⌜ Among at from (length (now s)) ⌝ }
-    ensures { λ r. ⌜ Judges forestTally (readNodes (readNode mode levels brushes (aboveOf above)) (restIn (now (s .entry)) NODE at (reached 3 false) from)) (from .at) (from .end) r ⌝ }
+    ensures { λ r. ⌜ Judges forestTally (readNodes (readNode mode levels brushes (aboveOf above)) (restIn (now (s .entry)) NODE at (reachedAt 3 false) from)) (from .at) (from .end) r ⌝ }
 {
     let mut c = from;
     let mut q = MOVES_READ;

@@ -1,11 +1,10 @@
 -- What each step of `vrts_vertices`, `mesh_vertices` and `root_vertices` says of the vertices.
-use Prim.Native.Nat.{ℕ, suc, _+_, _-_, _*_, _/_, _%_, _<_, _≤_}
+use Prim.Native.Nat.{ℕ, _+_, _-_, _<_, _≤_}
 use native.Mathlib.Omega.{arith}
 use mathlib.Core.Path.{_≡_, refl, ap, sym, _∙_}
 use mathlib.Core.Bool.{Bool, true, false}
 use mathlib.Core.List.{List, [], _∷_}
 use lib.ListN.{length}
-use lib.Dec.{eqb}
 use borrow.Author.Tests.{le-leb, lt-leb, ne-eqb}
 use Rattle.wire.specs.Bytes.{wordAt}
 use Rattle.wire.specs.Test.{if}
@@ -14,11 +13,10 @@ use Rattle.wire.specs.declared.Cursor.{Cursor}
 use Rattle.wire.specs.declared.Number.{Number}
 use Rattle.wire.specs.declared.Number.the-variants as number
 use Rattle.wire.proofs.Found.{number-inside}
-use Rattle.wire.proofs.Left.{span, left-length, left-four, left-drop}
-use Rattle.layout.specs.Out.{Out, got, bad, check, _>>=_}
+use Rattle.wire.proofs.Left.{span, left-length, left-drop}
+use Rattle.layout.specs.Out.{got, check, _>>=_}
 use Rattle.layout.specs.Parts.{wordsOf, judged, row}
-use Rattle.layout.proofs.Outs.{by-test}
-use Rattle.layout.proofs.StepLaws.{row-enough, row-short}
+use Rattle.layout.proofs.StepLaws.{row-enough, row-short, three-left}
 use Rattle.b3d_scene.specs.declared.Tag.{Tag}
 use Rattle.b3d_scene.specs.declared.Tag.the-variants.{MESH, VRTS}
 use Rattle.b3d_scene.specs.Tags.{code, split}
@@ -45,12 +43,6 @@ use Rattle.b3d_label.proofs.Seeking.{sought-not, sought-is, sought-insi
 abbrev after : Cursor → Cursor
 after b = span (b .at + 12) (b .end)
 
--- one more word of those that a cursor has left
-one-word : (s : List ℕ) (c n : Cursor) (k : ℕ) → Inside c (length s) → c .at + 4 ≤ c .end → n .at ≡ c .at + 4 → n .end ≡ c .end
-    → wordsOf (suc k) (left c s) ≡ wordAt s (c .at) ∷ wordsOf k (left n s)
-unfolding wordAt
-one-word s c n k i h a e = rw (left-four s c n i h a e)
-
 -- how many items, if they were counted
 abbrev manyCounted : Counted → Many
 manyCounted (counts.Is k) = many.Are k
@@ -73,15 +65,7 @@ module _ (s : List ℕ) (b : Cursor) (i : Inside b (length s)) where
       (room : 12 ≤ b .end - b .at) (flags sets size : ℕ)
       (f : flags ≡ wordAt s (b .at)) (g : sets ≡ wordAt s (b .at + 4)) (h : size ≡ wordAt s (b .at + 8)) where
     three : wordsOf 3 (left b s) ≡ flags ∷ sets ∷ size ∷ []
-    three =
-        rw (
-          f,
-          g,
-          h,
-          one-word s b (span (b .at + 4) (b .end)) 2 i (omega arith) refl refl,
-          one-word s (span (b .at + 4) (b .end)) (span (b .at + 8) (b .end)) 1 (omega arith) (omega arith) (omega arith) refl,
-          one-word s (span (b .at + 8) (b .end)) (after b) 0 (omega arith) (omega arith) (omega arith) refl,
-        )
+    three = three-left s b i room ∙ rw (f, g, h)
 
     head : row verticesHead (b .at) (left b s)
         ≡ judged verticesHead (b .at) (flags ∷ sets ∷ size ∷ []) (record { value = flags ∷ sets ∷ size ∷ []; place = b .at + 12; left = left (after b) s })

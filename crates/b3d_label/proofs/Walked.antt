@@ -18,7 +18,8 @@ use Rattle.layout.specs.Parts.{Name, Step, text, words, row, number, named, ite
 use Rattle.layout.specs.Rules.{Rule, any}
 use Rattle.layout.proofs.ChunkLaws.{ended-fine}
 use Rattle.layout.proofs.Outs.{by-got, by-check, check-yes, by-test, bad-got, got-inj}
-use Rattle.layout.proofs.StepLaws.{length-words-of, words-enough, words-short, judged-got, judged-any, any-whole, any-cut, length-items-of}
+use Rattle.layout.proofs.StepLaws.{judged-got, judged-any, any-whole, any-cut, length-items-of}
+use Rattle.layout.proofs.HeldLaws.{words-count}
 use Rattle.layout.specs.Rows.{sizeFits}
 use Rattle.b3d_scene.specs.declared.Mode.the-variants.{Lenient}
 use Rattle.b3d_scene.specs.declared.Tag.the-variants.{BB3D, TEXS, BRUS, NODE, MESH, VRTS}
@@ -119,17 +120,11 @@ abbrev pub Tells : Out Printed → Forest → Type 0
 Tells o leaf = Refused o
 Tells o (node d f g) = OfRoot o d
 
-words-long : (start n p : ℕ) (s : List ℕ) (x : Step (List ℕ)) → words start n p s ≡ got x → length (x .value) ≡ n
-words-long start n p s x e =
-    by-test (leb (4 * n) (length s))
-    (λ t. let h = leb→le (4 * n) (length s) t in ap (λ (y : Step (List ℕ)). length (y .value)) (got-inj (sym e ∙ words-enough start n p s h)) ∙ length-words-of n s h)
-    (λ t. let h = nleb→lt (4 * n) (length s) t in bad-got (sym (words-short start n p s h) ∙ e))
-
 named-long : (rs : List Rule) (p : ℕ) (s : List ℕ) (x : Step (Name × List ℕ)) → named rs p s ≡ got x → length (x .value .1) ≡ length rs
 unfolding named
 named-long rs p s x e =
     by-got (text p p s) _ e (λ n en e₁. by-got (words p (length rs) (n .place) (n .left)) _ e₁ (λ y ey e₂.
-    ap (λ (z : Step (Name × List ℕ)). length (z .value .1)) (sym (judged-got rs (n .place) (y .value) _ x e₂)) ∙ words-long p (length rs) (n .place) (n .left) y ey))
+    ap (λ (z : Step (Name × List ℕ)). length (z .value .1)) (sym (judged-got rs (n .place) (y .value) _ x e₂)) ∙ words-count p (length rs) (n .place) (n .left) y ey))
 
 below-self : (one : Option ℕ → ℕ → List ℕ → Out Inner) (above : Option ℕ) (d : Data) (cs : Chunks) (x : Inner) → readBelow one above d cs ≡ got x → d ≡ x .self
 unfolding readBelow

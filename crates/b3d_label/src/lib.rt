@@ -10,11 +10,13 @@ ghost use Rattle.b3d_label.specs.Answers.{Seeks, manyOf, Labels};
 use b3d_chunks::Named;
 use b3d_chunks::Next;
 use b3d_items::Counted;
+use b3d_scene::letters;
 use wire::Cursor;
 use wire::Header;
 use wire::Number;
 
 // What the label says: 0 and 0 with the name's place and length in the file and the vertices; or 14 and zeros.
+#[repr(C)]
 pub struct TrayLabel {
     pub number: u32,
     pub place: u32,
@@ -104,7 +106,7 @@ fn mesh_vertices(s: &[u8], body: Cursor) -> Many
 {
     match body.number(s) {
         Number::Cut => Many::Not,
-        Number::Is(_, inside) => match first_with(s, inside, 0x53545256) {
+        Number::Is(_, inside) => match first_with(s, inside, letters::VRTS) {
             Sought::Not => Many::Not,
             Sought::Is(vrts) => vrts_vertices(s, vrts),
         },
@@ -120,7 +122,7 @@ fn root_vertices(s: &[u8], from: Cursor) -> Many
         Next::Done => Many::Are(0),
         Next::Cut(_) => Many::Not,
         Next::Chunk { tag, body, .. } => {
-            if b3d_chunks::letters(tag) == 0x4853454D {
+            if b3d_chunks::letters(tag) == letters::MESH {
                 return mesh_vertices(s, body);
             }
             Many::Are(0)
@@ -167,7 +169,7 @@ fn file_label(s: &[u8], body: Cursor) -> TrayLabel
 {
     match body.number(s) {
         Number::Cut => refused(),
-        Number::Is(_, inside) => match first_with(s, inside, 0x45444F4E) {
+        Number::Is(_, inside) => match first_with(s, inside, letters::NODE) {
             Sought::Not => refused(),
             Sought::Is(root) => root_label(s, root),
         },
@@ -187,7 +189,7 @@ pub fn label(file: &[u8]) -> TrayLabel
         Header::End => refused(),
         Header::Cut => refused(),
         Header::Whole { tag, body, next: _ } => {
-            if tag != 0x44334242 {
+            if tag != letters::BB3D {
                 return refused();
             }
             file_label(file, body)

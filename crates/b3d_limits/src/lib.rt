@@ -5,9 +5,9 @@ ghost use Rattle.wire.specs.Test.{if};
 ghost use Rattle.b3d_scene.specs.Rules.{rowLimit};
 ghost use Rattle.b3d_limits.specs.Limits.{overLimit};
 ghost use mathlib.Core.List.{[], _∷_};
-ghost use Prim.Native.Nat.{_*_, _<_};
-ghost use Rattle.b3d_scene.specs.Tables.{tables};
-ghost use Rattle.b3d_limits.specs.Rooms.{numberOf, countsIn, firstShort};
+ghost use Rattle.b3d_scene.specs.Tables.{width, tables};
+ghost use Rattle.counted.specs.Rooms.{numberOf, firstShort};
+ghost use Rattle.b3d_limits.specs.Rooms.{countsIn};
 use b3d_scene::NODE_WIDTH;
 use b3d_tally::Tally;
 
@@ -32,17 +32,6 @@ pub fn over_limit(t: Tally) -> usize
     over_or(1, t.textures, over_or(2, t.brushes, from3))
 }
 
-// The table k where so many rows of this width have no room in it, else what is found later.
-fn short_or(k: usize, width: usize, rows: usize, room: usize, later: usize) -> usize
-    requires { ⌜ 0 < width ⌝ }
-    ensures { λ r. ⌜ r ≡ if (ltb room (width * rows)) k later ⌝ }
-{
-    if room / width < rows {
-        return k;
-    }
-    later
-}
-
 // The first of ten tables, of these lengths, that is too short for its rows, by its number; 0 where there is none.
 pub fn first_short(
     t: Tally,
@@ -57,17 +46,16 @@ pub fn first_short(
     l9: usize,
     l10: usize,
 ) -> usize
-    ensures { λ r. ⌜ r ≡ firstShort (numberOf (countsIn t)) (numberOf (l1 ∷ l2 ∷ l3 ∷ l4 ∷ l5 ∷ l6 ∷ l7 ∷ l8 ∷ l9 ∷ l10 ∷ [])) tables ⌝ }
+    ensures { λ r. ⌜ r ≡ firstShort width (numberOf (countsIn t)) (numberOf (l1 ∷ l2 ∷ l3 ∷ l4 ∷ l5 ∷ l6 ∷ l7 ∷ l8 ∷ l9 ∷ l10 ∷ [])) tables ⌝ }
 {
-    let from9 = short_or(9, 4, t.lists, l9, short_or(10, 11, t.keys, l10, 0));
-    let from7 = short_or(7, 3, t.triangles, l7, short_or(8, 2, t.weights, l8, from9));
-    let from5 = short_or(5, 42, t.vertices, l5, short_or(6, 4, t.sets, l6, from7));
-    let from3 = short_or(
-        3,
-        NODE_WIDTH,
-        t.nodes,
-        l3,
-        short_or(4, 9, t.meshes, l4, from5),
-    );
-    short_or(1, 9, t.textures, l1, short_or(2, 17, t.brushes, l2, from3))
+    let from10 = counted::short_or(10, 11, t.keys, l10, 0);
+    let from9 = counted::short_or(9, 4, t.lists, l9, from10);
+    let from8 = counted::short_or(8, 2, t.weights, l8, from9);
+    let from7 = counted::short_or(7, 3, t.triangles, l7, from8);
+    let from6 = counted::short_or(6, 4, t.sets, l6, from7);
+    let from5 = counted::short_or(5, 42, t.vertices, l5, from6);
+    let from4 = counted::short_or(4, 9, t.meshes, l4, from5);
+    let from3 = counted::short_or(3, NODE_WIDTH, t.nodes, l3, from4);
+    let from2 = counted::short_or(2, 17, t.brushes, l2, from3);
+    counted::short_or(1, 9, t.textures, l1, from2)
 }

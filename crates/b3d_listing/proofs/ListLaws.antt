@@ -11,7 +11,8 @@ use Rattle.b3d_scene.specs.declared.Mode.the-variants.{Strict}
 use Rattle.b3d_scene.specs.Answers.{judge, tableAfter}
 use Rattle.b3d_scene.specs.Parse.{parse}
 use Rattle.b3d_scene.specs.Scene.{Scene}
-use Rattle.b3d_scene.specs.Tables.{words, table, counts, tables, nodeTables, nodeWidth}
+use Rattle.layout.specs.Rows.{joined}
+use Rattle.b3d_scene.specs.Tables.{table, counts, tables, nodeTables, nodeWidth}
 use Rattle.b3d_scene.proofs.AnswerLaws.{judge-got, judge-lenient}
 use Rattle.b3d_judge.specs.Answers.{verdictOf}
 use Rattle.b3d_judge.specs.declared.Summary.{Summary}
@@ -52,18 +53,18 @@ module _ (s : List ℕ) (n : ℕ) (l : Listable s n) (b : AllBytes s) where
   nodes-small = omega (arith, l .short)
 
   -- the rows of its bytes are those of what was read
-  rows-are : words (fileRows 3 s) ≡ table 3 (l .scene)
+  rows-are : joined (fileRows 3 s) ≡ table 3 (l .scene)
   unfolding table
-  rows-are = ap words (rows-law s (l .scene) (judge-lenient Strict s (l .scene) (l .accepted)) 3 (omega arith) (omega arith))
+  rows-are = ap joined (rows-law s (l .scene) (judge-lenient Strict s (l .scene) (l .accepted)) 3 (omega arith) (omega arith))
 
-  pub table-ready : (room : ℕ) → 28077 ≡ room → length (words (fileRows 3 s)) ≤ room
+  pub table-ready : (room : ℕ) → 28077 ≡ room → length (joined (fileRows 3 s)) ≤ room
   table-ready room e = omega (arith, ap length rows-are, table-room s (l .scene) b parsed (l .short))
 
   -- the table after it was filled is as long as before
-  pub table-rows : (xs ws : List ℕ) → 28077 ≡ length xs → ws ≡ sets xs 0 (words (fileRows 3 s)) → nodeWidth * n ≤ length ws
+  pub table-rows : (xs ws : List ℕ) → 28077 ≡ length xs → ws ≡ sets xs 0 (joined (fileRows 3 s)) → nodeWidth * n ≤ length ws
   table-rows xs ws e f =
       let c : nodeWidth * n ≤ 28077 = omega (arith, l .count, nodes-count s (l .scene) b parsed, l .short) in
-      omega (arith, ap length f, length-sets xs 0 (words (fileRows 3 s)))
+      omega (arith, ap length f, length-sets xs 0 (joined (fileRows 3 s)))
 
   lines-are : (xs ws : List ℕ) → ws ≡ tableAfter 3 (judge Strict s) xs → rowLines s ws n ≡ nodeLinesOf (judge Strict s)
   unfolding tableAfter nodeLinesOf
@@ -71,7 +72,7 @@ module _ (s : List ℕ) (n : ℕ) (l : Listable s n) (b : AllBytes s) where
       ap₂ (rowLines s) (e ∙ ap (λ (o : Out Scene). tableAfter 3 o xs) (l .accepted)) (l .count)
       ∙ table-lines s (l .scene) b parsed xs ∙ sym (ap nodeLinesOf (l .accepted))
 
-  pub nodes-done : (xs ws : List ℕ) → 28077 ≡ length xs → ws ≡ sets xs 0 (words (fileRows 3 s)) → (out : List ℕ) (at : ℕ) (ys : List ℕ) (p : ℕ) → Puts (rowLines s ws n) out at ys p
+  pub nodes-done : (xs ws : List ℕ) → 28077 ≡ length xs → ws ≡ sets xs 0 (joined (fileRows 3 s)) → (out : List ℕ) (at : ℕ) (ys : List ℕ) (p : ℕ) → Puts (rowLines s ws n) out at ys p
       → Puts (nodeLinesOf (judge Strict s)) out at ys p
   unfolding tableAfter
   nodes-done xs ws e f out at ys p h =

@@ -12,18 +12,19 @@ use Rattle.wire.specs.Bytes.{AllBytes, over}
 use Rattle.layout.specs.Out.{got}
 use Rattle.layout.specs.Rules.{NONE}
 use Rattle.layout.proofs.PlaceLaws.{At, NameIn}
-use Rattle.layout.specs.Rows.{nameCells}
+use Rattle.layout.proofs.ListLaws.{joined-append}
+use Rattle.layout.specs.Rows.{nameCells, joined}
 use Rattle.b3d_scene.specs.Parse.{parse}
 use Rattle.b3d_scene.specs.declared.Mode.the-variants.{Strict}
 use Rattle.b3d_scene.specs.Rules.{boneVertices, bonesBelow, levels}
 use Rattle.b3d_scene.specs.Scene.{Data, Forest, leaf, node, Scene}
 use Rattle.b3d_scene.specs.Sizes.{nodesSize, sizeOf}
-use Rattle.b3d_scene.specs.Tables.{width, tables, nodeTables, nodeRow, start, ownRows, withNode, withForest, forestRows, rows, words, table, nodeWidth, nodesIn}
+use Rattle.b3d_scene.specs.Tables.{width, tables, nodeTables, nodeRow, start, ownRows, withNode, withForest, forestRows, rows, table, nodeWidth, nodesIn}
 use Rattle.b3d_scene.specs.declared.Counts.{Counts}
 use Rattle.b3d_scene.proofs.Fitting.{Fit, FitNodes}
 use Rattle.b3d_scene.proofs.Laws.{fine, file-length, names-stand}
 use Rattle.b3d_scene.proofs.Files.PlaceLaws.{NodeNames}
-use Rattle.b3d_scene.proofs.Rows.CountLaws.{table-length, words-append}
+use Rattle.b3d_scene.proofs.Rows.CountLaws.{table-length}
 use Rattle.b3d_scene.proofs.Rows.RowParts.{node-wide}
 use Rattle.b3d_names.specs.Name.{nameOr}
 use Rattle.b3d_text.specs.Text.{textLine}
@@ -50,8 +51,8 @@ lines-next s r more k e = rw (drop-at r more nodeWidth e)
 
 -- the lines of the rows of nodes, before those of rows that follow
 forest-lines : (s : List ℕ) (l brushes : ℕ) (above : Option ℕ) (f : Forest) (p : ℕ) (n : Counts) (rest : List ℕ) (m : ℕ) → NodeNames s f → FitNodes l brushes above f
-    → rowLines s (words (forestRows 3 f p n) ++ rest) (length (forestRows 3 f p n) + m) ≡ nodeLines f ++ rowLines s rest m
-unfolding forestRows ownRows if words nodeLines
+    → rowLines s (joined (forestRows 3 f p n) ++ rest) (length (forestRows 3 f p n) + m) ≡ nodeLines f ++ rowLines s rest m
+unfolding forestRows ownRows if joined nodeLines
 forest-lines s zero brushes above leaf p n rest m h k = let z : 0 + m ≡ m = omega arith in rw z
 forest-lines s zero brushes above (node d f g) p n rest m h k = absurd k
 forest-lines s (suc l) brushes above leaf p n rest m h k = let z : 0 + m ≡ m = omega arith in rw z
@@ -59,13 +60,13 @@ forest-lines s (suc l) brushes above (node d f g) p n rest m h k =
     let r = nodeRow d p (nodesIn f) n in
     let a = forestRows 3 f (n .nodes) (withNode d n) in
     let b = forestRows 3 g p (withForest f (withNode d n)) in
-    let more = words a ++ (words b ++ rest) in
-    let e : (r ++ words (a ++ b)) ++ rest ≡ r ++ more = rw words-append (simp append-assoc) in
+    let more = joined a ++ (joined b ++ rest) in
+    let e : (r ++ joined (a ++ b)) ++ rest ≡ r ++ more = rw joined-append (simp append-assoc) in
     let c : suc (length (a ++ b)) + m ≡ suc (length a + (length b + m)) = omega (arith, length-append a b) in
     ap₂ (rowLines s) e c
     ∙ lines-next s r more (length a + (length b + m)) (node-wide brushes (boneVertices above) d p (nodesIn f) n (k .0))
     ∙ ap₂ _++_ (row-first s d p (nodesIn f) n more (h .0))
-    (forest-lines s l brushes (bonesBelow above d) f (n .nodes) (withNode d n) (words b ++ rest) (length b + m) (h .1) (k .1)
+    (forest-lines s l brushes (bonesBelow above d) f (n .nodes) (withNode d n) (joined b ++ rest) (length b + m) (h .1) (k .1)
     ∙ ap (λ (w : List ℕ). nodeLines f ++ w) (forest-lines s (suc l) brushes above g p (withForest f (withNode d n)) rest m (h .2) (k .2)))
     ∙ simp append-assoc
 
@@ -101,6 +102,6 @@ module _ (s : List ℕ) (t : Scene) (h : AllBytes s) (e : parse Strict s ≡ got
   table-lines xs =
       let r = forestRows 3 (t .nodes) NONE start in
       let z : length r ≡ length r + 0 = omega arith in
-      ap (rowLines s (words r ++ drop (length (words r)) xs)) z
-      ∙ forest-lines s levels (length (t .brushes)) none (t .nodes) NONE start (drop (length (words r)) xs) 0 (names-stand Strict s t e .nodes) (fits .nodes)
+      ap (rowLines s (joined r ++ drop (length (joined r)) xs)) z
+      ∙ forest-lines s levels (length (t .brushes)) none (t .nodes) NONE start (drop (length (joined r)) xs) 0 (names-stand Strict s t e .nodes) (fits .nodes)
       ∙ append-nil (nodeLines (t .nodes))

@@ -1,32 +1,17 @@
 -- The masks of a vertex and of a key are their runs: every case computed, over the two values of a flag, the sets and the set size.
 use Prim.Native.Nat.{ℕ, zero, suc, _+_, _-_, _*_, _/_, _%_, _<_, _≤_}
 use native.Mathlib.Omega.{arith}
-use mathlib.Core.Path.{_≡_, refl, ap, ap₂, sym, subst, _∙_}
-use mathlib.Core.Logic.{_≢_}
+use mathlib.Core.Path.{_≡_, refl, ap, ap₂, sym, _∙_}
 use mathlib.Core.Bool.{Bool, true, false, _&&_}
 use mathlib.Core.List.{List, [], _∷_}
 use lib.ListN.{length, replicate, length-append, length-replicate}
 use lib.Dec.{T, ltb, eqb, eqb→eq}
-use mir.Facts.{and-yes, eqb-no}
 use borrow.Author.Tests.{lt-ltb, le-ltb, ltb-true, ltb-false}
 use Rattle.wire.specs.Test.{if}
-use Rattle.layout.proofs.Outs.{by-test}
 use Rattle.b3d_scene.specs.Mask.{mask, vertexHas, vertexMask, keyHas, keyMask}
+use Rattle.b3d_scene.proofs.Rows.MaskLaws.{below, below-at, mask-same}
 use Rattle.b3d_masks.specs.declared.RowRuns.{RowRuns}
 use Rattle.b3d_masks.specs.Runs.{run, setRuns, runMask, width, Short, OfKey, OfVertex, vertexRuns, keyRuns, atMost}
-
--- ---- every case of a test below a number
-
-below : ℕ → (ℕ → Bool) → Bool
-below zero f = true
-below (suc n) f = f n && below n f
-
-below-at : (n : ℕ) (f : ℕ → Bool) (k : ℕ) → T (below n f) → k < n → T (f k)
-unfolding below
-below-at zero f k h l = absurd (omega arith)
-below-at (suc n) f k h l =
-    let (a, b) = and-yes (f n) (below n f) h in
-    by-test (eqb k n) (λ e. subst (λ (j : ℕ). T (f j)) (sym (eqb→eq k n e)) a) (λ e. let d : k ≢ n = eqb-no e in below-at n f k b (omega arith))
 
 alike : List Bool → List Bool → Bool
 alike [] [] = true
@@ -102,11 +87,6 @@ module _ (m n : ℕ) where
       by : (b : Bool) → ltb n m ≡ b → ltb j n ≡ ltb j (if b n m)
       by true e = refl
       by false e = lt-ltb j n (omega (arith, ltb-false n m e)) ∙ sym (lt-ltb j m h)
-
-mask-same : (f g : ℕ → Bool) (k w : ℕ) → ((j : ℕ) → j < w + k → f j ≡ g j) → mask f k w ≡ mask g k w
-unfolding mask
-mask-same f g zero w h = refl
-mask-same f g (suc k) w h = ap₂ _∷_ (h w (omega arith)) (mask-same f g k (w + 1) (λ j l. h j (omega arith)))
 
 vertex-most : (f n z : ℕ) → vertexMask f n z ≡ vertexMask f (atMost 8 n) (atMost 4 z)
 unfolding vertexMask vertexHas

@@ -2,6 +2,7 @@
 use mathlib.Core.Path.{_≡_, refl, ap, ap₂, sym, _∙_}
 use Prim.Native.Nat.{ℕ, _+_, _-_, _*_, _<_, _≤_}
 use native.Mathlib.Omega.{arith}
+use mathlib.Core.Bool.{false}
 use mathlib.Core.List.{List, [], _∷_, _++_}
 use mir.Syntax.{w64}
 use mir.Val.{Fits}
@@ -12,7 +13,8 @@ use Rattle.wire.specs.declared.Cursor.{Cursor}
 use Rattle.wire.proofs.Left.{left-most}
 use Rattle.b3d_chunks.specs.Chunks.{Among}
 use Rattle.b3d_scene.specs.declared.Tag.the-variants.{TRIS}
-use Rattle.b3d_scene.specs.Tables.{words, setRows, triangleRows}
+use Rattle.layout.specs.Rows.{joined}
+use Rattle.b3d_scene.specs.Tables.{setRows, triangleRows}
 use Rattle.b3d_file_rows.specs.Plain.{plainTriangles, setsOf}
 use Rattle.b3d_walk.specs.Walks.{BodyAt}
 use Rattle.b3d_walk.specs.Seeks.{ahead, Seeks, FirstWord}
@@ -22,13 +24,14 @@ use Rattle.b3d_walk.specs.declared.Sought.the-variants as sought
 use Rattle.b3d_walk.proofs.Seeking.{sought-among, sought-body, sought-next, sought-less}
 use Rattle.b3d_walk.proofs.Puts.{Putting, put-start, put-long, put-room, put-more, put-done, put-end}
 use Rattle.b3d_walk.proofs.Meshes.{mesh-inside, mesh-inner, no-set, one-set}
-use Rattle.b3d_mesh_rows.specs.Meshes.{setRow, setsIn, triangleCount, SetsPut}
+use Rattle.b3d_item_rows.specs.Items.{setRow}
+use Rattle.b3d_item_rows.proofs.Groups.{group-few}
+use Rattle.b3d_mesh_rows.specs.Meshes.{setsIn, triangleCount, SetsPut}
 use Rattle.b3d_mesh_rows.specs.declared.After.{After}
-use Rattle.b3d_mesh_rows.proofs.SetRow.{triangles-few}
 
 -- the words of the sets from a cursor on, and their triangles
 abbrev from : List ℕ → ℕ → ℕ → Cursor → List ℕ
-from s i r c = words (setRows i r (setsOf (ahead s c)))
+from s i r c = joined (setRows i r (setsOf (ahead s c)))
 
 abbrev many : List ℕ → Cursor → ℕ
 many s c = length (triangleRows (setsOf (ahead s c)))
@@ -42,9 +45,9 @@ pub record SetsLeft (s : List ℕ) (c₀ : Cursor) (mesh first base : ℕ) (out�
   pub few-words : o ≤ 4 * c .at
 
 module _ (s : List ℕ) (p : ℕ) (b : Cursor) (mesh first base : ℕ) (out₀ : List ℕ) (y : BodyAt s p b) (g : Headed) (u : FirstWord s b g) where
-  all : from s mesh first (g .rest) ≡ words (setsIn p (left b s) mesh first)
+  all : from s mesh first (g .rest) ≡ joined (setsIn p (left b s) mesh first)
   unfolding setsIn
-  all = ap (λ l. words (setRows mesh first (setsOf l))) (mesh-inner s p b y g u)
+  all = ap (λ l. joined (setRows mesh first (setsOf l))) (mesh-inner s p b y g u)
 
   total-is : many s (g .rest) ≡ triangleCount p (left b s)
   unfolding triangleCount
@@ -76,8 +79,8 @@ module _ (s : List ℕ) (p : ℕ) (b : Cursor) (mesh first base : ℕ) (out₀ :
     module _ (r : Sought) (x : Seeks s c TRIS r) where
       module _ (w : r ≡ sought.Nothing) where
         none : from s mesh n c ≡ []
-        unfolding words setRows
-        none = ap (λ l. words (setRows mesh n l)) (no-set s c r x w)
+        unfolding joined setRows
+        none = ap (λ l. joined (setRows mesh n l)) (no-set s c r x w)
 
         none-many : many s c ≡ 0
         unfolding triangleRows
@@ -102,10 +105,10 @@ module _ (s : List ℕ) (p : ℕ) (b : Cursor) (mesh first base : ℕ) (out₀ :
         set-less = sought-less s c TRIS r x q d m w
 
         one : (k : ℕ) → k ≡ length (plainTriangles (left d s) .triangles) → from s mesh n c ≡ setRow mesh n (plainTriangles (left d s)) ++ from s mesh (n + k) m
-        unfolding setRows setRow words
-        one k ek = ap (λ l. words (setRows mesh n l)) (one-set s c r x q d m w) ∙ rw ek
+        unfolding setRows setRow joined
+        one k ek = ap (λ l. joined (setRows mesh n l)) (one-set s c r x q d m w) ∙ rw ek
 
-        pub set-room : base + length (words (setsIn p (left b s) mesh first)) ≤ length out₀ → o + 4 ≤ length out
+        pub set-room : base + length (joined (setsIn p (left b s) mesh first)) ≤ length out₀ → o + 4 ≤ length out
         unfolding setRow
         set-room h = put-room (v .puts) (rw all h) (setRow mesh n (plainTriangles (left d s))) (from s mesh (n + length (plainTriangles (left d s) .triangles)) m) (one _ refl)
 
@@ -113,7 +116,7 @@ module _ (s : List ℕ) (p : ℕ) (b : Cursor) (mesh first base : ℕ) (out₀ :
           bound : n + k ≤ m .at
           bound =
               let f = sought-among s c TRIS r x q d m w in
-              omega (arith, triangles-few (left d s), left-most s d, v .few)
+              omega (arith, group-few false (left d s), left-most s d, v .few)
 
           pub set-sum : length s < 0x100000000 → Fits w64 (n + k)
           set-sum small =

@@ -2,31 +2,25 @@
 use mathlib.Core.Path.{_≡_, refl, ap, sym, _∙_}
 use Prim.Native.Nat.{ℕ, _+_, _≤_}
 use native.Mathlib.Omega.{arith}
-use mathlib.Core.Bool.{not}
 use mathlib.Core.List.{List, []}
 use lib.ListN.{length}
 use lib.Seq.{sets}
-use lib.Dec.{T}
 use Rattle.wire.specs.Test.{if}
 use Rattle.wire.specs.Cursors.{Inside, left}
 use Rattle.wire.specs.declared.Cursor.{Cursor}
 use Rattle.layout.proofs.Outs.{if-yes, if-no}
-use Rattle.b3d_scene.specs.declared.Counts.{Counts}
-use Rattle.b3d_scene.specs.declared.Tag.{Tag}
-use Rattle.b3d_scene.specs.declared.Tag.the-variants.{BB3D, TEXS, BRUS, NODE, MESH, VRTS, TRIS, BONE, KEYS, ANIM}
-use Rattle.b3d_scene.specs.Tables.{words, meshRows, vertexRows}
+use Rattle.b3d_scene.specs.declared.Tag.the-variants.{VRTS}
+use Rattle.layout.specs.Rows.{joined}
 use Rattle.b3d_scene.specs.Tags.{Chunks, is}
-use Rattle.b3d_file_rows.specs.Flat.{flat}
-use Rattle.b3d_file_rows.specs.Plain.{plainVertices, plainMesh, meshOf, shapeOf}
-use Rattle.b3d_file_rows.specs.Rows.{weightRows, keyListRows, chunkRows, fileRows}
+use Rattle.b3d_file_rows.specs.Plain.{plainVertices, shapeOf}
 use Rattle.b3d_walk.specs.Walks.{BodyAt}
-use Rattle.b3d_walk.specs.Seeks.{seekOf, ahead, inner, Seeks, FirstWord}
+use Rattle.b3d_walk.specs.Seeks.{seekOf, ahead, Seeks, FirstWord}
 use Rattle.b3d_walk.specs.declared.Headed.{Headed}
 use Rattle.b3d_walk.specs.declared.Sought.{Sought}
 use Rattle.b3d_walk.specs.declared.Sought.the-variants as sought
 use Rattle.b3d_walk.proofs.Seeking.{sought-none, sought-is, sought-body, by-seek}
 use Rattle.b3d_walk.proofs.Meshes.{mesh-inside, mesh-inner}
-use Rattle.b3d_walk.proofs.Table.{Owns}
+use Rattle.b3d_walk.proofs.Heads.{word-inside}
 use Rattle.b3d_mesh_rows.specs.Meshes.{verticesIn}
 use Rattle.b3d_item_rows.specs.Items.{shapeRows}
 
@@ -48,12 +42,12 @@ module _ (s : List ℕ) (p : ℕ) (b : Cursor) (y : BodyAt s p b) (h : Headed) (
     unfolding shapeOf shapeRows
     none = shape-is ∙ ap (λ l. shapeRows (shapeOf l)) (sought-none s (h .rest) VRTS r x w)
 
-    pub none-end : (base : ℕ) → base ≡ base + length (words (verticesIn p (left b s)))
-    unfolding words
+    pub none-end : (base : ℕ) → base ≡ base + length (joined (verticesIn p (left b s)))
+    unfolding joined
     none-end base = rw none (omega arith)
 
-    pub none-put : (base : ℕ) (out : List ℕ) → out ≡ sets out base (words (verticesIn p (left b s)))
-    unfolding words
+    pub none-put : (base : ℕ) (out : List ℕ) → out ≡ sets out base (joined (verticesIn p (left b s)))
+    unfolding joined
     none-put base out = rw none
 
   module _ (q : ℕ) (d n : Cursor) (w : r ≡ sought.Found q d n) where
@@ -65,16 +59,13 @@ module _ (s : List ℕ) (p : ℕ) (b : Cursor) (y : BodyAt s p b) (h : Headed) (
     shape-body = sought-body s (h .rest) VRTS r x q d n w (length s) (u .inside)
 
     module _ (base : ℕ) (out : List ℕ) where
-      pub shape-room : base + length (words (verticesIn p (left b s))) ≤ length out → base + length (words (shapeRows (plainVertices (left d s)))) ≤ length out
+      pub shape-room : base + length (joined (verticesIn p (left b s))) ≤ length out → base + length (joined (shapeRows (plainVertices (left d s)))) ≤ length out
       shape-room m = rw some at m
 
-      pub shape-end : (to : ℕ) → to ≡ base + length (words (shapeRows (plainVertices (left d s)))) → to ≡ base + length (words (verticesIn p (left b s)))
+      pub shape-end : (to : ℕ) → to ≡ base + length (joined (shapeRows (plainVertices (left d s)))) → to ≡ base + length (joined (verticesIn p (left b s)))
       shape-end to e = rw some e
 
-      pub shape-put : (put : List ℕ) → put ≡ sets out base (words (shapeRows (plainVertices (left d s)))) → put ≡ sets out base (words (verticesIn p (left b s)))
+      pub shape-put : (put : List ℕ) → put ≡ sets out base (joined (shapeRows (plainVertices (left d s)))) → put ≡ sets out base (joined (verticesIn p (left b s)))
       shape-put put e = rw some e
 
-pub first-inside : (s : List ℕ) (b : Cursor) (h : Headed) → FirstWord s b h → Inside (h .rest) (length s)
-first-inside s b h u = u .inside
-
-pub ruleset mesh-laws = (mesh-inside, first-inside, none-end, none-put, shape-body, shape-room, shape-end, shape-put)
+pub ruleset mesh-laws = (mesh-inside, word-inside, none-end, none-put, shape-body, shape-room, shape-end, shape-put)

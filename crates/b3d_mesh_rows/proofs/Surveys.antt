@@ -1,6 +1,6 @@
 -- What stands in a MESH: laws for `count_sets`, `find_shape` and `put_mesh`.
 use mathlib.Core.Path.{_≡_, refl, ap, sym, _∙_}
-use Prim.Native.Nat.{ℕ, suc, _+_, _-_, _*_, _/_, _<_, _≤_}
+use Prim.Native.Nat.{ℕ, _+_, _-_, _*_, _/_, _<_, _≤_}
 use native.Mathlib.Nat.{div-le-self}
 use native.Mathlib.Omega.{arith}
 use mathlib.Core.List.{List, [], _∷_}
@@ -13,19 +13,18 @@ use Rattle.wire.specs.Cursors.{Inside, left}
 use Rattle.wire.specs.declared.Cursor.{Cursor}
 use Rattle.wire.proofs.Left.{left-length, left-most}
 use Rattle.layout.specs.Parts.{wordsOf}
-use Rattle.layout.proofs.Outs.{if-yes, if-no}
 use Rattle.layout.proofs.StepLaws.{length-items-of}
 use Rattle.b3d_scene.specs.declared.Tag.the-variants.{VRTS, TRIS}
 use Rattle.b3d_scene.specs.Mask.{ones, vertexMask}
-use Rattle.b3d_scene.specs.Tags.{Chunks, is}
 use Rattle.b3d_file_rows.specs.Plain.{whole, plainVertices, shapeOf, setsOf, meshOf, plainMesh}
 use Rattle.b3d_walk.specs.Walks.{BodyAt}
-use Rattle.b3d_walk.specs.Seeks.{seekOf, ahead, Seeks, FirstWord, ThreeWords}
+use Rattle.b3d_walk.specs.Seeks.{ahead, Seeks, FirstWord, ThreeWords}
 use Rattle.b3d_walk.specs.declared.Headed.{Headed}
 use Rattle.b3d_walk.specs.declared.Sought.{Sought}
 use Rattle.b3d_walk.specs.declared.Sought.the-variants as sought
-use Rattle.b3d_walk.proofs.Seeking.{sought-none, sought-is, sought-among, sought-body, sought-next, sought-less, by-seek}
+use Rattle.b3d_walk.proofs.Seeking.{sought-none, sought-is, sought-among, sought-body, sought-next, sought-less}
 use Rattle.b3d_walk.proofs.Meshes.{mesh-inside, mesh-inner, no-set, one-set}
+use Rattle.b3d_walk.proofs.Heads.{word-inside}
 use Rattle.b3d_walk.specs.declared.Three.{Three}
 use Rattle.b3d_mesh_rows.proofs.Shapes.{shape-seek}
 use Rattle.b3d_mesh_rows.specs.Meshes.{ShapeFound, meshCells, MeshPut}
@@ -114,9 +113,6 @@ pub ruleset shape-laws = (shape-none, shape-body, shape-before, shape-one)
 
 -- ---- the row
 
-pub first-inside : (s : List ℕ) (b : Cursor) (h : Headed) → FirstWord s b h → Inside (h .rest) (length s)
-first-inside s b h u = u .inside
-
 module _ (s : List ℕ) (p : ℕ) (b : Cursor) (y : BodyAt s p b) (g : Headed) (u : FirstWord s b g) (v : Vertices) (f : ShapeFound s (g .rest) v) where
   pub count-small : length s < 0x100000000 → v .count < 0x100000000
   count-small small = omega (arith, f .few, u .inside .within)
@@ -145,4 +141,4 @@ module _ (s : List ℕ) (p : ℕ) (b : Cursor) (y : BodyAt s p b) (g : Headed) (
           few-sets = omega (arith, few, u .onward, u .to-end);
         })
 
-pub ruleset row-laws = (mesh-inside, first-inside, count-small, sets-small, mesh-row)
+pub ruleset row-laws = (mesh-inside, word-inside, count-small, sets-small, mesh-row)

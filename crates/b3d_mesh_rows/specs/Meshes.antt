@@ -6,8 +6,9 @@ use lib.ListN.{length}
 use lib.Seq.{sets as stored}
 use Rattle.wire.specs.Cursors.{left}
 use Rattle.wire.specs.declared.Cursor.{Cursor}
-use Rattle.b3d_scene.specs.Scene.{TriangleSet, Mesh}
-use Rattle.b3d_scene.specs.Tables.{words, setRows, triangleRows}
+use Rattle.b3d_scene.specs.Scene.{Mesh}
+use Rattle.layout.specs.Rows.{joined}
+use Rattle.b3d_scene.specs.Tables.{setRows, triangleRows}
 use Rattle.b3d_file_rows.specs.Plain.{shapeOf, setsOf, plainMesh}
 use Rattle.b3d_walk.specs.Seeks.{ahead, inner}
 use Rattle.b3d_item_rows.specs.Items.{shapeRows}
@@ -23,10 +24,6 @@ verticesIn p b = shapeRows (shapeOf (inner p b))
 unfoldable pub trianglesIn : ℕ → List ℕ → List (List ℕ)
 trianglesIn p b = triangleRows (setsOf (inner p b))
 
--- of mesh i, the first triangle being number r
-unfoldable pub setRow : ℕ → ℕ → TriangleSet → List ℕ
-setRow i r x = i ∷ x .brush ∷ r ∷ length (x .triangles) ∷ []
-
 -- of a MESH whose header is at p
 unfoldable pub setsIn : ℕ → List ℕ → ℕ → ℕ → List (List ℕ)
 setsIn p b i r = setRows i r (setsOf (inner p b))
@@ -37,8 +34,8 @@ triangleCount p b = length (triangleRows (setsOf (inner p b)))
 
 -- what `put_sets` has done
 pub record SetsPut (s : List ℕ) (p : ℕ) (b : Cursor) (mesh first base : ℕ) (out put : List ℕ) (r : After) : Type 0 where
-  pub stores : put ≡ stored out base (words (setsIn p (left b s) mesh first))
-  pub base-is : r .base ≡ base + length (words (setsIn p (left b s) mesh first))
+  pub stores : put ≡ stored out base (joined (setsIn p (left b s) mesh first))
+  pub base-is : r .base ≡ base + length (joined (setsIn p (left b s) mesh first))
   pub first-is : r .first ≡ first + triangleCount p (left b s)
   pub few-words : r .base ≤ 4 * b .end
   pub few : r .first ≤ b .end

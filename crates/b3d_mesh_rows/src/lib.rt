@@ -4,20 +4,20 @@ ghost use Prim.Native.Nat.{ℕ, _+_, _-_, _*_, _<_, _≤_};
 ghost use lib.ListN.{length};
 ghost use lib.Seq.{sets as stored};
 ghost use Rattle.wire.specs.Cursors.{Inside, left};
-ghost use Rattle.b3d_scene.specs.Tables.{words};
-ghost use Rattle.b3d_file_rows.specs.Plain.{setsOf, plainTriangles};
+ghost use Rattle.layout.specs.Rows.{joined};
+ghost use Rattle.b3d_file_rows.specs.Plain.{setsOf};
 ghost use Rattle.b3d_walk.specs.Walks.{BodyAt};
 ghost use Rattle.b3d_walk.specs.Seeks.{ahead};
-ghost use Rattle.b3d_mesh_rows.specs.Meshes.{verticesIn, trianglesIn, setRow, setsIn, SetsPut, ShapeFound, MeshPut};
+ghost use Rattle.b3d_mesh_rows.specs.Meshes.{verticesIn, trianglesIn, setsIn, SetsPut, ShapeFound, MeshPut};
 use b3d_scene::Tag;
 use b3d_walk::Sought;
 use wire::Cursor;
 
 // The vertices of a MESH whose header is at p.
 pub fn put_vertices(file: &[u8], p: usize, body: Cursor, base: usize, out: &mut [u32]) -> usize
-    requires { ⌜ BodyAt (now file) p body × (base + length (words (verticesIn p (left body (now file)))) ≤ length (now out)) ⌝ }
-    ensures { λ r. ⌜ (r ≡ base + length (words (verticesIn p (left body (now (file .entry))))))
-        × (now (out .exit) ≡ stored (now (out .entry)) base (words (verticesIn p (left body (now (file .entry)))))) ⌝ }
+    requires { ⌜ BodyAt (now file) p body × (base + length (joined (verticesIn p (left body (now file)))) ≤ length (now out)) ⌝ }
+    ensures { λ r. ⌜ (r ≡ base + length (joined (verticesIn p (left body (now (file .entry))))))
+        × (now (out .exit) ≡ stored (now (out .entry)) base (joined (verticesIn p (left body (now (file .entry)))))) ⌝ }
 {
     let head = b3d_walk::first_word(file, body);
     match b3d_walk::seek(file, head.rest, Tag::VRTS) {
@@ -28,54 +28,21 @@ pub fn put_vertices(file: &[u8], p: usize, body: Cursor, base: usize, out: &mut 
 
 // The triangles of a MESH whose header is at p, from word `base` of the table on; gives the word after them.
 pub fn put_triangles(file: &[u8], p: usize, body: Cursor, base: usize, out: &mut [u32]) -> usize
-    requires { ⌜ BodyAt (now file) p body × (base + length (words (trianglesIn p (left body (now file)))) ≤ length (now out)) ⌝ }
-    ensures { λ r. ⌜ (r ≡ base + length (words (trianglesIn p (left body (now (file .entry))))))
-        × (now (out .exit) ≡ stored (now (out .entry)) base (words (trianglesIn p (left body (now (file .entry)))))) ⌝ }
+    requires { ⌜ BodyAt (now file) p body × (base + length (joined (trianglesIn p (left body (now file)))) ≤ length (now out)) ⌝ }
+    ensures { λ r. ⌜ (r ≡ base + length (joined (trianglesIn p (left body (now (file .entry))))))
+        × (now (out .exit) ≡ stored (now (out .entry)) base (joined (trianglesIn p (left body (now (file .entry)))))) ⌝ }
 {
     let head = b3d_walk::first_word(file, body);
     let mut c = head.rest;
     let mut o = base;
     loop {
-        match b3d_walk::seek(file, c, Tag::TRIS) {
-            Sought::Nothing => {
-                return o;
-            }
-            Sought::Found { body: b, next, .. } => {
-                let set = b3d_walk::first_word(file, b);
-                o = b3d_item_rows::put_items(file, set.rest, 3, o, out);
-                c = next;
-            }
-        }
+        let Sought::Found { body: b, next, .. } = b3d_walk::seek(file, c, Tag::TRIS) else {
+            return o;
+        };
+        let set = b3d_walk::first_word(file, b);
+        o = b3d_item_rows::put_items(file, set.rest, 3, o, out);
+        c = next;
     }
-}
-
-// The row of a TRIS of a mesh, the first triangle being number `first`; gives how many triangles it has.
-fn put_set(
-    file: &[u8],
-    body: Cursor,
-    mesh: usize,
-    first: usize,
-    base: usize,
-    out: &mut [u32],
-) -> usize
-    requires { ⌜ Inside body (length (now file)) × (length (now file) < 0x100000000) × (mesh < 0x100000000) × (first < 0x100000000) × (base + 4 ≤ length (now out)) ⌝ }
-    ensures { λ r. ⌜ (r ≡ length (plainTriangles (left body (now (file .entry))) .triangles))
-        × (now (out .exit) ≡ stored (now (out .entry)) base (setRow mesh first (plainTriangles (left body (now (file .entry)))))) ⌝ }
-{
-    let head = b3d_walk::first_word(file, body);
-    let brush = head.word;
-    let rest = head.rest;
-    let at = rest.at;
-    let end = rest.end;
-    let count = (end - at) / 12;
-    let row_cells = [
-        cells::cell(mesh),
-        brush,
-        cells::cell(first),
-        cells::cell(count),
-    ];
-    cells::put_cells(out, base, &row_cells);
-    count
 }
 
 // The word of the table and the number of the triangle that come next.
@@ -94,7 +61,7 @@ pub fn put_sets(
     base: usize,
     out: &mut [u32],
 ) -> After
-    requires { ⌜ BodyAt (now file) p body × (length (now file) < 0x100000000) × (mesh < 0x100000000) × (first ≤ p) × (base ≤ 4 * p) × (base + length (words (setsIn p (left body (now file)) mesh first)) ≤ length (now out)) ⌝ }
+    requires { ⌜ BodyAt (now file) p body × (length (now file) < 0x100000000) × (mesh < 0x100000000) × (first ≤ p) × (base ≤ 4 * p) × (base + length (joined (setsIn p (left body (now file)) mesh first)) ≤ length (now out)) ⌝ }
     ensures { λ r. ⌜ SetsPut (now (file .entry)) p body mesh first base (now (out .entry)) (now (out .exit)) r ⌝ }
 {
     let head = b3d_walk::first_word(file, body);
@@ -102,16 +69,12 @@ pub fn put_sets(
     let mut o = base;
     let mut n = first;
     loop {
-        match b3d_walk::seek(file, c, Tag::TRIS) {
-            Sought::Nothing => {
-                return After { base: o, first: n };
-            }
-            Sought::Found { body: b, next, .. } => {
-                n += put_set(file, b, mesh, n, o, out);
-                o += 4;
-                c = next;
-            }
-        }
+        let Sought::Found { body: b, next, .. } = b3d_walk::seek(file, c, Tag::TRIS) else {
+            return After { base: o, first: n };
+        };
+        n += b3d_item_rows::put_group(file, b, false, mesh, n, o, out);
+        o += 4;
+        c = next;
     }
 }
 
@@ -123,15 +86,11 @@ fn count_sets(file: &[u8], from: Cursor) -> usize
     let mut c = from;
     let mut n: usize = 0;
     loop {
-        match b3d_walk::seek(file, c, Tag::TRIS) {
-            Sought::Nothing => {
-                return n;
-            }
-            Sought::Found { next, .. } => {
-                n += 1;
-                c = next;
-            }
-        }
+        let Sought::Found { next, .. } = b3d_walk::seek(file, c, Tag::TRIS) else {
+            return n;
+        };
+        n += 1;
+        c = next;
     }
 }
 

@@ -9,7 +9,11 @@ use b3d_piece_parts::Now;
 use b3d_piece_take::Judge;
 use b3d_pieces::Totals;
 use b3d_scene::Answer;
+use b3d_scene::letters;
 use b3d_tally::Tally;
+
+// The letters that a file begins with.
+const OPENING: usize = letters::BB3D as usize;
 
 // What all bytes joined come to: the totals, or a refusal and its place.
 pub enum Closing {
@@ -62,7 +66,7 @@ pub fn joined(j: Judge) -> Closing
     if 16777216 < size {
         return Closing::Bad(1, 0);
     }
-    if j.letters != 0x44334242 {
+    if j.letters != OPENING {
         return Closing::Bad(2, 0);
     }
     if j.length != size - 8 {

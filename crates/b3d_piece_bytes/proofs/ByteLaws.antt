@@ -1,6 +1,6 @@
 -- The laws of a byte, in the words of the code.
-use mathlib.Core.Path.{_≡_, refl, subst}
-use Prim.Native.Nat.{ℕ, zero, suc, _+_, _*_, _<_, _≤_}
+use mathlib.Core.Path.{_≡_, refl, ap, sym, subst, _∙_}
+use Prim.Native.Nat.{ℕ, zero, suc, _+_, _*_, _^_, _<_, _≤_}
 use native.Mathlib.Omega.{arith}
 use mathlib.Core.Bool.{Bool}
 use mathlib.Core.List.{List}
@@ -10,21 +10,15 @@ use Rattle.b3d_pieces.specs.declared.Kept.{Kept}
 use Rattle.b3d_pieces.specs.declared.Open.{Open}
 use Rattle.b3d_pieces.specs.declared.Part.{Part}
 use Rattle.b3d_pieces.specs.declared.Part.the-variants.{Text, Row, Skip}
-use Rattle.b3d_pieces.specs.Machine.{textFrom, textDone, textByte, rowByte, wordDone, skipFrom, byteIn}
+use Rattle.b3d_pieces.specs.Machine.{live, textFrom, textDone, textByte, rowByte, wordDone, skipFrom, byteIn}
 use Rattle.b3d_pieces.specs.Good.{Words, worth, Off}
 use Rattle.b3d_piece_parts.specs.declared.Now.{Now}
 use Rattle.b3d_piece_parts.specs.declared.Now.the-variants.{Live}
 use Rattle.b3d_piece_parts.specs.Nows.{GoodNow, Ready, Gives}
 use Rattle.b3d_piece_parts.proofs.Giving.{gives, gives-on, gives-spare}
-use Rattle.b3d_piece_bytes.specs.Bytes.{cameOf, spareOf, RowFine}
+use Rattle.b3d_piece_bytes.specs.Bytes.{gathers, Adds, cameOf, spareOf}
 
 -- ---- a byte of a number
-
-low-1 : (j acc : ℕ) → j ≡ 1 → acc < worth j → acc < 256
-low-1 j acc e h = rw e at h
-
-low-2 : (j acc : ℕ) → j ≡ 2 → acc < worth j → acc < 65536
-low-2 j acc e h = rw e at h
 
 is-three : (j : ℕ) → j ≤ 3 → (j ≡ 0 → ⊥) → (j ≡ 1 → ⊥) → (j ≡ 2 → ⊥) → j ≡ 3
 is-three zero h a b c = absurd (a refl)
@@ -33,53 +27,44 @@ is-three (suc (suc zero)) h a b c = absurd (c refl)
 is-three (suc (suc (suc zero))) h a b c = refl
 is-three (suc (suc (suc (suc j)))) h a b c = absurd (omega arith)
 
-module _ (fixed : Bool) (start i b acc : ℕ) (k : Kept) (at : ℕ) (g : Totals) (f : Open) (r : Now) where
-  row-0 : b < 256 → i ≤ at → Words k → r ≡ Live at (Row fixed start i 1 b k) g f → Gives 1 (at + 0 + 1) g f r (rowByte 0 fixed start i b acc k at g f)
-  unfolding rowByte
-  row-0 v p w q = gives 1 (at + 0 + 1) g f r (Live at (Row fixed start i 1 b k) g f) (rowByte 0 fixed start i b acc k at g f) q tt (λ R. refl) (λ R d l. ((d, omega arith), (omega arith, omega arith, p, v, w)))
+module _ (j acc b r : ℕ) (v : b < 256) where
+  pub adds-0 : j ≡ 0 → r ≡ b → Adds j acc b r
+  adds-0 e q = rw e (record { is = q; low = λ y. omega arith; most = λ y. omega arith; word = omega arith })
 
-  row-1 : b < 256 → i ≤ at → Words k → acc < 256 → r ≡ Live at (Row fixed start i 2 (acc + 256 * b) k) g f → Gives 2 (at + 1 + 1) g f r (rowByte 1 fixed start i b acc k at g f)
-  unfolding rowByte
-  row-1 v p w a q = gives 2 (at + 1 + 1) g f r (Live at (Row fixed start i 2 (acc + 256 * b) k) g f) (rowByte 1 fixed start i b acc k at g f) q tt (λ R. refl) (λ R d l. ((d, omega arith), (omega arith, omega arith, p, omega arith, w)))
+  pub adds-1 : j ≡ 1 → acc < worth j → r ≡ acc + 256 * b → Adds j acc b r
+  adds-1 e h q = let l : acc < 256 = rw e at h in rw e (record { is = q; low = λ y. omega arith; most = λ y. omega arith; word = omega arith })
 
-  row-2 : b < 256 → i ≤ at → Words k → acc < 65536 → r ≡ Live at (Row fixed start i 3 (acc + 65536 * b) k) g f → Gives 3 (at + 2 + 1) g f r (rowByte 2 fixed start i b acc k at g f)
-  unfolding rowByte
-  row-2 v p w a q = gives 3 (at + 2 + 1) g f r (Live at (Row fixed start i 3 (acc + 65536 * b) k) g f) (rowByte 2 fixed start i b acc k at g f) q tt (λ R. refl) (λ R d l. ((d, omega arith), (omega arith, omega arith, p, omega arith, w)))
+  pub adds-2 : j ≡ 2 → acc < worth j → r ≡ acc + 65536 * b → Adds j acc b r
+  adds-2 e h q = let l : acc < 65536 = rw e at h in rw e (record { is = q; low = λ y. omega arith; most = λ y. omega arith; word = omega arith })
 
-  row-3 : Gives 1 (at + 4) g f r (wordDone fixed start i (acc + 16777216 * b) at k g f) → Gives 4 (at + 3 + 1) g f r (rowByte 3 fixed start i b acc k at g f)
-  unfolding rowByte
-  row-3 q = let e : at + 4 ≡ at + 3 + 1 = omega arith in record { is = q .is; good = λ R d l. subst (λ (n : ℕ). GoodNow n R r) e (q .good R d (omega arith)); calm = λ z. absurd (omega arith) }
+  pub adds-3 : j ≤ 3 → (j ≡ 0 → ⊥) → (j ≡ 1 → ⊥) → (j ≡ 2 → ⊥) → acc < 16777216 → r ≡ acc + 16777216 * b → Adds j acc b r
+  adds-3 t x y z h q = rw (is-three j t x y z) (record { is = q; low = λ s. absurd (omega arith); most = λ s. absurd (omega arith); word = omega arith })
 
-  module _ (j : ℕ) (h : RowFine i j acc k at) where
-    pub row-first : b < 256 → j ≡ 0 → r ≡ Live at (Row fixed start i 1 b k) g f → Gives (j + 1) (at + j + 1) g f r (rowByte j fixed start i b acc k at g f)
-    row-first v e q = rw e (row-0 v (h .index) (h .words) q)
+pub ruleset adds-laws = (adds-0, adds-1, adds-2, adds-3)
 
-    pub row-second : b < 256 → j ≡ 1 → r ≡ Live at (Row fixed start i 2 (acc + 256 * b) k) g f → Gives (j + 1) (at + j + 1) g f r (rowByte j fixed start i b acc k at g f)
-    row-second v e q = let a = low-1 j acc e (h .low) in rw e (row-1 v (h .index) (h .words) a q)
+under : (j : ℕ) → j ≤ 3 → (j ≡ 3 → ⊥) → j < 3
+under zero h z = omega arith
+under (suc zero) h z = omega arith
+under (suc (suc zero)) h z = omega arith
+under (suc (suc (suc zero))) h z = absurd (z refl)
+under (suc (suc (suc (suc j)))) h z = absurd (omega arith)
 
-    pub row-third : b < 256 → j ≡ 2 → r ≡ Live at (Row fixed start i 3 (acc + 65536 * b) k) g f → Gives (j + 1) (at + j + 1) g f r (rowByte j fixed start i b acc k at g f)
-    row-third v e q = let a = low-2 j acc e (h .low) in rw e (row-2 v (h .index) (h .words) a q)
+-- a byte of a number, but its last
+pub byte-goes : (fixed : Bool) (start i b acc : ℕ) (k : Kept) (at : ℕ) (g : Totals) (f : Open) (j : ℕ) → j < 3 → (R : List Open)
+    → rowByte j fixed start i b acc k at g f R ≡ live at (Row fixed start i (j + 1) (gathers j acc b) k) g f R
+unfolding rowByte
+byte-goes fixed start i b acc k at g f zero h R = refl
+byte-goes fixed start i b acc k at g f (suc zero) h R = refl
+byte-goes fixed start i b acc k at g f (suc (suc zero)) h R = refl
+byte-goes fixed start i b acc k at g f (suc (suc (suc j))) h R = absurd (omega arith)
 
-    module _ (x : j ≡ 0 → ⊥) (y : j ≡ 1 → ⊥) (z : j ≡ 2 → ⊥) where
-      pub row-fourth : Gives 1 (at + 4) g f r (wordDone fixed start i (acc + 16777216 * b) at k g f) → Gives (j + 1) (at + j + 1) g f r (rowByte j fixed start i b acc k at g f)
-      row-fourth q = rw (is-three j (h .three) x y z) (row-3 q)
+byte-last : (fixed : Bool) (start i b acc : ℕ) (k : Kept) (at : ℕ) (g : Totals) (f : Open) (j : ℕ) → j ≡ 3 → (R : List Open)
+    → rowByte j fixed start i b acc k at g f R ≡ wordDone fixed start i (gathers j acc b) at k g f R
+unfolding rowByte
+byte-last fixed start i b acc k at g f j e R = rw e
 
-pub row-ready : (at j : ℕ) (g : Totals) (f : Open) (i acc : ℕ) (k : Kept) → RowFine i j acc k at → (j ≡ 0 → ⊥) → (j ≡ 1 → ⊥) → (j ≡ 2 → ⊥) → Ready 1 (at + j + 1) g f → Ready 1 (at + 4) g f
-row-ready at j g f i acc k h x y z q =
-    let e = is-three j (h .three) x y z in
-    let n : at + j + 1 ≡ at + 4 = omega arith in
-    subst (λ (m : ℕ). Ready 1 m g f) n q
-
-pub row-words : (i j acc : ℕ) (k : Kept) (at : ℕ) → RowFine i j acc k at → Words k
-row-words i j acc k at h = h .words
-
-pub row-word : (i j acc b : ℕ) (k : Kept) (at : ℕ) → RowFine i j acc k at → b < 256 → IsWord (acc + 16777216 * b)
-row-word i j acc b k at h v = let m = h .most in omega arith
-
-pub row-index : (i j acc : ℕ) (k : Kept) (at : ℕ) → RowFine i j acc k at → i ≤ at
-row-index i j acc k at h = h .index
-
-pub ruleset row-laws = (row-ready, row-words, row-word, row-index, row-first, row-second, row-third, row-fourth)
+pub word-of : (j acc b v : ℕ) → Adds j acc b v → IsWord v
+word-of j acc b v a = a .word
 
 -- ---- a byte of a text
 
@@ -103,7 +88,7 @@ pub ruleset text-laws = (few-place, text-zero, text-other)
 
 -- ---- a byte
 
-most-low : (j acc : ℕ) → acc < worth j → acc < 16777216
+pub most-low : (j acc : ℕ) → acc < worth j → acc < 16777216
 most-low zero acc h = omega arith
 most-low (suc zero) acc h = omega arith
 most-low (suc (suc zero)) acc h = omega arith
@@ -119,20 +104,54 @@ module _ (m : Part) (at : ℕ) (g : Totals) (f : Open) where
     unfolding cameOf spareOf byteIn
     byte-text b r q = rw e q
 
-  module _ (fixed : Bool) (start i j acc : ℕ) (k : Kept) (e : m ≡ Row fixed start i j acc k) where
-    pub came-row : Ready 1 (cameOf m at + 1) g f → Ready 1 (at + j + 1) g f
+  module _ (fixed : Bool) (start i j acc : ℕ) (k : Kept) (e : m ≡ Row fixed start i j acc k) (o : Off m at (cameOf m at)) where
+    row-is : Off (Row fixed start i j acc k) at (at + j)
     unfolding cameOf
-    came-row h = rw e at h
+    row-is = rw e at o
 
-    pub fine-row : Off m at (cameOf m at) → RowFine i j acc k at
+    pub row-three : j ≤ 3
+    row-three = row-is .1
+
+    pub row-four : j + 1 < 2 ^ 64
+    row-four = let h = row-three in omega arith
+
+    pub row-index : i ≤ at
+    row-index = row-is .2
+
+    pub row-low : acc < worth j
+    row-low = row-is .3
+
+    pub row-most : acc < 16777216
+    row-most = most-low j acc (row-is .3)
+
+    pub row-words : Words k
+    row-words = row-is .4
+
+    pub row-ready : j ≡ 3 → Ready 1 (cameOf m at + 1) g f → Ready 1 (at + 4) g f
     unfolding cameOf
-    fine-row h =
-        let o : Off (Row fixed start i j acc k) at (at + j) = rw e at h in
-        record { three = o .1; index = o .2; low = o .3; most = most-low j acc (o .3); words = o .4 }
+    row-ready z h =
+        let y : Ready 1 (at + j + 1) g f = rw e at h in
+        let n : at + j + 1 ≡ at + 4 = omega arith in
+        subst (λ (x : ℕ). Ready 1 x g f) n y
 
-    pub byte-row : (b : ℕ) (r : Now) → Gives (j + 1) (at + j + 1) g f r (rowByte j fixed start i b acc k at g f) → Gives (spareOf m + 1) (cameOf m at + 1) g f r (byteIn m b at g f)
-    unfolding cameOf spareOf byteIn
-    byte-row b r q = rw e q
+    module _ (b : ℕ) (r : Now) (v : ℕ) (a : Adds j acc b v) where
+      pub row-goes : (j ≡ 3 → ⊥) → r ≡ Live at (Row fixed start i (j + 1) v k) g f → Gives (spareOf m + 1) (cameOf m at + 1) g f r (byteIn m b at g f)
+      unfolding cameOf spareOf byteIn
+      row-goes z q =
+          let l = under j row-three z in
+          rw e (gives (j + 1) (at + j + 1) g f r (Live at (Row fixed start i (j + 1) v k) g f) (rowByte j fixed start i b acc k at g f) q tt
+          (λ R. ap (λ (n : ℕ). live at (Row fixed start i (j + 1) n k) g f R) (a .is) ∙ sym (byte-goes fixed start i b acc k at g f j l R))
+          (λ R d s. ((d, omega arith), (omega arith, omega arith, row-index, a .low l, row-words))))
+
+      pub row-last : j ≡ 3 → Gives 1 (at + 4) g f r (wordDone fixed start i v at k g f) → Gives (spareOf m + 1) (cameOf m at + 1) g f r (byteIn m b at g f)
+      unfolding cameOf spareOf byteIn
+      row-last z q =
+          let n : at + 4 ≡ at + j + 1 = omega arith in
+          rw e (record {
+            is = λ R. q .is R ∙ ap (λ (x : ℕ). wordDone fixed start i x at k g f R) (a .is) ∙ sym (byte-last fixed start i b acc k at g f j z R);
+            good = λ R d l. subst (λ (x : ℕ). GoodNow x R r) n (q .good R d (omega arith));
+            calm = λ y. absurd (omega arith);
+          })
 
   module _ (until : ℕ) (e : m ≡ Skip until) where
     pub came-skip : Ready 1 (cameOf m at + 1) g f → Ready 0 (at + 1) g f
@@ -143,4 +162,4 @@ module _ (m : Part) (at : ℕ) (g : Totals) (f : Open) where
     unfolding cameOf spareOf byteIn
     byte-skip b r q = rw e (gives-spare (at + 1) g f r (skipFrom until (at + 1) g f) (skipFrom until (at + 1) g f) (λ R. refl) q)
 
-pub ruleset byte-laws = (came-text, byte-text, came-row, fine-row, byte-row, came-skip, byte-skip)
+pub ruleset byte-laws = (came-text, byte-text, row-three, row-four, row-low, row-most, row-index, row-words, row-ready, word-of, row-goes, row-last, came-skip, byte-skip)

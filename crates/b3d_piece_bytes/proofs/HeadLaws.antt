@@ -11,7 +11,8 @@ use Rattle.wire.specs.Test.{if}
 use Rattle.b3d_scene.specs.declared.Tag.{Tag}
 use Rattle.b3d_scene.specs.declared.Tag.the-variants.{BB3D, TEXS, BRUS, NODE, MESH, VRTS, TRIS, BONE, KEYS, ANIM}
 use Rattle.b3d_scene.specs.Tags.{tagOf}
-use Rattle.b3d_scene.specs.Nesting.{nesting, Reached, next}
+use Rattle.b3d_scene.specs.Nesting.{nesting, Reached, next, reachedAt}
+use Rattle.b3d_scene.proofs.Files.Entries.{same-tag}
 use Rattle.b3d_chunks.specs.declared.Tagged.{Tagged}
 use Rattle.b3d_chunks.specs.declared.Tagged.the-variants.{Known, Other}
 use Rattle.b3d_chunks.specs.Chunks.{tagged}
@@ -25,7 +26,6 @@ use Rattle.b3d_turns.specs.declared.Reached.{Reached as Turns}
 use Rattle.b3d_turns.specs.declared.Permit.{Permit}
 use Rattle.b3d_turns.specs.declared.Permit.the-variants.{No, Yes}
 use Rattle.b3d_turns.specs.Turns.{permitOf}
-use Rattle.b3d_piece_parts.specs.Nests.{reach}
 use Rattle.b3d_piece_parts.specs.declared.Now.{Now}
 use Rattle.b3d_piece_parts.specs.declared.Now.the-variants.{Push, Fault}
 use Rattle.b3d_piece_parts.specs.Nows.{stateWith, GoodNow, Ready, Gives, texted}
@@ -37,31 +37,10 @@ apart e = let z : _≡_ {A = ℕ} 0 1 = cc in absurd (omega arith)
 
 -- ---- opening
 
-only-node : (t : Tag) → texted t ≡ true → t ≡ NODE
-only-node BB3D e = apart (sym e)
-only-node TEXS e = apart (sym e)
-only-node BRUS e = apart (sym e)
-only-node NODE e = refl
-only-node MESH e = apart (sym e)
-only-node VRTS e = apart (sym e)
-only-node TRIS e = apart (sym e)
-only-node BONE e = apart (sym e)
-only-node KEYS e = apart (sym e)
-only-node ANIM e = apart (sym e)
-
 module _ (head e at : ℕ) (g : Totals) (f : Open) (R : List Open) where
   opened-other : (t : Tag) → texted t ≡ false → enter (texted t) at g (fresh t head e (f .level) 0) (f ∷ R) ≡ opened t head e at g f R
   unfolding opened
-  opened-other BB3D z = refl
-  opened-other TEXS z = refl
-  opened-other BRUS z = refl
-  opened-other NODE z = apart z
-  opened-other MESH z = refl
-  opened-other VRTS z = refl
-  opened-other TRIS z = refl
-  opened-other BONE z = refl
-  opened-other KEYS z = refl
-  opened-other ANIM z = refl
+  opened-other t z = rw z
 
   opened-none : (l : ℕ) → l ≡ 0 → enterNode l head e at g (f ∷ R) ≡ fault 9 head
   unfolding enterNode
@@ -118,11 +97,11 @@ module _ (head e at : ℕ) (g : Totals) (f : Open) (r : Now) where
 
 module _ (t : Tag) (head e at : ℕ) (g : Totals) (f : Open) (r : Now) (b : Bool) (eb : b ≡ texted t) where
   pub open-none : b ≡ true → f .level ≡ 0 → r ≡ Fault 9 head → Opens t head e at g f r
-  open-none v z q = rw (only-node t (sym eb ∙ v)) (node-none head e at g f r z q)
+  open-none v z q = rw (same-tag t NODE (sym eb ∙ v)) (node-none head e at g f r z q)
 
   pub open-node : b ≡ true → (f .level ≡ 0 → ⊥) → (x : Totals) → x ≡ entered g → (y : Open) → y ≡ fresh t head e (f .level - 1) (g .below) → r ≡ Push at x y f → Opens t head e at g f r
   open-node v z x ex y ey q =
-      let o = only-node t (sym eb ∙ v) in
+      let o = same-tag t NODE (sym eb ∙ v) in
       let p : r ≡ Push at (entered g) (fresh t head e (f .level - 1) (g .below)) f = rw (← ex, ← ey) q in
       rw o (node-some head e at g f r z (rw o at p))
 
@@ -159,7 +138,7 @@ permit-some (some x) a e =
     spent-in d No = d .spent
     spent-in d (Yes r) = r .spent
 
-module _ (t : Tag) (head e at : ℕ) (g : Totals) (f : Open) (r : Now) (x : Permit) (ex : x ≡ permitOf (next (nesting (f .tag)) (nesting (f .tag)) (reach (f .turn) (f .spent)) t)) where
+module _ (t : Tag) (head e at : ℕ) (g : Totals) (f : Open) (r : Now) (x : Permit) (ex : x ≡ permitOf (next (nesting (f .tag)) (nesting (f .tag)) (reachedAt (f .turn) (f .spent)) t)) where
   abbrev o : Option Reached
   o = next (nesting (f .tag)) (nesting (f .tag)) (reachedBy f) t
 

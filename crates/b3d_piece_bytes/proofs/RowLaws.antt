@@ -152,9 +152,6 @@ pub ruleset word-laws = (keep-are-words, next-index, few-place, word-no, word-on
 
 -- ---- after a text
 
-pub none-are-words : Words (record { first = 0; second = 0; third = 0 })
-none-are-words = none-words
-
 module _ (fixed : Bool) (start at : ℕ) (g : Totals) (f : Open) (r : Now) (n : ℕ) (en : n ≡ length (rulesOf fixed (f .tag) (f .kept) g)) (x : ℕ) (ex : x ≡ f .end - at) where
   pub text-cut : x / 4 < n → r ≡ Fault 5 start → Gives 1 at g f r (textDone fixed start at g f)
   unfolding textDone if
@@ -168,4 +165,4 @@ module _ (fixed : Bool) (start at : ℕ) (g : Totals) (f : Open) (r : Now) (n : 
       let l : 4 * length (rules fixed f g) ≤ f .end - at = rw (← ex, ← en) (long x n h) in
       gives-on 1 at g f r (rowFrom fixed start 0 at noneKept g f) (textDone fixed start at g f) (λ R. rw (le-ltb (f .end - at) (4 * length (rules fixed f g)) l)) q
 
-pub ruleset text-laws = (none-are-words, text-cut, text-row)
+pub ruleset text-laws = (none-words, text-cut, text-row)

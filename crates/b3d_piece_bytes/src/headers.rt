@@ -12,7 +12,7 @@ use b3d_piece_parts::bodies::skip_from;
 use b3d_piece_parts::bodies::texted;
 use b3d_piece_parts::nesting::stands;
 use b3d_piece_totals::node_begins;
-use b3d_pieces::Kept;
+use b3d_pieces::NONE_KEPT;
 use b3d_pieces::Open;
 use b3d_pieces::Totals;
 use b3d_scene::Tag;
@@ -22,11 +22,6 @@ use b3d_turns::Permit;
 pub fn fresh(tag: Tag, head: usize, end: usize, level: usize, told: usize) -> Open
     ensures { λ r. ⌜ r ≡ freshOf tag head end level told ⌝ }
 {
-    let none = Kept {
-        first: 0,
-        second: 0,
-        third: 0,
-    };
     Open {
         tag: tag,
         head: head,
@@ -34,7 +29,7 @@ pub fn fresh(tag: Tag, head: usize, end: usize, level: usize, told: usize) -> Op
         turn: 0,
         spent: false,
         level: level,
-        kept: none,
+        kept: NONE_KEPT,
         count: 0,
         told: told,
     }

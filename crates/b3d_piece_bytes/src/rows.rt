@@ -15,6 +15,7 @@ use b3d_piece_parts::bodies::fixed_done;
 use b3d_piece_rules::faults::row_fault;
 use b3d_piece_rules::lengths::row_len;
 use b3d_pieces::Kept;
+use b3d_pieces::NONE_KEPT;
 use b3d_pieces::Open;
 use b3d_pieces::Part;
 use b3d_pieces::Totals;
@@ -104,10 +105,5 @@ pub fn text_done(fixed: bool, start: usize, at: usize, g: Totals, f: Open) -> No
     if left / 4 < n {
         return Now::Fault(5, start);
     }
-    let none = Kept {
-        first: 0,
-        second: 0,
-        third: 0,
-    };
-    row_from(fixed, start, 0, at, none, g, f)
+    row_from(fixed, start, 0, at, NONE_KEPT, g, f)
 }

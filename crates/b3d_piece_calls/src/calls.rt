@@ -83,16 +83,8 @@ pub fn judge_close(state: Judge, row: &[usize]) -> Closed
     if judge_fine(state, row) {
         let verdict = joined(state);
         let said = answer_of(verdict);
-        let now = state.now;
-        let x = Judge {
-            size: state.size,
-            worth: state.worth,
-            letters: state.letters,
-            length: state.length,
-            shut: true,
-            depth: state.depth,
-            now: now,
-        };
+        let mut x = state;
+        x.shut = true;
         return Closed {
             answer: said,
             judge: x,

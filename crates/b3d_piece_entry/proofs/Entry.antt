@@ -14,9 +14,7 @@ use Rattle.b3d_pieces.specs.Good.{Words, Bound, Off, sum, extra, worth}
 use Rattle.b3d_piece_turn.proofs.TurnLaws.{none, stack-length, off-came, came-spare}
 use Rattle.b3d_piece_entry.specs.Tests.{Tests, Weighs, OpenFits}
 use Rattle.b3d_piece_entry.specs.Entry.{Small, RowOff, LiveTests}
-
-never : {P : Type 0} (r : Bool) → r ≡ false → (P → ⊥) → Tests r P
-never r q z = record { yes = λ e. none (sym q ∙ e); all = λ p. absurd (z p) }
+use Rattle.b3d_piece_entry.proofs.Testing.{never}
 
 pub cap-yes : (x r : ℕ) → x ≤ 16777217 → r ≡ x → Small 16777218 x r
 cap-yes x r h q = record { yes = λ l. q; all = λ l. q; most = omega arith }

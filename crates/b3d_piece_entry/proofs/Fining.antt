@@ -21,9 +21,7 @@ use Rattle.b3d_piece_take.specs.Takes.{headLow}
 use Rattle.b3d_piece_take.specs.Runs.{CanRun}
 use Rattle.b3d_piece_entry.specs.Tests.{Tests, RowFits}
 use Rattle.b3d_piece_entry.specs.Entry.{Small, LiveTests, NowTests, StateTests}
-
-never : {P : Type 0} (r : Bool) → r ≡ false → (P → ⊥) → Tests r P
-never r q z = record { yes = λ e. none (sym q ∙ e); all = λ p. absurd (z p) }
+use Rattle.b3d_piece_entry.proofs.Testing.{never}
 
 module _ (held : Now) (size n w : ℕ) (r : Bool) where
   pub now-live : (at : ℕ) (m : Part) (g : Totals) (f : Open) → held ≡ Live at m g f → LiveTests at m g f size n w r → NowTests held size n w r

@@ -9,16 +9,14 @@ use lib.ListN.{length}
 use lib.Dec.{leb}
 use borrow.Author.Tests.{le-leb, leb-true, leb-false}
 use Rattle.b3d_scene.specs.declared.Tag.{Tag}
-use Rattle.b3d_scene.specs.declared.Tag.the-variants.{BB3D, TEXS, BRUS, NODE, MESH, VRTS, TRIS, BONE, KEYS, ANIM}
 use Rattle.b3d_pieces.specs.declared.Kept.{Kept}
 use Rattle.b3d_pieces.specs.declared.Open.{Open}
-use Rattle.b3d_pieces.specs.Row.{openAt}
 use Rattle.b3d_pieces.specs.Good.{Words, Bound, Deep, load, extra}
 use Rattle.b3d_piece_turn.specs.Turns.{stackBy}
 use Rattle.b3d_piece_turn.proofs.TurnLaws.{none, stack-length}
 use Rattle.b3d_piece_entry.specs.Tests.{Tests, Weighs, OpenFits, RowFits}
 
-never : {P : Type 0} (r : Bool) → r ≡ false → (P → ⊥) → Tests r P
+pub never : {P : Type 0} (r : Bool) → r ≡ false → (P → ⊥) → Tests r P
 never r q z = record { yes = λ e. none (sym q ∙ e); all = λ p. absurd (z p) }
 
 by-leb : {P : Type 0} (r : Bool) (a b : ℕ) → r ≡ leb a b → (a ≤ b → P) → (P → a ≤ b) → Tests r P
@@ -43,41 +41,13 @@ module _ (level n : ℕ) (r : Bool) where
 
 pub ruleset small-laws = (words-first, words-second, words-third, bound-far, bound-near)
 
-tests-leb : (r : Bool) (a b : ℕ) → r ≡ leb a b → Tests r (a ≤ b)
+pub tests-leb : (r : Bool) (a b : ℕ) → r ≡ leb a b → Tests r (a ≤ b)
 tests-leb r a b q = by-leb r a b q (λ m. m) (λ m. m)
 
-module _ (tag : Tag) (level n : ℕ) (r : Bool) where
-  pub bound-bb3d : tag ≡ BB3D → Tests r (n + level ≤ 16) → Tests r (Bound tag level n)
-  bound-bb3d e q = rw e q
+pub bound-of : (tag : Tag) (level n : ℕ) (r : Bool) (t : Tag) → tag ≡ t → Tests r (Bound t level n) → Tests r (Bound tag level n)
+bound-of tag level n r t e q = rw e q
 
-  pub bound-texs : tag ≡ TEXS → r ≡ leb n 18 → Tests r (Bound tag level n)
-  bound-texs e q = rw e (tests-leb r n 18 q)
-
-  pub bound-brus : tag ≡ BRUS → r ≡ leb n 18 → Tests r (Bound tag level n)
-  bound-brus e q = rw e (tests-leb r n 18 q)
-
-  pub bound-node : tag ≡ NODE → Tests r (n + level ≤ 16) → Tests r (Bound tag level n)
-  bound-node e q = rw e q
-
-  pub bound-mesh : tag ≡ MESH → r ≡ leb n 17 → Tests r (Bound tag level n)
-  bound-mesh e q = rw e (tests-leb r n 17 q)
-
-  pub bound-vrts : tag ≡ VRTS → r ≡ leb n 18 → Tests r (Bound tag level n)
-  bound-vrts e q = rw e (tests-leb r n 18 q)
-
-  pub bound-tris : tag ≡ TRIS → r ≡ leb n 18 → Tests r (Bound tag level n)
-  bound-tris e q = rw e (tests-leb r n 18 q)
-
-  pub bound-bone : tag ≡ BONE → r ≡ leb n 18 → Tests r (Bound tag level n)
-  bound-bone e q = rw e (tests-leb r n 18 q)
-
-  pub bound-keys : tag ≡ KEYS → r ≡ leb n 18 → Tests r (Bound tag level n)
-  bound-keys e q = rw e (tests-leb r n 18 q)
-
-  pub bound-anim : tag ≡ ANIM → r ≡ leb n 18 → Tests r (Bound tag level n)
-  bound-anim e q = rw e (tests-leb r n 18 q)
-
-pub ruleset bound-laws = (bound-bb3d, bound-texs, bound-brus, bound-node, bound-mesh, bound-vrts, bound-tris, bound-bone, bound-keys, bound-anim)
+pub ruleset bound-laws = (bound-of, tests-leb)
 
 -- ---- an open chunk
 

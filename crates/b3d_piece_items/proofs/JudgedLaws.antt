@@ -4,16 +4,19 @@ use Prim.Native.Nat.{ℕ, _+_, _-_, _*_, _/_, _%_, _<_, _≤_}
 use native.Mathlib.Omega.{arith}
 use mathlib.Core.Bool.{Bool, true, false}
 use lib.ListN.{length}
+use types.Run.{OneOf, hit}
+use denote.Enum.Declared.{tagOf}
 use Rattle.layout.specs.Rules.{unit, names, holds}
 use Rattle.b3d_scene.specs.declared.Tag.{Tag}
-use Rattle.b3d_scene.specs.declared.Tag.the-variants.{BB3D, TEXS, BRUS, NODE, MESH, VRTS, TRIS, BONE, KEYS, ANIM}
+use Rattle.b3d_scene.specs.declared.Tag.the-variants.{NODE, VRTS, TRIS, BONE, ANIM}
 use Rattle.b3d_scene.specs.Rules.{boneVertices}
+use Rattle.b3d_scene.proofs.Tag.{the-type}
 use Rattle.b3d_pieces.specs.declared.Totals.{Totals}
 use Rattle.b3d_pieces.specs.declared.Kept.{Kept}
 use Rattle.b3d_pieces.specs.declared.Open.{Open}
 use Rattle.b3d_pieces.specs.Bodies.{above, rulesOf, nests, textItems}
-use Rattle.b3d_piece_rules.specs.Faults.{faultOf, fixedFault, innerFault, rowFault}
-use Rattle.b3d_piece_rules.proofs.FaultLaws.{name-yes, colour-yes, ids-here, ids-past, vertex-low, vertex-colour, vertex-later, fixed-texs, fixed-node, fixed-bone, fixed-anim, inner-bb3d, inner-texs, inner-node, inner-mesh, inner-vrts, inner-tris, inner-bone, inner-keys, inner-anim, row-fixed, row-inner}
+use Rattle.b3d_piece_rules.specs.Faults.{faultOf, innerFault, rowFault}
+use Rattle.b3d_piece_rules.proofs.FaultLaws.{name-yes, colour-yes, ids-here, ids-past, vertex-low, vertex-colour, vertex-later, fixedFree, fixed-free, innerFree, inner-free, inner-vrts, inner-tris, inner-bone, row-fixed, row-inner}
 use Rattle.b3d_piece_numbers.specs.declared.Judged.{Judged}
 use Rattle.b3d_piece_numbers.specs.declared.RowRules.{RowRules}
 use Rattle.b3d_piece_numbers.specs.Places.{JudgedIs, Plain, RulesAre}
@@ -38,47 +41,23 @@ free : (q : Judged) (fixed : Bool) (t : Tag) (k : Kept) (g : Totals) → q ≡ i
 free q fixed t k g e h = rw e (record { below = λ i w l. h i w; above = λ i w l m. h i w; colours = λ c. differ (sym c); ids = λ c i w a b l. h i w })
 
 module _ (t : Tag) (q : Judged) where
-  fixed-free : q ≡ idsOf 0 0 → ((g : Totals) (i w : ℕ) → 0 ≡ fixedFault t g i w) → FixedIs t q
-  fixed-free e h = record { is = λ k g. free q true t k g e (λ i w. row-fixed k g i w 0 t true refl (h g i w)) }
+  fixed-none : (u : Tag) → OneOf fixedFree (tagOf the-type u) → t ≡ u → q ≡ idsOf 0 0 → FixedIs t q
+  fixed-none u o et e = rw et (record { is = λ k g. free q true u k g e (λ i w. row-fixed k g i w 0 u true refl (fixed-free u o g i w 0 refl)) })
 
-  pub fixed-none-texs : t ≡ TEXS → q ≡ idsOf 0 0 → FixedIs t q
-  fixed-none-texs et e = fixed-free e (λ g i w. fixed-texs g i w 0 t et refl)
+  pub fixed-node : t ≡ NODE → q ≡ idsOf 0 0 → FixedIs t q
+  fixed-node et e = fixed-none NODE (hit fixedFree 3 tt) et e
 
-  pub fixed-none-node : t ≡ NODE → q ≡ idsOf 0 0 → FixedIs t q
-  fixed-none-node et e = fixed-free e (λ g i w. fixed-node g i w 0 t et refl)
-
-  pub fixed-none-bone : t ≡ BONE → q ≡ idsOf 0 0 → FixedIs t q
-  fixed-none-bone et e = fixed-free e (λ g i w. fixed-bone g i w 0 t et refl)
-
-  pub fixed-none-anim : t ≡ ANIM → q ≡ idsOf 0 0 → FixedIs t q
-  fixed-none-anim et e = fixed-free e (λ g i w. fixed-anim g i w 0 t et refl)
+  pub fixed-anim : t ≡ ANIM → q ≡ idsOf 0 0 → FixedIs t q
+  fixed-anim et e = fixed-none ANIM (hit fixedFree 9 tt) et e
 
   pub fixed-every : AnyRow q → FixedIs t q
   fixed-every h = record { is = λ k g. h .is true t k g }
 
-pub ruleset fixed-laws = (fixed-none-texs, fixed-none-node, fixed-none-bone, fixed-none-anim, fixed-every)
+pub ruleset fixed-laws = (fixed-node, fixed-anim, fixed-every)
 
 module _ (t : Tag) (k : Kept) (g : Totals) (q : Judged) where
-  inner-free : q ≡ idsOf 0 0 → ((i w : ℕ) → 0 ≡ innerFault t k g i w) → JudgedIs q false t k g
-  inner-free e h = free q false t k g e (λ i w. row-inner k g i w 0 t false refl (h i w))
-
-  pub none-bb3d : t ≡ BB3D → q ≡ idsOf 0 0 → JudgedIs q false t k g
-  none-bb3d et e = inner-free e (λ i w. inner-bb3d k g i w 0 t et refl)
-
-  pub none-texs : t ≡ TEXS → q ≡ idsOf 0 0 → JudgedIs q false t k g
-  none-texs et e = inner-free e (λ i w. inner-texs k g i w 0 t et refl)
-
-  pub none-node : t ≡ NODE → q ≡ idsOf 0 0 → JudgedIs q false t k g
-  none-node et e = inner-free e (λ i w. inner-node k g i w 0 t et refl)
-
-  pub none-mesh : t ≡ MESH → q ≡ idsOf 0 0 → JudgedIs q false t k g
-  none-mesh et e = inner-free e (λ i w. inner-mesh k g i w 0 t et refl)
-
-  pub none-keys : t ≡ KEYS → q ≡ idsOf 0 0 → JudgedIs q false t k g
-  none-keys et e = inner-free e (λ i w. inner-keys k g i w 0 t et refl)
-
-  pub none-anim : t ≡ ANIM → q ≡ idsOf 0 0 → JudgedIs q false t k g
-  none-anim et e = inner-free e (λ i w. inner-anim k g i w 0 t et refl)
+  pub inner-none : OneOf innerFree (tagOf the-type t) → q ≡ idsOf 0 0 → JudgedIs q false t k g
+  inner-none o e = free q false t k g e (λ i w. row-inner k g i w 0 t false refl (inner-free t o k g i w 0 refl))
 
   pub every-inner : AnyRow q → JudgedIs q false t k g
   every-inner h = h .is false t k g
@@ -115,7 +94,7 @@ module _ (t : Tag) (k : Kept) (g : Totals) (q : Judged) where
         ids = λ c. differ c;
       })
 
-pub ruleset inner-laws = (none-bb3d, none-texs, none-node, none-mesh, none-keys, none-anim, every-inner, ids-tris, ids-bone, colours-vrts)
+pub ruleset inner-laws = (inner-none, every-inner, ids-tris, ids-bone, colours-vrts)
 
 -- ---- rows one after the other
 

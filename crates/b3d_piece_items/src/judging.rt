@@ -13,18 +13,7 @@ use b3d_pieces::Open;
 use b3d_pieces::Totals;
 use b3d_scene::Tag;
 
-// Rows that are left to the machine's own turns: every number is judged, and none is passed over.
-fn every() -> Judged
-    ensures { λ r. ⌜ AnyRow r ⌝ }
-{
-    Judged {
-        first: 0,
-        past: 4294967295,
-        colour: false,
-        names: 0,
-    }
-}
-
+// The first numbers are ids of so many things.
 fn ids(past: usize, names: usize) -> Judged
     ensures { λ r. ⌜ r ≡ idsOf past names ⌝ }
 {
@@ -36,14 +25,19 @@ fn ids(past: usize, names: usize) -> Judged
     }
 }
 
+// Rows that are left to the machine's own turns: every number is judged, and none is passed over.
+fn every() -> Judged
+    ensures { λ r. ⌜ AnyRow r ⌝ }
+{
+    ids(4294967295, 0)
+}
+
 // Fixed data.
 fn fixed_judged(tag: Tag) -> Judged
     ensures { λ r. ⌜ FixedIs tag r ⌝ }
 {
     match tag {
-        Tag::TEXS => ids(0, 0),
         Tag::NODE => ids(0, 0),
-        Tag::BONE => ids(0, 0),
         Tag::ANIM => ids(0, 0),
         _ => every(),
     }
@@ -54,11 +48,7 @@ fn inner_judged(tag: Tag, k: Kept, g: Totals) -> Judged
     ensures { λ r. ⌜ JudgedIs r inside tag k g ⌝ }
 {
     match tag {
-        Tag::BB3D => ids(0, 0),
-        Tag::TEXS => ids(0, 0),
         Tag::BRUS => every(),
-        Tag::NODE => ids(0, 0),
-        Tag::MESH => ids(0, 0),
         Tag::VRTS => {
             let first = 3 + k.first / 1 % 2 * 3;
             Judged {
@@ -70,8 +60,7 @@ fn inner_judged(tag: Tag, k: Kept, g: Totals) -> Judged
         }
         Tag::TRIS => ids(3, g.own),
         Tag::BONE => ids(1, bone_vertices(g)),
-        Tag::KEYS => ids(0, 0),
-        Tag::ANIM => ids(0, 0),
+        _ => ids(0, 0),
     }
 }
 

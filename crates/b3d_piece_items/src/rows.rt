@@ -10,7 +10,7 @@ use b3d_piece_numbers::numbers::last_byte;
 use b3d_piece_numbers::numbers::lower;
 use b3d_piece_numbers::numbers::numbers;
 use b3d_piece_parts::between::less;
-use b3d_pieces::Kept;
+use b3d_pieces::NONE_KEPT;
 
 // As many rows of n numbers as stand in so many bytes, with one more in so many.
 fn whole_rows(a: usize, b: usize, n: usize) -> usize
@@ -49,11 +49,6 @@ fn free_rows(x: RowPlace, q: RowRules, last: usize) -> RowPlace
         let m = whole_rows(last - from, left, n);
         if m != 0 {
             let bytes = 4 * (m * n);
-            let none = Kept {
-                first: 0,
-                second: 0,
-                third: 0,
-            };
             return RowPlace {
                 from: from + bytes,
                 at: at + bytes,
@@ -61,7 +56,7 @@ fn free_rows(x: RowPlace, q: RowRules, last: usize) -> RowPlace
                 i: 0,
                 j: 0,
                 acc: 0,
-                kept: none,
+                kept: NONE_KEPT,
                 count: x.count + m,
             };
         }

@@ -22,11 +22,13 @@ use Rattle.b3d_pieces.proofs.Depth.{none-words}
 use Rattle.b3d_piece_parts.specs.declared.Now.{Now}
 use Rattle.b3d_piece_parts.specs.declared.Now.the-variants.{Live}
 use Rattle.b3d_piece_parts.proofs.Edges.{begin-row, edge-stays}
+use Rattle.b3d_piece_bytes.specs.Bytes.{gathers, Adds}
+use Rattle.b3d_piece_bytes.proofs.ByteLaws.{byte-goes}
 use Rattle.b3d_piece_bytes.proofs.RowLaws.{done-item, from-end, from-on, word-on, keep-are-words}
 use Rattle.b3d_piece_numbers.specs.declared.RowPlace.{RowPlace}
 use Rattle.b3d_piece_numbers.specs.declared.Judged.{Judged}
 use Rattle.b3d_piece_numbers.specs.declared.RowRules.{RowRules}
-use Rattle.b3d_piece_numbers.specs.Places.{Plain, RulesAre, KeepsIs, rowAt, Sound, Took, NumberReady, Goes, NumberIs, stays, goes, Gathered, gathers, Adds}
+use Rattle.b3d_piece_numbers.specs.Places.{Plain, RulesAre, KeepsIs, rowAt, Sound, Took, NumberReady, Goes, NumberIs, stays, goes, Gathered}
 
 -- ---- a rule
 
@@ -134,11 +136,8 @@ module _ (fixed : Bool) (start i : ℕ) (k : Kept) (at : ℕ) (g : Totals) (f : 
   last-taken j acc b e = rw e
 
   byte-taken : (j acc b : ℕ) → j < 3 → run (live at (Row fixed start i j acc k) g f R) (b ∷ []) ≡ live at (Row fixed start i (j + 1) (gathers j acc b) k) g f R
-  unfolding step byteIn rowByte
-  byte-taken zero acc b h = refl
-  byte-taken (suc zero) acc b h = refl
-  byte-taken (suc (suc zero)) acc b h = refl
-  byte-taken (suc (suc (suc j))) acc b h = absurd (omega arith)
+  unfolding step byteIn
+  byte-taken j acc b h = byte-goes fixed start i b acc k at g f j h R
 
 -- ---- the next number
 
@@ -262,21 +261,6 @@ pub ruleset numbering-laws = (numbering-first, numbering-sound, numbering-from, 
 
 -- ---- bytes of a number
 
-module _ (j acc b r : ℕ) (v : b < 256) where
-  pub adds-0 : j ≡ 0 → r ≡ b → Adds j acc b r
-  adds-0 e q = rw e (record { is = q; low = omega arith; most = omega arith })
-
-  pub adds-1 : j ≡ 1 → acc < worth j → r ≡ acc + 256 * b → Adds j acc b r
-  adds-1 e h q = let l : acc < 256 = rw e at h in rw e (record { is = q; low = omega arith; most = omega arith })
-
-pub adds-2 : (j acc b r : ℕ) → b < 256 → j < 3 → (j ≡ 0 → ⊥) → (j ≡ 1 → ⊥) → acc < worth j → r ≡ acc + 65536 * b → Adds j acc b r
-adds-2 zero acc b r v s x y h q = absurd (x refl)
-adds-2 (suc zero) acc b r v s x y h q = absurd (y refl)
-adds-2 (suc (suc zero)) acc b r v s x y h q = record { is = q; low = omega arith; most = omega arith }
-adds-2 (suc (suc (suc j))) acc b r v s x y h q = absurd (omega arith)
-
-pub ruleset adds-laws = (adds-0, adds-1, adds-2)
-
 abbrev pub placed : RowPlace → ℕ → ℕ → ℕ → RowPlace
 placed x from j acc = record { from = from; at = x .at; start = x .start; i = x .i; j = j; acc = acc; kept = x .kept; count = x .count }
 
@@ -298,7 +282,7 @@ module _ (p : List ℕ) (last : ℕ) (x : RowPlace) (stop : ℕ) where
     pub gathering-read : from < stop → from < length p
     gathering-read h = let a = i .len in let b = i .within in omega arith
 
-    pub gathering-three : from < stop → j < 3
+    pub gathering-three : from < stop → j ≤ 3
     gathering-three h = let a = i .three in omega arith
 
     pub gathering-low : acc < worth j
@@ -314,13 +298,14 @@ module _ (p : List ℕ) (last : ℕ) (x : RowPlace) (stop : ℕ) where
         let t = i .three in
         let s = i .gathered .sound in
         let sp = s .place in
-        let k : Sound last (placed x (from + 1) (j + 1) v) = record { from = omega arith; three = omega arith; index = s .index; low = a .low; most = a .most; words = s .words; count = s .count; place = omega arith } in
+        let j₃ : j < 3 = omega arith in
+        let k : Sound last (placed x (from + 1) (j + 1) v) = record { from = omega arith; three = omega arith; index = s .index; low = a .low j₃; most = a .most j₃; words = s .words; count = s .count; place = omega arith } in
         record {
           gathered = record {
             sound = k;
             took = λ q. took-then p last q x (placed x from j acc) (placed x (from + 1) (j + 1) v) l (i .gathered .took q) (record {
               is = λ fixed g f y R. ap (run (rowAt fixed g f (placed x from j acc) R)) (one-byte p from (omega arith))
-                  ∙ byte-taken fixed (x .start) (x .i) (x .kept) (x .at) g (counting f (x .count)) R j acc (getD p from 0) (omega arith)
+                  ∙ byte-taken fixed (x .start) (x .i) (x .kept) (x .at) g (counting f (x .count)) R j acc (getD p from 0) j₃
                   ∙ ap (λ (n : ℕ). rowAt fixed g f (placed x (from + 1) (j + 1) n) R) (sym (a .is));
               ahead = omega arith;
               sound = k;

@@ -1,6 +1,6 @@
 -- A place in a row, what the row's rules ask, and bytes that are passed over inside the row or from one item to the next.
 use mathlib.Core.Path.{_≡_}
-use Prim.Native.Nat.{ℕ, zero, suc, _+_, _-_, _*_, _<_, _≤_}
+use Prim.Native.Nat.{ℕ, _+_, _-_, _<_, _≤_}
 use mathlib.Core.Bool.{Bool, true, false}
 use mathlib.Core.List.{List}
 use lib.ListN.{length}
@@ -101,14 +101,3 @@ pub data NumberIs (x : RowPlace) (w next : ℕ) (q : RowRules) (r : RowPlace) : 
 pub record Gathered (p : List ℕ) (last : ℕ) (x r : RowPlace) : Type 0 where
   pub sound : Sound last r
   pub took : (q : RowRules) → Took p last q x r
-
--- j bytes of a number worth acc, and one more
-abbrev pub gathers : ℕ → ℕ → ℕ → ℕ
-gathers zero acc b = b
-gathers (suc zero) acc b = acc + 256 * b
-gathers (suc (suc j)) acc b = acc + 65536 * b
-
-pub record Adds (j acc b r : ℕ) : Type 0 where
-  pub is : r ≡ gathers j acc b
-  pub low : r < worth (j + 1)
-  pub most : r < 16777216

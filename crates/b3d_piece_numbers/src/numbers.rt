@@ -3,15 +3,15 @@ ghost use mathlib.Core.Path.{_≡_};
 ghost use Prim.Native.Nat.{_+_, _-_, _<_, _≤_};
 ghost use lib.ListN.{length, getD};
 ghost use Rattle.wire.specs.Bytes.{IsWord};
-ghost use Rattle.b3d_pieces.specs.Good.{worth};
-ghost use Rattle.b3d_piece_numbers.specs.Places.{KeepsIs, Sound, Took, NumberReady, NumberIs, Gathered, Adds};
+ghost use Rattle.b3d_piece_numbers.specs.Places.{KeepsIs, Sound, Took, NumberReady, NumberIs, Gathered};
 use crate::Judged;
 use crate::RowPlace;
 use crate::RowRules;
 use b3d_colour::colour_ok;
+use b3d_piece_bytes::bytes::gathered;
 use b3d_piece_bytes::rows::keep;
 use b3d_piece_parts::between::less;
-use b3d_pieces::Kept;
+use b3d_pieces::NONE_KEPT;
 use wire::number_at;
 use wire::size;
 
@@ -42,38 +42,27 @@ fn after_number(x: RowPlace, w: usize, next: usize, q: RowRules) -> RowPlace
     let i = x.i;
     if keeps(judged, i, w) {
         let at = x.at + 4;
+        let mut y = x;
+        y.from = next;
+        y.at = at;
+        y.j = 0;
+        y.acc = 0;
         if i + 1 != q.long {
             let k = x.kept;
             let more = keep(i, w, k);
-            return RowPlace {
-                from: next,
-                at: at,
-                start: x.start,
-                i: i + 1,
-                j: 0,
-                acc: 0,
-                kept: more,
-                count: x.count,
-            };
+            y.i = i + 1;
+            y.kept = more;
+            return y;
         }
         if q.again {
             let left = less(q.end, at);
             if q.long <= left / 4 {
-                let none = Kept {
-                    first: 0,
-                    second: 0,
-                    third: 0,
-                };
-                return RowPlace {
-                    from: next,
-                    at: at,
-                    start: at,
-                    i: 0,
-                    j: 0,
-                    acc: 0,
-                    kept: none,
-                    count: x.count + 1,
-                };
+                let none = NONE_KEPT;
+                y.start = at;
+                y.i = 0;
+                y.kept = none;
+                y.count = x.count + 1;
+                return y;
             }
         }
     }
@@ -137,21 +126,6 @@ pub fn last_byte(x: RowPlace, q: RowRules, piece: &[u8], last: usize) -> RowPlac
     after_number(x, w, from + 1, q)
 }
 
-// What j bytes of a number and one more are worth.
-fn gathered(j: usize, acc: usize, b: u8) -> usize
-    requires { ⌜ (j < 3) × (acc < worth j) × (acc < 16777216) ⌝ }
-    ensures { λ r. ⌜ Adds j acc b r ⌝ }
-{
-    let v = b as usize;
-    if j == 0 {
-        return v;
-    }
-    if j == 1 {
-        return acc + 256 * v;
-    }
-    acc + 65536 * v
-}
-
 pub fn lower(a: usize, b: usize) -> usize
     ensures { λ r. ⌜ (r ≤ a) × (r ≤ b) ⌝ }
 {
@@ -176,15 +150,9 @@ pub fn gather(x: RowPlace, piece: &[u8], last: usize) -> RowPlace
         j += 1;
         from += 1;
     }
-    let kept = x.kept;
-    RowPlace {
-        from: from,
-        at: x.at,
-        start: x.start,
-        i: x.i,
-        j: j,
-        acc: acc,
-        kept: kept,
-        count: x.count,
-    }
+    let mut y = x;
+    y.from = from;
+    y.j = j;
+    y.acc = acc;
+    y
 }

@@ -2,13 +2,16 @@
 use mathlib.Core.Path.{_≡_, refl, ap, sym, _∙_}
 use Prim.Native.Nat.{ℕ, _+_, _-_, _*_, _/_, _<_, _≤_}
 use native.Mathlib.Omega.{arith}
-use mathlib.Core.Bool.{Bool, true, false}
+use mathlib.Core.Bool.{Bool, true, false, _||_}
 use mathlib.Core.List.{List, _∷_}
 use lib.ListN.{length}
 use lib.Dec.{eqb}
 use borrow.Author.Tests.{lt-ltb, le-ltb}
 use Rattle.wire.specs.Test.{if}
 use Rattle.layout.proofs.Outs.{if-yes}
+use Rattle.b3d_scene.specs.declared.Tag.{Tag}
+use Rattle.b3d_scene.specs.declared.Tag.the-variants.{BB3D, TEXS, BRUS, NODE, MESH}
+use Rattle.b3d_scene.specs.Tags.{is}
 use Rattle.b3d_scene.specs.Nesting.{owed, nesting, end}
 use Rattle.b3d_pieces.specs.declared.Totals.{Totals}
 use Rattle.b3d_pieces.specs.declared.Open.{Open}
@@ -88,3 +91,12 @@ pub few-leave : (at : ℕ) (g : Totals) (f : Open) → Ready 0 at g f → sum g 
 few-leave at g f h = let k = h .few in omega arith
 
 pub ruleset edge-laws = (few-leave, edge-stays, edge-lacks, edge-leaves)
+
+-- ---- tests
+
+module _ (t : Tag) (a b r : Bool) where
+  pub text-items-are : a ≡ is t TEXS → b ≡ is t BRUS → r ≡ (a || b) → r ≡ textItems t
+  text-items-are ea eb q = rw (← ea, ← eb) q
+
+  pub nests-are : (c : Bool) → a ≡ is t BB3D → b ≡ is t NODE → c ≡ is t MESH → r ≡ (a || (b || c)) → r ≡ nests t
+  nests-are c ea eb ec q = rw (← ea, ← eb, ← ec) q

@@ -10,6 +10,7 @@ use borrow.Author.Tests.{eq-eqb, ne-eqb}
 use Rattle.wire.specs.Test.{if}
 use Rattle.b3d_scene.specs.declared.Tag.{Tag}
 use Rattle.b3d_scene.specs.declared.Tag.the-variants.{BB3D, TEXS, BRUS, NODE, MESH, VRTS, TRIS, BONE, KEYS, ANIM}
+use Rattle.b3d_scene.specs.Tags.{is}
 use Rattle.b3d_pieces.specs.declared.Totals.{Totals}
 use Rattle.b3d_pieces.specs.declared.Kept.{Kept}
 use Rattle.b3d_pieces.specs.declared.Open.{Open}
@@ -74,9 +75,6 @@ fixed-ten tag g n e = rw e (go tag)
     go KEYS = omega arith
     go ANIM = omega arith
 
-pub none-are-words : Words (record { first = 0; second = 0; third = 0 })
-none-are-words = none-words
-
 module _ (at : ℕ) (g : Totals) (f : Open) (r : Now) (n : ℕ) (en : n ≡ length (fixedRow (f .tag) g)) (x : ℕ) (ex : x ≡ f .end - at) (b : Bool) (eb : b ≡ wrongFor (f .tag) x (4 * n)) where
   test-is : b ≡ wrongFor (f .tag) (f .end - at) (4 * length (fixedRow (f .tag) g))
   test-is = rw (← ex, ← en) eb
@@ -96,7 +94,7 @@ module _ (at : ℕ) (g : Totals) (f : Open) (r : Now) (n : ℕ) (en : n ≡ leng
       gives 0 at g f r (Live at (Row true at 0 0 0 noneKept) g f) (fixedRowFrom at g f) q tt (λ R. rw (sym test-is ∙ t, ne-eqb 0 (length (fixedRow (f .tag) g)) (λ y. z (en ∙ sym y))))
       (λ R d l. ((d, omega arith), (omega arith, omega arith, omega arith, omega arith, none-words)))
 
-pub ruleset row-laws = (fixed-ten, none-are-words, row-wrong, row-none, row-some)
+pub ruleset row-laws = (fixed-ten, none-words, row-wrong, row-none, row-some)
 
 module _ (at : ℕ) (g : Totals) (f : Open) (r : Now) (b : Bool) (eb : b ≡ texted (f .tag)) where
   pub enter-text : b ≡ true → Gives 0 at g f r (textFrom true at at g f) → Gives 0 at g f r (enter (texted (f .tag)) at g f)
@@ -111,35 +109,11 @@ pub ruleset enter-laws = (enter-text, enter-row)
 
 -- ---- tests
 
-module _ (tag : Tag) (left n : ℕ) where
-  pub wrong-bb3d : tag ≡ BB3D → ltb left (4 * n) ≡ wrongFor tag left (4 * n)
-  wrong-bb3d e = rw e
+module _ (tag : Tag) (left n : ℕ) (b : Bool) (eb : b ≡ is tag ANIM) (r : Bool) where
+  pub wrong-anim : b ≡ true → r ≡ not (eqb left (4 * n)) → r ≡ wrongFor tag left (4 * n)
+  wrong-anim e q = rw (sym eb ∙ e) q
 
-  pub wrong-texs : tag ≡ TEXS → ltb left (4 * n) ≡ wrongFor tag left (4 * n)
-  wrong-texs e = rw e
+  pub wrong-other : b ≡ false → r ≡ ltb left (4 * n) → r ≡ wrongFor tag left (4 * n)
+  wrong-other e q = rw (sym eb ∙ e) q
 
-  pub wrong-brus : tag ≡ BRUS → ltb left (4 * n) ≡ wrongFor tag left (4 * n)
-  wrong-brus e = rw e
-
-  pub wrong-node : tag ≡ NODE → ltb left (4 * n) ≡ wrongFor tag left (4 * n)
-  wrong-node e = rw e
-
-  pub wrong-mesh : tag ≡ MESH → ltb left (4 * n) ≡ wrongFor tag left (4 * n)
-  wrong-mesh e = rw e
-
-  pub wrong-vrts : tag ≡ VRTS → ltb left (4 * n) ≡ wrongFor tag left (4 * n)
-  wrong-vrts e = rw e
-
-  pub wrong-tris : tag ≡ TRIS → ltb left (4 * n) ≡ wrongFor tag left (4 * n)
-  wrong-tris e = rw e
-
-  pub wrong-bone : tag ≡ BONE → ltb left (4 * n) ≡ wrongFor tag left (4 * n)
-  wrong-bone e = rw e
-
-  pub wrong-keys : tag ≡ KEYS → ltb left (4 * n) ≡ wrongFor tag left (4 * n)
-  wrong-keys e = rw e
-
-  pub wrong-anim : tag ≡ ANIM → not (eqb left (4 * n)) ≡ wrongFor tag left (4 * n)
-  wrong-anim e = rw e
-
-pub ruleset wrong-laws = (wrong-bb3d, wrong-texs, wrong-brus, wrong-node, wrong-mesh, wrong-vrts, wrong-tris, wrong-bone, wrong-keys, wrong-anim)
+pub ruleset wrong-laws = (wrong-anim, wrong-other)

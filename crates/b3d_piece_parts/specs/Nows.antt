@@ -1,10 +1,11 @@
 -- The machine's state that what is held stands for, with the chunks of the row; what holds of it after n bytes; and what a step gives.
 use mathlib.Core.Path.{_≡_}
 use Prim.Native.Nat.{ℕ, _+_, _≤_}
-use mathlib.Core.Bool.{Bool, true, false}
+use mathlib.Core.Bool.{Bool}
 use mathlib.Core.List.{List, _∷_}
 use Rattle.b3d_scene.specs.declared.Tag.{Tag}
-use Rattle.b3d_scene.specs.declared.Tag.the-variants.{BB3D, TEXS, BRUS, NODE, MESH, VRTS, TRIS, BONE, KEYS, ANIM}
+use Rattle.b3d_scene.specs.declared.Tag.the-variants.{NODE}
+use Rattle.b3d_scene.specs.Tags.{is}
 use Rattle.b3d_pieces.specs.declared.Totals.{Totals}
 use Rattle.b3d_pieces.specs.declared.Open.{Open}
 use Rattle.b3d_pieces.specs.Machine.{State, live, fault, over, edge, enter}
@@ -14,16 +15,7 @@ use Rattle.b3d_piece_parts.specs.declared.Now.the-variants.{Live, Push, 
 
 -- its body begins with a text
 abbrev pub texted : Tag → Bool
-texted BB3D = false
-texted TEXS = false
-texted BRUS = false
-texted NODE = true
-texted MESH = false
-texted VRTS = false
-texted TRIS = false
-texted BONE = false
-texted KEYS = false
-texted ANIM = false
+texted t = is t NODE
 
 abbrev pub stateWith : List Open → Now → State
 stateWith R (Live at m g f) = live at m g f R

@@ -6,9 +6,10 @@ ghost use Rattle.b3d_pieces.specs.Machine.{begin as beginOf};
 ghost use Rattle.b3d_piece_parts.specs.Nows.{Ready, Gives, edgeHere};
 use crate::Now;
 use crate::nesting::lacks;
+use b3d_chunks::same;
 use b3d_piece_rules::lengths::inner_len;
 use b3d_piece_totals::leave;
-use b3d_pieces::Kept;
+use b3d_pieces::NONE_KEPT;
 use b3d_pieces::Open;
 use b3d_pieces::Part;
 use b3d_pieces::Totals;
@@ -23,38 +24,18 @@ pub fn less(a: usize, b: usize) -> usize
     a - b
 }
 
+// Items begin with a text.
 pub fn text_items(tag: Tag) -> bool
     ensures { λ r. ⌜ r ≡ textItems tag ⌝ }
 {
-    match tag {
-        Tag::BB3D => false,
-        Tag::TEXS => true,
-        Tag::BRUS => true,
-        Tag::NODE => false,
-        Tag::MESH => false,
-        Tag::VRTS => false,
-        Tag::TRIS => false,
-        Tag::BONE => false,
-        Tag::KEYS => false,
-        Tag::ANIM => false,
-    }
+    same(tag, Tag::TEXS) | same(tag, Tag::BRUS)
 }
 
+// Chunks stand inside.
 pub fn nests(tag: Tag) -> bool
     ensures { λ r. ⌜ r ≡ nestsOf tag ⌝ }
 {
-    match tag {
-        Tag::BB3D => true,
-        Tag::TEXS => false,
-        Tag::BRUS => false,
-        Tag::NODE => true,
-        Tag::MESH => true,
-        Tag::VRTS => false,
-        Tag::TRIS => false,
-        Tag::BONE => false,
-        Tag::KEYS => false,
-        Tag::ANIM => false,
-    }
+    same(tag, Tag::BB3D) | (same(tag, Tag::NODE) | same(tag, Tag::MESH))
 }
 
 // An item or a header begins.
@@ -76,12 +57,7 @@ pub fn begin(at: usize, g: Totals, f: Open) -> Now
         }
         return Now::Fault(5, at);
     }
-    let none = Kept {
-        first: 0,
-        second: 0,
-        third: 0,
-    };
-    Now::Live(at, Part::Row(false, at, 0, 0, 0, none), g, f)
+    Now::Live(at, Part::Row(false, at, 0, 0, 0, NONE_KEPT), g, f)
 }
 
 // A part of the innermost chunk is over: it goes on, or is left.

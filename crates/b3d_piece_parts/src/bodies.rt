@@ -8,9 +8,11 @@ ghost use Rattle.b3d_piece_parts.specs.Nows.{Ready, Gives, texted as tex
 use crate::Now;
 use crate::between::edge;
 use crate::between::less;
+use b3d_chunks::same;
 use b3d_piece_rules::lengths::fixed_len;
 use b3d_piece_totals::headed;
 use b3d_pieces::Kept;
+use b3d_pieces::NONE_KEPT;
 use b3d_pieces::Open;
 use b3d_pieces::Part;
 use b3d_pieces::Totals;
@@ -41,17 +43,8 @@ pub fn fixed_done(at: usize, k: Kept, g: Totals, f: Open) -> Now
 {
     let tag = f.tag;
     let x = headed(tag, k, g);
-    let y = Open {
-        tag: tag,
-        head: f.head,
-        end: f.end,
-        turn: f.turn,
-        spent: f.spent,
-        level: f.level,
-        kept: k,
-        count: f.count,
-        told: f.told,
-    };
+    let mut y = f;
+    y.kept = k;
     edge(at, x, y)
 }
 
@@ -61,18 +54,10 @@ pub fn wrong_for(tag: Tag, left: usize, n: usize) -> bool
     ensures { λ r. ⌜ r ≡ wrongFor tag left (4 * n) ⌝ }
 {
     let need = 4 * n;
-    match tag {
-        Tag::BB3D => left < need,
-        Tag::TEXS => left < need,
-        Tag::BRUS => left < need,
-        Tag::NODE => left < need,
-        Tag::MESH => left < need,
-        Tag::VRTS => left < need,
-        Tag::TRIS => left < need,
-        Tag::BONE => left < need,
-        Tag::KEYS => left < need,
-        Tag::ANIM => left != need,
+    if same(tag, Tag::ANIM) {
+        return left != need;
     }
+    left < need
 }
 
 pub fn fixed_row_from(at: usize, g: Totals, f: Open) -> Now
@@ -86,32 +71,17 @@ pub fn fixed_row_from(at: usize, g: Totals, f: Open) -> Now
     if wrong_for(tag, left, n) {
         return Now::Fault(5, at);
     }
-    let none = Kept {
-        first: 0,
-        second: 0,
-        third: 0,
-    };
     if n == 0 {
-        return fixed_done(at, none, g, f);
+        return fixed_done(at, NONE_KEPT, g, f);
     }
-    Now::Live(at, Part::Row(true, at, 0, 0, 0, none), g, f)
+    Now::Live(at, Part::Row(true, at, 0, 0, 0, NONE_KEPT), g, f)
 }
 
+// The body begins with a text.
 pub fn texted(tag: Tag) -> bool
     ensures { λ r. ⌜ r ≡ textedOf tag ⌝ }
 {
-    match tag {
-        Tag::BB3D => false,
-        Tag::TEXS => false,
-        Tag::BRUS => false,
-        Tag::NODE => true,
-        Tag::MESH => false,
-        Tag::VRTS => false,
-        Tag::TRIS => false,
-        Tag::BONE => false,
-        Tag::KEYS => false,
-        Tag::ANIM => false,
-    }
+    same(tag, Tag::NODE)
 }
 
 pub fn enter(at: usize, g: Totals, f: Open) -> Now

@@ -1,8 +1,8 @@
 // The nesting table asked of a record, whose turn is any number: past the last turn all numbers say the same.
 ghost use mathlib.Core.Path.{_≡_};
-ghost use Rattle.b3d_scene.specs.Nesting.{nesting, owed, end, next};
+ghost use Rattle.b3d_scene.specs.Nesting.{nesting, owed, end, next, reachedAt};
 ghost use Rattle.b3d_turns.specs.Turns.{permitOf};
-ghost use Rattle.b3d_piece_parts.specs.Nests.{lastTurn, reach};
+ghost use Rattle.b3d_piece_parts.specs.Nests.{lastTurn};
 use b3d_scene::Tag;
 use b3d_turns::Permit;
 use b3d_turns::Reached;
@@ -29,7 +29,7 @@ pub fn lacks(tag: Tag, turn: usize) -> bool
 
 // May a chunk stand inside one of this tag, after what was reached?
 pub fn stands(tag: Tag, turn: usize, spent: bool, inner: Tag) -> Permit
-    ensures { λ r. ⌜ r ≡ permitOf (next (nesting tag) (nesting tag) (reach turn spent) inner) ⌝ }
+    ensures { λ r. ⌜ r ≡ permitOf (next (nesting tag) (nesting tag) (reachedAt turn spent) inner) ⌝ }
 {
     let so_far = reached(turn, spent);
     may_stand(tag, so_far, inner)

@@ -1,27 +1,27 @@
 -- The laws of bytes that are passed over, in the words of the code.
 use mathlib.Core.Path.{_≡_, refl, ap, sym, subst, _∙_}
-use Prim.Native.Nat.{ℕ, zero, suc, _+_, _-_, _<_, _≤_}
+use Prim.Native.Nat.{ℕ, zero, suc, _+_, _-_, _≤_}
 use native.Mathlib.Omega.{arith}
-use mathlib.Core.Bool.{Bool, true, false}
+use mathlib.Core.Bool.{Bool, false}
 use mathlib.Core.List.{List, [], _∷_, _++_}
-use lib.ListN.{length, getD, take, drop, take-append-drop}
+use lib.ListN.{length, take, drop, take-append-drop}
 use lib.Seq.{slice, slice-empty, length-slice, length-take-le, drop-append-le}
 use Rattle.b3d_pieces.specs.declared.Totals.{Totals}
 use Rattle.b3d_pieces.specs.declared.Open.{Open}
 use Rattle.b3d_pieces.specs.declared.Part.{Part}
 use Rattle.b3d_pieces.specs.declared.Part.the-variants.{Text, Row, Skip}
-use Rattle.b3d_pieces.specs.Machine.{State, live, fault, over, counting, step, run}
-use Rattle.b3d_pieces.specs.Close.{inside, Held, wholeByte, byte, piece}
+use Rattle.b3d_pieces.specs.Machine.{State, live, over, counting, step, run}
+use Rattle.b3d_pieces.specs.Close.{inside, Held, wholeByte, piece}
 use Rattle.b3d_pieces.specs.Good.{Words, worth, Off, Fits, sum}
 use Rattle.b3d_pieces.proofs.Runs.{run-fault}
+use Rattle.b3d_pieces.proofs.Whole.{piece-append}
 use Rattle.b3d_piece_parts.specs.declared.Now.{Now}
 use Rattle.b3d_piece_parts.specs.declared.Now.the-variants.{Live, Push, Pop, Fault, Over}
 use Rattle.b3d_piece_parts.specs.Nows.{stateWith, GoodNow}
 use Rattle.b3d_piece_turn.specs.Turns.{stackBy, pends, pendOf}
 use Rattle.b3d_piece_turn.proofs.TurnLaws.{none}
-use Rattle.b3d_piece_take.specs.declared.Judge.{Judge}
 use Rattle.b3d_piece_take.specs.declared.Turn.{Turn}
-use Rattle.b3d_piece_take.specs.Takes.{heldOf, GoodJudge}
+use Rattle.b3d_piece_take.specs.Takes.{heldOf}
 use Rattle.b3d_piece_take.proofs.TakeLaws.{held-body, byte-on}
 use Rattle.b3d_piece_take.specs.Loops.{wait, leftOf, restAt, restOf, Going}
 use Rattle.b3d_piece_take.proofs.RunLaws.{Running}
@@ -32,10 +32,6 @@ use Rattle.b3d_piece_pass.specs.Passes.{Before, UntilZero, RoomIs, moved
 use Rattle.b3d_piece_pass.proofs.PartLaws.{skip-run, text-run}
 
 -- ---- bytes inside BB3D, taken at once
-
-piece-append : (h : Held) (a b : List ℕ) → piece h (a ++ b) ≡ piece (piece h a) b
-piece-append h [] b = refl
-piece-append h (x ∷ a) b = piece-append (byte h x) a b
 
 piece-run : (size tag len : ℕ) (st : State) (s : List ℕ) → size + length s ≤ 16777217
     → piece (record { size = size; whole = inside tag len st }) s ≡ record { size = size + length s; whole = inside tag len (run st s) }

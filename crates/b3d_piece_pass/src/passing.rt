@@ -99,19 +99,8 @@ fn pass_rows(t: Turn, piece: &[u8], n: usize, x: RowPlace, fixed: bool, g: Total
     let q = row_rules(fixed, g, f);
     let y = rows(x, q, piece, from + n);
     let kept = y.kept;
-    let own = f.kept;
-    let tag = f.tag;
-    let h = Open {
-        tag: tag,
-        head: f.head,
-        end: f.end,
-        turn: f.turn,
-        spent: f.spent,
-        level: f.level,
-        kept: own,
-        count: y.count,
-        told: f.told,
-    };
+    let mut h = f;
+    h.count = y.count;
     let now = Now::Live(y.at, Part::Row(fixed, y.start, y.i, y.j, y.acc, kept), g, h);
     moved(t, now, y.from - from)
 }

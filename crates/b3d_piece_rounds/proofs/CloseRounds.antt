@@ -22,7 +22,6 @@ use Rattle.b3d_piece_answers.specs.declared.Closing.the-variants.{Bad}
 use Rattle.b3d_piece_answers.specs.Closes.{closingOf, answerBy, wordAnswer}
 use Rattle.b3d_piece_calls.specs.Called.{shutting, CloseIs}
 use Rattle.b3d_piece_calls.proofs.Calling.{short-close, shut-close, other-close, taken-close}
-use Rattle.kelompuris_answers.specs.Answers.{answerIn}
 use Rattle.b3d_piece_rounds.specs.declared.Round.{Round}
 use Rattle.b3d_piece_rounds.specs.declared.PieceClosed.{PieceClosed}
 use Rattle.b3d_piece_rounds.specs.Rounds.{blank, opensIn, numbers, FirstIs, TestReady, TestIs, CloseReady, ClosedIs}
@@ -93,27 +92,27 @@ module _ (s : PieceState) (xs : List OpenRecord) where
       close-calm = record { calm = λ z. subst (λ (x : Judge). pends (x .now) ≡ false) (sym judge-is) (fine-runs j n 0 (opensIn xs) t h tested z .calm) }
 
       module _ (r : PieceClosed) (l : ClosedIs t s r) where
-        refused : (t .number ≡ 0 → ⊥) → CloseIs numbers s xs (answerIn (r .answer)) (r .state)
+        refused : (t .number ≡ 0 → ⊥) → CloseIs numbers s xs (r .answer) (r .state)
         refused f =
-            by-cases j n 0 (opensIn xs) t h (CloseIs numbers s xs (answerIn (r .answer)) (r .state))
-            (λ k. short-close numbers s xs (answerIn (r .answer)) (r .state) k (says 11 19 (h .short k .number) (h .short k .place)) (l .state f))
-            (λ k o. shut-close numbers s xs (answerIn (r .answer)) (r .state) k o (says 15 0 (h .shut k o .number) (h .shut k o .place)) (l .state f))
-            (λ k o. other-close numbers s xs (answerIn (r .answer)) (r .state) k o (not-run j n 0 (opensIn xs) t h tested f k o)
+            by-cases j n 0 (opensIn xs) t h (CloseIs numbers s xs (r .answer) (r .state))
+            (λ k. short-close numbers s xs (r .answer) (r .state) k (says 11 19 (h .short k .number) (h .short k .place)) (l .state f))
+            (λ k o. shut-close numbers s xs (r .answer) (r .state) k o (says 15 0 (h .shut k o .number) (h .shut k o .place)) (l .state f))
+            (λ k o. other-close numbers s xs (r .answer) (r .state) k o (not-run j n 0 (opensIn xs) t h tested f k o)
             (says 15 0 (h .is k o .decided tested .number f) (h .is k o .decided tested .place)) (l .state f))
           where
-            says : (a b : ℕ) → t .number ≡ a → t .place ≡ b → answerIn (r .answer) ≡ wordAnswer (answerBy (Bad a b))
+            says : (a b : ℕ) → t .number ≡ a → t .place ≡ b → r .answer ≡ wordAnswer (answerBy (Bad a b))
             says a b ea eb = l .refused f ∙ rw (ea, eb)
 
-        taken : t .number ≡ 0 → CloseIs numbers s xs (answerIn (r .answer)) (r .state)
+        taken : t .number ≡ 0 → CloseIs numbers s xs (r .answer) (r .state)
         taken z =
             let c = fine-runs j n 0 (opensIn xs) t h tested z in
             let b : judgeIn (r .state) ≡ shutting j = ap judgeIn (l .next z) ∙ state-back (shutting (t .turn .judge)) (close-calm .calm z) ∙ ap shutting judge-is in
-            taken-close numbers s xs (answerIn (r .answer)) (r .state) (c .room) (fine-open j n 0 (opensIn xs) t h tested z) c
+            taken-close numbers s xs (r .answer) (r .state) (c .room) (fine-open j n 0 (opensIn xs) t h tested z) c
             (l .answer z (opensIn xs) ∙ ap (λ (x : Judge). wordAnswer (answerBy (closingOf (closing (heldOf x (opensIn xs)))))) judge-is) b
 
-        pub close-last : CloseIs numbers s xs (answerIn (r .answer)) (r .state)
+        pub close-last : CloseIs numbers s xs (r .answer) (r .state)
         close-last = zero-or (eqb (t .number) 0) refl
           where
-            zero-or : (x : Bool) → eqb (t .number) 0 ≡ x → CloseIs numbers s xs (answerIn (r .answer)) (r .state)
+            zero-or : (x : Bool) → eqb (t .number) 0 ≡ x → CloseIs numbers s xs (r .answer) (r .state)
             zero-or true x = taken (eqb-true (t .number) 0 x)
             zero-or false x = refused (eqb-false (t .number) 0 x)

@@ -34,8 +34,6 @@ use Rattle.b3d_piece_answers.specs.declared.Closing.{Closing}
 use Rattle.b3d_piece_answers.specs.declared.Closing.the-variants.{Bad}
 use Rattle.b3d_piece_answers.specs.Closes.{closingOf, answerBy, wordAnswer, Closes}
 use Rattle.b3d_piece_calls.specs.Called.{shutting}
-use Rattle.kelompuris_answers.specs.declared.KelompurisAnswer.{KelompurisAnswer}
-use Rattle.kelompuris_answers.specs.Answers.{answerIn}
 use Rattle.b3d_piece_rounds.specs.declared.Round.{Round}
 use Rattle.b3d_piece_rounds.specs.declared.PieceClosed.{PieceClosed}
 use Rattle.b3d_piece_rounds.specs.Rounds.{Testing, Decided, Stands, ReadyIs, Refusing, FirstIs, TestReady, TestIs, TurnReady, ended, stepped, TurnedIs, NextReady, NextIs, LastIs, CloseReady, ClosedIs}
@@ -262,16 +260,16 @@ pub close-calm : (t : Round) → CloseReady t → t .number ≡ 0 → pends (t .
 close-calm t h e = h .calm e
 
 module _ (t : Round) (s : PieceState) (r : PieceClosed) where
-  pub closed-taken : CloseReady t → t .number ≡ 0 → (v : Closing) → Closes (t .turn .judge) v → (x : Answer) → x ≡ wordAnswer (answerBy v) → (y : KelompurisAnswer) → answerIn y ≡ x
-      → (z : PieceState) → z ≡ stateOf (shutting (t .turn .judge)) → r ≡ record { answer = y; state = z } → ClosedIs t s r
-  closed-taken h e v w x ex y ey z ez q = rw q (record {
-    answer = λ k rs. ey ∙ ex ∙ ap (λ (c : Closing). wordAnswer (answerBy c)) (w .is (h .calm e) rs);
+  pub closed-taken : CloseReady t → t .number ≡ 0 → (v : Closing) → Closes (t .turn .judge) v → (x : Answer) → x ≡ wordAnswer (answerBy v)
+      → (z : PieceState) → z ≡ stateOf (shutting (t .turn .judge)) → r ≡ record { answer = x; state = z } → ClosedIs t s r
+  closed-taken h e v w x ex z ez q = rw q (record {
+    answer = λ k rs. ex ∙ ap (λ (c : Closing). wordAnswer (answerBy c)) (w .is (h .calm e) rs);
     next = λ k. ez;
     refused = λ f. absurd (f e);
     state = λ f. absurd (f e);
   })
 
-  pub closed-refused : (t .number ≡ 0 → ⊥) → (x : Answer) → x ≡ wordAnswer (answerBy (Bad (t .number) (t .place))) → (y : KelompurisAnswer) → answerIn y ≡ x → r ≡ record { answer = y; state = s } → ClosedIs t s r
-  closed-refused f x ex y ey q = rw q (record { answer = λ e rs. absurd (f e); next = λ e. absurd (f e); refused = λ g. ey ∙ ex; state = λ g. refl })
+  pub closed-refused : (t .number ≡ 0 → ⊥) → (x : Answer) → x ≡ wordAnswer (answerBy (Bad (t .number) (t .place))) → r ≡ record { answer = x; state = s } → ClosedIs t s r
+  closed-refused f x ex q = rw q (record { answer = λ e rs. absurd (f e); next = λ e. absurd (f e); refused = λ g. ex; state = λ g. refl })
 
 pub ruleset closed-laws = (close-calm, closed-taken, closed-refused)

@@ -24,7 +24,6 @@ use Rattle.b3d_piece_entry.specs.Tests.{RowFits}
 use Rattle.b3d_piece_answers.specs.declared.Closing.the-variants.{Bad}
 use Rattle.b3d_piece_answers.specs.Closes.{closingOf, answerBy, wordAnswer}
 use Rattle.b3d_piece_calls.specs.Called.{Holding, shutting}
-use Rattle.kelompuris_answers.specs.Answers.{answerIn}
 use Rattle.b3d_piece_rounds.specs.declared.Round.{Round}
 use Rattle.b3d_piece_rounds.specs.declared.PieceClosed.{PieceClosed}
 
@@ -139,7 +138,7 @@ pub record CloseReady (t : Round) : Type 0 where
   pub calm : t .number ≡ 0 → pends (t .turn .judge .now) ≡ false
 
 pub record ClosedIs (t : Round) (s : PieceState) (r : PieceClosed) : Type 0 where
-  pub answer : t .number ≡ 0 → (rs : ℕ → Open) → answerIn (r .answer) ≡ wordAnswer (answerBy (closingOf (closing (heldOf (t .turn .judge) rs))))
+  pub answer : t .number ≡ 0 → (rs : ℕ → Open) → r .answer ≡ wordAnswer (answerBy (closingOf (closing (heldOf (t .turn .judge) rs))))
   pub next : t .number ≡ 0 → r .state ≡ stateOf (shutting (t .turn .judge))
-  pub refused : (t .number ≡ 0 → ⊥) → answerIn (r .answer) ≡ wordAnswer (answerBy (Bad (t .number) (t .place)))
+  pub refused : (t .number ≡ 0 → ⊥) → r .answer ≡ wordAnswer (answerBy (Bad (t .number) (t .place)))
   pub state : (t .number ≡ 0 → ⊥) → r .state ≡ s

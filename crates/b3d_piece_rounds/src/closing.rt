@@ -7,8 +7,6 @@ use b3d_piece_answers::joined;
 use b3d_piece_answers::refused;
 use b3d_piece_state::PieceState;
 use b3d_piece_state::states::state_of;
-use b3d_piece_take::Judge;
-use kelompuris_answers::outward;
 
 pub fn closed(t: Round, state: PieceState) -> PieceClosed
     requires { ⌜ CloseReady t ⌝ }
@@ -19,28 +17,12 @@ pub fn closed(t: Round, state: PieceState) -> PieceClosed
     let j = turn.judge;
     if number == 0 {
         let verdict = joined(j);
-        let said = answer_of(verdict);
-        let answer = outward(said);
-        let now = j.now;
-        let shut = Judge {
-            size: j.size,
-            worth: j.worth,
-            letters: j.letters,
-            length: j.length,
-            shut: true,
-            depth: j.depth,
-            now: now,
-        };
-        let next = state_of(shut);
-        return PieceClosed {
-            answer: answer,
-            state: next,
-        };
+        let answer = answer_of(verdict);
+        let mut shut = j;
+        shut.shut = true;
+        let state = state_of(shut);
+        return PieceClosed { answer, state };
     }
-    let said = refused(number, t.place as usize);
-    let answer = outward(said);
-    PieceClosed {
-        answer: answer,
-        state: state,
-    }
+    let answer = refused(number, t.place as usize);
+    PieceClosed { answer, state }
 }

@@ -7,7 +7,7 @@ pub mod tests;
 use b3d_piece_state::OpenRecord;
 use b3d_piece_state::PieceState;
 use b3d_piece_take::Turn;
-use kelompuris_answers::KelompurisAnswer;
+use b3d_scene::Answer;
 
 // Whether another round follows; the record to read; the record to write, with its place; whether the row is being tested, and the load of the records
 // before the one to read; the refusal and its place, or 0 and 0; the turn.
@@ -26,6 +26,6 @@ pub struct Round {
 // What the close answers, and the state for the next call.
 #[repr(C)]
 pub struct PieceClosed {
-    pub answer: KelompurisAnswer,
+    pub answer: Answer,
     pub state: PieceState,
 }

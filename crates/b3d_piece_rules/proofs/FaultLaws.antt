@@ -7,6 +7,8 @@ use mathlib.Core.List.{List, [], _∷_, _++_, append-nil}
 use lib.ListN.{replicate, drop}
 use lib.Dec.{ltb, ltb→lt, nltb→le}
 use borrow.Author.Tests.{le-leb, lt-leb, lt-ltb, le-ltb, eq-eqb, ne-eqb}
+use types.Run.{OneOf, miss}
+use denote.Enum.Declared.{tagOf}
 use Rattle.wire.specs.Test.{if}
 use Rattle.layout.specs.Rules.{Rule, any, upTo, names, namesOrNone, unit, NONE, holds}
 use Rattle.layout.proofs.Outs.{by-test}
@@ -14,6 +16,7 @@ use Rattle.b3d_scene.specs.declared.Tag.{Tag}
 use Rattle.b3d_scene.specs.declared.Tag.the-variants.{BB3D, TEXS, BRUS, NODE, MESH, VRTS, TRIS, BONE, KEYS, ANIM}
 use Rattle.b3d_scene.specs.declared.Mode.the-variants.{Strict}
 use Rattle.b3d_scene.specs.Rules.{when, verticesHead, brushIds, vertexRow, keyWords, boneVertices}
+use Rattle.b3d_scene.proofs.Tag.{the-type}
 use Rattle.b3d_pieces.specs.declared.Totals.{Totals}
 use Rattle.b3d_pieces.specs.declared.Kept.{Kept}
 use Rattle.b3d_pieces.specs.Bodies.{above, first, ruleAt}
@@ -257,52 +260,29 @@ module _ (g : Totals) (i w r : ℕ) (tag : Tag) where
   unfolding fixedFault
   fixed-vrts e q = rw e q
 
-  pub fixed-texs : tag ≡ TEXS → r ≡ 0 → r ≡ fixedFault tag g i w
-  unfolding fixedFault
-  fixed-texs e q = rw e (by-any [] i w r (any-all 0 i) q)
+-- no number of these is judged: TEXS, NODE, BONE, ANIM
+abbrev pub fixedFree : List ℕ
+fixedFree = 1 ∷ 3 ∷ 7 ∷ 9 ∷ []
 
-  pub fixed-bone : tag ≡ BONE → r ≡ 0 → r ≡ fixedFault tag g i w
-  unfolding fixedFault
-  fixed-bone e q = rw e (by-any [] i w r (any-all 0 i) q)
+pub fixed-free : (tag : Tag) → OneOf fixedFree (tagOf the-type tag) → (g : Totals) (i w r : ℕ) → r ≡ 0 → r ≡ fixedFault tag g i w
+unfolding fixedFault
+fixed-free BB3D o g i w r q = absurd (miss fixedFree 0 tt o)
+fixed-free TEXS o g i w r q = by-any [] i w r (any-all 0 i) q
+fixed-free BRUS o g i w r q = absurd (miss fixedFree 2 tt o)
+fixed-free NODE o g i w r q = by-any (replicate 10 any) i w r (any-all 10 i) q
+fixed-free MESH o g i w r q = absurd (miss fixedFree 4 tt o)
+fixed-free VRTS o g i w r q = absurd (miss fixedFree 5 tt o)
+fixed-free TRIS o g i w r q = absurd (miss fixedFree 6 tt o)
+fixed-free BONE o g i w r q = by-any [] i w r (any-all 0 i) q
+fixed-free KEYS o g i w r q = absurd (miss fixedFree 8 tt o)
+fixed-free ANIM o g i w r q = by-any (replicate 3 any) i w r (any-all 3 i) q
 
-  pub fixed-node : tag ≡ NODE → r ≡ 0 → r ≡ fixedFault tag g i w
-  unfolding fixedFault
-  fixed-node e q = rw e (by-any (replicate 10 any) i w r (any-all 10 i) q)
-
-  pub fixed-anim : tag ≡ ANIM → r ≡ 0 → r ≡ fixedFault tag g i w
-  unfolding fixedFault
-  fixed-anim e q = rw e (by-any (replicate 3 any) i w r (any-all 3 i) q)
-
-pub ruleset fixed-laws = (fixed-bb3d, fixed-brus, fixed-keys, fixed-mesh, fixed-tris, fixed-vrts, fixed-texs, fixed-bone, fixed-node, fixed-anim)
+pub ruleset fixed-laws = (fixed-bb3d, fixed-brus, fixed-keys, fixed-mesh, fixed-tris, fixed-vrts, fixed-free)
 
 module _ (k : Kept) (g : Totals) (i w r : ℕ) (tag : Tag) where
-  pub inner-bb3d : tag ≡ BB3D → r ≡ 0 → r ≡ innerFault tag k g i w
-  unfolding innerFault
-  inner-bb3d e q = rw e (by-any (replicate 2 any) i w r (any-all 2 i) q)
-
-  pub inner-node : tag ≡ NODE → r ≡ 0 → r ≡ innerFault tag k g i w
-  unfolding innerFault
-  inner-node e q = rw e (by-any (replicate 2 any) i w r (any-all 2 i) q)
-
-  pub inner-mesh : tag ≡ MESH → r ≡ 0 → r ≡ innerFault tag k g i w
-  unfolding innerFault
-  inner-mesh e q = rw e (by-any (replicate 2 any) i w r (any-all 2 i) q)
-
-  pub inner-texs : tag ≡ TEXS → r ≡ 0 → r ≡ innerFault tag k g i w
-  unfolding innerFault
-  inner-texs e q = rw e (by-any (replicate 7 any) i w r (any-all 7 i) q)
-
-  pub inner-anim : tag ≡ ANIM → r ≡ 0 → r ≡ innerFault tag k g i w
-  unfolding innerFault
-  inner-anim e q = rw e (by-any [] i w r (any-all 0 i) q)
-
   pub inner-vrts : tag ≡ VRTS → VertexIs (k .first) i w r → r ≡ innerFault tag k g i w
   unfolding innerFault
   inner-vrts e q = rw e (q .is (k .second) (k .third))
-
-  pub inner-keys : tag ≡ KEYS → r ≡ 0 → r ≡ innerFault tag k g i w
-  unfolding innerFault
-  inner-keys e q = rw e (by-any _ i w r (any-all (keyWords (k .first)) i) q)
 
   pub inner-brus : tag ≡ BRUS → r ≡ slotFault (k .first) (g .textures) i w → r ≡ innerFault tag k g i w
   unfolding innerFault slotFault
@@ -320,7 +300,24 @@ module _ (k : Kept) (g : Totals) (i w r : ℕ) (tag : Tag) where
       (λ t. let l = ltb→lt i 1 t in by-rule (replicate 1 (names n) ++ (any ∷ [])) i w r (names n) (run-low 1 i (names n) (any ∷ []) l) (q .id l))
       (λ t. let l = nltb→le i 1 t in by-any (replicate 1 (names n) ++ (any ∷ [])) i w r (run-on 1 i (names n) (any ∷ []) l ∙ any-all 1 (i - 1)) (q .other l)))
 
-pub ruleset inner-laws = (inner-bb3d, inner-node, inner-mesh, inner-texs, inner-anim, inner-vrts, inner-keys, inner-brus, inner-tris, inner-bone)
+-- no number of these is judged: BB3D, TEXS, NODE, MESH, KEYS, ANIM
+abbrev pub innerFree : List ℕ
+innerFree = 0 ∷ 1 ∷ 3 ∷ 4 ∷ 8 ∷ 9 ∷ []
+
+pub inner-free : (tag : Tag) → OneOf innerFree (tagOf the-type tag) → (k : Kept) (g : Totals) (i w r : ℕ) → r ≡ 0 → r ≡ innerFault tag k g i w
+unfolding innerFault
+inner-free BB3D o k g i w r q = by-any (replicate 2 any) i w r (any-all 2 i) q
+inner-free TEXS o k g i w r q = by-any (replicate 7 any) i w r (any-all 7 i) q
+inner-free BRUS o k g i w r q = absurd (miss innerFree 2 tt o)
+inner-free NODE o k g i w r q = by-any (replicate 2 any) i w r (any-all 2 i) q
+inner-free MESH o k g i w r q = by-any (replicate 2 any) i w r (any-all 2 i) q
+inner-free VRTS o k g i w r q = absurd (miss innerFree 5 tt o)
+inner-free TRIS o k g i w r q = absurd (miss innerFree 6 tt o)
+inner-free BONE o k g i w r q = absurd (miss innerFree 7 tt o)
+inner-free KEYS o k g i w r q = by-any _ i w r (any-all (keyWords (k .first)) i) q
+inner-free ANIM o k g i w r q = by-any [] i w r (any-all 0 i) q
+
+pub ruleset inner-laws = (inner-vrts, inner-brus, inner-tris, inner-bone, inner-free)
 
 module _ (k : Kept) (g : Totals) (i w r : ℕ) (tag : Tag) (fixed : Bool) where
   pub row-fixed : fixed ≡ true → r ≡ fixedFault tag g i w → r ≡ rowFault fixed tag k g i w

@@ -7,7 +7,7 @@ use mathlib.Core.Bool.{Bool, true, false}
 use lib.ListN.{length, length-replicate}
 use Rattle.layout.specs.Rules.{namesOrNone}
 use Rattle.b3d_scene.specs.declared.Tag.{Tag}
-use Rattle.b3d_scene.specs.declared.Tag.the-variants.{BB3D, TEXS, BRUS, NODE, MESH, VRTS, TRIS, BONE, KEYS, ANIM}
+use Rattle.b3d_scene.specs.declared.Tag.the-variants.{BRUS, VRTS, KEYS}
 use Rattle.b3d_scene.specs.Rules.{vertexWords, keyWords}
 use Rattle.b3d_pieces.specs.declared.Totals.{Totals}
 use Rattle.b3d_pieces.specs.declared.Kept.{Kept}
@@ -16,26 +16,8 @@ use Rattle.b3d_pieces.specs.Good.{Words}
 use Rattle.b3d_pieces.proofs.Leaves.{vertex-row-length}
 
 module _ (k : Kept) (g : Totals) (tag : Tag) (r : ℕ) where
-  pub len-bb3d : tag ≡ BB3D → r ≡ 2 → r ≡ length (innerRow tag k g)
-  len-bb3d e q = rw e q
-
-  pub len-texs : tag ≡ TEXS → r ≡ 7 → r ≡ length (innerRow tag k g)
-  len-texs e q = rw e q
-
-  pub len-node : tag ≡ NODE → r ≡ 2 → r ≡ length (innerRow tag k g)
-  len-node e q = rw e q
-
-  pub len-mesh : tag ≡ MESH → r ≡ 2 → r ≡ length (innerRow tag k g)
-  len-mesh e q = rw e q
-
-  pub len-tris : tag ≡ TRIS → r ≡ 3 → r ≡ length (innerRow tag k g)
-  len-tris e q = rw e q
-
-  pub len-bone : tag ≡ BONE → r ≡ 2 → r ≡ length (innerRow tag k g)
-  len-bone e q = rw e q
-
-  pub len-anim : tag ≡ ANIM → r ≡ 0 → r ≡ length (innerRow tag k g)
-  len-anim e q = rw e q
+  pub len-as : (u : Tag) → tag ≡ u → r ≡ length (innerRow u k g) → r ≡ length (innerRow tag k g)
+  len-as u e q = rw e q
 
   pub len-brus : tag ≡ BRUS → r ≡ 7 + k .first → r ≡ length (innerRow tag k g)
   len-brus e q = rw e (let m = length-replicate (k .first) (namesOrNone (g .textures)) in omega arith)
@@ -53,7 +35,9 @@ module _ (k : Kept) (g : Totals) (tag : Tag) (r : ℕ) where
   pub len-inner : (fixed : Bool) → fixed ≡ false → r ≡ length (innerRow tag k g) → r ≡ length (rulesOf fixed tag k g)
   len-inner fixed e q = rw e q
 
-pub ruleset len-laws = (len-bb3d, len-texs, len-node, len-mesh, len-tris, len-bone, len-anim, len-brus, len-vrts, len-keys, len-fixed, len-inner)
+pub ruleset len-laws = (len-brus, len-vrts, len-keys, len-as)
+
+pub ruleset row-len-laws = (len-fixed, len-inner)
 
 pub vertex-fits : (k : Kept) → Words k → k .second * k .third ≤ 4294967295 * 4294967295
 vertex-fits k w =

@@ -82,15 +82,12 @@ pub fn fixed_fault(tag: Tag, g: Totals, i: usize, w: usize) -> u32
 {
     match tag {
         Tag::BB3D => head_fault(99, i, w),
-        Tag::TEXS => 0,
         Tag::BRUS => head_fault(8, i, w),
-        Tag::NODE => 0,
         Tag::MESH => brush_fault(g.brushes, i, w),
         Tag::VRTS => vertices_fault(i, w),
         Tag::TRIS => brush_fault(g.brushes, i, w),
-        Tag::BONE => 0,
         Tag::KEYS => head_fault(7, i, w),
-        Tag::ANIM => 0,
+        _ => 0,
     }
 }
 
@@ -164,16 +161,11 @@ pub fn inner_fault(tag: Tag, k: Kept, g: Totals, i: usize, w: usize) -> u32
     ensures { λ r. ⌜ r ≡ innerFault tag k g i w ⌝ }
 {
     match tag {
-        Tag::BB3D => 0,
-        Tag::TEXS => 0,
         Tag::BRUS => slot_fault(k.first, g.textures, i, w),
-        Tag::NODE => 0,
-        Tag::MESH => 0,
         Tag::VRTS => vertex_fault(k.first, i, w),
         Tag::TRIS => ids_fault(3, g.own, i, w),
         Tag::BONE => ids_fault(1, bone_vertices(g), i, w),
-        Tag::KEYS => 0,
-        Tag::ANIM => 0,
+        _ => 0,
     }
 }
 

@@ -6,7 +6,8 @@ use Rattle.wire.specs.Test.{if}
 use Rattle.b3d_scene.specs.declared.Tag.{Tag}
 use Rattle.b3d_scene.specs.declared.Tag.the-variants.{ANIM}
 use Rattle.b3d_pieces.specs.declared.Open.{Open}
-use Rattle.b3d_pieces.specs.Row.{tagNumber, tagBy}
+use Rattle.b3d_scene.specs.Tags.{tagNumber}
+use Rattle.b3d_pieces.specs.Row.{tagBy}
 use Rattle.b3d_pieces.proofs.RowLaws.{tag-back, of-words}
 use Rattle.b3d_piece_state.specs.Records.{openIn, recordOf}
 

@@ -1,6 +1,7 @@
 -- An open chunk as a record of numbers, the same in the same order as its words in a row.
 use Rattle.b3d_pieces.specs.declared.Open.{Open}
-use Rattle.b3d_pieces.specs.Row.{tagNumber, flag, openOf}
+use Rattle.b3d_scene.specs.Tags.{tagNumber}
+use Rattle.b3d_pieces.specs.Row.{flag, openOf}
 use Rattle.b3d_piece_state.specs.declared.OpenRecord.{OpenRecord}
 
 unfoldable pub openIn : OpenRecord → Open

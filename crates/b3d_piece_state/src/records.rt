@@ -1,6 +1,7 @@
 // A tag by its number, a flag as a number, and an open chunk as a record, both ways.
 ghost use mathlib.Core.Path.{_≡_};
-ghost use Rattle.b3d_pieces.specs.Row.{tagNumber, tagBy, flag};
+ghost use Rattle.b3d_scene.specs.Tags.{tagNumber};
+ghost use Rattle.b3d_pieces.specs.Row.{tagBy, flag};
 ghost use Rattle.b3d_piece_state.specs.Records.{openIn, recordOf};
 use crate::OpenRecord;
 use b3d_pieces::Kept;

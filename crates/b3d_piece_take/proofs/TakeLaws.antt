@@ -1,6 +1,6 @@
 -- The laws of a turn of what is held, in the words of the code.
 use mathlib.Core.Path.{_≡_, refl, ap, sym, subst, _∙_}
-use Prim.Native.Nat.{ℕ, zero, suc, _+_, _*_, _<_, _≤_}
+use Prim.Native.Nat.{ℕ, zero, suc, _+_, _-_, _<_, _≤_}
 use native.Mathlib.Omega.{arith}
 use mathlib.Core.Bool.{Bool, true, false}
 use mathlib.Core.List.{List, []}
@@ -14,64 +14,60 @@ use Rattle.b3d_pieces.specs.declared.Totals.{Totals}
 use Rattle.b3d_pieces.specs.declared.Open.{Open}
 use Rattle.b3d_pieces.specs.Machine.{State, step, enter, fresh}
 use Rattle.b3d_pieces.specs.Close.{Whole, heading, inside, Held, headByte, wholeByte, byte, nothing, body}
+use Rattle.b3d_pieces.specs.Good.{worth}
 use Rattle.b3d_pieces.proofs.Depth.{none-words}
 use Rattle.b3d_piece_parts.specs.declared.Now.{Now}
 use Rattle.b3d_piece_parts.specs.Nows.{stateWith, GoodNow, Ready, Gives, texted}
+use Rattle.b3d_piece_bytes.specs.Bytes.{Adds}
+use Rattle.b3d_piece_bytes.proofs.ByteLaws.{most-low}
 use Rattle.b3d_piece_turn.specs.declared.Turned.{Turned}
 use Rattle.b3d_piece_turn.specs.Turns.{stackBy, slotOf, pends, ReadyNow, afterTurn, taken, Rows, TurnIs}
 use Rattle.b3d_piece_turn.proofs.TurnLaws.{same-stack, slot-most, none}
 use Rattle.b3d_piece_take.specs.declared.Judge.{Judge}
 use Rattle.b3d_piece_take.specs.declared.Taken.{Taken}
-use Rattle.b3d_piece_take.specs.Takes.{headLow, headWorth, heldOf, TakeReady, BodyReady, Changes, afterTake, TakeIs}
+use Rattle.b3d_piece_take.specs.Takes.{byteOf, headLow, headWorth, nowWith, heldOf, TakeReady, BodyReady, Changes, afterTake, TakeIs}
 
 -- ---- a number of the header
 
-module _ (size worth b r : ℕ) where
-  pub number-0 : size ≡ 0 → r ≡ b → r ≡ headWorth size worth b
-  number-0 e q = rw e q
+near : (s : ℕ) → s < 4 → byteOf s ≡ s
+near zero h = refl
+near (suc zero) h = refl
+near (suc (suc zero)) h = refl
+near (suc (suc (suc zero))) h = refl
+near (suc (suc (suc (suc s)))) h = absurd (omega arith)
 
-  pub number-4 : size ≡ 4 → r ≡ b → r ≡ headWorth size worth b
-  number-4 e q = rw e q
+far : (s : ℕ) → 4 ≤ s → byteOf s ≡ s - 4
+far zero h = absurd (omega arith)
+far (suc zero) h = absurd (omega arith)
+far (suc (suc zero)) h = absurd (omega arith)
+far (suc (suc (suc zero))) h = absurd (omega arith)
+far (suc (suc (suc (suc s)))) h = omega arith
 
-  pub number-1 : size ≡ 1 → r ≡ worth + 256 * b → r ≡ headWorth size worth b
-  number-1 e q = rw e q
+module _ (size acc b : ℕ) where
+  module _ (h : size < 4) where
+    pub first-low : acc < headLow size → acc < worth size
+    first-low l = rw (near size h) at l
 
-  pub number-5 : size ≡ 5 → r ≡ worth + 256 * b → r ≡ headWorth size worth b
-  number-5 e q = rw e q
+    pub first-is : (r : ℕ) → Adds size acc b r → r ≡ headWorth size acc b
+    first-is r a = rw (near size h) (a .is)
 
-  pub number-2 : size ≡ 2 → r ≡ worth + 65536 * b → r ≡ headWorth size worth b
-  number-2 e q = rw e q
+  module _ (h : 4 ≤ size) where
+    pub second-low : acc < headLow size → acc < worth (size - 4)
+    second-low l = rw (far size h) at l
 
-  pub number-6 : size ≡ 6 → r ≡ worth + 65536 * b → r ≡ headWorth size worth b
-  number-6 e q = rw e q
+    pub second-is : (r : ℕ) → Adds (size - 4) acc b r → r ≡ headWorth size acc b
+    second-is r a = rw (far size h) (a .is)
 
-pub number-last : (size worth b r : ℕ) → size < 8 → (size ≡ 0 → ⊥) → (size ≡ 4 → ⊥) → (size ≡ 1 → ⊥) → (size ≡ 5 → ⊥) → (size ≡ 2 → ⊥) → (size ≡ 6 → ⊥) → r ≡ worth + 16777216 * b → r ≡ headWorth size worth b
-number-last zero worth b r l z0 z4 z1 z5 z2 z6 q = absurd (z0 refl)
-number-last (suc zero) worth b r l z0 z4 z1 z5 z2 z6 q = absurd (z1 refl)
-number-last (suc (suc zero)) worth b r l z0 z4 z1 z5 z2 z6 q = absurd (z2 refl)
-number-last (suc (suc (suc zero))) worth b r l z0 z4 z1 z5 z2 z6 q = q
-number-last (suc (suc (suc (suc zero)))) worth b r l z0 z4 z1 z5 z2 z6 q = absurd (z4 refl)
-number-last (suc (suc (suc (suc (suc zero))))) worth b r l z0 z4 z1 z5 z2 z6 q = absurd (z5 refl)
-number-last (suc (suc (suc (suc (suc (suc zero)))))) worth b r l z0 z4 z1 z5 z2 z6 q = absurd (z6 refl)
-number-last (suc (suc (suc (suc (suc (suc (suc i))))))) worth b r l z0 z4 z1 z5 z2 z6 q = q
+pub number-word : (j acc b r : ℕ) → Adds j acc b r → r < 4294967296
+number-word j acc b r a = a .word
 
-pub ruleset number-laws = (number-0, number-4, number-1, number-5, number-2, number-6, number-last)
-
-low-most : (s : ℕ) → headLow s ≤ 16777216
-low-most zero = omega arith
-low-most (suc zero) = omega arith
-low-most (suc (suc zero)) = omega arith
-low-most (suc (suc (suc zero))) = omega arith
-low-most (suc (suc (suc (suc zero)))) = omega arith
-low-most (suc (suc (suc (suc (suc zero))))) = omega arith
-low-most (suc (suc (suc (suc (suc (suc zero)))))) = omega arith
-low-most (suc (suc (suc (suc (suc (suc (suc s))))))) = omega arith
+pub ruleset number-laws = (first-low, first-is, second-low, second-is, number-word)
 
 pub head-worth : (j : Judge) (rec : Open) → TakeReady j rec → j .size < 8 → j .worth < headLow (j .size)
 head-worth j rec h l = h .head l
 
 pub head-small : (j : Judge) (rec : Open) → TakeReady j rec → j .size < 8 → j .worth < 16777216
-head-small j rec h l = let a = h .head l in let m = low-most (j .size) in omega arith
+head-small j rec h l = most-low (byteOf (j .size)) (j .worth) (h .head l)
 
 -- ---- a byte of the header
 
@@ -198,8 +194,9 @@ module _ (j : Judge) (rec : Open) (b : ℕ) (ready : TakeReady j rec) (h : j .si
     pub head-3 : j .size ≡ 3 → r ≡ on 0 v → TakeIs j rec b r
     head-3 e q = rw q (head-on 0 v (λ z. omega arith) (ap (heading (j .size + 1) 0) ev ∙ third-byte (j .size) (j .worth) (j .letters) b e) (rw e (omega arith)))
 
-    pub head-7 : j .size ≡ 7 → (g : Totals) → g ≡ nothing → (f : Open) → f ≡ file v → (x : Now) → Gives 0 8 g f x (enter (texted (f .tag)) 8 g f) → r ≡ begun v x → TakeIs j rec b r
-    head-7 e g eg f ef x y q = rw q (head-last v ev e x (rw (eg, ef) at y))
+    pub head-7 : j .size ≡ 7 → (g : Totals) → g ≡ nothing → (f : Open) → f ≡ file v → (x : Now) → Gives 0 8 g f x (enter (texted (f .tag)) 8 g f)
+        → (y : Judge) → y ≡ begun v x .judge → r ≡ record { judge = y; put = p; rec = rec } → TakeIs j rec b r
+    head-7 e g eg f ef x h y ey q = rw (q, ey) (head-last v ev e x (rw (eg, ef) at h))
 
     pub head-other : b < 256 → (j .size ≡ 3 → ⊥) → (j .size ≡ 7 → ⊥) → r ≡ on v (j .letters) → TakeIs j rec b r
     head-other w y z q =
@@ -295,8 +292,8 @@ module _ (j : Judge) (rec : Open) (b came : ℕ) (ready : TakeReady j rec) (k : 
             go true e = let z = k .wait e in let s = ready .size in omega arith
             go false e = let z = k .byte e .0 in let s = k .byte e .1 in omega arith
 
-    pub body-next : (r : Taken) → r ≡ record { judge = record { size = j .size + came; worth = j .worth; letters = j .letters; length = j .length; shut = j .shut; depth = y .depth; now = y .now }; put = y .put; rec = y .rec } → TakeIs j rec b r
-    body-next r q = rw q next-is
+    pub body-next : (x : Judge) → x ≡ next .judge → (r : Taken) → r ≡ record { judge = x; put = y .put; rec = y .rec } → TakeIs j rec b r
+    body-next x ex r q = rw (q, ex) next-is
 
 pub ready-depth : (j : Judge) (rec : Open) → TakeReady j rec → j .depth ≤ 18
 ready-depth j rec h = h .depth

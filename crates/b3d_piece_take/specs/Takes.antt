@@ -1,35 +1,36 @@
 -- What is held stands for what the machine holds; what holds of it; what a turn does to it.
 use mathlib.Core.Path.{_≡_}
-use Prim.Native.Nat.{ℕ, zero, suc, _+_, _-_, _*_, _<_, _≤_}
+use Prim.Native.Nat.{ℕ, zero, suc, _-_, _<_, _≤_}
 use mathlib.Core.Bool.{Bool, true, false}
 use lib.Dec.{ltb}
 use Rattle.b3d_pieces.specs.declared.Open.{Open}
 use Rattle.b3d_pieces.specs.Close.{Whole, heading, inside, Held, byte}
+use Rattle.b3d_pieces.specs.Good.{worth}
+use Rattle.b3d_piece_parts.specs.declared.Now.{Now}
 use Rattle.b3d_piece_parts.specs.Nows.{stateWith, GoodNow}
+use Rattle.b3d_piece_bytes.specs.Bytes.{gathers}
 use Rattle.b3d_piece_turn.specs.Turns.{stackBy, pends, pendOf, ReadyNow}
 use Rattle.b3d_piece_take.specs.declared.Judge.{Judge}
 use Rattle.b3d_piece_take.specs.declared.Taken.{Taken}
 
+-- the next byte of BB3D's header, in its number
+abbrev pub byteOf : ℕ → ℕ
+byteOf zero = 0
+byteOf (suc zero) = 1
+byteOf (suc (suc zero)) = 2
+byteOf (suc (suc (suc zero))) = 3
+byteOf (suc (suc (suc (suc i)))) = i
+
 -- what the bytes of the present number of BB3D's header are below, and what they are worth with one more
 abbrev pub headLow : ℕ → ℕ
-headLow zero = 1
-headLow (suc zero) = 256
-headLow (suc (suc zero)) = 65536
-headLow (suc (suc (suc zero))) = 16777216
-headLow (suc (suc (suc (suc zero)))) = 1
-headLow (suc (suc (suc (suc (suc zero))))) = 256
-headLow (suc (suc (suc (suc (suc (suc zero)))))) = 65536
-headLow (suc (suc (suc (suc (suc (suc (suc i))))))) = 16777216
+headLow n = worth (byteOf n)
 
 abbrev pub headWorth : ℕ → ℕ → ℕ → ℕ
-headWorth zero acc b = b
-headWorth (suc zero) acc b = acc + 256 * b
-headWorth (suc (suc zero)) acc b = acc + 65536 * b
-headWorth (suc (suc (suc zero))) acc b = acc + 16777216 * b
-headWorth (suc (suc (suc (suc zero)))) acc b = b
-headWorth (suc (suc (suc (suc (suc zero))))) acc b = acc + 256 * b
-headWorth (suc (suc (suc (suc (suc (suc zero)))))) acc b = acc + 65536 * b
-headWorth (suc (suc (suc (suc (suc (suc (suc i))))))) acc b = acc + 16777216 * b
+headWorth n acc b = gathers (byteOf n) acc b
+
+-- with so many chunks in the row, and this in the innermost
+abbrev pub nowWith : Judge → ℕ → Now → Judge
+nowWith j depth x = record { size = j .size; worth = j .worth; letters = j .letters; length = j .length; shut = j .shut; depth = depth; now = x }
 
 abbrev pub wholeOf : Bool → Judge → (ℕ → Open) → Whole
 wholeOf true j rs = heading (j .size) (j .worth) (j .letters)

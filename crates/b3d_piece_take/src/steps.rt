@@ -39,22 +39,17 @@ pub fn step(t: Turn, rec: Open, b: u8) -> Turn
     let now = next.now;
     let depth = next.depth;
     let get = slot(depth);
-    if pending(now) {
-        return Turn {
-            judge: next,
-            at: t.at,
-            end: t.end,
-            get: get,
-            put: x.put,
-            rec: back,
-        };
-    }
-    Turn {
+    let mut y = Turn {
         judge: next,
-        at: t.at + 1,
+        at: t.at,
         end: t.end,
         get: get,
         put: x.put,
         rec: back,
+    };
+    if pending(now) {
+        return y;
     }
+    y.at = t.at + 1;
+    y
 }

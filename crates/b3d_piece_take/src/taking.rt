@@ -3,18 +3,20 @@ ghost use mathlib.Core.Path.{_≡_};
 ghost use Prim.Native.Nat.{_+_, _<_};
 ghost use mathlib.Core.Bool.{false};
 ghost use Rattle.b3d_pieces.specs.Close.{nothing as nothingOf};
-ghost use Rattle.b3d_piece_take.specs.Takes.{headLow, headWorth, TakeReady, BodyReady, TakeIs};
+ghost use Rattle.b3d_piece_take.specs.Takes.{headLow, headWorth, nowWith, TakeReady, BodyReady, TakeIs};
 ghost use Rattle.b3d_piece_turn.specs.Turns.{pends};
 use crate::Judge;
 use crate::Taken;
+use b3d_piece_bytes::bytes::gathered;
 use b3d_piece_bytes::headers::fresh;
+use b3d_piece_parts::Now;
 use b3d_piece_parts::bodies::enter;
 use b3d_piece_turn::turning::pending;
 use b3d_piece_turn::turning::slot;
 use b3d_piece_turn::turning::turn;
 use b3d_pieces::Open;
 use b3d_pieces::Totals;
-use b3d_scene::Counts;
+use b3d_scene::START;
 use b3d_scene::Tag;
 
 // A byte of BB3D's header, in its number.
@@ -22,42 +24,17 @@ pub fn head_number(size: usize, worth: usize, b: u8) -> usize
     requires { ⌜ (size < 8) × (worth < headLow size) × (worth < 16777216) ⌝ }
     ensures { λ r. ⌜ (r ≡ headWorth size worth b) × (r < 4294967296) ⌝ }
 {
-    let x = b as usize;
-    if size == 0 {
-        return x;
+    if size < 4 {
+        return gathered(size, worth, b);
     }
-    if size == 4 {
-        return x;
-    }
-    if size == 1 {
-        return worth + 256 * x;
-    }
-    if size == 5 {
-        return worth + 256 * x;
-    }
-    if size == 2 {
-        return worth + 65536 * x;
-    }
-    if size == 6 {
-        return worth + 65536 * x;
-    }
-    worth + 16777216 * x
+    gathered(size - 4, worth, b)
 }
 
 // Nothing counted.
 pub fn nothing() -> Totals
     ensures { λ r. ⌜ r ≡ nothingOf ⌝ }
 {
-    let rows = Counts {
-        nodes: 0,
-        meshes: 0,
-        vertices: 0,
-        sets: 0,
-        triangles: 0,
-        weights: 0,
-        lists: 0,
-        keys: 0,
-    };
+    let rows = START;
     Totals {
         version: 0,
         slots: 0,
@@ -70,6 +47,21 @@ pub fn nothing() -> Totals
     }
 }
 
+// With so many chunks in the row, and this in the innermost.
+pub fn with_now(j: Judge, depth: usize, now: Now) -> Judge
+    ensures { λ r. ⌜ r ≡ nowWith j depth now ⌝ }
+{
+    Judge {
+        size: j.size,
+        worth: j.worth,
+        letters: j.letters,
+        length: j.length,
+        shut: j.shut,
+        depth: depth,
+        now: now,
+    }
+}
+
 pub fn head_turn(j: Judge, rec: Open, b: u8) -> Taken
     requires { ⌜ TakeReady j rec × (j .size < 8) × (pends (j .now) ≡ false) ⌝ }
     ensures { λ r. ⌜ TakeIs j rec b r ⌝ }
@@ -78,56 +70,24 @@ pub fn head_turn(j: Judge, rec: Open, b: u8) -> Taken
     let depth = j.depth;
     let put = slot(depth);
     let v = head_number(size, j.worth, b);
-    let now = j.now;
+    let mut x = j;
+    x.size = size + 1;
     if size == 3 {
-        let x = Judge {
-            size: size + 1,
-            worth: 0,
-            letters: v,
-            length: j.length,
-            shut: j.shut,
-            depth: depth,
-            now: now,
-        };
-        return Taken {
-            judge: x,
-            put: put,
-            rec: rec,
-        };
+        x.worth = 0;
+        x.letters = v;
+        return Taken { judge: x, put, rec };
     }
     if size == 7 {
+        x.worth = 0;
+        x.length = v;
         let f = fresh(Tag::BB3D, 0, 8 + v, 16, 0);
         let g = nothing();
         let first = enter(8, g, f);
-        let x = Judge {
-            size: size + 1,
-            worth: 0,
-            letters: j.letters,
-            length: v,
-            shut: j.shut,
-            depth: 0,
-            now: first,
-        };
-        return Taken {
-            judge: x,
-            put: put,
-            rec: rec,
-        };
+        let y = with_now(x, 0, first);
+        return Taken { judge: y, put, rec };
     }
-    let x = Judge {
-        size: size + 1,
-        worth: v,
-        letters: j.letters,
-        length: j.length,
-        shut: j.shut,
-        depth: depth,
-        now: now,
-    };
-    Taken {
-        judge: x,
-        put: put,
-        rec: rec,
-    }
+    x.worth = v;
+    Taken { judge: x, put, rec }
 }
 
 // The machine's turn, that takes so many bytes.
@@ -139,19 +99,14 @@ pub fn body_turn(j: Judge, rec: Open, b: u8, came: usize) -> Taken
     let depth = j.depth;
     let y = turn(now, depth, rec, b);
     let next = y.now;
+    let put = y.put;
     let back = y.rec;
-    let x = Judge {
-        size: j.size + came,
-        worth: j.worth,
-        letters: j.letters,
-        length: j.length,
-        shut: j.shut,
-        depth: y.depth,
-        now: next,
-    };
+    let mut x = j;
+    x.size = j.size + came;
+    let z = with_now(x, y.depth, next);
     Taken {
-        judge: x,
-        put: y.put,
+        judge: z,
+        put: put,
         rec: back,
     }
 }
@@ -173,9 +128,5 @@ pub fn take(j: Judge, rec: Open, b: u8) -> Taken
     }
     let depth = j.depth;
     let put = slot(depth);
-    Taken {
-        judge: j,
-        put: put,
-        rec: rec,
-    }
+    Taken { judge: j, put, rec }
 }

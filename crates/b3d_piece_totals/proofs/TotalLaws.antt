@@ -9,6 +9,7 @@ use Rattle.wire.specs.Test.{if}
 use Rattle.b3d_scene.specs.declared.Tag.{Tag}
 use Rattle.b3d_scene.specs.declared.Tag.the-variants.{BB3D, TEXS, BRUS, NODE, MESH, VRTS, TRIS, BONE, KEYS, ANIM}
 use Rattle.b3d_scene.specs.declared.Counts.{Counts}
+use Rattle.b3d_scene.specs.Tags.{is}
 use Rattle.b3d_scene.specs.Rules.{boneVertices, bonesFrom}
 use Rattle.b3d_pieces.specs.declared.Totals.{Totals}
 use Rattle.b3d_pieces.specs.declared.Kept.{Kept}
@@ -40,8 +41,14 @@ says-is anim own g b e r q = rw (← e) q
 
 -- ---- fixed data, and a node that begins
 
-pub headed-as : (t u : Tag) → t ≡ u → (k : Kept) (g r : Totals) → r ≡ headed u k g → r ≡ headed t k g
-headed-as t u e k g r q = rw e q
+module _ (t : Tag) (b : Bool) (eb : b ≡ is t BB3D) (k : Kept) (g r : Totals) where
+  pub headed-file : b ≡ true → r ≡ fileWith g (k .first) (g .slots) (g .textures) (g .brushes) → r ≡ headed t k g
+  headed-file e q = rw (sym eb ∙ e) q
+
+  pub headed-other : b ≡ false → r ≡ g → r ≡ headed t k g
+  headed-other e q = rw (sym eb ∙ e) q
+
+pub ruleset headed-laws = (headed-file, headed-other)
 
 pub begins-is : (g x r : Totals) → x ≡ oneMore g → r ≡ saying false 0 x → r ≡ entered g
 begins-is g x r e q = q ∙ ap (saying false 0) e

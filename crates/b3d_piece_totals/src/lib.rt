@@ -4,6 +4,7 @@ ghost use Prim.Native.Nat.{_+_, _≤_};
 ghost use Rattle.b3d_scene.specs.Rules.{boneVertices, bonesFrom};
 ghost use Rattle.b3d_pieces.specs.Bodies.{above, saying, rowsWith, fileWith, headed as headedOf, entered, slotsFor, rowsAfter, saidAbove, closed};
 ghost use Rattle.b3d_pieces.specs.Good.{sum};
+use b3d_chunks::same;
 use b3d_pieces::Kept;
 use b3d_pieces::Totals;
 use b3d_scene::Counts;
@@ -59,18 +60,10 @@ fn says(anim: bool, own: usize, g: Totals) -> Totals
 pub fn headed(tag: Tag, k: Kept, g: Totals) -> Totals
     ensures { λ r. ⌜ r ≡ headedOf tag k g ⌝ }
 {
-    match tag {
-        Tag::BB3D => with_file(g, k.first, g.slots, g.textures, g.brushes),
-        Tag::TEXS => g,
-        Tag::BRUS => g,
-        Tag::NODE => g,
-        Tag::MESH => g,
-        Tag::VRTS => g,
-        Tag::TRIS => g,
-        Tag::BONE => g,
-        Tag::KEYS => g,
-        Tag::ANIM => g,
+    if same(tag, Tag::BB3D) {
+        return with_file(g, k.first, g.slots, g.textures, g.brushes);
     }
+    g
 }
 
 // A node begins.

@@ -8,7 +8,8 @@ use lib.ListN.{getD, set}
 use lib.Dec.{eqb}
 use Rattle.b3d_scene.specs.declared.Tag.{Tag}
 use Rattle.b3d_pieces.specs.declared.Open.{Open}
-use Rattle.b3d_pieces.specs.Row.{tagNumber, tagBy, flag, openAt, putOpen}
+use Rattle.b3d_scene.specs.Tags.{tagNumber}
+use Rattle.b3d_pieces.specs.Row.{tagBy, flag, openAt, putOpen}
 
 pub open-is : (row : List ℕ) (i : ℕ) (t : Tag) → t ≡ tagBy (getD row (i * 11) 0) → (r : Open)
     → r ≡ record {

@@ -1,15 +1,15 @@
 -- The machine on the worked files of 01, byte by byte: it says what the reader says.
 use mathlib.Core.Path.{_≡_, refl}
-use Prim.Native.Nat.{ℕ, zero, suc, _+_, _*_}
+use Prim.Native.Nat.{ℕ, _+_}
 use mathlib.Core.List.{List, [], _∷_, _++_, map}
 use lib.ListN.{take}
 use Rattle.layout.specs.Rules.{NONE}
-use Rattle.b3d_scene.specs.declared.Tag.the-variants.{TEXS, BRUS, MESH, VRTS, TRIS, BONE, KEYS, ANIM}
+use Rattle.b3d_scene.specs.declared.Tag.the-variants.{TEXS, BRUS, MESH, VRTS, KEYS}
 use Rattle.b3d_scene.specs.declared.Answer.{Answer}
 use Rattle.b3d_scene.proofs.Computing.{computing}
 use Rattle.b3d_scene.proofs.Cases.{cases, Case}
 use Rattle.b3d_scene.proofs.Cases.{zeros}
-use Rattle.b3d_scene.proofs.ExtraCases.{ws, part, file, aNode}
+use Rattle.b3d_scene.proofs.ExtraCases.{ws, part, file, meshOf, anim, aBone, room, deep}
 use Rattle.b3d_pieces.specs.Bodies.{above, ruleAt}
 use Rattle.b3d_pieces.specs.Machine.{begin, edge, textFrom, fixedDone, fixedRowFrom, enter, enterNode, opened, skipFrom, stand, known, headerDone, innerDone, rowDone, rowFrom, wordDone, textDone, textByte, rowByte, byteIn, step}
 use Rattle.b3d_pieces.specs.Close.{body, headByte, wholeByte, byte, piece, freshHeld, ended, wholeEnded, limited, closing, answerOf, close}
@@ -34,29 +34,9 @@ cases-hold = refl
 
 -- ---- files with bones, colours, an empty layer, and many levels
 
--- a mesh without a brush, of so many vertices
-abbrev meshOf : ℕ → List ℕ
-meshOf n = part MESH (ws (NONE ∷ []) ++ part VRTS (zeros (12 + 12 * n)) ++ part TRIS (ws (NONE ∷ [])))
-
-abbrev anim : List ℕ
-anim = part ANIM (zeros 12)
-
--- a node with a bone that names this vertex
-abbrev aBone : ℕ → List ℕ
-aBone id = aNode [] (part BONE (ws (id ∷ 0 ∷ [])))
-
--- a room with a mesh of one vertex and an ANIM; in it a door with a mesh of two, these chunks, and what is below it; and what is beside it
-abbrev room : List ℕ → List ℕ → List ℕ → List ℕ
-room moves below beside = file (aNode [] (meshOf 1 ++ anim ++ aNode [] (meshOf 2 ++ moves ++ below) ++ beside))
-
 -- a brush with this alpha and this texture id, behind one texture
 abbrev brush : ℕ → ℕ → List ℕ
 brush alpha id = file (part TEXS (zeros 29) ++ part BRUS (ws (1 ∷ []) ++ 0 ∷ ws (0 ∷ 0 ∷ 0 ∷ alpha ∷ NONE ∷ 0 ∷ 0 ∷ id ∷ [])))
-
--- so many nodes one in the other, and this in the last
-pub deep : ℕ → List ℕ → List ℕ
-deep zero b = b
-deep (suc n) b = aNode [] (deep n b)
 
 -- each file, and the number and place of its answer
 pub more : List (List ℕ × (ℕ × ℕ))

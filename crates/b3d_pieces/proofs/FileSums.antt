@@ -21,7 +21,7 @@ use Rattle.b3d_scene.specs.Mask.{spread, keyMask}
 use Rattle.b3d_scene.specs.Scene.{Texture, Brush, TriangleSet, Kind, pivot, mesh, bone, Keys, Anim, still, anim, Data, Forest, leaf, node, Scene}
 use Rattle.b3d_scene.specs.Tables.{start, meshesOf, weightsOf, triangleRows, keyRows, withMeshes, withNode, withForest, counts}
 use Rattle.b3d_scene.specs.Parse.{readOne, readTextures, readBrushes, readNode, readRoot, slotsOf, readBody}
-use Rattle.b3d_scene.proofs.Rows.CountLaws.{counts-are}
+use Rattle.b3d_scene.proofs.Rows.CountLaws.{counts-are, same-counts}
 use Rattle.b3d_scene.proofs.Files.Entries.{_▸_}
 use Rattle.b3d_pieces.specs.declared.Totals.{Totals}
 use Rattle.b3d_pieces.specs.Bodies.{noneKept, entered, slotsFor, closed}
@@ -132,9 +132,6 @@ body-out b =
     ∙ sym (bind-bind (readOne TEXS [] readTextures cs) _ _))
 
 -- ---- the totals are the row counts
-
-same-counts : (a b : Counts) → a .nodes ≡ b .nodes → a .meshes ≡ b .meshes → a .vertices ≡ b .vertices → a .sets ≡ b .sets → a .triangles ≡ b .triangles → a .weights ≡ b .weights → a .lists ≡ b .lists → a .keys ≡ b .keys → a ≡ b
-same-counts a b e₁ e₂ e₃ e₄ e₅ e₆ e₇ e₈ = λ i. record { nodes = e₁ i; meshes = e₂ i; vertices = e₃ i; sets = e₄ i; triangles = e₅ i; weights = e₆ i; lists = e₇ i; keys = e₈ i }
 
 abbrev moreSets : ℕ → ℕ → Counts → Counts
 moreSets k m n = record { nodes = n .nodes; meshes = n .meshes; vertices = n .vertices; sets = n .sets + k; triangles = n .triangles + m; weights = n .weights; lists = n .lists; keys = n .keys }

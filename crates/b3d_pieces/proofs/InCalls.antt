@@ -11,7 +11,7 @@ use lib.Dec.{T, leb, leb→le, le→leb, not-T}
 use Rattle.wire.specs.Test.{if}
 use Rattle.layout.specs.Lists.{All}
 use Rattle.layout.specs.Out.{Out, got, bad, check, _>>=_}
-use Rattle.layout.proofs.Outs.{check-yes, if-yes}
+use Rattle.layout.proofs.Outs.{check-yes, if-yes, check-no}
 use Rattle.b3d_scene.specs.declared.Mode.the-variants.{Strict}
 use Rattle.b3d_scene.specs.Rules.{rowLimit}
 use Rattle.b3d_scene.specs.Scene.{Scene}
@@ -23,7 +23,6 @@ use Rattle.b3d_pieces.specs.Close.{Whole, heading, inside, Held, freshHe
 use Rattle.b3d_pieces.specs.Calls.{records, Pieces, freshPieces, allowed, onCall, afterPiece, afterClose, pieceAnswer, closeAnswer, calls, taken}
 use Rattle.b3d_pieces.specs.Good.{Good, GoodWhole}
 use Rattle.b3d_pieces.specs.InPieces.{Ample, joined, opens, depth, Refuses, InPieces}
-use Rattle.b3d_pieces.proofs.Runs.{check-no}
 use Rattle.b3d_pieces.proofs.Depth.{good-depth, fresh-good, piece-good}
 use Rattle.b3d_pieces.proofs.Whole.{piece-append, whole}
 

@@ -12,14 +12,15 @@ use Rattle.layout.specs.Rules.{any}
 use Rattle.layout.specs.Parts.{wordsOf, row, named, items}
 use Rattle.layout.proofs.Outs.{if-yes, if-no, by-test}
 use Rattle.layout.proofs.HeldLaws.{loose}
-use Rattle.layout.proofs.StepLaws.{row-short, row-any, any-short, row-shrinks, named-shrinks}
+use Rattle.layout.proofs.StepLaws.{row-short, row-any, row-shrinks, named-shrinks}
 use Rattle.b3d_scene.specs.declared.Tag.{Tag}
 use Rattle.b3d_scene.specs.declared.Tag.the-variants.{TEXS, BRUS, VRTS, TRIS, BONE, KEYS, ANIM}
 use Rattle.b3d_scene.specs.declared.Mode.the-variants.{Strict}
 use Rattle.b3d_scene.specs.Rules.{vertexWords, vertexRow, keyWords}
 use Rattle.b3d_scene.specs.Nesting.{nesting, owed, end}
-use Rattle.b3d_scene.specs.Parse.{filled, readAnim}
+use Rattle.b3d_scene.specs.Parse.{filled}
 use Rattle.b3d_scene.proofs.Files.ModeLaws.{loose-vertex}
+use Rattle.b3d_scene.proofs.Files.LeafLaws.{anim-whole, anim-other}
 use Rattle.b3d_pieces.specs.declared.Totals.{Totals}
 use Rattle.b3d_pieces.specs.declared.Kept.{Kept}
 use Rattle.b3d_pieces.specs.declared.Open.{Open}
@@ -145,18 +146,6 @@ run-none : (st : State) (s : List ℕ) → length s ≡ 0 → run st s ≡ st
 run-none st [] h = refl
 run-none st (b ∷ s) h = absurd (omega arith)
 
-anim-wrong : (p : ℕ) (b : List ℕ) → (length b ≡ 12 → ⊥) → readAnim p b ≡ bad 5 (p + 8)
-unfolding readAnim
-anim-wrong p b h =
-    by-test (ltb (length b) 12)
-    (λ t. rw (any-short 3 (p + 8) b (ltb→lt (length b) 12 t)))
-    (λ t. let q = nltb→le (length b) 12 t in
-    rw (row-any 3 (p + 8) b q) (filled-some (p + 8) (drop 12 b) (wordsOf 3 b) (let z = length-drop 12 b in omega arith)))
-
-anim-right : (p : ℕ) (b : List ℕ) → length b ≡ 12 → readAnim p b ≡ got (wordsOf 3 b)
-unfolding readAnim
-anim-right p b h = rw (row-any 3 (p + 8) b (omega arith)) (filled-none (p + 8) (drop 12 b) (wordsOf 3 b) (let z = length-drop 12 b in omega arith))
-
 not-not : (b : Bool) → T b → T (not (not b))
 not-not true t = tt
 not-not false t = absurd t
@@ -171,13 +160,13 @@ anim-here l p b g R =
     by-test (eqb (e - (p + 8)) 12)
     (λ t. let q = eqb→eq (e - (p + 8)) 12 t in
     let n : length b ≡ 12 = omega arith in
-    rw (anim-right p b n)
+    rw (anim-whole p b n)
     (ap (λ (st : State). run st b) (if-no (not (eqb (e - (p + 8)) 12)) (fault 5 (p + 8)) on (not-not (eqb (e - (p + 8)) 12) t))
     ∙ row-whole true (p + 8) g f R (p + 8) b (omega arith)
     ∙ rw (row-any 3 (p + 8) b (omega arith)) (run-none _ (drop 12 b) (let z = length-drop 12 b in omega arith)
     ∙ edge-leave (p + 8 + 12) g (numbered f (keptOf (wordsOf 3 b))) R (ap (λ (z : ℕ). p + 8 + z) (sym n)) refl ∙ ap (λ (z : ℕ). edge (p + 8 + z) (closed ANIM 0 noneKept 0 g) R) (sym n))))
     (λ t.
-    rw (anim-wrong p b (λ n. T-not (eqb (e - (p + 8)) 12) t (eqb-yes (e - (p + 8)) 12 (omega arith))))
+    rw (anim-other p b (λ n. T-not (eqb (e - (p + 8)) 12) t (eqb-yes (e - (p + 8)) 12 (omega arith))))
     (ap (λ (st : State). run st b) (if-yes (not (eqb (e - (p + 8)) 12)) (fault 5 (p + 8)) on t) ∙ run-fault 5 (p + 8) b))
 
 pub anim-run : (l p : ℕ) (b : List ℕ) (g : Totals) (R : List Open) (e : ℕ) → p + 8 + length b ≡ e

@@ -1,7 +1,7 @@
 -- A MESH as Parse reads it is a MESH as it is counted.
 use mathlib.Core.Path.{_≡_, refl, ap, sym, _∙_}
 use Prim.Native.Nat.{ℕ, _+_}
-use mathlib.Core.Bool.{Bool, true, false}
+use mathlib.Core.Bool.{true, false}
 use mathlib.Core.List.{List, _∷_}
 use lib.ListN.{length}
 use Rattle.wire.specs.Test.{if}
@@ -13,7 +13,7 @@ use Rattle.b3d_scene.specs.declared.Tag.the-variants.{MESH, VRTS, TRIS}
 use Rattle.b3d_scene.specs.declared.Mode.the-variants.{Strict}
 use Rattle.b3d_scene.specs.Tags.{Chunks, split}
 use Rattle.b3d_scene.specs.Rules.{meshHead}
-use Rattle.b3d_scene.specs.Nesting.{Reached, start, next, order, inside}
+use Rattle.b3d_scene.specs.Nesting.{start, next, order, inside, reachedAt}
 use Rattle.b3d_scene.specs.Parse.{readOne, noVertices, readVertices, readTriangles, readSets, readMesh}
 use Rattle.b3d_scene.proofs.Files.Entries.{_▸_, by-entry}
 use Rattle.b3d_pieces.specs.declared.Totals.{Totals}
@@ -49,9 +49,6 @@ two-same (bad n p) S T K M L h = refl
 
 -- ---- the chunks
 
-abbrev pub reached : ℕ → Bool → Reached
-reached turn spent = record { turn = turn; spent = spent }
-
 -- chunks counted and read alike
 abbrev Sets : Chunks → Totals → Type 0
 Sets cs g = chunksOut inMesh cs g ≡ (readSets (g .brushes) (g .own) cs >>= λ l. got (setsTotals l g))
@@ -64,17 +61,17 @@ one-set g p b cs ih =
     (λ x. ih (closed TRIS (length (x .triangles)) noneKept 0 g))
 
 -- after a TRIS, and before the first
-sets-out : (cs : Chunks) (head : ℕ) (g : Totals) → Sets (order MESH head (reached 2 false) cs) g
+sets-out : (cs : Chunks) (head : ℕ) (g : Totals) → Sets (order MESH head (reachedAt 2 false) cs) g
 unfolding order next if chunksOut readSets
 sets-out done head g = refl
 sets-out (stop n p) head g = refl
-sets-out (chunk t p b r) head g = by-entry MESH head (reached 2 false) p b r (λ u o. Sets o g) (λ u. refl) (tt ▸ one-set g p b (order MESH head (reached 2 false) r) (sets-out r head) ▸ tt) t
+sets-out (chunk t p b r) head g = by-entry MESH head (reachedAt 2 false) p b r (λ u o. Sets o g) (λ u. refl) (tt ▸ one-set g p b (order MESH head (reachedAt 2 false) r) (sets-out r head) ▸ tt) t
 
-sets-first : (cs : Chunks) (head : ℕ) (g : Totals) → Sets (order MESH head (reached 1 true) cs) g
+sets-first : (cs : Chunks) (head : ℕ) (g : Totals) → Sets (order MESH head (reachedAt 1 true) cs) g
 unfolding order next if chunksOut readSets
 sets-first done head g = refl
 sets-first (stop n p) head g = refl
-sets-first (chunk t p b r) head g = by-entry MESH head (reached 1 true) p b r (λ u o. Sets o g) (λ u. refl) (tt ▸ one-set g p b (order MESH head (reached 2 false) r) (sets-out r head) ▸ tt) t
+sets-first (chunk t p b r) head g = by-entry MESH head (reachedAt 1 true) p b r (λ u o. Sets o g) (λ u. refl) (tt ▸ one-set g p b (order MESH head (reachedAt 2 false) r) (sets-out r head) ▸ tt) t
 
 -- a MESH's chunks
 abbrev Meshes : Chunks → Totals → Type 0
@@ -88,7 +85,7 @@ mesh-chunks done head g = refl
 mesh-chunks (stop n p) head g = refl
 mesh-chunks (chunk t p b r) head g =
     by-entry MESH head start p b r (λ u o. Meshes o g) (λ u. refl)
-    ((ap (λ (o : Out Totals). o >>= λ x. chunksOut inMesh (order MESH head (reached 1 true) r) x) (vrts-out g p b)
+    ((ap (λ (o : Out Totals). o >>= λ x. chunksOut inMesh (order MESH head (reachedAt 1 true) r) x) (vrts-out g p b)
     ∙ two-out (readVertices Strict p b) (λ x. closed VRTS (length (x .items)) noneKept 0 g) _ _ _ (λ x. sets-first r head (closed VRTS (length (x .items)) noneKept 0 g)))
     ▸ tt ▸ tt) t
 

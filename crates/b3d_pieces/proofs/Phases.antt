@@ -9,9 +9,8 @@ use Rattle.layout.specs.Chunks.{done, stop, chunk}
 use Rattle.b3d_scene.specs.declared.Tag.{Tag}
 use Rattle.b3d_scene.specs.declared.Tag.the-variants.{BB3D, TEXS, BRUS, NODE, MESH, BONE, KEYS, ANIM}
 use Rattle.b3d_scene.specs.Tags.{is, Chunks}
-use Rattle.b3d_scene.specs.Nesting.{nesting, Reached, start, owed, end, next, onward, order}
+use Rattle.b3d_scene.specs.Nesting.{nesting, Reached, start, owed, end, next, onward, order, reachedAt}
 use Rattle.b3d_scene.proofs.Files.Entries.{_▸_, same-tag, Either, Each, at-next}
-use Rattle.b3d_pieces.proofs.MeshSums.{reached}
 
 -- In a NODE: nodes only; before them KEYS and ANIM; before those a MESH or a BONE.
 -- In a BB3D: nothing; before that a NODE; before that a BRUS; before that a TEXS.
@@ -59,13 +58,13 @@ by-phase h P r f t x = answer (allowed h) P r f t x
 
 -- how far the rule has come in each phase, inside a chunk of this tag
 data At : Tag → Phase → Reached → Type 0 where
-  nodes-at : At NODE onlyNodes (reached 3 false)
-  first-at : At NODE moving (reached 1 true)
-  moving-at : (x : Bool) → At NODE moving (reached 2 x)
+  nodes-at : At NODE onlyNodes (reachedAt 3 false)
+  first-at : At NODE moving (reachedAt 1 true)
+  moving-at : (x : Bool) → At NODE moving (reachedAt 2 x)
   kinded-at : At NODE kinded start
-  empty-at : At BB3D empty (reached 3 true)
-  rooted-at : At BB3D rooted (reached 2 true)
-  brushed-at : At BB3D brushed (reached 1 true)
+  empty-at : At BB3D empty (reachedAt 3 true)
+  rooted-at : At BB3D rooted (reachedAt 2 true)
+  brushed-at : At BB3D brushed (reachedAt 1 true)
   textured-at : At BB3D textured start
 
 either : (b : Bool) (A B C D : Type 0) → (A → C) → (B → D) → Either b A B → Either b C D

@@ -5,20 +5,17 @@ use native.Mathlib.Omega.{arith}
 use mathlib.Core.Bool.{Bool, true, false}
 use mathlib.Core.List.{List, [], _∷_}
 use lib.ListN.{length, getD, set, length-set}
-use lib.Seq.{sets, length-sets, getD-set-same, getD-set-other}
+use lib.Seq.{sets, length-sets, getD-set-same}
 use lib.Dec.{eqb}
 use Rattle.wire.specs.Test.{if}
+use Rattle.layout.proofs.ListLaws.{sets-below}
 use Rattle.b3d_scene.specs.declared.Tag.{Tag}
 use Rattle.b3d_scene.specs.declared.Tag.the-variants.{BB3D, TEXS, BRUS, NODE, MESH, VRTS, TRIS, BONE, KEYS, ANIM}
 use Rattle.b3d_pieces.specs.declared.Open.{Open}
-use Rattle.b3d_pieces.specs.Row.{tagNumber, tagBy, flag, openWords, openOf, openAt, putOpen, stackOf}
+use Rattle.b3d_scene.specs.Tags.{tagNumber}
+use Rattle.b3d_pieces.specs.Row.{tagBy, flag, openWords, openOf, openAt, putOpen, stackOf}
 
 -- ---- a run of stores
-
--- below it
-sets-below : (vs l : List ℕ) (b j : ℕ) → j < b → getD (sets l b vs) j 0 ≡ getD l j 0
-sets-below [] l b j h = refl
-sets-below (v ∷ vs) l b j h = sets-below vs (set l b v) (suc b) j (omega arith) ∙ getD-set-other l b j v 0 (λ z. omega arith)
 
 -- in it
 sets-in : (vs l : List ℕ) (b k : ℕ) → k < length vs → b + length vs ≤ length l → getD (sets l b vs) (b + k) 0 ≡ getD vs k 0

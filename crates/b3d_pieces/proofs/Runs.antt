@@ -2,7 +2,7 @@
 use mathlib.Core.Path.{_≡_, refl, ap, sym, _∙_}
 use Prim.Native.Nat.{ℕ, zero, suc, _+_, _-_, _*_, _≤_}
 use native.Mathlib.Omega.{arith}
-use mathlib.Core.Bool.{Bool, true, false, not}
+use mathlib.Core.Bool.{Bool, not}
 use mathlib.Core.List.{List, [], _∷_, _++_}
 use lib.ListN.{length, drop, getD}
 use lib.Dec.{T, eqb, ltb, eqb→eq, eqb-refl, ltb→lt, nltb→le, not-T}
@@ -11,7 +11,7 @@ use Rattle.wire.specs.Bytes.{word}
 use Rattle.layout.specs.Out.{Out, got, bad, check, _>>=_}
 use Rattle.layout.specs.Rules.{Rule, holds, refusal}
 use Rattle.layout.specs.Parts.{Name, Step, text, words, wordsOf, judged, row, named}
-use Rattle.layout.proofs.Outs.{if-yes, if-no, by-test, by-got, bad-got, got-inj, check-yes}
+use Rattle.layout.proofs.Outs.{if-yes, if-no, by-test, by-got, bad-got, got-inj, check-yes, check-no}
 use Rattle.layout.proofs.StepLaws.{judged-got, row-enough, words-enough, words-short}
 use Rattle.b3d_pieces.specs.declared.Totals.{Totals}
 use Rattle.b3d_pieces.specs.declared.Kept.{Kept}
@@ -50,11 +50,6 @@ run-after (got a) k s = refl
 run-after (bad n p) k s = run-fault n p s
 
 -- ---- tests
-
-pub check-no : (b : Bool) (n p : ℕ) → T (not b) → check b n p ≡ bad n p
-unfolding check
-check-no true n p t = absurd t
-check-no false n p t = refl
 
 pub eqb-no : (a b : ℕ) → (a ≡ b → ⊥) → T (not (eqb a b))
 eqb-no a b h = not-T (eqb a b) (λ t. h (eqb→eq a b t))

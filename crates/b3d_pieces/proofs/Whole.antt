@@ -10,7 +10,7 @@ use Rattle.wire.specs.Test.{if}
 use Rattle.wire.specs.Bytes.{word}
 use Rattle.layout.specs.Out.{Out, got, bad, check, _>>=_}
 use Rattle.layout.specs.Parts.{number, words, judged, row}
-use Rattle.layout.proofs.Outs.{bind-bind, if-yes, if-no, by-test}
+use Rattle.layout.proofs.Outs.{bind-bind, if-yes, if-no, by-test, check-no}
 use Rattle.layout.specs.Rows.{eachOf, sizeFits, mostBytes}
 use Rattle.b3d_scene.specs.declared.Tag.the-variants.{BB3D}
 use Rattle.b3d_scene.specs.declared.Mode.the-variants.{Strict}
@@ -20,10 +20,11 @@ use Rattle.b3d_scene.specs.Scene.{Scene}
 use Rattle.b3d_scene.specs.Tables.{rows, nodeTables, tables, counts}
 use Rattle.b3d_scene.specs.Parse.{readBody, parse}
 use Rattle.b3d_scene.specs.Answers.{judge, answer}
+use mir.Facts.{and-yes}
 use Rattle.b3d_pieces.specs.declared.Totals.{Totals}
 use Rattle.b3d_pieces.specs.Machine.{State, over, step, run}
 use Rattle.b3d_pieces.specs.Close.{body, inside, Held, headByte, wholeByte, byte, piece, freshHeld, countsOf, ended, wholeEnded, limited, closing, answerOf, close}
-use Rattle.b3d_pieces.proofs.Runs.{after, check-no}
+use Rattle.b3d_pieces.proofs.Runs.{after}
 use Rattle.b3d_pieces.proofs.BodyRuns.{body-run}
 use Rattle.b3d_pieces.proofs.FileSums.{sceneTotals, body-out, scene-counts, scene-version, scene-slots}
 
@@ -112,15 +113,11 @@ and-left : (a b : Bool) → T (a && b) → T a
 and-left true b t = tt
 and-left false b t = t
 
-and-right : (a b : Bool) → T (a && b) → T b
-and-right true b t = t
-and-right false b t = absurd t
-
 too-small : (n : ℕ) → n < 12 → T (not (sizeFits n))
 too-small n h = not-T (sizeFits n) (λ t. let q = leb→le 12 n (and-left (leb 12 n) (leb n mostBytes) t) in absurd (omega arith))
 
 too-big : (n : ℕ) → mostBytes < n → T (not (sizeFits n))
-too-big n h = not-T (sizeFits n) (λ t. let q = leb→le n mostBytes (and-right (leb 12 n) (leb n mostBytes) t) in absurd (omega arith))
+too-big n h = not-T (sizeFits n) (λ t. let q = leb→le n mostBytes (and-yes (leb 12 n) (leb n mostBytes) t .1) in absurd (omega arith))
 
 -- 1
 size-out : (s : List ℕ) → T (not (sizeFits (piece freshHeld s .size))) → T (not (sizeFits (length s))) → heldOut (piece freshHeld s) ≡ (parse Strict s >>= λ t. got (sceneTotals t))

@@ -1,7 +1,7 @@
 -- What stands inside a chunk by its tag: the rules of its fixed data and of its items, all cited from b3d_scene, and what it adds to the totals.
 -- The piece judge is strict.
 use Prim.Native.Nat.{ℕ, zero, suc, _+_}
-use mathlib.Core.Bool.{Bool, true, false, not}
+use mathlib.Core.Bool.{Bool, true, false, not, _||_}
 use mathlib.Core.Option.{Option, none, some}
 use mathlib.Core.List.{List, [], _∷_, _++_}
 use lib.ListN.{drop}
@@ -12,29 +12,48 @@ use Rattle.b3d_scene.specs.declared.Tag.{Tag}
 use Rattle.b3d_scene.specs.declared.Tag.the-variants.{BB3D, TEXS, BRUS, NODE, MESH, VRTS, TRIS, BONE, KEYS, ANIM}
 use Rattle.b3d_scene.specs.declared.Mode.the-variants.{Strict}
 use Rattle.b3d_scene.specs.declared.Counts.{Counts}
+use Rattle.b3d_scene.specs.Tags.{is}
 use Rattle.b3d_scene.specs.Rules.{header, fileHead, textureRow, brushesHead, brushRow, brushIds, nodeRow, meshHead, verticesHead, vertexRow, trianglesHead, triangleRow, weightRow, keysHead, keyRow, animRow, boneVertices, bonesFrom}
 use Rattle.b3d_pieces.specs.declared.Totals.{Totals}
 use Rattle.b3d_pieces.specs.declared.Kept.{Kept}
 
--- ---- bones
+-- ---- totals, and bones
 
 -- what the nodes above the present node say of bones; none: it is the root, the first node of a file
 unfoldable pub above : Totals → Option ℕ
 above g = if (eqb (g .rows .nodes) 1) none (some (g .told))
 
--- the present node has so many vertices, and an ANIM or none: what it says to those below
-abbrev pub saying : Bool → ℕ → Totals → Totals
-saying a own g =
+-- version, n_texs, textures, brushes
+abbrev pub fileWith : Totals → ℕ → ℕ → ℕ → ℕ → Totals
+fileWith g version slots textures brushes =
+    record {
+      version = version;
+      slots = slots;
+      textures = textures;
+      brushes = brushes;
+      own = g .own;
+      told = g .told;
+      below = g .below;
+      rows = g .rows;
+    }
+
+-- the vertices of the present node, what it was told and what it says to those below, rows
+abbrev pub nodeWith : Totals → ℕ → ℕ → ℕ → Counts → Totals
+nodeWith g own told below rows =
     record {
       version = g .version;
       slots = g .slots;
       textures = g .textures;
       brushes = g .brushes;
       own = own;
-      told = g .told;
-      below = boneVertices (bonesFrom (above g) a own);
-      rows = g .rows;
+      told = told;
+      below = below;
+      rows = rows;
     }
+
+-- the present node has so many vertices, and an ANIM or none: what it says to those below
+abbrev pub saying : Bool → ℕ → Totals → Totals
+saying a own g = nodeWith g own (g .told) (boneVertices (bonesFrom (above g) a own)) (g .rows)
 
 -- ---- rows
 
@@ -78,47 +97,25 @@ ruleAt rs i = first (drop i rs)
 
 -- chunks stand inside
 abbrev pub nests : Tag → Bool
-nests BB3D = true
-nests TEXS = false
-nests BRUS = false
-nests NODE = true
-nests MESH = true
-nests VRTS = false
-nests TRIS = false
-nests BONE = false
-nests KEYS = false
-nests ANIM = false
+nests t = is t BB3D || (is t NODE || is t MESH)
 
 -- items begin with a text
 abbrev pub textItems : Tag → Bool
-textItems BB3D = false
-textItems TEXS = true
-textItems BRUS = true
-textItems NODE = false
-textItems MESH = false
-textItems VRTS = false
-textItems TRIS = false
-textItems BONE = false
-textItems KEYS = false
-textItems ANIM = false
+textItems t = is t TEXS || is t BRUS
 
 -- the refusal where a row inside a chunk of this tag is cut
 abbrev pub cutRow : Bool → ℕ
 cutRow true = 3
 cutRow false = 5
 
--- so many bytes for fixed data of so many are wrong: an ANIM has nothing after it
+-- so many bytes for fixed data of so many are wrong, where nothing follows it or where something may
+abbrev pub wrongBytes : Bool → ℕ → ℕ → Bool
+wrongBytes true left need = not (eqb left need)
+wrongBytes false left need = ltb left need
+
+-- an ANIM has nothing after its fixed data
 abbrev pub wrongFor : Tag → ℕ → ℕ → Bool
-wrongFor BB3D left need = ltb left need
-wrongFor TEXS left need = ltb left need
-wrongFor BRUS left need = ltb left need
-wrongFor NODE left need = ltb left need
-wrongFor MESH left need = ltb left need
-wrongFor VRTS left need = ltb left need
-wrongFor TRIS left need = ltb left need
-wrongFor BONE left need = ltb left need
-wrongFor KEYS left need = ltb left need
-wrongFor ANIM left need = not (eqb left need)
+wrongFor t left need = wrongBytes (is t ANIM) left need
 
 -- ---- numbers that are kept
 
@@ -131,47 +128,18 @@ keep (suc zero) w k = record { first = k .first; second = w; third = k .third }
 keep (suc (suc zero)) w k = record { first = k .first; second = k .second; third = w }
 keep (suc (suc (suc i))) w k = k
 
--- ---- totals
+-- ---- what a chunk adds
 
 abbrev pub rowsWith : Totals → Counts → Totals
-rowsWith g n =
-    record {
-      version = g .version;
-      slots = g .slots;
-      textures = g .textures;
-      brushes = g .brushes;
-      own = g .own;
-      told = g .told;
-      below = g .below;
-      rows = n;
-    }
-
--- version, n_texs, textures, brushes
-abbrev pub fileWith : Totals → ℕ → ℕ → ℕ → ℕ → Totals
-fileWith g version slots textures brushes =
-    record {
-      version = version;
-      slots = slots;
-      textures = textures;
-      brushes = brushes;
-      own = g .own;
-      told = g .told;
-      below = g .below;
-      rows = g .rows;
-    }
+rowsWith g n = nodeWith g (g .own) (g .told) (g .below) n
 
 -- the version is known once BB3D's fixed data is
+abbrev pub versioned : Bool → ℕ → Totals → Totals
+versioned true version g = fileWith g version (g .slots) (g .textures) (g .brushes)
+versioned false version g = g
+
 abbrev pub headed : Tag → Kept → Totals → Totals
-headed BB3D k g = fileWith g (k .first) (g .slots) (g .textures) (g .brushes)
-headed TEXS k g = g
-headed BRUS k g = g
-headed NODE k g = g
-headed MESH k g = g
-headed VRTS k g = g
-headed TRIS k g = g
-headed BONE k g = g
-headed KEYS k g = g
-headed ANIM k g = g
+headed t k g = versioned (is t BB3D) (k .first) g
 
 -- a node takes its row before anything inside it
 abbrev pub oneNode : Counts → Counts
@@ -179,17 +147,7 @@ oneNode n = record { nodes = n .nodes + 1; meshes = n .meshes; vertices = n .ver
 
 -- one more node, which is told what the node around it says
 abbrev pub oneMore : Totals → Totals
-oneMore g =
-    record {
-      version = g .version;
-      slots = g .slots;
-      textures = g .textures;
-      brushes = g .brushes;
-      own = 0;
-      told = g .below;
-      below = g .below;
-      rows = oneNode (g .rows);
-    }
+oneMore g = nodeWith g 0 (g .below) (g .below) (oneNode (g .rows))
 
 -- a node begins, without vertices and ANIM yet
 abbrev pub entered : Totals → Totals
@@ -214,17 +172,7 @@ rowsAfter ANIM c n = n
 
 -- what the node around one that is left says is what that one was told
 abbrev pub saidAbove : Totals → ℕ → Totals
-saidAbove g told =
-    record {
-      version = g .version;
-      slots = g .slots;
-      textures = g .textures;
-      brushes = g .brushes;
-      own = g .own;
-      told = g .told;
-      below = told;
-      rows = g .rows;
-    }
+saidAbove g told = nodeWith g (g .own) (g .told) told (g .rows)
 
 -- a chunk is left that had so many items, these fixed numbers and, as a node, was told so many vertices: it adds its rows; a VRTS and an ANIM
 -- may change what their node says to those below

@@ -9,8 +9,8 @@ use lib.Dec.{eqb, ltb}
 use Rattle.wire.specs.Test.{if}
 use Rattle.layout.specs.Rules.{Rule, holds, refusal}
 use Rattle.b3d_scene.specs.declared.Tag.{Tag}
-use Rattle.b3d_scene.specs.declared.Tag.the-variants.{BB3D, TEXS, BRUS, NODE, MESH, VRTS, TRIS, BONE, KEYS, ANIM}
-use Rattle.b3d_scene.specs.Tags.{tagOf}
+use Rattle.b3d_scene.specs.declared.Tag.the-variants.{NODE}
+use Rattle.b3d_scene.specs.Tags.{is, tagOf}
 use Rattle.b3d_scene.specs.Nesting.{nesting, Reached, owed, next, end}
 use Rattle.b3d_pieces.specs.declared.Totals.{Totals}
 use Rattle.b3d_pieces.specs.declared.Kept.{Kept}
@@ -84,22 +84,18 @@ unfoldable pub enter : Bool → ℕ → Totals → Open → List Open → State
 enter true at g f R = textFrom true at at g f R
 enter false at g f R = fixedRowFrom at g f R
 
--- a NODE inside f: 9 where there is no level left
+-- a NODE: 9 where there is no level left
 unfoldable pub enterNode : ℕ → ℕ → ℕ → ℕ → Totals → List Open → State
 enterNode zero head e at g R = fault 9 head
 enterNode (suc l) head e at g R = enter true at (entered g) (fresh NODE head e l (g .below)) R
 
+-- inside f, a NODE or a chunk of another tag
+abbrev pub openedAs : Bool → Tag → ℕ → ℕ → ℕ → Totals → Open → List Open → State
+openedAs true t head e at g f R = enterNode (f .level) head e at g (f ∷ R)
+openedAs false t head e at g f R = enter false at g (fresh t head e (f .level) 0) (f ∷ R)
+
 unfoldable pub opened : Tag → ℕ → ℕ → ℕ → Totals → Open → List Open → State
-opened BB3D head e at g f R = enter false at g (fresh BB3D head e (f .level) 0) (f ∷ R)
-opened TEXS head e at g f R = enter false at g (fresh TEXS head e (f .level) 0) (f ∷ R)
-opened BRUS head e at g f R = enter false at g (fresh BRUS head e (f .level) 0) (f ∷ R)
-opened NODE head e at g f R = enterNode (f .level) head e at g (f ∷ R)
-opened MESH head e at g f R = enter false at g (fresh MESH head e (f .level) 0) (f ∷ R)
-opened VRTS head e at g f R = enter false at g (fresh VRTS head e (f .level) 0) (f ∷ R)
-opened TRIS head e at g f R = enter false at g (fresh TRIS head e (f .level) 0) (f ∷ R)
-opened BONE head e at g f R = enter false at g (fresh BONE head e (f .level) 0) (f ∷ R)
-opened KEYS head e at g f R = enter false at g (fresh KEYS head e (f .level) 0) (f ∷ R)
-opened ANIM head e at g f R = enter false at g (fresh ANIM head e (f .level) 0) (f ∷ R)
+opened t head e at g f R = openedAs (is t NODE) t head e at g f R
 
 unfoldable pub skipFrom : ℕ → ℕ → Totals → Open → List Open → State
 skipFrom until at g f R = if (eqb at until) (edge at g (f ∷ R)) (live at (Skip until) g f R)

@@ -8,20 +8,8 @@ use lib.Dec.{eqb}
 use Rattle.wire.specs.Test.{if}
 use Rattle.b3d_scene.specs.declared.Tag.{Tag}
 use Rattle.b3d_scene.specs.declared.Tag.the-variants.{BB3D, TEXS, BRUS, NODE, MESH, VRTS, TRIS, BONE, KEYS, ANIM}
+use Rattle.b3d_scene.specs.Tags.{tagNumber}
 use Rattle.b3d_pieces.specs.declared.Open.{Open}
-
--- a tag by its number, the last for every other number
-abbrev pub tagNumber : Tag → ℕ
-tagNumber BB3D = 0
-tagNumber TEXS = 1
-tagNumber BRUS = 2
-tagNumber NODE = 3
-tagNumber MESH = 4
-tagNumber VRTS = 5
-tagNumber TRIS = 6
-tagNumber BONE = 7
-tagNumber KEYS = 8
-tagNumber ANIM = 9
 
 unfoldable pub tagBy : ℕ → Tag
 tagBy n =

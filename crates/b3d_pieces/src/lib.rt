@@ -26,6 +26,13 @@ pub struct Kept {
     pub third: usize,
 }
 
+// No row was read.
+pub const NONE_KEPT: Kept = Kept {
+    first: 0,
+    second: 0,
+    third: 0,
+};
+
 // An open chunk: its tag, the place of its header, its end; how far the nesting rule has come inside it; how many levels of nodes are left
 // below it; its fixed numbers; how many items it had; for a node how many vertices it was told that bones may name.
 pub struct Open {

@@ -10,6 +10,7 @@ use Rattle.emit.specs.Writing.{Room, Put}
 use Rattle.emit.proofs.Pieces.{Pieces, pieces-none, piece-room, piece-next, pieces-done}
 use Rattle.b3d_sound.specs.CellCounts.{endOf}
 use Rattle.b3d_sound.proofs.Places.{cut-cell}
+use Rattle.b3d_sound.proofs.Below.{end-rises}
 use Rattle.b3d_put_rows.specs.Lent.{rowsIn}
 use Rattle.b3d_put_rows.proofs.Cutting.{rows-length}
 
@@ -17,11 +18,6 @@ use Rattle.b3d_put_rows.proofs.Cutting.{rows-length}
 unfoldable pub eachRun : (ℕ → List (List ℕ) → List ℕ) → List (List ℕ) → List (List ℕ) → List ℕ
 eachRun piece [] is = []
 eachRun piece (x ∷ xs) is = piece (getD x 1 0) (take (getD x 3 0) is) ++ eachRun piece xs (drop (getD x 3 0) is)
-
-pub end-least : (r : ℕ) (xs : List (List ℕ)) → r ≤ endOf r xs
-unfolding endOf
-end-least r [] = omega arith
-end-least r (x ∷ xs) = omega (arith, end-least (r + getD x 3 0) xs)
 
 -- of all, the pieces of the rows from i on are still to be written, their items those of w words from row `next` on
 pub record RunsLeft (piece : ℕ → List (List ℕ) → List ℕ) (w : ℕ) (rows : List ℕ) (first count : ℕ) (items all out₀ out : List ℕ) (at next i : ℕ) : Type 0 where
@@ -41,8 +37,8 @@ module _ (piece : ℕ → List (List ℕ) → List ℕ) (w : ℕ) (rows : List �
         some = omega arith;
         there = h;
         end = rw (z, add-zero first) k;
-        within = omega (arith, k, end-least start (take count (drop first (rowsIn 4 rows))));
-        inside = omega (arith, k, end-least start (take count (drop first (rowsIn 4 rows))), div-le-self (length items) w);
+        within = omega (arith, k, end-rises start (take count (drop first (rowsIn 4 rows))));
+        inside = omega (arith, k, end-rises start (take count (drop first (rowsIn 4 rows))), div-le-self (length items) w);
         rest = rw (z, add-zero first) (subst (λ (l : List ℕ). Pieces 0 all l out out 0) e (pieces-none [] all out 0 refl r));
       }
 
@@ -74,7 +70,7 @@ module _ (piece : ℕ → List (List ℕ) → List ℕ) (w : ℕ) (rows : List �
       end-next = rw (e, ← cell 3 (omega arith)) (rw next-row at (v .end))
 
       pub runs-there : next + n ≤ length items / w
-      runs-there = omega (arith, end-next, end-least (next + n) (take (count - (i + 1)) (drop (first + (i + 1)) (rowsIn 4 rows))))
+      runs-there = omega (arith, end-next, end-rises (next + n) (take (count - (i + 1)) (drop (first + (i + 1)) (rowsIn 4 rows))))
 
       module _ (p : List ℕ) (q : piece (getD rows (4 * (first + i) + 1) 0) (take n (drop next (rowsIn w items))) ≡ p) where
         step : eachRun piece (take (count - i) (drop (first + i) (rowsIn 4 rows))) (drop next (rowsIn w items))

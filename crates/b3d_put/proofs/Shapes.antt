@@ -6,8 +6,9 @@ use mathlib.Core.List.{List, [], _∷_, _++_, map}
 use lib.ListN.{length, take, drop, getD}
 use Rattle.wire.specs.Bytes.{bytes}
 use Rattle.layout.specs.Write.{writeWords, writeItems, writeChunks}
+use Rattle.layout.proofs.PartLaws.{words-append}
 use Rattle.emit.proofs.Joining.{Both, Begins, both-begins, chunk-is}
-use Rattle.emit.proofs.Appends.{words-append, chunks-cons}
+use Rattle.emit.proofs.Appends.{chunks-cons}
 use Rattle.b3d_scene.specs.Encode.{writeTriangles, setChunks, writeKeys, keyChunks}
 use Rattle.b3d_scene.specs.Mask.{squeeze, vertexMask, keyMask}
 use Rattle.b3d_scene.specs.Rebuild.{setsFrom, keysFrom}

@@ -2,6 +2,7 @@
 // bytes it wrote, and leaves all that comes after as it was; a chunk's header is set when its body is written.
 use b3d_put_rows::put_key_rows;
 use b3d_put_rows::put_vertex_rows;
+use b3d_scene::letters;
 ghost use mathlib.Core.Path.{_≡_};
 ghost use Prim.Native.Nat.{_+_, _*_, _/_, _<_, _≤_};
 ghost use lib.ListN.{length, take, drop, getD};
@@ -9,18 +10,6 @@ ghost use Rattle.emit.specs.Writing.{Room, Put};
 ghost use Rattle.b3d_put_rows.specs.Lent.{rowsIn, rowsFrom};
 ghost use Rattle.b3d_put.specs.Chunks.{setBytes, boneBytes, listBytes, animBytes, verticesBody, verticesBytes, runWidth, runBytes, runsBytes, MeshThere, meshBody, meshBytes};
 ghost use Rattle.b3d_sound.specs.CellCounts.{endOf};
-
-const TRIS: u32 = 0x53495254;
-
-const BONE: u32 = 0x454E4F42;
-
-const KEYS: u32 = 0x5359454B;
-
-const ANIM: u32 = 0x4D494E41;
-
-const VRTS: u32 = 0x53545256;
-
-const MESH: u32 = 0x4853454D;
 
 // A word of a table as a size.
 pub fn number(table: &[u32], i: usize) -> usize
@@ -37,7 +26,7 @@ fn put_set(brush: u32, triangles: &[u32], first: usize, count: usize, out: &mut 
     ensures { λ r. ⌜ Put (setBytes brush (rowsFrom 3 (now (triangles .entry)) first count)) (now (out .entry)) (now (out .exit)) r ⌝ }
 {
     let n = emit::put_words(triangles, 3 * first, 3 * count, &mut out[12..]);
-    emit::put_opening(out, TRIS, n, brush);
+    emit::put_opening(out, letters::TRIS, n, brush);
     n + 12
 }
 
@@ -48,7 +37,7 @@ pub fn put_weights(weights: &[u32], first: usize, count: usize, out: &mut [u8]) 
     ensures { λ r. ⌜ Put (boneBytes (rowsFrom 2 (now (weights .entry)) first count)) (now (out .entry)) (now (out .exit)) r ⌝ }
 {
     let n = emit::put_words(weights, 2 * first, 2 * count, &mut out[8..]);
-    emit::put_header(out, BONE, n);
+    emit::put_header(out, letters::BONE, n);
     n + 8
 }
 
@@ -59,7 +48,7 @@ fn put_list(flags: u32, keys: &[u32], first: usize, count: usize, out: &mut [u8]
     ensures { λ r. ⌜ Put (listBytes flags (rowsFrom 11 (now (keys .entry)) first count)) (now (out .entry)) (now (out .exit)) r ⌝ }
 {
     let n = put_key_rows(flags, keys, first, count, &mut out[12..]);
-    emit::put_opening(out, KEYS, n, flags);
+    emit::put_opening(out, letters::KEYS, n, flags);
     n + 12
 }
 
@@ -70,51 +59,37 @@ pub fn put_values(nodes: &[u32], first: usize, out: &mut [u8]) -> usize
     ensures { λ r. ⌜ Put (animBytes (take 3 (drop first (now (nodes .entry))))) (now (out .entry)) (now (out .exit)) r ⌝ }
 {
     let n = emit::put_words(nodes, first, 3, &mut out[8..]);
-    emit::put_header(out, ANIM, n);
+    emit::put_header(out, letters::ANIM, n);
     n + 8
 }
 
-// A VRTS of flags, sets and set size, the words of the meshes from word `says` on, and `count` vertices from row `first` on.
-fn put_vertices(
-    meshes: &[u32],
-    says: usize,
-    vertices: &[u32],
-    first: usize,
-    count: usize,
-    out: &mut [u8],
-) -> usize
-    requires { ⌜ says + 3 ≤ length (now meshes) ⌝ }
-    requires { ⌜ first + count ≤ length (now vertices) / 42 ⌝ }
-    requires { ⌜ Room (verticesBytes (now meshes) says (rowsFrom 42 (now vertices) first count)) (now out) ⌝ }
-    ensures { λ r. ⌜ Put (verticesBytes (now (meshes .entry)) says (rowsFrom 42 (now (vertices .entry)) first count)) (now (out .entry)) (now (out .exit)) r ⌝ }
+// A VRTS of flags, sets and set size, the words of the meshes t4 from word `from` on, and n vertices of t5 from row v on.
+fn put_vertices(t4: &[u32], from: usize, t5: &[u32], v: usize, n: usize, out: &mut [u8]) -> usize
+    requires { ⌜ from + 3 ≤ length (now t4) ⌝ }
+    requires { ⌜ v + n ≤ length (now t5) / 42 ⌝ }
+    requires { ⌜ Room (verticesBytes (now t4) from (rowsFrom 42 (now t5) v n)) (now out) ⌝ }
+    ensures { λ r. ⌜ Put (verticesBytes (now (t4 .entry)) from (rowsFrom 42 (now (t5 .entry)) v n)) (now (out .entry)) (now (out .exit)) r ⌝ }
 {
-    let flags = meshes[says];
-    let sets = meshes[says + 1];
-    let size = meshes[says + 2];
-    let n = emit::put_words(meshes, says, 3, &mut out[8..]);
-    let rest = &mut out[n + 8..];
-    let m = put_vertex_rows(flags, sets, size, vertices, first, count, rest);
-    emit::put_header(out, VRTS, n + m);
-    n + m + 8
+    let flags = t4[from];
+    let sets = t4[from + 1];
+    let size = t4[from + 2];
+    let a = emit::put_words(t4, from, 3, &mut out[8..]);
+    let rest = &mut out[a + 8..];
+    let b = put_vertex_rows(flags, sets, size, t5, v, n, rest);
+    emit::put_header(out, letters::VRTS, a + b);
+    a + b + 8
 }
 
-// A KEYS or a TRIS of a word and `count` items from row `first` on.
-fn put_run(
-    keys: bool,
-    word: u32,
-    items: &[u32],
-    first: usize,
-    count: usize,
-    out: &mut [u8],
-) -> usize
-    requires { ⌜ first + count ≤ length (now items) / runWidth keys ⌝ }
-    requires { ⌜ Room (runBytes keys word (rowsFrom (runWidth keys) (now items) first count)) (now out) ⌝ }
-    ensures { λ r. ⌜ Put (runBytes keys word (rowsFrom (runWidth keys) (now (items .entry)) first count)) (now (out .entry)) (now (out .exit)) r ⌝ }
+// A KEYS or a TRIS of a word and n items from row `first` on.
+fn put_run(keys: bool, word: u32, items: &[u32], first: usize, n: usize, out: &mut [u8]) -> usize
+    requires { ⌜ first + n ≤ length (now items) / runWidth keys ⌝ }
+    requires { ⌜ Room (runBytes keys word (rowsFrom (runWidth keys) (now items) first n)) (now out) ⌝ }
+    ensures { λ r. ⌜ Put (runBytes keys word (rowsFrom (runWidth keys) (now (items .entry)) first n)) (now (out .entry)) (now (out .exit)) r ⌝ }
 {
     if keys {
-        return put_list(word, items, first, count, out);
+        return put_list(word, items, first, n, out);
     }
-    put_set(word, items, first, count, out)
+    put_set(word, items, first, n, out)
 }
 
 // The KEYS of `count` rows of key lists from row `first` on, or the TRIS of so many rows of sets, their items one run after the other from row
@@ -168,6 +143,6 @@ pub fn put_mesh(
     let many = number(meshes, row + 8);
     let n = put_vertices(meshes, row + 2, vertices, v, count, &mut out[12..]);
     let m = put_runs(false, sets, s, many, triangles, t, &mut out[n + 12..]);
-    emit::put_opening(out, MESH, n + m, brush);
+    emit::put_opening(out, letters::MESH, n + m, brush);
     n + m + 12
 }

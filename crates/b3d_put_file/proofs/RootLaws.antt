@@ -1,33 +1,28 @@
 -- A law for each way through `put_root`.
 use mathlib.Core.Path.{_≡_, refl, ap, sym, _∙_, subst}
-use Prim.Native.Nat.{ℕ, suc, _+_, _*_, _<_, _≤_}
+use Prim.Native.Nat.{ℕ, _<_}
 use native.Mathlib.Omega.{arith}
 use mathlib.Core.Option.{none}
-use mathlib.Core.List.{List, [], _++_}
+use mathlib.Core.List.{List, []}
 use lib.ListN.{length}
 use Rattle.wire.specs.Test.{if}
 use Rattle.layout.specs.Rules.{NONE}
 use Rattle.layout.specs.Write.{writeChunks as writeChunksOf}
-use Rattle.layout.proofs.Lists.{All}
 use Rattle.emit.specs.Writing.{Room, Put}
 use Rattle.emit.proofs.Joining.{none-put}
 use Rattle.b3d_scene.specs.declared.Counts.{Counts}
 use Rattle.b3d_scene.specs.Encode.{nodeChunks}
-use Rattle.b3d_scene.specs.Rebuild.{Rows, nodeNames}
+use Rattle.b3d_scene.specs.Rebuild.{Rows}
 use Rattle.b3d_scene.specs.Scene.{Data, Forest, leaf, node}
-use Rattle.b3d_scene.specs.Tables.{start, reached, ownRows, forestRows, nodeTables, nodeWidth}
+use Rattle.b3d_scene.specs.Tables.{start, reached, ownRows, forestRows, nodeTables, nodeWidth, noRows}
 use Rattle.b3d_scene.proofs.Rows.RowLists.{cut-length}
-use Rattle.b3d_sound.proofs.Below.{Here, here-scene, here-root}
+use Rattle.b3d_sound.proofs.Below.{here-scene, here-root}
 use Rattle.b3d_put_own.specs.Own.{tableRows}
-use Rattle.b3d_put_nodes.specs.Walk.{nodesBytes, nodeBytes, Sized, There, First, WritableFirst, WritesFirst}
+use Rattle.b3d_put_nodes.specs.Walk.{nodesBytes, nodeBytes, Sized, There, First, Placed, WritableFirst, WritesFirst}
 use Rattle.b3d_put_nodes.proofs.TableLaws.{rows-3}
 use Rattle.b3d_put_file.specs.Whole.{OfNodes, Some, Each}
 
--- no rows, as the code has it
-abbrev none-yet : Counts
-none-yet = record { nodes = 0; meshes = 0; vertices = 0; sets = 0; triangles = 0; weights = 0; lists = 0; keys = 0 }
-
-there-none : (R : Rows) → There R none-yet
+there-none : (R : Rows) → There R noRows
 unfolding nodeTables reached if
 there-none R = (omega arith, (omega arith, (omega arith, (omega arith, (omega arith, (omega arith, (omega arith, (omega arith, tt))))))))
 
@@ -55,7 +50,7 @@ module _ (ns : List ℕ) (a : Counts) (t₃ t₄ t₅ t₆ t₇ t₈ t₉ t₁�
   root-none e = record { small = omega arith; bytes = λ f h r. none-put (nodesBytes f) out (no-root e f h) }
 
   -- the root stands at the start of its tables
-  root-first : (d : Data) (ch : Forest) → OfNodes ns R b (node d ch leaf) → First ns R 16 b none d ch leaf NONE none-yet (λ k. [])
+  root-first : (d : Data) (ch : Forest) → OfNodes ns R b (node d ch leaf) → First ns R 16 b none d ch leaf NONE noRows (λ k. [])
   unfolding start forestRows
   root-first d ch h =
       let g = here-scene R (node d ch leaf) (h .rows) in
@@ -73,30 +68,32 @@ module _ (ns : List ℕ) (a : Counts) (t₃ t₄ t₅ t₆ t₇ t₈ t₉ t₁�
   a-root n (node d ch leaf) h = record { own = d; children = ch; is = refl }
   a-root n (node d ch (node c g i)) h = absurd (h .root)
 
+  abbrev placed : (f : Forest) (x : Root f) → OfNodes ns R b f → Placed ns R 16 noRows
+  placed f x h = record {
+    brushes = b;
+    above = none;
+    own = x .own;
+    children = x .children;
+    siblings = leaf;
+    parent = NONE;
+    after = λ k. [];
+    stand = root-first (x .own) (x .children) (subst (OfNodes ns R b) (x .is) h);
+  }
+
   module _ (n : a .nodes ≡ 0 → ⊥) (w : Some (OfNodes ns R b) nodesBytes out) where
-    pub root-ready : WritableFirst nodeBytes ns R 16 none-yet out
+    pub root-ready : WritableFirst ns R 16 noRows out
     unfolding nodeBytes
     root-ready =
         let x = a-root n (w .value) (w .is) in
-        record {
-          brushes = b;
-          above = none;
-          own = x .own;
-          children = x .children;
-          siblings = leaf;
-          parent = NONE;
-          after = λ k. [];
-          stand = root-first (x .own) (x .children) (subst (OfNodes ns R b) (x .is) (w .is));
-          room = subst (λ (f : Forest). Room (nodesBytes f) out) (x .is) (w .room);
-        }
+        record { placed = placed (w .value) x (w .is); room = subst (λ (f : Forest). Room (nodesBytes f) out) (x .is) (w .room) }
 
-    pub root-done : (put : List ℕ) (size : ℕ) (m : Counts) → WritesFirst nodeBytes ns R 16 none-yet out put size m → Each (OfNodes ns R b) nodesBytes out put size
+    pub root-done : (put : List ℕ) (size : ℕ) (m : Counts) → WritesFirst ns R 16 noRows out put size m → Each (OfNodes ns R b) nodesBytes out put size
     unfolding nodeBytes
     root-done put size m p = record {
       small = p .small;
       bytes = λ f h r.
           let x = a-root n f h in
-          let k = p .bytes b none (x .own) (x .children) leaf NONE (λ k. []) (root-first (x .own) (x .children) (subst (OfNodes ns R b) (x .is) h)) (subst (λ (g : Forest). Room (nodesBytes g) out) (x .is) r) in
+          let k = p .bytes (placed f x h) (subst (λ (g : Forest). Room (nodesBytes g) out) (x .is) r) in
           subst (λ (g : Forest). Put (nodesBytes g) out put size) (sym (x .is)) k;
     }
 

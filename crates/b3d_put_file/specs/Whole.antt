@@ -2,7 +2,7 @@
 use mathlib.Core.Path.{_≡_}
 use Prim.Native.Nat.{ℕ, _/_, _<_, _≤_}
 use mathlib.Core.Option.{none}
-use mathlib.Core.List.{List, [], map}
+use mathlib.Core.List.{List, [], _++_, map}
 use lib.ListN.{length}
 use Rattle.layout.specs.Rules.{NONE}
 use Rattle.layout.specs.Lists.{All}
@@ -15,6 +15,7 @@ use Rattle.b3d_scene.specs.Tables.{start, forestRows, nodeTables}
 use Rattle.b3d_scene.specs.Tags.{writeChunks}
 use Rattle.b3d_scene.specs.Fitting.{FitNodes, OneRoot, Stands}
 use Rattle.b3d_put_rows.specs.Lent.{rowsIn}
+use Rattle.b3d_put_lists.specs.Lists.{texturesBytes, brushesBytes}
 use Rattle.b3d_put_lists.specs.Named.{NamesThere}
 
 -- ---- the nodes
@@ -26,10 +27,11 @@ pub record OfNodes (ns : List ℕ) (R : Rows) (b : ℕ) (f : Forest) : Type 0 wh
   pub root : OneRoot f
   pub names : All (Stands ns) (nodeNames f [])
 
--- ---- brushes and nodes, textures and the rest
+-- ---- textures, brushes and nodes
 
-unfoldable pub restBytes : Scene → List ℕ
-restBytes t = writeChunks (brushChunks (t .slots) (t .brushes) (nodeChunks (t .nodes)))
+-- what a file has of the rows of tables 1 and 2
+unfoldable pub listsBytes : List ℕ → ℕ → List ℕ → List ℕ → List ℕ
+listsBytes ns slots t₁ t₂ = texturesBytes ns (rowsIn 9 t₁) ++ brushesBytes ns slots (rowsIn 17 t₂)
 
 unfoldable pub allBytes : Scene → List ℕ
 allBytes t = writeChunks (textureChunks (t .textures) (brushChunks (t .slots) (t .brushes) (nodeChunks (t .nodes))))

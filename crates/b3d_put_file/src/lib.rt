@@ -2,9 +2,25 @@
 ghost use Rattle.b3d_scene.specs.Encode.{encode};
 ghost use Rattle.b3d_put_nodes.specs.Walk.{nodesBytes, Sized};
 ghost use Rattle.b3d_put_own.specs.Own.{tableRows};
-ghost use Rattle.b3d_put_file.specs.Whole.{OfNodes, OfRest, OfAll, OfScene, restBytes, allBytes, Some, Each};
+ghost use Rattle.b3d_put_file.specs.Whole.{OfNodes, OfScene, listsBytes, Some, Each};
+ghost use Rattle.emit.specs.Writing.{Room, Put};
+ghost use Rattle.b3d_put_rows.specs.Lent.{rowsIn};
+ghost use Rattle.b3d_put_lists.specs.Named.{NamesThere};
 ghost use Prim.Native.Nat.{ℕ, _≤_};
 use b3d_scene::Counts;
+use b3d_scene::START;
+use b3d_scene::letters;
+
+// TEXS, if there is a texture, and BRUS, if there is a brush.
+fn put_lists(names: &[u8], slots: u32, t1: &[u32], t2: &[u32], out: &mut [u8]) -> usize
+    requires { ⌜ (slots ≤ 8) × NamesThere (now names) (rowsIn 9 (now t1)) × NamesThere (now names) (rowsIn 17 (now t2)) ⌝ }
+    requires { ⌜ Room (listsBytes (now names) slots (now t1) (now t2)) (now out) ⌝ }
+    ensures { λ r. ⌜ Put (listsBytes (now (names .entry)) slots (now (t1 .entry)) (now (t2 .entry))) (now (out .entry)) (now (out .exit)) r ⌝ }
+{
+    let a = b3d_put_lists::put_textures(names, t1, out);
+    let b = b3d_put_lists::put_brushes(names, slots, t2, &mut out[a..]);
+    a + b
+}
 
 // The nodes, if there are any, beside so many brushes.
 fn put_root(
@@ -30,50 +46,12 @@ fn put_root(
     if all.nodes == 0 {
         return 0;
     }
-    let n = Counts {
-        nodes: 0,
-        meshes: 0,
-        vertices: 0,
-        sets: 0,
-        triangles: 0,
-        weights: 0,
-        lists: 0,
-        keys: 0,
-    };
+    let n = START;
     let root = b3d_put_nodes::put_node(names, t3, t4, t5, t6, t7, t8, t9, t10, all, 16, n, out);
     root.size
 }
 
-// BRUS, if there is a brush, and the nodes.
-fn put_rest(
-    names: &[u8],
-    slots: u32,
-    t2: &[u32],
-    t3: &[u32],
-    t4: &[u32],
-    t5: &[u32],
-    t6: &[u32],
-    t7: &[u32],
-    t8: &[u32],
-    t9: &[u32],
-    t10: &[u32],
-    all: Counts,
-    out: &mut [u8],
-) -> usize
-    requires { ⌜ Sized all (now t3) (now t4) (now t5) (now t6) (now t7) (now t8) (now t9) (now t10) ⌝ }
-    requires { ⌜ Some (OfRest (now names) (now t2) (tableRows (now t3) (now t4) (now t5) (now t6) (now t7) (now t8) (now t9) (now t10)) slots) restBytes (now out) ⌝ }
-    ensures { λ r. ⌜ Each (OfRest (now (names .entry)) (now (t2 .entry))
-        (tableRows (now (t3 .entry)) (now (t4 .entry)) (now (t5 .entry)) (now (t6 .entry)) (now (t7 .entry))
-        (now (t8 .entry)) (now (t9 .entry)) (now (t10 .entry))) slots) restBytes (now (out .entry)) (now (out .exit)) r ⌝ }
-{
-    let a = b3d_put_lists::put_brushes(names, slots, t2, out);
-    let brushes = t2.len() / 17;
-    let rest = &mut out[a..];
-    let b = put_root(names, t3, t4, t5, t6, t7, t8, t9, t10, all, brushes, rest);
-    a + b
-}
-
-// The whole file: its head, TEXS, if there is a texture, and the rest.
+// The whole file: its head, TEXS and BRUS, and the nodes.
 pub fn put_file(
     names: &[u8],
     version: u32,
@@ -97,10 +75,11 @@ pub fn put_file(
         (tableRows (now (t3 .entry)) (now (t4 .entry)) (now (t5 .entry)) (now (t6 .entry)) (now (t7 .entry))
         (now (t8 .entry)) (now (t9 .entry)) (now (t10 .entry))) version slots) encode (now (out .entry)) (now (out .exit)) r ⌝ }
 {
-    let a = b3d_put_lists::put_textures(names, t1, &mut out[12..]);
+    let a = put_lists(names, slots, t1, t2, &mut out[12..]);
+    let brushes = t2.len() / 17;
     let rest = &mut out[a + 12..];
-    let b = put_rest(names, slots, t2, t3, t4, t5, t6, t7, t8, t9, t10, all, rest);
+    let b = put_root(names, t3, t4, t5, t6, t7, t8, t9, t10, all, brushes, rest);
     let n = a + b;
-    emit::put_opening(out, 0x44334242, n, version);
+    emit::put_opening(out, letters::BB3D, n, version);
     n + 12
 }

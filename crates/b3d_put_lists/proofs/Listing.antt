@@ -9,8 +9,9 @@ use lib.Seq.{take-all, take-add, drop-drop, length-take-le}
 use Rattle.wire.specs.Bytes.{bytes}
 use Rattle.layout.specs.Write.{writeWords, writeText, writeItems, writeChunks}
 use Rattle.layout.proofs.Lists.{All, all-map, all-pure}
+use Rattle.layout.proofs.PartLaws.{words-append}
 use Rattle.emit.specs.Writing.{chunk}
-use Rattle.emit.proofs.Appends.{words-append, words-both, text-append, before-append}
+use Rattle.emit.proofs.Appends.{words-both, text-append, before-append}
 use Rattle.emit.proofs.Joining.{chunk-is}
 use Rattle.b3d_scene.specs.Encode.{writeTexture, writeBrush}
 use Rattle.b3d_scene.specs.Rebuild.{cut, nameFrom, textureFrom, brushFrom}

@@ -11,6 +11,7 @@ use lib.Dec.{T, leb, leb→le}
 use mir.Facts.{and-yes}
 use Rattle.layout.specs.Fit.{all}
 use Rattle.layout.specs.Write.{writeWords, writeText}
+use Rattle.layout.proofs.ListLaws.{cell-take}
 use Rattle.emit.specs.Writing.{Room, Put}
 use Rattle.emit.proofs.Joining.{Both, Begins, both-begins}
 use Rattle.emit.proofs.Appends.{text-append}
@@ -18,7 +19,7 @@ use Rattle.b3d_scene.specs.Rebuild.{cut}
 use Rattle.b3d_sound.specs.Check.{nameHere, brushHere}
 use Rattle.b3d_put_rows.specs.Lent.{eachRow}
 use Rattle.b3d_put_lists.specs.Named.{NameThere, NamesThere, namedBytes, rowBytes}
-use Rattle.b3d_put_rows.proofs.Cutting.{part-take, cell-take}
+use Rattle.b3d_put_rows.proofs.Cutting.{part-take}
 use Rattle.b3d_put_rows.proofs.RowByRow.{RowsLeft, rows-none, rows-same, rows-done, rows-there, rows-room, rows-next}
 
 -- ---- one row

@@ -1,6 +1,7 @@
 // The TEXS and the BRUS of a file, of all rows of their tables; nothing where a table has no row.
 pub mod named;
 
+use b3d_scene::letters;
 use named::put_rows;
 ghost use Prim.Native.Nat.{_+_, _*_, _/_, _≤_};
 ghost use lib.ListN.{length};
@@ -10,10 +11,6 @@ ghost use Rattle.b3d_put_rows.specs.Lent.{rowsIn};
 ghost use Rattle.b3d_put_lists.specs.Named.{NamesThere};
 ghost use Rattle.b3d_put_lists.specs.Lists.{texsBytes, brusBytes, texturesBytes, brushesBytes};
 
-const TEXS: u32 = 0x53584554;
-
-const BRUS: u32 = 0x53555242;
-
 // A TEXS of `count` textures.
 fn put_texs(names: &[u8], textures: &[u32], count: usize, out: &mut [u8]) -> usize
     requires { ⌜ count * 9 ≤ length (now textures) ⌝ }
@@ -22,7 +19,7 @@ fn put_texs(names: &[u8], textures: &[u32], count: usize, out: &mut [u8]) -> usi
     ensures { λ r. ⌜ Put (texsBytes (now (names .entry)) (cut 9 count (now (textures .entry)))) (now (out .entry)) (now (out .exit)) r ⌝ }
 {
     let n = put_rows(names, textures, 9, 7, count, &mut out[8..]);
-    emit::put_header(out, TEXS, n);
+    emit::put_header(out, letters::TEXS, n);
     n + 8
 }
 
@@ -46,15 +43,9 @@ fn put_brus(names: &[u8], slots: u32, brushes: &[u32], count: usize, out: &mut [
     requires { ⌜ Room (brusBytes (now names) slots (cut 17 count (now brushes))) (now out) ⌝ }
     ensures { λ r. ⌜ Put (brusBytes (now (names .entry)) slots (cut 17 count (now (brushes .entry)))) (now (out .entry)) (now (out .exit)) r ⌝ }
 {
-    let n = put_rows(
-        names,
-        brushes,
-        17,
-        7 + slots as usize,
-        count,
-        &mut out[12..],
-    );
-    emit::put_opening(out, BRUS, n, slots);
+    let many = 7 + slots as usize;
+    let n = put_rows(names, brushes, 17, many, count, &mut out[12..]);
+    emit::put_opening(out, letters::BRUS, n, slots);
     n + 12
 }
 

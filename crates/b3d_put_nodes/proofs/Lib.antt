@@ -2,6 +2,5 @@
 pub mod NodeBytes
 pub mod Standing
 pub mod TableLaws
-pub mod BodyLaws
 pub mod NodeLaws
 pub mod NodesLaws

@@ -26,9 +26,9 @@ use Rattle.b3d_sound.proofs.Below.{here-more, here-end}
 use Rattle.b3d_sound.proofs.Places.{cut-cell}
 use Rattle.b3d_check_node.specs.Parts.{Below}
 use Rattle.b3d_put_own.specs.Own.{tableRows}
-use Rattle.b3d_put_nodes.specs.Walk.{nodesBytes, nodeBytes, Sized, There, Stand, First, Writable, Writes, WritableFirst, WritesFirst}
+use Rattle.b3d_put_nodes.specs.Walk.{nodesBytes, nodeBytes, Sized, There, Stand, First, Placed, Writable, Writes, WritableFirst, WritesFirst}
 use Rattle.b3d_put_nodes.proofs.NodeBytes.{nodes-both}
-use Rattle.b3d_put_nodes.proofs.Standing.{stand-first, stand-others, first-there}
+use Rattle.b3d_put_nodes.proofs.Standing.{stand-first, stand-others, first-placed, placed-there}
 use Rattle.b3d_put_nodes.proofs.TableLaws.{first-of, below-all, rows-3}
 
 no-nodes : nodesBytes leaf ≡ []
@@ -66,7 +66,7 @@ module _ (ns : List ℕ) (a : Counts) (t₃ t₄ t₅ t₆ t₇ t₈ t₉ t₁�
     below = below-all a t₃ t₄ t₅ t₆ t₇ t₈ t₉ t₁₀ z m (ours .stand .there)
 
     parent-low : p < NONE
-    parent-low = omega (arith, ours .stand .low, below .nodes, z .few-nodes)
+    parent-low = omega (arith, ours .stand .low, below .nodes, z .limited .nodes)
 
     pub nodes-long : length out ≡ length out₀
     nodes-long = ours .pieces .wrote .long
@@ -93,8 +93,7 @@ module _ (ns : List ℕ) (a : Counts) (t₃ t₄ t₅ t₆ t₇ t₈ t₉ t₁�
     ended : a .nodes ≤ m .nodes ⊎ ((m .nodes < a .nodes) × (getD t₃ (nodeWidth * m .nodes + 2) 0 ≢ p)) → (b : ℕ) (above : Option ℕ) (S : Rows) (t : Forest) → Stand ns R l b above t p m S → t ≡ leaf
     ended e b above S leaf s = refl
     ended e b above S (node d ch sib) s =
-        let f = stand-first ns R l b above d ch sib p m S s in
-        let k : Below (withNode d m) a = below-all a t₃ t₄ t₅ t₆ t₇ t₈ t₉ t₁₀ z (withNode d m) (first-there ns R l b above d ch sib p m S f) in
+        let k : Below (withNode d m) a = below-all a t₃ t₄ t₅ t₆ t₇ t₈ t₉ t₁₀ z (withNode d m) (placed-there ns R l m (first-placed ns R l b above d ch sib p m S s)) in
         absurd (elim e [
           | inl h ↦ omega (arith, k .nodes, nodes-step d m)
           | inr h ↦ h .1 (sym (parent-cell (h .0)) ∙ here-more R d ch sib p m S (s .here) .1)
@@ -140,37 +139,33 @@ module _ (ns : List ℕ) (a : Counts) (t₃ t₄ t₅ t₆ t₇ t₈ t₉ t₁�
       ours-next : Next (v .first .brushes) (v .first .above) (ours .rest) (v .first .after)
       ours-next = next (v .first .brushes) (v .first .above) (ours .rest) (v .first .after) (ours .stand)
 
+      abbrev placed : (b : ℕ) (above : Option ℕ) (t : Forest) (S : Rows) → Next b above t S → Placed ns R l m
+      placed b above t S x = record { brushes = b; above = above; own = x .own; children = x .children; siblings = x .others; parent = p; after = S; stand = x .stand }
+
       -- what is left is the first of them and the others
       first-rest : (b : ℕ) (above : Option ℕ) (t : Forest) (S : Rows) (x : Next b above t S) → nodesBytes t ≡ nodeBytes (x .own) (x .children) ++ nodesBytes (x .others)
       first-rest b above t S x = ap nodesBytes (x .is) ∙ nodes-both (x .own) (x .children) (x .others)
 
-      pub nodes-first : WritableFirst nodeBytes ns R l m (take (length out - at) (drop at out))
+      pub nodes-first : WritableFirst ns R l m (take (length out - at) (drop at out))
       nodes-first =
           let x = ours-next in
           record {
-            brushes = v .first .brushes;
-            above = v .first .above;
-            own = x .own;
-            children = x .children;
-            siblings = x .others;
-            parent = p;
-            after = v .first .after;
-            stand = x .stand;
+            placed = placed (v .first .brushes) (v .first .above) (ours .rest) (v .first .after) x;
             room = piece-room (ours .pieces) (nodeBytes (x .own) (x .children)) (nodesBytes (x .others)) (first-rest (v .first .brushes) (v .first .above) (ours .rest) (v .first .after) x);
           }
 
-      module _ (zs : List ℕ) (size : ℕ) (k : Counts) (w : WritesFirst nodeBytes ns R l m (take (length out - at) (drop at out)) zs size k) where
+      module _ (zs : List ℕ) (size : ℕ) (k : Counts) (w : WritesFirst ns R l m (take (length out - at) (drop at out)) zs size k) where
         more : (b : ℕ) (above : Option ℕ) (f : Forest) (S : Rows) → Left ns R l b above f p n S out₀ out at m → Left ns R l b above f p n S out₀ (take at out ++ (zs ++ drop (length out - at) (drop at out))) (at + size) k
         unfolding withForest
         more b above f S y =
             let x = next b above (y .rest) S (y .stand) in
             let e = first-rest b above (y .rest) S x in
             let r = piece-room (y .pieces) (nodeBytes (x .own) (x .children)) (nodesBytes (x .others)) e in
-            let ek = w .counts b above (x .own) (x .children) (x .others) p S (x .stand) r in
+            let ek = w .counts (placed b above (y .rest) S x) r in
             record {
               rest = x .others;
               stand = rw ek (x .later);
-              pieces = piece-next (y .pieces) (nodeBytes (x .own) (x .children)) (nodesBytes (x .others)) e (w .bytes b above (x .own) (x .children) (x .others) p S (x .stand) r);
+              pieces = piece-next (y .pieces) (nodeBytes (x .own) (x .children)) (nodesBytes (x .others)) e (w .bytes (placed b above (y .rest) S x) r);
               counts = y .counts ∙ ap (λ (t : Forest). withForest t m) (x .is) ∙ ap (withForest (x .others)) (sym ek);
             }
 
@@ -181,8 +176,7 @@ module _ (ns : List ℕ) (a : Counts) (t₃ t₄ t₅ t₆ t₇ t₈ t₉ t₁�
         pub nodes-less : a .nodes - k .nodes < a .nodes - m .nodes
         nodes-less =
             let y = nodes-first in
-            let ek = w .counts (y .brushes) (y .above) (y .own) (y .children) (y .siblings) (y .parent) (y .after) (y .stand) (y .room) in
-            less (y .own) (y .children) ek
+            less (y .placed .own) (y .placed .children) (w .counts (y .placed) (y .room))
           where
             less : (d : Data) (ch : Forest) → k ≡ withForest ch (withNode d m) → a .nodes - k .nodes < a .nodes - m .nodes
             less d ch e = let q = ap (λ (c : Counts). c .nodes) e in omega (arith, nodes-step d m, nodes-rise ch (withNode d m))
@@ -200,10 +194,10 @@ module _ {ns : List ℕ} {a : Counts} {t₃ t₄ t₅ t₆ t₇ t₈ t₉ t₁�
   at-end h = nodes-end ns a t₃ t₄ t₅ t₆ t₇ t₈ t₉ t₁₀ z l p n out₀ out at m v h
 
   module _ (h : m .nodes < a .nodes) {c : ℕ} (e : c ≡ getD t₃ (nodeWidth * m .nodes + 2) 0) (d : c ≡ p) where
-    pub at-first : WritableFirst nodeBytes ns (tableRows t₃ t₄ t₅ t₆ t₇ t₈ t₉ t₁₀) l m (take (length out - at) (drop at out))
+    pub at-first : WritableFirst ns (tableRows t₃ t₄ t₅ t₆ t₇ t₈ t₉ t₁₀) l m (take (length out - at) (drop at out))
     at-first = nodes-first ns a t₃ t₄ t₅ t₆ t₇ t₈ t₉ t₁₀ z l p n out₀ out at m v h c e d
 
-    module _ {zs : List ℕ} {size : ℕ} {k : Counts} (w : WritesFirst nodeBytes ns (tableRows t₃ t₄ t₅ t₆ t₇ t₈ t₉ t₁₀) l m (take (length out - at) (drop at out)) zs size k) where
+    module _ {zs : List ℕ} {size : ℕ} {k : Counts} (w : WritesFirst ns (tableRows t₃ t₄ t₅ t₆ t₇ t₈ t₉ t₁₀) l m (take (length out - at) (drop at out)) zs size k) where
       pub at-more : NodesLeft ns (tableRows t₃ t₄ t₅ t₆ t₇ t₈ t₉ t₁₀) l p n out₀ (take at out ++ (zs ++ drop (length out - at) (drop at out))) (at + size) k
       at-more = nodes-more ns a t₃ t₄ t₅ t₆ t₇ t₈ t₉ t₁₀ z l p n out₀ out at m v h c e d zs size k w
 

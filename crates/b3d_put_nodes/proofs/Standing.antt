@@ -21,7 +21,7 @@ use Rattle.b3d_scene.proofs.Rows.RowParts.{Stands}
 use Rattle.b3d_scene.proofs.Rows.Trees.{nodes-rise, from-after}
 use Rattle.b3d_scene.proofs.Rows.CountLaws.{rises}
 use Rattle.b3d_sound.proofs.Below.{Here, afterOwn, here-own, here-children, here-siblings}
-use Rattle.b3d_put_nodes.specs.Walk.{There, Stand, First}
+use Rattle.b3d_put_nodes.specs.Walk.{There, Stand, First, Placed}
 
 -- ---- names and rules
 
@@ -94,26 +94,36 @@ module _ (ns : List ℕ) (R : Rows) (l b : ℕ) (above : Option ℕ) (d : Data) 
         names = names-rest (Stands ns) ch (nodeNames sib []) (h .names .1);
       }
 
-  module _ (h : First ns R l b above d ch sib p n S) where
-    pub first-levels : 1 ≤ l
-    first-levels = let e = one-more l b above d ch leaf (h .fits) in omega arith
+  -- the first of them as a node that stands there
+  abbrev pub first-placed : Stand ns R l b above (node d ch sib) p n S → Placed ns R l n
+  first-placed h = record { brushes = b; above = above; own = d; children = ch; siblings = sib; parent = p; after = S; stand = stand-first h }
 
-    pub first-below : Stand ns R (l - 1) b (bonesBelow above d) ch (n .nodes) (withNode d n) (λ k. forestRows k sib p (withForest ch (withNode d n)) ++ S k)
-    unfolding nodeNames
-    first-below = record {
-      here = h .below;
-      low = omega (arith, nodes-step d n);
-      there = there-own (h .here) (h .there);
-      fits = fit-level l b above d ch leaf (h .fits) .1;
-      names = h .names .1;
-    }
+-- ---- a node that stands there
 
-    pub first-fits : FitData b (boneVertices above) d
-    first-fits = fit-level l b above d ch leaf (h .fits) .0
+module _ (ns : List ℕ) (R : Rows) (l : ℕ) (n : Counts) (x : Placed ns R l n) where
+  pub placed-levels : 1 ≤ l
+  placed-levels = let e = one-more l (x .brushes) (x .above) (x .own) (x .children) leaf (x .stand .fits) in omega arith
 
-    pub first-name : Stands ns (d .name)
-    unfolding nodeNames
-    first-name = h .names .0
+  pub placed-there : There R (withNode (x .own) n)
+  placed-there = there-own ns R l (x .brushes) (x .above) (x .own) (x .children) (x .siblings) (x .parent) n (x .after) (x .stand .here) (x .stand .there)
 
-    pub first-there : There R (withNode d n)
-    first-there = there-own (h .here) (h .there)
+  -- the rows after those below it
+  abbrev pub later : Rows
+  later k = forestRows k (x .siblings) (x .parent) (withForest (x .children) (withNode (x .own) n)) ++ x .after k
+
+  pub placed-below : Stand ns R (l - 1) (x .brushes) (bonesBelow (x .above) (x .own)) (x .children) (n .nodes) (withNode (x .own) n) later
+  unfolding nodeNames
+  placed-below = record {
+    here = x .stand .below;
+    low = omega (arith, nodes-step (x .own) n);
+    there = placed-there;
+    fits = fit-level l (x .brushes) (x .above) (x .own) (x .children) leaf (x .stand .fits) .1;
+    names = x .stand .names .1;
+  }
+
+  pub placed-fits : FitData (x .brushes) (boneVertices (x .above)) (x .own)
+  placed-fits = fit-level l (x .brushes) (x .above) (x .own) (x .children) leaf (x .stand .fits) .0
+
+  pub placed-name : Stands ns (x .own .name)
+  unfolding nodeNames
+  placed-name = x .stand .names .0

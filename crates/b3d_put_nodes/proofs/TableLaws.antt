@@ -54,7 +54,7 @@ module _ (a : Counts) (t₃ t₄ t₅ t₆ t₇ t₈ t₉ t₁₀ : List ℕ) (z
   R = tableRows t₃ t₄ t₅ t₆ t₇ t₈ t₉ t₁₀
 
   pub limited : Limited a
-  limited = record { nodes = z .few-nodes; meshes = z .few-meshes; vertices = z .few-vertices; sets = z .few-sets; triangles = z .few-triangles; weights = z .few-weights; lists = z .few-lists; keys = z .few-keys }
+  limited = z .limited
 
   -- the rows of each table
   pub rows-3 : R 3 ≡ cut nodeWidth (a .nodes) t₃

@@ -9,12 +9,12 @@ use Rattle.emit.specs.Writing.{Room, Put}
 use Rattle.b3d_scene.specs.declared.Counts.{Counts}
 use Rattle.b3d_scene.specs.Encode.{nodeChunks, writeNode}
 use Rattle.b3d_scene.specs.Rebuild.{Rows, nodeNames}
-use Rattle.b3d_scene.specs.Rules.{rowLimit}
 use Rattle.b3d_scene.specs.Scene.{Data, Forest, leaf, node}
 use Rattle.b3d_scene.specs.Tables.{reached, withNode, withForest, forestRows, nodeTables, nodeWidth}
 use Rattle.b3d_scene.specs.Tags.{writeChunks}
 use Rattle.b3d_scene.specs.Fitting.{FitNodes, Stands}
 use Rattle.b3d_sound.specs.Below.{Here}
+use Rattle.b3d_check_node.specs.Parts.{Limited}
 
 -- ---- bytes
 
@@ -37,14 +37,7 @@ pub record Sized (a : Counts) (t₃ t₄ t₅ t₆ t₇ t₈ t₉ t₁₀ : List
   pub weights : length t₈ ≡ 2 * a .weights
   pub lists : length t₉ ≡ 4 * a .lists
   pub keys : length t₁₀ ≡ 11 * a .keys
-  pub few-nodes : a .nodes ≤ rowLimit
-  pub few-meshes : a .meshes ≤ rowLimit
-  pub few-vertices : a .vertices ≤ rowLimit
-  pub few-sets : a .sets ≤ rowLimit
-  pub few-triangles : a .triangles ≤ rowLimit
-  pub few-weights : a .weights ≤ rowLimit
-  pub few-lists : a .lists ≤ rowLimit
-  pub few-keys : a .keys ≤ rowLimit
+  pub limited : Limited a
 
 -- ---- nodes in tables
 
@@ -85,8 +78,8 @@ pub record Writes (ns : List ℕ) (R : Rows) (levels p : ℕ) (n : Counts) (out 
   pub bytes : (b : ℕ) (above : Option ℕ) (f : Forest) (S : Rows) → Stand ns R levels b above f p n S → Room (nodesBytes f) out → Put (nodesBytes f) out put size
   pub counts : (b : ℕ) (above : Option ℕ) (f : Forest) (S : Rows) → Stand ns R levels b above f p n S → Room (nodesBytes f) out → m ≡ withForest f n
 
--- a node stands there, and w of it has room
-pub record WritableFirst (w : Data → Forest → List ℕ) (ns : List ℕ) (R : Rows) (levels : ℕ) (n : Counts) (out : List ℕ) : Type 0 where
+-- a node that stands there, with all that it stands among
+pub record Placed (ns : List ℕ) (R : Rows) (levels : ℕ) (n : Counts) : Type 0 where
   pub brushes : ℕ
   pub above : Option ℕ
   pub own : Data
@@ -95,13 +88,18 @@ pub record WritableFirst (w : Data → Forest → List ℕ) (ns : List ℕ) (R :
   pub parent : ℕ
   pub after : Rows
   pub stand : First ns R levels brushes above own children siblings parent n after
-  pub room : Room (w own children) out
 
-pub record WritesFirst (w : Data → Forest → List ℕ) (ns : List ℕ) (R : Rows) (levels : ℕ) (n : Counts) (out put : List ℕ) (size : ℕ) (m : Counts) : Type 0 where
-  pub small : size < 4294967296
-  pub bytes : (b : ℕ) (above : Option ℕ) (d : Data) (ch sib : Forest) (p : ℕ) (S : Rows) → First ns R levels b above d ch sib p n S → Room (w d ch) out → Put (w d ch) out put size
-  pub counts : (b : ℕ) (above : Option ℕ) (d : Data) (ch sib : Forest) (p : ℕ) (S : Rows) → First ns R levels b above d ch sib p n S → Room (w d ch) out → m ≡ withForest ch (withNode d n)
-
--- a node alone, as a chunk
+-- the chunk of a node and those below it
 unfoldable pub nodeBytes : Data → Forest → List ℕ
 nodeBytes d ch = nodesBytes (node d ch leaf)
+
+-- a node stands there, and has room
+pub record WritableFirst (ns : List ℕ) (R : Rows) (levels : ℕ) (n : Counts) (out : List ℕ) : Type 0 where
+  pub placed : Placed ns R levels n
+  pub room : Room (nodeBytes (placed .own) (placed .children)) out
+
+-- whatever node stands there is written and counted, with those below it
+pub record WritesFirst (ns : List ℕ) (R : Rows) (levels : ℕ) (n : Counts) (out put : List ℕ) (size : ℕ) (m : Counts) : Type 0 where
+  pub small : size < 4294967296
+  pub bytes : (x : Placed ns R levels n) → Room (nodeBytes (x .own) (x .children)) out → Put (nodeBytes (x .own) (x .children)) out put size
+  pub counts : (x : Placed ns R levels n) → Room (nodeBytes (x .own) (x .children)) out → m ≡ withForest (x .children) (withNode (x .own) n)

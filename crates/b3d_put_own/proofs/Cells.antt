@@ -6,9 +6,10 @@ use mathlib.Core.List.{List, [], _∷_}
 use lib.ListN.{length, take, drop, getD}
 use lib.Seq.{drop-cons}
 use Rattle.layout.proofs.Lists.{cons-head}
+use Rattle.layout.proofs.ListLaws.{cell-take}
 use Rattle.b3d_scene.specs.Rebuild.{cut}
 use Rattle.b3d_put_rows.specs.Lent.{rowsIn}
-use Rattle.b3d_put_rows.proofs.Cutting.{rows-from, rows-length, cell-take}
+use Rattle.b3d_put_rows.proofs.Cutting.{rows-from, rows-length}
 
 -- row i
 pub rows-row : (w : ℕ) (ws : List ℕ) (i : ℕ) → i < length ws / w → getD (rowsIn w ws) i [] ≡ take w (drop (w * i) ws)

@@ -6,11 +6,10 @@ use native.Mathlib.Omega.{arith}
 use mathlib.Core.List.{List, [], _∷_, _++_}
 use lib.ListN.{length, take, drop, getD, length-drop, drop-of-length-le}
 use lib.Seq.{drop-cons, drop-drop}
-use lib.Dec.{eqb}
 use borrow.Author.Tests.{ne-eqb, eq-eqb}
 use Rattle.wire.specs.Test.{if}
 use Rattle.layout.specs.Write.{Chunk, writeWords, writeChunks}
-use Rattle.layout.proofs.Outs.{by-test, if-yes, if-no}
+use Rattle.layout.proofs.ListLaws.{cell-take}
 use Rattle.emit.proofs.Appends.{chunks-append}
 use Rattle.emit.proofs.Joining.{Both, Begins, both-begins, chunk-is}
 use Rattle.b3d_scene.specs.Encode.{writeKeys, keyChunks, animChunks}
@@ -20,10 +19,11 @@ use Rattle.b3d_scene.specs.Tags.{code}
 use Rattle.b3d_scene.specs.declared.Counts.{Counts}
 use Rattle.b3d_scene.specs.declared.Tag.{Tag}
 use Rattle.b3d_scene.specs.declared.Tag.the-variants.{KEYS, ANIM}
+use Rattle.b3d_scene.proofs.Rows.RowLists.{mine-take, mine-length}
 use Rattle.b3d_sound.specs.CellCounts.{endOf}
 use Rattle.b3d_put_rows.specs.Lent.{rowsIn}
 use Rattle.b3d_put.specs.Chunks.{animBytes, listsBytes}
-use Rattle.b3d_put_rows.proofs.Cutting.{rows-length, cell-take, row-end}
+use Rattle.b3d_put_rows.proofs.Cutting.{rows-length, row-end}
 use Rattle.b3d_put_own.specs.Own.{animPart, movesBytes, MovesThere}
 use Rattle.b3d_put_own.proofs.Cells.{rows-cell}
 
@@ -67,24 +67,6 @@ module _ (ls : List ℕ) (first node : ℕ) where
 
 pub ruleset count-laws = (count-none, count-done, count-one, count-stop)
 
--- its lists are the first so many
-pub mine-take : (i : ℕ) (l : List (List ℕ)) → mine i l ≡ take (length (mine i l)) l
-unfolding mine
-mine-take i [] = refl
-mine-take i (x ∷ xs) =
-    by-test (eqb (getD x 0 0) i)
-    (λ t. rw (if-yes (eqb (getD x 0 0) i) (x ∷ mine i xs) [] t) (ap (λ (r : List (List ℕ)). x ∷ r) (mine-take i xs)))
-    (λ t. rw (if-no (eqb (getD x 0 0) i) (x ∷ mine i xs) [] t))
-
-pub mine-short : (i : ℕ) (l : List (List ℕ)) → length (mine i l) ≤ length l
-unfolding mine
-mine-short i [] = omega arith
-mine-short i (x ∷ xs) =
-    let q = mine-short i xs in
-    by-test (eqb (getD x 0 0) i)
-    (λ t. rw (if-yes (eqb (getD x 0 0) i) (x ∷ mine i xs) [] t) (omega arith))
-    (λ t. rw (if-no (eqb (getD x 0 0) i) (x ∷ mine i xs) [] t) (omega arith))
-
 -- ---- ANIM
 
 module _ (ds : List ℕ) (i : ℕ) where
@@ -123,7 +105,7 @@ module _ (ds : List ℕ) (i : ℕ) (ls ks : List ℕ) (n : Counts) (count : ℕ)
 
 module _ (ls ks : List ℕ) (n : Counts) (h : MovesThere ls ks n) (count : ℕ) (e : count ≡ length (mine (n .nodes) (drop (n .lists) (rowsIn 4 ls)))) where
   pub lists-there : n .lists + count ≤ length ls / 4
-  lists-there = omega (arith, h .lists, rows-length 4 ls, length-drop (n .lists) (rowsIn 4 ls), mine-short (n .nodes) (drop (n .lists) (rowsIn 4 ls)))
+  lists-there = omega (arith, h .lists, rows-length 4 ls, length-drop (n .lists) (rowsIn 4 ls), mine-length (n .nodes) (drop (n .lists) (rowsIn 4 ls)))
 
   pub keys-there : endOf (n .keys) (take count (drop (n .lists) (rowsIn 4 ls))) ≤ length ks / 11
   keys-there = rw (own-lists [] 0 ls ks n count e) at (h .keys)

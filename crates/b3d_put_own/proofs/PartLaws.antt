@@ -8,7 +8,9 @@ use lib.ListN.{length, take, drop, getD}
 use lib.Seq.{drop-drop, getD-drop}
 use Rattle.wire.specs.Test.{if}
 use Rattle.layout.specs.Write.{Chunk, writeWords, writeText, writeChunks}
-use Rattle.emit.proofs.Appends.{words-append, text-append, before-append, chunks-append}
+use Rattle.layout.proofs.ListLaws.{cell-take}
+use Rattle.layout.proofs.PartLaws.{words-append}
+use Rattle.emit.proofs.Appends.{text-append, before-append, chunks-append}
 use Rattle.emit.specs.Writing.{Room, Put}
 use Rattle.emit.proofs.Joining.{Both, both-begins, both-room, both-inside, both-room-2, both-done}
 use Rattle.b3d_scene.specs.Encode.{writeKeys, kindChunks, keyChunks, animChunks, writeNode}
@@ -21,7 +23,7 @@ use Rattle.b3d_scene.specs.declared.Tag.the-variants.{KEYS}
 use Rattle.b3d_scene.specs.Tables.{nodeWidth}
 use Rattle.b3d_put_rows.specs.Lent.{rowsIn}
 use Rattle.b3d_put_lists.specs.Named.{namedBytes}
-use Rattle.b3d_put_rows.proofs.Cutting.{part-take, cell-take, row-end}
+use Rattle.b3d_put_rows.proofs.Cutting.{part-take}
 use Rattle.b3d_put_own.specs.Own.{tableRows, kindBytes, moveChunks, movesBytes, partsBytes, ownBytes}
 use Rattle.b3d_put_own.proofs.Cells.{rows-row}
 use Rattle.b3d_put_own.proofs.KindLaws.{kind-append}

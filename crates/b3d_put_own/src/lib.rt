@@ -1,4 +1,5 @@
 // What the body of a NODE holds before the nodes below it, written from rows of lent tables: the name, ten words, the kind, KEYS, ANIM.
+// t3 to t10 are those tables, by their numbers.
 ghost use mathlib.Core.Path.{_≡_};
 ghost use Prim.Native.Nat.{_+_, _*_, _/_, _<_, _≤_};
 ghost use lib.ListN.{length, drop, getD};
@@ -18,32 +19,32 @@ use b3d_scene::NODE_WIDTH;
 
 // The chunk of the kind of the node whose row begins at word `row`: a MESH, a BONE, or none.
 fn put_kind(
-    nodes: &[u32],
+    t3: &[u32],
     row: usize,
-    meshes: &[u32],
-    vertices: &[u32],
-    sets: &[u32],
-    triangles: &[u32],
-    weights: &[u32],
+    t4: &[u32],
+    t5: &[u32],
+    t6: &[u32],
+    t7: &[u32],
+    t8: &[u32],
     n: Counts,
     out: &mut [u8],
 ) -> usize
-    requires { ⌜ row + nodeWidth ≤ length (now nodes) ⌝ }
-    requires { ⌜ KindThere (now meshes) (now vertices) (now sets) (now triangles) (now weights) n (getD (now nodes) (row + 13) 0) (getD (now nodes) (row + 15) 0) ⌝ }
-    requires { ⌜ Room (kindBytes (now meshes) (now vertices) (now sets) (now triangles) (now weights) n (getD (now nodes) (row + 13) 0) (getD (now nodes) (row + 15) 0)) (now out) ⌝ }
-    ensures { λ r. ⌜ Put (kindBytes (now (meshes .entry)) (now (vertices .entry)) (now (sets .entry)) (now (triangles .entry)) (now (weights .entry))
-        n (getD (now (nodes .entry)) (row + 13) 0) (getD (now (nodes .entry)) (row + 15) 0)) (now (out .entry)) (now (out .exit)) r ⌝ }
+    requires { ⌜ row + nodeWidth ≤ length (now t3) ⌝ }
+    requires { ⌜ KindThere (now t4) (now t5) (now t6) (now t7) (now t8) n (getD (now t3) (row + 13) 0) (getD (now t3) (row + 15) 0) ⌝ }
+    requires { ⌜ Room (kindBytes (now t4) (now t5) (now t6) (now t7) (now t8) n (getD (now t3) (row + 13) 0) (getD (now t3) (row + 15) 0)) (now out) ⌝ }
+    ensures { λ r. ⌜ Put (kindBytes (now (t4 .entry)) (now (t5 .entry)) (now (t6 .entry)) (now (t7 .entry)) (now (t8 .entry))
+        n (getD (now (t3 .entry)) (row + 13) 0) (getD (now (t3 .entry)) (row + 15) 0)) (now (out .entry)) (now (out .exit)) r ⌝ }
 {
-    if nodes[row + 13] == 1 {
+    if t3[row + 13] == 1 {
         let i = 9 * n.meshes;
         let v = n.vertices;
         let s = n.sets;
         let t = n.triangles;
-        return put_mesh(meshes, i, vertices, v, sets, s, triangles, t, out);
+        return put_mesh(t4, i, t5, v, t6, s, t7, t, out);
     }
-    if nodes[row + 13] == 2 {
-        let many = number(nodes, row + 15);
-        return put_weights(weights, n.weights, many, out);
+    if t3[row + 13] == 2 {
+        let many = number(t3, row + 15);
+        return put_weights(t8, n.weights, many, out);
     }
     0
 }
@@ -75,58 +76,41 @@ fn count_lists(lists: &[u32], first: usize, node: usize) -> usize
 }
 
 // The KEYS and the ANIM of the node whose row begins at word `row`.
-fn put_moves(
-    nodes: &[u32],
-    row: usize,
-    lists: &[u32],
-    keys: &[u32],
-    n: Counts,
-    out: &mut [u8],
-) -> usize
-    requires { ⌜ row + nodeWidth ≤ length (now nodes) ⌝ }
-    requires { ⌜ MovesThere (now lists) (now keys) n ⌝ }
-    requires { ⌜ Room (movesBytes (now nodes) row (now lists) (now keys) n) (now out) ⌝ }
-    ensures { λ r. ⌜ Put (movesBytes (now (nodes .entry)) row (now (lists .entry)) (now (keys .entry)) n) (now (out .entry)) (now (out .exit)) r ⌝ }
+fn put_moves(t3: &[u32], row: usize, t9: &[u32], t10: &[u32], n: Counts, out: &mut [u8]) -> usize
+    requires { ⌜ row + nodeWidth ≤ length (now t3) ⌝ }
+    requires { ⌜ MovesThere (now t9) (now t10) n ⌝ }
+    requires { ⌜ Room (movesBytes (now t3) row (now t9) (now t10) n) (now out) ⌝ }
+    ensures { λ r. ⌜ Put (movesBytes (now (t3 .entry)) row (now (t9 .entry)) (now (t10 .entry)) n) (now (out .entry)) (now (out .exit)) r ⌝ }
 {
-    let count = count_lists(lists, n.lists, n.nodes);
-    let a = put_runs(true, lists, n.lists, count, keys, n.keys, out);
-    let b = put_anim(nodes, row + 16, &mut out[a..]);
+    let count = count_lists(t9, n.lists, n.nodes);
+    let a = put_runs(true, t9, n.lists, count, t10, n.keys, out);
+    let b = put_anim(t3, row + 16, &mut out[a..]);
     a + b
 }
 
 // All that the body of the node after n rows holds before the nodes below it.
 pub fn put_own(
     names: &[u8],
-    nodes: &[u32],
-    meshes: &[u32],
-    vertices: &[u32],
-    sets: &[u32],
-    triangles: &[u32],
-    weights: &[u32],
-    lists: &[u32],
-    keys: &[u32],
+    t3: &[u32],
+    t4: &[u32],
+    t5: &[u32],
+    t6: &[u32],
+    t7: &[u32],
+    t8: &[u32],
+    t9: &[u32],
+    t10: &[u32],
     n: Counts,
     out: &mut [u8],
 ) -> usize
-    requires { ⌜ OwnThere (now names) (now nodes) (now meshes) (now vertices) (now sets) (now triangles) (now weights) (now lists) (now keys) n ⌝ }
-    requires { ⌜ Room (ownBytes (now names) (now nodes) (now meshes) (now vertices) (now sets) (now triangles) (now weights) (now lists) (now keys) n) (now out) ⌝ }
-    ensures { λ r. ⌜ Put (ownBytes (now (names .entry)) (now (nodes .entry)) (now (meshes .entry)) (now (vertices .entry)) (now (sets .entry))
-        (now (triangles .entry)) (now (weights .entry)) (now (lists .entry)) (now (keys .entry)) n) (now (out .entry)) (now (out .exit)) r ⌝ }
+    requires { ⌜ OwnThere (now names) (now t3) (now t4) (now t5) (now t6) (now t7) (now t8) (now t9) (now t10) n ⌝ }
+    requires { ⌜ Room (ownBytes (now names) (now t3) (now t4) (now t5) (now t6) (now t7) (now t8) (now t9) (now t10) n) (now out) ⌝ }
+    ensures { λ r. ⌜ Put (ownBytes (now (names .entry)) (now (t3 .entry)) (now (t4 .entry)) (now (t5 .entry)) (now (t6 .entry))
+        (now (t7 .entry)) (now (t8 .entry)) (now (t9 .entry)) (now (t10 .entry)) n) (now (out .entry)) (now (out .exit)) r ⌝ }
 {
     let row = NODE_WIDTH * n.nodes;
-    let a = put_named(names, nodes, row, row + 3, 10, out);
+    let a = put_named(names, t3, row, row + 3, 10, out);
     let rest = &mut out[a..];
-    let b = put_kind(
-        nodes,
-        row,
-        meshes,
-        vertices,
-        sets,
-        triangles,
-        weights,
-        n,
-        rest,
-    );
-    let c = put_moves(nodes, row, lists, keys, n, &mut out[a + b..]);
+    let b = put_kind(t3, row, t4, t5, t6, t7, t8, n, rest);
+    let c = put_moves(t3, row, t9, t10, n, &mut out[a + b..]);
     a + b + c
 }

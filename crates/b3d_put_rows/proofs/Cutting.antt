@@ -4,12 +4,13 @@ use Prim.Native.Nat.{ℕ, zero, suc, _+_, _-_, _*_, _/_, _<_, _≤_}
 use native.Mathlib.Nat.{mul-div-cancel-left}
 use native.Mathlib.Omega.{arith}
 use mathlib.Core.List.{List, [], _∷_, _++_}
-use lib.ListN.{length, take, drop, getD, length-take, length-drop}
-use lib.Seq.{take-take, take-all, length-take-le, getD-take, getD-drop}
+use lib.ListN.{length, take, drop, length-take, length-drop}
+use lib.Seq.{take-take, take-all, length-take-le}
 use Rattle.layout.specs.Write.{writeWords, writeItems}
-use Rattle.emit.proofs.Appends.{words-append, words-both}
+use Rattle.emit.proofs.Appends.{words-both}
 use Rattle.b3d_scene.specs.Rebuild.{cut}
-use Rattle.b3d_scene.specs.Tables.{words}
+use Rattle.layout.specs.Rows.{joined}
+use Rattle.layout.proofs.PartLaws.{words-append}
 use Rattle.b3d_scene.proofs.Rows.RowLists.{cut-length, words-cut}
 use Rattle.b3d_sound.proofs.Places.{cut-drop}
 use Rattle.b3d_put_rows.specs.Lent.{rowsIn}
@@ -32,9 +33,6 @@ pub row-end : (w j : ℕ) (l : List ℕ) → j ≤ w → drop j (take w l) ≡ t
 row-end w j l h =
     let short : length (drop j (take w l)) ≤ w - j = simp (length-drop, length-take) (omega arith) in
     sym (take-all (w - j) (drop j (take w l)) short) ∙ part-take j (w - j) w l (omega arith)
-
-pub cell-take : (w i j : ℕ) (l : List ℕ) → j < w → getD (take w (drop i l)) j 0 ≡ getD l (i + j) 0
-cell-take w i j l h = getD-take w (drop i l) j 0 h ∙ getD-drop i l j 0
 
 -- rows from one on, cut from its first word on
 pub rows-from : (w : ℕ) (ws : List ℕ) (first count : ℕ) → first + count ≤ length ws / w → take count (drop first (rowsIn w ws)) ≡ cut w count (drop (w * first) ws)
@@ -62,10 +60,10 @@ rows-lent w c ws h l =
     rw n (cut-trim w c ws)
 
 -- rows are written as their words, one after the other
-pub items-words : (rs : List (List ℕ)) → writeItems writeWords rs ≡ writeWords (words rs) []
-unfolding words
+pub items-words : (rs : List (List ℕ)) → writeItems writeWords rs ≡ writeWords (joined rs) []
+unfolding joined
 items-words [] = refl
-items-words (r ∷ rs) = words-append r (writeItems writeWords rs) ∙ ap (λ (l : List ℕ). writeWords r [] ++ l) (items-words rs) ∙ sym (words-both r (words rs))
+items-words (r ∷ rs) = words-append r (writeItems writeWords rs) ∙ ap (λ (l : List ℕ). writeWords r [] ++ l) (items-words rs) ∙ sym (words-both r (joined rs))
 
 pub items-from : (w : ℕ) (ws : List ℕ) (first count : ℕ) → first + count ≤ length ws / w
     → writeItems writeWords (take count (drop first (rowsIn w ws))) ≡ writeWords (take (w * count) (drop (w * first) ws)) []

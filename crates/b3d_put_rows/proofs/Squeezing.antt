@@ -8,8 +8,9 @@ use mathlib.Core.List.{List, [], _∷_, _++_, map, append-nil, append-assoc}
 use lib.ListN.{length, take, drop, replicate}
 use lib.Seq.{drop-nil, drop-drop, take-take}
 use Rattle.layout.specs.Write.{writeWords, writeItems}
+use Rattle.layout.proofs.PartLaws.{words-append}
 use Rattle.emit.specs.Writing.{Room, Put}
-use Rattle.emit.proofs.Appends.{words-append, words-both}
+use Rattle.emit.proofs.Appends.{words-both}
 use Rattle.emit.proofs.Joining.{Both, Begins, both-begins}
 use Rattle.b3d_scene.specs.Mask.{squeeze}
 use Rattle.b3d_scene.specs.Rebuild.{cut}
@@ -19,7 +20,7 @@ use Rattle.b3d_masks.proofs.Masks.{mask-width}
 use Rattle.b3d_put_rows.specs.Lent.{rowsIn, eachRow}
 use Rattle.b3d_put_rows.specs.RowBytes.{setsBytes, frontBytes, backBytes, rowBytes}
 use Rattle.b3d_put_rows.proofs.Cutting.{rows-from, part-take}
-use Rattle.b3d_put_rows.proofs.RowByRow.{items-each}
+use Rattle.b3d_put_rows.proofs.RowByRow.{items-each, RowsLeft, rows-none}
 
 -- ---- so many words, by their number
 
@@ -152,14 +153,25 @@ pub ruleset part-laws = (front-both, front-begins, back-begins, vertex-back, key
 
 -- ---- rows by a mask that is known
 
+-- the rows that runs take of words, from word b on
+abbrev pub squeezed : RowRuns → ℕ → ℕ → List ℕ → ℕ → List ℕ
+squeezed g cells count ws b = writeItems writeWords (map (squeeze (runMask g)) (cut cells count (drop b ws)))
+
+abbrev pub Left : RowRuns → ℕ → List ℕ → ℕ → ℕ → List ℕ → List ℕ → ℕ → ℕ → ℕ → Type 0
+Left g cells ws b₀ count = RowsLeft (λ x. writeWords (squeeze (runMask g) x) []) cells ws (squeezed g cells count ws b₀)
+
 module _ (cells : ℕ) (ws : List ℕ) (first count : ℕ) (h : first + count ≤ length ws / cells) where
   pub known-there : cells * first + count * cells ≤ length ws
   known-there =
       let k : (first + count) * cells ≤ length ws / cells * cells = mul-le-mul-right cells h in
       rw (mul-comm cells first) (omega (arith, add-mul first count cells, div-mul-le-self (length ws) cells))
 
-  pub known-rows : (m : List Bool) (g : RowRuns) → m ≡ runMask g
-      → writeItems writeWords (map (squeeze m) (take count (drop first (rowsIn cells ws)))) ≡ writeItems writeWords (map (squeeze (runMask g)) (cut cells count (drop (cells * first) ws)))
-  known-rows m g e = rw (e, rows-from cells ws first count h)
+  module _ (m : List Bool) (g : RowRuns) (e : m ≡ runMask g) where
+    known-rows : writeItems writeWords (map (squeeze m) (take count (drop first (rowsIn cells ws)))) ≡ squeezed g cells count ws (cells * first)
+    known-rows = rw (e, rows-from cells ws first count h)
 
-pub ruleset known-laws = (known-there, known-rows)
+    pub known-start : (out : List ℕ) → Room (writeItems writeWords (map (squeeze m) (take count (drop first (rowsIn cells ws))))) out → Left g cells ws (cells * first) count out out 0 (cells * first) count
+    known-start out r = rows-none _ cells ws (squeezed g cells count ws (cells * first)) out (cells * first) count (rw known-rows at r) known-there (masked-each (runMask g) (cut cells count (drop (cells * first) ws)))
+
+    pub known-put : (out put : List ℕ) (n : ℕ) → Put (squeezed g cells count ws (cells * first)) out put n → Put (writeItems writeWords (map (squeeze m) (take count (drop first (rowsIn cells ws))))) out put n
+    known-put out put n p = rw known-rows p

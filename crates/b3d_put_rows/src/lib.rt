@@ -116,42 +116,6 @@ fn put_vertex(g: RowRuns, words: &[u32], base: usize, out: &mut [u8]) -> usize
     n + m
 }
 
-// `count` keys from word `base` on.
-fn put_keys(g: RowRuns, words: &[u32], base: usize, count: usize, out: &mut [u8]) -> usize
-    requires { ⌜ Short g × OfKey g × (width g ≡ 11) × (base + count * 11 ≤ length (now words)) ⌝ }
-    requires { ⌜ Room (writeItems writeWords (map (squeeze (runMask g)) (cut 11 count (drop base (now words))))) (now out) ⌝ }
-    ensures { λ r. ⌜ Put (writeItems writeWords (map (squeeze (runMask g)) (cut 11 count (drop base (now (words .entry)))))) (now (out .entry)) (now (out .exit)) r ⌝ }
-{
-    let mut at: usize = 0;
-    let mut b = base;
-    let mut left = count;
-    while 0 < left {
-        let n = put_key(g, words, b, &mut out[at..]);
-        at += n;
-        b += 11;
-        left -= 1;
-    }
-    at
-}
-
-// `count` vertices from word `base` on.
-fn put_vertices(g: RowRuns, words: &[u32], base: usize, count: usize, out: &mut [u8]) -> usize
-    requires { ⌜ Short g × OfVertex g × (width g ≡ 42) × (base + count * 42 ≤ length (now words)) ⌝ }
-    requires { ⌜ Room (writeItems writeWords (map (squeeze (runMask g)) (cut 42 count (drop base (now words))))) (now out) ⌝ }
-    ensures { λ r. ⌜ Put (writeItems writeWords (map (squeeze (runMask g)) (cut 42 count (drop base (now (words .entry)))))) (now (out .entry)) (now (out .exit)) r ⌝ }
-{
-    let mut at: usize = 0;
-    let mut b = base;
-    let mut left = count;
-    while 0 < left {
-        let n = put_vertex(g, words, b, &mut out[at..]);
-        at += n;
-        b += 42;
-        left -= 1;
-    }
-    at
-}
-
 // `count` keys from row `first` on, by their flags.
 pub fn put_key_rows(flags: u32, keys: &[u32], first: usize, count: usize, out: &mut [u8]) -> usize
     requires { ⌜ first + count ≤ length (now keys) / 11 ⌝ }
@@ -159,7 +123,16 @@ pub fn put_key_rows(flags: u32, keys: &[u32], first: usize, count: usize, out: &
     ensures { λ r. ⌜ Put (writeItems writeWords (map (squeeze (keyMask flags)) (rowsFrom 11 (now (keys .entry)) first count))) (now (out .entry)) (now (out .exit)) r ⌝ }
 {
     let g = b3d_masks::key_runs(flags);
-    put_keys(g, keys, 11 * first, count, out)
+    let mut at: usize = 0;
+    let mut b = 11 * first;
+    let mut left = count;
+    while 0 < left {
+        let n = put_key(g, keys, b, &mut out[at..]);
+        at += n;
+        b += 11;
+        left -= 1;
+    }
+    at
 }
 
 // `count` vertices from row `first` on, by their flags, sets and set size.
@@ -177,5 +150,14 @@ pub fn put_vertex_rows(
     ensures { λ r. ⌜ Put (writeItems writeWords (map (squeeze (vertexMask flags sets size)) (rowsFrom 42 (now (vertices .entry)) first count))) (now (out .entry)) (now (out .exit)) r ⌝ }
 {
     let g = b3d_masks::vertex_runs(flags, sets, size);
-    put_vertices(g, vertices, 42 * first, count, out)
+    let mut at: usize = 0;
+    let mut b = 42 * first;
+    let mut left = count;
+    while 0 < left {
+        let n = put_vertex(g, vertices, b, &mut out[at..]);
+        at += n;
+        b += 42;
+        left -= 1;
+    }
+    at
 }

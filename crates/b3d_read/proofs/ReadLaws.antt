@@ -12,14 +12,14 @@ use Rattle.layout.specs.Out.{Out, got, bad}
 use Rattle.layout.specs.Lists.{All}
 use Rattle.layout.proofs.Lists.{all-zip}
 use Rattle.layout.proofs.Outs.{by-check}
-use Rattle.layout.specs.Rows.{eachOf, sizeFits}
+use Rattle.layout.specs.Rows.{eachOf, sizeFits, joined}
 use Rattle.b3d_scene.specs.declared.Answer.{Answer}
 use Rattle.b3d_scene.specs.declared.Mode.{Mode}
 use Rattle.b3d_scene.specs.declared.Mode.the-variants.{Lenient}
 use Rattle.b3d_scene.specs.Answers.{judge, read, answer, readAnswer, readTable, tableAfter}
 use Rattle.b3d_scene.specs.Parse.{parse}
 use Rattle.b3d_scene.specs.Scene.{Scene}
-use Rattle.b3d_scene.specs.Tables.{width, rows, words, table, tables, nodeTables, counts}
+use Rattle.b3d_scene.specs.Tables.{width, rows, table, tables, nodeTables, counts}
 use Rattle.b3d_scene.proofs.Refusals.{read-number}
 use Rattle.b3d_scene.proofs.Rows.Numbers.{table-each, ten-tables}
 use Rattle.b3d_scene.proofs.AnswerLaws.{judge-got, judge-lenient, read-got}
@@ -28,7 +28,7 @@ use Rattle.b3d_scene.proofs.Rows.CountLaws.{table-length}
 use Rattle.b3d_file_rows.specs.Rows.{fileRows}
 use Rattle.b3d_file_rows.proofs.Laws.{rows-law}
 use Rattle.b3d_fill.specs.Fills.{Fillable, Filled}
-use Rattle.b3d_limits.specs.Rooms.{numberOf}
+use Rattle.counted.specs.Rooms.{numberOf}
 use Rattle.b3d_read.specs.Reads.{tableIn, roomIn, Reads}
 use Rattle.b3d_limits.proofs.RoomLaws.{stored-over}
 
@@ -93,9 +93,9 @@ module _ (mode : Mode) (s : List ℕ) (t1 t2 t3 t4 t5 t6 t7 t8 t9 t10 : List ℕ
     judged = judge-lenient mode s (accepted .scene) (read-got mode (roomIn lent) s (accepted .scene) (accepted .is) .0)
 
     -- the rows of its bytes are those of what was read
-    table-is : (k : ℕ) → 1 ≤ k → k ≤ 10 → words (fileRows k s) ≡ table k (accepted .scene)
+    table-is : (k : ℕ) → 1 ≤ k → k ≤ 10 → joined (fileRows k s) ≡ table k (accepted .scene)
     unfolding table
-    table-is k a b = ap words (rows-law s (accepted .scene) judged k a b)
+    table-is k a b = ap joined (rows-law s (accepted .scene) judged k a b)
 
     -- the answer has the counts of what was read
     counts-are : y .counts ≡ counts (accepted .scene)

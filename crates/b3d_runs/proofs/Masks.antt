@@ -14,12 +14,13 @@ use Rattle.wire.proofs.Left.{span, left-drop}
 use Rattle.layout.specs.Parts.{wordsOf, itemsOf}
 use Rattle.b3d_scene.specs.Mask.{ones, spread, vertexMask, keyMask}
 use Rattle.b3d_scene.specs.Rules.{vertexWords}
-use Rattle.b3d_scene.specs.Tables.{words}
+use Rattle.layout.specs.Rows.{joined}
 use Rattle.b3d_scene.proofs.Rows.MaskLaws.{vertex-words}
 use Rattle.b3d_masks.specs.Runs.{run, setRuns, runMask, vertexRuns, keyRuns}
 use Rattle.b3d_masks.proofs.Masks.{vertex-mask, key-mask, most-same}
 use Rattle.cells.specs.Words.{wordsAt}
 use Rattle.cells.proofs.Copying.{words-at}
+use Rattle.b3d_runs.proofs.Runs.{Wide, vertex-wide, key-wide}
 use Rattle.b3d_runs.specs.Pieces.{pieceAt, setsAt, allSets, partsAt, vertexAt, keyAt, rowsAt}
 
 -- ---- a row by runs
@@ -101,14 +102,14 @@ record Makes (m : List Bool) (w : ℕ) (row : List ℕ → ℕ → List ℕ) : T
   is : (s : List ℕ) (p : ℕ) → spread m (wordsAt w s p) ≡ row s p
 
 module _ (m : List Bool) (w : ℕ) (row : List ℕ → ℕ → List ℕ) (k : Makes m w row) (s : List ℕ) where
-  rows-are : (count : ℕ) (c : Cursor) → Inside c (length s) → c .at + count * (4 * w) ≤ c .end → words (map (spread m) (itemsOf count w (left c s))) ≡ rowsAt row w count s (c .at)
-  unfolding words rowsAt
+  rows-are : (count : ℕ) (c : Cursor) → Inside c (length s) → c .at + count * (4 * w) ≤ c .end → joined (map (spread m) (itemsOf count w (left c s))) ≡ rowsAt row w count s (c .at)
+  unfolding joined rowsAt
   rows-are zero c i h = refl
   rows-are (suc count) c i h =
       let j = suc-mul count (4 * w) in
       let d = span (c .at + 4 * w) (c .end) in
       ap₂ _++_ (ap (spread m) (words-at w s c i (omega arith)) ∙ k .is s (c .at))
-      (ap (λ (l : List ℕ). words (map (spread m) (itemsOf count w l))) (sym (left-drop s c (4 * w) d refl refl))
+      (ap (λ (l : List ℕ). joined (map (spread m) (itemsOf count w l))) (sym (left-drop s c (4 * w) d refl refl))
       ∙ rows-are count d (record { before = omega arith; within = i .within }) (omega arith))
 
 vertex-makes : (f n z : ℕ) → n ≤ 8 → z ≤ 4 → Makes (vertexMask f n z) (3 + f % 2 * 3 + f / 2 % 2 * 4 + n * z) (vertexAt (f % 2 * 3) (f / 2 % 2 * 4) n z)
@@ -146,11 +147,14 @@ module _ (f n z : ℕ) (hf : f ≤ 3) (hn : n ≤ 8) (hz : z ≤ 4) (a b n′ z�
     fill-place = rw ew (omega (arith, i .within))
 
     pub fill-put : (base : ℕ) (out put : List ℕ) → put ≡ sets out base (rowsAt (vertexAt a b n′ z′) w count s (c .at))
-        → put ≡ sets out base (words (map (spread (vertexMask f n z)) (itemsOf count (vertexWords f n z) (left c s))))
+        → put ≡ sets out base (joined (map (spread (vertexMask f n z)) (itemsOf count (vertexWords f n z) (left c s))))
     fill-put base out put e =
         let k = vertex-makes f n z hn hz in
         let y : 3 + f % 2 * 3 + f / 2 % 2 * 4 + n * z ≡ vertexWords f n z = sym (k .many) ∙ vertex-words f n z hf hn hz in
         e ∙ rw (ea, eb, en, ez, ew) (ap (sets out base) (sym (rows-are (vertexMask f n z) (vertexWords f n z) (vertexAt (f % 2 * 3) (f / 2 % 2 * 4) n z) (rw y at k) s count c i h)))
+
+pub fill-wide : (f n z a b n′ z′ : ℕ) → a ≡ f % 2 * 3 → b ≡ f / 2 % 2 * 4 → n′ ≡ n → z′ ≡ z → n ≤ 8 → z ≤ 4 → Wide (vertexAt a b n′ z′) 42
+fill-wide f n z a b n′ z′ ea eb en ez hn hz = vertex-wide a b n′ z′ (omega arith) (omega arith) (omega arith) (omega arith)
 
 pub ruleset fill-laws = (fill-words, fill-place, fill-put)
 
@@ -159,7 +163,7 @@ module _ (f w : ℕ) (ew : w ≡ ones (keyMask f)) (a b d : ℕ) (ea : a ≡ f %
   keys-words = rw (ea, eb, ed) (ew ∙ key-makes f .many)
 
   pub keys-put : (s : List ℕ) (c : Cursor) → Inside c (length s) → (count : ℕ) → c .at + count * (4 * w) ≤ c .end → (base : ℕ) (out put : List ℕ) → put ≡ sets out base (rowsAt (keyAt a b d) w count s (c .at))
-      → put ≡ sets out base (words (map (spread (keyMask f)) (itemsOf count w (left c s))))
+      → put ≡ sets out base (joined (map (spread (keyMask f)) (itemsOf count w (left c s))))
   keys-put s c i count h base out put e =
       let k = key-makes f in
       let y : 1 + f % 2 * 3 + f / 2 % 2 * 3 + f / 4 % 2 * 4 ≡ w = sym (k .many) ∙ sym ew in
@@ -167,5 +171,8 @@ module _ (f w : ℕ) (ew : w ≡ ones (keyMask f)) (a b d : ℕ) (ea : a ≡ f %
 
 pub keys-place : (s : List ℕ) (c : Cursor) → Inside c (length s) → (count w : ℕ) → c .at + count * (4 * w) ≤ c .end → c .at + count * (4 * w) ≤ length s
 keys-place s c i count w h = omega (arith, i .within)
+
+pub keys-wide : (f a b d : ℕ) → a ≡ f % 2 * 3 → b ≡ f / 2 % 2 * 3 → d ≡ f / 4 % 2 * 4 → Wide (keyAt a b d) 11
+keys-wide f a b d ea eb ed = key-wide a b d (omega arith) (omega arith) (omega arith)
 
 pub ruleset keys-laws = (keys-words, keys-put, keys-place)

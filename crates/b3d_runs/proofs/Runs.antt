@@ -223,11 +223,6 @@ vertex-wide a b sets size ha hb hs hn =
 pub key-wide : (a b c : ℕ) → a ≤ 3 → b ≤ 3 → c ≤ 4 → Wide (keyAt a b c) 11
 key-wide a b c ha hb hc = parts-wide 1 a 3 b 4 (pieceAt c (4 - c)) ha hb (record { wide = λ s p. omega (arith, length-piece c (4 - c) s p) })
 
-pub row-takes : (size words at long : ℕ) → words ≡ size → at + 4 * words ≤ long → at + 4 * size ≤ long
-row-takes size words at long e h = rw (← e) h
-
-pub ruleset wide-laws = (vertex-wide, key-wide, row-takes)
-
 -- ---- rows, one after the other
 
 pub record RowsLeft (row : List ℕ → ℕ → List ℕ) (width : ℕ) (s : List ℕ) (words base : ℕ) (out₀ : List ℕ) (count from : ℕ) (out : List ℕ) (n at o : ℕ) : Type 0 where
@@ -257,6 +252,9 @@ module _ (row : List ℕ → ℕ → List ℕ) (width : ℕ) (s : List ℕ) (wor
       pub rows-place : at + 4 * words ≤ length s
       rows-place = omega (arith, v .place, times (4 * words))
 
+      pub rows-take : (size : ℕ) → words ≡ size → at + 4 * size ≤ length s
+      rows-take size e = rw (← e) rows-place
+
       pub rows-room : o + width ≤ length out
       rows-room = omega (arith, v .room, v .stores .long, times width)
 
@@ -271,4 +269,4 @@ module _ (row : List ℕ → ℕ → List ℕ) (width : ℕ) (s : List ℕ) (wor
         stores = rw (f, ← wd .wide s at) (store-run (v .stores) (row s at) first);
       }
 
-pub ruleset rows-laws = (rows-none, rows-long, rows-done, rows-place, rows-room, rows-on)
+pub ruleset rows-laws = (rows-none, rows-long, rows-done, rows-place, rows-take, rows-room, rows-on)

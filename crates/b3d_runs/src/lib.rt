@@ -1,7 +1,6 @@
 // Rows of vertices and keys by runs: words copied, then zeros, each run of a fixed length.
 ghost use mathlib.Core.Path.{_≡_};
-ghost use mathlib.Core.List.{_++_};
-ghost use Prim.Native.Nat.{ℕ, _+_, _-_, _*_, _<_, _≤_};
+ghost use Prim.Native.Nat.{_+_, _-_, _*_, _≤_};
 ghost use lib.ListN.{length, replicate};
 ghost use lib.Seq.{sets as stored};
 ghost use mathlib.Core.List.{map};
@@ -9,8 +8,8 @@ ghost use Rattle.wire.specs.Cursors.{Inside, left};
 ghost use Rattle.layout.specs.Parts.{itemsOf};
 ghost use Rattle.b3d_scene.specs.Rules.{vertexWords};
 ghost use Rattle.b3d_scene.specs.Mask.{ones, spread, vertexMask, keyMask};
-ghost use Rattle.b3d_scene.specs.Tables.{words as tableWords};
-ghost use Rattle.b3d_runs.specs.Pieces.{pieceAt, allSets, vertexAt, keyAt, rowsAt};
+ghost use Rattle.layout.specs.Rows.{joined};
+ghost use Rattle.b3d_runs.specs.Pieces.{pieceAt, allSets, vertexAt, keyAt};
 use wire::Cursor;
 
 // A run of words, then one of zeros.
@@ -104,34 +103,6 @@ fn put_vertex(
     put_sets(file, at + 12 + 4 * a + 4 * b, sets, size, base + 10, out);
 }
 
-// So many vertices of so many words each.
-fn put_vertices(
-    file: &[u8],
-    from: usize,
-    a: usize,
-    b: usize,
-    sets: usize,
-    size: usize,
-    words: usize,
-    count: usize,
-    base: usize,
-    out: &mut [u32],
-)
-    requires { ⌜ (a ≤ 3) × (b ≤ 4) × (size ≤ 4) × (sets ≤ 8) × (words ≡ 3 + a + b + sets * size) × (words ≤ 42) ⌝ }
-    requires { ⌜ (from + count * (4 * words) ≤ length (now file)) × (base + count * 42 ≤ length (now out)) ⌝ }
-    ensures { λ _. ⌜ now (out .exit) ≡ stored (now (out .entry)) base (rowsAt (vertexAt a b sets size) words count (now (file .entry)) from) ⌝ }
-{
-    let mut left = count;
-    let mut at = from;
-    let mut o = base;
-    while 0 < left {
-        put_vertex(file, at, a, b, sets, size, o, out);
-        at += 4 * words;
-        o += 42;
-        left -= 1;
-    }
-}
-
 // So many vertices, each a row of 42 words.
 pub fn fill_vertices(
     file: &[u8],
@@ -145,14 +116,22 @@ pub fn fill_vertices(
 )
     requires { ⌜ Inside c (length (now file)) × (c .at + count * (4 * vertexWords flags sets size) ≤ c .end) × (base + count * 42 ≤ length (now out)) ⌝ }
     requires { ⌜ (flags ≤ 3) × (sets ≤ 8) × (size ≤ 4) ⌝ }
-    ensures { λ _. ⌜ now (out .exit) ≡ stored (now (out .entry)) base (tableWords (map (spread (vertexMask flags sets size)) (itemsOf count (vertexWords flags sets size) (left c (now (file .entry)))))) ⌝ }
+    ensures { λ _. ⌜ now (out .exit) ≡ stored (now (out .entry)) base (joined (map (spread (vertexMask flags sets size)) (itemsOf count (vertexWords flags sets size) (left c (now (file .entry)))))) ⌝ }
 {
     let a = wire::size(flags % 2 * 3);
     let b = wire::size(flags / 2 % 2 * 4);
     let n = wire::size(sets);
     let z = wire::size(size);
     let words = b3d_items::vertex_words(flags, sets, size);
-    put_vertices(file, c.at, a, b, n, z, words, count, base, out);
+    let mut left = count;
+    let mut at = c.at;
+    let mut o = base;
+    while 0 < left {
+        put_vertex(file, at, a, b, n, z, o, out);
+        at += 4 * words;
+        o += 42;
+        left -= 1;
+    }
 }
 
 // One key: a words of a position, b of a scale, c of a rotation.
@@ -166,33 +145,6 @@ fn put_key(file: &[u8], at: usize, a: usize, b: usize, c: usize, base: usize, ou
     put_four(file, at + 4 + 4 * a + 4 * b, c, base + 7, out);
 }
 
-// So many keys of so many words each.
-fn put_keys(
-    file: &[u8],
-    from: usize,
-    a: usize,
-    b: usize,
-    c: usize,
-    words: usize,
-    count: usize,
-    base: usize,
-    out: &mut [u32],
-)
-    requires { ⌜ (a ≤ 3) × (b ≤ 3) × (c ≤ 4) × (words ≡ 1 + a + b + c) × (words ≤ 11) ⌝ }
-    requires { ⌜ (from + count * (4 * words) ≤ length (now file)) × (base + count * 11 ≤ length (now out)) ⌝ }
-    ensures { λ _. ⌜ now (out .exit) ≡ stored (now (out .entry)) base (rowsAt (keyAt a b c) words count (now (file .entry)) from) ⌝ }
-{
-    let mut left = count;
-    let mut at = from;
-    let mut o = base;
-    while 0 < left {
-        put_key(file, at, a, b, c, o, out);
-        at += 4 * words;
-        o += 11;
-        left -= 1;
-    }
-}
-
 // So many keys of so many words, each a row of 11 words.
 pub fn fill_keys(
     file: &[u8],
@@ -204,10 +156,18 @@ pub fn fill_keys(
     out: &mut [u32],
 )
     requires { ⌜ Inside c (length (now file)) × (words ≡ ones (keyMask flags)) × (words ≤ 11) × (c .at + count * (4 * words) ≤ c .end) × (base + count * 11 ≤ length (now out)) ⌝ }
-    ensures { λ _. ⌜ now (out .exit) ≡ stored (now (out .entry)) base (tableWords (map (spread (keyMask flags)) (itemsOf count words (left c (now (file .entry)))))) ⌝ }
+    ensures { λ _. ⌜ now (out .exit) ≡ stored (now (out .entry)) base (joined (map (spread (keyMask flags)) (itemsOf count words (left c (now (file .entry)))))) ⌝ }
 {
     let position = wire::size(flags % 2 * 3);
     let scale = wire::size(flags / 2 % 2 * 3);
     let turn = wire::size(flags / 4 % 2 * 4);
-    put_keys(file, c.at, position, scale, turn, words, count, base, out);
+    let mut left = count;
+    let mut at = c.at;
+    let mut o = base;
+    while 0 < left {
+        put_key(file, at, position, scale, turn, o, out);
+        at += 4 * words;
+        o += 11;
+        left -= 1;
+    }
 }

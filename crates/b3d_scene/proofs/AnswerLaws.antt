@@ -2,19 +2,20 @@
 use mathlib.Core.Path.{_≡_, refl, sym, subst, _∙_}
 use Prim.Native.Nat.{ℕ, _*_, _≤_, _<_}
 use native.Mathlib.Omega.{arith}
-use mathlib.Core.Bool.{Bool, true, false, not}
+use mathlib.Core.Bool.{Bool}
 use mathlib.Core.Option.{Option, none, some}
 use mathlib.Core.List.{List, [], _∷_}
 use lib.ListN.{length}
 use lib.Dec.{T, leb, ltb, leb→le, le→leb, ltb→lt, nltb→le}
 use borrow.Author.Tests.{lt-leb, le-leb, lt-ltb, le-ltb}
 use Rattle.wire.specs.Test.{if}
-use Rattle.layout.specs.Out.{Out, got, bad, check, _>>=_}
+use Rattle.layout.specs.Out.{Out, got, bad, _>>=_}
 use Rattle.layout.proofs.Lists.{All, all-map}
-use Rattle.layout.proofs.Outs.{by-test, if-yes, if-no, by-check, by-got, bad-got, check-yes, got-inj}
+use Rattle.layout.proofs.Outs.{by-test, if-yes, if-no, by-check, by-got, bad-got, check-yes, got-inj, check-no}
 use Rattle.layout.specs.Rows.{eachOf, mostBytes}
 use Rattle.b3d_scene.specs.declared.Mode.{Mode}
 use Rattle.b3d_scene.specs.declared.Mode.the-variants.{Lenient}
+use Rattle.b3d_scene.specs.declared.Written.{Written}
 use Rattle.b3d_scene.proofs.Modes.{mode-got}
 use Rattle.b3d_scene.specs.Answers.{firstNot, judge, read, roomFor, shortest, write, clear}
 use Rattle.b3d_scene.specs.Encode.{encode}
@@ -35,11 +36,6 @@ each-yes : (n : ℕ) (ok : ℕ → Bool) (ks : List ℕ) → All (λ k. T (ok k)
 unfolding eachOf
 each-yes n ok [] h = refl
 each-yes n ok (k ∷ ks) h = rw (check-yes (ok k) n k (h .0)) (each-yes n ok ks (h .1))
-
-check-no : (b : Bool) (n p : ℕ) → T (not b) → check b n p ≡ bad n p
-unfolding check
-check-no true n p t = absurd t
-check-no false n p t = refl
 
 -- the test holds of each just where the first without it is 0; else that is refused
 module _ (n : ℕ) (ok : ℕ → Bool) where
@@ -142,3 +138,7 @@ write-got mode T ns room b e =
     by-got (shortest (rebuild mode T ns)) _ e (λ c ec e₁. let x = shortest-got (rebuild mode T ns) c ec in
     let y = room-got room c b e₁ in
     subst (λ (d : List ℕ). (t : Scene) × (rebuild mode T ns ≡ some t) × (encode t ≡ d) × (length d ≤ mostBytes) × (length d ≤ room)) (y .0) (x .0, x .1, x .2, x .3, y .1))
+
+-- two answers of one size
+pub of-size : (m n : ℕ) → m ≡ n → _≡_ {A = Written} (record { number = 0; place = 0; size = m }) (record { number = 0; place = 0; size = n })
+of-size m n e = rw e

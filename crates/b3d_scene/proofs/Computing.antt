@@ -5,9 +5,9 @@ use Rattle.layout.specs.Out.{check}
 use Rattle.layout.specs.Parts.{text, words, judged, row, named, itemsIn, items}
 use Rattle.layout.specs.Chunks.{keep, splitIn, split, ended}
 use Rattle.layout.specs.Write.{writeChunks}
-use Rattle.layout.specs.Rows.{eachOf, nameCells}
+use Rattle.layout.specs.Rows.{eachOf, nameCells, joined}
 use Rattle.b3d_scene.specs.Tags.{tagOf}
-use Rattle.b3d_scene.specs.Rules.{vertexWords, keyWords, rowLimit}
+use Rattle.b3d_scene.specs.Rules.{vertexWords, keyWords}
 use Rattle.b3d_scene.specs.Nesting.{next, onward, order, inside}
 use Rattle.b3d_scene.specs.Parse.{readOne, readTexture, readTextures, readBrush, readBrushes, readVertices, readTriangles, readSets, readMesh, readBone, readKeys, filled, readAnim, aMesh, aBone, readKind, withKeys, readMoves, readNodes, readBelow, readNode, readRoot, slotsOf, readBody, parse}
 use Rattle.b3d_scene.specs.Encode.{writeVertices, writeTriangles, writeMesh, writeKeys, writeNode, nodeChunks, writeScene, encode}
@@ -18,5 +18,5 @@ use Rattle.b3d_scene.specs.Tables.{width, start, meshesOf, weightsOf, te
 use Rattle.b3d_scene.specs.Answers.{judge, read, answer, tableAfter, readAnswer, readTable, roomFor, copy, clear, written, outputAfter, clearAnswer, clearOutput}
 
 unfoldable pub computing : Unit {0}
-unfolding if word over check text words judged row named itemsIn items keep splitIn split ended writeChunks tagOf vertexWords keyWords next onward order inside readOne readTexture readTextures readBrush readBrushes readVertices readTriangles readSets readMesh readBone readKeys filled readAnim aMesh aBone readKind withKeys readMoves readNodes readBelow readNode readRoot slotsOf readBody parse writeVertices writeTriangles writeMesh writeKeys writeNode nodeChunks writeScene encode rename bare cleared mask spread vertexHas vertexMask keyHas keyMask width start meshesOf weightsOf nameCells textureRow brushRow kindCells animCells nodeRow meshRow vertexRows setRows triangleRows listRows keyRows meshRows ownRows withMeshes withNode withForest nodesIn forestRows rows tables.words table nodeTables tables.tables counts eachOf judge read answer tableAfter readAnswer readTable roomFor copy clear written outputAfter clearAnswer clearOutput
+unfolding if word over check text words judged row named itemsIn items keep splitIn split ended writeChunks tagOf vertexWords keyWords next onward order inside readOne readTexture readTextures readBrush readBrushes readVertices readTriangles readSets readMesh readBone readKeys filled readAnim aMesh aBone readKind withKeys readMoves readNodes readBelow readNode readRoot slotsOf readBody parse writeVertices writeTriangles writeMesh writeKeys writeNode nodeChunks writeScene encode rename bare cleared mask spread vertexHas vertexMask keyHas keyMask width start meshesOf weightsOf nameCells textureRow brushRow kindCells animCells nodeRow meshRow vertexRows setRows triangleRows listRows keyRows meshRows ownRows withMeshes withNode withForest nodesIn forestRows rows joined table nodeTables tables.tables counts eachOf judge read answer tableAfter readAnswer readTable roomFor copy clear written outputAfter clearAnswer clearOutput
 computing = tt

@@ -58,7 +58,7 @@ kind = part MESH (ws (0 ∷ []) ++ part VRTS (ws (1 ∷ 1 ∷ 2 ∷ 1 ∷ 2 ∷ 
 abbrev keys : List ℕ
 keys = part KEYS (ws (4 ∷ 5 ∷ 1 ∷ 2 ∷ 3 ∷ 4 ∷ []))
 
-abbrev anim : List ℕ
+abbrev pub anim : List ℕ
 anim = part ANIM (ws (9 ∷ 10 ∷ 11 ∷ []))
 
 -- a bone with one weight; a bone without, and in it a mesh without vertices and a KEYS without keys
@@ -174,7 +174,7 @@ abbrev one : List ℕ
 one = aMesh (zeros 3) []
 
 -- so many nodes one in the other, and this in the last
-deep : ℕ → List ℕ → List ℕ
+unfoldable pub deep : ℕ → List ℕ → List ℕ
 deep zero b = b
 deep (suc n) b = aNode [] (deep n b)
 
@@ -221,15 +221,15 @@ refused = refl
 -- ---- bones
 
 -- a mesh of so many vertices
-abbrev meshOf : ℕ → List ℕ
+abbrev pub meshOf : ℕ → List ℕ
 meshOf n = aMesh (zeros (3 * n)) []
 
 -- a node with a bone that names this vertex
-abbrev aBone : ℕ → List ℕ
+abbrev pub aBone : ℕ → List ℕ
 aBone id = aNode [] (part BONE (ws (id ∷ 0 ∷ [])))
 
 -- a room with a mesh of one vertex and an ANIM; in it a door with a mesh of two, these chunks, and what is below it; and what is beside it
-abbrev room : List ℕ → List ℕ → List ℕ → List ℕ
+abbrev pub room : List ℕ → List ℕ → List ℕ → List ℕ
 room moves below beside = file (aNode [] (meshOf 1 ++ anim ++ aNode [] (meshOf 2 ++ moves ++ below) ++ beside))
 
 -- a root with this mesh and without an ANIM, and what is below it

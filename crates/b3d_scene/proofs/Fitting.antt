@@ -1,8 +1,9 @@
 -- The test of specs/Fit says what the statements of specs/Fitting say.
-use Prim.Native.Nat.{ℕ, zero, suc}
+use Prim.Native.Nat.{ℕ, zero, suc, _≤_}
 use mathlib.Core.Option.{Option, none}
 use mathlib.Core.List.{List, [], _∷_}
 use lib.ListN.{length}
+use lib.Dec.{leb→le}
 use Rattle.layout.proofs.Fitting.{row-is, rows-is, text-is}
 use Rattle.b3d_scene.specs.declared.Mode.the-variants.{Lenient}
 use Rattle.b3d_scene.specs.Fit.{textureFits, brushFits, trianglesFit, meshFits, keysFit, kindFits, animFits, dataFits, nodesFit, oneRoot, slotsFit, fits}
@@ -10,6 +11,7 @@ pub use Rattle.b3d_scene.specs.Fitting.{FitTexture, FitBrush, FitTriangl
 use Rattle.b3d_scene.specs.Rules.{textureRow, brushRow, brushIds, nodeRow, vertexRow, triangleRow, weightRow, keyRow, animRow, boneVertices, bonesBelow, levels, fileHead, brushesHead, meshHead, verticesHead, trianglesHead, keysHead}
 use Rattle.b3d_scene.specs.Scene.{Texture, Brush, TriangleSet, Mesh, Kind, pivot, mesh, bone, Keys, Anim, still, anim, Data, Forest, leaf, node, Scene}
 use Rattle.layout.proofs.Testing.{Tests, both, via, yes-is, no-is, eq-is, lt-is, all-is}
+use native.Mathlib.Omega.{arith}
 
 texture-is : (x : Texture) → Tests (textureFits x) (FitTexture x)
 texture-is x = both (text-is (x .name .bytes)) (row-is textureRow (x .words))
@@ -76,3 +78,11 @@ fits-is t =
     (both (row-is fileHead (t .version ∷ [])) (both (all-is texture-is (t .textures))
     (both (slots-is (t .slots) (t .brushes)) (both (all-is (brush-is (t .slots) (length (t .textures))) (t .brushes))
     (both (nodes-is levels (length (t .brushes)) none (t .nodes)) (root-is (t .nodes)))))))
+
+pub slots-few : (s : ℕ) (bs : List Brush) → FitSlots s bs → s ≤ 8
+slots-few s [] h = omega arith
+slots-few s (b ∷ bs) h = leb→le _ _ (h .1)
+
+pub no-nodes : (l b : ℕ) (above : Option ℕ) → FitNodes l b above leaf
+no-nodes zero b above = tt
+no-nodes (suc l) b above = tt

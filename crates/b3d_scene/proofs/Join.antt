@@ -28,7 +28,7 @@ use Rattle.b3d_scene.proofs.Files.NameLaws.{copy-back}
 use Rattle.b3d_scene.proofs.Files.PlaceLaws.{NodeNames, NamesIn, parse-names}
 use Rattle.b3d_scene.proofs.Modes.{mode-got, mode-yes, passes-rows, passes-bare}
 use Rattle.b3d_scene.proofs.Rows.RebuildLaws.{Holds, rebuild-back, rebuild-fine, held-rows}
-use Rattle.b3d_scene.proofs.Rows.Rename.{bare-rows, cleared-rows, bare-same, lentOf, same-cells}
+use Rattle.b3d_scene.proofs.Rows.Rename.{bare-rows, cleared-rows, bare-same, lentOf, same-cells, own-version, own-slots}
 use Rattle.b3d_scene.proofs.Rows.RowParts.{Stands}
 
 -- ---- reader: a file's tables and its own bytes give its scene back
@@ -55,14 +55,6 @@ unfolding lentOf
 own-holds t f small =
     all-zip (λ k. length (rows k t) ≤ rowLimit) (λ k. length (table k t) ≡ width k * length (rows k t)) (Holds (lentOf t) t)
     (λ k n l. record { many = refl; few = n; room = omega (arith, l); cells = take-all (width k * length (rows k t)) (table k t) (omega (arith, l)) }) tables small (table-length t f)
-
-own-version : (t : Scene) → (lentOf t) .version ≡ t .version
-unfolding lentOf
-own-version t = refl
-
-own-slots : (t : Scene) → (lentOf t) .slots ≡ t .slots
-unfolding lentOf
-own-slots t = refl
 
 pub bare-version : (t u : Scene) → bare t ≡ bare u → t .version ≡ u .version
 unfolding bare rename

@@ -49,6 +49,10 @@ pub record Reached : Type 0 where
   pub turn : ℕ
   pub spent : Bool
 
+-- by the turn of the last chunk, and whether one stood there that may not stand again
+abbrev pub reachedAt : ℕ → Bool → Reached
+reachedAt turn spent = record { turn = turn; spent = spent }
+
 abbrev pub start : Reached
 start = record { turn = 0; spent = false }
 

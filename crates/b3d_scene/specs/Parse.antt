@@ -8,7 +8,7 @@ use lib.Dec.{eqb}
 use Rattle.wire.specs.Test.{if}
 use Rattle.layout.specs.Chunks.{done, stop, chunk, ended}
 use Rattle.layout.specs.Out.{Out, got, bad, check, _>>=_}
-use Rattle.layout.specs.Parts.{Step, row, number, named, items}
+use Rattle.layout.specs.Parts.{Name, Step, row, number, named, items}
 use Rattle.layout.specs.Rows.{sizeFits}
 use Rattle.b3d_scene.specs.Nesting.{inside}
 use Rattle.b3d_scene.specs.Rules.{textureRow, brushRow, brushIds, nodeRow, vertexRow, triangleRow, weightRow, keyRow, animRow, boneVertices, bonesBelow, levels, header, fileHead, brushesHead, meshHead, verticesHead, trianglesHead, keysHead}
@@ -30,10 +30,17 @@ readOne {A} k a one (chunk t p b r) =
 
 -- ---- textures and brushes
 
+-- a texture and a brush of their name and words
+abbrev pub textureOf : Name × List ℕ → Texture
+textureOf x = record { name = x .0; words = x .1 }
+
+abbrev pub brushOf : Name × List ℕ → Brush
+brushOf x = record { name = x .0; words = take 7 (x .1); ids = drop 7 (x .1) }
+
 unfoldable pub readTexture : ℕ → List ℕ → Out (Step Texture)
 readTexture p s = do
   x ← named textureRow p s
-  got (record { value = record { name = x .value .0; words = x .value .1 }; place = x .place; left = x .left })
+  got (record { value = textureOf (x .value); place = x .place; left = x .left })
 
 unfoldable pub readTextures : ℕ → List ℕ → Out (List Texture)
 readTextures p b = items readTexture (p + 8) b
@@ -41,7 +48,7 @@ readTextures p b = items readTexture (p + 8) b
 unfoldable pub readBrush : Mode → ℕ → ℕ → ℕ → List ℕ → Out (Step Brush)
 readBrush mode slots textures p s = do
   x ← named (brushRow mode ++ brushIds slots textures) p s
-  got (record { value = record { name = x .value .0; words = take 7 (x .value .1); ids = drop 7 (x .value .1) }; place = x .place; left = x .left })
+  got (record { value = brushOf (x .value); place = x .place; left = x .left })
 
 -- the slots of a brush, and the brushes
 unfoldable pub readBrushes : Mode → ℕ → ℕ → List ℕ → Out (ℕ × List Brush)

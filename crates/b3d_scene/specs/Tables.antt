@@ -6,7 +6,7 @@ use lib.Dec.{eqb}
 use Rattle.wire.specs.Test.{if}
 use Rattle.layout.specs.Parts.{Name}
 use Rattle.layout.specs.Rules.{NONE}
-use Rattle.layout.specs.Rows.{nameCells}
+use Rattle.layout.specs.Rows.{nameCells, joined}
 use Rattle.b3d_scene.specs.declared.Counts.{Counts}
 use Rattle.b3d_scene.specs.Mask.{spread, vertexMask, keyMask}
 use Rattle.b3d_scene.specs.Scene.{Texture, Brush, TriangleSet, Mesh, Kind, pivot, mesh, bone, Keys, Anim, still, anim, Data, Forest, leaf, node, Scene}
@@ -29,8 +29,12 @@ width k =
     (if (eqb k 9) 4
     (if (eqb k 10) 11 0)))))))))
 
+-- no row came before
+abbrev pub noRows : Counts
+noRows = record { nodes = 0; meshes = 0; vertices = 0; sets = 0; triangles = 0; weights = 0; lists = 0; keys = 0 }
+
 unfoldable pub start : Counts
-start = record { nodes = 0; meshes = 0; vertices = 0; sets = 0; triangles = 0; weights = 0; lists = 0; keys = 0 }
+start = noRows
 
 -- how many rows of table k came before
 unfoldable pub reached : ℕ → Counts → ℕ
@@ -176,13 +180,8 @@ rows k t =
     if (eqb k 1) (map textureRow (t .textures))
     (if (eqb k 2) (map brushRow (t .brushes)) (forestRows k (t .nodes) NONE start))
 
--- rows one after the other
-unfoldable pub words : List (List ℕ) → List ℕ
-words [] = []
-words (r ∷ rs) = r ++ words rs
-
 unfoldable pub table : ℕ → Scene → List ℕ
-table k t = words (rows k t)
+table k t = joined (rows k t)
 
 -- the tables of what nodes have, and with them that of the nodes
 abbrev pub partTables : List ℕ

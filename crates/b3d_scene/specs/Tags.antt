@@ -23,6 +23,19 @@ code BONE = 0x454E4F42
 code KEYS = 0x5359454B
 code ANIM = 0x4D494E41
 
+-- a tag by its number, the first 0
+abbrev pub tagNumber : Tag → ℕ
+tagNumber BB3D = 0
+tagNumber TEXS = 1
+tagNumber BRUS = 2
+tagNumber NODE = 3
+tagNumber MESH = 4
+tagNumber VRTS = 5
+tagNumber TRIS = 6
+tagNumber BONE = 7
+tagNumber KEYS = 8
+tagNumber ANIM = 9
+
 abbrev pub is : Tag → Tag → Bool
 is a b = eqb (code a) (code b)
 

@@ -1,6 +1,8 @@
 // The meaning of B3D files: what a file says (parse), what its tables hold (table), which file is written (encode), which tables a
 // file can have (rebuild), and what reader, writer and clearer answer. Definitions in specs/, their laws in proofs/; no function.
 
+pub mod letters;
+
 // The most rows of a table, as `Rules.rowLimit` has it: each function that cites this is held to that.
 pub const ROW_LIMIT: usize = 2097151;
 
@@ -40,7 +42,20 @@ pub struct Counts {
     pub keys: usize,
 }
 
+// No row came before.
+pub const START: Counts = Counts {
+    nodes: 0,
+    meshes: 0,
+    vertices: 0,
+    sets: 0,
+    triangles: 0,
+    weights: 0,
+    lists: 0,
+    keys: 0,
+};
+
 // What the reader answers: refusal number and place, or 0 and 0 with the version, the texture slots of a brush and the ten row counts.
+#[repr(C)]
 pub struct Answer {
     pub number: u32,
     pub place: u32,
@@ -50,6 +65,7 @@ pub struct Answer {
 }
 
 // What writer and clearer answer: refusal number and place, or 0 and 0 with the size written.
+#[repr(C)]
 pub struct Written {
     pub number: u32,
     pub place: u32,

@@ -1,18 +1,19 @@
 -- A law for each way through the functions that say what a row adds, and through the loop over rows.
-use mathlib.Core.Path.{_≡_, refl, ap, sym, _∙_}
-use Prim.Native.Nat.{ℕ, zero, suc, _+_, _-_, _*_, _<_, _≤_}
+use mathlib.Core.Path.{_≡_, refl, ap}
+use Prim.Native.Nat.{ℕ, zero, suc, _+_, _*_, _<_, _≤_}
 use native.Mathlib.Omega.{arith}
 use native.Mathlib.Nat.{mul-le-mul}
 use mathlib.Core.Bool.{Bool, true, false}
 use mathlib.Core.List.{List, [], _∷_}
 use lib.ListN.{length, take, drop, getD, drop-of-length-le}
-use lib.Seq.{getD-take, getD-drop, drop-drop}
+use lib.Seq.{drop-drop}
 use mir.Syntax.{w32, w64}
 use mir.Val.{Fits}
 use lib.Dec.{eqb}
 use borrow.Author.Tests.{eq-eqb, ne-eqb}
 use Rattle.wire.specs.Test.{if}
 use Rattle.layout.proofs.Lists.{All}
+use Rattle.layout.proofs.ListLaws.{cell-take}
 use Rattle.b3d_scene.specs.Rebuild.{cut}
 use Rattle.b3d_scene.proofs.Rows.RowLists.{cut-length}
 use Rattle.b3d_scene.specs.Rules.{vertexWords, keyWords, rowLimit}
@@ -21,7 +22,7 @@ use Rattle.b3d_size.specs.LentSize.{rowMost, tableMost, sum, nodeBytes, 
 
 -- ---- a row
 
--- many items of so many words, each below what a cell and a row can say; n is that cell as a size
+-- many items of so many words, each below what a cell-take and a row can say; n is that cell-take as a size
 module _ (n many words : ℕ) (e : n ≡ many) (h : Fits w32 many) (m : ℕ) (k : words ≤ m) (l : m ≤ 42) where
   product-low : n * (4 * words) ≤ 0x100000000 * 168
   product-low = let a : n ≤ 0x100000000 = omega (arith, h .fits) in let b : 4 * words ≤ 168 = omega arith in mul-le-mul a b
@@ -63,35 +64,31 @@ module _ (name n kind anim x y : ℕ) (en : n ≡ name) (h : Fits w32 name) (ex 
 
 pub ruleset node-laws = (bytes-yes, bytes-no, node-sum-low, node-sum-low-2, node-adds)
 
--- cell j of the row of w words at word `at`
-cell : (w at j : ℕ) (ws : List ℕ) → j < w → getD (take w (drop at ws)) j 0 ≡ getD ws (at + j) 0
-cell w at j ws h = getD-take w (drop at ws) j 0 h ∙ getD-drop at ws j 0
-
 module _ (at : ℕ) (ws : List ℕ) where
   pub node-cells : (r : ℕ) → Adds (getD ws (at + 1) 0 + 49 + if (eqb (getD ws (at + 13) 0) 2) 8 0 + if (eqb (getD ws (at + 16) 0) 1) 20 0) r → Adds (nodeBytes (take nodeWidth (drop at ws))) r
   unfolding nodeBytes
-  node-cells r a = rw (cell nodeWidth at 1 ws (omega arith), cell nodeWidth at 13 ws (omega arith), cell nodeWidth at 16 ws (omega arith)) a
+  node-cells r a = rw (cell-take nodeWidth at 1 ws (omega arith), cell-take nodeWidth at 13 ws (omega arith), cell-take nodeWidth at 16 ws (omega arith)) a
 
   pub mesh-cells : (r : ℕ) → Adds (32 + getD ws (at + 6) 0 * (4 * vertexWords (getD ws (at + 2) 0) (getD ws (at + 3) 0) (getD ws (at + 4) 0))) r → Adds (meshBytes (take 9 (drop at ws))) r
   unfolding meshBytes
-  mesh-cells r a = rw (cell 9 at 6 ws (omega arith), cell 9 at 2 ws (omega arith), cell 9 at 3 ws (omega arith), cell 9 at 4 ws (omega arith)) a
+  mesh-cells r a = rw (cell-take 9 at 6 ws (omega arith), cell-take 9 at 2 ws (omega arith), cell-take 9 at 3 ws (omega arith), cell-take 9 at 4 ws (omega arith)) a
 
   pub list-cells : (r : ℕ) → Adds (12 + getD ws (at + 3) 0 * (4 * keyWords (getD ws (at + 1) 0))) r → Adds (listBytes (take 4 (drop at ws))) r
   unfolding listBytes
-  list-cells r a = rw (cell 4 at 3 ws (omega arith), cell 4 at 1 ws (omega arith)) a
+  list-cells r a = rw (cell-take 4 at 3 ws (omega arith), cell-take 4 at 1 ws (omega arith)) a
 
   module _ (s : Sizable 4 (take 9 (drop at ws))) where
     pub size-flags : getD ws (at + 2) 0 ≤ 3
-    size-flags = rw (← cell 9 at 2 ws (omega arith)) (s .flags refl)
+    size-flags = rw (← cell-take 9 at 2 ws (omega arith)) (s .flags refl)
 
     pub size-sets : getD ws (at + 3) 0 ≤ 8
-    size-sets = rw (← cell 9 at 3 ws (omega arith)) (s .sets refl)
+    size-sets = rw (← cell-take 9 at 3 ws (omega arith)) (s .sets refl)
 
     pub size-size : getD ws (at + 4) 0 ≤ 4
-    size-size = rw (← cell 9 at 4 ws (omega arith)) (s .size refl)
+    size-size = rw (← cell-take 9 at 4 ws (omega arith)) (s .size refl)
 
   pub size-keys : Sizable 9 (take 4 (drop at ws)) → getD ws (at + 1) 0 ≤ 7
-  size-keys s = rw (← cell 4 at 1 ws (omega arith)) (s .keys refl)
+  size-keys s = rw (← cell-take 4 at 1 ws (omega arith)) (s .keys refl)
 
 pub ruleset cell-laws = (node-cells, mesh-cells, list-cells, size-flags, size-sets, size-size, size-keys)
 
@@ -127,7 +124,7 @@ module _ (at : ℕ) (ws : List ℕ) (k w more : ℕ) (v : Wide k w) where
 
   pub row-named : (k ≡ 3 → ⊥) → (k ≡ 4 → ⊥) → (k ≡ 9 → ⊥) → 2 ≤ w → (r : ℕ) → Adds (getD ws (at + 1) 0 + more) r → Adds (rowBytes k more (take w (drop at ws))) r
   unfolding rowBytes namedBytes if
-  row-named a b c h r x = rw (ne-eqb k 3 a, ne-eqb k 4 b, ne-eqb k 9 c, cell w at 1 ws (omega arith)) x
+  row-named a b c h r x = rw (ne-eqb k 3 a, ne-eqb k 4 b, ne-eqb k 9 c, cell-take w at 1 ws (omega arith)) x
 
 pub ruleset row-laws = (inside-node, inside-mesh, inside-list, sizable-mesh, sizable-list, row-node, row-mesh, row-list, row-named)
 

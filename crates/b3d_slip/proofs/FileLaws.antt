@@ -1,35 +1,30 @@
 -- What holds of the slip of a file: `carries` has it all.
-use mathlib.Core.Path.{_≡_, refl, ap, sym, subst, _∙_}
-use Prim.Native.Nat.{ℕ, _≤_}
+use mathlib.Core.Path.{_≡_, refl, sym, _∙_}
+use Prim.Native.Nat.{ℕ}
 use native.Mathlib.Omega.{arith}
 use mathlib.Core.List.{List, [], _∷_}
 use lib.ListN.{length, replicate}
 use lib.Dec.{leb, leb→le}
 use Rattle.wire.specs.Bytes.{AllBytes}
-use Rattle.layout.specs.Out.{Out, got, bad, check, _>>=_}
-use Rattle.layout.proofs.Outs.{by-check, bad-got, got-inj}
+use Rattle.layout.specs.Out.{Out, got, bad}
+use Rattle.layout.proofs.Outs.{by-check}
 use Rattle.groups.specs.Groups.{AtMost, writeNumbers}
 use Rattle.b3d_scene.specs.declared.Mode.{Mode}
 use Rattle.b3d_scene.specs.declared.Mode.the-variants.{Lenient}
 use Rattle.b3d_scene.specs.Answers.{judge, read, answer, readAnswer, roomFor}
 use Rattle.b3d_scene.specs.Rules.{rowLimit}
-use Rattle.b3d_scene.specs.Scene.{Brush, Scene}
+use Rattle.b3d_scene.specs.Scene.{Scene}
 use Rattle.b3d_scene.specs.Tables.{nodeTables, tables, counts}
 use Rattle.b3d_scene.proofs.AnswerLaws.{Small, judge-got, judge-lenient, read-got}
 use Rattle.b3d_scene.proofs.Files.FileLaws.{parse-fine}
-use Rattle.b3d_scene.specs.Fitting.{FitSlots}
 use Rattle.b3d_scene.proofs.Refusals.{read-number}
+use Rattle.b3d_scene.proofs.Fitting.{slots-few}
 use Rattle.slip.specs.Slips.{limits, slipFor, readSlip, limitsWithin}
-use Rattle.slip.specs.OneSlip.{OneSlip}
 use Rattle.slip.proofs.SlipLaws.{written, one-slip}
 use Rattle.b3d_slip.specs.FileSlips.{sceneNumbers, fileSlip}
 use Rattle.b3d_slip.specs.Carries.{Carries}
 
 -- ---- an accepted file's numbers are in their ranges
-
-slots-low : (n : ℕ) (l : List Brush) → FitSlots n l → n ≤ 8
-slots-low n [] h = omega arith
-slots-low n (b ∷ l) h = leb→le n 8 (h .1)
 
 counts-low : (t : Scene) → Small t → AtMost (replicate 10 rowLimit) (counts t)
 unfolding counts tables nodeTables
@@ -45,7 +40,7 @@ module _ (s : List ℕ) (all : AllBytes s) where
   in-range t e =
       let j = judge-got Lenient s t e in
       let f = parse-fine s t all (j .0) .0 in
-      (leb→le (t .version) 99 (f .version .1), (slots-low (t .slots) (t .brushes) (f .slots), counts-low t (j .1)))
+      (leb→le (t .version) 99 (f .version .1), (slots-few (t .slots) (t .brushes) (f .slots), counts-low t (j .1)))
 
   the-slip : (t : Scene) (e : judge Lenient s ≡ got t) → slipFor (sceneNumbers t) ≡ got (writeNumbers (sceneNumbers t) [])
   the-slip t e = written rowLimit (sceneNumbers t) (in-range t e)

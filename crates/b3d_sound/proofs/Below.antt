@@ -20,7 +20,7 @@ use Rattle.b3d_scene.proofs.Rows.Nodes.{nodes-step, From, data-back}
 use Rattle.b3d_scene.proofs.Rows.RowParts.{Stands, Others, mine-back, below-cell}
 use Rattle.b3d_scene.proofs.Rows.Trees.{nodes-rise, from-after}
 pub use Rattle.b3d_sound.specs.Below.{Above, Later, Here}
-use Rattle.b3d_sound.specs.CellCounts.{cellCounts}
+use Rattle.b3d_sound.specs.CellCounts.{cellCounts, endOf}
 use Rattle.b3d_sound.proofs.Check.Nodes.{NodeIs}
 use Rattle.b3d_sound.proofs.Check.Counts.{cell-counts}
 use Rattle.b3d_sound.proofs.Check.Walk.{at-start, next-from}
@@ -182,3 +182,10 @@ here-end R p n S le h = ended p (drop (n .nodes) (R 3)) le (subst (Above p) (sym
     ended : (i : ℕ) (l : List (List ℕ)) → i < NONE → Above i l → (l ≡ []) ⊎ (getD (getD l 0 []) 2 0 ≢ i)
     ended i [] b a = inl refl
     ended i (x ∷ l) b a = elim a [ inl u ↦ inr (omega arith) | inr u ↦ inr (omega arith) ]
+
+-- ---- the end of lists
+
+pub end-rises : (r : ℕ) (xs : List (List ℕ)) → r ≤ endOf r xs
+unfolding endOf
+end-rises r [] = omega arith
+end-rises r (x ∷ xs) = omega (arith, end-rises (r + getD x 3 0) xs)

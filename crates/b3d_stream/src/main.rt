@@ -15,15 +15,11 @@ fn print(before: &[u8], n: u32) {
 
 fn print_counts(c: [u32; 10]) {
     print(b"", c[0]);
-    print(b" ", c[1]);
-    print(b" ", c[2]);
-    print(b" ", c[3]);
-    print(b" ", c[4]);
-    print(b" ", c[5]);
-    print(b" ", c[6]);
-    print(b" ", c[7]);
-    print(b" ", c[8]);
-    print(b" ", c[9]);
+    let mut i: usize = 1;
+    while i < 10 {
+        print(b" ", c[i]);
+        i += 1;
+    }
     io::write_all(1, b"\n");
 }
 

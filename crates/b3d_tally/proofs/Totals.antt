@@ -17,7 +17,7 @@ use Rattle.b3d_scene.specs.Answers.{copy}
 use Rattle.b3d_scene.proofs.Fitting.{Fit}
 use Rattle.b3d_scene.proofs.Files.NameLaws.{cleared-fits}
 use Rattle.b3d_scene.proofs.Files.SizeLaws.{encode-size}
-use Rattle.b3d_scene.proofs.Rows.CountLaws.{rises}
+use Rattle.b3d_scene.proofs.Rows.CountLaws.{rises, same-counts}
 use Rattle.b3d_tally.specs.Tally.{noTally, bytesTally, texsOf, brusOf, headTally, verticesTally, trianglesTally, weightsTally, keysTally, plus, listTally, listsTally, animTally, boneTally, setTally, setsTally, meshTally, kindTally, dataTally, forestTally, texsTally, brusTally, sceneTally, tallyOf}
 use Rattle.b3d_tally.specs.declared.Tally.{Tally}
 use Rattle.b3d_tally.proofs.Tallies.{same-tally}
@@ -36,9 +36,6 @@ with t n = record {
   lists = n .lists + t .lists;
   keys = n .keys + t .keys;
 }
-
-same-counts : (a b : Counts) → a .nodes ≡ b .nodes → a .meshes ≡ b .meshes → a .vertices ≡ b .vertices → a .sets ≡ b .sets → a .triangles ≡ b .triangles → a .weights ≡ b .weights → a .lists ≡ b .lists → a .keys ≡ b .keys → a ≡ b
-same-counts a b enodes emeshes evertices esets etriangles eweights elists ekeys = λ i. record { nodes = enodes i; meshes = emeshes i; vertices = evertices i; sets = esets i; triangles = etriangles i; weights = eweights i; lists = elists i; keys = ekeys i }
 
 with-plus : (a b : Tally) (n : Counts) → with b (with a n) ≡ with (plus a b) n
 unfolding plus

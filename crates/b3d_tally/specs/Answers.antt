@@ -3,6 +3,7 @@ use mathlib.Core.Path.{_≡_}
 use Prim.Native.Nat.{ℕ, _≤_, _-_}
 use Rattle.wire.specs.declared.Cursor.{Cursor}
 use Rattle.layout.specs.Out.{Out, got, bad}
+use Rattle.b3d_scene.specs.Tags.{Chunks, Found}
 use Rattle.b3d_tally.specs.Tally.{plus, Within}
 use Rattle.b3d_tally.specs.declared.Tally.{Tally}
 use Rattle.b3d_tally.specs.declared.Judged.{Judged}
@@ -26,6 +27,11 @@ pub record Judges {A : Type 0} (tally : A → Tally) (o : Out A) (from to : ℕ)
 abbrev pub judgedFrom : {A : Type 0} → Tally → (A → Tally) → Out A → Judged
 judgedFrom m tally (got a) = judge.Good (plus m (tally a))
 judgedFrom m tally (bad n p) = judge.Bad n p
+
+-- a part of what was read beside its tally, and the chunks that are left
+abbrev pub beside : {A B : Type 0} → (A → B) → (A → Tally) → Out (Found A) → Out (B × Tally × Chunks)
+beside part tally (got x) = got (part (x .value), tally (x .value), x .rest)
+beside part tally (bad n p) = bad n p
 
 -- a cursor c further on than from, with a tally of no more bytes than lie between
 pub record Onward (from c : Cursor) (t : Tally) : Type 0 where

@@ -10,7 +10,7 @@ use lib.ListN.{getD}
 use borrow.Author.Tests.{lt-ltb, le-ltb, eq-eqb, ne-eqb}
 use Rattle.wire.specs.Test.{if}
 use Rattle.b3d_scene.specs.declared.Tag.{Tag}
-use Rattle.b3d_scene.specs.Tags.{is}
+use Rattle.b3d_scene.specs.Tags.{is, tagNumber}
 use Rattle.b3d_scene.specs.Nesting.{entry, nesting, owed, next, needed, repeats, may, after}
 use Rattle.b3d_scene.specs.Nesting as nest
 use Rattle.b3d_scene.proofs.Files.TagCodes.{by-tag}
@@ -18,8 +18,8 @@ use Rattle.b3d_nesting.specs.declared.Entry.{Entry}
 use Rattle.b3d_turns.specs.declared.Reached.{Reached}
 use Rattle.b3d_turns.specs.declared.Permit.{Permit}
 use Rattle.b3d_turns.specs.declared.Permit.the-variants as permit
-use Rattle.b3d_nesting.specs.Table.{tags, denied, entryIn, entryFor, nestingTable, entryAt}
-use Rattle.b3d_turns.specs.Turns.{indexOf, between, reachedOf, permitOf}
+use Rattle.b3d_nesting.specs.Table.{tags, denied, decoded, entryIn, entryFor, nestingTable, entryAt}
+use Rattle.b3d_turns.specs.Turns.{between, reachedOf, permitOf}
 use Rattle.b3d_turns.specs.ByTable.{standsBy, afterBy, entryOf}
 
 -- ---- an entry that must stand, between two turns
@@ -38,12 +38,12 @@ pub ruleset between-laws = (between-late, between-early, between-free)
 
 -- ---- the entry of two tags
 
-column : {A : Type 0} (f : Tag → A) (d : A) (t : Tag) → getD (map f tags) (indexOf t) d ≡ f t
-column f d t = by-tag (λ t. getD (map f tags) (indexOf t) d ≡ f t) (refl, refl, refl, refl, refl, refl, refl, refl, refl, refl) t
+column : {A : Type 0} (f : Tag → A) (d : A) (t : Tag) → getD (map f tags) (tagNumber t) d ≡ f t
+column f d t = by-tag (λ t. getD (map f tags) (tagNumber t) d ≡ f t) (refl, refl, refl, refl, refl, refl, refl, refl, refl, refl) t
 
 pub entry-is : (k t : Tag) → entryOf k t ≡ entryFor k t
 unfolding entryAt nestingTable
-entry-is k t = ap (λ (l : List Entry). getD l (indexOf t) denied) (column (λ k. map (λ t. entryFor k t) tags) [] k) ∙ column (λ t. entryFor k t) denied t
+entry-is k t = ap (λ (l : List Entry). getD l (tagNumber t) denied) (column (λ k. map (λ t. entryFor k t) tags) [] k) ∙ column (λ t. entryFor k t) denied t
 
 -- ---- the rule by an entry
 
@@ -66,12 +66,12 @@ next-by all (entry k turn often ∷ l) r t = go (is t k) (next-by all l r t)
 
 -- ---- the ways of `may_stand`
 
-module _ (k t : Tag) (e : Entry) (here : e ≡ entryOf k t) (r : Reached) where
+module _ (k t : Tag) (code : ℕ) (here : decoded code ≡ entryOf k t) (e : Entry) (read : e ≡ decoded code) (r : Reached) where
   abbrev Right : Permit → Type 0
   Right x = x ≡ permitOf (next (nesting k) (nesting k) (reachedOf r) t)
 
   right-by-entry : (x : Permit) → x ≡ permitOf (nextBy (nesting k) (reachedOf r) e) → Right x
-  right-by-entry x h = h ∙ ap (λ (y : Entry). permitOf (nextBy (nesting k) (reachedOf r) y)) (here ∙ entry-is k t) ∙ ap permitOf (sym (next-by (nesting k) (nesting k) (reachedOf r) t))
+  right-by-entry x h = h ∙ ap (λ (y : Entry). permitOf (nextBy (nesting k) (reachedOf r) y)) (read ∙ here ∙ entry-is k t) ∙ ap permitOf (sym (next-by (nesting k) (nesting k) (reachedOf r) t))
 
   pub stand-never : e .allowed ≡ false → Right permit.No
   unfolding if

@@ -1,107 +1,97 @@
--- A row of the table, an entry in it, and what is owed there.
-use mathlib.Core.Path.{_≡_, refl, ap, ap₂, sym, _∙_}
-use Prim.Native.Nat.{ℕ, _+_, _<_, _≤_}
+-- A row of the table, the number of an entry in it, and what is owed there.
+use mathlib.Core.Path.{_≡_, refl, ap, sym, _∙_}
+use Prim.Native.Nat.{ℕ, zero, suc, _+_, _<_, _≤_}
 use native.Mathlib.Numerals.{add-one}
 use native.Mathlib.Omega.{arith}
 use mathlib.Core.Bool.{Bool, true, false, _||_}
-use mathlib.Core.List.{List}
-use lib.ListN.{length, drop, getD, drop-of-length-le}
+use mathlib.Core.List.{List, [], _∷_}
+use lib.ListN.{length, drop, getD, drop-of-length-le, length-map}
 use lib.Seq.{drop-cons}
 use Rattle.wire.specs.Test.{if}
 use Rattle.b3d_scene.specs.declared.Tag.{Tag}
-use Rattle.b3d_scene.specs.declared.Tag.the-variants.{BB3D, TEXS, BRUS, NODE, MESH, VRTS, TRIS, BONE, KEYS, ANIM}
 use Rattle.b3d_scene.specs.Nesting.{nesting, owed}
 use Rattle.b3d_scene.proofs.Files.TagCodes.{by-tag}
 use Rattle.b3d_nesting.specs.declared.Entry.{Entry}
-use Rattle.b3d_nesting.specs.Table.{denied, entryIn, nestingTable}
-use Rattle.b3d_turns.specs.Turns.{indexOf, between}
-use Rattle.b3d_turns.specs.ByTable.{rowAt, owedIn}
+use Rattle.b3d_nesting.specs.Table.{denied, decoded, entriesOf, tableOf, entryIn, nestingTable, entryAt}
+use Rattle.b3d_scene.specs.Tags.{tagNumber}
+use Rattle.b3d_turns.specs.Turns.{between}
+use Rattle.b3d_turns.specs.ByTable.{rowAt, owedIn, entryOf}
 
--- ---- the ways of `row_of` and `entry_of`: what stands at a tag's place
+-- ---- what stands at a tag's place
 
-module _ {A : Type 0} (d : A) (xs ys : List A) (is : xs ≡ ys) (k : Tag) where
-  abbrev Picked : Tag → Type 0
-  Picked t = k ≡ t → getD xs (indexOf t) d ≡ getD ys (indexOf k) d
+-- the number in a row of the table stands for the entry there, and a row of numbers for the row
+code-at : (row : List ℕ) (j : ℕ) → decoded (getD row j 0) ≡ getD (entriesOf row) j denied
+unfolding entriesOf
+code-at [] j = refl
+code-at (n ∷ row) zero = refl
+code-at (n ∷ row) (suc j) = code-at row j
 
-  picked : (t : Tag) → Picked t
-  picked t e = ap₂ (λ (x : List A) (j : ℕ). getD x j d) is (ap indexOf (sym e))
+codes-at : (rows : List (List ℕ)) (j : ℕ) → entriesOf (getD rows j []) ≡ getD (tableOf rows) j []
+unfolding entriesOf tableOf
+codes-at [] j = refl
+codes-at (row ∷ rows) zero = refl
+codes-at (row ∷ rows) (suc j) = codes-at rows j
 
-  pub picked-bb3d : Picked BB3D
-  picked-bb3d = picked BB3D
+pub row-picked : (t k : Tag) (rows : List (List ℕ)) → tableOf rows ≡ nestingTable → k ≡ t → entriesOf (getD rows (tagNumber t) []) ≡ rowAt (tagNumber k)
+row-picked t k rows is e = rw e (codes-at rows (tagNumber t) ∙ ap (λ (x : List (List Entry)). getD x (tagNumber t) []) is)
 
-  pub picked-texs : Picked TEXS
-  picked-texs = picked TEXS
-
-  pub picked-brus : Picked BRUS
-  picked-brus = picked BRUS
-
-  pub picked-node : Picked NODE
-  picked-node = picked NODE
-
-  pub picked-mesh : Picked MESH
-  picked-mesh = picked MESH
-
-  pub picked-vrts : Picked VRTS
-  picked-vrts = picked VRTS
-
-  pub picked-tris : Picked TRIS
-  picked-tris = picked TRIS
-
-  pub picked-bone : Picked BONE
-  picked-bone = picked BONE
-
-  pub picked-keys : Picked KEYS
-  picked-keys = picked KEYS
-
-  pub picked-anim : Picked ANIM
-  picked-anim = picked ANIM
-
-pub ruleset picks = (picked-bb3d, picked-texs, picked-brus, picked-node, picked-mesh, picked-vrts, picked-tris, picked-bone, picked-keys, picked-anim)
+pub code-picked : (t k u : Tag) (row : List ℕ) → entriesOf row ≡ rowAt (tagNumber u) → k ≡ t → decoded (getD row (tagNumber t) 0) ≡ entryOf u k
+unfolding entryAt
+code-picked t k u row is e = rw e (code-at row (tagNumber t) ∙ ap (λ (x : List Entry). getD x (tagNumber t) denied) is)
 
 -- ---- what is owed
 
 -- the rule's list for a tag owes what its row does
-pub row-owed : (k : Tag) (lo hi : ℕ) → owedIn (rowAt (indexOf k)) lo hi ≡ owed (nesting k) lo hi
+pub row-owed : (k : Tag) (lo hi : ℕ) → owedIn (rowAt (tagNumber k)) lo hi ≡ owed (nesting k) lo hi
 unfolding nestingTable entryIn if
-row-owed k lo hi = by-tag (λ k. owedIn (rowAt (indexOf k)) lo hi ≡ owed (nesting k) lo hi) (refl, refl, refl, refl, refl, refl, refl, refl, refl, refl) k
+row-owed k lo hi = by-tag (λ k. owedIn (rowAt (tagNumber k)) lo hi ≡ owed (nesting k) lo hi) (refl, refl, refl, refl, refl, refl, refl, refl, refl, refl) k
 
-row-long : (k : Tag) → length (rowAt (indexOf k)) ≡ 10
+row-long : (k : Tag) → length (rowAt (tagNumber k)) ≡ 10
 unfolding nestingTable entryIn if
-row-long = by-tag (λ k. length (rowAt (indexOf k)) ≡ 10) (refl, refl, refl, refl, refl, refl, refl, refl, refl, refl)
+row-long = by-tag (λ k. length (rowAt (tagNumber k)) ≡ 10) (refl, refl, refl, refl, refl, refl, refl, refl, refl, refl)
 
--- nothing before this column of the row is owed
-pub record Looking (row : List Entry) (lo hi column : ℕ) : Type 0 where
+row-length : (row : List ℕ) → length (entriesOf row) ≡ length row
+unfolding entriesOf
+row-length row = length-map row decoded
+
+-- nothing before this column of a row of numbers is owed
+pub record Looking (row : List ℕ) (lo hi column : ℕ) : Type 0 where
   pub small : column ≤ 10
   pub long : length row ≡ 10
-  pub same : owedIn (drop column row) lo hi ≡ owedIn row lo hi
+  pub same : owedIn (entriesOf (drop column row)) lo hi ≡ owedIn (entriesOf row) lo hi
 
-module _ (k : Tag) (row : List Entry) (is : row ≡ rowAt (indexOf k)) (lo hi : ℕ) where
+module _ (k : Tag) (row : List ℕ) (is : entriesOf row ≡ rowAt (tagNumber k)) (lo hi : ℕ) where
   pub looking-start : Looking row lo hi 0
-  looking-start = record { small = omega arith; long = ap length is ∙ row-long k; same = refl }
+  looking-start = record { small = omega arith; long = sym (row-length row) ∙ ap length is ∙ row-long k; same = refl }
 
-  by-rule : owedIn row lo hi ≡ owed (nesting k) lo hi
+  by-rule : owedIn (entriesOf row) lo hi ≡ owed (nesting k) lo hi
   by-rule = ap (λ (l : List Entry). owedIn l lo hi) is ∙ row-owed k lo hi
 
   module _ (column : ℕ) (v : Looking row lo hi column) where
-    pub looking-done : 10 ≤ column → false ≡ owed (nesting k) lo hi
-    looking-done d = sym (ap (λ (l : List Entry). owedIn l lo hi) (drop-of-length-le row {i = column} (omega (arith, v .long)))) ∙ v .same ∙ by-rule
+    abbrev from : List ℕ → Bool
+    from l = owedIn (entriesOf l) lo hi
 
-    module _ (l : column < 10) (b : Bool) (t : b ≡ between (getD row column denied) lo hi) where
-      step : b || owedIn (drop (column + 1) row) lo hi ≡ owedIn row lo hi
+    pub looking-done : 10 ≤ column → false ≡ owed (nesting k) lo hi
+    unfolding entriesOf
+    looking-done d = sym (ap from (drop-of-length-le row {i = column} (omega (arith, v .long)))) ∙ v .same ∙ by-rule
+
+    module _ (l : column < 10) (e : Entry) (d : e ≡ decoded (getD row column 0)) (b : Bool) (t : b ≡ between e lo hi) where
+      step : b || from (drop (column + 1) row) ≡ from row
+      unfolding entriesOf
       step =
           let n : column < length row = omega (arith, v .long) in
-          ap (λ (z : Bool). z || owedIn (drop (column + 1) row) lo hi) t
-          ∙ ap (λ (j : ℕ). between (getD row column denied) lo hi || owedIn (drop j row) lo hi) (add-one column)
-          ∙ sym (ap (λ (x : List Entry). owedIn x lo hi) (drop-cons row column denied n)) ∙ v .same
+          ap (λ (z : Bool). z || from (drop (column + 1) row)) (t ∙ ap (λ (x : Entry). between x lo hi) d)
+          ∙ ap (λ (j : ℕ). between (decoded (getD row column 0)) lo hi || from (drop j row)) (add-one column)
+          ∙ sym (ap from (drop-cons row column 0 n)) ∙ v .same
 
       pub looking-found : b ≡ true → true ≡ owed (nesting k) lo hi
-      looking-found y = ap (λ (z : Bool). z || owedIn (drop (column + 1) row) lo hi) (sym y) ∙ step ∙ by-rule
+      looking-found y = ap (λ (z : Bool). z || from (drop (column + 1) row)) (sym y) ∙ step ∙ by-rule
 
       pub looking-on : b ≡ false → Looking row lo hi (column + 1)
       looking-on y = record {
         small = omega arith;
         long = v .long;
-        same = ap (λ (z : Bool). z || owedIn (drop (column + 1) row) lo hi) (sym y) ∙ step;
+        same = ap (λ (z : Bool). z || from (drop (column + 1) row)) (sym y) ∙ step;
       }
 
 pub ruleset looking = (looking-start, looking-done, looking-found, looking-on)

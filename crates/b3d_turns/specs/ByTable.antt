@@ -8,11 +8,11 @@ use lib.ListN.{getD}
 use Rattle.wire.specs.Test.{if}
 use Rattle.layout.specs.Chunks.{done, stop, chunk}
 use Rattle.b3d_scene.specs.declared.Tag.{Tag}
-use Rattle.b3d_scene.specs.Tags.{Chunks}
+use Rattle.b3d_scene.specs.Tags.{Chunks, tagNumber}
 use Rattle.b3d_scene.specs.Nesting.{Reached, end, order}
 use Rattle.b3d_nesting.specs.declared.Entry.{Entry}
 use Rattle.b3d_nesting.specs.Table.{nestingTable, entryAt}
-use Rattle.b3d_turns.specs.Turns.{indexOf, between}
+use Rattle.b3d_turns.specs.Turns.{between}
 
 abbrev pub rowAt : ℕ → List Entry
 rowAt row = getD nestingTable row []
@@ -32,11 +32,11 @@ afterBy q e = record { turn = e .turn; spent = (eqb (q .turn) (e .turn) && q .sp
 
 -- inside a chunk of tag k, after q: its row of the table owes a tag before this turn
 abbrev pub owesBefore : Tag → Reached → ℕ → Bool
-owesBefore k q turn = owedIn (rowAt (indexOf k)) (q .turn) turn
+owesBefore k q turn = owedIn (rowAt (tagNumber k)) (q .turn) turn
 
 -- inside a chunk of tag k: the entry for a tag
 abbrev pub entryOf : Tag → Tag → Entry
-entryOf k t = entryAt (indexOf k) (indexOf t)
+entryOf k t = entryAt (tagNumber k) (tagNumber t)
 
 -- `order` is what `parse` reads the chunks inside a chunk of tag k by, whose header is at `head`: q is how far they have come
 pub record ByTable : Type 0 where

@@ -5,7 +5,6 @@ use mathlib.Core.Option.{Option, none, some}
 use lib.Dec.{ltb}
 use Rattle.wire.specs.Test.{if}
 use Rattle.b3d_scene.specs.declared.Tag.{Tag}
-use Rattle.b3d_scene.specs.declared.Tag.the-variants.{BB3D, TEXS, BRUS, NODE, MESH, VRTS, TRIS, BONE, KEYS, ANIM}
 use Rattle.b3d_scene.specs.Nesting as nest
 use Rattle.b3d_chunks.specs.declared.Next.{Next}
 use Rattle.b3d_chunks.specs.declared.Next.the-variants as next
@@ -32,19 +31,6 @@ permitFor k q (next.Chunk t p b n) = permitOf (nest.next (nest.nesting k) (nest.
 -- no chunk was read yet
 abbrev pub first : Reached
 first = record { turn = 0; spent = false }
-
--- a tag's row and column
-abbrev pub indexOf : Tag → ℕ
-indexOf BB3D = 0
-indexOf TEXS = 1
-indexOf BRUS = 2
-indexOf NODE = 3
-indexOf MESH = 4
-indexOf VRTS = 5
-indexOf TRIS = 6
-indexOf BONE = 7
-indexOf KEYS = 8
-indexOf ANIM = 9
 
 -- it must stand, at a turn after lo and before hi
 abbrev pub between : Entry → ℕ → ℕ → Bool

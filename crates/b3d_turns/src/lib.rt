@@ -6,7 +6,9 @@ ghost use lib.ListN.{length};
 ghost use Rattle.wire.specs.Cursors.{Inside};
 ghost use Rattle.b3d_scene.specs.Nesting.{nesting, owed, end, next};
 ghost use Rattle.b3d_chunks.specs.Chunks.{NextIs};
-ghost use Rattle.b3d_turns.specs.Turns.{indexOf, between, reachedOf, permitOf, permitFor, first};
+ghost use Rattle.b3d_nesting.specs.Table.{decoded, entriesOf};
+ghost use Rattle.b3d_scene.specs.Tags.{tagNumber};
+ghost use Rattle.b3d_turns.specs.Turns.{between, reachedOf, permitOf, permitFor, first};
 ghost use Rattle.b3d_turns.specs.ByTable.{rowAt, entryOf};
 ghost use Rattle.b3d_turns.specs.Steps.{EnclosedIs};
 use b3d_chunks::Next;
@@ -14,10 +16,10 @@ use b3d_nesting::Entry;
 use b3d_scene::Tag;
 use wire::Cursor;
 
-// The table's row for the tag that encloses. Rows and entries are picked by constants: where a caller names the tag that encloses, the
+// The table's row for the tag that encloses. Rows and numbers are picked by constants: where a caller names the tag that encloses, the
 // compiler looks them up.
-fn row_of(enclosing: Tag) -> [Entry; 10]
-    ensures { λ r. ⌜ r ≡ rowAt (indexOf enclosing) ⌝ }
+fn row_of(enclosing: Tag) -> [u8; 10]
+    ensures { λ r. ⌜ entriesOf r ≡ rowAt (tagNumber enclosing) ⌝ }
 {
     let table = b3d_nesting::nesting_table();
     match enclosing {
@@ -34,9 +36,9 @@ fn row_of(enclosing: Tag) -> [Entry; 10]
     }
 }
 
-// The table's entry for a tag inside a chunk.
-fn entry_of(enclosing: Tag, tag: Tag) -> Entry
-    ensures { λ r. ⌜ r ≡ entryOf enclosing tag ⌝ }
+// The number of the table's entry for a tag inside a chunk.
+fn code_of(enclosing: Tag, tag: Tag) -> u8
+    ensures { λ r. ⌜ decoded r ≡ entryOf enclosing tag ⌝ }
 {
     let row = row_of(enclosing);
     match tag {
@@ -50,6 +52,18 @@ fn entry_of(enclosing: Tag, tag: Tag) -> Entry
         Tag::BONE => row[7],
         Tag::KEYS => row[8],
         Tag::ANIM => row[9],
+    }
+}
+
+// The entry that a number of the table stands for.
+fn decode(code: u8) -> Entry
+    ensures { λ r. ⌜ r ≡ decoded code ⌝ }
+{
+    Entry {
+        allowed: 0 < code,
+        turn: code % 10,
+        must: 100 <= code,
+        again: code / 10 % 10 == 1,
     }
 }
 
@@ -73,7 +87,7 @@ fn owed_between(enclosing: Tag, lo: u8, hi: u8) -> bool
     let row = row_of(enclosing);
     let mut column: usize = 0;
     while column < 10 {
-        if is_between(row[column], lo, hi) {
+        if is_between(decode(row[column]), lo, hi) {
             return true;
         }
         column += 1;
@@ -103,7 +117,7 @@ pub enum Permit {
 pub fn may_stand(enclosing: Tag, reached: Reached, tag: Tag) -> Permit
     ensures { λ r. ⌜ r ≡ permitOf (next (nesting enclosing) (nesting enclosing) (reachedOf reached) tag) ⌝ }
 {
-    let e = entry_of(enclosing, tag);
+    let e = decode(code_of(enclosing, tag));
     let turn = e.turn;
     if e.allowed {
         if reached.turn < turn {

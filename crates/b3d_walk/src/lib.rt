@@ -12,12 +12,7 @@ use wire::Cursor;
 
 // The next chunk of the flat run: its tag, the place of its header, its body, and the place where the run goes on.
 pub enum Flat {
-    Chunk {
-        tag: Tag,
-        at: usize,
-        body: Cursor,
-        next: usize,
-    },
+    Chunk(Tag, usize, Cursor, usize),
     End,
 }
 
@@ -28,12 +23,7 @@ fn enter(file: &[u8], at: usize, p: usize, body: Cursor) -> Flat
 {
     match b3d_chunks::named_row(file, body, 10) {
         Named::Cut => Flat::End,
-        Named::Is { next, .. } => Flat::Chunk {
-            tag: Tag::NODE,
-            at: p,
-            body,
-            next: next.at,
-        },
+        Named::Is { next, .. } => Flat::Chunk(Tag::NODE, p, body, next.at),
     }
 }
 
@@ -55,12 +45,7 @@ pub fn flat_next(file: &[u8], at: usize) -> Flat
             if b3d_chunks::same(tag, Tag::NODE) {
                 return enter(file, at, p, body);
             }
-            Flat::Chunk {
-                tag,
-                at: p,
-                body,
-                next: next.at,
-            }
+            Flat::Chunk(tag, p, body, next.at)
         }
     }
 }

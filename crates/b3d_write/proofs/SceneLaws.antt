@@ -29,7 +29,6 @@ use Rattle.b3d_put_own.proofs.Trimmed.{trimmed, trimmed-rows}
 use Rattle.b3d_put_nodes.specs.Walk.{Sized}
 use Rattle.b3d_put_nodes.proofs.TableLaws.{quotient}
 use Rattle.b3d_put_file.specs.Whole.{OfNodes, OfRest, OfAll, OfScene}
-use Rattle.b3d_write.specs.Writes.{TableRooms}
 use Rattle.b3d_write.proofs.SoundLaws.{fit, agree, sound-rooms, sound-slots, sound-rows}
 
 -- the names of rows that begin with their cells
@@ -43,30 +42,13 @@ module _ (mode : Mode) (v slots : ℕ) (counts t₁ t₂ t₃ t₄ t₅ t₆ t�
   abbrev L : Lent
   L = lentOf v slots counts t₁ t₂ t₃ t₄ t₅ t₆ t₇ t₈ t₉ t₁₀
 
-  abbrev rs : Rooms counts (length t₁) (length t₂) (length t₃) (length t₄) (length t₅) (length t₆) (length t₇) (length t₈) (length t₉) (length t₁₀)
+  abbrev rs : Rooms (getD counts 0 0) (getD counts 1 0) (partCounts counts) (length t₁) (length t₂) (length t₃) (length t₄) (length t₅) (length t₆) (length t₇) (length t₈) (length t₉) (length t₁₀)
   rs = sound-rooms mode v slots counts t₁ t₂ t₃ t₄ t₅ t₆ t₇ t₈ t₉ t₁₀ ns t e
 
   is-together : together ns L ≡ t
   is-together =
       together-back ns L t (fit mode v slots counts t₁ t₂ t₃ t₄ t₅ t₆ t₇ t₈ t₉ t₁₀ ns t e) (agree mode v slots counts t₁ t₂ t₃ t₄ t₅ t₆ t₇ t₈ t₉ t₁₀ ns t e .version)
       (agree mode v slots counts t₁ t₂ t₃ t₄ t₅ t₆ t₇ t₈ t₉ t₁₀ ns t e .slots) (agree mode v slots counts t₁ t₂ t₃ t₄ t₅ t₆ t₇ t₈ t₉ t₁₀ ns t e .named) (sound-rows mode v slots counts t₁ t₂ t₃ t₄ t₅ t₆ t₇ t₈ t₉ t₁₀ ns t e)
-
-  pub table-rooms : TableRooms (getD counts 0 0) (getD counts 1 0) (partCounts counts) (length t₁) (length t₂) (length t₃) (length t₄) (length t₅) (length t₆) (length t₇) (length t₈) (length t₉) (length t₁₀)
-  unfolding partCounts
-  table-rooms = let r = rs in record {
-    textures = r .room₁;
-    brushes = r .room₂;
-    nodes = r .room₃;
-    meshes = r .room₄;
-    vertices = r .room₅;
-    sets = r .room₆;
-    triangles = r .room₇;
-    weights = r .room₈;
-    lists = r .room₉;
-    keys = r .room₁₀;
-    few-textures = r .few₁;
-    few-brushes = r .few₂;
-  }
 
   abbrev all : Counts
   all = partCounts counts
@@ -77,21 +59,14 @@ module _ (mode : Mode) (v slots : ℕ) (counts t₁ t₂ t₃ t₄ t₅ t₆ t�
       let r = rs in
       record {
         nodes = length-take-le (nodeWidth * getD counts 2 0) t₃ (r .room₃);
-        meshes = length-take-le (9 * getD counts 3 0) t₄ (r .room₄);
-        vertices = length-take-le (42 * getD counts 4 0) t₅ (r .room₅);
-        sets = length-take-le (4 * getD counts 5 0) t₆ (r .room₆);
-        triangles = length-take-le (3 * getD counts 6 0) t₇ (r .room₇);
-        weights = length-take-le (2 * getD counts 7 0) t₈ (r .room₈);
-        lists = length-take-le (4 * getD counts 8 0) t₉ (r .room₉);
-        keys = length-take-le (11 * getD counts 9 0) t₁₀ (r .room₁₀);
-        few-nodes = r .few₃;
-        few-meshes = r .few₄;
-        few-vertices = r .few₅;
-        few-sets = r .few₆;
-        few-triangles = r .few₇;
-        few-weights = r .few₈;
-        few-lists = r .few₉;
-        few-keys = r .few₁₀;
+        meshes = length-take-le (9 * getD counts 3 0) t₄ (r .kinds .room₄);
+        vertices = length-take-le (42 * getD counts 4 0) t₅ (r .kinds .room₅);
+        sets = length-take-le (4 * getD counts 5 0) t₆ (r .kinds .room₆);
+        triangles = length-take-le (3 * getD counts 6 0) t₇ (r .kinds .room₇);
+        weights = length-take-le (2 * getD counts 7 0) t₈ (r .kinds .room₈);
+        lists = length-take-le (4 * getD counts 8 0) t₉ (r .lists .room₉);
+        keys = length-take-le (11 * getD counts 9 0) t₁₀ (r .lists .room₁₀);
+        limited = r .limited;
       }
 
   abbrev R : Rows

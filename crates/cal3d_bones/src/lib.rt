@@ -64,11 +64,7 @@ pub fn judge_bones(s: &[u8], from: Cursor, bones: usize) -> Summed
 
 // Where a bone's numbers stand, how many children come behind them, and the cursor after those; or no bone stands there.
 pub enum Laid {
-    At {
-        numbers: usize,
-        count: usize,
-        next: Cursor,
-    },
+    At(usize, usize, Cursor),
     Gone,
 }
 
@@ -81,11 +77,7 @@ pub fn lay_bone(s: &[u8], c: Cursor, bones: usize) -> Laid
         Ran::Not(_, _) => Laid::Gone,
         Ran::To(numbers) => match judge_links(s, numbers, bones) {
             Summed::Not(_, _) => Laid::Gone,
-            Summed::To(count, next) => Laid::At {
-                numbers: numbers.at,
-                count,
-                next,
-            },
+            Summed::To(count, next) => Laid::At(numbers.at, count, next),
         },
     }
 }

@@ -4,39 +4,15 @@ ghost use mathlib.Core.Path.{_≡_};
 ghost use Rattle.cal3d_scene.specs.Answers.{judgeSkeleton, skeletonAnswer, judgeMesh, meshAnswer};
 ghost use Rattle.cal3d_skeleton.specs.Skeletons.{ReadsSkeleton};
 ghost use Rattle.cal3d_mesh.specs.Meshes.{ReadsMesh};
-ghost use Rattle.cal3d_c.specs.Outward.{skeletonIn, meshIn};
 use cal3d_scene::MeshAnswer;
 use cal3d_scene::SkeletonAnswer;
 
-// What a skeleton file is answered, as C lays it out.
-#[repr(C)]
-pub struct KelompurisCsfAnswer {
-    pub number: u32,
-    pub place: u32,
-    pub head: [u32; 5],
-    pub counts: [u32; 2],
-}
-
-// The same answer in C's layout.
-fn outward_skeleton(a: SkeletonAnswer) -> KelompurisCsfAnswer
-    ensures { λ r. ⌜ skeletonIn r ≡ a ⌝ }
-{
-    let head = a.head;
-    let counts = a.counts;
-    KelompurisCsfAnswer {
-        number: a.number,
-        place: a.place,
-        head,
-        counts,
-    }
-}
-
 // Judges a skeleton file without any table.
 #[no_mangle]
-pub extern "C" fn kelompuris_csf_judge(file: &[u8]) -> KelompurisCsfAnswer
-    ensures { λ r. ⌜ skeletonIn r ≡ skeletonAnswer (judgeSkeleton (now (file .entry))) ⌝ }
+pub extern "C" fn kelompuris_csf_judge(file: &[u8]) -> SkeletonAnswer
+    ensures { λ r. ⌜ r ≡ skeletonAnswer (judgeSkeleton (now (file .entry))) ⌝ }
 {
-    outward_skeleton(cal3d_skeleton::judge(file))
+    cal3d_skeleton::judge(file)
 }
 
 // Reads a skeleton file into two lent tables.
@@ -45,41 +21,18 @@ pub extern "C" fn kelompuris_csf_read(
     file: &[u8],
     bones: &mut [u32],
     children: &mut [u32],
-) -> KelompurisCsfAnswer
-    ensures { λ r. ⌜ ReadsSkeleton (now (file .entry)) (now (bones .entry)) (now (children .entry)) (now (bones .exit)) (now (children .exit)) (skeletonIn r) ⌝ }
+) -> SkeletonAnswer
+    ensures { λ r. ⌜ ReadsSkeleton (now (file .entry)) (now (bones .entry)) (now (children .entry)) (now (bones .exit)) (now (children .exit)) r ⌝ }
 {
-    outward_skeleton(cal3d_skeleton::read_skeleton(file, bones, children))
-}
-
-// What a mesh file is answered, as C lays it out.
-#[repr(C)]
-pub struct KelompurisCmfAnswer {
-    pub number: u32,
-    pub place: u32,
-    pub head: [u32; 2],
-    pub counts: [u32; 6],
-}
-
-// The same answer in C's layout.
-fn outward_mesh(m: MeshAnswer) -> KelompurisCmfAnswer
-    ensures { λ r. ⌜ meshIn r ≡ m ⌝ }
-{
-    let head = m.head;
-    let counts = m.counts;
-    KelompurisCmfAnswer {
-        number: m.number,
-        place: m.place,
-        head,
-        counts,
-    }
+    cal3d_skeleton::read_skeleton(file, bones, children)
 }
 
 // Judges a mesh file, whose bone ids are below a count, without any table.
 #[no_mangle]
-pub extern "C" fn kelompuris_cmf_judge(file: &[u8], bone_count: u32) -> KelompurisCmfAnswer
-    ensures { λ r. ⌜ meshIn r ≡ meshAnswer (judgeMesh «bone_count» (now (file .entry))) ⌝ }
+pub extern "C" fn kelompuris_cmf_judge(file: &[u8], bone_count: u32) -> MeshAnswer
+    ensures { λ r. ⌜ r ≡ meshAnswer (judgeMesh «bone_count» (now (file .entry))) ⌝ }
 {
-    outward_mesh(cal3d_mesh_judge::judge(file, bone_count))
+    cal3d_mesh_judge::judge(file, bone_count)
 }
 
 // Reads a mesh file, whose bone ids are below a count, into six lent tables.
@@ -93,11 +46,11 @@ pub extern "C" fn kelompuris_cmf_read(
     influences: &mut [u32],
     springs: &mut [u32],
     faces: &mut [u32],
-) -> KelompurisCmfAnswer
+) -> MeshAnswer
     ensures { λ r. ⌜ ReadsMesh «bone_count» (now (file .entry)) (now (submeshes .entry)) (now (vertices .entry)) (now (maps .entry)) (now (influences .entry)) (now (springs .entry)) (now (faces .entry))
-        (now (submeshes .exit)) (now (vertices .exit)) (now (maps .exit)) (now (influences .exit)) (now (springs .exit)) (now (faces .exit)) (meshIn r) ⌝ }
+        (now (submeshes .exit)) (now (vertices .exit)) (now (maps .exit)) (now (influences .exit)) (now (springs .exit)) (now (faces .exit)) r ⌝ }
 {
-    outward_mesh(cal3d_mesh::read_mesh(
+    cal3d_mesh::read_mesh(
         file,
         bone_count,
         submeshes,
@@ -106,5 +59,5 @@ pub extern "C" fn kelompuris_cmf_read(
         influences,
         springs,
         faces,
-    ))
+    )
 }

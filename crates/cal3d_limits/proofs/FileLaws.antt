@@ -13,13 +13,13 @@ use Rattle.wire.specs.declared.Cursor.{Cursor}
 use Rattle.layout.specs.Out.{Out, got, bad, check, _>>=_}
 use Rattle.layout.specs.Parts.{Step, number}
 use Rattle.layout.specs.Counted.{times, atEnd}
-use Rattle.layout.specs.Rows.{eachOf, mostRows}
+use Rattle.layout.specs.Rows.{eachOf}
 use Rattle.layout.proofs.CountLaws.{times-moves, times-length}
 use Rattle.counted.proofs.Ids.{word-at}
 use Rattle.cal3d_scene.specs.Rules.{skeletonMagic}
 use Rattle.layout.proofs.Outs.{bind-bind}
 use Rattle.cal3d_scene.specs.Skeletons.{Bone, Skeleton, readBone, skeletonFrom, skeleton}
-use Rattle.cal3d_scene.specs.Tables.{boneRows, childRows, skeletonRows}
+use Rattle.cal3d_scene.specs.Tables.{boneRows, childRows, skeletonRows, mostRows}
 use Rattle.cal3d_scene.specs.Answers.{limitedSkeleton}
 use Rattle.counted.specs.Sums.{Sums}
 use Rattle.cal3d_bones.specs.Bones.{childrenIn}

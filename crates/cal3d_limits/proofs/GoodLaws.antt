@@ -14,13 +14,13 @@ use Rattle.cal3d_head.proofs.HeadLaws.{headOf, HeadAt, head-at}
 use Rattle.layout.specs.Out.{got, check, _>>=_}
 use Rattle.layout.specs.Parts.{Step, number}
 use Rattle.layout.specs.Counted.{times, atEnd}
-use Rattle.layout.specs.Rows.{eachOf, mostRows}
+use Rattle.layout.specs.Rows.{eachOf}
 use Rattle.layout.proofs.Outs.{by-got, by-check, got-inj}
 use Rattle.layout.proofs.StepLaws.{length-words-of}
 use Rattle.layout.proofs.CountLaws.{times-length}
 use Rattle.cal3d_scene.specs.Rules.{skeletonMagic}
 use Rattle.cal3d_scene.specs.Skeletons.{Bone, Skeleton, readBone}
-use Rattle.cal3d_scene.specs.Tables.{skeletonRows}
+use Rattle.cal3d_scene.specs.Tables.{skeletonRows, mostRows}
 use Rattle.cal3d_scene.specs.Answers.{limitedSkeleton}
 use Rattle.cal3d_bones.specs.Bones.{childrenIn}
 use Rattle.cal3d_limits.proofs.FileLaws.{bone-rows, limits, ended, skeleton-head}

@@ -25,20 +25,12 @@ fn gather(s: &[u8], from: Cursor, bones: usize, out: &mut [u32])
     let mut c = from;
     let mut i: usize = 0;
     while i < bones {
-        match cal3d_bones::lay_bone(s, c, bones) {
-            Laid::Gone => {
-                return;
-            }
-            Laid::At {
-                numbers,
-                count: _,
-                next,
-            } => {
-                out[i] = wire::number_at(s, numbers + 56);
-                i += 1;
-                c = next;
-            }
-        }
+        let Laid::At(numbers, _, next) = cal3d_bones::lay_bone(s, c, bones) else {
+            return;
+        };
+        out[i] = wire::number_at(s, numbers + 56);
+        i += 1;
+        c = next;
     }
 }
 
@@ -51,21 +43,13 @@ fn tell(s: &[u8], from: Cursor, bones: usize, parents: &[u32], scores: &mut [u32
     let mut i: usize = 0;
     let mut entries: usize = 0;
     while i < bones {
-        match cal3d_bones::lay_bone(s, c, bones) {
-            Laid::Gone => {
-                return;
-            }
-            Laid::At {
-                numbers,
-                count,
-                next,
-            } => {
-                cal3d_trees::note_list(s, numbers + 80, count, i as u32, parents, entries, scores);
-                entries += count;
-                i += 1;
-                c = next;
-            }
-        }
+        let Laid::At(numbers, count, next) = cal3d_bones::lay_bone(s, c, bones) else {
+            return;
+        };
+        cal3d_trees::note_list(s, numbers + 80, count, i as u32, parents, entries, scores);
+        entries += count;
+        i += 1;
+        c = next;
     }
 }
 
@@ -77,19 +61,11 @@ fn bone_at(s: &[u8], from: Cursor, bones: usize, which: usize) -> usize
     let mut c = from;
     let mut i: usize = 0;
     while i < which {
-        match cal3d_bones::lay_bone(s, c, bones) {
-            Laid::Gone => {
-                return c.at;
-            }
-            Laid::At {
-                numbers: _,
-                count: _,
-                next,
-            } => {
-                i += 1;
-                c = next;
-            }
-        }
+        let Laid::At(_, _, next) = cal3d_bones::lay_bone(s, c, bones) else {
+            return c.at;
+        };
+        i += 1;
+        c = next;
     }
     c.at
 }

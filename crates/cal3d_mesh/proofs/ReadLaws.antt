@@ -20,7 +20,8 @@ use Rattle.cal3d_mesh_rows.specs.Plain.{plainMesh}
 use Rattle.cal3d_mesh_rows.proofs.Readings.{Plainly, mesh-plain}
 use Rattle.cal3d_mesh_rows.proofs.Widths.{tables-wide}
 use Rattle.cal3d_mesh_fill.specs.Fills.{fileWords, MeshFit, MeshFilled}
-use Rattle.cal3d_mesh_room.specs.Rooms.{numberOf, WithRoom}
+use Rattle.counted.specs.Rooms.{numberOf}
+use Rattle.cal3d_mesh_room.specs.Rooms.{WithRoom}
 use Rattle.cal3d_mesh_room.proofs.Refusals.{read-number}
 use Rattle.cal3d_mesh_room.proofs.RoomLaws.{number-of, accepted}
 use Rattle.cal3d_mesh.specs.Meshes.{readInto, ReadsMesh}

@@ -10,8 +10,8 @@ use lib.Seq.{sets}
 use Rattle.wire.specs.Test.{if}
 use Rattle.wire.specs.Bytes.{wordAt}
 use Rattle.layout.specs.Rows.{joined}
-use Rattle.cells.proofs.Joined.{joined-append}
-use Rattle.cells.proofs.Storing.{Part, part-start, part-long, part-done, part-room, part-next}
+use Rattle.layout.proofs.ListLaws.{joined-append}
+use Rattle.cells.proofs.Storing.{Part, part-start, part-done, part-room, part-next}
 use Rattle.cal3d_scene.specs.Meshes.{Vertex, Submesh}
 use Rattle.cal3d_scene.specs.Tables.{submeshRows, vertexRows, verticesOf, meshRows}
 use Rattle.cal3d_mesh_rows.specs.declared.Shape.{Shape}
@@ -198,24 +198,6 @@ module _ (s t1 t2 t3 t4 t5 t6 : List ℕ) where
   }
 
   module _ (count : ℕ) (u1 u2 u3 u4 u5 u6 : List ℕ) (m : Place) (done : ℕ) (v : MeshLeft s t1 t2 t3 t4 t5 t6 count u1 u2 u3 u4 u5 u6 m done) where
-    pub mesh-long1 : length u1 ≡ length t1
-    mesh-long1 = part-long (v .part1)
-
-    pub mesh-long2 : length u2 ≡ length t2
-    mesh-long2 = part-long (v .part2)
-
-    pub mesh-long3 : length u3 ≡ length t3
-    mesh-long3 = part-long (v .part3)
-
-    pub mesh-long4 : length u4 ≡ length t4
-    mesh-long4 = part-long (v .part4)
-
-    pub mesh-long5 : length u5 ≡ length t5
-    mesh-long5 = part-long (v .part5)
-
-    pub mesh-long6 : length u6 ≡ length t6
-    mesh-long6 = part-long (v .part6)
-
     pub mesh-done : count ≤ done → MeshFilled s t1 t2 t3 t4 t5 t6 u1 u2 u3 u4 u5 u6
     mesh-done h =
         let l = submeshesAt s (v .left) (m .at) in

@@ -11,13 +11,13 @@ use Rattle.wire.proofs.Left.{span, left-length}
 use Rattle.layout.specs.Out.{Out, got, bad, _>>=_}
 use Rattle.layout.specs.Parts.{Step, number}
 use Rattle.layout.specs.Counted.{times}
-use Rattle.layout.specs.Rows.{eachOf, mostRows}
+use Rattle.layout.specs.Rows.{eachOf}
 use Rattle.layout.proofs.StepLaws.{length-words-of}
 use Rattle.layout.proofs.CountLaws.{times-moves, times-length}
 use Rattle.counted.proofs.Ids.{word-at}
 use Rattle.cal3d_scene.specs.Rules.{meshMagic}
 use Rattle.cal3d_scene.specs.Meshes.{Submesh, Mesh, readSubmesh, meshFrom, mesh}
-use Rattle.cal3d_scene.specs.Tables.{meshTables, meshRows}
+use Rattle.cal3d_scene.specs.Tables.{meshTables, meshRows, mostRows}
 use Rattle.cal3d_scene.specs.Answers.{judgeMesh, meshAnswer}
 use Rattle.cal3d_scene.specs.declared.MeshAnswer.{MeshAnswer}
 use Rattle.cal3d_head.specs.Heads.{readHead, openedOf}

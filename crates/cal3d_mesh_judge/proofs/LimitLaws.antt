@@ -9,10 +9,10 @@ use lib.Dec.{leb, leb→le, nleb→lt}
 use borrow.Author.Tests.{le-leb, lt-leb}
 use Rattle.wire.specs.Test.{if}
 use Rattle.layout.specs.Out.{Out, got, bad, check, _>>=_}
-use Rattle.layout.specs.Rows.{eachOf, mostRows}
+use Rattle.layout.specs.Rows.{eachOf}
 use Rattle.layout.proofs.Outs.{by-test}
 use Rattle.cal3d_scene.specs.Meshes.{Submesh, Mesh}
-use Rattle.cal3d_scene.specs.Tables.{meshTables, submeshRows, verticesOf, meshRows}
+use Rattle.cal3d_scene.specs.Tables.{meshTables, submeshRows, verticesOf, meshRows, mostRows}
 use Rattle.cal3d_scene.specs.Answers.{meshAnswer}
 use Rattle.cal3d_scene.specs.declared.MeshAnswer.{MeshAnswer}
 use Rattle.cal3d_mesh_rows.proofs.Widths.{vertex-rows-length}

@@ -4,9 +4,9 @@ use mathlib.Core.List.{List, [], _∷_}
 use lib.Dec.{leb}
 use Rattle.wire.specs.Test.{if}
 use Rattle.layout.specs.Out.{bad}
-use Rattle.layout.specs.Rows.{mostRows}
 use Rattle.cal3d_scene.specs.Answers.{meshAnswer}
 use Rattle.cal3d_scene.specs.declared.MeshAnswer.{MeshAnswer}
+use Rattle.cal3d_scene.specs.Tables.{mostRows}
 use Rattle.cal3d_submeshes.specs.declared.Contents.{Contents}
 
 -- the rows of the six tables

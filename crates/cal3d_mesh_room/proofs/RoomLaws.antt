@@ -1,80 +1,35 @@
 -- Which of the lent tables is too short, and what the definition says of that.
 use mathlib.Core.Path.{_≡_, refl, ap, sym, _∙_}
-use Prim.Native.Nat.{ℕ, _*_, _/_, _<_, _≤_}
-use native.Mathlib.Nat.{div-lt-iff-lt-mul, le-div-iff-mul-le, mul-comm}
+use Prim.Native.Nat.{ℕ, _*_, _<_, _≤_}
 use native.Mathlib.Omega.{arith}
-use mathlib.Core.Bool.{Bool}
 use mathlib.Core.List.{List, [], _∷_}
 use lib.ListN.{length, getD}
-use lib.Dec.{leb, ltb, ltb→lt, nltb→le}
-use borrow.Author.Tests.{lt-leb, le-leb, lt-ltb, le-ltb}
+use lib.Dec.{ltb}
 use Rattle.wire.specs.Test.{if}
-use Rattle.layout.specs.Lists.{All}
-use Rattle.layout.specs.Out.{Out, got, bad, check}
-use Rattle.layout.specs.Rows.{eachOf}
-use Rattle.layout.proofs.Outs.{by-test, if-yes, if-no}
+use Rattle.layout.specs.Out.{Out, got, bad}
+use Rattle.counted.specs.Rooms.{numberOf, firstShort}
+use Rattle.counted.proofs.Rooms.{short-at-most, each-short, each-room}
 use Rattle.cal3d_scene.specs.Meshes.{Mesh}
 use Rattle.cal3d_scene.specs.Tables.{meshTables, meshWidth, meshRows}
 use Rattle.cal3d_scene.specs.Answers.{judgeMesh, readMesh, meshAnswer}
 use Rattle.cal3d_scene.specs.declared.MeshAnswer.{MeshAnswer}
-use Rattle.cal3d_mesh_room.specs.Rooms.{numberOf, firstShort, WithRoom}
+use Rattle.cal3d_mesh_room.specs.Rooms.{WithRoom}
 use Rattle.cal3d_mesh_room.proofs.Refusals.{judge-number}
 
--- ---- one table
+-- the six one after the other, from the last to the first
+module _ (counts : List ℕ) (l1 l2 l3 l4 l5 l6 n1 n2 n3 n4 n5 n6 r1 r2 r3 r4 r5 r6 : ℕ)
+    (e1 : r1 ≡ if (ltb l1 (9 * n1)) 1 r2) (f1 : n1 ≡ getD counts 0 0)
+    (e2 : r2 ≡ if (ltb l2 (12 * n2)) 2 r3) (f2 : n2 ≡ getD counts 1 0)
+    (e3 : r3 ≡ if (ltb l3 (2 * n3)) 3 r4) (f3 : n3 ≡ getD counts 2 0)
+    (e4 : r4 ≡ if (ltb l4 (2 * n4)) 4 r5) (f4 : n4 ≡ getD counts 3 0)
+    (e5 : r5 ≡ if (ltb l5 (4 * n5)) 5 r6) (f5 : n5 ≡ getD counts 4 0)
+    (e6 : r6 ≡ if (ltb l6 (3 * n6)) 6 0) (f6 : n6 ≡ getD counts 5 0) where
+  pub short-six : r1 ≡ firstShort meshWidth (numberOf counts) (numberOf (l1 ∷ l2 ∷ l3 ∷ l4 ∷ l5 ∷ l6 ∷ [])) meshTables
+  unfolding firstShort meshWidth if
+  short-six = rw (e1, e2, e3, e4, e5, e6, f1, f2, f3, f4, f5, f6)
 
--- fewer rows have room than there are, or enough
-module _ (k wide rows room later n : ℕ) (h : 0 < wide) (e : n ≡ rows) where
-  pub short-yes : room / wide < n → k ≡ if (ltb room (wide * rows)) k later
-  unfolding if
-  short-yes d =
-      let m : room < n * wide = div-lt-iff-lt-mul h .0 d in
-      simp (lt-ltb room (wide * rows) (omega (arith, mul-comm wide rows, ap (λ (z : ℕ). z * wide) e)))
-
-  pub short-no : n ≤ room / wide → later ≡ if (ltb room (wide * rows)) k later
-  unfolding if
-  short-no d =
-      let m : n * wide ≤ room = le-div-iff-mul-le h .0 d in
-      simp (le-ltb room (wide * rows) (omega (arith, mul-comm wide rows, ap (λ (z : ℕ). z * wide) e)))
-
-pub ruleset short-laws = (short-yes, short-no)
-
--- ---- a list of tables
-
-module _ (count room : ℕ → ℕ) where
-  abbrev fits : ℕ → Bool
-  fits k = leb (meshWidth k * count k) (room k)
-
-  -- the first that is too short is refused
-  pub each-short : (ks : List ℕ) → (firstShort count room ks ≡ 0 → ⊥) → eachOf 11 fits ks ≡ bad 11 (firstShort count room ks)
-  unfolding firstShort eachOf check
-  each-short [] d = absurd (d refl)
-  each-short (k ∷ ks) d =
-      by-test (ltb (room k) (meshWidth k * count k))
-      (λ t. rw (lt-leb (meshWidth k * count k) (room k) (ltb→lt (room k) (meshWidth k * count k) t), if-yes (ltb (room k) (meshWidth k * count k)) k (firstShort count room ks) t))
-      (λ t. let z = if-no (ltb (room k) (meshWidth k * count k)) k (firstShort count room ks) t in
-      rw (le-leb (meshWidth k * count k) (room k) (nltb→le (room k) (meshWidth k * count k) t), z) (each-short ks (λ q. d (z ∙ q))))
-
-  -- where there is none, each has room
-  pub each-room : (ks : List ℕ) → All (λ (k : ℕ). 0 < k) ks → firstShort count room ks ≡ 0 → eachOf 11 fits ks ≡ got tt
-  unfolding firstShort eachOf check
-  each-room [] h e = refl
-  each-room (k ∷ ks) h e =
-      by-test (ltb (room k) (meshWidth k * count k))
-      (λ t. let z : k ≡ 0 = sym (if-yes (ltb (room k) (meshWidth k * count k)) k (firstShort count room ks) t) ∙ e in absurd (omega (arith, h .0)))
-      (λ t. let z = if-no (ltb (room k) (meshWidth k * count k)) k (firstShort count room ks) t in
-      rw (le-leb (meshWidth k * count k) (room k) (nltb→le (room k) (meshWidth k * count k) t)) (each-room ks (h .1) (sym z ∙ e)))
-
--- with the six written out
-pub short-six : (counts : List ℕ) (l1 l2 l3 l4 l5 l6 : ℕ)
-    → firstShort (numberOf counts) (numberOf (l1 ∷ l2 ∷ l3 ∷ l4 ∷ l5 ∷ l6 ∷ [])) meshTables
-    ≡ if (ltb l1 (9 * getD counts 0 0)) 1
-    (if (ltb l2 (12 * getD counts 1 0)) 2
-    (if (ltb l3 (2 * getD counts 2 0)) 3
-    (if (ltb l4 (2 * getD counts 3 0)) 4
-    (if (ltb l5 (4 * getD counts 4 0)) 5
-    (if (ltb l6 (3 * getD counts 5 0)) 6 0)))))
-unfolding firstShort meshWidth if
-short-six counts l1 l2 l3 l4 l5 l6 = refl
+  pub six-few : r1 ≤ 6
+  six-few = rw short-six (short-at-most meshWidth (numberOf counts) (numberOf (l1 ∷ l2 ∷ l3 ∷ l4 ∷ l5 ∷ l6 ∷ [])) 6 meshTables (omega arith, (omega arith, (omega arith, (omega arith, (omega arith, (omega arith, tt)))))))
 
 -- ---- `with_room`
 
@@ -90,18 +45,18 @@ accepted (got t) h e f = f t refl
 accepted (bad n p) h e f = absurd (omega (arith, h n p refl))
 
 -- the counts of the answer are those of what was read
-counts-of : (t : Mesh) (room : ℕ → ℕ) → firstShort (numberOf (meshAnswer (got t) .counts)) room meshTables ≡ firstShort (λ (k : ℕ). length (meshRows k t)) room meshTables
+counts-of : (t : Mesh) (room : ℕ → ℕ) → firstShort meshWidth (numberOf (meshAnswer (got t) .counts)) room meshTables ≡ firstShort meshWidth (λ (k : ℕ). length (meshRows k t)) room meshTables
 unfolding meshAnswer firstShort
 counts-of t room = refl
 
 module _ (room : ℕ → ℕ) (bones : ℕ) (s : List ℕ) (t : Mesh) (f : judgeMesh bones s ≡ got t) where
-  read-short : (n : ℕ) → firstShort (λ (k : ℕ). length (meshRows k t)) room meshTables ≡ n → (n ≡ 0 → ⊥) → readMesh room bones s ≡ bad 11 n
+  read-short : (n : ℕ) → firstShort meshWidth (λ (k : ℕ). length (meshRows k t)) room meshTables ≡ n → (n ≡ 0 → ⊥) → readMesh room bones s ≡ bad 11 n
   unfolding readMesh
-  read-short n e d = rw (f, each-short (λ (k : ℕ). length (meshRows k t)) room meshTables (λ q. d (sym e ∙ q)), e)
+  read-short n e d = rw (f, each-short meshWidth (λ (k : ℕ). length (meshRows k t)) room 11 meshTables (λ q. d (sym e ∙ q)), e)
 
-  read-room : firstShort (λ (k : ℕ). length (meshRows k t)) room meshTables ≡ 0 → readMesh room bones s ≡ got t
+  read-room : firstShort meshWidth (λ (k : ℕ). length (meshRows k t)) room meshTables ≡ 0 → readMesh room bones s ≡ got t
   unfolding readMesh
-  read-room e = rw (f, each-room (λ (k : ℕ). length (meshRows k t)) room meshTables (omega arith, (omega arith, (omega arith, (omega arith, (omega arith, (omega arith, tt)))))) e)
+  read-room e = rw (f, each-room meshWidth (λ (k : ℕ). length (meshRows k t)) room 11 meshTables (omega arith, (omega arith, (omega arith, (omega arith, (omega arith, (omega arith, tt)))))) e)
 
 module _ (judged : MeshAnswer) (rooms : List ℕ) where
   pub room-refused : (judged .number ≡ 0 → ⊥) → WithRoom judged rooms judged
@@ -110,10 +65,10 @@ module _ (judged : MeshAnswer) (rooms : List ℕ) where
     answer = λ bones s e. number-of (judgeMesh bones s) (λ z. d (ap (λ (a : MeshAnswer). a .number) e ∙ z)) (λ n p f. e ∙ rw f);
   }
 
-  module _ (z : judged .number ≡ 0) (n : ℕ) (en : n ≡ firstShort (numberOf (judged .counts)) (numberOf rooms) meshTables) where
+  module _ (z : judged .number ≡ 0) (n : ℕ) (en : n ≡ firstShort meshWidth (numberOf (judged .counts)) (numberOf rooms) meshTables) where
     short-of : (bones : ℕ) (s : List ℕ) (t : Mesh) → judged ≡ meshAnswer (judgeMesh bones s) → judgeMesh bones s ≡ got t
-        → firstShort (λ (k : ℕ). length (meshRows k t)) (numberOf rooms) meshTables ≡ n
-    short-of bones s t e f = sym (counts-of t (numberOf rooms)) ∙ ap (λ (a : MeshAnswer). firstShort (numberOf (a .counts)) (numberOf rooms) meshTables) (sym (e ∙ ap meshAnswer f)) ∙ sym en
+        → firstShort meshWidth (λ (k : ℕ). length (meshRows k t)) (numberOf rooms) meshTables ≡ n
+    short-of bones s t e f = sym (counts-of t (numberOf rooms)) ∙ ap (λ (a : MeshAnswer). firstShort meshWidth (numberOf (a .counts)) (numberOf rooms) meshTables) (sym (e ∙ ap meshAnswer f)) ∙ sym en
 
     pub room-short : (n ≡ 0 → ⊥) → (r : MeshAnswer) → r ≡ meshAnswer (bad 11 n) → WithRoom judged rooms r
     room-short d r er = record {

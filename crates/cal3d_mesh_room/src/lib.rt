@@ -1,23 +1,11 @@
 // Which of a mesh's six lent tables is too short: from the judge's answer to the reader's, by numbers alone.
 ghost use mathlib.Core.Path.{_≡_};
 ghost use mathlib.Core.List.{[], _∷_};
-ghost use Prim.Native.Nat.{_*_, _<_};
-ghost use lib.Dec.{ltb};
-ghost use Rattle.wire.specs.Test.{if};
-ghost use Rattle.cal3d_scene.specs.Tables.{meshTables};
-ghost use Rattle.cal3d_mesh_room.specs.Rooms.{numberOf, firstShort, WithRoom};
+ghost use Prim.Native.Nat.{_≤_};
+ghost use Rattle.counted.specs.Rooms.{numberOf, firstShort};
+ghost use Rattle.cal3d_scene.specs.Tables.{meshTables, meshWidth};
+ghost use Rattle.cal3d_mesh_room.specs.Rooms.{WithRoom};
 use cal3d_scene::MeshAnswer;
-
-// The table k where so many rows of this width have no room in it, else what is found later.
-fn short_or(k: u32, width: usize, rows: u32, room: usize, later: u32) -> u32
-    requires { ⌜ 0 < width ⌝ }
-    ensures { λ r. ⌜ r ≡ if (ltb room (width * rows)) k later ⌝ }
-{
-    if room / width < wire::size(rows) {
-        return k;
-    }
-    later
-}
 
 // The first of six tables, of these lengths, that is too short for its rows, by its number; 0 where there is none.
 fn first_short(
@@ -28,12 +16,15 @@ fn first_short(
     l4: usize,
     l5: usize,
     l6: usize,
-) -> u32
-    ensures { λ r. ⌜ r ≡ firstShort (numberOf counts) (numberOf (l1 ∷ l2 ∷ l3 ∷ l4 ∷ l5 ∷ l6 ∷ [])) meshTables ⌝ }
+) -> usize
+    ensures { λ r. ⌜ (r ≡ firstShort meshWidth (numberOf counts) (numberOf (l1 ∷ l2 ∷ l3 ∷ l4 ∷ l5 ∷ l6 ∷ [])) meshTables) × (r ≤ 6) ⌝ }
 {
-    let from5 = short_or(5, 4, counts[4], l5, short_or(6, 3, counts[5], l6, 0));
-    let from3 = short_or(3, 2, counts[2], l3, short_or(4, 2, counts[3], l4, from5));
-    short_or(1, 9, counts[0], l1, short_or(2, 12, counts[1], l2, from3))
+    let from6 = counted::short_or(6, 3, wire::size(counts[5]), l6, 0);
+    let from5 = counted::short_or(5, 4, wire::size(counts[4]), l5, from6);
+    let from4 = counted::short_or(4, 2, wire::size(counts[3]), l4, from5);
+    let from3 = counted::short_or(3, 2, wire::size(counts[2]), l3, from4);
+    let from2 = counted::short_or(2, 12, wire::size(counts[1]), l2, from3);
+    counted::short_or(1, 9, wire::size(counts[0]), l1, from2)
 }
 
 // The reader's answer with tables of these lengths, where the judge's is `judged`.
@@ -54,7 +45,7 @@ pub fn with_room(
     let counts = judged.counts;
     let short = first_short(counts, l1, l2, l3, l4, l5, l6);
     if short != 0 {
-        return cal3d_mesh_judge::refused(11, short);
+        return cal3d_mesh_judge::refused(11, short as u32);
     }
     judged
 }

@@ -4,11 +4,11 @@ use Rattle.wire.specs.Bytes.{word, over}
 use Rattle.layout.specs.Out.{check}
 use Rattle.layout.specs.Parts.{words, judged, row}
 use Rattle.layout.specs.Counted.{run, nameOf, sized, before, times, atEnd}
-use Rattle.layout.specs.Rows.{nameCells, joined, eachOf, mostRows}
+use Rattle.layout.specs.Rows.{nameCells, joined, eachOf}
 use Rattle.cal3d_scene.specs.Skeletons.{parentOf, listOf, readBone, skeletonFrom, skeleton}
 use Rattle.cal3d_scene.specs.Meshes.{readCloth, readVertex, readSubmesh, meshFrom, mesh}
 use Rattle.cal3d_scene.specs.Trees.{occurs, listed, ends, stands, standing, trees}
-use Rattle.cal3d_scene.specs.Tables.{skeletonWidth, boneRows, childRows, skeletonRows, meshWidth, submeshRows, vertexRows, verticesOf, meshRows}
+use Rattle.cal3d_scene.specs.Tables.{skeletonWidth, boneRows, childRows, skeletonRows, meshWidth, submeshRows, vertexRows, verticesOf, meshRows, mostRows}
 use Rattle.cal3d_scene.specs.Answers.{limitedSkeleton, judgeSkeleton, readSkeleton, skeletonAnswer, skeletonTable, judgeMesh, readMesh, meshAnswer, meshTable}
 
 unfoldable pub computing : Unit {0}

@@ -6,10 +6,10 @@ use lib.ListN.{length}
 use borrow.Author.Tests.{lt-leb}
 use Rattle.wire.specs.Test.{if}
 use Rattle.layout.specs.Out.{Out, got, bad, check, _>>=_}
-use Rattle.layout.specs.Rows.{eachOf, mostRows}
+use Rattle.layout.specs.Rows.{eachOf}
 use Rattle.cal3d_scene.specs.Skeletons.{Skeleton, skeleton}
 use Rattle.cal3d_scene.specs.Trees.{trees}
-use Rattle.cal3d_scene.specs.Tables.{skeletonRows}
+use Rattle.cal3d_scene.specs.Tables.{skeletonRows, mostRows}
 use Rattle.cal3d_scene.specs.Answers.{limitedSkeleton, judgeSkeleton, readSkeleton}
 
 module _ (s : List ℕ) (t : Skeleton) (room : ℕ → ℕ) where

@@ -7,11 +7,11 @@ use lib.Dec.{leb, eqb}
 use Rattle.wire.specs.Test.{if}
 use Rattle.wire.specs.Bytes.{over}
 use Rattle.layout.specs.Out.{Out, got, bad, _>>=_}
-use Rattle.layout.specs.Rows.{joined, eachOf, mostRows}
+use Rattle.layout.specs.Rows.{joined, eachOf}
 use Rattle.cal3d_scene.specs.Skeletons.{Skeleton, skeleton}
 use Rattle.cal3d_scene.specs.Meshes.{Mesh, mesh}
 use Rattle.cal3d_scene.specs.Trees.{trees}
-use Rattle.cal3d_scene.specs.Tables.{skeletonTables, skeletonWidth, skeletonRows, meshTables, meshWidth, meshRows}
+use Rattle.cal3d_scene.specs.Tables.{skeletonTables, skeletonWidth, skeletonRows, meshTables, meshWidth, meshRows, mostRows}
 use Rattle.cal3d_scene.specs.declared.SkeletonAnswer.{SkeletonAnswer}
 use Rattle.cal3d_scene.specs.declared.MeshAnswer.{MeshAnswer}
 

@@ -1,23 +1,23 @@
 -- The rows of good bones: what each turn of `fill` stores.
-use Prim.Native.Nat.{ℕ, suc, _+_, _-_, _*_, _<_, _≤_}
+use Prim.Native.Nat.{ℕ, _+_, _-_, _*_, _<_, _≤_}
 use native.Mathlib.Omega.{arith}
-use native.Mathlib.Nat.{add-zero}
 use mathlib.Core.Path.{_≡_, refl, ap, sym, _∙_}
 use mathlib.Core.List.{List, [], _∷_, _++_, map}
-use lib.ListN.{length, take, drop, set, length-append}
+use lib.ListN.{length, length-append}
 use lib.Seq.{sets}
 use Rattle.wire.specs.Bytes.{over}
 use Rattle.wire.specs.Cursors.{Inside, left}
 use Rattle.wire.specs.declared.Cursor.{Cursor}
-use Rattle.wire.proofs.Left.{span, left-length}
+use Rattle.wire.proofs.Left.{left-length}
 use Rattle.layout.specs.Parts.{Step, wordsOf}
 use Rattle.layout.specs.Rows.{nameCells, joined}
 use Rattle.layout.proofs.StepLaws.{length-words-of}
+use Rattle.layout.proofs.ListLaws.{joined-append}
 use Rattle.cells.proofs.Storing.{Storing, store-none, store-run, store-done, sets-append}
-use Rattle.cells.proofs.Joined.{joined-append, over-all}
+use Rattle.cells.proofs.Joined.{over-all}
 use Rattle.cal3d_scene.specs.Skeletons.{Bone, listOf, readBone}
 use Rattle.cal3d_scene.specs.Tables.{boneRows, childRows}
-use Rattle.cal3d_bones.specs.Bones.{LaidAt, NoBone, Lays, bonesIn, childrenIn}
+use Rattle.cal3d_bones.specs.Bones.{LaidAt, NoBone, Lays, childrenIn}
 use Rattle.cal3d_bones.specs.declared.Laid.{Laid}
 use Rattle.cal3d_bones.specs.declared.Laid.the-variants as laid
 use Rattle.cal3d_bones.proofs.WalkLaws.{none-in, one-in}

@@ -99,33 +99,17 @@ fn fill(s: &[u8], from: Cursor, count: usize, bones: &mut [u32], children: &mut 
     let mut i: usize = 0;
     let mut before: usize = 0;
     while i < count {
-        match cal3d_bones::lay_bone(s, c, count) {
-            Laid::Gone => {
-                return;
-            }
-            Laid::At {
-                numbers,
-                count: many,
-                next,
-            } => {
-                let name = c.at + 4;
-                let end = c.end;
-                put_bone(s, name, Cursor { at: numbers, end }, before, 23 * i, bones);
-                cells::copy_words(
-                    s,
-                    Cursor {
-                        at: numbers + 80,
-                        end,
-                    },
-                    many,
-                    before,
-                    children,
-                );
-                before += many;
-                i += 1;
-                c = next;
-            }
-        }
+        let Laid::At(numbers, many, next) = cal3d_bones::lay_bone(s, c, count) else {
+            return;
+        };
+        let name = c.at + 4;
+        let end = c.end;
+        put_bone(s, name, Cursor { at: numbers, end }, before, 23 * i, bones);
+        let at = numbers + 80;
+        cells::copy_words(s, Cursor { at, end }, many, before, children);
+        before += many;
+        i += 1;
+        c = next;
     }
 }
 

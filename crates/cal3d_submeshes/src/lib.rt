@@ -9,6 +9,7 @@ ghost use Rattle.counted.specs.Runs.{Runs};
 ghost use Rattle.cal3d_scene.specs.Rules.{submeshNumbers};
 ghost use Rattle.cal3d_scene.specs.Meshes.{readSubmesh};
 ghost use Rattle.cal3d_submeshes.specs.Contents.{Contains, Within, both, contentsOf, contentsIn, readLists};
+use cal3d_vertices::Sizes;
 use counted::Ran;
 use counted::Summed;
 use wire::Cursor;
@@ -38,7 +39,7 @@ fn pass_counts(s: &[u8], c: Cursor) -> Ran
     if end - at < 24 {
         return Ran::Not(5, at);
     }
-    let good = counted::first_bad(s, Cursor { at: at + 4, end }, 5, 2147483648);
+    let good = counted::first_bad(s, Cursor { at: at + 4, end }, 5, 2147483648, false);
     if good < 5 {
         return Ran::Not(6, at + 4 + 4 * good);
     }
@@ -46,32 +47,24 @@ fn pass_counts(s: &[u8], c: Cursor) -> Ran
 }
 
 // The lists of a submesh: its vertices, its springs, its faces.
-fn judge_lists(
-    s: &[u8],
-    c: Cursor,
-    bones: usize,
-    vertices: usize,
-    springs: usize,
-    maps: usize,
-    faces: usize,
-) -> Contained
+fn judge_lists(s: &[u8], c: Cursor, bones: usize, n: Sizes, faces: usize) -> Contained
     requires { ⌜ Inside c (length (now s)) ⌝ }
-    ensures { λ r. ⌜ Contains contentsOf (readLists bones vertices springs maps faces (c .at) (left c (now (s .entry)))) c 0 r ⌝ }
+    ensures { λ r. ⌜ Contains contentsOf (readLists bones (n .vertices) (n .springs) (n .maps) faces (c .at) (left c (now (s .entry)))) c 0 r ⌝ }
 {
-    match cal3d_vertices::judge_vertices(s, c, bones, vertices, springs, maps) {
+    match cal3d_vertices::judge_vertices(s, c, bones, n) {
         Summed::Not(e, p) => Contained::Not(e, p),
         Summed::To(influences, first) => {
-            let all_maps = vertices * maps;
-            match counted::id_rows(s, first, springs, 4, 2, vertices) {
+            let maps = n.vertices * n.maps;
+            match counted::id_rows(s, first, n.springs, 4, 2, n.vertices) {
                 Ran::Not(e, p) => Contained::Not(e, p),
-                Ran::To(second) => match counted::id_rows(s, second, faces, 3, 3, vertices) {
+                Ran::To(second) => match counted::id_rows(s, second, faces, 3, 3, n.vertices) {
                     Ran::Not(e, p) => Contained::Not(e, p),
                     Ran::To(next) => Contained::To(
                         Contents {
-                            vertices,
-                            maps: all_maps,
+                            vertices: n.vertices,
+                            maps,
                             influences,
-                            springs,
+                            springs: n.springs,
                             faces,
                         },
                         next,
@@ -91,11 +84,13 @@ fn judge_submesh(s: &[u8], c: Cursor, bones: usize) -> Contained
         Ran::Not(e, p) => Contained::Not(e, p),
         Ran::To(lists) => {
             let at = c.at;
-            let vertices = wire::size(wire::number_at(s, at + 4));
             let faces = wire::size(wire::number_at(s, at + 8));
-            let springs = wire::size(wire::number_at(s, at + 16));
-            let maps = wire::size(wire::number_at(s, at + 20));
-            judge_lists(s, lists, bones, vertices, springs, maps, faces)
+            let n = Sizes {
+                vertices: wire::size(wire::number_at(s, at + 4)),
+                springs: wire::size(wire::number_at(s, at + 16)),
+                maps: wire::size(wire::number_at(s, at + 20)),
+            };
+            judge_lists(s, lists, bones, n, faces)
         }
     }
 }

@@ -2,7 +2,7 @@
 use Prim.Native.Nat.{ℕ, zero, suc, _+_, _-_, _*_, _<_, _≤_}
 use native.Mathlib.Omega.{arith}
 use native.Mathlib.Nat.{add-mul}
-use mathlib.Core.Bool.{Bool, true, false, not, _&&_}
+use mathlib.Core.Bool.{Bool, true, false, _&&_}
 use mathlib.Core.Logic.{_⊎_, inl, inr}
 use mathlib.Core.Path.{_≡_, refl, ap, sym, subst, _∙_}
 use mathlib.Core.List.{List, [], _∷_, _++_, map}
@@ -11,11 +11,12 @@ use lib.Seq.{getD-set-same, getD-set-other}
 use lib.Dec.{eqb, ltb}
 use borrow.Author.Tests.{eq-eqb, ne-eqb, lt-ltb, le-ltb, ltb-true, ltb-false}
 use Rattle.wire.specs.Test.{if}
-use Rattle.layout.specs.Out.{Out, got, bad, check, _>>=_}
+use Rattle.layout.specs.Out.{check}
 use Rattle.layout.specs.Rules.{NONE}
+use Rattle.layout.proofs.Testing.{and-false, and-true}
 use Rattle.cal3d_scene.specs.Skeletons.{Bone, parentOf, listOf}
-use Rattle.cal3d_scene.specs.Trees.{occurs, listed, ends, stands, standing, trees}
-use Rattle.cal3d_trees.specs.Scores.{weight, score, wanted, sound, lowest, Named, placeAt, strayAt, Scored}
+use Rattle.cal3d_scene.specs.Trees.{occurs, listed, stands, standing, trees}
+use Rattle.cal3d_trees.specs.Scores.{weight, score, wanted, sound, lowest, Named, strayAt, Scored}
 use Rattle.cal3d_trees.proofs.EndLaws.{by-eq}
 use Rattle.cal3d_trees.proofs.Straying.{lowest-here, lowest-next, lowest-none}
 
@@ -29,20 +30,12 @@ other-one : (a s : ℕ) → (eqb a 0 && eqb s 1) ≡ eqb (a * 2 + s) 1
 other-one zero s = let e : zero * 2 + s ≡ s = omega arith in rw e
 other-one (suc a) s = let n = ne-eqb (suc a) 0 (λ e. omega arith) in let m = ne-eqb (suc a * 2 + s) 1 (λ e. omega arith) in rw (n, m)
 
-and-no : (t : Bool) → (t && false) ≡ false
-and-no true = refl
-and-no false = refl
-
-and-yes : (t : Bool) → (t && true) ≡ t
-and-yes true = refl
-and-yes false = refl
-
 own-one : (a t : ℕ) → (eqb a 1 && eqb (2 * t) 0) ≡ eqb (a * 1 + 2 * t) 1
-own-one a zero = let e : a * 1 + 2 * zero ≡ a = omega arith in rw e (and-yes (eqb a 1))
+own-one a zero = let e : a * 1 + 2 * zero ≡ a = omega arith in rw e (and-true (eqb a 1))
 own-one a (suc t) =
     let n = ne-eqb (2 * suc t) 0 (λ e. omega arith) in
     let m = ne-eqb (a * 1 + 2 * suc t) 1 (λ e. omega arith) in
-    rw (n, m) (and-no (eqb a 1))
+    rw (n, m) (and-false (eqb a 1))
 
 -- ---- scores and lists
 

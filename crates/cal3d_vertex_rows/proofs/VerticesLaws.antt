@@ -9,7 +9,7 @@ use lib.ListN.{length, length-append}
 use lib.Seq.{sets}
 use Rattle.wire.specs.Bytes.{wordAt}
 use Rattle.layout.specs.Rows.{joined}
-use Rattle.cells.proofs.Joined.{joined-append}
+use Rattle.layout.proofs.ListLaws.{joined-append}
 use Rattle.cells.proofs.Storing.{Part, part-start, part-long, part-done, part-room, part-next}
 use Rattle.cal3d_scene.specs.Meshes.{Vertex}
 use Rattle.cal3d_scene.specs.Tables.{vertexRows}
@@ -133,15 +133,6 @@ module _ (s : List ℕ) (x : Shape) (from : Marks) (first : ℕ) (vertices₀ ma
       }
 
   module _ (vertices maps influences : List ℕ) (m : Marks) (done : ℕ) (v : Left vertices maps influences m done) where
-    pub long2 : length vertices ≡ length vertices₀
-    long2 = part-long (v .part2)
-
-    pub long3 : length maps ≡ length maps₀
-    long3 = part-long (v .part3)
-
-    pub long4 : length influences ≡ length influences₀
-    long4 = part-long (v .part4)
-
     pub vertices-done : x .vertices ≤ done → VerticesPut s x from first vertices₀ maps₀ influences₀ vertices maps influences m
     vertices-done h =
         let z : v .left ≡ 0 = omega (arith, v .all) in
@@ -306,9 +297,7 @@ module _ (s : List ℕ) (x : Shape) (from : Marks) (first : ℕ) (vertices₀ ma
 
 pub ruleset turns = (
   vertices-start,
-  long2,
-  long3,
-  long4,
+  part-long,
   vertices-done,
   turn-room,
   turn-vertices,

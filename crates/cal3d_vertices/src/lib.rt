@@ -13,6 +13,13 @@ use counted::Summed;
 use wire::Cursor;
 use wire::Number;
 
+// How many vertices a submesh has, how many springs, and how many maps each vertex.
+pub struct Sizes {
+    pub vertices: usize,
+    pub springs: usize,
+    pub maps: usize,
+}
+
 // A vertex's numbers, and so many maps.
 fn pass_mapped(s: &[u8], c: Cursor, vertices: usize, maps: usize) -> Ran
     requires { ⌜ Inside c (length (now s)) ⌝ }
@@ -62,23 +69,16 @@ fn pass_cloth(s: &[u8], c: Cursor, springs: usize) -> Ran
     Ran::To(c)
 }
 
-// One vertex of a submesh with so many vertices, springs and maps.
-fn judge_vertex(
-    s: &[u8],
-    c: Cursor,
-    bones: usize,
-    vertices: usize,
-    springs: usize,
-    maps: usize,
-) -> Summed
+// One vertex of a submesh of these sizes.
+fn judge_vertex(s: &[u8], c: Cursor, bones: usize, n: Sizes) -> Summed
     requires { ⌜ Inside c (length (now s)) ⌝ }
-    ensures { λ r. ⌜ Sums influenceCount (readVertex bones vertices springs maps (c .at) (left c (now (s .entry)))) c (36 + maps * 8) r ⌝ }
+    ensures { λ r. ⌜ Sums influenceCount (readVertex bones (n .vertices) (n .springs) (n .maps) (c .at) (left c (now (s .entry)))) c (36 + n .maps * 8) r ⌝ }
 {
-    match pass_mapped(s, c, vertices, maps) {
+    match pass_mapped(s, c, n.vertices, n.maps) {
         Ran::Not(e, p) => Summed::Not(e, p),
         Ran::To(number) => match judge_influences(s, number, bones) {
             Summed::Not(e, p) => Summed::Not(e, p),
-            Summed::To(count, cloth) => match pass_cloth(s, cloth, springs) {
+            Summed::To(count, cloth) => match pass_cloth(s, cloth, n.springs) {
                 Ran::Not(e, p) => Summed::Not(e, p),
                 Ran::To(next) => Summed::To(count, next),
             },
@@ -87,27 +87,20 @@ fn judge_vertex(
 }
 
 // The vertices of a submesh. Each takes 36 bytes or more, so that the walk ends with the bytes, whatever the number says.
-pub fn judge_vertices(
-    s: &[u8],
-    from: Cursor,
-    bones: usize,
-    vertices: usize,
-    springs: usize,
-    maps: usize,
-) -> Summed
+pub fn judge_vertices(s: &[u8], from: Cursor, bones: usize, n: Sizes) -> Summed
     requires { ⌜ Inside from (length (now s)) ⌝ }
-    ensures { λ r. ⌜ Sums influencesIn (times vertices (readVertex bones vertices springs maps) (from .at) (left from (now (s .entry)))) from (vertices * (36 + maps * 8)) r ⌝ }
+    ensures { λ r. ⌜ Sums influencesIn (times (n .vertices) (readVertex bones (n .vertices) (n .springs) (n .maps)) (from .at) (left from (now (s .entry)))) from (n .vertices * (36 + n .maps * 8)) r ⌝ }
 {
     let mut c = from;
-    let mut more = vertices;
+    let mut more = n.vertices;
     let mut influences: usize = 0;
     while 0 < more {
-        match judge_vertex(s, c, bones, vertices, springs, maps) {
+        match judge_vertex(s, c, bones, n) {
             Summed::Not(e, p) => {
                 return Summed::Not(e, p);
             }
-            Summed::To(n, next) => {
-                influences += n;
+            Summed::To(count, next) => {
+                influences += count;
                 more -= 1;
                 c = next;
             }

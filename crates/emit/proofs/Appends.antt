@@ -5,10 +5,6 @@ use mathlib.Core.List.{List, [], _∷_, _++_, append-assoc}
 use Rattle.wire.specs.Bytes.{bytes}
 use Rattle.layout.specs.Write.{writeWords, writeText, writeItems, Chunk, writeChunk, writeChunks}
 
-pub words-append : (ws r : List ℕ) → writeWords ws r ≡ writeWords ws [] ++ r
-words-append [] r = refl
-words-append (w ∷ ws) r = ap (λ (l : List ℕ). bytes w l) (words-append ws r)
-
 pub words-both : (ws vs : List ℕ) → writeWords (ws ++ vs) [] ≡ writeWords ws [] ++ writeWords vs []
 words-both [] vs = refl
 words-both (w ∷ ws) vs = ap (λ (l : List ℕ). bytes w l) (words-both ws vs)

@@ -8,18 +8,18 @@ ghost use Rattle.b3d_scene.specs.Answers.{judge, answer};
 ghost use Rattle.b3d_read.specs.Reads.{Reads};
 ghost use Rattle.slip.specs.Slips.{readSlipAnswer};
 ghost use Rattle.b3d_label.specs.Walk.{labelOf};
-ghost use Rattle.kelompuris_answers.specs.Answers.{answerIn, modeOf, slipIn, trayLabelIn};
-use kelompuris_answers::KelompurisAnswer;
-use kelompuris_answers::KelompurisLabel;
-use kelompuris_answers::KelompurisSlip;
+ghost use Rattle.kelompuris_mode.specs.Modes.{modeOf};
+use b3d_label::TrayLabel;
+use b3d_scene::Answer;
+use slip::Slip;
 
 // Judges a file in a mode without any table: 1 to 10, or 0 with version, n_texs and counts.
 #[no_mangle]
-pub extern "C" fn kelompuris_b3d_judge(mode: u32, file: &[u8]) -> KelompurisAnswer
-    ensures { λ r. ⌜ answerIn r ≡ answer (judge (modeOf mode) (now (file .entry))) ⌝ }
+pub extern "C" fn kelompuris_b3d_judge(mode: u32, file: &[u8]) -> Answer
+    ensures { λ r. ⌜ r ≡ answer (judge (modeOf mode) (now (file .entry))) ⌝ }
 {
-    let m = kelompuris_answers::mode_of(mode);
-    kelompuris_answers::outward(b3d_answers::judge(m, file))
+    let m = kelompuris_mode::mode_of(mode);
+    b3d_answers::judge(m, file)
 }
 
 // Reads a file in a mode into ten lent tables.
@@ -37,30 +37,30 @@ pub extern "C" fn kelompuris_b3d_read(
     t8: &mut [u32],
     t9: &mut [u32],
     t10: &mut [u32],
-) -> KelompurisAnswer
+) -> Answer
     ensures { λ r. ⌜ Reads (modeOf mode) (now (file .entry))
         (now (t1 .entry) ∷ now (t2 .entry) ∷ now (t3 .entry) ∷ now (t4 .entry) ∷ now (t5 .entry)
         ∷ now (t6 .entry) ∷ now (t7 .entry) ∷ now (t8 .entry) ∷ now (t9 .entry) ∷ now (t10 .entry) ∷ [])
         (now (t1 .exit) ∷ now (t2 .exit) ∷ now (t3 .exit) ∷ now (t4 .exit) ∷ now (t5 .exit)
-        ∷ now (t6 .exit) ∷ now (t7 .exit) ∷ now (t8 .exit) ∷ now (t9 .exit) ∷ now (t10 .exit) ∷ []) (answerIn r) ⌝ }
+        ∷ now (t6 .exit) ∷ now (t7 .exit) ∷ now (t8 .exit) ∷ now (t9 .exit) ∷ now (t10 .exit) ∷ []) r ⌝ }
 {
-    let m = kelompuris_answers::mode_of(mode);
-    kelompuris_answers::outward(b3d_read::read(m, file, t1, t2, t3, t4, t5, t6, t7, t8, t9, t10))
+    let m = kelompuris_mode::mode_of(mode);
+    b3d_read::read(m, file, t1, t2, t3, t4, t5, t6, t7, t8, t9, t10)
 }
 
 // Reads a slip.
 #[no_mangle]
-pub extern "C" fn kelompuris_slip_read(slip: &[u8]) -> KelompurisSlip
-    ensures { λ r. ⌜ slipIn r ≡ readSlipAnswer (now (slip .entry)) ⌝ }
+pub extern "C" fn kelompuris_slip_read(slip: &[u8]) -> Slip
+    ensures { λ r. ⌜ r ≡ readSlipAnswer (now (slip .entry)) ⌝ }
 {
-    kelompuris_answers::outward_slip(slip::read_slip(slip))
+    slip::read_slip(slip)
 }
 
 // The name of a file's root and the vertices of its mesh, without judging the file. The name lies in the file.
 #[no_mangle]
-pub extern "C" fn kelompuris_b3d_label(file: &[u8]) -> KelompurisLabel
-    ensures { λ r. ⌜ trayLabelIn r ≡ labelOf (now (file .entry)) ⌝ }
+pub extern "C" fn kelompuris_b3d_label(file: &[u8]) -> TrayLabel
+    ensures { λ r. ⌜ r ≡ labelOf (now (file .entry)) ⌝ }
     ensures { λ r. ⌜ r .«name_place» + r .«name_length» ≤ length (now (file .entry)) ⌝ }
 {
-    kelompuris_answers::outward_label(b3d_label::label(file))
+    b3d_label::label(file)
 }

@@ -1,4 +1,4 @@
--- What was promised of what is written holds of the same answer in C's layout.
+-- What was promised of a mode holds of the number that names it.
 use mathlib.Core.Path.{_≡_}
 use Prim.Native.Nat.{ℕ}
 use mathlib.Core.List.{List}
@@ -6,8 +6,6 @@ use Rattle.b3d_scene.specs.declared.Mode.{Mode}
 use Rattle.b3d_scene.specs.declared.Written.{Written}
 use Rattle.b3d_scene.specs.Rebuild.{Lent}
 use Rattle.b3d_write.specs.Writes.{Writes}
-use Rattle.kelompuris_answers.specs.Answers.{writtenIn}
-use Rattle.kelompuris_answers.specs.declared.KelompurisWritten.{KelompurisWritten}
 
-pub outward-writes : (m k : Mode) → m ≡ k → (r : KelompurisWritten) (w : Written) → writtenIn r ≡ w → (T : Lent) (ns out put : List ℕ) → Writes m T ns out put w → Writes k T ns out put (writtenIn r)
-outward-writes m k em r w e T ns out put h = rw (← em, e) h
+pub mode-writes : (m k : Mode) → m ≡ k → (T : Lent) (ns out put : List ℕ) (w : Written) → Writes m T ns out put w → Writes k T ns out put w
+mode-writes m k em T ns out put w h = rw (← em) h

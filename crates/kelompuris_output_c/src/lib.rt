@@ -6,8 +6,8 @@ ghost use Rattle.b3d_check.specs.Lent.{lentOf};
 ghost use Rattle.b3d_write.specs.Writes.{Writes};
 ghost use Rattle.slip.specs.Slips.{writeSlipAnswer, writeSlipOutput};
 ghost use Rattle.b3d_slip.specs.FileSlips.{fileSlipAnswer, fileSlipOutput};
-ghost use Rattle.kelompuris_answers.specs.Answers.{writtenIn, modeOf};
-use kelompuris_answers::KelompurisWritten;
+ghost use Rattle.kelompuris_mode.specs.Modes.{modeOf};
+use b3d_scene::Written;
 
 // Writes the shortest file that has the lent tables, in a mode.
 #[no_mangle]
@@ -28,12 +28,12 @@ pub extern "C" fn kelompuris_b3d_write(
     n_texs: u32,
     names: &[u8],
     out: &mut [u8],
-) -> KelompurisWritten
+) -> Written
     ensures { λ r. ⌜ Writes (modeOf mode) (lentOf version «n_texs» (now (counts .entry)) (now (t1 .entry)) (now (t2 .entry)) (now (t3 .entry)) (now (t4 .entry)) (now (t5 .entry))
-        (now (t6 .entry)) (now (t7 .entry)) (now (t8 .entry)) (now (t9 .entry)) (now (t10 .entry))) (now (names .entry)) (now (out .entry)) (now (out .exit)) (writtenIn r) ⌝ }
+        (now (t6 .entry)) (now (t7 .entry)) (now (t8 .entry)) (now (t9 .entry)) (now (t10 .entry))) (now (names .entry)) (now (out .entry)) (now (out .exit)) r ⌝ }
 {
-    let m = kelompuris_answers::mode_of(mode);
-    kelompuris_answers::outward_written(b3d_write::write(
+    let m = kelompuris_mode::mode_of(mode);
+    b3d_write::write(
         m,
         t1,
         t2,
@@ -50,32 +50,32 @@ pub extern "C" fn kelompuris_b3d_write(
         n_texs,
         names,
         out,
-    ))
+    )
 }
 
 // Writes the copy without names of a file.
 #[no_mangle]
-pub extern "C" fn kelompuris_b3d_clear(file: &[u8], out: &mut [u8]) -> KelompurisWritten
-    ensures { λ r. ⌜ writtenIn r ≡ clearAnswer (now (file .entry)) (now (out .entry)) ⌝ }
+pub extern "C" fn kelompuris_b3d_clear(file: &[u8], out: &mut [u8]) -> Written
+    ensures { λ r. ⌜ r ≡ clearAnswer (now (file .entry)) (now (out .entry)) ⌝ }
     ensures { λ _. ⌜ now (out .exit) ≡ clearOutput (now (file .entry)) (now (out .entry)) ⌝ }
 {
-    kelompuris_answers::outward_written(b3d_clear::clear(file, out))
+    b3d_clear::clear(file, out)
 }
 
 // Writes the slip of twelve numbers.
 #[no_mangle]
-pub extern "C" fn kelompuris_slip_write(numbers: &[u32; 12], out: &mut [u8]) -> KelompurisWritten
-    ensures { λ r. ⌜ writtenIn r ≡ writeSlipAnswer (now (numbers .entry)) (now (out .entry)) ⌝ }
+pub extern "C" fn kelompuris_slip_write(numbers: &[u32; 12], out: &mut [u8]) -> Written
+    ensures { λ r. ⌜ r ≡ writeSlipAnswer (now (numbers .entry)) (now (out .entry)) ⌝ }
     ensures { λ _. ⌜ now (out .exit) ≡ writeSlipOutput (now (numbers .entry)) (now (out .entry)) ⌝ }
 {
-    kelompuris_answers::outward_written(slip::write_slip(*numbers, out))
+    slip::write_slip(*numbers, out)
 }
 
 // Writes the slip of a file.
 #[no_mangle]
-pub extern "C" fn kelompuris_b3d_slip(file: &[u8], out: &mut [u8]) -> KelompurisWritten
-    ensures { λ r. ⌜ writtenIn r ≡ fileSlipAnswer (now (file .entry)) (now (out .entry)) ⌝ }
+pub extern "C" fn kelompuris_b3d_slip(file: &[u8], out: &mut [u8]) -> Written
+    ensures { λ r. ⌜ r ≡ fileSlipAnswer (now (file .entry)) (now (out .entry)) ⌝ }
     ensures { λ _. ⌜ now (out .exit) ≡ fileSlipOutput (now (file .entry)) (now (out .entry)) ⌝ }
 {
-    kelompuris_answers::outward_written(b3d_slip::slip_of(file, out))
+    b3d_slip::slip_of(file, out)
 }

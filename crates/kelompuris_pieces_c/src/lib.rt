@@ -4,7 +4,6 @@
 ghost use Rattle.b3d_piece_calls.specs.Called.{Fresh, PieceIs, CloseIs};
 ghost use Rattle.b3d_piece_rounds.specs.Rounds.{numbers};
 ghost use Rattle.b3d_piece_state.specs.States.{judgeIn};
-ghost use Rattle.kelompuris_answers.specs.Answers.{answerIn};
 use b3d_piece_calls::calls::start;
 use b3d_piece_rounds::PieceClosed;
 use b3d_piece_rounds::closing::closed;
@@ -46,7 +45,7 @@ pub extern "C" fn kelompuris_b3d_pieces_piece(
 // No byte is left: what the reader says of all bytes joined. A refused call gives back the state that it was handed.
 #[no_mangle]
 pub extern "C" fn kelompuris_b3d_pieces_close(state: PieceState, row: &[OpenRecord]) -> PieceClosed
-    ensures { λ r. ⌜ CloseIs numbers state (now (row .entry)) (answerIn (r .answer)) (r .state) ⌝ }
+    ensures { λ r. ⌜ CloseIs numbers state (now (row .entry)) (r .answer) (r .state) ⌝ }
 {
     let mut t = first(state, row.len(), 0);
     while t.go {

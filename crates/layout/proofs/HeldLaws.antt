@@ -11,12 +11,13 @@ use lib.Dec.{T}
 use lib.Seq.{getD-drop}
 use Rattle.wire.specs.Bytes.{word, wordAt}
 use Rattle.layout.specs.Out.{Out, got, bad, check, _>>=_}
-use Rattle.layout.specs.Rules.{Rule, any, upTo, exactly, names, namesOrNone, unit, holds, refusal}
+use Rattle.layout.specs.Rules.{Rule, any, upTo, exactly, names, namesOrNone, unit, holds}
 use Rattle.layout.specs.Parts.{Name, Step, text, words, judged, row, named, itemsIn, items}
 use Rattle.layout.specs.Fit.{all}
 use Rattle.layout.proofs.Outs.{by-got, bad-got, got-inj}
 use Rattle.layout.proofs.PlaceLaws.{At, at-four, text-at}
 use Rattle.layout.proofs.StepLaws.{judged-got}
+use Rattle.layout.proofs.Testing.{and-assoc}
 
 -- ---- rules
 
@@ -54,14 +55,6 @@ passes-any zero rs ws = refl
 passes-any (suc n) rs [] = sym (passes-none rs)
 passes-any (suc n) rs (w ∷ ws) = passes-any n rs ws
 
-pub and-assoc : (a b c : Bool) → ((a && b) && c) ≡ (a && (b && c))
-and-assoc true b c = refl
-and-assoc false b c = refl
-
-pub and-true : (a : Bool) → (a && true) ≡ a
-and-true true = refl
-and-true false = refl
-
 pub passes-unit : (n : ℕ) (rs : List Rule) (ws : List ℕ) → passes (replicate n unit ++ rs) ws ≡ (all (holds unit) (take n ws) && passes rs (drop n ws))
 passes-unit zero rs ws = refl
 passes-unit (suc n) rs [] = sym (passes-none rs)
@@ -70,7 +63,7 @@ passes-unit (suc n) rs (w ∷ ws) =
 
 -- ---- words
 
-words-count : (start n p : ℕ) (s : List ℕ) (x : Step (List ℕ)) → words start n p s ≡ got x → length (x .value) ≡ n
+pub words-count : (start n p : ℕ) (s : List ℕ) (x : Step (List ℕ)) → words start n p s ≡ got x → length (x .value) ≡ n
 unfolding words
 words-count start zero p s x e = sym (ap (λ (v : Step (List ℕ)). length (v .value)) (got-inj e))
 words-count start (suc n) p [] x e = bad-got e

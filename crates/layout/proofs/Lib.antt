@@ -1,5 +1,6 @@
 pub mod Outs
 pub mod Lists
+pub mod ListLaws
 pub mod Testing
 pub mod Fitting
 pub mod PartLaws

@@ -6,14 +6,12 @@ use mathlib.Core.List.{List, []}
 use lib.ListN.{length}
 use borrow.Author.Tests.{le-leb, lt-leb}
 use Rattle.wire.specs.Bytes.{over}
-use Rattle.layout.specs.Out.{Out, got, bad, check, _>>=_}
+use Rattle.layout.specs.Out.{Out, got, bad, check}
 use Rattle.groups.specs.Groups.{writeNumbers}
 use Rattle.b3d_scene.specs.Answers.{roomFor, written, outputAfter}
 use Rattle.b3d_scene.specs.declared.Written.{Written}
+use Rattle.b3d_scene.proofs.AnswerLaws.{of-size}
 use Rattle.slip.specs.Slips.{limits, firstOver, writeSlip, writeSlipAnswer, writeSlipOutput, slipWithin, writeWithin}
-
-of-size : (m n : ℕ) → m ≡ n → _≡_ {A = Written} (record { number = 0; place = 0; size = m }) (record { number = 0; place = 0; size = n })
-of-size m n e = rw e
 
 module _ (ns out : List ℕ) where
   answered : (o : Out (List ℕ)) → writeSlip ns (length out) ≡ o → (w : Written) → w ≡ written o → w ≡ writeSlipAnswer ns out

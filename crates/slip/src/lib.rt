@@ -12,6 +12,7 @@ use b3d_scene::Written;
 use groups::Grouped;
 
 // What the reader of slips answers: refusal number and place, or 0 and 0 with the twelve numbers.
+#[repr(C)]
 pub struct Slip {
     pub number: u32,
     pub place: u32,

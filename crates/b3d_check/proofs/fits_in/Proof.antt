@@ -8,7 +8,6 @@ pub fits-in-spec : {M : Type 1} → statement M
 fits-in-spec =
     tie.close
     (tie.spec
-    (λ c κs. search (fits-laws, needs))
     (λ c. search (fits-laws, needs))
     (λ c. search (fits-laws, needs))
     (λ c. search (fits-laws, needs)))

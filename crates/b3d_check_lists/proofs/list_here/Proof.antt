@@ -1,6 +1,6 @@
 -- `list_here` answers `listHere` of the row by its parts.
 use Rattle.b3d_check_rows.proofs.Ands.{ands}
-use Rattle.b3d_check_lists.proofs.ListLaws.{list-parts}
+use Rattle.b3d_check_lists.proofs.ItemLaws.{list-parts}
 use borrow.Author.Needs.{needs}
 use Rattle.b3d_check_lists.proofs.list_here.Statement.{statement}
 use Rattle.b3d_check_lists.proofs.list_here.Tie as tie

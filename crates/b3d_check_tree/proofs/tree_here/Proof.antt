@@ -1,5 +1,7 @@
 -- `tree_here` looks at the root, then at the nodes below it.
-use Rattle.b3d_check_tree.proofs.TreeLaws.{tree-empty, tree-wrong, tree-node, root-after, root-below, root-small, tree-nodes}
+use native.Mathlib.Omega.{arith}
+use Rattle.b3d_check_tree.proofs.TreeLaws.{tree-empty, tree-wrong, tree-node, root-after, root-below, tree-nodes}
+use Rattle.b3d_check_tree.proofs.NodesLaws.{cell-there}
 use borrow.Author.Needs.{needs}
 use Rattle.b3d_check_tree.proofs.tree_here.Statement.{statement}
 use Rattle.b3d_check_tree.proofs.tree_here.Tie as tie
@@ -21,9 +23,7 @@ tree-here-spec =
         root-after _ _ _ _ _ _ _ _ _ _ _ (search needs) _ (c .before .node-here .ensures) (c .if3 .left),
       ),
     ))
-    (λ c κs. root-small _ _ _ _ _ _ _ _ _ _ _ (search needs) _ (c .before .before .node-here .ensures) (search needs) _ (c .node-counts .ensures) (c .before .before .before .before .before .before .before .before .before .before .before .before .before .before .before .before .pre .0 .0))
-    (λ c. search (c .before .before .before .before .before .before .before .before .before .before .before .before .before .before .before .before .before .before .pre .1 .0, c .before .before .before .before .before .before .before .if1 .left, needs))
-    (λ c κs. search needs)
-    (λ c κs. let h = c .before .before .before .before .before .before .before .before .before .before .before .before .before .before .before .before .before .before .before .pre in
-    ((root-below _ _ _ _ _ _ _ _ _ _ _ (search needs) _ (c .before .before .before .before .before .node-here .ensures) (search needs) _ (c .before .before .before .node-counts .ensures), h .0 .1), (h .0 .0, h .1 .0, h .1 .1)))
+    (λ c κs. (omega arith, cell-there 20 0 _ _ (c .before .before .before .before .before .if1 .left) (c .before .before .before .before .before .before .before .before .before .before .before .before .before .before .before .before .pre .1 .0) (omega arith)))
+    (λ c κs. let h = c .before .before .before .before .before .before .before .before .before .before .before .before .before .before .before .before .before .pre in
+    ((root-below _ _ _ _ _ _ _ _ _ _ _ (search needs) _ (c .before .before .before .node-here .ensures) (search needs) _ (c .before .node-counts .ensures), h .0 .1), (h .0 .0, h .1 .0, h .1 .1)))
     (λ c. search (tree-nodes, needs)))

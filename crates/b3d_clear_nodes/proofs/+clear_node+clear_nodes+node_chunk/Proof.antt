@@ -11,9 +11,8 @@ use Rattle.b3d_clear_nodes.proofs.node_chunk.Reads as node-chunk
 use Rattle.b3d_clear_nodes.proofs.node_chunk.Kinds as node-chunk-kinds
 use Rattle.b3d_clear_nodes.proofs.+clear_node+clear_nodes+node_chunk.Lts-node_chunk as node-chunk-lts
 use Rattle.b3d_chunks.proofs.named_row.Reads as named-row-reads
-use Rattle.b3d_chunks.proofs.next_chunk.Reads as next-chunk-reads
 use Rattle.b3d_clear_nodes.proofs.clear_own.Reads as clear-own-reads
-use Rattle.b3d_chunks.proofs.same.Reads as same-reads
+use Rattle.b3d_walk.proofs.seek.Reads as seek-reads
 use Rattle.emit.proofs.put_header.Reads as put-header-reads
 use Rattle.b3d_clear_nodes.proofs.+clear_node+clear_nodes+node_chunk.{statement}
 use Rattle.b3d_clear_nodes.proofs.+clear_node+clear_nodes+node_chunk.Tie.{close}
@@ -61,10 +60,8 @@ pub +clear-node+clear-nodes+node-chunk-spec : {M : Type 1} → statement M
     (λ c. search (node-laws, needs))
     (λ c. search (node-laws, needs)))
     (λ t. clear-nodes-lts.spec (
-      next-chunk-reads.Asked,
-      next-chunk-reads.Learnt,
-      same-reads.Asked,
-      same-reads.Learnt,
+      seek-reads.Asked,
+      seek-reads.Learnt,
       askedBelow 2 clear-node-kinds.ps μ-clear-node clear-node.Pre t,
       clear-node.Post,
     )
@@ -82,12 +79,6 @@ pub +clear-node+clear-nodes+node-chunk-spec : {M : Type 1} → statement M
     (λ c. search (each-laws, needs))
     (λ c. search (each-laws, needs))
     (λ c κs. search (each-laws, needs))
-    (λ c. search (each-laws, needs))
-    (λ c. search (each-laws, needs))
-    (λ c. search (each-laws, needs))
-    (λ c κs. search (each-laws, needs))
-    (λ c. search (each-laws, needs))
-    (λ c. search (each-laws, needs))
     (λ c. search (each-laws, needs))
     (λ c. search (each-laws, needs))
     (λ c. search (each-laws, needs)))

@@ -10,11 +10,11 @@ fill-tables-spec =
     tie.close
     (tie.spec
     (λ c. search needs)
-    (λ c κs. let pre = c .before .before .before .before .before .before .before .before .before .before .before .before .pre in (pre .small, pre .rows 1 (omega arith) (omega arith), pre .room 1 (omega arith) (omega arith)))
+    (λ c κs. let pre = c .before .before .before .before .before .before .before .before .before .before .before .before .pre in (omega arith, omega arith, pre .small, pre .rows 1 (omega arith) (omega arith), pre .room 1 (omega arith) (omega arith)))
     (λ c. search needs)
-    (λ c κs. let pre = c .before .before .before .before .before .before .before .before .before .before .before .before .before .before .before .before .pre in (pre .small, pre .rows 2 (omega arith) (omega arith), pre .room 2 (omega arith) (omega arith)))
+    (λ c κs. let pre = c .before .before .before .before .before .before .before .before .before .before .before .before .before .before .before .before .pre in (omega arith, omega arith, pre .small, pre .rows 2 (omega arith) (omega arith), pre .room 2 (omega arith) (omega arith)))
     (λ c. search needs)
-    (λ c κs. let pre = c .before .before .before .before .before .before .before .before .before .before .before .before .before .before .before .before .before .before .before .before .pre in (pre .small, pre .rows 3 (omega arith) (omega arith), pre .room 3 (omega arith) (omega arith)))
+    (λ c κs. let pre = c .before .before .before .before .before .before .before .before .before .before .before .before .before .before .before .before .before .before .before .before .pre in (omega arith, omega arith, pre .small, pre .rows 3 (omega arith) (omega arith), pre .room 3 (omega arith) (omega arith)))
     (λ c. search needs)
     (λ c κs. let pre = c .before .before .before .before .before .before .before .before .before .before .before .before .before .before .before .before .before .before .before .before .before .before .before .before .before .before .before .pre in (pre .small, pre .rows 4 (omega arith) (omega arith), pre .room 4 (omega arith) (omega arith), pre .room 5 (omega arith) (omega arith), pre .room 6 (omega arith) (omega arith), pre .room 7 (omega arith) (omega arith)))
     (λ c. search needs)
@@ -30,4 +30,4 @@ fill-tables-spec =
     (λ c. search)
     (λ c. search)
     (λ c. search)
-    (λ c. all-filled _ _ _ _ _ _ _ _ _ _ _ _ _ _ _ _ _ _ _ _ _ (c .before .before .before .before .before .before .before .before .before .before .before .before .before .before .before .before .before .before .before .before .before .before .before .before .before .before .before .before .before .before .before .before .before .textures .ensures) (c .before .before .before .before .before .before .before .before .before .before .before .before .before .before .before .before .before .before .before .before .before .before .before .before .before .before .before .before .before .brushes .ensures) (c .before .before .before .before .before .before .before .before .before .before .before .before .before .before .before .before .before .before .before .before .before .before .before .before .before .nodes .ensures) (c .before .before .before .before .before .before .before .before .before .before .before .before .before .before .before .before .before .before .meshes .ensures .0) (c .before .before .before .before .before .before .before .before .before .before .before .before .before .before .before .before .before .before .meshes .ensures .1) (c .before .before .before .before .before .before .before .before .before .before .before .before .before .before .before .before .before .before .meshes .ensures .2) (c .before .before .before .before .before .before .before .before .before .before .before .before .before .before .before .before .before .before .meshes .ensures .3) (c .before .before .before .before .before .before .moves .ensures .0) (c .before .before .before .before .before .before .moves .ensures .1) (c .before .before .before .before .before .before .moves .ensures .2)))
+    (λ c. all-filled _ _ _ _ _ _ _ _ _ _ _ _ _ _ _ _ _ _ _ _ _ (c .before .before .before .before .before .before .before .before .before .before .before .before .before .before .before .before .before .before .before .before .before .before .before .before .before .before .before .before .before .before .before .before .before .one-table .ensures) (c .before .before .before .before .before .before .before .before .before .before .before .before .before .before .before .before .before .before .before .before .before .before .before .before .before .before .before .before .before .one-table2 .ensures) (c .before .before .before .before .before .before .before .before .before .before .before .before .before .before .before .before .before .before .before .before .before .before .before .before .before .one-table3 .ensures) (c .before .before .before .before .before .before .before .before .before .before .before .before .before .before .before .before .before .before .meshes .ensures .0) (c .before .before .before .before .before .before .before .before .before .before .before .before .before .before .before .before .before .before .meshes .ensures .1) (c .before .before .before .before .before .before .before .before .before .before .before .before .before .before .before .before .before .before .meshes .ensures .2) (c .before .before .before .before .before .before .before .before .before .before .before .before .before .before .before .before .before .before .meshes .ensures .3) (c .before .before .before .before .before .before .moves .ensures .0) (c .before .before .before .before .before .before .moves .ensures .1) (c .before .before .before .before .before .before .moves .ensures .2)))

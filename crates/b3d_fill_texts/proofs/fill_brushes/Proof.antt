@@ -8,16 +8,15 @@ pub fill-brushes-spec : {M : Type 1} → statement M
 fill-brushes-spec =
     tie.close
     (tie.spec
+    (λ c κs. search (brushes-laws, needs))
+    (λ c. search (brushes-laws, needs))
+    (λ c. search (brushes-laws, needs))
+    (λ c. search (brushes-laws, needs))
+    (λ c κs. search (brushes-laws, needs))
     (λ c. search (brushes-laws, needs))
     (λ c κs. search (brushes-laws, needs))
     (λ c. search (brushes-laws, needs))
     (λ c. search (brushes-laws, needs))
     (λ c κs. search (brushes-laws, needs))
-    (λ c. search (brushes-laws, needs))
-    (λ c κs. search (brushes-laws, needs))
-    (λ c. search (brushes-laws, needs))
-    (λ c. search (brushes-laws, needs))
-    (λ c κs. search (brushes-laws, needs))
-    (λ c. search (brushes-laws, needs))
     (λ c. search (brushes-laws, needs))
     (λ c. search (brushes-laws, needs)))

@@ -8,11 +8,10 @@ pub fill-textures-spec : {M : Type 1} → statement M
 fill-textures-spec =
     tie.close
     (tie.spec
-    (λ c. search (textures-laws, needs))
     (λ c κs. search (textures-laws, needs))
     (λ c. search (textures-laws, needs))
     (λ c. search (textures-laws, needs))
-    (λ c κs. search (textures-laws, needs))
     (λ c. search (textures-laws, needs))
+    (λ c κs. search (textures-laws, needs))
     (λ c. search (textures-laws, needs))
     (λ c. search (textures-laws, needs)))

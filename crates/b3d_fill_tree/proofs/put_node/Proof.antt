@@ -20,5 +20,7 @@ put-node-spec =
     (λ c κs. search (row-laws, needs))
     (λ c κs. search (row-laws, needs))
     (λ c. search (row-laws, needs))
+    (λ c κs. search (row-laws, needs))
+    (λ c. search (row-laws, needs))
     (λ c. search (row-laws, needs))
     (λ c. search (row-laws, needs)))

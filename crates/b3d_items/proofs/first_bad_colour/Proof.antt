@@ -3,7 +3,7 @@ use Prim.Native.Nat.{_-_, _≤_}
 use native.Mathlib.Nat.{le-of-lt}
 use borrow.Author.Needs.{needs}
 use Rattle.layout.specs.Rules.{unit}
-use Rattle.b3d_items.proofs.Ids.{Before, firsts}
+use Rattle.counted.proofs.Ids.{Before, firsts}
 use Rattle.b3d_items.proofs.first_bad_colour.Statement.{statement}
 use Rattle.b3d_items.proofs.first_bad_colour.Tie as tie
 

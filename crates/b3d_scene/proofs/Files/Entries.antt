@@ -13,6 +13,7 @@ use Rattle.b3d_scene.specs.Tags.{code, is, tagOf, Chunks}
 use Rattle.b3d_scene.specs.Nesting.{Entry, entry, nesting, Reached, may, after, next, onward, order}
 use Rattle.b3d_scene.proofs.Files.TagCodes.{tag-code}
 
+-- A where the test holds, else B
 abbrev pub Either : Bool → Type 0 → Type 0 → Type 0
 Either true A B = A
 Either false A B = B

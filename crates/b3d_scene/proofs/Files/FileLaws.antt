@@ -35,6 +35,7 @@ use Rattle.b3d_scene.proofs.Files.LeafLaws.{head-one, textures-back, te
 use Rattle.b3d_scene.proofs.Files.NestingLaws.{file-keeps, inside-back, inside-fine}
 use Rattle.b3d_scene.proofs.Files.NodeLaws.{node-back, nodes-back, BackNode, NodeOK, node-fine, FineS, below-short}
 use Rattle.b3d_scene.proofs.Files.TagCodes.{code-word}
+use mir.Facts.{and-yes}
 
 -- ---- back
 
@@ -153,10 +154,6 @@ and-left : (a b : Bool) → T (a && b) → T a
 and-left true b t = tt
 and-left false b t = absurd t
 
-and-right : (a b : Bool) → T (a && b) → T b
-and-right true b t = t
-and-right false b t = absurd t
-
 pub size-yes : (n : ℕ) → 12 ≤ n → n ≤ 16777216 → T (sizeFits n)
 size-yes n a b = and-both (leb 12 n) (leb n 16777216) (le→leb 12 n a) (le→leb n 16777216 b)
 
@@ -164,7 +161,7 @@ pub size-low : (n : ℕ) → T (sizeFits n) → 12 ≤ n
 size-low n t = leb→le 12 n (and-left (leb 12 n) (leb n 16777216) t)
 
 pub size-bound : (n : ℕ) → T (sizeFits n) → n ≤ 16777216
-size-bound n t = leb→le n 16777216 (and-right (leb 12 n) (leb n 16777216) t)
+size-bound n t = leb→le n 16777216 (and-yes (leb 12 n) (leb n 16777216) t .1)
 
 pub length-encode : (t : Scene) → length (encode t) ≡ 8 + length (writeScene t)
 unfolding encode

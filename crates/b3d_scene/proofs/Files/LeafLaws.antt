@@ -5,20 +5,23 @@ use native.Mathlib.Omega.{arith}
 use mathlib.Core.Bool.{true}
 use mathlib.Core.Option.{Option, none, some}
 use mathlib.Core.List.{List, [], _∷_, _++_, map}
-use lib.ListN.{length, take, drop, getD, length-replicate, take-append-drop}
+use lib.ListN.{length, take, drop, getD, length-replicate, take-append-drop, length-drop}
 use lib.Seq.{take-at, drop-at}
+use lib.Dec.{ltb, ltb→lt, nltb→le}
 use Rattle.wire.specs.Bytes.{bytes, AllBytes}
 use Rattle.wire.specs.Test.{if}
 use Rattle.layout.specs.Chunks.{done, stop, chunk}
-use Rattle.layout.specs.Out.{got}
-use Rattle.layout.specs.Parts.{Step, row, named, items}
+use Rattle.layout.specs.Out.{got, bad}
+use Rattle.layout.specs.Parts.{Step, row, named, items, wordsOf}
 use Rattle.layout.specs.Rules.{Rule, any}
 use Rattle.layout.specs.Write.{writeWords, writeItems, writeChunks as writeChunksOf}
 use Rattle.layout.proofs.ChunkLaws.{length-chunk, lay, Of, split-fine}
 use Rattle.layout.proofs.Fitting.{Fits}
 use Rattle.layout.proofs.Lists.{All}
-use Rattle.layout.proofs.Outs.{by-got, bad-got, got-inj}
+use Rattle.layout.proofs.Outs.{by-got, bad-got, got-inj, by-test}
 use Rattle.layout.proofs.PartLaws.{Back, Fine, Item, length-words, length-fits, row-back, row-fine, row-item, length-text, named-back, named-fine, items-back, items-fine}
+use Rattle.layout.proofs.ListLaws.{map-id}
+use Rattle.layout.proofs.StepLaws.{row-any, any-short}
 use Rattle.b3d_scene.specs.declared.Mode.the-variants.{Lenient}
 use Rattle.b3d_scene.specs.Encode.{writeTexture, writeBrush, writeVertices, writeTriangles, setChunks, writeMesh, writeKeys}
 use Rattle.b3d_scene.specs.Names.{renameTexture, renameBrush, bareName}
@@ -34,10 +37,6 @@ use Rattle.b3d_scene.proofs.Files.NestingLaws.{mesh-keeps, inside-back,
 use Rattle.b3d_scene.proofs.Files.TagCodes.{by-tag}
 
 -- ---- rows of one rule list
-
-map-id : {A : Type 0} (l : List A) → map (λ (a : A). a) l ≡ l
-map-id [] = refl
-map-id {A} (a ∷ l) = ap (λ (m : List A). a ∷ m) (map-id l)
 
 pub rows-back : (rs : List Rule) → 0 < length rs → (l : List (List ℕ)) → All (Fits rs) l → (p : ℕ) → items (row rs) p (writeItems writeWords l) ≡ got l
 rows-back rs n l h p =
@@ -367,3 +366,24 @@ module _ (brushes : ℕ) where
         },
         omega (arith, g .fine .short, g .fits, i .1),
       ))))
+
+-- ---- an ANIM
+
+pub anim-whole : (p : ℕ) (b : List ℕ) → length b ≡ 12 → readAnim p b ≡ got (wordsOf 3 b)
+unfolding readAnim filled
+anim-whole p b h = rw (row-any 3 (p + 8) b (omega arith)) (nothing (drop 12 b) (length-drop 12 b ∙ omega arith))
+  where
+    nothing : (r : List ℕ) → length r ≡ 0 → filled (p + 8) r (wordsOf 3 b) ≡ got (wordsOf 3 b)
+    nothing [] e = refl
+    nothing (c ∷ r) e = absurd (omega arith)
+
+pub anim-other : (p : ℕ) (b : List ℕ) → (length b ≡ 12 → ⊥) → readAnim p b ≡ bad 5 (p + 8)
+unfolding readAnim filled
+anim-other p b h =
+    by-test (ltb (length b) 12)
+    (λ t. let l = ltb→lt (length b) 12 t in rw (any-short 3 (p + 8) b (omega arith)))
+    (λ t. let l = nltb→le (length b) 12 t in rw (row-any 3 (p + 8) b (omega arith)) (more (drop 12 b) (length-drop 12 b) l))
+  where
+    more : (r : List ℕ) → length r ≡ length b - 12 → 12 ≤ length b → filled (p + 8) r (wordsOf 3 b) ≡ bad 5 (p + 8)
+    more [] e l = absurd (h (omega arith))
+    more (c ∷ r) e l = refl

@@ -1,6 +1,6 @@
 -- The strict reading beside the lenient one: the same, or 6 at a number of the file that does not pass as a colour, and then what the lenient
 -- one gives, if anything, has a colour that does not pass.
-use mathlib.Core.Logic.{inl, inr}
+use mathlib.Core.Logic.{inl}
 use mathlib.Core.Path.{_≡_, refl, ap, ap₂, sym, _∙_, subst}
 use Prim.Native.Nat.{ℕ, zero, suc, _+_, _*_, _/_, _%_, _<_}
 use native.Mathlib.Omega.{arith}
@@ -12,12 +12,13 @@ use lib.Dec.{eqb}
 use Rattle.wire.specs.Test.{if}
 use Rattle.layout.specs.Chunks.{done, stop, chunk, ended}
 use Rattle.layout.specs.Fit.{all}
-use Rattle.layout.specs.Out.{Out, got, bad, check, _>>=_}
+use Rattle.layout.specs.Out.{Out, got, check, _>>=_}
 use Rattle.layout.specs.Parts.{Name, Step, row, number, named, items}
 use Rattle.layout.specs.Rules.{Rule, any, unit, holds}
-use Rattle.layout.proofs.HeldLaws.{and-assoc, and-true, Held, same-held, held-as, first-held, bind-held, then-held, map-held, loose, strictly, passes as passesRules, passes-any, passes-unit, Says, row-held, named-held, items-held}
+use Rattle.layout.proofs.HeldLaws.{Held, same-held, held-as, first-held, bind-held, then-held, map-held, loose, passes as passesRules, passes-any, passes-unit, Says, row-held, named-held, items-held}
 use Rattle.layout.proofs.Outs.{by-got, got-inj}
-use Rattle.layout.proofs.PlaceLaws.{At, Stands, Stays, row-at, named-at}
+use Rattle.layout.proofs.PlaceLaws.{At, Stands, row-at, named-at}
+use Rattle.layout.proofs.Testing.{and-assoc, and-true}
 use Rattle.layout.specs.Rows.{sizeFits, nameCells}
 use Rattle.b3d_scene.specs.Colours.{coloured, passes}
 use Rattle.b3d_scene.specs.declared.Mode.the-variants.{Strict, Lenient}
@@ -26,13 +27,13 @@ use Rattle.b3d_scene.specs.declared.Tag.the-variants.{BB3D, TEXS, BRUS, 
 use Rattle.b3d_scene.specs.declared.Counts.{Counts}
 use Rattle.b3d_scene.specs.Mask.{mask, spread, vertexHas, vertexMask}
 use Rattle.b3d_scene.specs.Nesting.{inside}
-use Rattle.b3d_scene.specs.Parse.{readOne, readTextures, readBrush, readBrushes, Vertices, noVertices, readVertices, readSets, readMesh, readBone, aMesh, aBone, readKind, Moves, readMoves, Inner, readNodes, readBelow, readNode, readRoot, slotsOf, readBody, parse}
+use Rattle.b3d_scene.specs.Parse.{readOne, readTextures, readBrush, readBrushes, Vertices, noVertices, readVertices, readSets, readMesh, readBone, aMesh, aBone, readKind, readMoves, Inner, readNodes, readBelow, readNode, readRoot, readBody, parse}
 use Rattle.b3d_scene.specs.Rules.{textureId, when, vertexWords, brushRow, brushIds, vertexRow, nodeRow, header, fileHead, brushesHead, meshHead, verticesHead, boneVertices, bonesBelow, levels}
-use Rattle.b3d_scene.specs.Scene.{Brush, Mesh, Kind, pivot, mesh, bone, Anim, still, Data, Forest, leaf, node, Scene}
+use Rattle.b3d_scene.specs.Scene.{Brush, Mesh, Kind, pivot, mesh, bone, still, Data, Forest, leaf, node, Scene}
 use Rattle.b3d_scene.specs.Tables as tables
 use Rattle.b3d_scene.specs.Tables.{meshesOf, vertexRows, meshRows, ownRows, withNode, withForest, forestRows, rows, nodesIn}
 use Rattle.b3d_scene.specs.Tags.{code, is, Chunks, Found}
-use Rattle.b3d_scene.proofs.Files.PlaceLaws.{inside-at, kind-at, moves-at, one-at, textures-at, brush-at, brushes-at}
+use Rattle.b3d_scene.proofs.Files.PlaceLaws.{inside-at, kind-at, moves-at, one-at, brush-at}
 
 -- ---- tests
 

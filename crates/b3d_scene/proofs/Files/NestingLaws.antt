@@ -11,7 +11,7 @@ use Rattle.wire.specs.Test.{if}
 use Rattle.layout.specs.Chunks.{done, stop, chunk}
 use Rattle.layout.proofs.ChunkLaws.{lay, split-back, Of, split-fine}
 use Rattle.b3d_scene.specs.Encode.{setChunks, kindChunks, keyChunks, animChunks, nodeChunks, textureChunks, brushChunks}
-use Rattle.b3d_scene.specs.Nesting.{nesting, Reached, start, owed, end, next, onward, order, inside}
+use Rattle.b3d_scene.specs.Nesting.{nesting, Reached, start, owed, end, next, onward, order, inside, reachedAt}
 use Rattle.b3d_scene.specs.Scene.{Texture, Brush, TriangleSet, Kind, pivot, mesh, bone, Keys, Anim, still, anim, Forest, leaf, node}
 use Rattle.b3d_scene.specs.declared.Tag.{Tag}
 use Rattle.b3d_scene.specs.declared.Tag.the-variants.{BB3D, TEXS, BRUS, NODE, MESH, VRTS, TRIS, BONE, KEYS, ANIM}
@@ -25,9 +25,6 @@ use Rattle.b3d_scene.proofs.Files.TagCodes.{tag-code, code-word}
 abbrev pub Keeps : Tag → Reached → List Chunk → Type 0
 Keeps k r l = (head p : ℕ) → order k head r (lay p l) ≡ lay p l
 
-abbrev reached : ℕ → Bool → Reached
-reached n b = record { turn = n; spent = b }
-
 -- one more chunk
 more : (k : Tag) (r q : Reached) (c : Chunk) (l : List Chunk) → next (nesting k) (nesting k) r (c .tag) ≡ some q → Keeps k q l → Keeps k r (c ∷ l)
 unfolding order onward
@@ -36,73 +33,73 @@ more k r q c l e h head p = rw e (ap (λ (z : Chunks). chunk (c .tag) p (c .body
 step : (k : Tag) (r q : Reached) (t : Tag) (b : List ℕ) (l : List Chunk) → next (nesting k) (nesting k) r t ≡ some q → Keeps k q l → Keeps k r (record { tag = t; body = b } ∷ l)
 step k r q t b l e h = more k r q (record { tag = t; body = b }) l e h
 
-sets-keep : (l : List TriangleSet) → Keeps MESH (reached 2 false) (setChunks l)
+sets-keep : (l : List TriangleSet) → Keeps MESH (reachedAt 2 false) (setChunks l)
 unfolding order next if
 sets-keep [] = λ head p. refl
-sets-keep (x ∷ l) = step MESH (reached 2 false) (reached 2 false) TRIS _ (setChunks l) refl (sets-keep l)
+sets-keep (x ∷ l) = step MESH (reachedAt 2 false) (reachedAt 2 false) TRIS _ (setChunks l) refl (sets-keep l)
 
 pub mesh-keeps : (b : List ℕ) (l : List TriangleSet) → 0 < length l → Keeps MESH start (record { tag = VRTS; body = b } ∷ setChunks l)
 unfolding order next if
 mesh-keeps b [] n = absurd (omega arith)
 mesh-keeps b (x ∷ l) n =
-    step MESH start (reached 1 true) VRTS b (setChunks (x ∷ l)) refl (step MESH (reached 1 true) (reached 2 false) TRIS _ (setChunks l) refl (sets-keep l))
+    step MESH start (reachedAt 1 true) VRTS b (setChunks (x ∷ l)) refl (step MESH (reachedAt 1 true) (reachedAt 2 false) TRIS _ (setChunks l) refl (sets-keep l))
 
-nodes-keep : (f : Forest) → Keeps NODE (reached 3 false) (nodeChunks f)
+nodes-keep : (f : Forest) → Keeps NODE (reachedAt 3 false) (nodeChunks f)
 unfolding order next if nodeChunks
 nodes-keep leaf = λ head p. refl
-nodes-keep (node d f g) = step NODE (reached 3 false) (reached 3 false) NODE _ (nodeChunks g) refl (nodes-keep g)
+nodes-keep (node d f g) = step NODE (reachedAt 3 false) (reachedAt 3 false) NODE _ (nodeChunks g) refl (nodes-keep g)
 
 -- nodes after anything before them
-below-keeps : (n : ℕ) (b : Bool) → next (nesting NODE) (nesting NODE) (reached n b) NODE ≡ some (reached 3 false) → (f : Forest) → Keeps NODE (reached n b) (nodeChunks f)
+below-keeps : (n : ℕ) (b : Bool) → next (nesting NODE) (nesting NODE) (reachedAt n b) NODE ≡ some (reachedAt 3 false) → (f : Forest) → Keeps NODE (reachedAt n b) (nodeChunks f)
 unfolding order if nodeChunks
 below-keeps n b e leaf = λ head p. refl
-below-keeps n b e (node d f g) = step NODE (reached n b) (reached 3 false) NODE _ (nodeChunks g) e (nodes-keep g)
+below-keeps n b e (node d f g) = step NODE (reachedAt n b) (reachedAt 3 false) NODE _ (nodeChunks g) e (nodes-keep g)
 
-anim-keeps : (n : ℕ) → next (nesting NODE) (nesting NODE) (reached n false) ANIM ≡ some (reached 2 true) → next (nesting NODE) (nesting NODE) (reached n false) NODE ≡ some (reached 3 false)
-    → (a : Anim) (f : Forest) → Keeps NODE (reached n false) (animChunks a (nodeChunks f))
+anim-keeps : (n : ℕ) → next (nesting NODE) (nesting NODE) (reachedAt n false) ANIM ≡ some (reachedAt 2 true) → next (nesting NODE) (nesting NODE) (reachedAt n false) NODE ≡ some (reachedAt 3 false)
+    → (a : Anim) (f : Forest) → Keeps NODE (reachedAt n false) (animChunks a (nodeChunks f))
 unfolding next if
 anim-keeps n ea en still f = below-keeps n false en f
-anim-keeps n ea en (anim ws) f = step NODE (reached n false) (reached 2 true) ANIM _ (nodeChunks f) ea (below-keeps 2 true refl f)
+anim-keeps n ea en (anim ws) f = step NODE (reachedAt n false) (reachedAt 2 true) ANIM _ (nodeChunks f) ea (below-keeps 2 true refl f)
 
-keys-keep : (ks : List Keys) (a : Anim) (f : Forest) → Keeps NODE (reached 2 false) (keyChunks ks (animChunks a (nodeChunks f)))
+keys-keep : (ks : List Keys) (a : Anim) (f : Forest) → Keeps NODE (reachedAt 2 false) (keyChunks ks (animChunks a (nodeChunks f)))
 unfolding next if
 keys-keep [] a f = anim-keeps 2 refl refl a f
-keys-keep (k ∷ ks) a f = step NODE (reached 2 false) (reached 2 false) KEYS _ (keyChunks ks (animChunks a (nodeChunks f))) refl (keys-keep ks a f)
+keys-keep (k ∷ ks) a f = step NODE (reachedAt 2 false) (reachedAt 2 false) KEYS _ (keyChunks ks (animChunks a (nodeChunks f))) refl (keys-keep ks a f)
 
 -- after no kind, and after one
 fresh-keeps : (ks : List Keys) (a : Anim) (f : Forest) → Keeps NODE start (keyChunks ks (animChunks a (nodeChunks f)))
 unfolding next if
 fresh-keeps [] a f = anim-keeps 0 refl refl a f
-fresh-keeps (k ∷ ks) a f = step NODE start (reached 2 false) KEYS _ (keyChunks ks (animChunks a (nodeChunks f))) refl (keys-keep ks a f)
+fresh-keeps (k ∷ ks) a f = step NODE start (reachedAt 2 false) KEYS _ (keyChunks ks (animChunks a (nodeChunks f))) refl (keys-keep ks a f)
 
-kind-keeps : (ks : List Keys) (a : Anim) (f : Forest) → Keeps NODE (reached 1 true) (keyChunks ks (animChunks a (nodeChunks f)))
+kind-keeps : (ks : List Keys) (a : Anim) (f : Forest) → Keeps NODE (reachedAt 1 true) (keyChunks ks (animChunks a (nodeChunks f)))
 unfolding next if
 kind-keeps [] still f = below-keeps 1 true refl f
-kind-keeps [] (anim ws) f = step NODE (reached 1 true) (reached 2 true) ANIM _ (nodeChunks f) refl (below-keeps 2 true refl f)
-kind-keeps (k ∷ ks) a f = step NODE (reached 1 true) (reached 2 false) KEYS _ (keyChunks ks (animChunks a (nodeChunks f))) refl (keys-keep ks a f)
+kind-keeps [] (anim ws) f = step NODE (reachedAt 1 true) (reachedAt 2 true) ANIM _ (nodeChunks f) refl (below-keeps 2 true refl f)
+kind-keeps (k ∷ ks) a f = step NODE (reachedAt 1 true) (reachedAt 2 false) KEYS _ (keyChunks ks (animChunks a (nodeChunks f))) refl (keys-keep ks a f)
 
 pub node-keeps : (k : Kind) (ks : List Keys) (a : Anim) (f : Forest) → Keeps NODE start (kindChunks k (keyChunks ks (animChunks a (nodeChunks f))))
 unfolding next if
 node-keeps pivot ks a f = fresh-keeps ks a f
-node-keeps (mesh m) ks a f = step NODE start (reached 1 true) MESH _ (keyChunks ks (animChunks a (nodeChunks f))) refl (kind-keeps ks a f)
-node-keeps (bone ws) ks a f = step NODE start (reached 1 true) BONE _ (keyChunks ks (animChunks a (nodeChunks f))) refl (kind-keeps ks a f)
+node-keeps (mesh m) ks a f = step NODE start (reachedAt 1 true) MESH _ (keyChunks ks (animChunks a (nodeChunks f))) refl (kind-keeps ks a f)
+node-keeps (bone ws) ks a f = step NODE start (reachedAt 1 true) BONE _ (keyChunks ks (animChunks a (nodeChunks f))) refl (kind-keeps ks a f)
 
-root-keeps : (n : ℕ) (b : Bool) → next (nesting BB3D) (nesting BB3D) (reached n b) NODE ≡ some (reached 3 true) → (f : Forest) → OneRoot f → Keeps BB3D (reached n b) (nodeChunks f)
+root-keeps : (n : ℕ) (b : Bool) → next (nesting BB3D) (nesting BB3D) (reachedAt n b) NODE ≡ some (reachedAt 3 true) → (f : Forest) → OneRoot f → Keeps BB3D (reachedAt n b) (nodeChunks f)
 unfolding order if nodeChunks
 root-keeps n b e leaf o = λ head p. refl
-root-keeps n b e (node d f leaf) o = step BB3D (reached n b) (reached 3 true) NODE _ [] e (λ head p. refl)
+root-keeps n b e (node d f leaf) o = step BB3D (reachedAt n b) (reachedAt 3 true) NODE _ [] e (λ head p. refl)
 root-keeps n b e (node d f (node c g h)) o = absurd o
 
-brushes-keep : (n : ℕ) (b : Bool) → next (nesting BB3D) (nesting BB3D) (reached n b) BRUS ≡ some (reached 2 true) → next (nesting BB3D) (nesting BB3D) (reached n b) NODE ≡ some (reached 3 true)
-    → (slots : ℕ) (l : List Brush) (f : Forest) → OneRoot f → Keeps BB3D (reached n b) (brushChunks slots l (nodeChunks f))
+brushes-keep : (n : ℕ) (b : Bool) → next (nesting BB3D) (nesting BB3D) (reachedAt n b) BRUS ≡ some (reachedAt 2 true) → next (nesting BB3D) (nesting BB3D) (reachedAt n b) NODE ≡ some (reachedAt 3 true)
+    → (slots : ℕ) (l : List Brush) (f : Forest) → OneRoot f → Keeps BB3D (reachedAt n b) (brushChunks slots l (nodeChunks f))
 unfolding next if
 brushes-keep n b eb en slots [] f o = root-keeps n b en f o
-brushes-keep n b eb en slots (x ∷ l) f o = step BB3D (reached n b) (reached 2 true) BRUS _ (nodeChunks f) eb (root-keeps 2 true refl f o)
+brushes-keep n b eb en slots (x ∷ l) f o = step BB3D (reachedAt n b) (reachedAt 2 true) BRUS _ (nodeChunks f) eb (root-keeps 2 true refl f o)
 
 pub file-keeps : (ts : List Texture) (slots : ℕ) (l : List Brush) (f : Forest) → OneRoot f → Keeps BB3D start (textureChunks ts (brushChunks slots l (nodeChunks f)))
 unfolding next if
 file-keeps [] slots l f o = brushes-keep 0 false refl refl slots l f o
-file-keeps (t ∷ ts) slots l f o = step BB3D start (reached 1 true) TEXS _ (brushChunks slots l (nodeChunks f)) refl (brushes-keep 1 true refl refl slots l f o)
+file-keeps (t ∷ ts) slots l f o = step BB3D start (reachedAt 1 true) TEXS _ (brushChunks slots l (nodeChunks f)) refl (brushes-keep 1 true refl refl slots l f o)
 
 -- what was written is found inside
 pub inside-back : (k : Tag) (head p : ℕ) (l : List Chunk) → Keeps k start l → length (writeChunks l) < 4294967296 → inside k head p (writeChunks l) ≡ lay p l

@@ -26,7 +26,7 @@ use Rattle.b3d_scene.specs.Rules.{nodeRow, boneVertices, bonesBelow}
 use Rattle.b3d_scene.specs.Scene.{Kind, pivot, mesh, bone, Keys, Anim, still, anim, Data, Forest, leaf, node}
 use Rattle.b3d_scene.specs.declared.Tag.the-variants.{NODE, MESH, BONE, KEYS, ANIM}
 use Rattle.b3d_scene.specs.Tags.{is, Chunks, Found, Chunk, writeChunks, code}
-use Rattle.b3d_scene.proofs.Fitting.{FitKind, FitKeys, FitAnim, FitData, FitNodes}
+use Rattle.b3d_scene.proofs.Fitting.{FitKind, FitKeys, FitAnim, FitData, FitNodes, no-nodes}
 use Rattle.b3d_scene.proofs.Files.LeafLaws.{keys-back, keys-fine, bone-back, bone-fine, anim-back, anim-fine, mesh-back, mesh-fine}
 use Rattle.b3d_scene.proofs.Files.NestingLaws.{node-keeps, inside-back, inside-fine}
 
@@ -240,15 +240,11 @@ one-more zero brushes above n b x g h k hg = absurd h
 one-more (suc l) brushes above n b x g h k hg =
     ((h .0, h .1, hg .0), omega (arith, h .2, hg .1, length-chunk code NODE (writeNode (x .self) (nodeChunks (x .below))) (writeChunks (nodeChunks g))))
 
-no-node : (l brushes : ℕ) (above : Option ℕ) → FitNodes l brushes above leaf
-no-node zero brushes above = tt
-no-node (suc l) brushes above = tt
-
 nodes-fine : (l brushes : ℕ) (above : Option ℕ) (one : ℕ → List ℕ → Out Inner)
     → ((p : ℕ) (b : List ℕ) (x : Inner) → AllBytes b → one p b ≡ got x → NodeOK l brushes above (length b) x)
     → (n : ℕ) (cs : Chunks) (f : Forest) → Of n cs → readNodes one cs ≡ got f → NodesOK l brushes above n f
 unfolding readNodes writeChunksOf nodeChunks
-nodes-fine l brushes above one go n done f h e = subst (NodesOK l brushes above n) (got-inj e) (no-node l brushes above, omega arith)
+nodes-fine l brushes above one go n done f h e = subst (NodesOK l brushes above n) (got-inj e) (no-nodes l brushes above, omega arith)
 nodes-fine l brushes above one go n (stop i p) f h e = bad-got e
 nodes-fine l brushes above one go n (chunk t p b r) f h e =
     by-got (one p b) _ e (λ x ex e₁.

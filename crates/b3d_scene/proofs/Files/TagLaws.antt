@@ -9,20 +9,16 @@ use Rattle.layout.specs.Chunks.{done, stop, chunk}
 use Rattle.layout.specs.Out.{Out, got, _>>=_}
 use Rattle.layout.proofs.Outs.{by-got, bad-got, got-inj}
 use Rattle.b3d_scene.specs.declared.Mode.{Mode}
-use Rattle.b3d_scene.specs.Nesting.{Reached, start, next, onward, order, inside}
+use Rattle.b3d_scene.specs.Nesting.{start, next, onward, order, inside, reachedAt}
 use Rattle.b3d_scene.specs.Parse.{readOne, Vertices, readVertices, noVertices, readMesh, readBone, readKeys, readAnim, aMesh, aBone, readKind, Moves, withKeys, readMoves}
 use Rattle.b3d_scene.specs.Scene.{Kind, Anim, anim}
 use Rattle.b3d_scene.specs.declared.Tag.{Tag}
 use Rattle.b3d_scene.specs.declared.Tag.the-variants.{BB3D, TEXS, BRUS, NODE, MESH, VRTS, TRIS, BONE, KEYS, ANIM}
 use Rattle.b3d_scene.specs.Tags.{is, Chunks, split, Found}
 use Rattle.b3d_scene.proofs.Files.TagCodes.{by-tag}
+use Rattle.b3d_scene.proofs.Files.Entries.{Either}
 
 -- ---- which tags come
-
--- A where the test holds, else B
-abbrev pick : Bool → Type 0 → Type 0 → Type 0
-pick true A B = A
-pick false A B = B
 
 -- every chunk has this tag
 abbrev pub Only : Tag → Chunks → Type 0
@@ -40,16 +36,13 @@ Nothing (chunk t p b r) = ⊥
 abbrev Then : Tag → (Chunks → Type 0) → Chunks → Type 0
 Then k P done = Unit {0}
 Then k P (stop n p) = Unit {0}
-Then k P (chunk t p b r) = pick (is t k) (P r) (P (chunk t p b r))
+Then k P (chunk t p b r) = Either (is t k) (P r) (P (chunk t p b r))
 
 -- KEYS and ANIM, and then only NODE
 abbrev Late : Chunks → Type 0
 Late done = Unit {0}
 Late (stop n p) = Unit {0}
-Late (chunk t p b r) = pick (is t NODE) (Only NODE r) (pick (is t KEYS || is t ANIM) (Late r) ⊥)
-
-abbrev reached : ℕ → Bool → Reached
-reached n b = record { turn = n; spent = b }
+Late (chunk t p b r) = Either (is t NODE) (Only NODE r) (Either (is t KEYS || is t ANIM) (Late r) ⊥)
 
 -- what is left after a chunk that may be missing
 one-then : {A : Type 0} (k : Tag) (P : Chunks → Type 0) → P done → (a : A) (one : ℕ → List ℕ → Out A) (cs : Chunks) (x : Found A) → Then k P cs → readOne k a one cs ≡ got x → P (x .rest)
@@ -58,26 +51,26 @@ one-then {A} k P d a one done x h e = subst (λ (y : Found A). P (y .rest)) (got
 one-then k P d a one (stop n p) x h e = bad-got e
 one-then {A} k P d a one (chunk t p b r) x h e = go (is t k) h e
   where
-    go : (c : Bool) → pick c (P r) (P (chunk t p b r))
+    go : (c : Bool) → Either c (P r) (P (chunk t p b r))
         → if c (one p b >>= λ v. got (record { value = v; rest = r })) (got (record { value = a; rest = chunk t p b r })) ≡ got x → P (x .rest)
     go true h e = by-got (one p b) _ e (λ v ev e₁. subst (λ (y : Found A). P (y .rest)) (got-inj e₁) h)
     go false h e = subst (λ (y : Found A). P (y .rest)) (got-inj e) h
 
 -- ---- a MESH
 
-tris-more : (head : ℕ) (cs : Chunks) → Only TRIS (order MESH head (reached 2 false) cs)
+tris-more : (head : ℕ) (cs : Chunks) → Only TRIS (order MESH head (reachedAt 2 false) cs)
 unfolding order onward next if
 tris-more head done = tt
 tris-more head (stop n p) = tt
 tris-more head (chunk t p b r) =
-    by-tag (λ k. Only TRIS (order MESH head (reached 2 false) (chunk k p b r))) (tt, tt, tt, tt, tt, tt, (refl, tris-more head r), tt, tt, tt) t
+    by-tag (λ k. Only TRIS (order MESH head (reachedAt 2 false) (chunk k p b r))) (tt, tt, tt, tt, tt, tt, (refl, tris-more head r), tt, tt, tt) t
 
-tris-first : (head : ℕ) (cs : Chunks) → Only TRIS (order MESH head (reached 1 true) cs)
+tris-first : (head : ℕ) (cs : Chunks) → Only TRIS (order MESH head (reachedAt 1 true) cs)
 unfolding order onward next if
 tris-first head done = tt
 tris-first head (stop n p) = tt
 tris-first head (chunk t p b r) =
-    by-tag (λ k. Only TRIS (order MESH head (reached 1 true) (chunk k p b r))) (tt, tt, tt, tt, tt, tt, (refl, tris-more head r), tt, tt, tt) t
+    by-tag (λ k. Only TRIS (order MESH head (reachedAt 1 true) (chunk k p b r))) (tt, tt, tt, tt, tt, tt, (refl, tris-more head r), tt, tt, tt) t
 
 vrts-first : (head : ℕ) (cs : Chunks) → Then VRTS (Only TRIS) (order MESH head start cs)
 unfolding order onward next if
@@ -92,28 +85,28 @@ mesh-tags mode head p s x e = one-then VRTS (Only TRIS) tt noVertices (readVerti
 
 -- ---- a NODE
 
-node-more : (head : ℕ) (cs : Chunks) → Only NODE (order NODE head (reached 3 false) cs)
+node-more : (head : ℕ) (cs : Chunks) → Only NODE (order NODE head (reachedAt 3 false) cs)
 unfolding order onward next if
 node-more head done = tt
 node-more head (stop n p) = tt
 node-more head (chunk t p b r) =
-    by-tag (λ k. Only NODE (order NODE head (reached 3 false) (chunk k p b r))) (tt, tt, tt, (refl, node-more head r), tt, tt, tt, tt, tt, tt) t
+    by-tag (λ k. Only NODE (order NODE head (reachedAt 3 false) (chunk k p b r))) (tt, tt, tt, (refl, node-more head r), tt, tt, tt, tt, tt, tt) t
 
-late-moves : (s : Bool) (head : ℕ) (cs : Chunks) → Late (order NODE head (reached 2 s) cs)
+late-moves : (s : Bool) (head : ℕ) (cs : Chunks) → Late (order NODE head (reachedAt 2 s) cs)
 unfolding order onward next if
 late-moves s head done = tt
 late-moves s head (stop n p) = tt
 late-moves false head (chunk t p b r) =
-    by-tag (λ k. Late (order NODE head (reached 2 false) (chunk k p b r))) (tt, tt, tt, node-more head r, tt, tt, tt, tt, late-moves false head r, late-moves true head r) t
+    by-tag (λ k. Late (order NODE head (reachedAt 2 false) (chunk k p b r))) (tt, tt, tt, node-more head r, tt, tt, tt, tt, late-moves false head r, late-moves true head r) t
 late-moves true head (chunk t p b r) =
-    by-tag (λ k. Late (order NODE head (reached 2 true) (chunk k p b r))) (tt, tt, tt, node-more head r, tt, tt, tt, tt, late-moves true head r, tt) t
+    by-tag (λ k. Late (order NODE head (reachedAt 2 true) (chunk k p b r))) (tt, tt, tt, node-more head r, tt, tt, tt, tt, late-moves true head r, tt) t
 
-late-kind : (head : ℕ) (cs : Chunks) → Late (order NODE head (reached 1 true) cs)
+late-kind : (head : ℕ) (cs : Chunks) → Late (order NODE head (reachedAt 1 true) cs)
 unfolding order onward next if
 late-kind head done = tt
 late-kind head (stop n p) = tt
 late-kind head (chunk t p b r) =
-    by-tag (λ k. Late (order NODE head (reached 1 true) (chunk k p b r))) (tt, tt, tt, node-more head r, tt, tt, tt, tt, late-moves false head r, late-moves true head r) t
+    by-tag (λ k. Late (order NODE head (reachedAt 1 true) (chunk k p b r))) (tt, tt, tt, node-more head r, tt, tt, tt, tt, late-moves false head r, late-moves true head r) t
 
 late-found : (mode : Mode) (brushes n head : ℕ) (cs : Chunks) (x : Found Kind) → readKind mode brushes n (order NODE head start cs) ≡ got x → Late (x .rest)
 unfolding order onward next readKind aMesh aBone if
@@ -158,26 +151,26 @@ Root cs = Then NODE Nothing cs
 abbrev Rest : Chunks → Type 0
 Rest cs = Then BRUS Root cs
 
-after-root : (head : ℕ) (cs : Chunks) → Nothing (order BB3D head (reached 3 true) cs)
+after-root : (head : ℕ) (cs : Chunks) → Nothing (order BB3D head (reachedAt 3 true) cs)
 unfolding order onward next if
 after-root head done = tt
 after-root head (stop n p) = tt
 after-root head (chunk t p b r) =
-    by-tag (λ k. Nothing (order BB3D head (reached 3 true) (chunk k p b r))) (tt, tt, tt, tt, tt, tt, tt, tt, tt, tt) t
+    by-tag (λ k. Nothing (order BB3D head (reachedAt 3 true) (chunk k p b r))) (tt, tt, tt, tt, tt, tt, tt, tt, tt, tt) t
 
-after-brushes : (head : ℕ) (cs : Chunks) → Root (order BB3D head (reached 2 true) cs)
+after-brushes : (head : ℕ) (cs : Chunks) → Root (order BB3D head (reachedAt 2 true) cs)
 unfolding order onward next if
 after-brushes head done = tt
 after-brushes head (stop n p) = tt
 after-brushes head (chunk t p b r) =
-    by-tag (λ k. Root (order BB3D head (reached 2 true) (chunk k p b r))) (tt, tt, tt, after-root head r, tt, tt, tt, tt, tt, tt) t
+    by-tag (λ k. Root (order BB3D head (reachedAt 2 true) (chunk k p b r))) (tt, tt, tt, after-root head r, tt, tt, tt, tt, tt, tt) t
 
-after-textures : (head : ℕ) (cs : Chunks) → Rest (order BB3D head (reached 1 true) cs)
+after-textures : (head : ℕ) (cs : Chunks) → Rest (order BB3D head (reachedAt 1 true) cs)
 unfolding order onward next if
 after-textures head done = tt
 after-textures head (stop n p) = tt
 after-textures head (chunk t p b r) =
-    by-tag (λ k. Rest (order BB3D head (reached 1 true) (chunk k p b r))) (tt, tt, after-brushes head r, after-root head r, tt, tt, tt, tt, tt, tt) t
+    by-tag (λ k. Rest (order BB3D head (reachedAt 1 true) (chunk k p b r))) (tt, tt, after-brushes head r, after-root head r, tt, tt, tt, tt, tt, tt) t
 
 file-order : (head : ℕ) (cs : Chunks) → Then TEXS Rest (order BB3D head start cs)
 unfolding order onward next if

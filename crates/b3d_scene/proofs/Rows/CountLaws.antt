@@ -3,13 +3,13 @@ use mathlib.Core.Path.{_≡_, refl, ap, ap₂, sym, _∙_}
 use Prim.Native.Nat.{ℕ, _+_, _*_}
 use native.Mathlib.Nat.{add-zero, zero-add}
 use native.Mathlib.Omega.{arith}
-use mathlib.Core.List.{List, [], _∷_, _++_, append-assoc}
+use mathlib.Core.List.{[], _∷_, _++_}
 use lib.ListN.{length, length-append, length-map}
 use Rattle.wire.specs.Test.{if}
 use Rattle.layout.specs.Rules.{NONE}
 use Rattle.layout.proofs.Lists.{All, all-pure, all-map, all-zip}
 use Rattle.b3d_scene.specs.Scene.{Forest, leaf, node, Scene}
-use Rattle.b3d_scene.specs.Tables.{width, start, reached, nodeTables, ownRows, textureRow, brushRow, withNode, withForest, forestRows, rows, words, table, tables, counts, nodesIn}
+use Rattle.b3d_scene.specs.Tables.{width, start, reached, nodeTables, ownRows, textureRow, brushRow, withNode, withForest, forestRows, rows, table, tables, counts, nodesIn}
 use Rattle.b3d_scene.specs.declared.Counts.{Counts}
 use Rattle.b3d_scene.proofs.Fitting.{Fit}
 use Rattle.b3d_scene.proofs.Rows.Nodes.{Step, steps}
@@ -54,8 +54,5 @@ pub table-length : (t : Scene) → Fit t → All (λ k. length (table k t) ≡ w
 unfolding table
 table-length t f = all-map (λ k. All (Wide (width k)) (rows k t)) _ (λ k h. words-length (width k) (rows k t) h) tables (rows-wide t f)
 
--- rows one after the other, in words
-pub words-append : (a b : List (List ℕ)) → words (a ++ b) ≡ words a ++ words b
-unfolding words
-words-append [] b = refl
-words-append (r ∷ a) b = ap (λ (l : List ℕ). r ++ l) (words-append a b) ∙ sym (append-assoc r (words a) (words b))
+pub same-counts : (a b : Counts) → a .nodes ≡ b .nodes → a .meshes ≡ b .meshes → a .vertices ≡ b .vertices → a .sets ≡ b .sets → a .triangles ≡ b .triangles → a .weights ≡ b .weights → a .lists ≡ b .lists → a .keys ≡ b .keys → a ≡ b
+same-counts a b e₁ e₂ e₃ e₄ e₅ e₆ e₇ e₈ = λ i. record { nodes = e₁ i; meshes = e₂ i; vertices = e₃ i; sets = e₄ i; triangles = e₅ i; weights = e₆ i; lists = e₇ i; keys = e₈ i }

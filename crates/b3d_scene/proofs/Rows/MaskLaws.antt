@@ -1,5 +1,5 @@
 -- The laws of masks: widths, and that a row spread by a mask is squeezed again.
-use mathlib.Core.Path.{_≡_, refl, ap, sym, subst}
+use mathlib.Core.Path.{_≡_, refl, ap, ap₂, sym, subst}
 use mathlib.Core.Logic.{_≢_}
 use Prim.Native.Nat.{ℕ, zero, suc, _+_, _≤_, _<_}
 use native.Mathlib.Nat.{suc-inj, suc-ne-zero}
@@ -19,6 +19,11 @@ unfolding mask
 mask-length f zero w = refl
 mask-length f (suc n) w = ap suc (mask-length f n (w + 1))
 
+pub mask-same : (f g : ℕ → Bool) (k w : ℕ) → ((j : ℕ) → j < w + k → f j ≡ g j) → mask f k w ≡ mask g k w
+unfolding mask
+mask-same f g zero w h = refl
+mask-same f g (suc k) w h = ap₂ _∷_ (h w (omega arith)) (mask-same f g k (w + 1) (λ j l. h j (omega arith)))
+
 pub spread-length : (m : List Bool) (ws : List ℕ) → length (spread m ws) ≡ length m
 unfolding spread
 spread-length [] ws = refl
@@ -36,11 +41,11 @@ squeeze-spread (false ∷ m) ws e = squeeze-spread m ws e
 
 -- ---- how many words a mask has for a vertex and for a key: every case computed
 
-below : ℕ → (ℕ → Bool) → Bool
+unfoldable pub below : ℕ → (ℕ → Bool) → Bool
 below zero f = true
 below (suc n) f = f n && below n f
 
-below-at : (n : ℕ) (f : ℕ → Bool) (k : ℕ) → T (below n f) → k < n → T (f k)
+pub below-at : (n : ℕ) (f : ℕ → Bool) (k : ℕ) → T (below n f) → k < n → T (f k)
 unfolding below
 below-at zero f k h l = absurd (omega arith)
 below-at (suc n) f k h l =

@@ -17,7 +17,8 @@ use Rattle.b3d_scene.specs.Colours.{passes}
 use Rattle.b3d_scene.specs.Rebuild.{Lent, cut, lentRows, roomy, textureFrom, brushFrom, Rows, Placed, walk, tree, together, nodeNames, names, stands, sound, rebuild}
 use Rattle.b3d_scene.specs.Rules.{bonesBelow, levels, rowLimit, boneVertices}
 use Rattle.b3d_scene.specs.Scene.{Texture, Brush, Forest, leaf, node, Scene}
-use Rattle.b3d_scene.specs.Tables.{width, start, reached, textureRow, brushRow, ownRows, withNode, withForest, forestRows, rows, words, table, nodeTables, tables, nodesIn}
+use Rattle.layout.specs.Rows.{joined}
+use Rattle.b3d_scene.specs.Tables.{width, start, reached, textureRow, brushRow, ownRows, withNode, withForest, forestRows, rows, table, nodeTables, tables, nodesIn}
 use Rattle.b3d_scene.specs.declared.Counts.{Counts}
 use Rattle.b3d_scene.proofs.Fitting.{FitTexture, FitBrush, FitSlots, FitNodes, OneRoot, Fit, fits-is}
 use Rattle.b3d_scene.proofs.Rows.Nodes.{OwnWide, own-wide, From}
@@ -79,7 +80,7 @@ holds-rows : (T : Lent) (t : Scene) (k : ℕ) → Holds T t k → All (Wide (wid
 unfolding lentRows table
 holds-rows T t k h w =
     let c = width k * T .count k in
-    let e : T .words k ≡ words (rows k t) ++ drop c (T .words k) = sym (take-append-drop c (T .words k)) ∙ ap (λ (l : List ℕ). l ++ drop c (T .words k)) (h .cells) in
+    let e : T .words k ≡ joined (rows k t) ++ drop c (T .words k) = sym (take-append-drop c (T .words k)) ∙ ap (λ (l : List ℕ). l ++ drop c (T .words k)) (h .cells) in
     ap₂ (λ (m : ℕ) (l : List ℕ). cut (width k) m l) (h .many) e ∙ cut-words (width k) (rows k t) (drop c (T .words k)) w
 
 rows-holds : (T : Lent) (t : Scene) (k : ℕ) → T .count k ≤ rowLimit → width k * T .count k ≤ length (T .words k) → rows k t ≡ lentRows T k → Holds T t k
@@ -89,7 +90,7 @@ rows-holds T t k few room e =
       many = sym (cut-length (width k) (T .count k) (T .words k)) ∙ ap length (sym e);
       few = few;
       room = room;
-      cells = sym (words-cut (width k) (T .count k) (T .words k)) ∙ ap words (sym e);
+      cells = sym (words-cut (width k) (T .count k) (T .words k)) ∙ ap joined (sym e);
     }
 
 -- ---- put together

@@ -10,11 +10,11 @@ use Rattle.wire.specs.Test.{if}
 use Rattle.layout.specs.Parts.{Name}
 use Rattle.layout.specs.Rules.{NONE}
 use Rattle.layout.proofs.Lists.{All, all-pure, all-map, all-zip, all-append, all-of-map}
-use Rattle.layout.specs.Rows.{nameCells}
+use Rattle.layout.specs.Rows.{nameCells, joined}
 use Rattle.b3d_scene.specs.Names.{renameTexture, renameBrush, renameData, renameForest, rename, bareName, noName, bare, cleared, named, unplaced, unnamed, nameOff}
 use Rattle.b3d_scene.specs.Rebuild.{Lent, cut, lentRows, nodeNames, names}
 use Rattle.b3d_scene.specs.Scene.{Texture, Brush, Data, Forest, leaf, node, Scene}
-use Rattle.b3d_scene.specs.Tables.{width, start, textureRow, brushRow, nodeRow, ownRows, withNode, withForest, forestRows, rows, words, table, nodeTables, tables, nodesIn}
+use Rattle.b3d_scene.specs.Tables.{width, start, textureRow, brushRow, nodeRow, ownRows, withNode, withForest, forestRows, rows, table, nodeTables, tables, nodesIn}
 use Rattle.b3d_scene.specs.declared.Counts.{Counts}
 use Rattle.b3d_scene.proofs.Fitting.{Fit}
 use Rattle.b3d_scene.proofs.Rows.RebuildLaws.{rows-wide, together-back}
@@ -148,14 +148,14 @@ lentOf t = record { version = t .version; slots = t .slots; count = λ k. length
 own-rows : (t : Scene) → Fit t → All (λ k. lentRows (lentOf t) k ≡ rows k t) tables
 unfolding lentRows lentOf table
 own-rows t f =
-    all-map (λ k. All (Wide (width k)) (rows k t)) (λ k. cut (width k) (length (rows k t)) (words (rows k t)) ≡ rows k t)
-    (λ k w. ap (cut (width k) (length (rows k t))) (sym (append-nil (words (rows k t)))) ∙ cut-words (width k) (rows k t) [] w) tables (rows-wide t f)
+    all-map (λ k. All (Wide (width k)) (rows k t)) (λ k. cut (width k) (length (rows k t)) (joined (rows k t)) ≡ rows k t)
+    (λ k w. ap (cut (width k) (length (rows k t))) (sym (append-nil (joined (rows k t)))) ∙ cut-words (width k) (rows k t) [] w) tables (rows-wide t f)
 
-own-version : (t : Scene) → (lentOf t) .version ≡ t .version
+pub own-version : (t : Scene) → (lentOf t) .version ≡ t .version
 unfolding lentOf
 own-version t = refl
 
-own-slots : (t : Scene) → (lentOf t) .slots ≡ t .slots
+pub own-slots : (t : Scene) → (lentOf t) .slots ≡ t .slots
 unfolding lentOf
 own-slots t = refl
 

@@ -71,10 +71,6 @@ unfolding slotsHere if
 slots-is s [] w = eq-is s 0
 slots-is s (b ∷ bs) w = subst (λ (c : Bool). Tests (if c (eqb s 0) (holds slots s)) (Fits brushesHead (s ∷ []))) (sym (eqb·suc-zero (length bs))) (one-is slots s w)
 
-pub slots-few : (s : ℕ) (bs : List Brush) → FitSlots s bs → s ≤ 8
-slots-few s [] h = omega arith
-slots-few s (b ∷ bs) h = leb→le _ _ (h .1)
-
 -- ---- all of a list
 
 -- the facts of each, as lists of facts

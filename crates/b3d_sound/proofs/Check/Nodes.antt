@@ -1,5 +1,5 @@
 -- What the test on a node says: the rows are the node's own, and the node fits.
-use mathlib.Core.Path.{_≡_, refl, ap, ap₂, sym, _∙_}
+use mathlib.Core.Path.{_≡_, ap, ap₂, sym, _∙_}
 use Prim.Native.Nat.{ℕ}
 use native.Mathlib.Omega.{arith}
 use mathlib.Core.List.{List, [], _∷_, _++_}
@@ -10,6 +10,7 @@ use Rattle.wire.specs.Bytes.{AllBytes}
 use Rattle.wire.specs.Test.{if}
 use Rattle.layout.proofs.Lists.{All}
 use Rattle.layout.proofs.Testing.{Tests, both, via}
+use Rattle.layout.proofs.Outs.{if-case}
 use Rattle.layout.specs.Rows.{nameCells}
 use Rattle.b3d_scene.specs.Rebuild.{nameFrom, mine, keysFrom, animFrom, Rows, kindFrom, dataFrom}
 use Rattle.b3d_scene.specs.Scene.{Data}
@@ -18,8 +19,8 @@ use Rattle.b3d_scene.specs.declared.Counts.{Counts}
 use Rattle.b3d_scene.proofs.Fitting.{FitKeys, FitData}
 use Rattle.b3d_scene.proofs.Rows.RowParts.{Stands, kind-wide, anim-wide, lists-length}
 use Rattle.b3d_scene.proofs.Rows.WordCounts.{any-words}
+use Rattle.b3d_scene.proofs.Rows.RowLists.{mine-take}
 use Rattle.b3d_sound.specs.Check.{nodeHere}
-use Rattle.b3d_sound.proofs.Check.Testing.{if-case}
 use Rattle.b3d_sound.proofs.Check.Rows.{Begins, begins-take, take-begins, all-drop, Full, full-take, full-drop, cells, cells-front, last-cell, any-fits}
 use Rattle.b3d_sound.proofs.Check.Runs.{RunsAre, runs-length, listsRun, lists-law}
 use Rattle.b3d_sound.proofs.Check.Meshes.{lists-is}
@@ -32,12 +33,6 @@ unfolding mine
 mine-are P i [] h = tt
 mine-are P i (x ∷ ls) h =
     if-case (All (λ y. P y × (getD y 0 0 ≡ i))) (eqb (getD x 0 0) i) (x ∷ mine i ls) [] (λ e. ((h .0, eqb→eq (getD x 0 0) i e), mine-are P i ls (h .1))) (λ e. tt)
-
-mine-take : (i : ℕ) (ls : List (List ℕ)) → mine i ls ≡ take (length (mine i ls)) ls
-unfolding mine
-mine-take i [] = refl
-mine-take i (x ∷ ls) =
-    if-case (λ r. r ≡ take (length r) (x ∷ ls)) (eqb (getD x 0 0) i) (x ∷ mine i ls) [] (λ e. ap (λ (r : List (List ℕ)). x ∷ r) (mine-take i ls)) (λ e. refl)
 
 -- ---- a node
 

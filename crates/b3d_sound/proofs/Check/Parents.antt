@@ -8,17 +8,17 @@ use mathlib.Core.List.{List, [], _∷_}
 use lib.ListN.{length}
 use lib.Dec.{T, eqb, eqb→eq, eqb-refl}
 use Rattle.layout.proofs.Lists.{cons-head, cons-tail}
-use Rattle.layout.proofs.Outs.{if-yes}
+use Rattle.layout.proofs.Outs.{if-yes, if-case}
 use Rattle.b3d_scene.specs.Rebuild.{Placed, Group, Off, off, groups}
 use Rattle.b3d_scene.specs.Rules.{ownVertices, boneVertices, animated, bonesFrom, bonesBelow, levels}
 use Rattle.b3d_scene.specs.Scene.{Data, Forest, leaf, node}
 use Rattle.b3d_scene.specs.Tables.{nodesIn, withNode, withForest}
 use Rattle.b3d_scene.specs.declared.Counts.{Counts}
-use Rattle.b3d_scene.proofs.Fitting.{FitData, FitNodes}
+use Rattle.b3d_scene.proofs.Fitting.{FitData, FitNodes, no-nodes}
 use Rattle.b3d_scene.proofs.Rows.Nodes.{nodes-step}
 use Rattle.b3d_scene.proofs.Rows.Trees.{flat}
 use Rattle.b3d_sound.specs.Check.{Level, upTo}
-use Rattle.b3d_sound.proofs.Check.Testing.{if-case, if-both}
+use Rattle.b3d_sound.proofs.Check.Testing.{if-both}
 use Rattle.b3d_sound.proofs.Check.Walk.{said, ToldAt, EndAt, Told}
 
 -- ---- groups hold the nodes that they were made of
@@ -91,10 +91,6 @@ module _ (fs : List Placed) (m : Counts) (e : m .nodes ≡ 1) (l : (off 0 (group
   children-right h = subst (λ (k : ℕ). Counting k fs) e (groups-flat fs m (sym children ∙ h))
 
 -- ---- levels
-
-no-nodes : (l b : ℕ) (above : Option ℕ) → FitNodes l b above leaf
-no-nodes zero b above = tt
-no-nodes (suc l) b above = tt
 
 -- what a node says of bones is a number, where it was told one
 said-is : (told : ℕ) (d : Data) → bonesBelow (some told) d ≡ some (said told d)

@@ -40,12 +40,7 @@ pub all-on : {A : Type 0} {P : A → Type 0} {f : A → Bool} (W : A → Type 0)
 all-on W h [] w = yes-if tt
 all-on W h (x ∷ xs) w = both (h x (w .0)) (all-on W h xs (w .1))
 
--- what holds in both cases of a choice; of two choices by one test
-pub if-case : {A : Type 0} (P : A → Type 0) (c : Bool) (x y : A) → (T c → P x) → (T (not c) → P y) → P (if c x y)
-unfolding if
-if-case P true x y f g = f tt
-if-case P false x y f g = g tt
-
+-- what holds in both cases of two choices by one test
 pub if-both : {A B : Type 0} (P : A → B → Type 0) (c : Bool) (x y : A) (u v : B) → (T c → P x u) → (T (not c) → P y v) → P (if c x y) (if c u v)
 unfolding if
 if-both P true x y u v f g = f tt

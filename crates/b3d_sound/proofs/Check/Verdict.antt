@@ -21,7 +21,7 @@ use Rattle.b3d_scene.specs.Rebuild.{Lent, cut, lentRows, roomy, textureFrom, br
 use Rattle.b3d_scene.specs.Rules.{version, fileHead, rowLimit}
 use Rattle.b3d_scene.specs.Scene.{Texture, Brush, Forest, Scene}
 use Rattle.b3d_scene.specs.Tables.{width, start, textureRow, brushRow, nodeTables, tables, rows, nodeWidth}
-use Rattle.b3d_scene.proofs.Fitting.{FitTexture, FitBrush, FitSlots, Fit}
+use Rattle.b3d_scene.proofs.Fitting.{FitTexture, FitBrush, FitSlots, Fit, slots-few}
 use Rattle.b3d_scene.proofs.Modes.{rebuild-mode}
 use Rattle.b3d_scene.proofs.Rows.RebuildLaws.{roomy-is, sound-is}
 use Rattle.b3d_scene.proofs.Rows.RowLists.{cut-length}
@@ -31,7 +31,7 @@ use Rattle.b3d_sound.proofs.Check.Testing.{then, same-test, if-and}
 use Rattle.b3d_sound.proofs.Check.Rows.{all-take, all-drop, Full, one-is}
 use Rattle.b3d_sound.proofs.Check.Kinds.{Whole}
 use Rattle.b3d_sound.proofs.Check.Forests.{TreeIs, tree-is}
-use Rattle.b3d_sound.proofs.Check.Brushes.{texture-is, brush-is, slots-is, slots-few, PartsAre, parts-are}
+use Rattle.b3d_sound.proofs.Check.Brushes.{texture-is, brush-is, slots-is, PartsAre, parts-are}
 
 -- ---- lent rows
 

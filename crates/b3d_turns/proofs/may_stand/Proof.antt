@@ -10,6 +10,7 @@ may-stand-spec =
     (tie.spec
     (λ c κs. search needs)
     (λ c κs. search needs)
+    (λ c κs. search needs)
     (λ c. search (may-stand-laws, needs))
     (λ c. search (may-stand-laws, needs))
     (λ c. search (may-stand-laws, needs))

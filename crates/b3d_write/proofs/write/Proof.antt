@@ -1,23 +1,54 @@
 -- `write` answers as the definition, and writes the file where there is one with room.
-use Rattle.b3d_write.proofs.WriteLaws.{write-unsound, write-fits, write-short, asked-rooms, asked-sized, asked-some, file-done}
+use mathlib.Core.Path.{sym}
+use lib.ListN.{length}
+use lib.Seq.{length-take-le}
+use Rattle.b3d_check.specs.Lent.{Rooms}
+use Rattle.b3d_write.proofs.WriteLaws.{write-unsound, asked-rooms, asked-slots, asked-sizable, write-long, write-short, asked-sized, asked-some, write-done}
 use borrow.Author.Needs.{needs}
 use Rattle.b3d_write.proofs.write.Statement.{statement}
 use Rattle.b3d_write.proofs.write.Tie as tie
+
+-- the counted rows are there
+rooms : (c : tie.After-size2) → let a = c .before .before .before .before .before .before .before .before .before .before .before .before .before .before .before .before .before .before .before .args in
+    Rooms (c .before .before .size .result) (c .size2 .result) (c .before .before .before .before .sizes .result) (length (a .t1 .now)) (length (a .t2 .now)) (length (a .t3 .now)) (length (a .t4 .now)) (length (a .t5 .now)) (length (a .t6 .now)) (length (a .t7 .now)) (length (a .t8 .now)) (length (a .t9 .now)) (length (a .t10 .now))
+rooms c = asked-rooms _ _ _ _ _ _ _ _ _ _ _ _ _ _ _ _ (c .before .before .before .before .before .before .sound .ensures) (c .before .before .before .before .before .if1 .left) _ (c .before .before .before .before .sizes .ensures) _ _ (c .before .before .size .ensures) (c .size2 .ensures)
 
 pub write-spec : {M : Type 1} → statement M
 write-spec =
     tie.close
     (tie.spec
     (λ c κs. search needs)
-    (λ c. write-unsound _ _ _ _ (c .before .needed .ensures) _ (c .if1 .taken))
-    (λ c. write-fits _ _ _ _ (c .before .before .needed .ensures) (c .before .if1 .left))
-    (λ c. write-short _ _ _ _ (c .before .before .needed .ensures) _ (c .before .if1 .left) (c .if2 .taken))
+    (λ c. write-unsound _ _ _ _ _ _ _ _ _ _ _ _ _ _ _ _ (c .before .sound .ensures) _ (c .if1 .taken))
     (λ c κs. search needs)
     (λ c. search needs)
     (λ c κs. search needs)
     (λ c. search needs)
     (λ c κs. search needs)
-    (λ c κs. (asked-rooms _ _ _ _ _ _ _ _ _ _ _ _ _ _ _ _ (c .before .before .before .before .before .before .before .before .needed .ensures) (c .before .before .before .before .before .before .before .if1 .left) _ (c .before .before .before .before .before .sizes .ensures) _ _ (c .before .before .before .size .ensures) (c .before .size2 .ensures), (asked-sized _ _ _ _ _ _ _ _ _ _ _ _ _ _ _ _ (c .before .before .before .before .before .before .before .before .needed .ensures) (c .before .before .before .before .before .before .before .if1 .left) _ (c .before .before .before .before .before .sizes .ensures) _ _ (c .before .before .before .size .ensures) (c .before .size2 .ensures), asked-some _ _ _ _ _ _ _ _ _ _ _ _ _ _ _ _ (c .before .before .before .before .before .before .before .before .needed .ensures) (c .before .before .before .before .before .before .before .if1 .left) _ (c .before .before .before .before .before .sizes .ensures) _ _ (c .before .before .before .size .ensures) (c .before .size2 .ensures) _ (c .before .before .before .before .before .before .if2 .left))))
-    (λ c. write-fits _ _ _ _ (c .before .before .before .before .before .before .before .before .before .before .before .needed .ensures) (c .before .before .before .before .before .before .before .before .before .before .if1 .left))
+    (λ c κs. let h = rooms c in ((asked-slots _ _ _ _ _ _ _ _ _ _ _ _ _ _ _ _ (c .before .before .before .before .before .before .sound .ensures) (c .before .before .before .before .before .if1 .left) _ (c .before .before .before .before .sizes .ensures) _ _ (c .before .before .size .ensures) (c .size2 .ensures), h .room₁, h .room₂, h .few₁, h .few₂), asked-sizable _ _ _ _ _ _ _ _ _ _ _ _ _ _ _ _ (c .before .before .before .before .before .before .sound .ensures) (c .before .before .before .before .before .if1 .left) _ (c .before .before .before .before .sizes .ensures) _ _ (c .before .before .size .ensures) (c .size2 .ensures)))
+    (λ c. write-long _ _ _ _ _ _ _ _ _ _ _ _ _ _ _ _ (c .before .before .before .before .before .before .before .before .sound .ensures) (c .before .before .before .before .before .before .before .if1 .left) _ (c .before .before .before .before .before .before .sizes .ensures) _ _ (c .before .before .before .before .size .ensures) (c .before .before .size2 .ensures) _ (c .before .file-bytes .ensures) _ (c .if2 .taken))
     (λ c. search needs)
-    (λ c. file-done _ _ _ _ _ _ _ _ _ _ _ _ _ _ _ _ (c .before .before .before .before .before .before .before .before .before .before .before .needed .ensures) (c .before .before .before .before .before .before .before .before .before .before .if1 .left) _ (c .before .before .before .before .before .before .before .before .sizes .ensures) _ _ (c .before .before .before .before .before .before .size .ensures) (c .before .before .before .before .size2 .ensures) _ (c .before .before .before .before .before .before .before .before .before .if2 .left) _ _ (c .before .before .put-counted .ensures)))
+    (λ c. write-short _ _ _ _ _ _ _ _ _ _ _ _ _ _ _ _ (c .before .before .before .before .before .before .before .before .before .sound .ensures) (c .before .before .before .before .before .before .before .before .if1 .left) _ (c .before .before .before .before .before .before .before .sizes .ensures) _ _ (c .before .before .before .before .before .size .ensures) (c .before .before .before .size2 .ensures) _ (c .before .before .file-bytes .ensures) _ (c .before .if2 .left) (c .if3 .taken))
+    (λ c. let h = rooms (c .before .before .before) .few₁ in search needs)
+    (λ c. sym (length-take-le _ _ (rooms (c .before .before .before .before) .room₁)))
+    (λ c. let h = rooms (c .before .before .before .before) .few₂ in search needs)
+    (λ c. sym (length-take-le _ _ (rooms (c .before .before .before .before .before) .room₂)))
+    (λ c. let h = rooms (c .before .before .before .before .before .before) .limited .nodes in search needs)
+    (λ c. sym (length-take-le _ _ (rooms (c .before .before .before .before .before .before .before) .room₃)))
+    (λ c. let h = rooms (c .before .before .before .before .before .before .before .before) .limited .meshes in search needs)
+    (λ c. sym (length-take-le _ _ (rooms (c .before .before .before .before .before .before .before .before .before) .kinds .room₄)))
+    (λ c. let h = rooms (c .before .before .before .before .before .before .before .before .before .before) .limited .vertices in search needs)
+    (λ c. sym (length-take-le _ _ (rooms (c .before .before .before .before .before .before .before .before .before .before .before) .kinds .room₅)))
+    (λ c. let h = rooms (c .before .before .before .before .before .before .before .before .before .before .before .before) .limited .sets in search needs)
+    (λ c. sym (length-take-le _ _ (rooms (c .before .before .before .before .before .before .before .before .before .before .before .before .before) .kinds .room₆)))
+    (λ c. let h = rooms (c .before .before .before .before .before .before .before .before .before .before .before .before .before .before) .limited .triangles in search needs)
+    (λ c. sym (length-take-le _ _ (rooms (c .before .before .before .before .before .before .before .before .before .before .before .before .before .before .before) .kinds .room₇)))
+    (λ c. let h = rooms (c .before .before .before .before .before .before .before .before .before .before .before .before .before .before .before .before) .limited .weights in search needs)
+    (λ c. sym (length-take-le _ _ (rooms (c .before .before .before .before .before .before .before .before .before .before .before .before .before .before .before .before .before) .kinds .room₈)))
+    (λ c. let h = rooms (c .before .before .before .before .before .before .before .before .before .before .before .before .before .before .before .before .before .before) .limited .lists in search needs)
+    (λ c. sym (length-take-le _ _ (rooms (c .before .before .before .before .before .before .before .before .before .before .before .before .before .before .before .before .before .before .before) .lists .room₉)))
+    (λ c. let h = rooms (c .before .before .before .before .before .before .before .before .before .before .before .before .before .before .before .before .before .before .before .before) .limited .keys in search needs)
+    (λ c. sym (length-take-le _ _ (rooms (c .before .before .before .before .before .before .before .before .before .before .before .before .before .before .before .before .before .before .before .before .before) .lists .room₁₀)))
+    (λ c κs. (asked-sized _ _ _ _ _ _ _ _ _ _ _ _ _ _ _ _ (c .before .before .before .before .before .before .before .before .before .before .before .before .before .before .before .before .before .before .before .before .before .before .before .before .before .before .before .before .sound .ensures) (c .before .before .before .before .before .before .before .before .before .before .before .before .before .before .before .before .before .before .before .before .before .before .before .before .before .before .before .if1 .left) _ (c .before .before .before .before .before .before .before .before .before .before .before .before .before .before .before .before .before .before .before .before .before .before .before .before .before .before .sizes .ensures) _ _ (c .before .before .before .before .before .before .before .before .before .before .before .before .before .before .before .before .before .before .before .before .before .before .before .before .size .ensures) (c .before .before .before .before .before .before .before .before .before .before .before .before .before .before .before .before .before .before .before .before .before .before .size2 .ensures), asked-some _ _ _ _ _ _ _ _ _ _ _ _ _ _ _ _ (c .before .before .before .before .before .before .before .before .before .before .before .before .before .before .before .before .before .before .before .before .before .before .before .before .before .before .before .before .sound .ensures) (c .before .before .before .before .before .before .before .before .before .before .before .before .before .before .before .before .before .before .before .before .before .before .before .before .before .before .before .if1 .left) _ (c .before .before .before .before .before .before .before .before .before .before .before .before .before .before .before .before .before .before .before .before .before .before .before .before .before .before .sizes .ensures) _ _ (c .before .before .before .before .before .before .before .before .before .before .before .before .before .before .before .before .before .before .before .before .before .before .before .before .size .ensures) (c .before .before .before .before .before .before .before .before .before .before .before .before .before .before .before .before .before .before .before .before .before .before .size2 .ensures) _ (c .before .before .before .before .before .before .before .before .before .before .before .before .before .before .before .before .before .before .before .before .before .file-bytes .ensures) _ (c .before .before .before .before .before .before .before .before .before .before .before .before .before .before .before .before .before .before .before .before .if2 .left) (c .before .before .before .before .before .before .before .before .before .before .before .before .before .before .before .before .before .before .before .if3 .left)))
+    (λ c. let h = c .before .before .before .before .before .before .before .before .before .before .before .before .before .before .before .before .before .before .before .before .before .before .before .if2 .left in search needs)
+    (λ c. search needs)
+    (λ c. write-done _ _ _ _ _ _ _ _ _ _ _ _ _ _ _ _ (c .before .before .before .before .before .before .before .before .before .before .before .before .before .before .before .before .before .before .before .before .before .before .before .before .before .before .before .before .before .before .before .sound .ensures) (c .before .before .before .before .before .before .before .before .before .before .before .before .before .before .before .before .before .before .before .before .before .before .before .before .before .before .before .before .before .before .if1 .left) _ (c .before .before .before .before .before .before .before .before .before .before .before .before .before .before .before .before .before .before .before .before .before .before .before .before .before .before .before .before .before .sizes .ensures) _ _ (c .before .before .before .before .before .before .before .before .before .before .before .before .before .before .before .before .before .before .before .before .before .before .before .before .before .before .before .size .ensures) (c .before .before .before .before .before .before .before .before .before .before .before .before .before .before .before .before .before .before .before .before .before .before .before .before .before .size2 .ensures) _ (c .before .before .before .before .before .before .before .before .before .before .before .before .before .before .before .before .before .before .before .before .before .before .before .before .file-bytes .ensures) _ (c .before .before .before .before .before .before .before .before .before .before .before .before .before .before .before .before .before .before .before .before .before .before .before .if2 .left) (c .before .before .before .before .before .before .before .before .before .before .before .before .before .before .before .before .before .before .before .before .before .before .if3 .left) _ _ (c .before .before .put-file .ensures)))

@@ -1,6 +1,5 @@
 -- `kelompuris_cmf_read` answers, and leaves in the tables, what `cal3d_mesh::read_mesh` does.
 use borrow.Author.Needs.{needs}
-use Rattle.cal3d_c.proofs.Laws.{mesh-reads}
 use Rattle.cal3d_c.proofs.kelompuris_cmf_read.Statement.{statement}
 use Rattle.cal3d_c.proofs.kelompuris_cmf_read.Tie as tie
 
@@ -9,11 +8,10 @@ kelompuris-cmf-read-spec =
     tie.close
     (tie.spec
     (λ c κs. search needs)
-    (λ c κs. search needs)
     (λ c. search needs)
     (λ c. search needs)
     (λ c. search needs)
     (λ c. search needs)
     (λ c. search needs)
     (λ c. search needs)
-    (λ c. search mesh-reads))
+    (λ c. c .before .before .before .before .before .before .before .before .before .before .before .before .read-mesh .ensures))

@@ -1,6 +1,5 @@
 -- `kelompuris_csf_read` answers, and leaves in the tables, what `cal3d_skeleton::read_skeleton` does.
 use borrow.Author.Needs.{needs}
-use Rattle.cal3d_c.proofs.Laws.{skeleton-reads}
 use Rattle.cal3d_c.proofs.kelompuris_csf_read.Statement.{statement}
 use Rattle.cal3d_c.proofs.kelompuris_csf_read.Tie as tie
 
@@ -9,7 +8,6 @@ kelompuris-csf-read-spec =
     tie.close
     (tie.spec
     (λ c κs. search needs)
-    (λ c κs. search needs)
     (λ c. search needs)
     (λ c. search needs)
-    (λ c. search skeleton-reads))
+    (λ c. c .before .before .before .before .read-skeleton .ensures))

@@ -29,8 +29,8 @@ gather-spec =
     (λ c κs. search (gathers, needs))
     (λ c. search needs)
     (λ c. search needs)
-    (λ c. search (gathers, needs))
     (λ c. search needs)
+    (λ c. search (gathers, needs))
     add-number-at
     (λ c κs. search (gathers, needs))
     (λ c. search needs)

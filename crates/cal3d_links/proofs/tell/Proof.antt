@@ -54,8 +54,8 @@ tell-spec =
     (λ c κs. search (tells, needs))
     (λ c. search needs)
     (λ c. search needs)
-    (λ c. search (tells, needs))
     (λ c. search needs)
+    (λ c. search (tells, needs))
     add-note-list
     cast-note-list
     note-list-requires

@@ -1,7 +1,8 @@
 -- `fill_mesh` goes from submesh to submesh. Facts that lie far back are named.
 use Prim.Native.Nat.{_-_}
 use borrow.Author.Needs.{needs}
-use Rattle.cal3d_mesh_fill.proofs.FillLaws.{MeshLeft, turn-less, start-head, mesh-start, mesh-long1, mesh-long2, mesh-long3, mesh-long4, mesh-long5, mesh-long6, mesh-done, turn-head, turn-fit, turn-submesh, fits-row, fits-next, fits-head, turn-vertices, turn-springs-in, turn-springs, turn-faces-in, turn-faces, turn-few, springs-before, faces-before, fits-springs, fits-faces, turn-end, turn-next}
+use Rattle.cells.proofs.Storing.{part-long}
+use Rattle.cal3d_mesh_fill.proofs.FillLaws.{MeshLeft, turn-less, start-head, mesh-start, mesh-done, turn-head, turn-fit, turn-submesh, fits-row, fits-next, fits-head, turn-vertices, turn-springs-in, turn-springs, turn-faces-in, turn-faces, turn-few, springs-before, faces-before, fits-springs, fits-faces, turn-end, turn-next}
 use Rattle.cal3d_mesh_fill.proofs.fill_mesh.Statement.{statement}
 use Rattle.cal3d_mesh_fill.proofs.fill_mesh.Tie as tie
 
@@ -34,10 +35,10 @@ fill-mesh-spec =
     (λ c. let inv = c .before .before .before .before .before .before .before .before .before .before .before .before .before .before .before .before .before .before .before .before .before .before .before .before .before .before .before .before .loop .inv in let more = c .before .before .before .before .before .before .before .before .before .before .before .before .before .before .before .before .before .before .before .before .before .before .before .before .before .before .before .loop-test .taken in let small = c .before .before .before .before .before .before .before .before .before .before .before .before .before .before .before .before .before .before .before .before .before .before .before .before .before .before .before .before .before .before .before .before .before .before .before .before .before .before .pre .small in fits-next _ _ _ _ _ _ _ _ _ _ _ _ _ _ _ _ inv more small)
     (λ c. let more = c .before .before .before .before .before .before .before .before .before .before .before .before .before .before .before .before .before .before .before .before .before .before .before .before .before .before .before .loop-test .taken in turn-less _ _ more)
     (λ c. let inv = c .before .before .before .before .before .before .before .before .before .before .before .before .before .before .before .before .before .before .before .before .before .before .before .before .before .before .before .before .loop .inv in let more = c .before .before .before .before .before .before .before .before .before .before .before .before .before .before .before .before .before .before .before .before .before .before .before .before .before .before .before .loop-test .taken in let shape = c .before .before .before .before .before .before .before .before .before .before .before .before .before .before .before .before .before .before .before .before .before .before .before .before .before .before .shape-at .ensures in let row = c .before .before .before .before .before .before .before .before .before .before .before .before .before .before .before .before .before .before .before .before .before .before .before .before .put-submesh .ensures in let held = c .before .before .before .before .before .before .before .before .before .before .before .before .before .before .before .before .before .put-vertices .ensures in let springs = c .before .before .before .before .before .before .before .before .before .put-rows .ensures in let faces = c .before .before .before .put-rows2 .ensures in let passed = c .pass-submesh .ensures in turn-next _ _ _ _ _ _ _ _ _ _ _ _ _ _ _ _ inv more _ shape _ _ _ _ held _ _ _ _ row springs faces passed)
-    (λ c. mesh-long1 _ _ _ _ _ _ _ _ _ _ _ _ _ _ _ _ (c .before .loop .inv))
-    (λ c. mesh-long2 _ _ _ _ _ _ _ _ _ _ _ _ _ _ _ _ (c .before .loop .inv))
-    (λ c. mesh-long3 _ _ _ _ _ _ _ _ _ _ _ _ _ _ _ _ (c .before .loop .inv))
-    (λ c. mesh-long4 _ _ _ _ _ _ _ _ _ _ _ _ _ _ _ _ (c .before .loop .inv))
-    (λ c. mesh-long5 _ _ _ _ _ _ _ _ _ _ _ _ _ _ _ _ (c .before .loop .inv))
-    (λ c. mesh-long6 _ _ _ _ _ _ _ _ _ _ _ _ _ _ _ _ (c .before .loop .inv))
+    (λ c. part-long (c .before .loop .inv .part1))
+    (λ c. part-long (c .before .loop .inv .part2))
+    (λ c. part-long (c .before .loop .inv .part3))
+    (λ c. part-long (c .before .loop .inv .part4))
+    (λ c. part-long (c .before .loop .inv .part5))
+    (λ c. part-long (c .before .loop .inv .part6))
     (λ c. mesh-done _ _ _ _ _ _ _ _ _ _ _ _ _ _ _ _ (c .before .loop .inv) (c .loop-test .left)))

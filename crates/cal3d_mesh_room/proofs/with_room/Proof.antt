@@ -1,4 +1,5 @@
 -- `with_room` answers 11 only where the judge accepts.
+use native.Mathlib.Omega.{arith}
 use borrow.Author.Needs.{needs}
 use Rattle.cal3d_mesh_room.proofs.RoomLaws.{room-laws}
 use Rattle.cal3d_mesh_room.proofs.with_room.Statement.{statement}
@@ -10,6 +11,7 @@ with-room-spec =
     (tie.spec
     (λ c. search (room-laws, needs))
     (λ c κs. search needs)
+    (λ c. record { fits = omega arith })
     (λ c κs. search needs)
     (λ c. search (room-laws, needs))
     (λ c. search (room-laws, needs)))

@@ -39,8 +39,8 @@ put-bone-requires c κs =
     let room = p .0 .1 in
     ((fill-numbers _ _ _ _ _ _ _ _ _ _ (c .before .before .before .before .before .before .before .loop .inv .0) (c .before .before .before .before .before .before .loop-test .taken) _ (c .before .before .before .before .before .lay-bone .ensures) _ _ _ (c .before .before .before .numbers .given .1), omega arith, places .0, p .0 .0 .small), (omega arith, omega arith))
 
-add-t18 : tie.Need-add-t18 Inv-loop μ-loop
-add-t18 c =
+add-at : tie.Need-add-at Inv-loop μ-loop
+add-at c =
     let places = fill-places _ _ _ _ _ _ _ _ _ _ (c .before .before .before .before .before .before .before .before .before .before .loop .inv .0) (c .before .before .before .before .before .before .before .before .before .loop-test .taken) _ (c .before .before .before .before .before .before .before .before .lay-bone .ensures) _ _ _ (c .before .before .before .before .before .before .numbers .given .1) in
     let inside = c .before .before .before .before .before .before .before .before .before .before .loop .inv .0 .walked .inside in
     let small = c .before .before .before .before .before .before .before .before .before .before .before .before .before .before .pre .0 .0 .small in
@@ -74,12 +74,12 @@ fill-spec =
     (λ c. search needs)
     (λ c. search needs)
     (λ c. search needs)
-    (λ c. (search (fills, needs), search (fills, needs)))
     (λ c. search needs)
+    (λ c. (search (fills, needs), search (fills, needs)))
     add-name
     mul-put-bone
     put-bone-requires
-    add-t18
+    add-at
     copy-words-requires
     add-before
     (λ c. search needs)

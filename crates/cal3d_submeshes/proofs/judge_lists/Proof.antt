@@ -6,11 +6,11 @@ use Rattle.cal3d_submeshes.proofs.judge_lists.Statement.{statement}
 use Rattle.cal3d_submeshes.proofs.judge_lists.Tie as tie
 
 -- maps take bytes, so that their number fits
-mul-all-maps : tie.Need-mul-all-maps
-mul-all-maps c =
-    let room = lists-maps _ _ _ _ _ _ 0 (c .before .before .before .before .before .pre) _ (c .before .before .before .judge-vertices .ensures) _ _ (c .before .influences .given .1) in
-    let i = c .before .before .before .before .before .pre in
-    let k = lists-first _ _ _ _ _ _ 0 i _ (c .before .before .before .judge-vertices .ensures) _ _ (c .before .influences .given .1) in
+mul-maps : tie.Need-mul-maps
+mul-maps c =
+    let room = lists-maps _ _ _ _ _ _ 0 (c .before .before .before .before .before .before .pre) _ (c .before .before .before .before .judge-vertices .ensures) _ _ (c .before .before .influences .given .1) in
+    let i = c .before .before .before .before .before .before .pre in
+    let k = lists-first _ _ _ _ _ _ 0 i _ (c .before .before .before .before .judge-vertices .ensures) _ _ (c .before .before .influences .given .1) in
     omega arith
 
 pub judge-lists-spec : {M : Type 1} → statement M
@@ -20,7 +20,7 @@ judge-lists-spec =
     (λ c κs. search needs)
     (λ c. search needs)
     (λ c. search needs)
-    mul-all-maps
+    mul-maps
     (λ c κs. search (lists, needs))
     (λ c. search needs)
     (λ c. search needs)

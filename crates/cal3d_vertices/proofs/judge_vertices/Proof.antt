@@ -10,17 +10,17 @@ use Rattle.cal3d_vertices.proofs.judge_vertices.Statement.{statement}
 use Rattle.cal3d_vertices.proofs.judge_vertices.Tie as tie
 
 abbrev Inv-loop : tie.InvT-loop
-Inv-loop s bones vertices springs maps c₀ more₀ influences₀ c more influences =
-    Summing (readVertex bones vertices springs maps) influencesIn (36 + maps * 8) s vertices c₀ c more influences
+Inv-loop s bones n c₀ more₀ influences₀ c more influences =
+    Summing (readVertex bones (n .vertices) (n .springs) (n .maps)) influencesIn (36 + n .maps * 8) s (n .vertices) c₀ c more influences
 
 abbrev μ-loop : tie.MeasureT-loop
-μ-loop s bones vertices springs maps c₀ more₀ influences₀ c more influences = c .end - c .at
+μ-loop s bones n c₀ more₀ influences₀ c more influences = c .end - c .at
 
 -- influences take bytes, so that their number fits
 add-influences : tie.Need-add-influences Inv-loop μ-loop
 add-influences c =
     let w = c .before .before .before .before .before .loop .inv in
-    let room = sums-room _ _ _ _ _ _ _ _ _ w (c .before .before .before .before .loop-test .taken) _ (vertex-adds _ _ _ _) _ (c .before .before .before .judge-vertex .ensures) _ _ (c .before .n .given .1) in
+    let room = sums-room _ _ _ _ _ _ _ _ _ w (c .before .before .before .before .loop-test .taken) _ (vertex-adds _ _ _ _) _ (c .before .before .before .judge-vertex .ensures) _ _ (c .before .count .given .1) in
     let i = w .walk .inside in
     omega arith
 

@@ -1,6 +1,6 @@
 -- `kelompuris_b3d_read` answers, and leaves in the tables, what `b3d_read::read` does.
 use borrow.Author.Needs.{needs}
-use Rattle.kelompuris_c.proofs.Laws.{outward-reads}
+use Rattle.kelompuris_c.proofs.Laws.{mode-reads}
 use Rattle.kelompuris_c.proofs.kelompuris_b3d_read.Statement.{statement}
 use Rattle.kelompuris_c.proofs.kelompuris_b3d_read.Tie as tie
 
@@ -10,7 +10,6 @@ kelompuris-b3d-read-spec =
     (tie.spec
     (λ c κs. search needs)
     (λ c κs. search needs)
-    (λ c κs. search needs)
     (λ c. search)
     (λ c. search)
     (λ c. search)
@@ -21,4 +20,4 @@ kelompuris-b3d-read-spec =
     (λ c. search)
     (λ c. search)
     (λ c. search)
-    (λ c. outward-reads _ _ (c .before .before .before .before .before .before .before .before .before .before .before .before .before .before .before .before .before .before .before .before .before .before .before .before .before .before .before .before .before .before .before .before .mode-of .ensures) _ _ (c .outward .ensures) _ _ _ (c .before .before .before .before .before .before .before .before .before .before .before .before .before .before .before .before .before .before .before .before .before .read .ensures)))
+    (λ c. mode-reads _ _ (c .before .before .before .before .before .before .before .before .before .before .before .before .before .before .before .before .before .before .before .before .before .before .before .before .before .before .before .before .before .before .before .mode-of .ensures) _ _ _ _ (c .before .before .before .before .before .before .before .before .before .before .before .before .before .before .before .before .before .before .before .before .read .ensures)))

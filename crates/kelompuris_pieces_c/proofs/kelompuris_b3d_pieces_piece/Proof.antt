@@ -2,8 +2,7 @@
 -- A turn takes one record out of the row and puts it back, calls `next` on it and on the piece, which is lent on as it was lent, and puts the record that `next` made into the row. All that the walk knows of what it calls is that each meets its contract, and of the rounds what `PieceRounds` says.
 -- Assumes nothing.
 use mathlib.Core.Path.{_≡_, refl, sym, _∙_, ap, subst}
-use Prim.Native.Nat.{ℕ, _*_, _<_, _≤_, _^_}
-use native.Mathlib.Omega.{arith}
+use Prim.Native.Nat.{ℕ, _<_, _≤_, _^_}
 use mathlib.Core.Bool.{Bool, true, false}
 use mathlib.Core.List.{List, [], _∷_}
 use lib.ListN.{length, getD, set}
@@ -74,6 +73,7 @@ use Rattle.b3d_piece_rounds.proofs.rounds.last as last
 use Rattle.b3d_piece_rounds.proofs.rounds.last.Symbol as last-def
 use Rattle.b3d_piece_rounds.proofs.rounds.last.Symbol.{name as #last}
 use Rattle.b3d_piece_rounds.proofs.rounds.last.Met as last-thm
+use Rattle.kelompuris_pieces_c.proofs.Walks.{word, open-vals, IsRound, at-lowered, rec-is, scaled, within, First, first-is}
 use Rattle.kelompuris_pieces_c.proofs.kelompuris_b3d_pieces_piece.Key.{name as #piece}
 use Rattle.kelompuris_pieces_c.proofs.kelompuris_b3d_pieces_piece as feed
 use Rattle.kelompuris_pieces_c.proofs.kelompuris_b3d_pieces_piece.Statement as stated
@@ -83,52 +83,22 @@ abbrev stayed : Stays (feed.ended .signature .params) (feed.ended .kept)
 stayed = (stay-none (λ _. S.the-row) yes, (stay-slice (0 ∷ []) tt (plain (λ _. O.the-row)), (stay-none-slice (1 ∷ []) tt (plain (λ _. u8)) yes, tt)))
 
 -- the types of the locals
-abbrev word : Ty
-word = tyInt w64
-
 abbrev rows-ty : Ty
 rows-ty = sliceTy (tyRef (named 0) mut (pointee (O.the-row .written)))
 
 abbrev bytes-ty : Ty
 bytes-ty = sliceTy (tyRef (named 1) imm (tyInt w8))
 
--- the machine value of a record, and that a value that a record's type relates to it is that
-abbrev open-vals : OpenRecord → List Val
-open-vals r = O′.lowered r ∷ []
-
-abbrev IsRound : Round → Type 0
-IsRound t = Is T.the-row t (T′.lowered t ∷ [])
-
 abbrev after : Round → List OpenRecord → List OpenRecord
 after r rs = set rs (r .put) (r .rec)
 
--- what is carried, once its machine value is written out; and the record in it
-at-lowered : (r : Round) (v : Val) → Is T.the-row r (v ∷ []) → IsRound r
-at-lowered r v is = subst (Is T.the-row r) (T′.lowers .val-is r _ is) is
-
-rec-is : (r : Round) → IsRound r → Is O.the-row (r .rec) (open-vals (r .rec))
-rec-is r is = let f = LL.owed T.the-type T′.the-laws r _ is .1 .1 .1 .0 in subst (Is O.the-row (r .rec)) (O′.lowers .val-is (r .rec) _ f) f
-
--- a place of at most 18, scaled by a record's size, fits a usize, and is one of the row's
-scaled : (i : ℕ) → i ≤ 18 → i * 88 < 2 ^ 64
-scaled i h = omega arith
-
-within : (rs : List OpenRecord) → 19 ≤ length rs → (i : ℕ) → i ≤ 18 → i < length rs
-within rs enough i h = omega arith
-
 module _ {M : Type 1} (𝓤 : URA M) (H : Heap 𝓤) (A : Atoms 𝓤) (mem : Memory → SProp 𝓤) (run : Routine → Fun 𝓤) where
   -- the contracts that the proof cites, and the clause of each
-  abbrev First : Contract 𝓤
-  First = tripleOf 𝓤 H A first.signature (first.spec 𝓤 H A mem run)
-
   abbrev Next : Contract 𝓤
   Next = tripleOf 𝓤 H A next.signature (next.spec 𝓤 H A mem run)
 
   abbrev Last : Contract 𝓤
   Last = tripleOf 𝓤 H A last.signature (last.spec 𝓤 H A mem run)
-
-  first-is : (s : PieceState) (n m : ℕ) (r : Round) → ent 𝓤 (ensured 𝓤 H A first.ended (first.clauses 𝓤 H A mem run) tt (s, (n, (m, tt))) tt r) (fact 𝓤 (FirstIs (judgeIn s) n m r))
-  first-is s n m r = exE 𝓤 _ (λ ws. snd∗ 𝓤 (sem 𝓤 H A (lasts first.ended tt (s, (n, (m, tt))) ws)) (fact 𝓤 (FirstIs (judgeIn s) n m r)))
 
   next-is : (κ : Lft) (t : Round) (top : OpenRecord) (y : RefT (List ℕ)) (r : Round) → ent 𝓤 (ensured 𝓤 H A next.ended (next.clauses 𝓤 H A mem run) (κ, tt) (t, (top, (y, tt))) tt r) (fact 𝓤 (NextIs t top (y .now) r))
   next-is κ t top y r = exE 𝓤 _ (λ ws. snd∗ 𝓤 (sem 𝓤 H A (lasts next.ended (κ, tt) (t, (top, (y, tt))) ws)) (fact 𝓤 (NextIs t top (y .now) r)))

@@ -8,4 +8,5 @@ pub every-spec : {M : Type 1} → statement M
 every-spec =
     tie.close
     (tie.spec
+    (λ c κs. search needs)
     (λ c. search (every-row, needs)))

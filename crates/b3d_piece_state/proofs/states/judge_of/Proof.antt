@@ -9,4 +9,4 @@ unfolding judgeIn
 returns c = cc
 
 pub judge-of-spec : {M : Type 1} → statement M
-judge-of-spec = tie.close (tie.spec (λ c κs. search needs) (λ c κs. search needs) returns)
+judge-of-spec = tie.close (tie.spec (λ c κs. search needs) returns)

@@ -8,6 +8,7 @@ pub now-by-spec : {M : Type 1} → statement M
 now-by-spec =
     tie.close
     (tie.spec
+    (λ c κs. search needs)
     (λ c. search (now-laws, needs))
     (λ c. search (now-laws, needs))
     (λ c. search (now-laws, needs))

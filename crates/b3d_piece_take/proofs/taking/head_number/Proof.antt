@@ -1,4 +1,4 @@
--- `head_number` takes the machine's turn, whatever the row.
+-- `head_number` adds a byte to its number.
 use Rattle.b3d_piece_take.proofs.TakeLaws.{number-laws}
 use borrow.Author.Needs.{needs}
 use Rattle.b3d_piece_take.proofs.taking.head_number.Statement.{statement}
@@ -6,22 +6,4 @@ use Rattle.b3d_piece_take.proofs.taking.head_number.Tie as tie
 
 pub head-number-spec : {M : Type 1} → statement M
 head-number-spec =
-    tie.close
-    (tie.spec
-    (λ c. search needs)
-    (λ c. search needs)
-    (λ c. search needs)
-    (λ c. search needs)
-    (λ c. search (number-laws, needs))
-    (λ c. search needs)
-    (λ c. search needs)
-    (λ c. search (number-laws, needs))
-    (λ c. search needs)
-    (λ c. search needs)
-    (λ c. search (number-laws, needs))
-    (λ c. search needs)
-    (λ c. search needs)
-    (λ c. search (number-laws, needs))
-    (λ c. search needs)
-    (λ c. search needs)
-    (λ c. search (number-laws, needs)))
+    tie.close (tie.spec (λ c κs. search (number-laws, needs)) (λ c. search (number-laws, needs)) (λ c κs. search (number-laws, needs)) (λ c. search (number-laws, needs)))

@@ -16,7 +16,6 @@ head-turn-spec =
     (λ c κs. search needs)
     (λ c κs. search needs)
     (λ c κs. search (head-laws, needs))
-    (λ c. search needs)
+    (λ c κs. search needs)
     (λ c. search (head-laws, needs))
-    (λ c. search needs)
     (λ c. search (head-laws, needs)))

@@ -1,0 +1,15 @@
+-- The words and the rules of rows that name vertices.
+use Prim.Native.Nat.{ℕ}
+use mathlib.Core.List.{List}
+use Rattle.layout.specs.Rules.{Rule}
+use Rattle.b3d_scene.specs.Rules.{triangleRow, weightRow}
+use Rattle.b3d_check_rows.specs.declared.Ids.{Ids}
+use Rattle.b3d_check_rows.specs.declared.Ids.the-variants.{Triangles, Weights}
+
+abbrev pub idWidth : Ids → ℕ
+idWidth Triangles = 3
+idWidth Weights = 2
+
+abbrev pub idRow : Ids → ℕ → List Rule
+idRow Triangles v = triangleRow v
+idRow Weights v = weightRow v

@@ -1,0 +1,3 @@
+-- Laws of the walks over a node's own chunks, and of the eight cells together.
+pub mod Own
+pub mod Cells

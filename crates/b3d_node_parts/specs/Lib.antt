@@ -1,0 +1,2 @@
+-- The cells that a node's chunks tell.
+pub mod Parts

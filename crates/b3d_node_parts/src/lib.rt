@@ -1,0 +1,66 @@
+// The last eight cells of a node's row, from the chunks behind its numbers: its kind, its ANIM, and how many nodes are below it.
+ghost use mathlib.Core.Path.{_≡_};
+ghost use Prim.Native.Nat.{ℕ, _<_, _≤_};
+ghost use lib.ListN.{length};
+ghost use Rattle.b3d_scene.specs.Tables.{kindCells, animCells};
+ghost use Rattle.b3d_file_rows.specs.Flat.{flatAt};
+ghost use Rattle.b3d_file_rows.specs.Rows.{kindOf, animOf};
+ghost use Rattle.b3d_node_parts.specs.Parts.{told, partCells};
+use b3d_scene::Tag;
+use b3d_walk::Flat;
+
+// Kind, first and count of a node whose own chunks begin at a place, after so many meshes and weights. The next NODE ends them.
+fn kind_cells(file: &[u8], from: usize, meshes: usize, weights: usize) -> [u32; 3]
+    requires { ⌜ (from ≤ length (now file)) × (length (now file) < 0x100000000) × (meshes < 0x100000000) × (weights < 0x100000000) ⌝ }
+    ensures { λ r. ⌜ r ≡ kindCells (kindOf (flatAt (now (file .entry)) from)) (told meshes weights) ⌝ }
+{
+    let mut at = from;
+    loop {
+        let Flat::Chunk(tag, _, body, next) = b3d_walk::flat_next(file, at) else {
+            return [0, 0, 0];
+        };
+        if b3d_chunks::same(tag, Tag::NODE) {
+            return [0, 0, 0];
+        }
+        if b3d_chunks::same(tag, Tag::MESH) {
+            return [1, cells::cell(meshes), 1];
+        }
+        if b3d_chunks::same(tag, Tag::BONE) {
+            let count = (body.end - body.at) / 8;
+            return [2, cells::cell(weights), cells::cell(count)];
+        }
+        at = next;
+    }
+}
+
+// Whether a node whose own chunks begin at a place has an ANIM, and its three values.
+fn anim_cells(file: &[u8], from: usize) -> [u32; 4]
+    requires { ⌜ from ≤ length (now file) ⌝ }
+    ensures { λ r. ⌜ r ≡ animCells (animOf (flatAt (now (file .entry)) from)) ⌝ }
+{
+    let mut at = from;
+    loop {
+        let Flat::Chunk(tag, _, body, next) = b3d_walk::flat_next(file, at) else {
+            return [0, 0, 0, 0];
+        };
+        if b3d_chunks::same(tag, Tag::NODE) {
+            return [0, 0, 0, 0];
+        }
+        if b3d_chunks::same(tag, Tag::ANIM) {
+            let v = b3d_walk::three_words(file, body);
+            return [1, v.first, v.second, v.third];
+        }
+        at = next;
+    }
+}
+
+// The eight cells of a node that ends at a place, whose own chunks begin at another, after so many meshes and weights.
+pub fn part_cells(file: &[u8], from: usize, end: usize, meshes: usize, weights: usize) -> [u32; 8]
+    requires { ⌜ (from ≤ length (now file)) × (length (now file) < 0x100000000) × (meshes < 0x100000000) × (weights < 0x100000000) ⌝ }
+    ensures { λ r. ⌜ r ≡ partCells (flatAt (now (file .entry)) from) end (told meshes weights) ⌝ }
+{
+    let k = kind_cells(file, from, meshes, weights);
+    let a = anim_cells(file, from);
+    let below = b3d_branch::nodes_before(file, from, end);
+    [k[0], k[1], k[2], a[0], a[1], a[2], a[3], below]
+}
