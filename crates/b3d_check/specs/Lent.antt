@@ -13,7 +13,7 @@ use Rattle.b3d_scene.specs.Rules.{rowLimit}
 use Rattle.b3d_scene.specs.declared.Counts.{Counts}
 use Rattle.b3d_scene.specs.declared.Mode.{Mode}
 use Rattle.b3d_scene.specs.Tables.{nodeWidth}
-use Rattle.b3d_check_node.specs.Parts.{Limited, KindRoom, ListRoom}
+use Rattle.b3d_sound.specs.Rooms.{Limited, KindRoom, ListRoom}
 
 -- ten counts and ten tables
 unfoldable pub lentOf : ℕ → ℕ → List ℕ → List ℕ → List ℕ → List ℕ → List ℕ → List ℕ → List ℕ → List ℕ → List ℕ → List ℕ → List ℕ → Lent

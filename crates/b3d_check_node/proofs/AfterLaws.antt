@@ -16,7 +16,8 @@ use Rattle.b3d_sound.specs.CellCounts.{endOf, meshCounts, weightCounts, kindCou
 use Rattle.b3d_check_rows.specs.Rows.{rowAt, rowsAt}
 use Rattle.b3d_check_rows.proofs.Rows.{rows-from, rows-length}
 use Rattle.b3d_check_lists.specs.Mine.{MineTo}
-use Rattle.b3d_check_node.specs.Parts.{partRows, Below, Limited}
+use Rattle.b3d_sound.specs.Rooms.{Limited}
+use Rattle.b3d_check_node.specs.Parts.{partRows, Below}
 use Rattle.b3d_check_node.proofs.NodeLaws.{kind-cell}
 
 -- a kind counts no key lists and no keys

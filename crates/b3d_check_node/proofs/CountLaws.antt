@@ -12,7 +12,8 @@ use Rattle.b3d_scene.specs.declared.Counts.{Counts}
 use Rattle.b3d_sound.specs.CellCounts.{endOf, meshCounts, weightCounts, kindCounts}
 use Rattle.b3d_check_rows.specs.Rows.{rowAt, rowsAt}
 use Rattle.b3d_check_rows.proofs.Rows.{row-cell, rows-from, rows-first, rows-take}
-use Rattle.b3d_check_node.specs.Parts.{partRows, Below, Limited, MeshEnds}
+use Rattle.b3d_sound.specs.Rooms.{Limited}
+use Rattle.b3d_check_node.specs.Parts.{partRows, Below, MeshEnds}
 
 -- ---- a mesh
 

@@ -5,7 +5,6 @@ use lib.ListN.{getD}
 use lib.Dec.{eqb}
 use Rattle.wire.specs.Test.{if}
 use Rattle.b3d_scene.specs.Rebuild.{cut, Rows}
-use Rattle.b3d_scene.specs.Rules.{rowLimit}
 use Rattle.b3d_scene.specs.declared.Counts.{Counts}
 use Rattle.b3d_sound.specs.CellCounts.{endOf}
 use Rattle.b3d_check_rows.specs.Rows.{rowsAt}
@@ -31,30 +30,6 @@ pub record Below (n a : Counts) : Type 0 where
   pub weights : n .weights ≤ a .weights
   pub lists : n .lists ≤ a .lists
   pub keys : n .keys ≤ a .keys
-
--- no count is above the limit of rows
-pub record Limited (a : Counts) : Type 0 where
-  pub nodes : a .nodes ≤ rowLimit
-  pub meshes : a .meshes ≤ rowLimit
-  pub vertices : a .vertices ≤ rowLimit
-  pub sets : a .sets ≤ rowLimit
-  pub triangles : a .triangles ≤ rowLimit
-  pub weights : a .weights ≤ rowLimit
-  pub lists : a .lists ≤ rowLimit
-  pub keys : a .keys ≤ rowLimit
-
--- the rows of the tables 4 to 8 are there: these have so many words
-pub record KindRoom (a : Counts) (words₄ words₅ words₆ words₇ words₈ : ℕ) : Type 0 where
-  pub room₄ : 9 * a .meshes ≤ words₄
-  pub room₅ : 42 * a .vertices ≤ words₅
-  pub room₆ : 4 * a .sets ≤ words₆
-  pub room₇ : 3 * a .triangles ≤ words₇
-  pub room₈ : 2 * a .weights ≤ words₈
-
--- and those of the tables 9 and 10
-pub record ListRoom (a : Counts) (words₉ words₁₀ : ℕ) : Type 0 where
-  pub room₉ : 4 * a .lists ≤ words₉
-  pub room₁₀ : 11 * a .keys ≤ words₁₀
 
 -- the mesh that comes after n rows is there, and with what its row says that it has the counts are no more than those of a
 pub record MeshEnds (n a : Counts) (t₄ t₆ : List ℕ) : Type 0 where

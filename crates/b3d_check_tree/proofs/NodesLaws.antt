@@ -22,7 +22,8 @@ use Rattle.b3d_sound.specs.Check.{nodeHere, spent, Level, upTo, endFrom, toldBy
 use Rattle.b3d_check_rows.specs.Rows.{rowAt, rowsAt}
 use Rattle.b3d_check_rows.proofs.Ands.{and-stop, and-go}
 use Rattle.b3d_check_rows.proofs.Rows.{row-cell, rows-none, rows-next}
-use Rattle.b3d_check_node.specs.Parts.{partRows, Below, Limited}
+use Rattle.b3d_sound.specs.Rooms.{Limited}
+use Rattle.b3d_check_node.specs.Parts.{partRows, Below}
 use Rattle.b3d_check_node.proofs.AfterLaws.{kind-keeps}
 use Rattle.b3d_check_node.proofs.Bounds.{after-below}
 use Rattle.b3d_check_tree.specs.Ended.{ended}

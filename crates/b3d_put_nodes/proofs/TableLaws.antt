@@ -17,7 +17,8 @@ use Rattle.b3d_scene.proofs.Rows.RowLists.{cut-length}
 use Rattle.b3d_sound.specs.CellCounts.{endOf, meshCounts, weightCounts, kindCounts, nodeCounts, cellCounts}
 use Rattle.b3d_sound.proofs.Places.{cut-cell}
 use Rattle.b3d_check_rows.specs.Rows.{rowAt}
-use Rattle.b3d_check_node.specs.Parts.{partRows, Below, Limited}
+use Rattle.b3d_sound.specs.Rooms.{Limited}
+use Rattle.b3d_check_node.specs.Parts.{partRows, Below}
 use Rattle.b3d_put_rows.specs.Lent.{rowsIn}
 use Rattle.b3d_put_lists.specs.Named.{NameThere}
 use Rattle.b3d_put.specs.Chunks.{MeshThere}

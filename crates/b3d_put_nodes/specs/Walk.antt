@@ -14,7 +14,7 @@ use Rattle.b3d_scene.specs.Tables.{reached, withNode, withForest, forestRows, n
 use Rattle.b3d_scene.specs.Tags.{writeChunks}
 use Rattle.b3d_scene.specs.Fitting.{FitNodes, Stands}
 use Rattle.b3d_sound.specs.Below.{Here}
-use Rattle.b3d_check_node.specs.Parts.{Limited}
+use Rattle.b3d_sound.specs.Rooms.{Limited}
 
 -- ---- bytes
 

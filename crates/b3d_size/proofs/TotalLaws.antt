@@ -105,23 +105,23 @@ pub ruleset nodes-laws = (sizable-3, wide-3, wide-4, wide-9, nodes-sum)
 
 module _ (n : Counts) (t₃ t₄ t₉ : List ℕ) (h : NodesSizable n t₃ t₄ t₉) where
   pub sets-fit : Fits w64 (12 * n .sets)
-  sets-fit = record { fits = omega (arith, h .sets) }
+  sets-fit = record { fits = omega (arith, h .limited .sets) }
 
   pub triangles-fit : Fits w64 (12 * n .triangles)
-  triangles-fit = record { fits = omega (arith, h .triangles) }
+  triangles-fit = record { fits = omega (arith, h .limited .triangles) }
 
   pub weights-fit : Fits w64 (8 * n .weights)
-  weights-fit = record { fits = omega (arith, h .weights) }
+  weights-fit = record { fits = omega (arith, h .limited .weights) }
 
   module _ (a b v w : ℕ) (ea : Sums partMost v a) (eb : Sums partMost w b) where
     pub sum-sets : Fits w64 (12 + a + b + 12 * n .sets)
-    sum-sets = record { fits = omega (arith, ea .low, eb .low, h .sets) }
+    sum-sets = record { fits = omega (arith, ea .low, eb .low, h .limited .sets) }
 
     pub sum-triangles : Fits w64 (12 + a + b + 12 * n .sets + 12 * n .triangles)
-    sum-triangles = record { fits = omega (arith, ea .low, eb .low, h .sets, h .triangles) }
+    sum-triangles = record { fits = omega (arith, ea .low, eb .low, h .limited .sets, h .limited .triangles) }
 
     pub sum-weights : Fits w64 (12 + a + b + 12 * n .sets + 12 * n .triangles + 8 * n .weights)
-    sum-weights = record { fits = omega (arith, ea .low, eb .low, h .sets, h .triangles, h .weights) }
+    sum-weights = record { fits = omega (arith, ea .low, eb .low, h .limited .sets, h .limited .triangles, h .limited .weights) }
 
 pub file-sum : (slots c₁ c₂ : ℕ) (n : Counts) (t₁ t₂ t₃ t₄ t₉ : List ℕ) (a b : ℕ)
     → Sums partMost (listsBytes slots c₁ c₂ (cut 9 c₁ t₁) (cut 17 c₂ t₂)) a → Sums partMost (nodesBytes (cut nodeWidth (n .nodes) t₃) (cut 9 (n .meshes) t₄) (cut 4 (n .lists) t₉)) b

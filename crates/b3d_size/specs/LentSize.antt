@@ -10,6 +10,7 @@ use Rattle.b3d_scene.specs.declared.Counts.{Counts}
 use Rattle.b3d_scene.specs.Rebuild.{Lent, cut, lentRows}
 use Rattle.b3d_scene.specs.Rules.{vertexWords, keyWords, rowLimit}
 use Rattle.b3d_scene.specs.Tables.{nodeWidth}
+use Rattle.b3d_sound.specs.Rooms.{Limited}
 
 -- what f says of each row, added up
 unfoldable pub sum : (List ℕ → ℕ) → List (List ℕ) → ℕ
@@ -94,12 +95,7 @@ pub record Sums (most w r : ℕ) : Type 0 where
 
 -- the rows of the tables 3, 4 and 9 are there and can be added up; no count passes the limit
 pub record NodesSizable (n : Counts) (t₃ t₄ t₉ : List ℕ) : Type 0 where
-  pub nodes : n .nodes ≤ rowLimit
-  pub meshes : n .meshes ≤ rowLimit
-  pub sets : n .sets ≤ rowLimit
-  pub triangles : n .triangles ≤ rowLimit
-  pub weights : n .weights ≤ rowLimit
-  pub lists : n .lists ≤ rowLimit
+  pub limited : Limited n
   pub room₃ : nodeWidth * n .nodes ≤ length t₃
   pub room₄ : 9 * n .meshes ≤ length t₄
   pub room₉ : 4 * n .lists ≤ length t₉

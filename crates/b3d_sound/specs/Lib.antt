@@ -2,3 +2,4 @@
 pub mod CellCounts
 pub mod Check
 pub mod Below
+pub mod Rooms

@@ -82,12 +82,7 @@ module _ (mode : Mode) (v slots : ℕ) (counts t₁ t₂ t₃ t₄ t₅ t₆ t�
         let r = sound-rooms in
         let l = r .limited in
         record {
-          nodes = l .nodes;
-          meshes = l .meshes;
-          sets = l .sets;
-          triangles = l .triangles;
-          weights = l .weights;
-          lists = l .lists;
+          limited = r .limited;
           room₃ = r .room₃;
           room₄ = r .kinds .room₄;
           room₉ = r .lists .room₉;
