@@ -23,7 +23,7 @@ code BONE = 0x454E4F42
 code KEYS = 0x5359454B
 code ANIM = 0x4D494E41
 
--- a tag by its number, the first 0
+-- the number of a tag, the first 0
 abbrev pub tagNumber : Tag → ℕ
 tagNumber BB3D = 0
 tagNumber TEXS = 1

@@ -82,7 +82,7 @@ impl Compared {
         let (mut state, mut at) = (start(), 0);
         for end in ends.iter().copied().chain([file.len()]) {
             if rng.percent(5) {
-                self.short(file, state, &mut row, rng)?;
+                self.refusals(file, state, &mut row, rng)?;
             }
             let fed = piece(state, row.records(), &file[at..end]);
             self.pieces += 1;
@@ -104,25 +104,12 @@ impl Compared {
         if closed.state != shut || row != before {
             return disagree(format!("{about}: another state or record"), file);
         }
-        self.late(file, shut, &mut row, rng)
+        self.refusals(file, shut, &mut row, rng)
     }
 
-    /// Calls after the close: 15 at 0, but 11 at 19 first.
-    fn late(
-        &mut self,
-        file: &[u8],
-        state: State,
-        row: &mut Row,
-        rng: &mut Rng,
-    ) -> Result<(), Disagreement> {
-        let records = RECORDS + rng.below(row.records().len() - RECORDS + 1);
-        let bytes = &file[..rng.below(file.len() + 1)];
-        self.refused(file, state, row, records, bytes, (15, 0))?;
-        self.short(file, state, row, rng)
-    }
-
-    /// Calls with fewer than 19 records: 11 at 19.
-    fn short(
+    /// Calls that are refused: after the close 15 at 0, and with fewer than 19
+    /// records, closed or not, 11 at 19.
+    fn refusals(
         &mut self,
         file: &[u8],
         state: State,
@@ -130,6 +117,10 @@ impl Compared {
         rng: &mut Rng,
     ) -> Result<(), Disagreement> {
         let bytes = &file[..rng.below(file.len() + 1)];
+        if state.shut == 1 {
+            let records = RECORDS + rng.below(row.records().len() - RECORDS + 1);
+            self.refused(file, state, row, records, bytes, (15, 0))?;
+        }
         self.refused(file, state, row, rng.below(RECORDS), bytes, (11, 19))
     }
 
