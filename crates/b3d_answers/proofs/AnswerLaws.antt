@@ -1,12 +1,16 @@
--- A law for each way through `accepted`, `judge` and `answer_for`.
-use Rattle.b3d_judge.proofs.Verdicts.{summaryOf, Good, was-bad, was-good}
+-- A law for each way through `judge` and `answer_for`.
+use Rattle.b3d_judge.proofs.Verdicts.{Good, was-bad, was-good}
 use mathlib.Core.Path.{_≡_, refl, ap, sym, _∙_}
 use Prim.Native.Nat.{ℕ, _*_, _<_, _≤_}
 use native.Mathlib.Omega.{arith}
 use mathlib.Core.List.{List}
 use lib.ListN.{length}
 use lib.Seq.{sets}
-use lib.Dec.{leb}
+use lib.Dec.{leb, eqb, eqb→eq}
+use mir.Facts.{eqb-no}
+use borrow.Author.Tests.{eq-eqb, ne-eqb}
+use Rattle.wire.specs.Test.{if}
+use Rattle.layout.proofs.Outs.{by-test}
 use Rattle.layout.specs.Out.{got, bad, _>>=_}
 use Rattle.layout.specs.Lists.{All}
 use Rattle.b3d_scene.specs.declared.Answer.{Answer}
@@ -20,24 +24,16 @@ use Rattle.b3d_scene.proofs.Rows.Numbers.{each-table}
 use Rattle.b3d_scene.proofs.AnswerLaws.{judge-got, judge-first}
 use Rattle.b3d_tally.specs.Tally.{tallyOf}
 use Rattle.b3d_judge.specs.Answers.{verdictOf}
-use Rattle.b3d_judge.specs.declared.Summary.{Summary}
-use Rattle.b3d_judge.specs.declared.Verdict.{Verdict}
-use Rattle.b3d_judge.specs.declared.Verdict.the-variants as verdict
-use Rattle.counted.specs.Rooms.{numberOf, firstShort}
-use Rattle.counted.proofs.Rooms.{short-at-most, each-short, each-room}
+use Rattle.b3d_judge_body.specs.declared.Summary.{Summary}
+use Rattle.b3d_judge_body.specs.declared.Verdict.{Verdict}
+use Rattle.b3d_judge_body.specs.declared.Verdict.the-variants as verdict
+use Rattle.table_room.specs.Rooms.{numberOf, firstShort}
+use Rattle.table_room.proofs.Rooms.{each-short, each-room}
 use Rattle.b3d_limits.specs.Rooms.{countsIn}
-use Rattle.b3d_limits.specs.Limits.{Limited}
-use Rattle.b3d_answers.specs.Answers.{acceptedAs}
-use mir.Syntax.{w32}
-use mir.Val.{Fits}
+use Rattle.b3d_limits.specs.Limits.{TallyLimited}
+use Rattle.b3d_room.specs.Answers.{acceptedAs, roomAnswer}
 use Rattle.layout.proofs.Lists.{All}
 use Rattle.layout.specs.Rows.{eachOf}
-
--- a count within the limit fits a cell
-pub cell-fits : {n : ℕ} → n ≤ rowLimit → Fits w32 n
-cell-fits h = record { fits = omega arith }
-
--- ---- `judge` and `answer_for`
 
 -- the counts of the tally are those of the scene
 short-is : (t : Scene) (room : ℕ → ℕ) → firstShort width (numberOf (countsIn (tallyOf t))) room tables ≡ firstShort width (λ k. length (rows k t)) room tables
@@ -45,7 +41,7 @@ unfolding firstShort countsIn tables nodeTables
 short-is t room = refl
 
 -- each of them within the limit
-limited : (t : Scene) → All (λ k. length (rows k t) ≤ rowLimit) tables → Limited (tallyOf t)
+limited : (t : Scene) → All (λ k. length (rows k t) ≤ rowLimit) tables → TallyLimited (tallyOf t)
 unfolding tables nodeTables
 limited t h =
     record {
@@ -61,7 +57,7 @@ limited t h =
       keys = h .1 .1 .1 .1 .1 .1 .1 .1 .1 .0;
     }
 
-accepted-is : (t : Scene) → acceptedAs (summaryOf t) ≡ answer (got t)
+accepted-is : (t : Scene) → acceptedAs (t .version) (t .slots) (tallyOf t) ≡ answer (got t)
 unfolding acceptedAs answer countsIn counts tables nodeTables
 accepted-is t = refl
 
@@ -84,38 +80,43 @@ module _ (mode : Mode) (s : List ℕ) (v : Verdict) (ev : v ≡ verdictOf (judge
     good : Good (judge mode s) x
     good = was-good (judge mode s) x (sym ev ∙ w)
 
-    pub good-limited : Limited (x .tally)
+    pub good-limited : TallyLimited (x .tally)
     good-limited = rw (good .same) (limited (good .scene) (judge-got mode s (good .scene) (good .is) .1))
 
-    pub judge-good : (y : Answer) → y ≡ acceptedAs x → y ≡ answer (judge mode s)
-    judge-good y h = h ∙ ap acceptedAs (good .same) ∙ accepted-is (good .scene) ∙ ap answer (sym (good .is))
+    -- what is answered with ample tables
+    accepted-as : acceptedAs (x .version) (x .«n_texs») (x .tally) ≡ answer (got (good .scene))
+    accepted-as = ap (λ (y : Summary). acceptedAs (y .version) (y .«n_texs») (y .tally)) (good .same) ∙ accepted-is (good .scene)
 
-    module _ (room : ℕ → ℕ) (n : ℕ) (en : n ≡ firstShort width (numberOf (countsIn (x .tally))) room tables) where
+    pub judge-good : (y : Answer) → y ≡ acceptedAs (x .version) (x .«n_texs») (x .tally) → y ≡ answer (judge mode s)
+    judge-good y h = h ∙ accepted-as ∙ ap answer (sym (good .is))
+
+    module _ (room : ℕ → ℕ) where
       abbrev count : ℕ → ℕ
       count k = length (rows k (good .scene))
 
-      short-count : n ≡ firstShort width count room tables
-      short-count = en ∙ ap (λ (y : Summary). firstShort width (numberOf (countsIn (y .tally))) room tables) (good .same) ∙ short-is (good .scene) room
+      -- the first table that is too short
+      abbrev short : ℕ
+      short = firstShort width count room tables
+
+      short-count : firstShort width (numberOf (countsIn (x .tally))) room tables ≡ short
+      short-count = ap (λ (y : Summary). firstShort width (numberOf (countsIn (y .tally))) room tables) (good .same) ∙ short-is (good .scene) room
 
       opened : read mode room s ≡ (eachOf 11 (λ k. leb (width k * count k) (room k)) tables >>= λ _. got (good .scene))
       unfolding read
       opened = rw (good .is)
 
-      pub short-fits : n < 4294967296
-      short-fits = let h = short-at-most width count room 10 tables (each-table (λ k. k ≤ 10) (λ k a b. b)) in omega (arith, short-count)
+      -- the two ways of it
+      roomy : answer (read mode room s) ≡ if (eqb short 0) (answer (got (good .scene))) (answer (bad 11 short))
+      unfolding if
+      roomy =
+          by-test (eqb short 0)
+          (λ t. let z = eqb→eq short 0 t in rw (opened, each-room width count room 11 tables (each-table (λ k. 0 < k) (λ k a b. a)) z, eq-eqb short 0 z))
+          (λ f. let d = eqb-no {a = short} {b = 0} f in rw (opened, each-short width count room 11 tables d, ne-eqb short 0 d))
 
-      pub answer-short : (n ≡ 0 → ⊥) → (y : Answer) → y ≡ answer (bad 11 n) → y ≡ readAnswer mode room s
-      unfolding readAnswer
-      answer-short d y h =
-          let e : read mode room s ≡ bad 11 (firstShort width count room tables) = rw (opened, each-short width count room 11 tables (λ q. d (short-count ∙ q))) in
-          h ∙ ap (λ (i : ℕ). answer (bad 11 i)) short-count ∙ ap answer (sym e)
-
-      pub answer-good : n ≡ 0 → (y : Answer) → y ≡ acceptedAs x → y ≡ readAnswer mode room s
-      unfolding readAnswer
-      answer-good z y h =
-          let e : read mode room s ≡ got (good .scene) = rw (opened, each-room width count room 11 tables (each-table (λ k. 0 < k) (λ k a b. a)) (sym short-count ∙ z)) in
-          h ∙ ap acceptedAs (good .same) ∙ accepted-is (good .scene) ∙ ap answer (sym e)
+      pub answer-good : (y : Answer) → y ≡ roomAnswer (x .version) (x .«n_texs») (x .tally) room → y ≡ readAnswer mode room s
+      unfolding readAnswer roomAnswer
+      answer-good y h = h ∙ rw (short-count, accepted-as) (sym roomy)
 
 pub ruleset judge-laws = (place-fits, judge-bad, good-limited, judge-good)
 
-pub ruleset answer-laws = (place-fits, answer-bad, good-limited, short-fits, answer-short, answer-good)
+pub ruleset answer-laws = (place-fits, answer-bad, good-limited, answer-good)

@@ -10,12 +10,12 @@ use Rattle.layout.specs.Out.{Out, got, bad}
 use Rattle.layout.specs.Rows.{mostBytes}
 use Rattle.b3d_scene.specs.declared.Tag.{Tag}
 use Rattle.b3d_turns.specs.declared.Reached.{Reached as State}
-use Rattle.b3d_turns.specs.declared.Enclosed.{Enclosed}
-use Rattle.b3d_turns.specs.declared.Enclosed.the-variants as enclosed
-use Rattle.b3d_turns.specs.Steps.{EnclosedIs}
-use Rattle.b3d_turns.proofs.Stepping.{step-among}
+use Rattle.b3d_enclosed.specs.declared.Enclosed.{Enclosed}
+use Rattle.b3d_enclosed.specs.declared.Enclosed.the-variants as enclosed
+use Rattle.b3d_enclosed.specs.Steps.{EnclosedIs}
+use Rattle.b3d_enclosed.proofs.Stepping.{step-among}
 use Rattle.b3d_inside.specs.Places.{Body, Among}
-use Rattle.b3d_inside.proofs.Rests.{step-body}
+use Rattle.b3d_enclosed.proofs.Rests.{step-body}
 use Rattle.b3d_tally.specs.Tally.{noTally, plus, Within}
 use Rattle.b3d_tally.specs.Answers.{judged, JudgedIn, Judges, judgedFrom}
 use Rattle.b3d_tally.specs.declared.Tally.{Tally}

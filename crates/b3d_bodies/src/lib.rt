@@ -35,7 +35,7 @@ pub fn judge_keys(s: &[u8], at: usize, body: Cursor) -> Judged
             if 7 < flags {
                 return Judged::Bad(6, body.at);
             }
-            let words = b3d_items::key_words(flags);
+            let words = b3d_widths::key_words(flags);
             match b3d_items::whole_items(items, words) {
                 Counted::Not(n, p) => Judged::Bad(n, p),
                 Counted::Is(count) => Judged::Good(b3d_tally::keys(count, words)),
@@ -76,7 +76,7 @@ fn vertex_items(s: &[u8], items: Cursor, words: usize, flags: u32, mode: Mode) -
         return b3d_items::whole_items(items, words);
     }
     let before = wire::size(3 + flags / 1 % 2 * 3);
-    b3d_items::colour_items(s, items, words, before, n)
+    b3d_colour_items::colour_items(s, items, words, before, n)
 }
 
 // A VRTS: its flags, sets and set size, then vertices to the end.
@@ -101,7 +101,7 @@ pub fn judge_vertices(s: &[u8], at: usize, body: Cursor, mode: Mode) -> Shaped
     if 4 < size {
         return Shaped::Not(6, start + 8);
     }
-    let words = b3d_items::vertex_words(flags, sets, size);
+    let words = b3d_widths::vertex_words(flags, sets, size);
     let items = Cursor {
         at: start + 12,
         end,
@@ -120,7 +120,7 @@ pub fn judge_triangles(s: &[u8], at: usize, body: Cursor, brushes: usize, vertic
     match body.number(s) {
         Number::Cut => Judged::Bad(5, body.at),
         Number::Is(brush, items) => {
-            if !counted::id_named(brush, brushes, true) {
+            if !id_check::id_named(brush, brushes, true) {
                 return Judged::Bad(7, body.at);
             }
             match b3d_items::id_items(s, items, 3, 3, vertices) {

@@ -5,7 +5,7 @@ mod limits;
 mod order;
 mod slips;
 
-use b3d_judge::Verdict;
+use b3d_judge_body::Verdict;
 use b3d_scene::Mode;
 use b3d_tally::Tally;
 

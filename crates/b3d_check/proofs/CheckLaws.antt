@@ -1,23 +1,18 @@
 -- The laws of the whole check.
 use mathlib.Core.Path.{_≡_, refl, ap, sym, _∙_, subst}
-use Prim.Native.Nat.{ℕ, _*_, _≤_, _<_}
-use native.Mathlib.Nat.{mul-le-mul}
+use Prim.Native.Nat.{ℕ, _≤_}
 use native.Mathlib.Omega.{arith}
 use mathlib.Core.Bool.{Bool, true, false, not, _&&_}
 use mathlib.Core.List.{List}
 use lib.ListN.{length, getD}
 use lib.Dec.{T, leb, eqb, leb→le, eqb→eq}
-use borrow.Author.Tests.{not-false, lt-leb, le-leb}
-use mir.Facts.{and-yes}
-use mir.Syntax.{w64}
-use mir.Val.{Fits}
+use borrow.Author.Tests.{not-false}
 use Rattle.wire.specs.Test.{if}
 use Rattle.layout.specs.Fit.{all}
 use Rattle.layout.proofs.Testing.{and-true, and-assoc}
 use Rattle.layout.proofs.Outs.{if-case}
-use Rattle.b3d_scene.specs.Colours.{coloured, passes}
+use Rattle.b3d_scene.specs.Colours.{passes}
 use Rattle.b3d_scene.specs.Rebuild.{Lent, lentRows, roomy, cut}
-use Rattle.b3d_scene.specs.Rules.{rowLimit}
 use Rattle.b3d_scene.specs.Tables.{width, tables, nodeTables, nodeWidth}
 use Rattle.b3d_scene.specs.declared.Counts.{Counts}
 use Rattle.b3d_scene.specs.declared.Mode.{Mode}
@@ -26,81 +21,11 @@ use Rattle.b3d_sound.specs.Check.{nameHere, brushHere, slotsHere, treeHere, che
 use Rattle.b3d_check_rows.specs.Rows.{rowsAt}
 use Rattle.b3d_check_rows.proofs.Ands.{and-stop, and-go}
 use Rattle.b3d_check_rows.proofs.Rows.{rows-whole}
-use Rattle.b3d_check_node.specs.Parts.{partRows}
-use Rattle.b3d_check.specs.Lent.{lentOf, partCounts, fitsIn, rooms, Rooms, coloursPart}
+use Rattle.b3d_check_counts.specs.Parts.{partRows}
+use Rattle.b3d_check_rooms.specs.LentRooms.{partCounts, fitsIn, rooms}
+use Rattle.b3d_check_colours.specs.LentColours.{coloursPart}
+use Rattle.b3d_check.specs.Lent.{lentOf}
 use Rattle.b3d_check.proofs.SameRows.{Agree, same-tree}
-
--- ---- rooms
-
-module _ (c w l : ℕ) where
-  pub fits-past : rowLimit < c → false ≡ fitsIn c w l
-  unfolding fitsIn
-  fits-past h = rw (lt-leb c rowLimit h)
-
-  pub fits-in : c ≤ rowLimit → leb (w * c) l ≡ fitsIn c w l
-  unfolding fitsIn
-  fits-in h = rw (le-leb c rowLimit h)
-
-  pub fits-product : w ≤ 42 → c ≤ rowLimit → Fits w64 (w * c)
-  fits-product h k = let p : w * c ≤ 42 * rowLimit = mul-le-mul h k in record { fits = omega arith }
-
-  fits-says : T (fitsIn c w l) → (c ≤ rowLimit) × (w * c ≤ l)
-  unfolding fitsIn
-  fits-says t = let u = and-yes (leb c rowLimit) _ t in (leb→le c rowLimit (u .0), leb→le (w * c) l (u .1))
-
-pub ruleset fits-laws = (fits-past, fits-in, fits-product)
-
-pub rooms-are : (c₁ c₂ : ℕ) (a : Counts) (l₁ l₂ l₃ l₄ l₅ l₆ l₇ l₈ l₉ l₁₀ : ℕ) (b₁ b₂ b₃ b₄ b₅ b₆ b₇ b₈ b₉ b₁₀ : Bool)
-    → b₁ ≡ fitsIn c₁ 9 l₁
-    → b₂ ≡ fitsIn c₂ 17 l₂
-    → b₃ ≡ fitsIn (a .nodes) nodeWidth l₃
-    → b₄ ≡ fitsIn (a .meshes) 9 l₄
-    → b₅ ≡ fitsIn (a .vertices) 42 l₅
-    → b₆ ≡ fitsIn (a .sets) 4 l₆
-    → b₇ ≡ fitsIn (a .triangles) 3 l₇
-    → b₈ ≡ fitsIn (a .weights) 2 l₈
-    → b₉ ≡ fitsIn (a .lists) 4 l₉
-    → b₁₀ ≡ fitsIn (a .keys) 11 l₁₀
-    → (b₁ && (b₂ && (b₃ && (b₄ && (b₅ && (b₆ && (b₇ && (b₈ && (b₉ && b₁₀))))))))) ≡ rooms c₁ c₂ a l₁ l₂ l₃ l₄ l₅ l₆ l₇ l₈ l₉ l₁₀
-unfolding rooms
-rooms-are c₁ c₂ a l₁ l₂ l₃ l₄ l₅ l₆ l₇ l₈ l₉ l₁₀ b₁ b₂ b₃ b₄ b₅ b₆ b₇ b₈ b₉ b₁₀ e₁ e₂ e₃ e₄ e₅ e₆ e₇ e₈ e₉ e₁₀ = rw (e₁, e₂, e₃, e₄, e₅, e₆, e₇, e₈, e₉, e₁₀)
-
-module _ (c₁ c₂ : ℕ) (a : Counts) (l₁ l₂ l₃ l₄ l₅ l₆ l₇ l₈ l₉ l₁₀ : ℕ) where
-  rooms-facts : T (rooms c₁ c₂ a l₁ l₂ l₃ l₄ l₅ l₆ l₇ l₈ l₉ l₁₀) → Rooms c₁ c₂ a l₁ l₂ l₃ l₄ l₅ l₆ l₇ l₈ l₉ l₁₀
-  unfolding rooms
-  rooms-facts t =
-      let s₁ = and-yes (fitsIn c₁ 9 l₁) _ t in
-      let s₂ = and-yes (fitsIn c₂ 17 l₂) _ (s₁ .1) in
-      let s₃ = and-yes (fitsIn (a .nodes) nodeWidth l₃) _ (s₂ .1) in
-      let s₄ = and-yes (fitsIn (a .meshes) 9 l₄) _ (s₃ .1) in
-      let s₅ = and-yes (fitsIn (a .vertices) 42 l₅) _ (s₄ .1) in
-      let s₆ = and-yes (fitsIn (a .sets) 4 l₆) _ (s₅ .1) in
-      let s₇ = and-yes (fitsIn (a .triangles) 3 l₇) _ (s₆ .1) in
-      let s₈ = and-yes (fitsIn (a .weights) 2 l₈) _ (s₇ .1) in
-      let s₉ = and-yes (fitsIn (a .lists) 4 l₉) _ (s₈ .1) in
-      let f₁ = fits-says c₁ 9 l₁ (s₁ .0) in
-      let f₂ = fits-says c₂ 17 l₂ (s₂ .0) in
-      let f₃ = fits-says (a .nodes) nodeWidth l₃ (s₃ .0) in
-      let f₄ = fits-says (a .meshes) 9 l₄ (s₄ .0) in
-      let f₅ = fits-says (a .vertices) 42 l₅ (s₅ .0) in
-      let f₆ = fits-says (a .sets) 4 l₆ (s₆ .0) in
-      let f₇ = fits-says (a .triangles) 3 l₇ (s₇ .0) in
-      let f₈ = fits-says (a .weights) 2 l₈ (s₈ .0) in
-      let f₉ = fits-says (a .lists) 4 l₉ (s₉ .0) in
-      let f₁₀ = fits-says (a .keys) 11 l₁₀ (s₉ .1) in
-      record {
-        few₁ = f₁ .0;
-        few₂ = f₂ .0;
-        limited = record { nodes = f₃ .0; meshes = f₄ .0; vertices = f₅ .0; sets = f₆ .0; triangles = f₇ .0; weights = f₈ .0; lists = f₉ .0; keys = f₁₀ .0 };
-        room₁ = f₁ .1;
-        room₂ = f₂ .1;
-        room₃ = f₃ .1;
-        kinds = record { room₄ = f₄ .1; room₅ = f₅ .1; room₆ = f₆ .1; room₇ = f₇ .1; room₈ = f₈ .1 };
-        lists = record { room₉ = f₉ .1; room₁₀ = f₁₀ .1 };
-      }
-
-  pub rooms-true : (r : Bool) → r ≡ rooms c₁ c₂ a l₁ l₂ l₃ l₄ l₅ l₆ l₇ l₈ l₉ l₁₀ → not r ≡ false → Rooms c₁ c₂ a l₁ l₂ l₃ l₄ l₅ l₆ l₇ l₈ l₉ l₁₀
-  rooms-true r e f = rooms-facts (subst T (sym (sym e ∙ not-false r f)) tt)
 
 -- ---- what the parts require
 
@@ -108,34 +33,6 @@ pub slots-eight : (slots brushes : ℕ) (r : Bool) → r ≡ slotsHere slots bru
 unfolding slotsHere
 slots-eight slots brushes r e f =
     if-case (λ (b : Bool). T b → slots ≤ 8) (eqb brushes 0) (eqb slots 0) (leb slots 8) (λ t k. let z = eqb→eq slots 0 k in omega arith) (λ t k. leb→le slots 8 k) (subst T (sym (sym e ∙ not-false r f)) tt)
-
--- ---- counts
-
-pub sizes-are : (counts : List ℕ) (n₃ n₄ n₅ n₆ n₇ n₈ n₉ n₁₀ : ℕ) → n₃ ≡ getD counts 2 0 → n₄ ≡ getD counts 3 0 → n₅ ≡ getD counts 4 0 → n₆ ≡ getD counts 5 0
-    → n₇ ≡ getD counts 6 0 → n₈ ≡ getD counts 7 0 → n₉ ≡ getD counts 8 0 → n₁₀ ≡ getD counts 9 0 → (x : Counts)
-    → x ≡ record { nodes = n₃; meshes = n₄; vertices = n₅; sets = n₆; triangles = n₇; weights = n₈; lists = n₉; keys = n₁₀ } → x ≡ partCounts counts
-unfolding partCounts
-sizes-are counts n₃ n₄ n₅ n₆ n₇ n₈ n₉ n₁₀ e₃ e₄ e₅ e₆ e₇ e₈ e₉ e₁₀ x q = q ∙ rw (e₃, e₄, e₅, e₆, e₇, e₈, e₉, e₁₀)
-
--- ---- a law for each way through `colours_here`
-
-module _ (mode : Mode) (n : ℕ) (t₂ : List ℕ) (m : ℕ) (t₅ : List ℕ) where
-  pub colours-lenient : mode ≡ Lenient → true ≡ coloursPart mode n t₂ m t₅
-  unfolding coloursPart passes
-  colours-lenient e = rw e
-
-  module _ (e : mode ≡ Strict) (b : Bool) (eb : b ≡ all (coloured 2) (rowsAt 17 0 n t₂)) where
-    strict : coloursPart mode n t₂ m t₅ ≡ (all (coloured 2) (rowsAt 17 0 n t₂) && all (coloured 6) (rowsAt 42 0 m t₅))
-    unfolding coloursPart passes if
-    strict = rw (e, rows-whole 17 n t₂, rows-whole 42 m t₅)
-
-    pub colours-brushes : not b ≡ true → false ≡ coloursPart mode n t₂ m t₅
-    colours-brushes h = and-stop b _ _ eb h ∙ sym strict
-
-    pub colours-vertices : not b ≡ false → (r : Bool) → r ≡ all (coloured 6) (rowsAt 42 0 m t₅) → r ≡ coloursPart mode n t₂ m t₅
-    colours-vertices h r er = and-go b _ _ r eb h er ∙ sym strict
-
-pub ruleset colours-laws = (colours-lenient, colours-brushes, colours-vertices)
 
 -- ---- a law for each way through `sound`
 

@@ -1,2 +1,3 @@
--- The laws of rows with colours.
+-- The laws of rows with colours, and of modes.
 pub mod ColourRows
+pub mod ColourModes

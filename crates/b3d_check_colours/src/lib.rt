@@ -1,10 +1,12 @@
-// Colours of lent tables against their rule: four words of each row.
+// Colours of lent tables against their rule: four words of each row, as far as a mode looks at them.
 ghost use mathlib.Core.Path.{_≡_};
 ghost use Prim.Native.Nat.{_+_, _*_, _≤_};
 ghost use lib.ListN.{length};
 ghost use Rattle.layout.specs.Fit.{all};
 ghost use Rattle.b3d_scene.specs.Colours.{coloured};
 ghost use Rattle.b3d_check_rows.specs.Rows.{rowAt, rowsAt};
+ghost use Rattle.b3d_check_colours.specs.LentColours.{coloursPart};
+use b3d_scene::Mode;
 
 // The four words of row i from a word on.
 fn row_coloured(t: &[u32], width: usize, word: usize, i: usize) -> bool
@@ -32,4 +34,20 @@ pub fn rows_coloured(t: &[u32], width: usize, word: usize, count: usize) -> bool
         i += 1;
     }
     true
+}
+
+// The colours of so many brushes and of so many vertices, as far as a mode looks at them.
+pub fn colours_here(mode: Mode, brushes: usize, t2: &[u32], vertices: usize, t5: &[u32]) -> bool
+    requires { ⌜ (17 * brushes ≤ length (now t2)) × (42 * vertices ≤ length (now t5)) ⌝ }
+    ensures { λ r. ⌜ r ≡ coloursPart mode brushes (now (t2 .entry)) vertices (now (t5 .entry)) ⌝ }
+{
+    match mode {
+        Mode::Lenient => true,
+        Mode::Strict => {
+            if !rows_coloured(t2, 17, 2, brushes) {
+                return false;
+            }
+            rows_coloured(t5, 42, 6, vertices)
+        }
+    }
 }

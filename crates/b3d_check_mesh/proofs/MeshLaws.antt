@@ -16,13 +16,13 @@ use Rattle.b3d_sound.specs.Check.{clean, rowsHere, runsHere, setHere, meshHere}
 use Rattle.b3d_check_rows.specs.Rows.{rowAt, rowsAt}
 use Rattle.b3d_check_rows.proofs.Ands.{and-stop, and-go}
 use Rattle.b3d_check_rows.proofs.Rows.{row-cell, row-first, rows-length, rows-take}
-use Rattle.b3d_check_mesh.specs.Parts.{meshHead, meshSets}
+use Rattle.b3d_check_mesh.specs.Parts.{meshRowHere, meshSets}
 
 pub head-cells : (brushes node first i own from : ℕ) (t : List ℕ) → own ≡ getD t (9 * i) 0 → from ≡ getD t (9 * i + 5) 0
     → (eqb own node && ((eqb (getD t (9 * i + 1) 0) NONE || ltb (getD t (9 * i + 1) 0) brushes)
     && (leb (getD t (9 * i + 2) 0) 3 && (leb (getD t (9 * i + 3) 0) 8 && (leb (getD t (9 * i + 4) 0) 4 && eqb from first)))))
-    ≡ meshHead brushes node first (rowAt 9 i t)
-unfolding meshHead
+    ≡ meshRowHere brushes node first (rowAt 9 i t)
+unfolding meshRowHere
 head-cells brushes node first i own from t e₀ e₅ =
     rw (row-first 9 i t (omega arith), row-cell 9 i 1 t (omega arith), row-cell 9 i 2 t (omega arith), row-cell 9 i 3 t (omega arith), row-cell 9 i 4 t (omega arith), row-cell 9 i 5 t (omega arith), ← e₀, ← e₅)
 
@@ -72,11 +72,11 @@ pub ruleset sets-laws = (sets-wrong, sets-none, sets-past, sets-run)
 -- ---- a mesh
 
 pub mesh-parts : (brushes : ℕ) (n : Counts) (t : List ℕ) (vs ss ts : List (List ℕ)) (count : ℕ) → count ≡ getD t (9 * n .meshes + 6) 0 → (r : Bool)
-    → r ≡ (meshHead brushes (n .nodes) (n .vertices) (rowAt 9 (n .meshes) t)
+    → r ≡ (meshRowHere brushes (n .nodes) (n .vertices) (rowAt 9 (n .meshes) t)
     && (rowsHere (clean (vertexMask (getD t (9 * n .meshes + 2) 0) (getD t (9 * n .meshes + 3) 0) (getD t (9 * n .meshes + 4) 0))) count vs
     && meshSets brushes (n .meshes) (n .sets) (n .triangles) (rowAt 9 (n .meshes) t) ss ts))
     → r ≡ meshHere brushes n (rowAt 9 (n .meshes) t) vs ss ts
-unfolding meshHere meshHead meshSets
+unfolding meshHere meshRowHere meshSets
 mesh-parts brushes n t vs ss ts count e r h =
     let i = n .meshes in
     h ∙ rw (e, ← row-cell 9 i 2 t (omega arith), ← row-cell 9 i 3 t (omega arith), ← row-cell 9 i 4 t (omega arith), ← row-cell 9 i 6 t (omega arith)) (simp and-assoc)

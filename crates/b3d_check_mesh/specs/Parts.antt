@@ -1,5 +1,5 @@
 -- What a mesh row says by itself, and where the rows of meshes stand.
-use Prim.Native.Nat.{ℕ, _*_, _≤_, _<_}
+use Prim.Native.Nat.{ℕ, _≤_, _<_}
 use mathlib.Core.Bool.{Bool, _&&_}
 use mathlib.Core.List.{List}
 use lib.ListN.{length, take, getD}
@@ -8,10 +8,11 @@ use Rattle.layout.specs.Rules.{holds}
 use Rattle.b3d_scene.specs.Rules.{vertexFlags, sets, setSize, brushId}
 use Rattle.b3d_scene.specs.declared.Counts.{Counts}
 use Rattle.b3d_sound.specs.Check.{runsHere, setHere}
+use Rattle.b3d_sound.specs.Rooms.{KindRoom}
 
 -- mesh row x of node number `node`, its first vertex being number `first`
-unfoldable pub meshHead : ℕ → ℕ → ℕ → List ℕ → Bool
-meshHead brushes node first x =
+unfoldable pub meshRowHere : ℕ → ℕ → ℕ → List ℕ → Bool
+meshRowHere brushes node first x =
     eqb (getD x 0 0) node
     && (holds (brushId brushes) (getD x 1 0)
     && (holds vertexFlags (getD x 2 0) && (holds sets (getD x 3 0) && (holds setSize (getD x 4 0) && eqb (getD x 5 0) first))))
@@ -22,13 +23,12 @@ meshSets brushes i first r x ss ts =
     eqb (getD x 7 0) first
     && (ltb 0 (getD x 8 0) && (leb (getD x 8 0) (length ss) && runsHere (setHere brushes (getD x 6 0) i) r (take (getD x 8 0) ss) ts))
 
--- after n rows there is a mesh row, and of a's rows in the tables 4 to 7 all are there: these have so many words
-pub record MeshRoom (n a : Counts) (words₄ words₅ words₆ words₇ : ℕ) : Type 0 where
+-- after n rows a mesh comes, of those that a counts, and the tables 4 to 7, of so many words, have the rows that a counts
+pub record MeshAfter (n a : Counts) (words₄ words₅ words₆ words₇ : ℕ) : Type 0 where
   pub one : n .meshes < a .meshes
   pub vertices : n .vertices ≤ a .vertices
   pub sets : n .sets ≤ a .sets
   pub triangles : n .triangles ≤ a .triangles
-  pub room₄ : 9 * a .meshes ≤ words₄
-  pub room₅ : 42 * a .vertices ≤ words₅
-  pub room₆ : 4 * a .sets ≤ words₆
-  pub room₇ : 3 * a .triangles ≤ words₇
+  -- those of table 8, which are not looked at
+  pub words₈ : ℕ
+  pub rooms : KindRoom a words₄ words₅ words₆ words₇ words₈

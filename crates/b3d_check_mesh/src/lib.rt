@@ -7,7 +7,7 @@ ghost use Rattle.b3d_scene.specs.Mask.{vertexMask};
 ghost use Rattle.b3d_scene.specs.Rules.{weightRow};
 ghost use Rattle.b3d_sound.specs.Check.{keeps, clean, rowsHere, meshHere};
 ghost use Rattle.b3d_check_rows.specs.Rows.{rowAt, rowsAt};
-ghost use Rattle.b3d_check_mesh.specs.Parts.{meshHead, meshSets, MeshRoom};
+ghost use Rattle.b3d_check_mesh.specs.Parts.{meshRowHere, meshSets, MeshAfter};
 use b3d_check_lists::Run;
 use b3d_check_rows::Ids;
 use b3d_scene::Counts;
@@ -49,7 +49,7 @@ pub fn weights_left(t: &[u32], bones: u32, count: usize, first: usize, total: us
 // Row i, a mesh of node number `node`, by its cells alone.
 fn mesh_head(brushes: u32, node: usize, vertices: usize, t: &[u32], i: usize) -> bool
     requires { ⌜ 9 * i + 9 ≤ length (now t) ⌝ }
-    ensures { λ r. ⌜ r ≡ meshHead brushes node vertices (rowAt 9 i (now (t .entry))) ⌝ }
+    ensures { λ r. ⌜ r ≡ meshRowHere brushes node vertices (rowAt 9 i (now (t .entry))) ⌝ }
 {
     let o = 9 * i;
     let own = b3d_check_rows::cell(t, o);
@@ -103,7 +103,7 @@ pub fn mesh_here(
     t6: &[u32],
     t7: &[u32],
 ) -> bool
-    requires { ⌜ MeshRoom n all (length (now t4)) (length (now t5)) (length (now t6)) (length (now t7)) ⌝ }
+    requires { ⌜ MeshAfter n all (length (now t4)) (length (now t5)) (length (now t6)) (length (now t7)) ⌝ }
     ensures { λ r. ⌜ r ≡ meshHere brushes n (rowAt 9 (n .meshes) (now (t4 .entry))) (rowsAt 42 (n .vertices) (all .vertices - n .vertices) (now (t5 .entry)))
         (rowsAt 4 (n .sets) (all .sets - n .sets) (now (t6 .entry))) (rowsAt 3 (n .triangles) (all .triangles - n .triangles) (now (t7 .entry))) ⌝ }
 {

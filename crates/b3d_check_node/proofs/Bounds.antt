@@ -19,8 +19,8 @@ use Rattle.b3d_scene.proofs.Rows.RowLists.{cut-length, mine-length}
 use Rattle.b3d_sound.specs.CellCounts.{endOf, meshCounts, weightCounts, kindCounts, nodeCounts, cellCounts}
 use Rattle.b3d_sound.specs.Check.{keeps, clean, rowsHere, runsHere, nameHere, setHere, listHere, meshHere, kindHere, nodeHere}
 use Rattle.b3d_sound.proofs.Check.Testing.{if-both}
-use Rattle.b3d_check_node.specs.Parts.{partRows, Below}
-use Rattle.b3d_check_node.proofs.AfterLaws.{kind-keeps}
+use Rattle.b3d_check_counts.specs.Parts.{partRows, Below}
+use Rattle.b3d_check_counts.proofs.AfterLaws.{kind-keeps}
 
 -- the rows of the tables 4 to 10 are as many as a counts
 pub record Sized (R : Rows) (a : Counts) : Type 0 where

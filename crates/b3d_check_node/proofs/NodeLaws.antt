@@ -17,14 +17,11 @@ use Rattle.b3d_scene.specs.Tables.{nodeWidth}
 use Rattle.b3d_sound.specs.Check.{runsHere, nameHere, kindHere, listHere, animHere, nodeHere}
 use Rattle.b3d_sound.proofs.Check.Rows.{cells, cells-are}
 use Rattle.b3d_check_rows.specs.Rows.{rowAt, rowsAt}
-use Rattle.b3d_check_rows.proofs.Rows.{row-cell, row-length, rows-from}
+use Rattle.b3d_check_rows.proofs.Rows.{row-length, rows-from}
 use Rattle.b3d_check_rows.proofs.RowLaws.{name-cells}
 use Rattle.b3d_check_lists.specs.Mine.{MineTo}
-use Rattle.b3d_check_node.specs.Parts.{partRows, Below}
-
--- the cells from kind on
-pub kind-cell : (i j : ℕ) (t : List ℕ) → 13 + j < nodeWidth → getD (drop 13 (rowAt nodeWidth i t)) j 0 ≡ getD t (nodeWidth * i + (13 + j)) 0
-kind-cell i j t h = getD-drop 13 (rowAt nodeWidth i t) j 0 ∙ row-cell nodeWidth i (13 + j) t h
+use Rattle.b3d_check_counts.proofs.AfterLaws.{kind-cell}
+use Rattle.b3d_check_counts.specs.Parts.{partRows, Below}
 
 -- ---- key lists
 

@@ -4,4 +4,3 @@ pub mod Rows
 pub mod Loops
 pub mod CellLaws
 pub mod RowLaws
-pub mod BrushLaws

@@ -1,3 +1,2 @@
--- The laws of nodes one after the other, and of the whole tree.
-pub mod NodesLaws
+-- The laws of the whole tree.
 pub mod TreeLaws

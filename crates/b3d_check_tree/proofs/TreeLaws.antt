@@ -15,11 +15,12 @@ use Rattle.b3d_sound.specs.Check.{nodeHere, endFrom, nodesHere, treeHere}
 use Rattle.b3d_check_rows.specs.Rows.{rowAt, rowsAt}
 use Rattle.b3d_check_rows.proofs.Ands.{and-stop, and-go}
 use Rattle.b3d_check_rows.proofs.Rows.{row-cell, rows-next, rows-whole}
-use Rattle.b3d_check_node.specs.Parts.{partRows, Below}
-use Rattle.b3d_check_node.proofs.AfterLaws.{kind-keeps}
+use Rattle.b3d_check_counts.specs.Parts.{partRows, Below}
+use Rattle.b3d_check_counts.proofs.AfterLaws.{kind-keeps}
 use Rattle.b3d_check_node.proofs.Bounds.{after-below}
-use Rattle.b3d_check_tree.specs.Ended.{ended}
-use Rattle.b3d_check_tree.proofs.NodesLaws.{ended-spent, counts-few}
+use Rattle.b3d_check_counts.specs.Ended.{ended}
+use Rattle.b3d_check_counts.proofs.EndedLaws.{ended-spent}
+use Rattle.b3d_check_nodes.proofs.NodesLaws.{counts-few}
 
 module _ (ns : List ℕ) (brushes : ℕ) (a : Counts) (t₃ t₄ t₅ t₆ t₇ t₈ t₉ t₁₀ : List ℕ) where
   abbrev R : Rows

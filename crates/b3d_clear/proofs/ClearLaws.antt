@@ -1,52 +1,34 @@
--- A law for each way through `clear_file` and `clear`.
+-- A law for each way through `clear`.
 use mathlib.Core.Path.{_≡_, refl, ap, sym, _∙_}
-use Prim.Native.Nat.{ℕ, _+_, _-_, _<_, _≤_}
+use Prim.Native.Nat.{ℕ, _<_, _≤_}
 use native.Mathlib.Omega.{arith}
-use mathlib.Core.List.{List, [], _++_}
-use lib.ListN.{length, take, drop}
-use borrow.Author.Tests.{le-leb, lt-leb}
-use Rattle.wire.specs.Bytes.{bytes, wordAt, AllBytes, over}
-use Rattle.wire.specs.Cursors.{Inside}
-use Rattle.layout.specs.Out.{Out, got, bad, check, _>>=_}
+use mathlib.Core.List.{List}
+use lib.ListN.{length}
+use Rattle.wire.specs.Bytes.{AllBytes, over}
+use Rattle.layout.specs.Out.{Out, got, bad, _>>=_}
 use Rattle.layout.proofs.Outs.{by-check}
 use Rattle.layout.specs.Rows.{sizeFits, mostBytes}
-use Rattle.emit.specs.Writing.{Wrote, Room, Put, head}
+use Rattle.emit.specs.Writing.{Room, Put}
 use Rattle.b3d_scene.specs.declared.Mode.the-variants.{Lenient}
 use Rattle.b3d_scene.specs.Answers.{judge, roomFor, copy, clear, written, outputAfter, clearAnswer, clearOutput}
 use Rattle.b3d_scene.specs.Parse.{parse}
 use Rattle.b3d_scene.specs.Scene.{Scene}
-use Rattle.b3d_scene.specs.Tags.{code}
-use Rattle.b3d_scene.specs.declared.Tag.the-variants.{BB3D}
 use Rattle.b3d_scene.specs.declared.Written.{Written}
-use Rattle.b3d_scene.proofs.AnswerLaws.{judge-got, clear-first, of-size}
+use Rattle.b3d_scene.proofs.AnswerLaws.{judge-got, clear-first}
 use Rattle.b3d_scene.proofs.Files.FileLaws.{size-low, size-bound}
 use Rattle.b3d_scene.proofs.Files.NameLaws.{copy-short}
 use Rattle.b3d_tally.specs.declared.Tally.{Tally}
 use Rattle.b3d_tally.specs.Tally.{tallyOf}
 use Rattle.b3d_judge.specs.Answers.{verdictOf}
-use Rattle.b3d_judge.specs.declared.Summary.{Summary}
-use Rattle.b3d_judge.specs.declared.Verdict.{Verdict}
-use Rattle.b3d_judge.specs.declared.Verdict.the-variants as verdict
+use Rattle.b3d_judge_body.specs.declared.Summary.{Summary}
+use Rattle.b3d_judge_body.specs.declared.Verdict.{Verdict}
+use Rattle.b3d_judge_body.specs.declared.Verdict.the-variants as verdict
 use Rattle.b3d_judge.proofs.Verdicts.{was-bad}
-use Rattle.b3d_copy.specs.Copies.{chunksAt, inFile, fileCopy}
+use Rattle.b3d_copy.specs.Copies.{fileCopy}
 use Rattle.b3d_copy.proofs.Files.{file-copied}
-use Rattle.b3d_clear_copies.proofs.Chunking.{open-fits, open-room, open-asks, open-done}
 use Rattle.b3d_scene.proofs.Refusals.{judge-place}
-
--- ---- the file
-
-pub file-inside : (s : List ℕ) → 12 ≤ length s → Inside (record { at = 12; end = length s }) (length s)
-file-inside s h = record { before = h; within = omega arith }
-
-pub file-number : (s : List ℕ) → 12 ≤ length s → 8 + 4 ≤ length s
-file-number s h = omega arith
-
--- the version and the chunks of a file, by the number that was read
-pub file-done : (s out : List ℕ) → Room (fileCopy s) out → (ys : List ℕ) (n : ℕ) → Put (inFile (chunksAt s (record { at = 12; end = length s }))) (take (length out - 12) (drop 12 out)) ys n
-    → (v : ℕ) → v ≡ wordAt s 8 → (zs : List ℕ) → Wrote (take 12 out ++ (ys ++ drop (length out - 12) (drop 12 out))) (head (code BB3D) n (bytes v [])) zs → Put (fileCopy s) out zs (n + 12)
-file-done s out r ys n w v e zs h = open-done (code BB3D) (wordAt s 8) (inFile (chunksAt s (record { at = 12; end = length s }))) out r ys n w zs (rw e at h)
-
-pub ruleset file-laws = (file-inside, file-number, open-fits, open-room, open-asks, file-done)
+use Rattle.b3d_output.specs.Sizes.{OfSize}
+use Rattle.b3d_output.proofs.SizeAnswers.{room-short, room-fits, fits-where, short-where}
 
 -- ---- what the judge says
 
@@ -117,38 +99,32 @@ module _ (s out : List ℕ) where
       unfolding clear
       room-for = ap (λ (o : Out Scene). o >>= λ t. roomFor (length out) (copy t)) (gave .is)
 
-      -- the output is too short
-      module _ (h : length out < x .tally .copy) where
-        short : clear s (length out) ≡ bad 11 (x .tally .copy)
-        unfolding roomFor check
-        short = room-for ∙ rw (lt-leb (length (copy (gave .scene))) (length out) (omega (arith, gave .long))) (ap (bad 11) (sym (gave .long)))
+      -- the answer by the size of the copy
+      module _ (w : Written) (h : OfSize (x .tally .copy) (length out) w) where
+        of-copy : OfSize (length (copy (gave .scene))) (length out) w
+        of-copy = record { is = λ b l. h .is b (l ∙ sym (gave .long)) }
 
-        pub clear-short : (q : ℕ) → q ≡ x .tally .copy → record { number = 11; place = q; size = 0 } ≡ clearAnswer s out
-        unfolding written
-        clear-short q i = answered (bad 11 (x .tally .copy)) short (record { number = 11; place = q; size = 0 }) (rw i)
+        pub clear-answered : w ≡ clearAnswer s out
+        clear-answered = answered (roomFor (length out) (copy (gave .scene))) room-for w (of-copy .is (copy (gave .scene)) refl)
 
-        pub clear-kept : out ≡ clearOutput s out
+        -- the output is too short
+        pub clear-kept : (w .number ≡ 0 → ⊥) → out ≡ clearOutput s out
         unfolding outputAfter
-        clear-kept = left-so (bad 11 (x .tally .copy)) short out refl
+        clear-kept d = left-so (bad 11 (length (copy (gave .scene)))) (room-for ∙ room-short (length out) (copy (gave .scene)) (short-where (length out) (copy (gave .scene)) w of-copy d)) out refl
 
-      -- it is long enough
-      module _ (h : x .tally .copy ≤ length out) where
-        fits : clear s (length out) ≡ got (copy (gave .scene))
-        unfolding roomFor check
-        fits = room-for ∙ rw (le-leb (length (copy (gave .scene))) (length out) (omega (arith, gave .long)))
+        -- it is long enough
+        module _ (y : w .number ≡ 0) where
+          fits : length (copy (gave .scene)) ≤ length out
+          fits = fits-where (length out) (copy (gave .scene)) w of-copy y
 
-        same : fileCopy s ≡ copy (gave .scene)
-        same = file-copied s (gave .scene) all parsed
+          same : fileCopy s ≡ copy (gave .scene)
+          same = file-copied s (gave .scene) all parsed
 
-        pub clear-room : Room (fileCopy s) out
-        clear-room = rw same (record { room = omega (arith, gave .long); small = omega (arith, gave .long, clear-size) })
+          pub clear-room : Room (fileCopy s) out
+          clear-room = rw same (record { room = fits; small = omega (arith, gave .long, clear-size) })
 
-        pub clear-written : (q : ℕ) → q ≡ x .tally .copy → record { number = 0; place = 0; size = q } ≡ clearAnswer s out
-        unfolding written
-        clear-written q i = answered (got (copy (gave .scene))) fits (record { number = 0; place = 0; size = q }) (of-size q (length (copy (gave .scene))) (i ∙ gave .long))
+          pub clear-output : (ys : List ℕ) (n : ℕ) → Put (fileCopy s) out ys n → ys ≡ clearOutput s out
+          unfolding outputAfter
+          clear-output ys n p = left-so (got (copy (gave .scene))) (room-for ∙ room-fits (length out) (copy (gave .scene)) fits) ys (p .wrote .is ∙ ap (λ (b : List ℕ). over b out) same)
 
-        pub clear-output : (ys : List ℕ) (n : ℕ) → Put (fileCopy s) out ys n → ys ≡ clearOutput s out
-        unfolding outputAfter
-        clear-output ys n w = left-so (got (copy (gave .scene))) fits ys (w .wrote .is ∙ ap (λ (b : List ℕ). over b out) same)
-
-pub ruleset clear-laws = (clear-place, clear-refused, clear-untouched, clear-low, clear-high, clear-size, clear-short, clear-kept, clear-room, clear-written, clear-output)
+pub ruleset clear-laws = (clear-place, clear-refused, clear-untouched, clear-low, clear-high, clear-size, clear-answered, clear-kept, clear-room, clear-output)

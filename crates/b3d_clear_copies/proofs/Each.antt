@@ -5,7 +5,7 @@ use native.Mathlib.Omega.{arith}
 use mathlib.Core.List.{List, [], _++_}
 use mir.Syntax.{w64}
 use mir.Val.{Fits}
-use lib.Dec.{T}
+use lib.Dec.{eqb-refl}
 use lib.ListN.{length, take, drop}
 use Rattle.wire.specs.Cursors.{Inside, left}
 use Rattle.wire.specs.declared.Cursor.{Cursor}
@@ -13,25 +13,21 @@ use Rattle.layout.specs.Rows.{mostBytes}
 use Rattle.emit.specs.Writing.{Room, Put}
 use Rattle.emit.proofs.Pieces.{Pieces, pieces-none, piece-room, piece-next, pieces-done}
 use Rattle.layout.proofs.Outs.{if-yes, if-no}
-use Rattle.b3d_scene.specs.Tags.{Chunks, is}
+use Rattle.b3d_scene.specs.Tags.{Chunks, code, is}
 use Rattle.b3d_scene.specs.declared.Tag.{Tag}
-use Rattle.b3d_scene.proofs.Files.TagCodes.{by-tag}
 use Rattle.b3d_walk.specs.Seeks.{Seeks, seekOf}
 use Rattle.b3d_walk.specs.declared.Sought.{Sought}
 use Rattle.b3d_walk.specs.declared.Sought.the-variants as sought
 use Rattle.b3d_walk.proofs.Seeking.{sought-none, sought-is, sought-among, by-seek}
 use Rattle.b3d_inside.specs.Places.{Body}
+use Rattle.b3d_inside.proofs.Heads.{body-inside}
 use Rattle.b3d_copy.specs.Copies.{each, chunksAt}
-
-same-tag : (t : Tag) → T (is t t)
-same-tag = by-tag (λ t. T (is t t)) (tt, tt, tt, tt, tt, tt, tt, tt, tt, tt)
 
 -- each chunk of a tag stands from the first of the tag on
 each-seek : (k : Tag) (one : ℕ → List ℕ → List ℕ) (cs : Chunks) → each k one cs ≡ each k one (seekOf k cs)
 unfolding each
 each-seek k one =
     by-seek k (each k one) (λ n p. refl)
-    (λ t p b r y. if-yes (is t k) (one p b ++ each k one r) (each k one r) y ∙ sym (if-yes (is k k) (one p b ++ each k one r) (each k one r) (same-tag k)))
     (λ t p b r y. if-no (is t k) (one p b ++ each k one r) (each k one r) y)
 
 -- of the chunks of tag k from `from` on those before c are written, up to n
@@ -67,7 +63,7 @@ module _ (s : List ℕ) (k : Tag) (one : ℕ → List ℕ → List ℕ) (from : 
         each-body = let f = sought-among s c k r x p b m w in record { head = f .body; room = f .room; within = omega (arith, v .inside .within); small = v .small }
 
         pub each-bytes : Inside b (length s)
-        each-bytes = record { before = each-body .room; within = each-body .within }
+        each-bytes = body-inside s p b each-body
 
         pub each-less : m .end - m .at < c .end - c .at
         each-less = let f = sought-among s c k r x p b m w in omega arith
@@ -77,7 +73,7 @@ module _ (s : List ℕ) (k : Tag) (one : ℕ → List ℕ → List ℕ) (from : 
           unfolding each
           step =
               each-seek k one (chunksAt s c) ∙ ap (each k one) (sought-is s c k r x p b m w)
-              ∙ if-yes (is k k) (one p (left b s) ++ each k one (chunksAt s m)) (each k one (chunksAt s m)) (same-tag k)
+              ∙ if-yes (is k k) (one p (left b s) ++ each k one (chunksAt s m)) (each k one (chunksAt s m)) (eqb-refl (code k))
               ∙ ap (λ (l : List ℕ). l ++ each k one (chunksAt s m)) (sym same)
 
           pub each-room : Room piece (take (length out - n) (drop n out))

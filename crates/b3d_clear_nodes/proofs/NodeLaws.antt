@@ -17,6 +17,7 @@ use Rattle.b3d_chunks.specs.declared.Named.{Named}
 use Rattle.b3d_chunks.specs.declared.Named.the-variants as named
 use Rattle.b3d_chunks.proofs.Names.{named-cut, named-any, named-among}
 use Rattle.b3d_inside.specs.Places.{Body}
+use Rattle.b3d_inside.proofs.Heads.{body-inside}
 use Rattle.b3d_copy.specs.Copies.{chunkOf, each, chunksAt, ownCopy, nodeOf, nodeCopy}
 
 -- with a level left a node goes by its text and words
@@ -26,9 +27,6 @@ level zero p b h = absurd (h refl)
 level (suc l) p b h = let e : suc l - 1 ≡ l = omega arith in rw e
 
 module _ (s : List ℕ) (at : ℕ) (b : Cursor) (body : Body at b (length s)) (levels : ℕ) (out : List ℕ) where
-  pub node-inside : Inside b (length s)
-  node-inside = record { before = body .room; within = body .within }
-
   pub node-none : levels ≡ 0 → Put (nodeCopy levels at (left b s)) out out 0
   unfolding nodeCopy
   node-none e = none-put (nodeCopy levels at (left b s)) out (ap (λ (l : ℕ). nodeCopy l at (left b s)) e)
@@ -38,13 +36,13 @@ module _ (s : List ℕ) (at : ℕ) (b : Cursor) (body : Body at b (length s)) (l
     unfolding nodeOf
     node-cut w =
         none-put (nodeCopy levels at (left b s)) out
-        (level levels at (left b s) some ∙ ap (nodeOf (nodeCopy (levels - 1))) (ap (λ (p : ℕ). namedOf nodeRow p (left b s)) (sym (body .head)) ∙ named-cut s b 10 node-inside nodeRow refl r er w))
+        (level levels at (left b s) some ∙ ap (nodeOf (nodeCopy (levels - 1))) (ap (λ (p : ℕ). namedOf nodeRow p (left b s)) (sym (body .head)) ∙ named-cut s b 10 (body-inside s at b body) nodeRow refl r er w))
 
     module _ (len : ℕ) (row next : Cursor) (w : r ≡ named.Is len row next) where
       is : nodeCopy levels at (left b s)
           ≡ chunkOf (code NODE) (ownCopy (wordsOf 10 (left row s)) (chunksAt s next) ++ each NODE (nodeCopy (levels - 1)) (chunksAt s next))
       unfolding nodeOf
-      is = level levels at (left b s) some ∙ ap (nodeOf (nodeCopy (levels - 1))) (ap (λ (p : ℕ). namedOf nodeRow p (left b s)) (sym (body .head)) ∙ named-any s b 10 node-inside r er len row next w)
+      is = level levels at (left b s) some ∙ ap (nodeOf (nodeCopy (levels - 1))) (ap (λ (p : ℕ). namedOf nodeRow p (left b s)) (sym (body .head)) ∙ named-any s b 10 (body-inside s at b body) r er len row next w)
 
       pub node-room : Room (nodeCopy levels at (left b s)) out
           → Room (chunkOf (code NODE) (ownCopy (wordsOf 10 (left row s)) (chunksAt s next) ++ each NODE (nodeCopy (levels - 1)) (chunksAt s next))) out
@@ -64,4 +62,4 @@ module _ (s : List ℕ) (at : ℕ) (b : Cursor) (body : Body at b (length s)) (l
     pub node-next : Inside next (length s)
     node-next = let f = named-among b 10 r ir len row next w in record { before = f .to; within = omega (arith, body .within) }
 
-pub ruleset node-laws = (node-inside, node-none, node-cut, node-room, node-done, node-row, node-words, node-next)
+pub ruleset node-laws = (body-inside, node-none, node-cut, node-room, node-done, node-row, node-words, node-next)

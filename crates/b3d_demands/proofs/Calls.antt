@@ -24,7 +24,7 @@ use Rattle.b3d_scene.specs.Scene.{Scene}
 use Rattle.b3d_scene.specs.Tables.{width, rows, table, tables, nodeTables, counts}
 use Rattle.b3d_scene.specs.declared.Written.{Written}
 use Rattle.b3d_scene.proofs.AnswerLaws.{judge-got, read-got}
-use Rattle.b3d_scene.proofs.Files.RefusalLaws.{parse-refusal}
+use Rattle.b3d_scene.proofs.Refusals.{parse-refusal}
 use Rattle.b3d_scene.proofs.Laws.{fine}
 use Rattle.b3d_scene.proofs.Rows.CountLaws.{table-length}
 use Rattle.b3d_scene.proofs.Rows.RebuildLaws.{rows-wide}

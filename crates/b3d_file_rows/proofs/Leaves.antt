@@ -1,5 +1,5 @@
 -- What the parser read of a body is what the body plainly holds: chunks of numbers, and a MESH.
-use mathlib.Core.Path.{_≡_, ap, ap₂, sym, subst, _∙_}
+use mathlib.Core.Path.{_≡_, refl, ap, ap₂, sym, subst, _∙_}
 use Prim.Native.Nat.{ℕ, _+_, _*_, _/_, _<_, _≤_}
 use native.Mathlib.Nat.{mul-div-cancel}
 use native.Mathlib.Omega.{arith}
@@ -7,24 +7,23 @@ use mathlib.Core.List.{List, [], _∷_}
 use lib.ListN.{length, getD, length-replicate}
 use lib.Dec.{leb, leb→le}
 use Rattle.wire.specs.Test.{if}
-use Rattle.layout.specs.Chunks.{done, stop, chunk}
+use Rattle.layout.specs.Chunks.{done, chunk}
 use Rattle.layout.specs.Out.{got}
 use Rattle.layout.specs.Parts.{Step, words, wordsOf, itemsOf, judged, row, number, items}
 use Rattle.layout.specs.Rules.{Rule, any, upTo, holds, refusal}
 use Rattle.layout.proofs.Outs.{by-got, by-check, bad-got, got-inj}
 use Rattle.layout.proofs.StepLaws.{judged-got, length-words-of}
 use Rattle.layout.proofs.ListLaws.{three-cells}
-use mathlib.Core.Bool.{true, false}
 use Rattle.b3d_scene.specs.declared.Mode.the-variants.{Lenient}
 use Rattle.b3d_scene.specs.declared.Tag.the-variants.{MESH, VRTS, TRIS}
 use Rattle.b3d_scene.specs.Mask.{ones, vertexMask, keyMask}
-use Rattle.b3d_scene.specs.Nesting.{start, next, onward, order, inside, reachedAt}
+use Rattle.b3d_scene.specs.Nesting.{inside}
 use Rattle.b3d_scene.specs.Parse.{readOne, Vertices, noVertices, readVertices, readTriangles, readSets, readMesh, readBone, readKeys, filled, readAnim}
 use Rattle.b3d_scene.specs.Rules.{vertexWords, keyWords, meshHead, verticesHead, vertexRow, trianglesHead, triangleRow, weightRow, keysHead, keyRow, animRow}
 use Rattle.b3d_scene.specs.Scene.{TriangleSet, Mesh, Keys}
-use Rattle.b3d_scene.specs.Tags.{Chunks, Found, split}
+use Rattle.b3d_scene.specs.Tags.{Chunks, split}
 use Rattle.b3d_scene.proofs.Rows.MaskLaws.{vertex-words, key-words}
-use Rattle.b3d_scene.proofs.Files.Entries.{_▸_, by-entry}
+use Rattle.b3d_inside.proofs.Meshes.{ByShape, shape-read}
 use Rattle.b3d_file_rows.proofs.ItemLaws.{row-read, ItemsRead, items-read}
 use Rattle.b3d_file_rows.specs.Plain.{whole, plainKeys, plainWeights, plainAnim, plainVertices, plainTriangles, shapeOf, setsOf, meshOf, plainMesh}
 
@@ -143,48 +142,30 @@ triangles-plain brushes vertices p b x e =
 
 -- ---- MESH
 
-module _ (brushes vertices head : ℕ) where
-  one-set : (p : ℕ) (b : List ℕ) (r o : Chunks) → ((m : List TriangleSet) → readSets brushes vertices o ≡ got m → setsOf r ≡ m)
-      → (l : List TriangleSet) → readSets brushes vertices (chunk TRIS p b o) ≡ got l → setsOf (chunk TRIS p b r) ≡ l
-  unfolding readSets setsOf if
-  one-set p b r o more l e =
-      by-got (readTriangles brushes vertices p b) _ e (λ x ex e₁.
-      by-got (readSets brushes vertices o) _ e₁ (λ m em e₂.
-      ap₂ _∷_ (triangles-plain brushes vertices p b x ex) (more m em) ∙ got-inj e₂))
+abbrev Sets : Chunks → List TriangleSet → Type 0
+Sets cs l = setsOf cs ≡ l
 
-  sets-more : (cs : Chunks) (l : List TriangleSet) → readSets brushes vertices (order MESH head (reachedAt 2 false) cs) ≡ got l → setsOf cs ≡ l
-  unfolding readSets order onward next if setsOf
-  sets-more done l e = got-inj e
-  sets-more (stop i p) l e = bad-got e
-  sets-more (chunk t p b r) l e =
-      by-entry MESH head (reachedAt 2 false) p b r (λ u o. readSets brushes vertices o ≡ got l → setsOf (chunk u p b r) ≡ l) (λ u e. bad-got e)
-      (tt
-      ▸ (λ e. one-set p b r (order MESH head (reachedAt 2 false) r) (λ m em. sets-more r m em) l e) ▸ tt) t e
+none-plain : Sets done []
+unfolding setsOf
+none-plain = refl
 
-  sets-first : (cs : Chunks) (l : List TriangleSet) → readSets brushes vertices (order MESH head (reachedAt 1 true) cs) ≡ got l → setsOf cs ≡ l
-  unfolding readSets order onward next if
-  sets-first done l e = bad-got e
-  sets-first (stop i p) l e = bad-got e
-  sets-first (chunk t p b r) l e =
-      by-entry MESH head (reachedAt 1 true) p b r (λ u o. readSets brushes vertices o ≡ got l → setsOf (chunk u p b r) ≡ l) (λ u e. bad-got e)
-      (tt
-      ▸ (λ e. one-set p b r (order MESH head (reachedAt 2 false) r) (λ m em. sets-more r m em) l e) ▸ tt) t e
+set-before : (brushes vertices p : ℕ) (b : List ℕ) (r : Chunks) (x : TriangleSet) (l : List TriangleSet) → readTriangles brushes vertices p b ≡ got x → Sets r l → Sets (chunk TRIS p b r) (x ∷ l)
+unfolding setsOf if
+set-before brushes vertices p b r x l e more = ap₂ _∷_ (triangles-plain brushes vertices p b x e) more
 
 abbrev meshBy : ℕ → Vertices → List TriangleSet → Mesh
 meshBy brush v l = record { brush = brush; flags = v .flags; sets = v .sets; size = v .size; vertices = v .items; triangleSets = l }
 
-inside-plain : (brush brushes head : ℕ) (cs : Chunks) (v : Found Vertices) → readOne VRTS noVertices (readVertices Lenient) (order MESH head start cs) ≡ got v
-    → (l : List TriangleSet) → readSets brushes (length (v .value .items)) (v .rest) ≡ got l → meshOf brush cs ≡ meshBy brush (v .value) l
-unfolding readOne order onward next if meshOf shapeOf setsOf
-inside-plain brush brushes head done v e l f = bad-got e
-inside-plain brush brushes head (stop i p) v e l f = bad-got e
-inside-plain brush brushes head (chunk t p b r) v e l f =
-    by-entry MESH head start p b r (λ u o. readOne VRTS noVertices (readVertices Lenient) o ≡ got v → meshOf brush (chunk u p b r) ≡ meshBy brush (v .value) l) (λ u e. bad-got e)
-    ((λ e. by-got (readVertices Lenient p b) _ e (λ x ex e₁.
-    let g = got-inj e₁ in
-    let shape : plainVertices b ≡ v .value = vertices-plain p b x ex ∙ ap (λ (y : Found Vertices). y .value) g in
-    let sets = sets-first brushes (length (v .value .items)) head r l (ap (λ (y : Found Vertices). readSets brushes (length (v .value .items)) (y .rest)) g ∙ f) in
-    ap₂ (meshBy brush) shape sets)) ▸ tt ▸ tt) t e
+module _ (brush : ℕ) where
+  abbrev Shaped : Chunks → Vertices → List TriangleSet → Type 0
+  Shaped cs v l = meshOf brush cs ≡ meshBy brush v l
+
+  shape-before : (p : ℕ) (b : List ℕ) (r : Chunks) (v : Vertices) (l : List TriangleSet) → readVertices Lenient p b ≡ got v → Sets r l → Shaped (chunk VRTS p b r) v l
+  unfolding meshOf shapeOf setsOf if
+  shape-before p b r v l e more = ap₂ (meshBy brush) (vertices-plain p b v e) more
+
+  plain : (brushes : ℕ) → ByShape Lenient brushes Sets Shaped
+  plain brushes = record { none = none-plain; sets = set-before brushes; shape = shape-before }
 
 pub mesh-plain : (brushes p : ℕ) (b : List ℕ) (m : Mesh) → readMesh Lenient brushes p b ≡ got m → plainMesh p b ≡ m
 unfolding readMesh inside plainMesh
@@ -196,4 +177,4 @@ mesh-plain brushes p b m e =
     let q : h .place ≡ p + 12 = omega (arith, r .place) in
     ap₂ (λ (ws y : List ℕ). meshOf (getD ws 0 0) (split (p + 12) y)) (sym (r .value)) (sym (r .left))
     ∙ ap (λ (k : ℕ). meshOf (number h 0) (split k (h .left))) (sym q)
-    ∙ inside-plain (number h 0) brushes p (split (h .place) (h .left)) v ev l el ∙ got-inj e₃)))
+    ∙ shape-read Lenient brushes Sets (Shaped (number h 0)) (plain (number h 0) brushes) p (split (h .place) (h .left)) v ev l el ∙ got-inj e₃)))

@@ -3,7 +3,7 @@
 use mathlib.Core.Path.{_≡_, refl, ap, ap₂, sym, subst, _∙_}
 use Prim.Native.Nat.{ℕ, zero, suc, _+_, _-_, _≤_, _<_}
 use native.Mathlib.Omega.{arith}
-use mathlib.Core.Bool.{Bool, true, false, not}
+use mathlib.Core.Bool.{not}
 use mathlib.Core.Option.{Option}
 use mathlib.Core.List.{List, [], _∷_, _++_, append-assoc}
 use lib.ListN.{length}
@@ -17,14 +17,13 @@ use Rattle.b3d_scene.specs.declared.Mode.the-variants.{Lenient}
 use Rattle.b3d_scene.specs.declared.Counts.{Counts}
 use Rattle.b3d_scene.specs.declared.Tag.{Tag}
 use Rattle.b3d_scene.specs.declared.Tag.the-variants.{NODE, MESH, BONE, KEYS, ANIM}
-use Rattle.b3d_scene.specs.Nesting.{start, next, onward, order, inside, reachedAt}
-use Rattle.b3d_scene.specs.Parse.{readMesh, readBone, readKeys, readAnim, aMesh, aBone, readKind, Moves, withKeys, readMoves, Inner, readNodes, readBelow, readNode}
+use Rattle.b3d_scene.specs.Nesting.{inside}
+use Rattle.b3d_scene.specs.Parse.{readMesh, readBone, readKeys, readAnim, readKind, Moves, readMoves, Inner, readNodes, readBelow, readNode}
 use Rattle.b3d_scene.specs.Rules.{nodeRow as nodeWords, boneVertices, bonesBelow}
 use Rattle.b3d_scene.specs.Scene.{Mesh, Kind, pivot, mesh, bone, Keys, Anim, still, anim, Data, Forest, leaf, node}
 use Rattle.b3d_scene.specs.Tables.{nodesIn, nodeRow, ownRows, withNode, withForest, forestRows}
-use Rattle.b3d_scene.specs.Tags.{Chunks, Found, split, is}
-use Rattle.b3d_scene.proofs.Files.Entries.{_▸_, by-entry}
-use Rattle.b3d_inside.proofs.Turns.{kind-order}
+use Rattle.b3d_scene.specs.Tags.{Chunks, split, is}
+use Rattle.b3d_inside.proofs.Nodes.{ByParts, parts-read}
 use Rattle.b3d_file_rows.specs.Flat.{rest, flatAt}
 use Rattle.b3d_file_rows.specs.Rows.{Open, addNode, addKeys, counted, kindOf, animOf, parentAt, nodesBefore, rowOf, opened, nodeRows}
 use Rattle.b3d_file_rows.proofs.Leaves.{keys-plain, bone-plain, anim-plain, mesh-plain}
@@ -110,21 +109,11 @@ module _ (s : List ℕ) where
   NodeWent at p b d f = Clean (flatAt s (p + 8 + length b)) → (l : List Open) (n : Counts) (parent : ℕ) → parentAt p l ≡ parent
       → Went l n at (p + 8 + length b) (ownRows 3 d parent (nodesIn f) n ++ forestRows 3 f (n .nodes) (withNode d n)) (withForest f (withNode d n)) (suc (nodesIn f))
 
-  module _ (read : ℕ → List ℕ → Out Inner)
-      (same : (p : ℕ) (b : List ℕ) (x : Inner) → read p b ≡ got x → (at : ℕ) → Here s at NODE p b → NodeWent at p b (x .self) (x .below)) (head e : ℕ) (follows : Clean (flatAt s e)) where
+  module _ (e : ℕ) (follows : Clean (flatAt s e)) where
     -- ---- nodes
 
     here-clean : (at p : ℕ) (b : List ℕ) → Here s at NODE p b → Clean (flatAt s at)
     here-clean at p b h = run-node s at NODE p b h tt Clean (λ r. node-clean p b r) stop-clean
-
-    nodes-clean : (cs : Chunks) (at : ℕ) → Laid s e at cs → (f : Forest) → readNodes read (order NODE head (reachedAt 3 false) cs) ≡ got f → Clean (flatAt s at)
-    unfolding readNodes order onward next if
-    nodes-clean done at h f g = subst Clean (sym (run-same s at e h)) follows
-    nodes-clean (stop i p) at h f g = bad-got g
-    nodes-clean (chunk t p b r) at h f g =
-        by-entry NODE head (reachedAt 3 false) p b r (λ u o. Laid s e at (chunk u p b r) → readNodes read o ≡ got f → Clean (flatAt s at)) (λ u h g. bad-got g)
-        (tt ▸ tt ▸ tt ▸ tt
-        ▸ (λ h g. here-clean at p b (h .0)) ▸ tt) t h g
 
     no-nodes : (at : ℕ) → rest s at ≡ rest s e → Nodes at e leaf
     unfolding forestRows withForest nodesIn
@@ -141,181 +130,97 @@ module _ (s : List ℕ) where
         (subst (λ (r : List (List ℕ)). Went l n at e r (withForest g m) (suc (nodesIn f) + nodesIn g)) (append-assoc (ownRows 3 d parent (nodesIn f) n) (forestRows 3 f (n .nodes) (withNode d n)) (forestRows 3 g parent m))
         (went-on l n at (p + 8 + length b) e _ _ m (withForest g m) (suc (nodesIn f)) (nodesIn g) le w v))
 
-    nodes-flat : (cs : Chunks) (at : ℕ) → Laid s e at cs → (f : Forest) → readNodes read (order NODE head (reachedAt 3 false) cs) ≡ got f → Nodes at e f
-    unfolding readNodes order onward next if
-    nodes-flat done at h f g = subst (Nodes at e) (got-inj g) (no-nodes at h)
-    nodes-flat (stop i p) at h f g = bad-got g
-    nodes-flat (chunk t p b r) at h f g =
-        by-entry NODE head (reachedAt 3 false) p b r (λ u o. Laid s e at (chunk u p b r) → readNodes read o ≡ got f → Nodes at e f) (λ u h g. bad-got g)
-        (tt ▸ tt ▸ tt ▸ tt
-        ▸ (λ h g. by-got (read p b) _ g (λ x ex g₁.
-        by-got (readNodes read (order NODE head (reachedAt 3 false) r)) _ g₁ (λ y ey g₂.
-        subst (Nodes at e) (got-inj g₂)
-        (more-nodes at p b (x .self) (x .below) y (h .0) (h .2) (nodes-clean r (p + 8 + length b) (h .1) y ey) (same p b x ex at (h .0)) (nodes-flat r (p + 8 + length b) (h .1) y ey))))) ▸ tt) t h g
+    -- ---- the chunks inside a node
 
-    -- ---- KEYS and ANIM
+    -- from a place on, up to e: the kind, the ANIM, and the rows of the nodes, under the counts after the kind and the key lists
+    pub record Tree (at : ℕ) (kind : Kind) (ks : List Keys) (a : Anim) (f : Forest) : Type 0 where
+      pub kinds : kindOf (flatAt s at) ≡ kind
+      pub anims : animOf (flatAt s at) ≡ a
+      pub went : (l : List Open) (n : Counts) (parent : ℕ) → Under l at e parent
+          → Went l n at e (forestRows 3 f parent (withLists ks (withKind kind n))) (withForest f (withLists ks (withKind kind n))) (nodesIn f)
 
-    -- the ANIM of these chunks: none is left where one was seen
-    abbrev AnimIs : Bool → Anim → Chunks → Anim → Type 0
-    AnimIs true seen cs a = a ≡ seen
-    AnimIs false seen cs a = seen ≡ still → animOf cs ≡ a
+    abbrev Trees : Chunks → Kind → List Keys → Anim → Forest → Type 0
+    Trees cs kind ks a f = (at : ℕ) → Laid s e at cs → Tree at kind ks a f
 
-    -- under the counts after these key lists
-    abbrev After : ℕ → List Keys → Forest → Type 0
-    After at ks f = (l : List Open) (n : Counts) (parent : ℕ) → Under l at e parent → Went l n at e (forestRows 3 f parent (withLists ks n)) (withForest f (withLists ks n)) (nodesIn f)
+    none-tree : Trees done pivot [] still leaf
+    unfolding withKind withLists
+    none-tree at h = let c = subst Clean (sym (run-same s at e h)) follows in record { kinds = c .kind; anims = c .anim; went = no-nodes at h }
 
-    record Lists (spent : Bool) (seen : Anim) (at : ℕ) (m : Moves) (f : Forest) : Type 0 where
-      kind : kindOf (flatAt s at) ≡ pivot
-      anims : AnimIs spent seen (flatAt s at) (m .anim)
-      went : After at (m .keys) f
-
-    none-anim : (spent : Bool) (seen : Anim) (cs : Chunks) → Clean cs → AnimIs spent seen cs seen
-    none-anim true seen cs c = refl
-    none-anim false seen cs c = λ e. c .anim ∙ sym e
-
-    no-lists : (spent : Bool) (seen : Anim) (at : ℕ) (f : Forest) → Clean (flatAt s at) → Nodes at e f → Lists spent seen at (record { keys = []; anim = seen }) f
-    unfolding withLists
-    no-lists spent seen at f c w = record { kind = c .kind; anims = none-anim spent seen (flatAt s at) c; went = w }
-
-    keys-anim : (spent : Bool) (seen a : Anim) (p : ℕ) (b : List ℕ) (r : Chunks) → AnimIs spent seen r a → AnimIs spent seen (chunk KEYS p b r) a
-    unfolding animOf if
-    keys-anim true seen a p b r h = h
-    keys-anim false seen a p b r h = h
-
-    one-list : (spent : Bool) (seen : Anim) (at p : ℕ) (b : List ℕ) (x : Keys) (m : Moves) (f : Forest) → Here s at KEYS p b → readKeys p b ≡ got x → Lists spent seen (p + 8 + length b) m f
-        → Lists spent seen at (record { keys = x ∷ m .keys; anim = m .anim }) f
-    unfolding withLists kindOf if
-    one-list spent seen at p b x m f h g more =
-        let r = run-past s at KEYS p b h tt in
+    node-before : (p : ℕ) (b : List ℕ) (r : Chunks) (x : Inner) (f : Forest) → ((at : ℕ) → Here s at NODE p b → NodeWent at p b (x .self) (x .below)) → Trees r pivot [] still f
+        → Trees (chunk NODE p b r) pivot [] still (node (x .self) (x .below) f)
+    unfolding withKind withLists
+    node-before p b r x f same more at h =
+        let c = here-clean at p b (h .0) in
+        let v = more (p + 8 + length b) (h .1) in
         record {
-          kind = ap kindOf r ∙ more .kind;
-          anims = subst (λ (cs : Chunks). AnimIs spent seen cs (m .anim)) (sym r) (keys-anim spent seen (m .anim) p b (flatAt s (p + 8 + length b)) (more .anims));
-          went = λ l n parent u. went-past KEYS at p e b h tt l n _ _ _
-              (subst (λ (y : Keys). Went l (addKeys y n) (p + 8 + length b) e (forestRows 3 f parent (withLists (m .keys) (addKeys x n))) (withForest f (withLists (m .keys) (addKeys x n))) (nodesIn f)) (sym (keys-plain p b x g))
-              (more .went l (addKeys x n) parent (λ q lo hi. u q (omega (arith, h .from)) hi)));
+          kinds = c .kind;
+          anims = c .anim;
+          went = more-nodes at p b (x .self) (x .below) f (h .0) (h .2) (record { kind = v .kinds; anim = v .anims }) (same at (h .0)) (v .went);
         }
 
-    by-list : (spent : Bool) (seen : Anim) (at p : ℕ) (b : List ℕ) (o : Chunks) → Here s at KEYS p b → ((z : Found Moves) → readMoves seen o ≡ got z → (f : Forest) → readNodes read (z .rest) ≡ got f → Lists spent seen (p + 8 + length b) (z .value) f)
-        → (y : Found Moves) → readMoves seen (chunk KEYS p b o) ≡ got y → (f : Forest) → readNodes read (y .rest) ≡ got f → Lists spent seen at (y .value) f
-    unfolding readMoves withKeys if
-    by-list spent seen at p b o h more y g f ef =
-        by-got (readKeys p b) _ g (λ x ex g₁.
-        by-got (readMoves seen o) _ g₁ (λ z ez g₂.
-        let w = got-inj g₂ in
-        subst (λ (u : Found Moves). Lists spent seen at (u .value) f) w
-        (one-list spent seen at p b x (z .value) f h ex (more z ez f (ap (λ (u : Found Moves). readNodes read (u .rest)) w ∙ ef)))))
-
-    by-anim : (seen : Anim) (at p : ℕ) (b : List ℕ) (o : Chunks) → Here s at ANIM p b → ((seen′ : Anim) (z : Found Moves) → readMoves seen′ o ≡ got z → (f : Forest) → readNodes read (z .rest) ≡ got f → Lists true seen′ (p + 8 + length b) (z .value) f)
-        → (y : Found Moves) → readMoves seen (chunk ANIM p b o) ≡ got y → (f : Forest) → readNodes read (y .rest) ≡ got f → Lists false seen at (y .value) f
-    unfolding readMoves if kindOf animOf
-    by-anim seen at p b o h more y g f ef =
-        by-got (readAnim p b) _ g (λ ws ew g₁.
-        let m = more (anim ws) y g₁ f ef in
-        let r = run-past s at ANIM p b h tt in
-        record {
-          kind = ap kindOf r ∙ m .kind;
-          anims = λ _. ap animOf r ∙ ap anim (anim-plain p b ws ew) ∙ sym (m .anims);
-          went = λ l n parent u. went-past ANIM at p e b h tt l n _ _ _ (m .went l n parent (λ q lo hi. u q (omega (arith, h .from)) hi));
-        })
-
-    by-none : (spent : Bool) (seen : Anim) (at : ℕ) (o : Chunks) (y : Found Moves) → got (record { value = record { keys = []; anim = seen }; rest = o }) ≡ got y → (f : Forest) → readNodes read (y .rest) ≡ got f
-        → (readNodes read o ≡ got f → Clean (flatAt s at)) → (readNodes read o ≡ got f → Nodes at e f) → Lists spent seen at (y .value) f
-    by-none spent seen at o y g f ef c h =
-        let w = got-inj g in
-        let ef′ = ap (λ (u : Found Moves). readNodes read (u .rest)) w ∙ ef in
-        subst (λ (u : Found Moves). Lists spent seen at (u .value) f) w (no-lists spent seen at f (c ef′) (h ef′))
-
-    lists-flat : (cs : Chunks) (spent : Bool) (seen : Anim) (at : ℕ) → Laid s e at cs → (y : Found Moves) → readMoves seen (order NODE head (reachedAt 2 spent) cs) ≡ got y
-        → (f : Forest) → readNodes read (y .rest) ≡ got f → Lists spent seen at (y .value) f
-    unfolding readMoves order onward next if
-    lists-flat done spent seen at h y g f ef = by-none spent seen at done y g f ef (λ ef′. nodes-clean done at h f ef′) (λ ef′. nodes-flat done at h f ef′)
-    lists-flat (stop i p) spent seen at h y g f ef = bad-got g
-    lists-flat (chunk t p b r) true seen at h y g f ef =
-        by-entry NODE head (reachedAt 2 true) p b r (λ u o. Laid s e at (chunk u p b r) → readMoves seen o ≡ got y → Lists true seen at (y .value) f) (λ u h g. bad-got g)
-        (tt ▸ tt
-        ▸ (λ h g. by-list true seen at p b (order NODE head (reachedAt 2 true) r) (h .0) (λ z ez f′ ef′. lists-flat r true seen (p + 8 + length b) (h .1) z ez f′ ef′) y g f ef) ▸ tt
-        ▸ (λ h g. by-none true seen at (chunk NODE p b (order NODE head (reachedAt 3 false) r)) y g f ef (λ ef′. nodes-clean (chunk NODE p b r) at h f ef′) (λ ef′. nodes-flat (chunk NODE p b r) at h f ef′)) ▸ tt) t h g
-    lists-flat (chunk t p b r) false seen at h y g f ef =
-        by-entry NODE head (reachedAt 2 false) p b r (λ u o. Laid s e at (chunk u p b r) → readMoves seen o ≡ got y → Lists false seen at (y .value) f) (λ u h g. bad-got g)
-        (tt ▸ tt
-        ▸ (λ h g. by-list false seen at p b (order NODE head (reachedAt 2 false) r) (h .0) (λ z ez f′ ef′. lists-flat r false seen (p + 8 + length b) (h .1) z ez f′ ef′) y g f ef)
-        ▸ (λ h g. by-anim seen at p b (order NODE head (reachedAt 2 true) r) (h .0) (λ seen′ z ez f′ ef′. lists-flat r true seen′ (p + 8 + length b) (h .1) z ez f′ ef′) y g f ef)
-        ▸ (λ h g. by-none false seen at (chunk NODE p b (order NODE head (reachedAt 3 false) r)) y g f ef (λ ef′. nodes-clean (chunk NODE p b r) at h f ef′) (λ ef′. nodes-flat (chunk NODE p b r) at h f ef′)) ▸ tt) t h g
-
-    -- ---- a kind
-
-    record Kinds (at : ℕ) (kind : Kind) (m : Moves) (f : Forest) : Type 0 where
-      kinds : kindOf (flatAt s at) ≡ kind
-      anims : animOf (flatAt s at) ≡ m .anim
-      went : (l : List Open) (n : Counts) (parent : ℕ) → Under l at e parent
-          → Went l n at e (forestRows 3 f parent (withLists (m .keys) (withKind kind n))) (withForest f (withLists (m .keys) (withKind kind n))) (nodesIn f)
-
-    no-kind : (at : ℕ) (cs o : Chunks) → Laid s e at cs → (x : Found Kind) → got (record { value = pivot; rest = o }) ≡ got x → order NODE head (reachedAt 2 false) cs ≡ o
-        → (y : Found Moves) → readMoves still (x .rest) ≡ got y → (f : Forest) → readNodes read (y .rest) ≡ got f → Kinds at (x .value) (y .value) f
+    -- past a chunk that is no NODE
+    past-before : (t : Tag) (at p : ℕ) (b : List ℕ) → Here s at t p b → T (not (is t NODE)) → (kind : Kind) (ks : List Keys) (a : Anim) (f : Forest) → kindOf (flatAt s at) ≡ kind → animOf (flatAt s at) ≡ a
+        → (ks′ : List Keys) → ((n : Counts) → withLists ks′ (counted t p b n) ≡ withLists ks (withKind kind n)) → (a′ : Anim) → Tree (p + 8 + length b) pivot ks′ a′ f → Tree at kind ks a f
     unfolding withKind
-    no-kind at cs o h x g alike y ey f ef =
-        let w = got-inj g in
-        let m = lists-flat cs false still at h y (ap (readMoves still) alike ∙ ap (λ (u : Found Kind). readMoves still (u .rest)) w ∙ ey) f ef in
-        subst (λ (u : Found Kind). Kinds at (u .value) (y .value) f) w (record { kinds = m .kind; anims = m .anims refl; went = m .went })
+    past-before t at p b h other kind ks a f ek ea ks′ ec a′ v = record {
+      kinds = ek;
+      anims = ea;
+      went = λ l n parent u. went-past t at p e b h other l n _ _ _
+          (subst (λ (c : Counts). Went l (counted t p b n) (p + 8 + length b) e (forestRows 3 f parent c) (withForest f c) (nodesIn f)) (ec n)
+          (v .went l (counted t p b n) parent (λ q lo hi. u q (omega (arith, h .from)) hi)));
+    }
 
-    -- a MESH or a BONE that gives this kind, before others
-    one-kind : (at : ℕ) (t : Tag) (p : ℕ) (b : List ℕ) (r : Chunks) (kind : Kind) → Here s at t p b → Laid s e (p + 8 + length b) r → T (not (is t NODE))
-        → kindOf (flatAt s at) ≡ kind → animOf (flatAt s at) ≡ animOf (flatAt s (p + 8 + length b)) → ((n : Counts) → counted t p b n ≡ withKind kind n)
-        → (x : Found Kind) → got (record { value = kind; rest = order NODE head (reachedAt 1 true) r }) ≡ got x
-        → (y : Found Moves) → readMoves still (x .rest) ≡ got y → (f : Forest) → readNodes read (y .rest) ≡ got f → Kinds at (x .value) (y .value) f
-    one-kind at t p b r kind h laid other ek ea ec x g y ey f ef =
-        let w = got-inj g in
-        let m = lists-flat r false still (p + 8 + length b) laid y (ap (readMoves still) (sym (kind-order head r)) ∙ ap (λ (u : Found Kind). readMoves still (u .rest)) w ∙ ey) f ef in
-        subst (λ (u : Found Kind). Kinds at (u .value) (y .value) f) w
-        (record {
-          kinds = ek;
-          anims = ea ∙ m .anims refl;
-          went = λ l n parent u. went-past t at p e b h other l n _ _ _
-              (subst (λ (c : Counts). Went l c (p + 8 + length b) e (forestRows 3 f parent (withLists (y .value .keys) (withKind kind n))) (withForest f (withLists (y .value .keys) (withKind kind n))) (nodesIn f)) (sym (ec n))
-              (m .went l (withKind kind n) parent (λ q lo hi. u q (omega (arith, h .from)) hi)));
-        })
+    keys-before : (p : ℕ) (b : List ℕ) (r : Chunks) (x : Keys) (ks : List Keys) (a : Anim) (f : Forest) → readKeys p b ≡ got x → Trees r pivot ks a f → Trees (chunk KEYS p b r) pivot (x ∷ ks) a f
+    unfolding withKind withLists kindOf animOf if
+    keys-before p b r x ks a f g more at h =
+        let v = more (p + 8 + length b) (h .1) in
+        let run = run-past s at KEYS p b (h .0) tt in
+        past-before KEYS at p b (h .0) tt pivot (x ∷ ks) a f (ap kindOf run ∙ v .kinds) (ap animOf run ∙ v .anims) ks (λ n. ap (λ (y : Keys). withLists ks (addKeys y n)) (keys-plain p b x g)) a v
 
-    kind-mesh : (brushes at p : ℕ) (b : List ℕ) (r : Chunks) → Here s at MESH p b → Laid s e (p + 8 + length b) r → (x : Found Kind) → aMesh Lenient brushes p b (order NODE head (reachedAt 1 true) r) ≡ got x
-        → (y : Found Moves) → readMoves still (x .rest) ≡ got y → (f : Forest) → readNodes read (y .rest) ≡ got f → Kinds at (x .value) (y .value) f
-    unfolding aMesh withKind kindOf animOf if
-    kind-mesh brushes at p b r h l x g y ey f ef =
-        by-got (readMesh Lenient brushes p b) _ g (λ m em g₁.
-        let same-mesh = mesh-plain brushes p b m em in
-        let run = run-past s at MESH p b h tt in
-        one-kind at MESH p b r (mesh m) h l tt (ap kindOf run ∙ ap mesh same-mesh) (ap animOf run) (λ n. ap (λ (z : Mesh). withKind (mesh z) n) same-mesh) x g₁ y ey f ef)
+    anim-before : (p : ℕ) (b : List ℕ) (r : Chunks) (ws : List ℕ) (ks : List Keys) (f : Forest) → readAnim p b ≡ got ws → Trees r pivot ks still f → Trees (chunk ANIM p b r) pivot ks (anim ws) f
+    unfolding withKind kindOf animOf if
+    anim-before p b r ws ks f g more at h =
+        let v = more (p + 8 + length b) (h .1) in
+        let run = run-past s at ANIM p b (h .0) tt in
+        past-before ANIM at p b (h .0) tt pivot ks (anim ws) f (ap kindOf run ∙ v .kinds) (ap animOf run ∙ ap anim (anim-plain p b ws g)) ks (λ n. refl) still v
 
-    kind-bone : (vertices at p : ℕ) (b : List ℕ) (r : Chunks) → Here s at BONE p b → Laid s e (p + 8 + length b) r → (x : Found Kind) → aBone vertices p b (order NODE head (reachedAt 1 true) r) ≡ got x
-        → (y : Found Moves) → readMoves still (x .rest) ≡ got y → (f : Forest) → readNodes read (y .rest) ≡ got f → Kinds at (x .value) (y .value) f
-    unfolding aBone withKind kindOf animOf if
-    kind-bone vertices at p b r h l x g y ey f ef =
-        by-got (readBone vertices p b) _ g (λ ws ew g₁.
-        let same-bone = bone-plain vertices p b ws ew in
-        let run = run-past s at BONE p b h tt in
-        one-kind at BONE p b r (bone ws) h l tt (ap kindOf run ∙ ap bone same-bone) (ap animOf run) (λ n. ap (λ (z : List (List ℕ)). withKind (bone z) n) same-bone) x g₁ y ey f ef)
+    mesh-before : (brushes p : ℕ) (b : List ℕ) (r : Chunks) (m : Mesh) (ks : List Keys) (a : Anim) (f : Forest) → readMesh Lenient brushes p b ≡ got m → Trees r pivot ks a f → Trees (chunk MESH p b r) (mesh m) ks a f
+    unfolding withKind kindOf animOf if
+    mesh-before brushes p b r m ks a f g more at h =
+        let v = more (p + 8 + length b) (h .1) in
+        let run = run-past s at MESH p b (h .0) tt in
+        let same = mesh-plain brushes p b m g in
+        past-before MESH at p b (h .0) tt (mesh m) ks a f (ap kindOf run ∙ ap mesh same) (ap animOf run ∙ v .anims) ks (λ n. ap (λ (z : Mesh). withLists ks (withKind (mesh z) n)) same) a v
 
-    kind-flat : (brushes vertices : ℕ) (cs : Chunks) (at : ℕ) → Laid s e at cs → (x : Found Kind) → readKind Lenient brushes vertices (order NODE head start cs) ≡ got x
-        → (y : Found Moves) → readMoves still (x .rest) ≡ got y → (f : Forest) → readNodes read (y .rest) ≡ got f → Kinds at (x .value) (y .value) f
-    unfolding readKind order onward next if
-    kind-flat brushes vertices done at h x g y ey f ef = no-kind at done done h x g refl y ey f ef
-    kind-flat brushes vertices (stop i p) at h x g y ey f ef = bad-got g
-    kind-flat brushes vertices (chunk t p b r) at h x g y ey f ef =
-        by-entry NODE head start p b r (λ u o. Laid s e at (chunk u p b r) → readKind Lenient brushes vertices o ≡ got x → Kinds at (x .value) (y .value) f) (λ u h g. bad-got g)
-        ((λ h g. kind-mesh brushes at p b r (h .0) (h .1) x g y ey f ef)
-        ▸ (λ h g. kind-bone vertices at p b r (h .0) (h .1) x g y ey f ef)
-        ▸ (λ h g. no-kind at (chunk KEYS p b r) _ h x g refl y ey f ef)
-        ▸ (λ h g. no-kind at (chunk ANIM p b r) _ h x g refl y ey f ef)
-        ▸ (λ h g. no-kind at (chunk NODE p b r) _ h x g refl y ey f ef) ▸ tt) t h g
+    bone-before : (vertices p : ℕ) (b : List ℕ) (r : Chunks) (ws : List (List ℕ)) (ks : List Keys) (a : Anim) (f : Forest) → readBone vertices p b ≡ got ws → Trees r pivot ks a f → Trees (chunk BONE p b r) (bone ws) ks a f
+    unfolding withKind kindOf animOf if
+    bone-before vertices p b r ws ks a f g more at h =
+        let v = more (p + 8 + length b) (h .1) in
+        let run = run-past s at BONE p b (h .0) tt in
+        let same = bone-plain vertices p b ws g in
+        past-before BONE at p b (h .0) tt (bone ws) ks a f (ap kindOf run ∙ ap bone same) (ap animOf run ∙ v .anims) ks (λ n. ap (λ (z : List (List ℕ)). withLists ks (withKind (bone z) n)) same) a v
+
+    trees : (brushes vertices : ℕ) (read : ℕ → List ℕ → Out Inner) → ((p : ℕ) (b : List ℕ) (x : Inner) → read p b ≡ got x → (at : ℕ) → Here s at NODE p b → NodeWent at p b (x .self) (x .below))
+        → ByParts Lenient brushes vertices read Trees
+    trees brushes vertices read same = record {
+      none = none-tree;
+      nodes = λ p b r x f g. node-before p b r x f (same p b x g);
+      keys = keys-before;
+      anims = anim-before;
+      meshes = mesh-before brushes;
+      bones = bone-before vertices;
+    }
 
   -- ---- a node
 
-  -- the nodes in it stand under it, those after it do not
-  in-it : (q i : ℕ) (l : List Open) (p : ℕ) → p < q → parentAt p (record { end = q; index = i } ∷ l) ≡ i
-  unfolding parentAt
-  in-it q i l p h = by-test (leb q p) (λ t. absurd (omega (arith, leb→le q p t))) (λ t. if-no (leb q p) (parentAt p l) i t)
-
+  -- the nodes after it do not stand under it, those in it do
   behind-it : (q i : ℕ) (l : List Open) (p : ℕ) → q ≤ p → parentAt p (record { end = q; index = i } ∷ l) ≡ parentAt p l
   unfolding parentAt
   behind-it q i l p h = if-yes (leb q p) (parentAt p l) i (le→leb q p h)
+
+  in-it : (q i : ℕ) (l : List Open) (p : ℕ) → p < q → parentAt p (record { end = q; index = i } ∷ l) ≡ i
+  unfolding parentAt
+  in-it q i l p h = by-test (leb q p) (λ t. absurd (omega (arith, leb→le q p t))) (λ t. if-no (leb q p) (parentAt p l) i t)
 
   same-row : (name : Name) (ws : List ℕ) (kind kind′ : Kind) (a a′ : Anim) (ks : List Keys) (parent parent′ below below′ : ℕ) (n : Counts) → kind′ ≡ kind → a′ ≡ a → parent′ ≡ parent → below′ ≡ below
       → nodeRow (record { name = name; words = ws; kind = kind′; keys = []; anim = a′ }) parent′ below′ n ≡ nodeRow (record { name = name; words = ws; kind = kind; keys = ks; anim = a }) parent below n
@@ -358,6 +263,8 @@ module _ (s : List ℕ) where
       by-got (readMoves still (kd .rest)) _ g₂ (λ m em g₃.
       let d : Data = record { name = h .value .0; words = h .value .1; kind = kd .value; keys = m .value .keys; anim = m .value .anim } in
       by-got (readNodes (readNode Lenient l brushes (bonesBelow above d)) (m .rest)) _ g₃ (λ f ef g₄.
-      let v = kind-flat (readNode Lenient l brushes (bonesBelow above d)) (λ p′ b′ y ey. node-flat l brushes (bonesBelow above d) p′ b′ y ey) p (p + 8 + length b) clean brushes (boneVertices above) (split (h .place) (h .left)) (h .place)
-      (inside-laid s at NODE p b here h eh) kd ek m em f ef in
+      let q = p + 8 + length b in
+      let read = readNode Lenient l brushes (bonesBelow above d) in
+      let parts = trees q clean brushes (boneVertices above) read (λ p′ b′ y ey. node-flat l brushes (bonesBelow above d) p′ b′ y ey) in
+      let v = parts-read Lenient brushes (boneVertices above) read (Trees q clean) parts p (split (h .place) (h .left)) kd ek m em f ef (h .place) (inside-laid s at NODE p b here h eh) in
       subst (λ (y : Inner). NodeWent at p b (y .self) (y .below)) (got-inj g₄) (node-went at p b h (kd .value) (m .value) f here eh (v .kinds) (v .anims) (v .went)) clean))))

@@ -1,3 +1,2 @@
--- Tables without rows, and the ten tables one by one.
-pub mod Empty
+-- The ten tables one by one.
 pub mod Each

@@ -25,8 +25,9 @@ use Rattle.b3d_walk.specs.declared.Flat.{Flat}
 use Rattle.b3d_walk.specs.declared.Flat.the-variants as run
 use Rattle.b3d_walk.proofs.Counting.{tag-same, counted-nodes, counted-meshes, counted-vertices, counted-sets, counted-triangles}
 use Rattle.b3d_walk.proofs.Table.{TableLeft, Any, any-counts, table-start, table-small, table-long, table-done, table-chunk, table-other, table-room, table-own}
-use Rattle.b3d_mesh_rows.specs.Meshes.{verticesIn, trianglesIn, setsIn, triangleCount, SetsPut, meshCells, MeshPut}
-use Rattle.b3d_mesh_rows.specs.declared.After.{After}
+use Rattle.b3d_mesh_rows.specs.Meshes.{verticesIn, meshCells, MeshPut}
+use Rattle.b3d_set_rows.specs.Sets.{trianglesIn, setsIn, triangleCount, SetsPut}
+use Rattle.b3d_set_rows.specs.declared.After.{After}
 use Rattle.b3d_mesh_rows.specs.declared.Added.{Added}
 use Rattle.b3d_fill_meshes.specs.Marks.{MarksFit, MeshRoom, MeshStored}
 use Rattle.b3d_fill_meshes.specs.declared.Marks.{Marks}

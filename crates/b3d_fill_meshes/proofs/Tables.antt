@@ -16,7 +16,8 @@ use Rattle.b3d_file_rows.specs.Plain.{plainWeights, plainKeys, plainMesh, meshO
 use Rattle.b3d_file_rows.specs.Rows.{current, weightRows, keyListRows, chunkRows, fileRows}
 use Rattle.b3d_walk.proofs.Table.{Owns, owns-rows}
 use Rattle.b3d_item_rows.specs.Items.{shapeRows}
-use Rattle.b3d_mesh_rows.specs.Meshes.{verticesIn, trianglesIn, setsIn, meshCells}
+use Rattle.b3d_mesh_rows.specs.Meshes.{verticesIn, meshCells}
+use Rattle.b3d_set_rows.specs.Sets.{trianglesIn, setsIn}
 
 -- a table without rows of weights and keys has none of another chunk
 other : (k : ℕ) → ((b : List ℕ) → weightRows k (plainWeights b) ≡ []) → ((i j : ℕ) (b : List ℕ) → keyListRows k i j (plainKeys b) ≡ []) → (t : Tag) (p : ℕ) (b : List ℕ) (n : Counts) → T (not (is t MESH)) → chunkRows k t p b n ≡ []

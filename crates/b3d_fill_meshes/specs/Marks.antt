@@ -8,7 +8,8 @@ use Rattle.wire.specs.Cursors.{left}
 use Rattle.wire.specs.declared.Cursor.{Cursor}
 use Rattle.layout.specs.Rows.{joined}
 use Rattle.b3d_file_rows.specs.Plain.{plainMesh}
-use Rattle.b3d_mesh_rows.specs.Meshes.{verticesIn, trianglesIn, setsIn, triangleCount, meshCells}
+use Rattle.b3d_mesh_rows.specs.Meshes.{verticesIn, meshCells}
+use Rattle.b3d_set_rows.specs.Sets.{trianglesIn, setsIn, triangleCount}
 use Rattle.b3d_fill_meshes.specs.declared.Marks.{Marks}
 
 -- no more came before than there are bytes

@@ -47,8 +47,8 @@ fn put_one(
     let vertices = m.vertices + more.vertices;
     let sets = m.sets + more.sets;
     let to5 = b3d_mesh_rows::put_vertices(file, p, body, m.to5, t5);
-    let to7 = b3d_mesh_rows::put_triangles(file, p, body, m.to7, t7);
-    let after = b3d_mesh_rows::put_sets(file, p, body, m.meshes, m.triangles, m.to6, t6);
+    let to7 = b3d_set_rows::put_triangles(file, p, body, m.to7, t7);
+    let after = b3d_set_rows::put_sets(file, p, body, m.meshes, m.triangles, m.to6, t6);
     Marks {
         nodes: m.nodes,
         meshes,

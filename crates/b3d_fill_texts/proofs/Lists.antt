@@ -3,18 +3,16 @@ use mathlib.Core.Path.{_≡_, refl, ap, ap₂, sym, _∙_}
 use Prim.Native.Nat.{ℕ, zero, suc, _+_, _-_, _*_, _<_, _≤_}
 use native.Mathlib.Omega.{arith}
 use mathlib.Core.List.{List, [], _∷_, _++_, map, append-nil, append-assoc}
-use lib.ListN.{length, take, drop, getD, replicate, length-drop, length-replicate, take-append-drop, drop-of-length-le}
+use lib.ListN.{length, take, drop, replicate, length-drop, length-replicate, take-append-drop, drop-of-length-le}
 use lib.Seq.{sets}
-use lib.Dec.{T, leb, leb→le, nleb→lt}
+use lib.Dec.{leb, leb→le, nleb→lt, eqb-refl}
 use borrow.Author.Tests.{le-leb, lt-leb}
-use mathlib.Core.Bool.{Bool, not}
 use Rattle.wire.specs.Test.{if}
 use Rattle.wire.specs.Cursors.{Inside, left}
 use Rattle.wire.specs.declared.Cursor.{Cursor}
 use Rattle.wire.proofs.Left.{span}
-use Rattle.layout.specs.Chunks.{done, stop, chunk}
 use Rattle.layout.specs.Out.{Out, got, bad}
-use Rattle.layout.specs.Parts.{Name, Step, text, words as wordsIn, wordsOf, named}
+use Rattle.layout.specs.Parts.{Name, Step, text, words as wordsIn, named}
 use Rattle.layout.specs.Rules.{any, NONE}
 use Rattle.layout.proofs.ChunkLaws.{split-none}
 use Rattle.layout.proofs.Outs.{by-got, bad-got, got-inj, by-test, if-yes, if-no}
@@ -23,9 +21,8 @@ use Rattle.layout.specs.Rows.{nameCells, joined}
 use Rattle.b3d_scene.specs.declared.Tag.{Tag}
 use Rattle.b3d_scene.specs.declared.Tag.the-variants.{TEXS, BRUS}
 use Rattle.b3d_scene.specs.Tables.{textureRow, brushRow}
-use Rattle.b3d_scene.specs.Tags.{Chunks, split, tagOf, is}
+use Rattle.b3d_scene.specs.Tags.{Chunks, code, split, tagOf, is}
 use Rattle.b3d_scene.specs.Parse.{textureOf, brushOf}
-use Rattle.b3d_scene.proofs.Files.TagCodes.{by-tag}
 use Rattle.b3d_file_rows.specs.Flat.{rest}
 use Rattle.b3d_file_rows.specs.Plain.{nextItem, namedIn, namedItems}
 use Rattle.b3d_file_rows.specs.Rows.{firstOf, textureRows, brushesOf, brushRows, fileRows}
@@ -99,14 +96,10 @@ no-brushes k p s h = rw (lt-leb k 8 h)
 
 -- ---- the first chunk of a tag
 
-is-itself : (t : Tag) → T (is t t)
-is-itself = by-tag (λ t. T (is t t)) (tt, tt, tt, tt, tt, tt, tt, tt, tt, tt)
-
 first-seek : (k : Tag) (one : ℕ → List ℕ → List (List ℕ)) (cs : Chunks) → firstOf k one cs ≡ firstOf k one (seekOf k cs)
 unfolding firstOf
 first-seek k one cs =
     by-seek k (firstOf k one) (λ n p. refl)
-    (λ t p b r y. if-yes (is t k) (one p b) (firstOf k one r) y ∙ sym (if-yes (is k k) (one p b) (firstOf k one r) (is-itself k)))
     (λ t p b r y. if-no (is t k) (one p b) (firstOf k one r) y)
     cs
 
@@ -140,7 +133,7 @@ module _ (s : List ℕ) (k : Tag) (one : ℕ → List ℕ → List (List ℕ)) (
 
   first-is : (p : ℕ) (b n : Cursor) → r ≡ sought.Found p b n → firstOf k one (rest s 12) ≡ one p (left b s)
   unfolding firstOf
-  first-is p b n w = found (sought.Found p b n) w ∙ if-yes (is k k) _ _ (is-itself k)
+  first-is p b n w = found (sought.Found p b n) w ∙ if-yes (is k k) _ _ (eqb-refl (code k))
 
 -- ---- the tables
 

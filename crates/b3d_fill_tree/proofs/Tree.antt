@@ -36,7 +36,7 @@ use Rattle.b3d_walk.specs.declared.Flat.{Flat}
 use Rattle.b3d_walk.specs.declared.Flat.the-variants as run
 use Rattle.b3d_walk.proofs.Counting.{tag-same, counted-nodes, counted-meshes, counted-weights}
 use Rattle.b3d_node_parts.specs.Parts.{told}
-use Rattle.b3d_fill_tree.specs.Links.{Link, Linked, Climbable, ParentIs}
+use Rattle.b3d_parents.specs.Links.{Link, Linked, Climbable, ParentIs}
 use Rattle.b3d_node_parts.proofs.Own.{bone-count}
 use Rattle.b3d_node_parts.proofs.Cells.{kind-long, anim-long}
 

@@ -1,10 +1,9 @@
-// Table 3, the nodes, filled by one loop over the flat run. A node's parent is found in the rows that stand already: from the last of them up, the
-// first that is still open.
+// Table 3, the nodes, filled by one loop over the flat run. A node's parent is found in the rows that stand already.
 ghost use mathlib.Core.Path.{_≡_};
-ghost use Prim.Native.Nat.{ℕ, _+_, _*_, _<_, _≤_};
+ghost use Prim.Native.Nat.{_+_, _<_, _≤_};
 ghost use lib.ListN.{length};
 ghost use lib.Seq.{sets as stored};
-ghost use Rattle.wire.specs.Cursors.{Inside, left};
+ghost use Rattle.wire.specs.Cursors.{left};
 ghost use Rattle.layout.specs.Parts.{named};
 ghost use Rattle.b3d_scene.specs.Rules.{nodeRow};
 ghost use Rattle.layout.specs.Rows.{joined};
@@ -13,7 +12,6 @@ ghost use Rattle.b3d_file_rows.specs.Flat.{flatAt};
 ghost use Rattle.b3d_file_rows.specs.Rows.{fileRows, rowOf};
 ghost use Rattle.b3d_walk.specs.Walks.{BodyAt};
 ghost use Rattle.b3d_node_parts.specs.Parts.{told};
-ghost use Rattle.b3d_fill_tree.specs.Links.{Climbable, ParentIs};
 use b3d_chunks::Named;
 use b3d_scene::NODE_WIDTH;
 use b3d_scene::Tag;
@@ -49,29 +47,6 @@ fn put_node(
     }
 }
 
-// The number of the node that a NODE at p stands in, by the rows of so many nodes before it: a row has the place of a name, which stands behind the
-// header, and the node above.
-fn parent_at(file: &[u8], rows: &[u32], nodes: usize, p: usize) -> u32
-    requires { ⌜ Climbable (now file) (now rows) nodes p ⌝ }
-    ensures { λ r. ⌜ ParentIs (now (file .entry)) (now (rows .entry)) nodes p r ⌝ }
-{
-    let mut i = nodes;
-    while 0 < i {
-        let row = NODE_WIDTH * (i - 1);
-        let name = wire::size(rows[row]);
-        let long = wire::size(wire::number_at(file, name - 4));
-        if p < name + long {
-            return cells::cell(i - 1);
-        }
-        let above = rows[row + 2];
-        if above == 0xFFFFFFFF {
-            return 0xFFFFFFFF;
-        }
-        i = wire::size(above) + 1;
-    }
-    0xFFFFFFFF
-}
-
 // Table 3 of a file.
 pub fn fill_nodes(file: &[u8], out: &mut [u32])
     requires { ⌜ (length (now file) < 0x100000000) × (length (joined (fileRows 3 (now file))) ≤ length (now out)) ⌝ }
@@ -89,7 +64,7 @@ pub fn fill_nodes(file: &[u8], out: &mut [u32])
             return;
         };
         if b3d_chunks::same(tag, Tag::NODE) {
-            let parent = parent_at(file, out, nodes, p);
+            let parent = b3d_parents::parent_at(file, out, nodes, p);
             let base = NODE_WIDTH * nodes;
             put_node(file, p, body, next, parent, meshes, weights, base, out);
             nodes += 1;

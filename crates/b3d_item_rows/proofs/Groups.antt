@@ -1,5 +1,5 @@
 -- The row of a TRIS or a KEYS on any bytes: a law for each need of `put_group`.
-use mathlib.Core.Path.{_≡_, refl, ap, sym, _∙_}
+use mathlib.Core.Path.{_≡_, refl, ap, _∙_}
 use Prim.Native.Nat.{ℕ, _-_, _*_, _/_, _<_, _≤_}
 use native.Mathlib.Nat.{div-le-self}
 use native.Mathlib.Omega.{arith}
@@ -16,16 +16,8 @@ use Rattle.b3d_file_rows.specs.Plain.{whole, plainKeys, plainTriangles}
 use Rattle.b3d_file_rows.specs.Rows.{listRow}
 use Rattle.b3d_walk.specs.Seeks.{FirstWord}
 use Rattle.b3d_walk.specs.declared.Headed.{Headed}
-use Rattle.b3d_item_rows.specs.Items.{setRow, groupWidth, groupItems, groupRow}
-
-module _ (keys : Bool) (flags : ℕ) where
-  pub key-wide : (r : ℕ) → keys ≡ true → r ≡ groupWidth true flags → r ≡ groupWidth keys flags
-  key-wide r k e = e ∙ ap (λ (y : Bool). groupWidth y flags) (sym k)
-
-  pub three-wide : keys ≡ false → 3 ≡ groupWidth keys flags
-  three-wide k = ap (λ (y : Bool). groupWidth y flags) (sym k)
-
-pub ruleset width-laws = (key-wide, three-wide)
+use Rattle.b3d_item_rows.specs.Items.{setRow, groupItems, groupRow}
+use Rattle.b3d_widths.specs.Widths.{groupWidth}
 
 -- its items are those that are all there
 items-are : (keys : Bool) (l : List ℕ) → groupItems keys l ≡ whole (groupWidth keys (getD (wordsOf 1 l) 0 0)) (drop 4 l)

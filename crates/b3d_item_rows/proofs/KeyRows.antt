@@ -1,64 +1,25 @@
--- The rows of a KEYS on any bytes: a law for each way through `key_width` and `put_keys`.
-use mathlib.Core.Path.{_≡_, refl, ap, ap₂, sym, subst, _∙_}
-use Prim.Native.Nat.{ℕ, zero, suc, _+_, _-_, _*_, _/_, _%_, _<_, _≤_, _^_}
+-- The rows of a KEYS on any bytes: a law for each way through `put_keys`.
+use mathlib.Core.Path.{_≡_, refl, ap, ap₂, sym, _∙_}
+use Prim.Native.Nat.{ℕ, _+_, _-_, _*_, _/_, _<_, _≤_, _^_}
 use native.Mathlib.Nat.{zero-div, div-mul-le-self, zero-mul, suc-mul}
 use native.Mathlib.Omega.{arith}
-use mathlib.Core.Bool.{Bool, true, false}
-use mathlib.Core.List.{List, [], _∷_, _++_, map}
+use mathlib.Core.Bool.{Bool}
+use mathlib.Core.List.{List, [], _∷_, map}
 use mir.Syntax.{w64}
 use mir.Val.{Fits}
-use lib.ListN.{length, drop, getD, length-append, length-map, drop-of-length-le}
-use lib.Dec.{T, eqb, eqb→eq}
+use lib.ListN.{length, drop, getD, length-append, drop-of-length-le}
 use lib.Seq.{sets}
-use mathlib.Core.Logic.{_≢_}
-use mir.Facts.{eqb-no}
-use Rattle.wire.specs.Test.{if}
 use Rattle.wire.specs.Bytes.{wordAt}
 use Rattle.wire.specs.Cursors.{Inside, left}
 use Rattle.wire.specs.declared.Cursor.{Cursor}
 use Rattle.wire.proofs.Left.{span, left-length, left-four, left-drop}
 use Rattle.layout.specs.Parts.{wordsOf, itemsOf}
-use Rattle.layout.proofs.Outs.{by-test}
 use Rattle.layout.proofs.StepLaws.{length-items-of}
 use Rattle.b3d_scene.specs.Mask.{mask, ones, spread, keyHas, keyMask}
 use Rattle.layout.specs.Rows.{joined}
 use Rattle.b3d_scene.proofs.Rows.MaskLaws.{mask-length, spread-length}
 use Rattle.b3d_file_rows.specs.Plain.{whole, plainKeys}
 use Rattle.b3d_item_rows.specs.Items.{keyRowsOf}
-
--- ---- how many words a key has
-
-times : Bool → ℕ → ℕ
-times true n = n
-times false n = 0
-
-parts : (a b c : Bool) → 1 + times a 3 + times b 3 + times c 4 ≡ ones (true ∷ a ∷ a ∷ a ∷ b ∷ b ∷ b ∷ c ∷ c ∷ c ∷ c ∷ [])
-unfolding times ones
-parts true true true = refl
-parts true true false = refl
-parts true false true = refl
-parts true false false = refl
-parts false true true = refl
-parts false true false = refl
-parts false false true = refl
-parts false false false = refl
-
-bit : (x n : ℕ) → x < 2 → x * n ≡ times (eqb x 1) n
-unfolding times
-bit zero n h = zero-mul n
-bit (suc zero) n h = let e : 1 * n ≡ n = omega arith in e
-bit (suc (suc x)) n h = absurd (omega arith)
-
-pub width-is : (flags r : ℕ) → r ≡ 1 + flags % 2 * 3 + flags / 2 % 2 * 3 + flags / 4 % 2 * 4 → r ≡ ones (keyMask flags)
-unfolding keyMask mask keyHas if
-width-is flags r e =
-    let a = bit (flags % 2) 3 (omega arith) in
-    let b = bit (flags / 2 % 2) 3 (omega arith) in
-    let c = bit (flags / 4 % 2) 4 (omega arith) in
-    let w : r ≡ 1 + times (eqb (flags % 2) 1) 3 + times (eqb (flags / 2 % 2) 1) 3 + times (eqb (flags / 4 % 2) 1) 4 = omega arith in
-    w ∙ parts (eqb (flags % 2) 1) (eqb (flags / 2 % 2) 1) (eqb (flags / 4 % 2) 1)
-
--- ---- the rows
 
 pub spread-cells : (m : List Bool) (l : List (List ℕ)) → length (joined (map (spread m) l)) ≡ length l * length m
 unfolding joined

@@ -1,6 +1,5 @@
 -- A law for each need of the functions.
 pub mod Items
-pub mod Clips
 pub mod KeyRows
 pub mod Shapes
 pub mod Groups

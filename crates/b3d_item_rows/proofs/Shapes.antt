@@ -21,8 +21,9 @@ use Rattle.b3d_scene.proofs.Rows.MaskLaws.{mask-length, spread-length, vertex-w
 use Rattle.b3d_file_rows.specs.Plain.{whole, plainVertices}
 use Rattle.b3d_walk.specs.Seeks.{ThreeWords}
 use Rattle.b3d_walk.specs.declared.Three.{Three}
-use Rattle.b3d_item_rows.specs.Items.{Clipped, shapeRows}
-use Rattle.b3d_item_rows.proofs.Clips.{mask-clipped}
+use Rattle.b3d_item_rows.specs.Items.{shapeRows}
+use Rattle.b3d_widths.specs.Widths.{Clipped}
+use Rattle.b3d_widths.proofs.Clips.{mask-clipped}
 use Rattle.b3d_item_rows.proofs.KeyRows.{spread-cells}
 
 vertex-cells : (f n z : ℕ) (l : List (List ℕ)) → length (joined (map (spread (vertexMask f n z)) l)) ≡ length l * 42

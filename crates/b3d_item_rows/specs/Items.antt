@@ -1,20 +1,13 @@
 -- Vertices and keys as rows, and the rows of a TRIS and of a KEYS.
-use mathlib.Core.Path.{_≡_}
-use Prim.Native.Nat.{ℕ, _≤_}
+use Prim.Native.Nat.{ℕ}
 use mathlib.Core.Bool.{Bool, true, false}
 use mathlib.Core.List.{List, [], _∷_, map}
 use lib.ListN.{length}
-use Rattle.b3d_scene.specs.Mask.{ones, spread, vertexMask, keyMask}
+use Rattle.b3d_scene.specs.Mask.{spread, vertexMask, keyMask}
 use Rattle.b3d_scene.specs.Parse.{Vertices}
 use Rattle.b3d_scene.specs.Scene.{TriangleSet}
 use Rattle.b3d_file_rows.specs.Plain.{plainKeys, plainTriangles}
 use Rattle.b3d_file_rows.specs.Rows.{listRow}
-
--- r is x, or the most that it may be
-pub record Clipped (x most r : ℕ) : Type 0 where
-  pub low : r ≤ most
-  pub same : x ≤ most → r ≡ x
-  pub top : most ≤ x → r ≡ most
 
 unfoldable pub shapeRows : Vertices → List (List ℕ)
 shapeRows v = map (spread (vertexMask (v .flags) (v .sets) (v .size))) (v .items)
@@ -26,11 +19,6 @@ keyRowsOf b = map (spread (keyMask (plainKeys b .flags))) (plainKeys b .items)
 -- of mesh i, the first triangle being number r
 unfoldable pub setRow : ℕ → ℕ → TriangleSet → List ℕ
 setRow i r x = i ∷ x .brush ∷ r ∷ length (x .triangles) ∷ []
-
--- how many words an item of a KEYS with these flags has, or one of a TRIS
-abbrev pub groupWidth : Bool → ℕ → ℕ
-groupWidth true flags = ones (keyMask flags)
-groupWidth false flags = 3
 
 -- the items of a KEYS with this body, or of a TRIS
 abbrev pub groupItems : Bool → List ℕ → List (List ℕ)

@@ -1,13 +1,13 @@
 // Rows of the items of one chunk, from its body: items that are copied as they stand, vertices, keys; and the row that a chunk of items has itself.
 ghost use mathlib.Core.Path.{_≡_};
-ghost use Prim.Native.Nat.{ℕ, _+_, _-_, _*_, _/_, _<_, _≤_};
+ghost use Prim.Native.Nat.{_+_, _-_, _*_, _/_, _<_, _≤_};
 ghost use lib.ListN.{length};
 ghost use lib.Seq.{sets as stored};
 ghost use Rattle.wire.specs.Cursors.{Inside, left};
-ghost use Rattle.b3d_scene.specs.Mask.{ones, vertexMask, keyMask};
+ghost use Rattle.b3d_scene.specs.Mask.{ones, vertexMask};
 ghost use Rattle.layout.specs.Rows.{joined};
 ghost use Rattle.b3d_file_rows.specs.Plain.{whole, plainVertices};
-ghost use Rattle.b3d_item_rows.specs.Items.{Clipped, shapeRows, keyRowsOf, groupWidth, groupItems, groupRow};
+ghost use Rattle.b3d_item_rows.specs.Items.{shapeRows, keyRowsOf, groupItems, groupRow};
 use b3d_walk::Three;
 use wire::Cursor;
 
@@ -24,21 +24,14 @@ pub fn put_items(file: &[u8], c: Cursor, width: usize, base: usize, out: &mut [u
     base + n
 }
 
-// A number, or the most that it may be.
-fn at_most(x: u32, most: u32) -> u32
-    ensures { λ r. ⌜ Clipped x most r ⌝ }
-{
-    if x < most { x } else { most }
-}
-
 // How many vertices stand behind the three numbers.
 pub fn shape_count(h: Three) -> usize
     requires { ⌜ h .rest .at ≤ h .rest .end ⌝ }
     ensures { λ r. ⌜ r ≡ (h .rest .end - h .rest .at) / (4 * ones (vertexMask (h .first) (h .second) (h .third))) ⌝ }
 {
-    let sets = at_most(h.second, 8);
-    let size = at_most(h.third, 4);
-    let width = b3d_items::vertex_words(h.first % 4, sets, size);
+    let sets = b3d_widths::at_most(h.second, 8);
+    let size = b3d_widths::at_most(h.third, 4);
+    let width = b3d_widths::vertex_words(h.first % 4, sets, size);
     let rest = h.rest;
     let at = rest.at;
     let end = rest.end;
@@ -53,14 +46,14 @@ pub fn put_shape(file: &[u8], body: Cursor, base: usize, out: &mut [u32]) -> usi
 {
     let h = b3d_walk::three_words(file, body);
     let flags = h.first % 4;
-    let sets = at_most(h.second, 8);
-    let size = at_most(h.third, 4);
-    let width = b3d_items::vertex_words(flags, sets, size);
+    let sets = b3d_widths::at_most(h.second, 8);
+    let size = b3d_widths::at_most(h.third, 4);
+    let width = b3d_widths::vertex_words(flags, sets, size);
     let rest = h.rest;
     let at = rest.at;
     let end = rest.end;
     let count = (end - at) / (4 * width);
-    b3d_runs::fill_vertices(
+    b3d_vertex_rows::fill_vertices(
         file,
         Cursor { at, end },
         flags,
@@ -71,13 +64,6 @@ pub fn put_shape(file: &[u8], body: Cursor, base: usize, out: &mut [u32]) -> usi
         out,
     );
     base + count * 42
-}
-
-// How many words a key has.
-fn key_width(flags: u32) -> usize
-    ensures { λ r. ⌜ (r ≡ ones (keyMask flags)) × (1 ≤ r) × (r ≤ 11) ⌝ }
-{
-    wire::size(1 + flags % 2 * 3 + flags / 2 % 2 * 3 + flags / 4 % 2 * 4)
 }
 
 // The rows of a KEYS with this body, from word `base` of the table on; gives the word after them.
@@ -92,10 +78,10 @@ pub fn put_keys(file: &[u8], body: Cursor, base: usize, out: &mut [u32]) -> usiz
         return base;
     }
     let flags = wire::number_at(file, at);
-    let width = key_width(flags);
+    let width = b3d_widths::key_words(flags);
     let from = at + 4;
     let count = (end - from) / (4 * width);
-    b3d_runs::fill_keys(
+    b3d_key_rows::fill_keys(
         file,
         Cursor { at: from, end },
         flags,
@@ -105,16 +91,6 @@ pub fn put_keys(file: &[u8], body: Cursor, base: usize, out: &mut [u32]) -> usiz
         out,
     );
     base + count * 11
-}
-
-// How many words an item of a KEYS with these flags has, or one of a TRIS.
-fn item_width(keys: bool, flags: u32) -> usize
-    ensures { λ r. ⌜ (r ≡ groupWidth keys flags) × (1 ≤ r) × (r ≤ 11) ⌝ }
-{
-    if keys {
-        return key_width(flags);
-    }
-    3
 }
 
 // The row of a KEYS of a node, or of a TRIS of a mesh: the node or mesh, the first number of the body, the number of the first item, and how many
@@ -137,7 +113,7 @@ pub fn put_group(
     let rest = head.rest;
     let at = rest.at;
     let end = rest.end;
-    let width = item_width(keys, number);
+    let width = b3d_widths::item_width(keys, number);
     let count = (end - at) / (4 * width);
     let row = [
         cells::cell(owner),

@@ -12,8 +12,8 @@ use Rattle.layout.specs.Out.{Out, got, bad, _>>=_}
 use Rattle.layout.specs.Parts.{wordsOf, judged, row}
 use Rattle.layout.specs.Rules.{Rule, any, names, unit, refusal}
 use Rattle.layout.proofs.StepLaws.{length-words-of, judged-any, row-enough, row-short, row-shrinks, items-none, items-step, Shrinks, words-add}
-use Rattle.counted.specs.Ids.{firstBad}
-use Rattle.counted.proofs.Ids.{any-pass, ids-pass, ids-stop}
+use Rattle.id_check.specs.Ids.{firstBad}
+use Rattle.id_check.proofs.Ids.{any-pass, ids-pass, ids-stop}
 use Rattle.b3d_items.specs.Items.{partRow, partItems, idItems, colourItems, counted}
 use Rattle.b3d_items.specs.declared.Counted.{Counted}
 use Rattle.b3d_items.specs.declared.Counted.the-variants as counts

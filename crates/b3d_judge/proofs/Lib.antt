@@ -1,4 +1,3 @@
 -- The laws of the judge's ways, and what its verdict says.
-pub mod ChunksLaws
 pub mod JudgeLaws
 pub mod Verdicts

@@ -6,8 +6,8 @@ use Rattle.layout.specs.Out.{Out, got, bad}
 use Rattle.b3d_scene.specs.Scene.{Scene}
 use Rattle.b3d_tally.specs.Tally.{tallyOf}
 use Rattle.b3d_judge.specs.Answers.{verdictOf}
-use Rattle.b3d_judge.specs.declared.Summary.{Summary}
-use Rattle.b3d_judge.specs.declared.Verdict.the-variants as verdict
+use Rattle.b3d_judge_body.specs.declared.Summary.{Summary}
+use Rattle.b3d_judge_body.specs.declared.Verdict.the-variants as verdict
 
 abbrev pub summaryOf : Scene → Summary
 summaryOf t = record { version = t .version; «n_texs» = t .slots; tally = tallyOf t }

@@ -35,11 +35,11 @@ use Rattle.b3d_judge_lists.specs.declared.Slotted.{Slotted}
 use Rattle.b3d_judge_lists.specs.declared.Slotted.the-variants as slotty
 use Rattle.b3d_tally.proofs.Tallies.{plus-none, within-more}
 use Rattle.b3d_turns.specs.declared.Reached.{Reached as State}
-use Rattle.b3d_turns.specs.declared.Enclosed.{Enclosed}
-use Rattle.b3d_turns.specs.declared.Enclosed.the-variants as enclosed
+use Rattle.b3d_enclosed.specs.declared.Enclosed.{Enclosed}
+use Rattle.b3d_enclosed.specs.declared.Enclosed.the-variants as enclosed
 use Rattle.b3d_turns.specs.Turns.{reachedOf}
-use Rattle.b3d_turns.specs.Steps.{EnclosedIs}
-use Rattle.b3d_turns.proofs.Stepping.{step-next, step-among, step-turn, stop-before, end-next}
+use Rattle.b3d_enclosed.specs.Steps.{EnclosedIs}
+use Rattle.b3d_enclosed.proofs.Stepping.{step-next, step-among, step-turn, stop-before, end-next}
 use Rattle.b3d_judge_file.specs.Answers.{tallied, Phases, brushes, Brushes}
 use Rattle.b3d_judge_file.specs.declared.Phase.{Phase}
 use Rattle.b3d_judge_file.specs.declared.Phase.the-variants as phase
@@ -48,7 +48,7 @@ use Rattle.b3d_judge_file.specs.declared.Brushed.the-variants as brushed
 use Rattle.b3d_tally.proofs.Answered.{judged-bad, judged-good, onward-none}
 use Rattle.b3d_judge_file.proofs.OneLaws.{one-done, one-plain, one-read}
 use Rattle.b3d_inside.proofs.TagTests.{never, isNone, plain, sameTurn, boolSame}
-use Rattle.b3d_inside.proofs.Rests.{rest-stop, step-body, among-inside, among-head}
+use Rattle.b3d_enclosed.proofs.Rests.{rest-stop, step-body, among-inside, among-head}
 
 -- a chunk of the file, after q: where it stands, and what lies behind it
 module _ (s : List ℕ) (from : Cursor) (g : Among 0 from (length s)) (q : State) (r : Enclosed) (x : EnclosedIs s BB3D 0 q from r) where

@@ -22,7 +22,7 @@ use Rattle.b3d_chunks.specs.Chunks.{NextIs}
 use Rattle.b3d_chunks.specs.declared.Next.{Next}
 use Rattle.b3d_chunks.specs.declared.Next.the-variants as next
 use Rattle.b3d_inside.specs.Places.{restIn}
-use Rattle.b3d_inside.proofs.Rests.{rest-chunk, rest-done}
+use Rattle.b3d_enclosed.proofs.Rests.{rest-chunk, rest-done}
 use Rattle.b3d_inside.proofs.TagTests.{plain, plain-here}
 
 -- nothing is owed at the end of a BB3D

@@ -28,10 +28,10 @@ use Rattle.b3d_tally.specs.declared.Judged.{Judged}
 use Rattle.b3d_tally.specs.declared.Judged.the-variants as judge
 use Rattle.b3d_tally.proofs.Tallies.{within-more, within-plus}
 use Rattle.b3d_turns.specs.declared.Reached.{Reached as State}
-use Rattle.b3d_turns.specs.declared.Enclosed.{Enclosed}
-use Rattle.b3d_turns.specs.declared.Enclosed.the-variants as enclosed
-use Rattle.b3d_turns.specs.Steps.{EnclosedIs}
-use Rattle.b3d_turns.proofs.Stepping.{step-turn, stop-before}
+use Rattle.b3d_enclosed.specs.declared.Enclosed.{Enclosed}
+use Rattle.b3d_enclosed.specs.declared.Enclosed.the-variants as enclosed
+use Rattle.b3d_enclosed.specs.Steps.{EnclosedIs}
+use Rattle.b3d_enclosed.proofs.Stepping.{step-turn, stop-before}
 use Rattle.b3d_inside.specs.Places.{restIn, Among}
 use Rattle.b3d_judge_file.specs.Answers.{slotsIn, brusIn, readLast, readRest, PhasedIn, Phases, BrushedIn, Brushes, rested, Rests}
 use Rattle.b3d_judge_file.specs.declared.Phase.{Phase}
@@ -40,7 +40,7 @@ use Rattle.b3d_judge_file.specs.declared.Brushed.{Brushed}
 use Rattle.b3d_judge_file.specs.declared.Brushed.the-variants as brushed
 use Rattle.b3d_tally.proofs.Answered.{GaveBeside, beside-bad, beside-good, judged-bad, judged-good}
 use Rattle.b3d_judge_file.proofs.Answered.{tallied-bad, GaveFound, tallied-good, phases-at, brus-count, brushes-at}
-use Rattle.b3d_inside.proofs.Rests.{rest-stop, rest-end}
+use Rattle.b3d_enclosed.proofs.Rests.{rest-stop, rest-end}
 use Rattle.b3d_inside.proofs.TagTests.{never}
 
 -- ---- the end of a file

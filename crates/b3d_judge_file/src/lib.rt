@@ -10,13 +10,13 @@ ghost use Rattle.b3d_tally.specs.Tally.{texsTally, forestTally};
 ghost use Rattle.b3d_tally.specs.Answers.{Judges};
 ghost use Rattle.b3d_inside.specs.Places.{restIn, Among};
 ghost use Rattle.b3d_judge_file.specs.Answers.{readLast, readRest, Phases, Brushes, Rests};
+use b3d_enclosed::Enclosed;
 use b3d_judge_lists::Slotted;
 use b3d_judge_node::Above;
 use b3d_scene::Mode;
 use b3d_scene::Tag;
 use b3d_tally::Judged;
 use b3d_tally::Tally;
-use b3d_turns::Enclosed;
 use b3d_turns::Reached;
 use wire::Cursor;
 
@@ -54,7 +54,7 @@ pub fn judge_texs(s: &[u8], from: Cursor) -> Phase
     ensures { λ r. ⌜ Phases texsTally (readOne TEXS [] readTextures (restIn (now (s .entry)) BB3D 0 start from)) (restIn (now (s .entry)) BB3D 0 (reachedAt 1 true)) from r ⌝ }
 {
     let found = b3d_chunks::next_chunk(s, from);
-    match b3d_turns::first_inside(s, from, found, Tag::BB3D, 0) {
+    match b3d_enclosed::first_inside(s, from, found, Tag::BB3D, 0) {
         Enclosed::End => Phase::To(b3d_tally::none(), from),
         Enclosed::Not(e, p) => Phase::Not(e, p),
         Enclosed::Chunk {
@@ -79,7 +79,7 @@ pub fn judge_brus(s: &[u8], from: Cursor, textures: usize, mode: Mode) -> Brushe
     ensures { λ r. ⌜ Brushes (readOne BRUS (0, []) (readBrushes mode textures) (restIn (now (s .entry)) BB3D 0 (reachedAt 1 true) from)) (restIn (now (s .entry)) BB3D 0 (reachedAt 2 true)) from r ⌝ }
 {
     let found = b3d_chunks::next_chunk(s, from);
-    match b3d_turns::next_inside(s, from, found, Tag::BB3D, 0, TEXS_READ) {
+    match b3d_enclosed::next_inside(s, from, found, Tag::BB3D, 0, TEXS_READ) {
         Enclosed::End => Brushed::To(0, b3d_tally::none(), from),
         Enclosed::Not(e, p) => Brushed::Not(e, p),
         Enclosed::Chunk {
@@ -104,7 +104,7 @@ fn judge_root(s: &[u8], from: Cursor, brushes: usize, mode: Mode) -> Phase
     ensures { λ r. ⌜ Phases forestTally (readOne NODE leaf (readRoot mode brushes) (restIn (now (s .entry)) BB3D 0 (reachedAt 2 true) from)) (restIn (now (s .entry)) BB3D 0 (reachedAt 3 true)) from r ⌝ }
 {
     let found = b3d_chunks::next_chunk(s, from);
-    match b3d_turns::next_inside(s, from, found, Tag::BB3D, 0, BRUS_READ) {
+    match b3d_enclosed::next_inside(s, from, found, Tag::BB3D, 0, BRUS_READ) {
         Enclosed::End => Phase::To(b3d_tally::none(), from),
         Enclosed::Not(e, p) => Phase::Not(e, p),
         Enclosed::Chunk { at, body, next, .. } => {
@@ -125,7 +125,7 @@ fn judge_last(s: &[u8], from: Cursor, brushes: usize, mode: Mode) -> Judged
         Phase::Not(e, p) => Judged::Bad(e, p),
         Phase::To(t, end) => {
             let found = b3d_chunks::next_chunk(s, end);
-            match b3d_turns::next_inside(s, end, found, Tag::BB3D, 0, ROOT_READ) {
+            match b3d_enclosed::next_inside(s, end, found, Tag::BB3D, 0, ROOT_READ) {
                 Enclosed::End => Judged::Good(t),
                 Enclosed::Not(e, p) => Judged::Bad(e, p),
                 // Nothing may stand here.

@@ -1,4 +1,3 @@
 -- The laws of the judges of TEXS and BRUS.
-pub mod Counting
 pub mod Textures
-pub mod Brushes
+pub mod Slots

@@ -23,7 +23,7 @@ use Rattle.b3d_tally.specs.declared.Tally.{Tally}
 use Rattle.b3d_tally.specs.declared.Judged.{Judged}
 use Rattle.b3d_tally.specs.declared.Judged.the-variants as judge
 use Rattle.b3d_tally.proofs.Tallies.{within-none}
-use Rattle.b3d_judge_lists.proofs.Counting.{countedFrom, Counting, count-none, count-done, count-cut, count-one}
+use Rattle.b3d_brush_items.proofs.Counting.{countedFrom, Counting, count-none, count-done, count-cut, count-one}
 
 -- ---- answers
 

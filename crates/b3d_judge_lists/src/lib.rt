@@ -1,11 +1,8 @@
 // Judges the two lists of a file, TEXS and BRUS: rows that begin with a name.
-ghost use Prim.Native.Nat.{_≤_};
-ghost use mathlib.Core.Path.{_≡_};
 ghost use lib.ListN.{length};
-ghost use Rattle.wire.specs.Cursors.{Inside, left};
-ghost use Rattle.layout.specs.Parts.{items};
-ghost use Rattle.b3d_scene.specs.Parse.{readTextures, readBrush, readBrushes};
-ghost use Rattle.b3d_judge_lists.specs.Answers.{brushColours, SlotsAre, countedBrushes, BrushesIn};
+ghost use Rattle.wire.specs.Cursors.{left};
+ghost use Rattle.b3d_scene.specs.Parse.{readTextures, readBrushes};
+ghost use Rattle.b3d_judge_lists.specs.Answers.{SlotsAre};
 ghost use Rattle.b3d_tally.specs.Tally.{texsTally};
 ghost use Rattle.b3d_inside.specs.Places.{Body};
 ghost use Rattle.b3d_tally.specs.Answers.{Judges};
@@ -44,50 +41,6 @@ pub fn judge_textures(s: &[u8], at: usize, body: Cursor) -> Judged
     Judged::Good(b3d_tally::texs(count))
 }
 
-// The colours of a brush that the mode looks at.
-fn brush_colours(mode: Mode) -> usize
-    ensures { λ r. ⌜ (r ≡ brushColours mode) × (r ≤ 4) ⌝ }
-{
-    match mode {
-        Mode::Strict => 4,
-        Mode::Lenient => 0,
-    }
-}
-
-// How many brushes of so many slots, each empty or naming one of so many textures.
-fn brush_items(s: &[u8], from: Cursor, slots: usize, textures: usize, mode: Mode) -> Counted
-    requires { ⌜ Inside from (length (now s)) × (slots ≤ 8) ⌝ }
-    ensures { λ r. ⌜ (r ≡ countedBrushes (items (readBrush mode slots textures) (from .at) (left from (now (s .entry))))) × BrushesIn from slots r ⌝ }
-{
-    let mut c = from;
-    let mut count: usize = 0;
-    while c.at < c.end {
-        match b3d_chunks::named_row(s, c, 7 + slots) {
-            Named::Cut => {
-                return Counted::Not(5, c.at);
-            }
-            Named::Is { row, next, .. } => {
-                let colours = brush_colours(mode);
-                let passed = b3d_items::first_bad_colour(s, row, colours);
-                if passed < colours {
-                    return Counted::Not(6, row.at + 4 * passed);
-                }
-                let ids = Cursor {
-                    at: row.at + 28,
-                    end: row.end,
-                };
-                let good = counted::first_bad(s, ids, slots, textures, true);
-                if good < slots {
-                    return Counted::Not(7, ids.at + 4 * good);
-                }
-                count += 1;
-                c = next;
-            }
-        }
-    }
-    Counted::Is(count)
-}
-
 // Brushes beside so many textures.
 pub fn judge_brushes(s: &[u8], at: usize, body: Cursor, textures: usize, mode: Mode) -> Slotted
     requires { ⌜ Body at body (length (now s)) ⌝ }
@@ -100,7 +53,7 @@ pub fn judge_brushes(s: &[u8], at: usize, body: Cursor, textures: usize, mode: M
                 return Slotted::Not(6, body.at);
             }
             let n = wire::size(slots);
-            match brush_items(s, items, n, textures, mode) {
+            match b3d_brush_items::brush_items(s, items, n, textures, mode) {
                 Counted::Not(e, p) => Slotted::Not(e, p),
                 Counted::Is(count) => {
                     if count == 0 {

@@ -35,18 +35,18 @@ use Rattle.b3d_bodies.specs.declared.Shaped.{Shaped}
 use Rattle.b3d_bodies.specs.declared.Shaped.the-variants as shape
 use Rattle.b3d_tally.proofs.Tallies.{within-more, within-plus, within-vertices}
 use Rattle.b3d_turns.specs.declared.Reached.{Reached as State}
-use Rattle.b3d_turns.specs.declared.Enclosed.{Enclosed}
-use Rattle.b3d_turns.specs.declared.Enclosed.the-variants as enclosed
+use Rattle.b3d_enclosed.specs.declared.Enclosed.{Enclosed}
+use Rattle.b3d_enclosed.specs.declared.Enclosed.the-variants as enclosed
 use Rattle.b3d_turns.specs.Turns.{reachedOf}
-use Rattle.b3d_turns.specs.Steps.{EnclosedIs}
-use Rattle.b3d_turns.proofs.Stepping.{step-among, step-turn, stop-before, end-next}
+use Rattle.b3d_enclosed.specs.Steps.{EnclosedIs}
+use Rattle.b3d_enclosed.proofs.Stepping.{step-among, step-turn, stop-before, end-next}
 use Rattle.b3d_bodies.proofs.Going.{Going, going-start, going-refused, going-done, going-place, going-more, going}
 use Rattle.b3d_judge_mesh.specs.Answers.{readAfter, readInside, meshed, MeshedIn, Meshes}
 use Rattle.b3d_judge_mesh.specs.declared.Meshed.{Meshed}
 use Rattle.b3d_judge_mesh.specs.declared.Meshed.the-variants as meshes
 use Rattle.b3d_tally.proofs.Answered.{judged-bad, judged-good}
 use Rattle.b3d_tally.proofs.Chains.{judged-start, judged-more}
-use Rattle.b3d_inside.proofs.Rests.{rest-done, rest-step, rest-stop, rest-end, step-body, among-inside, among-head}
+use Rattle.b3d_enclosed.proofs.Rests.{rest-done, rest-step, rest-stop, rest-end, step-body, among-inside, among-head}
 use Rattle.b3d_inside.proofs.TagTests.{never, some-inj}
 
 -- ---- TRIS after TRIS

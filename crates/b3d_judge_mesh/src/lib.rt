@@ -13,11 +13,11 @@ ghost use Rattle.b3d_tally.specs.Answers.{Judges};
 ghost use Rattle.b3d_scene.specs.Nesting.{start, reachedAt};
 ghost use Rattle.b3d_judge_mesh.specs.Answers.{readAfter, readInside, Meshes};
 use b3d_bodies::Shaped;
+use b3d_enclosed::Enclosed;
 use b3d_scene::Mode;
 use b3d_scene::Tag;
 use b3d_tally::Judged;
 use b3d_tally::Tally;
-use b3d_turns::Enclosed;
 use b3d_turns::Reached;
 use wire::Cursor;
 use wire::Number;
@@ -44,7 +44,7 @@ pub fn judge_sets(s: &[u8], at: usize, from: Cursor, brushes: usize, vertices: u
     let mut m = b3d_tally::none();
     loop {
         let found = b3d_chunks::next_chunk(s, c);
-        match b3d_turns::next_inside(s, c, found, Tag::MESH, at, q) {
+        match b3d_enclosed::next_inside(s, c, found, Tag::MESH, at, q) {
             Enclosed::End => {
                 return Judged::Good(m);
             }
@@ -107,7 +107,7 @@ fn judge_inside(s: &[u8], at: usize, from: Cursor, brushes: usize, mode: Mode) -
     ensures { λ r. ⌜ Meshes (readInside mode brushes 0 (restIn (now (s .entry)) MESH at start from)) at (from .end) r ⌝ }
 {
     let found = b3d_chunks::next_chunk(s, from);
-    match b3d_turns::first_inside(s, from, found, Tag::MESH, at) {
+    match b3d_enclosed::first_inside(s, from, found, Tag::MESH, at) {
         // No mesh ends here: it owes its VRTS.
         Enclosed::End => Meshed::Is(0, b3d_tally::none()),
         Enclosed::Not(e, p) => Meshed::Not(e, p),
@@ -128,7 +128,7 @@ pub fn judge_mesh(s: &[u8], at: usize, body: Cursor, brushes: usize, mode: Mode)
     match body.number(s) {
         Number::Cut => Meshed::Not(5, body.at),
         Number::Is(brush, c) => {
-            if !counted::id_named(brush, brushes, true) {
+            if !id_check::id_named(brush, brushes, true) {
                 return Meshed::Not(7, body.at);
             }
             judge_inside(s, at, c, brushes, mode)

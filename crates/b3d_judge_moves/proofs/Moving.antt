@@ -37,16 +37,16 @@ use Rattle.b3d_tally.specs.declared.Judged.{Judged}
 use Rattle.b3d_tally.specs.declared.Judged.the-variants as judge
 use Rattle.b3d_tally.proofs.Tallies.{none-plus}
 use Rattle.b3d_turns.specs.declared.Reached.{Reached as State}
-use Rattle.b3d_turns.specs.declared.Enclosed.{Enclosed}
-use Rattle.b3d_turns.specs.declared.Enclosed.the-variants as enclosed
+use Rattle.b3d_enclosed.specs.declared.Enclosed.{Enclosed}
+use Rattle.b3d_enclosed.specs.declared.Enclosed.the-variants as enclosed
 use Rattle.b3d_turns.specs.Turns.{reachedOf}
-use Rattle.b3d_turns.specs.Steps.{EnclosedIs}
-use Rattle.b3d_turns.proofs.Stepping.{step-next, step-among, step-turn, stop-before, end-next}
+use Rattle.b3d_enclosed.specs.Steps.{EnclosedIs}
+use Rattle.b3d_enclosed.proofs.Stepping.{step-next, step-among, step-turn, stop-before, end-next}
 use Rattle.b3d_judge_moves.specs.Answers.{animOf, moved, movedFrom, Motions}
 use Rattle.b3d_judge_moves.specs.declared.Motion.{Motion}
 use Rattle.b3d_judge_moves.specs.declared.Motion.the-variants as motion
 use Rattle.b3d_tally.proofs.Answered.{Gave, judged-bad, judged-good}
-use Rattle.b3d_inside.proofs.Rests.{rest-chunk, rest-done, rest-step, rest-stop, rest-end}
+use Rattle.b3d_enclosed.proofs.Rests.{rest-chunk, rest-done, rest-step, rest-stop, rest-end}
 use Rattle.b3d_bodies.proofs.Going.{Going, going-start, going-small, going-body, going-to, going-place, going-one, going}
 use Rattle.b3d_inside.proofs.TagTests.{ten, one-of, never, some-inj}
 use Rattle.b3d_judge_moves.proofs.MoveLaws.{keys-first, anim-same, moved-first}

@@ -10,10 +10,10 @@ ghost use Rattle.b3d_tally.specs.Tally.{plus, animTally, Within};
 ghost use Rattle.b3d_scene.specs.Nesting.{reachedAt};
 ghost use Rattle.b3d_inside.specs.Places.{restIn, Among};
 ghost use Rattle.b3d_judge_moves.specs.Answers.{animOf, Motions};
+use b3d_enclosed::Enclosed;
 use b3d_scene::Tag;
 use b3d_tally::Judged;
 use b3d_tally::Tally;
-use b3d_turns::Enclosed;
 use b3d_turns::Reached;
 use wire::Cursor;
 
@@ -50,7 +50,7 @@ pub fn judge_moves(s: &[u8], at: usize, from: Cursor) -> Motion
     let mut m = b3d_tally::none();
     loop {
         let found = b3d_chunks::next_chunk(s, c);
-        match b3d_turns::next_inside(s, c, found, Tag::NODE, at, q) {
+        match b3d_enclosed::next_inside(s, c, found, Tag::NODE, at, q) {
             Enclosed::End => {
                 return Motion::To(q.spent, with_anim(m, q.spent), c);
             }

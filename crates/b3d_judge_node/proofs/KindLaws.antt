@@ -34,11 +34,11 @@ use Rattle.b3d_tally.specs.declared.Judged.{Judged}
 use Rattle.b3d_tally.specs.declared.Judged.the-variants as judge
 use Rattle.b3d_tally.proofs.Tallies.{within-more}
 use Rattle.b3d_turns.specs.declared.Reached.{Reached as State}
-use Rattle.b3d_turns.specs.declared.Enclosed.{Enclosed}
-use Rattle.b3d_turns.specs.declared.Enclosed.the-variants as enclosed
+use Rattle.b3d_enclosed.specs.declared.Enclosed.{Enclosed}
+use Rattle.b3d_enclosed.specs.declared.Enclosed.the-variants as enclosed
 use Rattle.b3d_turns.specs.Turns.{reachedOf}
-use Rattle.b3d_turns.specs.Steps.{EnclosedIs}
-use Rattle.b3d_turns.proofs.Stepping.{step-next, step-turn, stop-before, end-next}
+use Rattle.b3d_enclosed.specs.Steps.{EnclosedIs}
+use Rattle.b3d_enclosed.proofs.Stepping.{step-next, step-turn, stop-before, end-next}
 use Rattle.b3d_judge_mesh.specs.Answers.{MeshedIn, Meshes}
 use Rattle.b3d_judge_node.specs.Answers.{Kinds}
 use Rattle.b3d_judge_mesh.specs.declared.Meshed.{Meshed}
@@ -46,7 +46,7 @@ use Rattle.b3d_judge_mesh.specs.declared.Meshed.the-variants as meshes
 use Rattle.b3d_judge_node.specs.declared.Kinded.the-variants as kind
 use Rattle.b3d_tally.proofs.Answered.{judged-bad, judged-good, onward-none}
 use Rattle.b3d_judge_mesh.proofs.Answered.{meshed-bad, meshed-good}
-use Rattle.b3d_inside.proofs.Rests.{rest-chunk, rest-done, rest-stop, step-body, among-inside, among-head}
+use Rattle.b3d_enclosed.proofs.Rests.{rest-chunk, rest-done, rest-stop, step-body, among-inside, among-head}
 use Rattle.b3d_inside.proofs.TagTests.{isNone, plain, plain-here, sameTurn, boolSame}
 use Rattle.b3d_inside.proofs.Turns.{after-kind}
 

@@ -6,7 +6,7 @@ use mathlib.Core.Bool.{Bool, false, true}
 use mathlib.Core.Option.{Option}
 use mathlib.Core.List.{List}
 use lib.ListN.{length, take}
-use Rattle.wire.specs.Cursors.{Inside, left}
+use Rattle.wire.specs.Cursors.{left}
 use Rattle.wire.specs.declared.Cursor.{Cursor}
 use Rattle.layout.specs.Out.{Out, got, bad, _>>=_}
 use Rattle.layout.specs.Parts.{wordsOf}
@@ -25,6 +25,7 @@ use Rattle.b3d_chunks.proofs.Names.{named-cut, named-any, named-among}
 use Rattle.b3d_tally.proofs.Answered.{GaveBeside, beside-bad, beside-good}
 use Rattle.b3d_tally.specs.Tally.{headTally, kindTally, movesTally, dataTally, plus, Within}
 use Rattle.b3d_inside.specs.Places.{Body, restIn, Among}
+use Rattle.b3d_inside.proofs.Heads.{body-inside}
 use Rattle.b3d_tally.specs.declared.Tally.{Tally}
 use Rattle.b3d_tally.proofs.Tallies.{within-more, within-plus, within-head}
 use Rattle.b3d_judge_node.specs.Answers.{readParts, readOwn, kinded, kindedBy, KindedIn, Kinds, aboveOf, owned, OwnedIn, parted, Parted, Owns}
@@ -180,12 +181,9 @@ module _ (mode : Mode) (s : List ℕ) (at : ℕ) (body : Cursor) (g : Body at bo
   abbrev Right : Owned → Type 0
   Right x = Owns a (readOwn mode brushes a at (left body s)) (restIn s NODE at (reachedAt 3 false)) at body x
 
-  inside-body : Inside body (length s)
-  inside-body = record { before = g .room; within = g .within }
-
   pub own-cut : r ≡ named.Cut → Right (own.Not 5 (body .at))
   unfolding readOwn
-  own-cut w = record { is = rw (← g .head, named-cut s body 10 inside-body nodeRow refl r er w); within = g .room }
+  own-cut w = record { is = rw (← g .head, named-cut s body 10 (body-inside s at body g) nodeRow refl r er w); within = g .room }
 
   module _ (ir : NamedIn body 10 r) (len : ℕ) (v n : Cursor) (w : r ≡ named.Is len v n) where
     abbrev dataOf : Kind × Moves → Data
@@ -196,7 +194,7 @@ module _ (mode : Mode) (s : List ℕ) (at : ℕ) (body : Cursor) (g : Body at bo
 
     opened : readOwn mode brushes a at (left body s) ≡ within-name (readParts mode brushes (boneVertices a) (restIn s NODE at start n))
     unfolding readOwn readParts inside restIn
-    opened = rw (← g .head, named-any s body 10 inside-body r er len v n w) (kinds (readKind mode brushes (boneVertices a) (restIn s NODE at start n)))
+    opened = rw (← g .head, named-any s body 10 (body-inside s at body g) r er len v n w) (kinds (readKind mode brushes (boneVertices a) (restIn s NODE at start n)))
       where
         moves : (k : Kind) (o : Out (Found Moves))
             → (o >>= λ m. got (record { value = dataOf (k, m .value); rest = m .rest })) ≡ within-name (o >>= λ m. got (record { value = (k, m .value); rest = m .rest }))

@@ -13,13 +13,13 @@ ghost use Rattle.b3d_tally.specs.Tally.{plus, headTally, Within};
 ghost use Rattle.b3d_inside.specs.Places.{Body, restIn, Among};
 ghost use Rattle.b3d_judge_node.specs.Answers.{readParts, readOwn, Kinds, Parted, Owns, aboveOf};
 use b3d_chunks::Named;
+use b3d_enclosed::Enclosed;
 use b3d_judge_mesh::Meshed;
 use b3d_judge_moves::Motion;
 use b3d_scene::Mode;
 use b3d_scene::Tag;
 use b3d_tally::Judged;
 use b3d_tally::Tally;
-use b3d_turns::Enclosed;
 use wire::Cursor;
 
 // The vertices of a node's own mesh, the tally of its kind, and the cursor after it.
@@ -78,7 +78,7 @@ pub fn judge_kind(
     ensures { λ r. ⌜ Kinds (readKind mode brushes bones (restIn (now (s .entry)) NODE at start from)) (restIn (now (s .entry)) NODE at (reachedAt 2 false)) from r ⌝ }
 {
     let found = b3d_chunks::next_chunk(s, from);
-    match b3d_turns::first_inside(s, from, found, Tag::NODE, at) {
+    match b3d_enclosed::first_inside(s, from, found, Tag::NODE, at) {
         Enclosed::End => Kinded::To(0, b3d_tally::none(), from),
         Enclosed::Not(e, p) => Kinded::Not(e, p),
         Enclosed::Chunk {

@@ -28,18 +28,18 @@ use Rattle.b3d_tally.specs.declared.Judged.{Judged}
 use Rattle.b3d_tally.specs.declared.Judged.the-variants as judge
 use Rattle.b3d_tally.proofs.Tallies.{within-more, within-plus}
 use Rattle.b3d_turns.specs.declared.Reached.{Reached as State}
-use Rattle.b3d_turns.specs.declared.Enclosed.{Enclosed}
-use Rattle.b3d_turns.specs.declared.Enclosed.the-variants as enclosed
+use Rattle.b3d_enclosed.specs.declared.Enclosed.{Enclosed}
+use Rattle.b3d_enclosed.specs.declared.Enclosed.the-variants as enclosed
 use Rattle.b3d_turns.specs.Turns.{reachedOf}
-use Rattle.b3d_turns.specs.Steps.{EnclosedIs}
-use Rattle.b3d_turns.proofs.Stepping.{stop-before}
+use Rattle.b3d_enclosed.specs.Steps.{EnclosedIs}
+use Rattle.b3d_enclosed.proofs.Stepping.{stop-before}
 use Rattle.b3d_judge_node.specs.Answers.{readOwn, aboveOf, owned, ownedBy, OwnedIn, Owns}
 use Rattle.b3d_judge_node.specs.declared.Above.{Above}
 use Rattle.b3d_judge_node.specs.declared.Owned.{Owned}
 use Rattle.b3d_judge_node.specs.declared.Owned.the-variants as own
 use Rattle.b3d_tally.proofs.Answered.{GaveBeside, beside-bad, beside-good, judged-bad, judged-good}
 use Rattle.b3d_tally.proofs.Chains.{judged-start, judged-more}
-use Rattle.b3d_inside.proofs.Rests.{rest-step, rest-stop, rest-end}
+use Rattle.b3d_enclosed.proofs.Rests.{rest-step, rest-stop, rest-end}
 use Rattle.b3d_bodies.proofs.Going.{Going, going-start, going-refused, going-done, going-place, going-more, going}
 
 -- ---- a node: its own, then the nodes below

@@ -9,12 +9,12 @@ ghost use Rattle.b3d_scene.specs.Nesting.{reachedAt};
 ghost use Rattle.b3d_inside.specs.Places.{Body, restIn, Among};
 ghost use Rattle.b3d_tally.specs.Answers.{Judges};
 ghost use Rattle.b3d_judge_node.specs.Answers.{aboveOf};
+use b3d_enclosed::Enclosed;
 use b3d_judge_node::Above;
 use b3d_judge_node::Owned;
 use b3d_scene::Mode;
 use b3d_scene::Tag;
 use b3d_tally::Judged;
-use b3d_turns::Enclosed;
 use b3d_turns::Reached;
 use wire::Cursor;
 
@@ -67,7 +67,7 @@ pub fn judge_nodes(
     let mut m = b3d_tally::none();
     loop {
         let found = b3d_chunks::next_chunk(s, c);
-        match b3d_turns::next_inside(s, c, found, Tag::NODE, at, q) {
+        match b3d_enclosed::next_inside(s, c, found, Tag::NODE, at, q) {
             Enclosed::End => {
                 return Judged::Good(m);
             }

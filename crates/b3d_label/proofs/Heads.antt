@@ -12,7 +12,7 @@ use Rattle.wire.proofs.Found.{numbered, number-cut, left-length, left-drop}
 use Rattle.layout.specs.Out.{got, bad}
 use Rattle.layout.specs.Parts.{wordsOf, row}
 use Rattle.layout.proofs.StepLaws.{row-any, any-short}
-use Rattle.b3d_label.specs.Walk.{oneNumber}
+use Rattle.b3d_label_walk.specs.Walk.{oneNumber}
 
 module _ (s : List ℕ) (b : Cursor) (i : Inside b (length s)) (r : Number) (e : r ≡ numberAt s b) where
   pub one-cut : r ≡ number.Cut → row oneNumber (b .at) (left b s) ≡ bad 5 (b .at)

@@ -1,7 +1,7 @@
 -- What each step of `root_label` and `file_label` says of the label.
-use Prim.Native.Nat.{ℕ, _+_, _≤_}
+use Prim.Native.Nat.{ℕ}
 use native.Mathlib.Omega.{arith}
-use mathlib.Core.Path.{_≡_, refl, ap, sym, _∙_}
+use mathlib.Core.Path.{_≡_, refl, sym, _∙_}
 use mathlib.Core.List.{List}
 use lib.ListN.{length, take}
 use lib.Seq.{length-take-le}
@@ -13,21 +13,23 @@ use Rattle.wire.proofs.Found.{number-inside}
 use Rattle.wire.proofs.Left.{left-length}
 use Rattle.layout.specs.Out.{Out, got, bad, _>>=_}
 use Rattle.b3d_scene.specs.declared.Tag.the-variants.{NODE}
-use Rattle.b3d_scene.specs.Tags.{code, split}
+use Rattle.b3d_scene.specs.Tags.{split}
 use Rattle.b3d_scene.specs.Rules.{nodeRow}
 use Rattle.b3d_chunks.specs.Chunks.{namedAt, NamedIn}
 use Rattle.b3d_chunks.specs.declared.Named.{Named}
 use Rattle.b3d_chunks.specs.declared.Named.the-variants as named
 use Rattle.b3d_chunks.proofs.Names.{named-cut, named-any, named-among, after-inside}
-use Rattle.b3d_label.specs.Walk.{rootVertices, Printed, rootIn, fileIn, noLabel, labelled}
-use Rattle.b3d_label.specs.Answers.{Refused, Seeks, manyOf, Labels}
-use Rattle.b3d_label.specs.declared.Sought.{Sought}
-use Rattle.b3d_label.specs.declared.Sought.the-variants as sought
+use Rattle.b3d_walk.specs.Seeks.{Seeks}
+use Rattle.b3d_walk.specs.declared.Sought.{Sought}
+use Rattle.b3d_walk.specs.declared.Sought.the-variants as sought
+use Rattle.b3d_walk.proofs.Seeking.{sought-body}
+use Rattle.b3d_label_walk.specs.Walk.{Refused, rootVertices, Printed, rootIn, fileIn, noLabel, labelled}
+use Rattle.b3d_label.specs.Answers.{manyOf, Labels}
 use Rattle.b3d_label.specs.declared.Many.{Many}
 use Rattle.b3d_label.specs.declared.Many.the-variants as many
-use Rattle.b3d_label.specs.declared.TrayLabel.{TrayLabel}
+use Rattle.b3d_label_walk.specs.declared.TrayLabel.{TrayLabel}
 use Rattle.b3d_label.proofs.Heads.{one-cut, one-got}
-use Rattle.b3d_label.proofs.Seeking.{sought-not, sought-is, sought-inside}
+use Rattle.b3d_label.proofs.Seeking.{first-not, first-found}
 
 -- a refusal has no label
 pub label-none : (o : Out Printed) (n : ℕ) → Refused o → (l : TrayLabel) → l ≡ noLabel → Labels o n l
@@ -99,13 +101,13 @@ module _ (s : List ℕ) (b : Cursor) (i : Inside b (length s)) (r : Number) (e :
   unfolding fileIn
   file-cut w = label-none _ (length s) (5, b .at, rw (one-cut s b i r e w))
 
-  module _ (k : ℕ) (c : Cursor) (w : r ≡ number.Is k c) (x : Sought) (y : Seeks s c (code NODE) x) where
-    pub file-none : x ≡ sought.Not → (l : TrayLabel) → l ≡ noLabel → FileRight l
+  module _ (k : ℕ) (c : Cursor) (w : r ≡ number.Is k c) (x : Sought) (y : Seeks s c NODE x) where
+    pub file-none : x ≡ sought.Nothing → (l : TrayLabel) → l ≡ noLabel → FileRight l
     unfolding fileIn
-    file-none q = let h = sought-not s c (code NODE) x y q in label-none _ (length s) (h .0, h .1, rw (one-got s b i r e k c w, h .2))
+    file-none q = let h = first-not s c NODE x y q in label-none _ (length s) (h .0, h .1, rw (one-got s b i r e k c w, h .2))
 
-    pub file-root : (v : Cursor) → x ≡ sought.Is v → (l : TrayLabel) → Labels (rootIn (v .at) (left v s)) (length s) l → FileRight l
+    pub file-root : (p : ℕ) (v n : Cursor) → x ≡ sought.Found p v n → (l : TrayLabel) → Labels (rootIn (v .at) (left v s)) (length s) l → FileRight l
     unfolding fileIn
-    file-root v q l h = record { is = h .is ∙ rw (one-got s b i r e k c w, sought-is s c (code NODE) x y v q); within = h .within }
+    file-root p v n q l h = record { is = h .is ∙ rw (one-got s b i r e k c w, first-found s c NODE x y p v n q); within = h .within }
 
-pub ruleset file-laws = (number-inside, file-cut, file-none, sought-inside, file-root)
+pub ruleset file-laws = (number-inside, file-cut, file-none, sought-body, file-root)

@@ -28,14 +28,16 @@ use Rattle.b3d_items.specs.declared.Counted.the-variants as counts
 use Rattle.b3d_chunks.specs.declared.Next.{Next}
 use Rattle.b3d_chunks.specs.declared.Next.the-variants as next
 use Rattle.b3d_chunks.proofs.Nexts.{chunk-is, chunk-among, body-inside, cut-is, done-is}
-use Rattle.b3d_label.specs.Walk.{verticesIn, meshVertices, rootVertices}
-use Rattle.b3d_label.specs.Answers.{manyOf, Seeks}
-use Rattle.b3d_label.specs.declared.Sought.{Sought}
-use Rattle.b3d_label.specs.declared.Sought.the-variants as sought
+use Rattle.b3d_walk.specs.Seeks.{Seeks}
+use Rattle.b3d_walk.specs.declared.Sought.{Sought}
+use Rattle.b3d_walk.specs.declared.Sought.the-variants as sought
+use Rattle.b3d_walk.proofs.Seeking.{sought-body}
+use Rattle.b3d_label_walk.specs.Walk.{vrtsVertices, meshVertices, rootVertices}
+use Rattle.b3d_label.specs.Answers.{manyOf}
 use Rattle.b3d_label.specs.declared.Many.{Many}
 use Rattle.b3d_label.specs.declared.Many.the-variants as many
 use Rattle.b3d_label.proofs.Heads.{one-cut, one-got}
-use Rattle.b3d_label.proofs.Seeking.{sought-not, sought-is, sought-inside}
+use Rattle.b3d_label.proofs.Seeking.{first-not, first-found}
 
 -- ---- VRTS
 
@@ -55,10 +57,10 @@ many-counted false k n p = refl
 
 module _ (s : List ℕ) (b : Cursor) (i : Inside b (length s)) where
   abbrev Right : Many → Type 0
-  Right m = m ≡ manyOf (verticesIn (b .at) (left b s))
+  Right m = m ≡ manyOf (vrtsVertices (b .at) (left b s))
 
   pub vrts-cut : b .end - b .at < 12 → Right many.Not
-  unfolding verticesIn
+  unfolding vrtsVertices
   vrts-cut h = rw (row-short verticesHead (b .at) (left b s) (omega (arith, left-length s b i)))
 
   module _
@@ -72,17 +74,17 @@ module _ (s : List ℕ) (b : Cursor) (i : Inside b (length s)) where
     head = rw (left-drop s b 12 (after b) refl refl, ← three) (row-enough verticesHead (b .at) (left b s) (omega (arith, left-length s b i)))
 
     pub vrts-flags : 3 < flags → Right many.Not
-    unfolding verticesIn judged check
+    unfolding vrtsVertices judged check
     vrts-flags o = rw (head, lt-leb _ _ o)
 
     module _ (f3 : flags ≤ 3) where
       pub vrts-sets : 8 < sets → Right many.Not
-      unfolding verticesIn judged check
+      unfolding vrtsVertices judged check
       vrts-sets o = rw (head, le-leb _ _ f3, lt-leb _ _ o)
 
       module _ (s8 : sets ≤ 8) where
         pub vrts-size : 4 < size → Right many.Not
-        unfolding verticesIn judged check
+        unfolding vrtsVertices judged check
         vrts-size o = rw (head, le-leb _ _ f3, le-leb _ _ s8, lt-leb _ _ o)
 
         module _ (s4 : size ≤ 4) (words : ℕ) (v : words ≡ vertexWords flags sets size) (x : Counted) (y : x ≡ dividedAt (after b) words) where
@@ -90,8 +92,8 @@ module _ (s : List ℕ) (b : Cursor) (i : Inside b (length s)) where
           unfolding judged check
           whole = rw (head, le-leb _ _ f3, le-leb _ _ s8, le-leb _ _ s4)
 
-          counted : manyOf (verticesIn (b .at) (left b s)) ≡ manyCounted x
-          unfolding verticesIn dividedAt
+          counted : manyOf (vrtsVertices (b .at) (left b s)) ≡ manyCounted x
+          unfolding vrtsVertices dividedAt
           counted = rw (whole, ← v, left-length s (after b) (record { before = omega arith; within = i .within }), y) (many-counted _ _ _ _)
 
           pub vrts-bad : (n p : ℕ) → x ≡ counts.Not n p → Right many.Not
@@ -110,16 +112,16 @@ module _ (s : List ℕ) (b : Cursor) (i : Inside b (length s)) (r : Number) (e :
   unfolding meshVertices
   mesh-cut w = rw (one-cut s b i r e w)
 
-  module _ (k : ℕ) (c : Cursor) (w : r ≡ number.Is k c) (x : Sought) (y : Seeks s c (code VRTS) x) where
-    pub mesh-none : x ≡ sought.Not → MeshRight many.Not
+  module _ (k : ℕ) (c : Cursor) (w : r ≡ number.Is k c) (x : Sought) (y : Seeks s c VRTS x) where
+    pub mesh-none : x ≡ sought.Nothing → MeshRight many.Not
     unfolding meshVertices
-    mesh-none q = rw (one-got s b i r e k c w, sought-not s c (code VRTS) x y q .2)
+    mesh-none q = rw (one-got s b i r e k c w, first-not s c VRTS x y q .2)
 
-    pub mesh-some : (v : Cursor) → x ≡ sought.Is v → (m : Many) → m ≡ manyOf (verticesIn (v .at) (left v s)) → MeshRight m
+    pub mesh-some : (p : ℕ) (v n : Cursor) → x ≡ sought.Found p v n → (m : Many) → m ≡ manyOf (vrtsVertices (v .at) (left v s)) → MeshRight m
     unfolding meshVertices
-    mesh-some v q m h = h ∙ rw (one-got s b i r e k c w, sought-is s c (code VRTS) x y v q)
+    mesh-some p v n q m h = h ∙ rw (one-got s b i r e k c w, first-found s c VRTS x y p v n q)
 
-pub ruleset mesh-laws = (number-inside, mesh-cut, mesh-none, sought-inside, mesh-some)
+pub ruleset mesh-laws = (number-inside, mesh-cut, mesh-none, sought-body, mesh-some)
 
 -- ---- the first known chunk of a root
 

@@ -1,3 +1,2 @@
--- What the tray label says of a file, on every input; and what its functions promise.
-pub mod Walk
+-- What the walk's functions promise.
 pub mod Answers

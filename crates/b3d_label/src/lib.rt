@@ -5,31 +5,18 @@ ghost use Prim.Native.Nat.{_+_, _≤_};
 ghost use lib.ListN.{length};
 ghost use Rattle.wire.specs.Cursors.{Inside, left};
 ghost use Rattle.b3d_scene.specs.Tags.{split};
-ghost use Rattle.b3d_label.specs.Walk.{verticesIn, meshVertices, rootVertices, rootIn, fileIn, noLabel, labelOf, nameOn};
-ghost use Rattle.b3d_label.specs.Answers.{Seeks, manyOf, Labels};
+ghost use Rattle.b3d_label_walk.specs.Walk.{vrtsVertices, meshVertices, rootVertices, rootIn, fileIn, noLabel, labelOf, nameOn};
+ghost use Rattle.b3d_label.specs.Answers.{manyOf, Labels};
 use b3d_chunks::Named;
 use b3d_chunks::Next;
 use b3d_items::Counted;
+use b3d_label_walk::TrayLabel;
+use b3d_scene::Tag;
 use b3d_scene::letters;
+use b3d_walk::Sought;
 use wire::Cursor;
 use wire::Header;
 use wire::Number;
-
-// What the label says: 0 and 0 with the name's place and length in the file and the vertices; or 14 and zeros.
-#[repr(C)]
-pub struct TrayLabel {
-    pub number: u32,
-    pub place: u32,
-    pub name_place: usize,
-    pub name_length: usize,
-    pub vertices: usize,
-}
-
-// The body of the chunk looked for.
-pub enum Sought {
-    Is(Cursor),
-    Not,
-}
 
 // So many vertices.
 pub enum Many {
@@ -37,39 +24,10 @@ pub enum Many {
     Not,
 }
 
-// The first chunk with these letters; others are stepped over.
-fn first_with(s: &[u8], from: Cursor, wanted: u32) -> Sought
-    requires { ⌜ Inside from (length (now s)) ⌝ }
-    ensures { λ r. ⌜ Seeks (now (s .entry)) from wanted r ⌝ }
-{
-    let mut c = from;
-    loop {
-        match b3d_chunks::next_chunk(s, c) {
-            Next::Done => {
-                return Sought::Not;
-            }
-            Next::Cut(_) => {
-                return Sought::Not;
-            }
-            Next::Chunk {
-                tag,
-                body,
-                next,
-                ..
-            } => {
-                if b3d_chunks::letters(tag) == wanted {
-                    return Sought::Is(body);
-                }
-                c = next;
-            }
-        }
-    }
-}
-
 // The vertices of a VRTS.
 fn vrts_vertices(s: &[u8], body: Cursor) -> Many
     requires { ⌜ Inside body (length (now s)) ⌝ }
-    ensures { λ r. ⌜ r ≡ manyOf (verticesIn (body .at) (left body (now (s .entry)))) ⌝ }
+    ensures { λ r. ⌜ r ≡ manyOf (vrtsVertices (body .at) (left body (now (s .entry)))) ⌝ }
 {
     let start = body.at;
     let end = body.end;
@@ -88,7 +46,7 @@ fn vrts_vertices(s: &[u8], body: Cursor) -> Many
     if 4 < size {
         return Many::Not;
     }
-    let words = b3d_items::vertex_words(flags, sets, size);
+    let words = b3d_widths::vertex_words(flags, sets, size);
     let items = Cursor {
         at: start + 12,
         end,
@@ -106,9 +64,9 @@ fn mesh_vertices(s: &[u8], body: Cursor) -> Many
 {
     match body.number(s) {
         Number::Cut => Many::Not,
-        Number::Is(_, inside) => match first_with(s, inside, letters::VRTS) {
-            Sought::Not => Many::Not,
-            Sought::Is(vrts) => vrts_vertices(s, vrts),
+        Number::Is(_, inside) => match b3d_walk::seek(s, inside, Tag::VRTS) {
+            Sought::Nothing => Many::Not,
+            Sought::Found { body: vrts, .. } => vrts_vertices(s, vrts),
         },
     }
 }
@@ -169,9 +127,9 @@ fn file_label(s: &[u8], body: Cursor) -> TrayLabel
 {
     match body.number(s) {
         Number::Cut => refused(),
-        Number::Is(_, inside) => match first_with(s, inside, letters::NODE) {
-            Sought::Not => refused(),
-            Sought::Is(root) => root_label(s, root),
+        Number::Is(_, inside) => match b3d_walk::seek(s, inside, Tag::NODE) {
+            Sought::Nothing => refused(),
+            Sought::Found { body: root, .. } => root_label(s, root),
         },
     }
 }

@@ -9,7 +9,7 @@ use lib.Dec.{ltb}
 use lib.Seq.{sets, sets-eq}
 use Rattle.wire.specs.Bytes.{over}
 use Rattle.wire.specs.Test.{if}
-use Rattle.counted.specs.Rooms.{numberOf, firstShort}
+use Rattle.table_room.specs.Rooms.{numberOf, firstShort}
 use Rattle.b3d_scene.specs.Tables.{width, tables, nodeTables, nodeWidth}
 use Rattle.b3d_tally.specs.declared.Tally.{Tally}
 use Rattle.b3d_limits.specs.Rooms.{countsIn}

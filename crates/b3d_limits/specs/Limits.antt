@@ -37,7 +37,7 @@ overLimit t =
     (if (ltb rowLimit (t .keys)) 10 0)))))))))
 
 -- no table of a tally has more rows than the limit
-pub record Limited (t : Tally) : Type 0 where
+pub record TallyLimited (t : Tally) : Type 0 where
   pub textures : t .textures ≤ rowLimit
   pub brushes : t .brushes ≤ rowLimit
   pub nodes : t .nodes ≤ rowLimit

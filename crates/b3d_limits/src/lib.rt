@@ -6,7 +6,7 @@ ghost use Rattle.b3d_scene.specs.Rules.{rowLimit};
 ghost use Rattle.b3d_limits.specs.Limits.{overLimit};
 ghost use mathlib.Core.List.{[], _∷_};
 ghost use Rattle.b3d_scene.specs.Tables.{width, tables};
-ghost use Rattle.counted.specs.Rooms.{numberOf, firstShort};
+ghost use Rattle.table_room.specs.Rooms.{numberOf, firstShort};
 ghost use Rattle.b3d_limits.specs.Rooms.{countsIn};
 use b3d_scene::NODE_WIDTH;
 use b3d_tally::Tally;
@@ -48,14 +48,14 @@ pub fn first_short(
 ) -> usize
     ensures { λ r. ⌜ r ≡ firstShort width (numberOf (countsIn t)) (numberOf (l1 ∷ l2 ∷ l3 ∷ l4 ∷ l5 ∷ l6 ∷ l7 ∷ l8 ∷ l9 ∷ l10 ∷ [])) tables ⌝ }
 {
-    let from10 = counted::short_or(10, 11, t.keys, l10, 0);
-    let from9 = counted::short_or(9, 4, t.lists, l9, from10);
-    let from8 = counted::short_or(8, 2, t.weights, l8, from9);
-    let from7 = counted::short_or(7, 3, t.triangles, l7, from8);
-    let from6 = counted::short_or(6, 4, t.sets, l6, from7);
-    let from5 = counted::short_or(5, 42, t.vertices, l5, from6);
-    let from4 = counted::short_or(4, 9, t.meshes, l4, from5);
-    let from3 = counted::short_or(3, NODE_WIDTH, t.nodes, l3, from4);
-    let from2 = counted::short_or(2, 17, t.brushes, l2, from3);
-    counted::short_or(1, 9, t.textures, l1, from2)
+    let from10 = table_room::short_or(10, 11, t.keys, l10, 0);
+    let from9 = table_room::short_or(9, 4, t.lists, l9, from10);
+    let from8 = table_room::short_or(8, 2, t.weights, l8, from9);
+    let from7 = table_room::short_or(7, 3, t.triangles, l7, from8);
+    let from6 = table_room::short_or(6, 4, t.sets, l6, from7);
+    let from5 = table_room::short_or(5, 42, t.vertices, l5, from6);
+    let from4 = table_room::short_or(4, 9, t.meshes, l4, from5);
+    let from3 = table_room::short_or(3, NODE_WIDTH, t.nodes, l3, from4);
+    let from2 = table_room::short_or(2, 17, t.brushes, l2, from3);
+    table_room::short_or(1, 9, t.textures, l1, from2)
 }

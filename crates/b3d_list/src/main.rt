@@ -2,7 +2,7 @@
 ghost use mathlib.Core.Path.{_≡_};
 ghost use Prim.Native.Nat.{_+_};
 ghost use lib.ListN.{length};
-ghost use Rattle.b3d_listing.specs.Listing.{mostListed, mostPrinted};
+ghost use Rattle.b3d_listing_text.specs.Listing.{mostListed, mostPrinted};
 
 // Room for a byte more than the lister reads, so that a longer input is told from one of the limit.
 fn room_in() -> [u8; 65537]

@@ -1,5 +1,2 @@
--- The laws behind the lister's text.
-pub mod NameLines
+-- The laws of `put_listing`.
 pub mod ListLaws
-pub mod Lengths
-pub mod Cases

@@ -8,7 +8,7 @@ use lib.Seq.{sets}
 use Rattle.wire.specs.Test.{if}
 use Rattle.wire.specs.Cursors.{Inside, left}
 use Rattle.wire.specs.declared.Cursor.{Cursor}
-use Rattle.layout.proofs.Outs.{if-yes, if-no}
+use Rattle.layout.proofs.Outs.{if-no}
 use Rattle.b3d_scene.specs.declared.Tag.the-variants.{VRTS}
 use Rattle.layout.specs.Rows.{joined}
 use Rattle.b3d_scene.specs.Tags.{Chunks, is}
@@ -28,7 +28,6 @@ pub shape-seek : (cs : Chunks) → shapeOf cs ≡ shapeOf (seekOf VRTS cs)
 unfolding shapeOf if
 shape-seek cs =
     by-seek VRTS shapeOf (λ n p. refl)
-    (λ t p b r y. if-yes (is t VRTS) (plainVertices b) (shapeOf r) y)
     (λ t p b r y. if-no (is t VRTS) (plainVertices b) (shapeOf r) y)
     cs
 

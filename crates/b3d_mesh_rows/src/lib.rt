@@ -1,6 +1,6 @@
-// Rows of one MESH, from its body: its vertices and triangles, its row in the table of meshes, and its triangle sets.
+// Rows of one MESH, from its body: its vertices, and its row in the table of meshes.
 ghost use mathlib.Core.Path.{_≡_};
-ghost use Prim.Native.Nat.{ℕ, _+_, _-_, _*_, _<_, _≤_};
+ghost use Prim.Native.Nat.{_+_, _-_, _<_, _≤_};
 ghost use lib.ListN.{length};
 ghost use lib.Seq.{sets as stored};
 ghost use Rattle.wire.specs.Cursors.{Inside, left};
@@ -8,7 +8,7 @@ ghost use Rattle.layout.specs.Rows.{joined};
 ghost use Rattle.b3d_file_rows.specs.Plain.{setsOf};
 ghost use Rattle.b3d_walk.specs.Walks.{BodyAt};
 ghost use Rattle.b3d_walk.specs.Seeks.{ahead};
-ghost use Rattle.b3d_mesh_rows.specs.Meshes.{verticesIn, trianglesIn, setsIn, SetsPut, ShapeFound, MeshPut};
+ghost use Rattle.b3d_mesh_rows.specs.Meshes.{verticesIn, ShapeFound, MeshPut};
 use b3d_scene::Tag;
 use b3d_walk::Sought;
 use wire::Cursor;
@@ -23,58 +23,6 @@ pub fn put_vertices(file: &[u8], p: usize, body: Cursor, base: usize, out: &mut 
     match b3d_walk::seek(file, head.rest, Tag::VRTS) {
         Sought::Nothing => base,
         Sought::Found { body: b, .. } => b3d_item_rows::put_shape(file, b, base, out),
-    }
-}
-
-// The triangles of a MESH whose header is at p, from word `base` of the table on; gives the word after them.
-pub fn put_triangles(file: &[u8], p: usize, body: Cursor, base: usize, out: &mut [u32]) -> usize
-    requires { ⌜ BodyAt (now file) p body × (base + length (joined (trianglesIn p (left body (now file)))) ≤ length (now out)) ⌝ }
-    ensures { λ r. ⌜ (r ≡ base + length (joined (trianglesIn p (left body (now (file .entry))))))
-        × (now (out .exit) ≡ stored (now (out .entry)) base (joined (trianglesIn p (left body (now (file .entry)))))) ⌝ }
-{
-    let head = b3d_walk::first_word(file, body);
-    let mut c = head.rest;
-    let mut o = base;
-    loop {
-        let Sought::Found { body: b, next, .. } = b3d_walk::seek(file, c, Tag::TRIS) else {
-            return o;
-        };
-        let set = b3d_walk::first_word(file, b);
-        o = b3d_item_rows::put_items(file, set.rest, 3, o, out);
-        c = next;
-    }
-}
-
-// The word of the table and the number of the triangle that come next.
-pub struct After {
-    pub base: usize,
-    pub first: usize,
-}
-
-// The sets of a MESH whose header is at p.
-pub fn put_sets(
-    file: &[u8],
-    p: usize,
-    body: Cursor,
-    mesh: usize,
-    first: usize,
-    base: usize,
-    out: &mut [u32],
-) -> After
-    requires { ⌜ BodyAt (now file) p body × (length (now file) < 0x100000000) × (mesh < 0x100000000) × (first ≤ p) × (base ≤ 4 * p) × (base + length (joined (setsIn p (left body (now file)) mesh first)) ≤ length (now out)) ⌝ }
-    ensures { λ r. ⌜ SetsPut (now (file .entry)) p body mesh first base (now (out .entry)) (now (out .exit)) r ⌝ }
-{
-    let head = b3d_walk::first_word(file, body);
-    let mut c = head.rest;
-    let mut o = base;
-    let mut n = first;
-    loop {
-        let Sought::Found { body: b, next, .. } = b3d_walk::seek(file, c, Tag::TRIS) else {
-            return After { base: o, first: n };
-        };
-        n += b3d_item_rows::put_group(file, b, false, mesh, n, o, out);
-        o += 4;
-        c = next;
     }
 }
 

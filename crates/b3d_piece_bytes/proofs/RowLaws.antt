@@ -22,7 +22,7 @@ use Rattle.b3d_piece_parts.specs.declared.Now.the-variants.{Live, Fault}
 use Rattle.b3d_piece_parts.specs.Nows.{Ready, Gives, edgeHere}
 use Rattle.b3d_piece_parts.proofs.Giving.{gives, gives-on, gives-spare, gives-from}
 use Rattle.b3d_piece_parts.proofs.Edges.{ready-words, short, long}
-use Rattle.b3d_piece_bytes.proofs.HeadLaws.{ready-less}
+use Rattle.b3d_piece_headers.proofs.HeadLaws.{ready-less}
 
 -- ---- kept numbers
 

@@ -16,7 +16,7 @@ use Rattle.b3d_piece_turn.proofs.TurnLaws.{none}
 use Rattle.b3d_piece_take.specs.declared.Judge.{Judge}
 use Rattle.b3d_piece_take.specs.Takes.{heldOf}
 use Rattle.b3d_piece_take.specs.Runs.{CanRun, RunIs}
-use Rattle.b3d_piece_entry.specs.Tests.{Tests}
+use Rattle.b3d_piece_loads.specs.Tests.{Tests}
 use Rattle.b3d_scene.specs.declared.Answer.{Answer}
 use Rattle.b3d_piece_answers.specs.declared.Closing.{Closing}
 use Rattle.b3d_piece_answers.specs.declared.Closing.the-variants.{Bad}

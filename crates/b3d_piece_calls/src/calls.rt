@@ -8,9 +8,9 @@ use b3d_piece_answers::joined;
 use b3d_piece_answers::refused;
 use b3d_piece_entry::state::judge_fine;
 use b3d_piece_parts::Now;
+use b3d_piece_run::run;
 use b3d_piece_take::Judge;
 use b3d_piece_take::taking::nothing;
-use b3d_piece_words::run::run;
 
 // A fresh state.
 pub fn start() -> Judge

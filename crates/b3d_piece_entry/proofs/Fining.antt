@@ -1,6 +1,6 @@
 -- The laws of the test, in the words of the code.
-use mathlib.Core.Path.{_≡_, refl, sym, _∙_}
-use Prim.Native.Nat.{ℕ, zero, suc, _-_, _/_, _<_, _≤_}
+use mathlib.Core.Path.{_≡_, refl, sym, subst, _∙_}
+use Prim.Native.Nat.{ℕ, zero, suc, _+_, _-_, _/_, _<_, _≤_}
 use native.Mathlib.Omega.{arith}
 use mathlib.Core.Bool.{Bool, true, false}
 use mathlib.Core.List.{List}
@@ -11,17 +11,48 @@ use Rattle.b3d_pieces.specs.declared.Totals.{Totals}
 use Rattle.b3d_pieces.specs.declared.Open.{Open}
 use Rattle.b3d_pieces.specs.declared.Part.{Part}
 use Rattle.b3d_pieces.specs.Row.{openAt}
-use Rattle.b3d_pieces.specs.Good.{sum, worth}
+use Rattle.b3d_pieces.specs.Good.{Bound, Off, sum, extra, worth}
 use Rattle.b3d_piece_parts.specs.declared.Now.{Now}
 use Rattle.b3d_piece_parts.specs.declared.Now.the-variants.{Live, Push, Pop, Fault, Over}
 use Rattle.b3d_piece_turn.specs.Turns.{pends}
-use Rattle.b3d_piece_turn.proofs.TurnLaws.{none}
+use Rattle.b3d_piece_turn.proofs.TurnLaws.{none, stack-length, off-came, came-spare}
 use Rattle.b3d_piece_take.specs.declared.Judge.{Judge}
 use Rattle.b3d_piece_take.specs.Takes.{headLow}
 use Rattle.b3d_piece_take.specs.Runs.{CanRun}
-use Rattle.b3d_piece_entry.specs.Tests.{Tests, RowFits}
-use Rattle.b3d_piece_entry.specs.Entry.{Small, LiveTests, NowTests, StateTests}
-use Rattle.b3d_piece_entry.proofs.Testing.{never}
+use Rattle.b3d_piece_loads.specs.Tests.{Tests, Weighs, OpenFits, Small}
+use Rattle.b3d_piece_loads.proofs.LoadTests.{never}
+use Rattle.b3d_piece_entry.specs.Entry.{RowFits, LiveTests, NowTests, StateTests}
+
+module _ (at : ℕ) (m : Part) (g : Totals) (f : Open) (size n w : ℕ) (r : Bool) (l : size ≤ 16777217) (b : Bool) (tb : Tests b (Off m at size)) where
+  pub live-mode : b ≡ false → r ≡ false → LiveTests at m g f size n w r
+  live-mode e q = record { is = λ rs tw. never r q (λ p. none (sym e ∙ tb .all (p .1))) }
+
+  pub live-sum : b ≡ true → (v : ℕ) → Weighs (OpenFits f n) (f .count + extra (f .tag)) v → (s : ℕ) → Small 167772180 (sum g) s → r ≡ leb (s + (v + w)) at → LiveTests at m g f size n w r
+  live-sum e v tv s ts q = record {
+    is = λ rs tw.
+        let o = tb .yes e in
+        let c = off-came m at size o in
+        let d = came-spare m at in
+        let k = stack-length rs n in
+        record {
+          yes = λ y.
+              let h = leb-true (s + (v + w)) at (sym q ∙ y) in
+              let es = ts .yes (omega arith) in
+              let ev = tv .yes (omega arith) in
+              let ew = tw .yes (omega arith) in
+              let xv = ev .1 in
+              let xw = ew .1 in
+              (((subst (λ (x : ℕ). Bound (f .tag) (f .level) x) (sym k) (ev .0 .0), ev .0 .1, ew .0), omega arith), o);
+          all = λ p.
+              let h = p .0 .1 in
+              let es = ts .all (omega arith) in
+              let ev = tv .all (subst (λ (x : ℕ). Bound (f .tag) (f .level) x) k (p .0 .0 .0), p .0 .0 .1) (omega arith) in
+              let ew = tw .all (p .0 .0 .2) (omega arith) in
+              q ∙ le-leb (s + (v + w)) at (omega arith);
+        };
+  }
+
+pub ruleset live-laws = (live-mode, live-sum)
 
 module _ (held : Now) (size n w : ℕ) (r : Bool) where
   pub now-live : (at : ℕ) (m : Part) (g : Totals) (f : Open) → held ≡ Live at m g f → LiveTests at m g f size n w r → NowTests held size n w r

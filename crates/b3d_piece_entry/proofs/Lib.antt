@@ -1,3 +1,2 @@
 pub mod Testing
-pub mod Entry
 pub mod Fining

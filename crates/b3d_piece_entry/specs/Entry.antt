@@ -1,28 +1,22 @@
--- What the test at the entry asks.
+-- What the test at the entry asks. A row is known by the record at each place.
 use mathlib.Core.Path.{_≡_}
-use Prim.Native.Nat.{ℕ, _+_, _<_, _≤_}
+use Prim.Native.Nat.{ℕ, _≤_}
 use mathlib.Core.Bool.{Bool, false}
 use mathlib.Core.List.{_∷_}
 use Rattle.b3d_pieces.specs.declared.Totals.{Totals}
-use Rattle.b3d_pieces.specs.declared.Kept.{Kept}
 use Rattle.b3d_pieces.specs.declared.Open.{Open}
 use Rattle.b3d_pieces.specs.declared.Part.{Part}
-use Rattle.b3d_pieces.specs.Good.{Words, Fits, Off, worth}
+use Rattle.b3d_pieces.specs.Good.{Deep, load, Fits, Off}
 use Rattle.b3d_piece_parts.specs.declared.Now.{Now}
 use Rattle.b3d_piece_parts.specs.Nows.{GoodNow}
 use Rattle.b3d_piece_turn.specs.Turns.{stackBy, pends}
 use Rattle.b3d_piece_take.specs.declared.Judge.{Judge}
 use Rattle.b3d_piece_take.specs.Runs.{CanRun}
-use Rattle.b3d_piece_entry.specs.Tests.{Tests, RowFits}
+use Rattle.b3d_piece_loads.specs.Tests.{Tests, Weighs}
 
--- r is n where either is at most 16,777,217
-pub record Small (m n r : ℕ) : Type 0 where
-  pub yes : r ≤ 16777217 → r ≡ n
-  pub all : n ≤ 16777217 → r ≡ n
-  pub most : r ≤ m
-
-abbrev pub RowOff : ℕ → ℕ → ℕ → Kept → ℕ → ℕ → Type 0
-RowOff i j acc k at n = (at + j ≡ n) × (j ≤ 3) × (i ≤ at) × (acc < worth j) × Words k
+-- the first n chunks of a row
+abbrev pub RowFits : (ℕ → Open) → ℕ → ℕ → Type 0
+RowFits rs n r = Weighs (Deep (stackBy rs n)) (load (stackBy rs n)) r
 
 abbrev pub LiveFits : ℕ → Part → Totals → Open → ℕ → ℕ → (ℕ → Open) → Type 0
 LiveFits at m g f size n rs = Fits at g (f ∷ stackBy rs n) × Off m at size

@@ -5,15 +5,32 @@ ghost use lib.ListN.{length};
 ghost use Rattle.b3d_piece_take.specs.Takes.{headLow};
 ghost use Rattle.b3d_pieces.specs.Row.{openAt};
 ghost use Rattle.b3d_piece_take.specs.Runs.{CanRun};
-ghost use Rattle.b3d_piece_entry.specs.Tests.{Tests};
-ghost use Rattle.b3d_piece_entry.specs.Entry.{NowTests, StateTests};
+ghost use Rattle.b3d_piece_loads.specs.Tests.{Tests};
+ghost use Rattle.b3d_piece_entry.specs.Entry.{LiveTests, NowTests, StateTests};
 use crate::loads::row_load;
-use crate::parts::live_fine;
-use crate::parts::sum_of;
-use crate::parts::worth;
+use b3d_piece_loads::loads::open_load;
+use b3d_piece_loads::parts::part_fine;
+use b3d_piece_loads::parts::sum_of;
+use b3d_piece_loads::parts::worth;
 use b3d_piece_parts::Now;
 use b3d_piece_take::Judge;
 use b3d_piece_turn::turning::pending;
+use b3d_pieces::Open;
+use b3d_pieces::Part;
+use b3d_pieces::Totals;
+
+// The load is what the n chunks around will add.
+pub fn live_fine(at: usize, m: Part, g: Totals, f: Open, size: usize, n: usize, load: usize) -> bool
+    requires { ⌜ (size ≤ 16777217) × (load ≤ 16777218) ⌝ }
+    ensures { λ r. ⌜ LiveTests at m g f size n load r ⌝ }
+{
+    if part_fine(m, at, size) {
+        let v = open_load(f, n);
+        let s = sum_of(g);
+        return s + (v + load) <= at;
+    }
+    false
+}
 
 pub fn now_fine(held: Now, size: usize, n: usize, load: usize) -> bool
     requires { ⌜ (size ≤ 16777217) × (load ≤ 16777218) ⌝ }

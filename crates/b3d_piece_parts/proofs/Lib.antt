@@ -1,4 +1,3 @@
 pub mod NestLaws
 pub mod Giving
 pub mod Edges
-pub mod Entering

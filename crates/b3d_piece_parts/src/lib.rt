@@ -1,7 +1,6 @@
-// Where a part of a chunk begins or ends: its body, its fixed data, an item, the chunk itself. Each function takes what is held by value, the chunks
-// around the innermost left out, and promises the machine's own step whatever they are.
+// Between two parts of a chunk: an item or a header begins, or the chunk ends; and the nesting table asked of a record. Each function takes what is held
+// by value, the chunks around the innermost left out, and promises the machine's own step whatever they are.
 pub mod between;
-pub mod bodies;
 pub mod nesting;
 
 use b3d_pieces::Open;

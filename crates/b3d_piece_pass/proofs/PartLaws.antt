@@ -1,10 +1,8 @@
 -- The laws of how far a part of a chunk goes on, in the words of the code.
 use mathlib.Core.Path.{_≡_, refl, ap, sym, _∙_}
-use Prim.Native.Nat.{ℕ, zero, suc, _+_, _-_, _<_, _≤_}
+use Prim.Native.Nat.{ℕ, zero, suc, _+_, _<_, _≤_}
 use native.Mathlib.Omega.{arith}
-use native.Mathlib.Nat.{eq-or-lt-of-le}
-use mathlib.Core.Logic.{⊎-elim}
-use mathlib.Core.Bool.{Bool, true, false}
+use mathlib.Core.Bool.{Bool}
 use mathlib.Core.List.{List, [], _∷_}
 use lib.ListN.{length, getD}
 use lib.Seq.{slice, slice-empty, slice-cons}
@@ -14,9 +12,6 @@ use Rattle.b3d_pieces.specs.declared.Totals.{Totals}
 use Rattle.b3d_pieces.specs.declared.Open.{Open}
 use Rattle.b3d_pieces.specs.declared.Part.the-variants.{Text, Skip}
 use Rattle.b3d_pieces.specs.Machine.{State, live, textFrom, textByte, skipFrom, byteIn, step, run}
-use Rattle.b3d_piece_pass.specs.Passes.{UntilZero}
-
--- ---- a chunk that is passed over, and a text
 
 module _ (g : Totals) (f : Open) (R : List Open) where
   pub skip-run : (until at : ℕ) (s : List ℕ) → at + length s < until → run (live at (Skip until) g f R) s ≡ live (at + length s) (Skip until) g f R
@@ -47,14 +42,3 @@ module _ (g : Totals) (f : Open) (R : List Open) where
       ∙ ap (λ (m : ℕ). run (live (at + 1) (Text fixed start) g f R) (slice (from + 1) m p)) (sym e)
       ∙ text-run fixed start p n (from + 1) (at + 1) (omega arith) (omega arith) (λ k a b. t k (omega arith) (omega arith))
       ∙ ap (λ (m : ℕ). live m (Text fixed start) g f R) q
-
--- ---- the first zero
-
-pub zero-first : (p : List ℕ) (from last : ℕ) → from ≤ last → UntilZero p from last from
-zero-first p from last h = record { ahead = omega arith; within = h; text = λ k a b. absurd (omega arith) }
-
-module _ (p : List ℕ) (from last at : ℕ) (i : UntilZero p from last at) where
-  pub zero-next : at < last → (getD p at 0 ≡ 0 → ⊥) → UntilZero p from last (at + 1)
-  zero-next h z = record { ahead = (let a = i .ahead in omega arith); within = omega arith; text = λ k a b. ⊎-elim (λ (e : k ≡ at). λ y. z (ap (λ (n : ℕ). getD p n 0) (sym e) ∙ y)) (λ (l : k < at). i .text k a l) (eq-or-lt-of-le {n = k} {m = at} (omega arith)) }
-
-pub ruleset zero-laws = (zero-first, zero-next)

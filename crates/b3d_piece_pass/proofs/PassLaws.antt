@@ -28,7 +28,8 @@ use Rattle.b3d_piece_take.proofs.RunLaws.{Running}
 use Rattle.b3d_piece_numbers.specs.declared.RowPlace.{RowPlace}
 use Rattle.b3d_piece_numbers.specs.declared.RowRules.{RowRules}
 use Rattle.b3d_piece_numbers.specs.Places.{RulesAre, rowAt, Sound, Took}
-use Rattle.b3d_piece_pass.specs.Passes.{Before, UntilZero, RoomIs, movedTo, LiveFine, PassReady, PassFrom, PassIs}
+use Rattle.b3d_piece_ahead.specs.Ahead.{Before, UntilZero, RoomIs}
+use Rattle.b3d_piece_pass.specs.Passes.{movedTo, LiveFine, PassReady, PassFrom, PassIs}
 use Rattle.b3d_piece_pass.proofs.PartLaws.{skip-run, text-run}
 
 -- ---- bytes inside BB3D, taken at once
@@ -230,14 +231,14 @@ module _ (t : Turn) (p : List ℕ) (h : PassReady t p) (n : ℕ) (m : RoomIs (t 
         let d : LiveFine (t .judge .size) (Live at x g f) = subst (λ (y : Now). LiveFine (t .judge .size) y) e (h .fine (m .body z)) in
         record { now = e; end = h .end; room = room-at; body = m .body z; file = m .file z; off = d .0; count = d .1; words = d .2 }
 
-    pub room-fault : (k q : ℕ) → t .judge .now ≡ Fault k q → (r : Turn) → r ≡ movedTo t (Fault k q) n → PassIs t p r
+    pub room-fault : (k q : ℕ) → t .judge .now ≡ Fault k q → (r : Turn) → r ≡ movedTo t (t .judge .now) n → PassIs t p r
     room-fault k q e r w =
-        rw w (pass-moved t p n (Fault k q) (h .end) room-at (m .body z) (m .file z) (ap pends e) refl
+        rw (w ∙ ap (λ (x : Now). movedTo t x n) e) (pass-moved t p n (Fault k q) (h .end) room-at (m .body z) (m .file z) (ap pends e) refl
         (λ R. ap (λ (x : Now). run (stateWith R x) (slice (t .at) (t .at + n) p)) e ∙ run-fault k q (slice (t .at) (t .at + n) p)) (λ R d. tt))
 
-    pub room-over : (g : Totals) → t .judge .now ≡ Over g → (r : Turn) → r ≡ movedTo t (Over g) n → PassIs t p r
+    pub room-over : (g : Totals) → t .judge .now ≡ Over g → (r : Turn) → r ≡ movedTo t (t .judge .now) n → PassIs t p r
     room-over g e r w =
-        rw w (pass-moved t p n (Over g) (h .end) room-at (m .body z) (m .file z) (ap pends e) refl
+        rw (w ∙ ap (λ (x : Now). movedTo t x n) e) (pass-moved t p n (Over g) (h .end) room-at (m .body z) (m .file z) (ap pends e) refl
         (λ R. ap (λ (x : Now). run (stateWith R x) (slice (t .at) (t .at + n) p)) e ∙ run-over g (slice (t .at) (t .at + n) p))
         (λ R d. let b : sum g ≤ t .judge .size = subst (λ (x : Now). GoodNow (t .judge .size) R x) e d in omega arith))
 

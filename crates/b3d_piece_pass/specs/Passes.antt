@@ -1,8 +1,8 @@
 -- What passing over bytes promises, whatever the row.
 use mathlib.Core.Path.{_≡_}
-use Prim.Native.Nat.{ℕ, _+_, _<_, _≤_}
+use Prim.Native.Nat.{ℕ, _+_, _≤_}
 use mathlib.Core.List.{List}
-use lib.ListN.{length, getD}
+use lib.ListN.{length}
 use Rattle.b3d_pieces.specs.declared.Totals.{Totals}
 use Rattle.b3d_pieces.specs.declared.Open.{Open}
 use Rattle.b3d_pieces.specs.declared.Part.{Part}
@@ -12,25 +12,6 @@ use Rattle.b3d_piece_parts.specs.declared.Now.the-variants.{Live, Push, Pop, Fa
 use Rattle.b3d_piece_take.specs.declared.Judge.{Judge}
 use Rattle.b3d_piece_take.specs.declared.Turn.{Turn}
 use Rattle.b3d_piece_take.specs.Loops.{leftOf, restOf, Going}
-
--- ---- how many bytes
-
--- at most n, and the last of them before the end
-pub record Before (at end n r : ℕ) : Type 0 where
-  pub most : r ≤ n
-  pub inside : (r ≡ 0 → ⊥) → at + r < end
-
--- the first zero from `from` on, or `last`
-pub record UntilZero (p : List ℕ) (from last r : ℕ) : Type 0 where
-  pub ahead : from ≤ r
-  pub within : r ≤ last
-  pub text : (k : ℕ) → from ≤ k → k < r → getD p k 0 ≡ 0 → ⊥
-
--- of `left` bytes after so many
-pub record RoomIs (size left r : ℕ) : Type 0 where
-  pub most : r ≤ left
-  pub body : (r ≡ 0 → ⊥) → 8 ≤ size
-  pub file : (r ≡ 0 → ⊥) → size + r ≤ 16777217
 
 -- ---- a turn of the loop after n bytes
 

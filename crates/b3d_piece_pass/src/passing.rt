@@ -3,13 +3,13 @@ ghost use mathlib.Core.Path.{_≡_};
 ghost use Prim.Native.Nat.{_+_, _≤_};
 ghost use lib.ListN.{length};
 ghost use Rattle.b3d_pieces.specs.declared.Part.the-variants.{Text as aText, Row as aRow, Skip as aSkip};
-ghost use Rattle.b3d_piece_pass.specs.Passes.{RoomIs, movedTo, PassReady, PassFrom, PassIs};
-use crate::parts::before;
-use crate::parts::until_zero;
+ghost use Rattle.b3d_piece_pass.specs.Passes.{movedTo, PassReady, PassFrom, PassIs};
+use b3d_piece_ahead::before;
+use b3d_piece_ahead::room;
+use b3d_piece_ahead::until_zero;
 use b3d_piece_items::judging::row_rules;
 use b3d_piece_items::rows::rows;
 use b3d_piece_numbers::RowPlace;
-use b3d_piece_numbers::numbers::lower;
 use b3d_piece_parts::Now;
 use b3d_piece_take::Judge;
 use b3d_piece_take::Turn;
@@ -17,19 +17,6 @@ use b3d_pieces::Kept;
 use b3d_pieces::Open;
 use b3d_pieces::Part;
 use b3d_pieces::Totals;
-
-// How many of so many bytes may be taken: none of BB3D's header, none past the longest file and one.
-fn room(size: usize, left: usize) -> usize
-    ensures { λ r. ⌜ RoomIs size left r ⌝ }
-{
-    if size < 8 {
-        return 0;
-    }
-    if 16777217 <= size {
-        return 0;
-    }
-    lower(left, 16777217 - size)
-}
 
 // After n bytes.
 fn moved(t: Turn, now: Now, n: usize) -> Turn
@@ -143,7 +130,7 @@ pub fn pass(t: Turn, piece: &[u8]) -> Turn
         Now::Live(at, m, g, f) => pass_live(t, piece, n, at, m, g, f),
         Now::Push(_, _, _, _) => t,
         Now::Pop(_, _) => t,
-        Now::Fault(k, p) => moved(t, Now::Fault(k, p), n),
-        Now::Over(g) => moved(t, Now::Over(g), n),
+        Now::Fault(_, _) => moved(t, now, n),
+        Now::Over(_) => moved(t, now, n),
     }
 }

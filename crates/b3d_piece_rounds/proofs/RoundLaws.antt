@@ -5,43 +5,51 @@ use native.Mathlib.Omega.{arith}
 use mathlib.Core.Bool.{Bool, true, false}
 use mathlib.Core.List.{List}
 use lib.ListN.{length, getD}
-use lib.Dec.{ltb}
-use borrow.Author.Tests.{le-ltb}
+use lib.Dec.{ltb, eqb}
+use borrow.Author.Tests.{le-ltb, ltb-true, ltb-false, eqb-true, eqb-false}
 use Rattle.b3d_pieces.specs.declared.Open.{Open}
 use Rattle.b3d_pieces.specs.Good.{extra}
-use Rattle.b3d_pieces.specs.Close.{closing}
 use Rattle.b3d_scene.specs.declared.Answer.{Answer}
 use Rattle.b3d_piece_turn.specs.Turns.{pends}
 use Rattle.b3d_piece_turn.proofs.TurnLaws.{none}
 use Rattle.b3d_piece_take.specs.declared.Judge.{Judge}
 use Rattle.b3d_piece_take.specs.declared.Turn.{Turn}
-use Rattle.b3d_piece_take.specs.Takes.{heldOf, TakeReady}
+use Rattle.b3d_piece_take.specs.Takes.{TakeReady}
 use Rattle.b3d_piece_take.specs.Loops.{Begins, StepIs, Going}
 use Rattle.b3d_piece_take.proofs.LoopLaws.{turn-ready}
 use Rattle.b3d_piece_pass.specs.Passes.{PassReady, PassIs}
 use Rattle.b3d_piece_pass.proofs.PassLaws.{going-ready}
-use Rattle.b3d_piece_take.specs.Runs.{CanRun}
 use Rattle.b3d_piece_state.specs.declared.OpenRecord.{OpenRecord}
 use Rattle.b3d_piece_state.specs.declared.PieceState.{PieceState}
 use Rattle.b3d_piece_state.specs.declared.PieceFed.{PieceFed}
 use Rattle.b3d_piece_state.specs.Records.{openIn, recordOf}
 use Rattle.b3d_piece_state.specs.States.{judgeIn, stateOf}
 use Rattle.b3d_piece_state.proofs.RecordLaws.{record-back}
-use Rattle.b3d_piece_entry.specs.Tests.{Weighs, OpenFits, RowFits}
-use Rattle.b3d_piece_entry.specs.Entry.{StateTests}
+use Rattle.b3d_piece_loads.specs.Tests.{Weighs, OpenFits}
+use Rattle.b3d_piece_entry.specs.Entry.{RowFits, StateTests}
 use Rattle.b3d_piece_entry.proofs.Testing.{Loaded, loaded-none, loaded-over, loaded-next, loaded-all}
+use Rattle.b3d_piece_tests.specs.declared.Decision.{Decision}
+use Rattle.b3d_piece_tests.specs.Decisions.{refusing, testing, fineOr15, FineBy, FirstBy, TestBy}
 use Rattle.b3d_piece_answers.specs.declared.Closing.{Closing}
 use Rattle.b3d_piece_answers.specs.declared.Closing.the-variants.{Bad}
-use Rattle.b3d_piece_answers.specs.Closes.{closingOf, answerBy, wordAnswer, Closes}
+use Rattle.b3d_piece_answers.specs.Closes.{answerBy, wordAnswer, Closes}
 use Rattle.b3d_piece_calls.specs.Called.{shutting}
 use Rattle.b3d_piece_rounds.specs.declared.Round.{Round}
 use Rattle.b3d_piece_rounds.specs.declared.PieceClosed.{PieceClosed}
-use Rattle.b3d_piece_rounds.specs.Rounds.{Testing, Decided, Stands, ReadyIs, Refusing, FirstIs, TestReady, TestIs, TurnReady, ended, stepped, TurnedIs, NextReady, NextIs, LastIs, CloseReady, ClosedIs}
+use Rattle.b3d_piece_rounds.specs.Rounds.{Testing, Decided, FirstIs, TestReady, TestIs, TurnReady, ended, stepped, TurnedIs, NextReady, NextIs, LastIs, CloseReady, ClosedIs}
 
 -- ---- the row was tested
 
+-- the records in use have the load w, and one goes back to its place
+record ReadyIs (t : Turn) (w put : ℕ) (rec : OpenRecord) (r : Round) : Type 0 where
+  place : r .put ≡ put
+  back : r .rec ≡ rec
+  turn : r .turn ≡ t
+  testing : r .testing ≡ false
+  is : (n : ℕ) (rs : ℕ → Open) → 19 ≤ n → RowFits rs (t .judge .depth) w → Decided n rs r
+
 module _ (t : Turn) (w put : ℕ) (rec : OpenRecord) (r : Round) (b : Bool) (tb : StateTests (t .judge) w b) where
-  pub ready-fine : b ≡ true → r ≡ record { go = ltb (t .at) (t .end); get = t .get; put = put; rec = rec; testing = false; load = 0; number = 0; place = 0; turn = t } → ReadyIs t w put rec r
+  ready-fine : b ≡ true → r ≡ record { go = ltb (t .at) (t .end); get = t .get; put = put; rec = rec; testing = false; load = 0; number = 0; place = 0; turn = t } → ReadyIs t w put rec r
   ready-fine e q = rw q (record {
     place = refl;
     back = refl;
@@ -58,7 +66,7 @@ module _ (t : Turn) (w put : ℕ) (rec : OpenRecord) (r : Round) (b : Bool) (tb 
     };
   })
 
-  pub ready-unfit : b ≡ false → r ≡ record { go = false; get = 0; put = put; rec = rec; testing = false; load = 0; number = 15; place = 0; turn = t } → ReadyIs t w put rec r
+  ready-unfit : b ≡ false → r ≡ record { go = false; get = 0; put = put; rec = rec; testing = false; load = 0; number = 15; place = 0; turn = t } → ReadyIs t w put rec r
   ready-unfit e q = rw q (record {
     place = refl;
     back = refl;
@@ -75,12 +83,27 @@ module _ (t : Turn) (w put : ℕ) (rec : OpenRecord) (r : Round) (b : Bool) (tb 
     };
   })
 
-pub ruleset ready-laws = (ready-fine, ready-unfit)
+abbrev made : Decision → ℕ → OpenRecord → Turn → Round
+made x put rec t = record { go = x .go; get = x .get; put = put; rec = rec; testing = x .testing; load = x .load; number = x .number; place = x .place; turn = t }
+
+module _ (put : ℕ) (rec : OpenRecord) (t : Turn) (x : Decision) (r : Round) (q : r ≡ made x put rec t) where
+  made-by : (y : Decision) → x ≡ y → r ≡ made y put rec t
+  made-by y e = q ∙ ap (λ (z : Decision). made z put rec t) e
+
+  ready-by : (w : ℕ) → FineBy (t .judge) w (ltb (t .at) (t .end)) (t .get) x → ReadyIs t w put rec r
+  ready-by w h = go (h .fine) refl
+    where
+      says : (b : Bool) → h .fine ≡ b → r ≡ made (fineOr15 b (ltb (t .at) (t .end)) (t .get)) put rec t
+      says b e = made-by (fineOr15 b (ltb (t .at) (t .end)) (t .get)) (h .is ∙ ap (λ (c : Bool). fineOr15 c (ltb (t .at) (t .end)) (t .get)) e)
+
+      go : (b : Bool) → h .fine ≡ b → ReadyIs t w put rec r
+      go true e = ready-fine t w put rec r (h .fine) (h .tests) e (says true e)
+      go false e = ready-unfit t w put rec r (h .fine) (h .tests) e (says false e)
 
 -- ---- what is handed in
 
 module _ (j : Judge) (n bytes : ℕ) (t : Turn) (b : Begins j bytes t) (rec : OpenRecord) (r : Round) where
-  pub first-short : n < 19 → r ≡ record { go = false; get = 0; put = 0; rec = rec; testing = false; load = 0; number = 11; place = 19; turn = t } → FirstIs j n bytes r
+  first-short : n < 19 → r ≡ record { go = false; get = 0; put = 0; rec = rec; testing = false; load = 0; number = 11; place = 19; turn = t } → FirstIs j n bytes r
   first-short h q = rw q (record {
     begun = b;
     short = λ l. record { go = refl; testing = refl; number = refl; place = refl };
@@ -89,7 +112,7 @@ module _ (j : Judge) (n bytes : ℕ) (t : Turn) (b : Begins j bytes t) (rec : Op
   })
 
   module _ (l : 19 ≤ n) where
-    pub first-shut : j .shut ≡ true → r ≡ record { go = false; get = 0; put = 0; rec = rec; testing = false; load = 0; number = 15; place = 0; turn = t } → FirstIs j n bytes r
+    first-shut : j .shut ≡ true → r ≡ record { go = false; get = 0; put = 0; rec = rec; testing = false; load = 0; number = 15; place = 0; turn = t } → FirstIs j n bytes r
     first-shut o q = rw q (record {
       begun = b;
       short = λ k. absurd (omega arith);
@@ -98,7 +121,7 @@ module _ (j : Judge) (n bytes : ℕ) (t : Turn) (b : Begins j bytes t) (rec : Op
     })
 
     module _ (o : j .shut ≡ false) where
-      pub first-deep : 18 < j .depth → r ≡ record { go = false; get = 0; put = 0; rec = rec; testing = false; load = 0; number = 15; place = 0; turn = t } → FirstIs j n bytes r
+      first-deep : 18 < j .depth → r ≡ record { go = false; get = 0; put = 0; rec = rec; testing = false; load = 0; number = 15; place = 0; turn = t } → FirstIs j n bytes r
       first-deep d q = rw q (record {
         begun = b;
         short = λ k. absurd (omega arith);
@@ -120,7 +143,7 @@ module _ (j : Judge) (n bytes : ℕ) (t : Turn) (b : Begins j bytes t) (rec : Op
           deep : t .judge .depth ≤ 18 → ⊥
           deep h = let e = ap (λ (x : Judge). x .depth) (b .judge) in omega arith
 
-      pub first-none : j .depth ≡ 0 → ReadyIs t 0 0 rec r → FirstIs j n bytes r
+      first-none : j .depth ≡ 0 → ReadyIs t 0 0 rec r → FirstIs j n bytes r
       first-none d y = record {
         begun = subst (λ (x : Turn). Begins j bytes x) (sym (y .turn)) b;
         short = λ k. absurd (omega arith);
@@ -131,7 +154,7 @@ module _ (j : Judge) (n bytes : ℕ) (t : Turn) (b : Begins j bytes t) (rec : Op
           fits : (rs : ℕ → Open) → RowFits rs (t .judge .depth) 0
           fits rs = let e = ap (λ (x : Judge). x .depth) (b .judge) in loaded-all rs (t .judge .depth) 0 0 (loaded-none rs (t .judge .depth)) (omega arith) 0 refl
 
-      pub first-some : j .depth ≤ 18 → (j .depth ≡ 0 → ⊥) → r ≡ record { go = true; get = 0; put = 0; rec = rec; testing = true; load = 0; number = 0; place = 0; turn = t } → FirstIs j n bytes r
+      first-some : j .depth ≤ 18 → (j .depth ≡ 0 → ⊥) → r ≡ record { go = true; get = 0; put = 0; rec = rec; testing = true; load = 0; number = 0; place = 0; turn = t } → FirstIs j n bytes r
       first-some m d q = rw q (record {
         begun = b;
         short = λ k. absurd (omega arith);
@@ -145,10 +168,31 @@ module _ (j : Judge) (n bytes : ℕ) (t : Turn) (b : Begins j bytes t) (rec : Op
           positive : (j .depth ≡ 0 → ⊥) → t .judge .depth ≡ j .depth → 0 < t .judge .depth
           positive f e = omega (arith, f)
 
-pub ruleset first-laws = (first-short, first-shut, first-deep, first-none, first-some)
+pub first-by : (s : PieceState) (j : Judge) → j ≡ judgeIn s → (n bytes : ℕ) (t : Turn) → Begins j bytes t → (rec : OpenRecord) (x : Decision) → FirstBy j n (ltb (t .at) (t .end)) (t .get) x
+    → (r : Round) → r ≡ made x 0 rec t → FirstIs (judgeIn s) n bytes r
+first-by s j ej n bytes t b rec x h r q = subst (λ (y : Judge). FirstIs y n bytes r) ej (by-records (ltb n 19) refl)
+  where
+    says : (y : Decision) → x ≡ y → r ≡ made y 0 rec t
+    says y e = made-by 0 rec t x r q y e
 
-pub first-by : (s : PieceState) (j : Judge) → j ≡ judgeIn s → (n bytes : ℕ) (r : Round) → FirstIs j n bytes r → FirstIs (judgeIn s) n bytes r
-first-by s j e n bytes r f = subst (λ (x : Judge). FirstIs x n bytes r) e f
+    ready : FineBy j 0 (ltb (t .at) (t .end)) (t .get) x → ReadyIs t 0 0 rec r
+    ready f = ready-by 0 rec t x r q 0 (subst (λ (y : Judge). FineBy y 0 (ltb (t .at) (t .end)) (t .get) x) (sym (b .judge)) f)
+
+    by-none : 19 ≤ n → j .shut ≡ false → j .depth ≤ 18 → (d : Bool) → eqb (j .depth) 0 ≡ d → FirstIs j n bytes r
+    by-none l o m true e = let z = eqb-true (j .depth) 0 e in first-none j n bytes t b rec r l o z (ready (h .none l o z))
+    by-none l o m false e = let z = eqb-false (j .depth) 0 e in first-some j n bytes t b rec r l o m z (says (testing 0 0) (h .some l o m z))
+
+    by-depth : 19 ≤ n → j .shut ≡ false → (d : Bool) → ltb 18 (j .depth) ≡ d → FirstIs j n bytes r
+    by-depth l o true e = let d = ltb-true 18 (j .depth) e in first-deep j n bytes t b rec r l o d (says (refusing 15 0) (h .deep l o d))
+    by-depth l o false e = by-none l o (ltb-false 18 (j .depth) e) (eqb (j .depth) 0) refl
+
+    by-shut : 19 ≤ n → (o : Bool) → j .shut ≡ o → FirstIs j n bytes r
+    by-shut l true o = first-shut j n bytes t b rec r l o (says (refusing 15 0) (h .shut l o))
+    by-shut l false o = by-depth l o (ltb 18 (j .depth)) refl
+
+    by-records : (k : Bool) → ltb n 19 ≡ k → FirstIs j n bytes r
+    by-records true e = let l = ltb-true n 19 e in first-short j n bytes t b rec r l (says (refusing 11 19) (h .short l))
+    by-records false e = by-shut (ltb-false n 19 e) (j .shut) refl
 
 -- ---- a record is tested
 
@@ -157,9 +201,6 @@ test-load t h = h .few
 
 pub test-get : (t : Round) → TestReady t → t .get ≤ 17
 test-get t h = h .get
-
-pub test-most : (t : Round) (v : ℕ) (P : Type 0) (n : ℕ) → TestReady t → Weighs P n v → t .load + v ≤ 33554435
-test-most t v P n h w = let a = h .few in let b = w .most in omega arith
 
 module _ (t : Round) (rec : OpenRecord) (f : Open) (ef : f ≡ openIn rec) (v : ℕ) (wv : Weighs (OpenFits f (t .get)) (f .count + extra (f .tag)) v) (r : Round) where
   loaded : (rs : ℕ → Open) → Testing rs t → Loaded rs (t .turn .judge .depth) (t .load) (t .get)
@@ -174,14 +215,14 @@ module _ (t : Round) (rec : OpenRecord) (f : Open) (ef : f ≡ openIn rec) (v : 
     is = λ n rs room h e. record { testing = λ z. none (sym (y .testing) ∙ z); decided = λ z. y .is n rs room (g rs h e) };
   }
 
-  pub test-over : 16777217 < t .load + v → ReadyIs (t .turn) 16777218 (t .get) rec r → TestIs t rec r
+  test-over : 16777217 < t .load + v → ReadyIs (t .turn) 16777218 (t .get) rec r → TestIs t rec r
   test-over o y = decides 16777218 y (λ rs h e. loaded-over rs (t .turn .judge .depth) (t .load) (t .get) (loaded rs h) (h .some) f (ef ∙ e) v wv o 16777218 refl)
 
   module _ (l : t .load + v ≤ 16777217) where
     next : (rs : ℕ → Open) → Testing rs t → openIn rec ≡ rs (t .get) → Loaded rs (t .turn .judge .depth) (t .load + v) (t .get + 1)
     next rs h e = loaded-next rs (t .turn .judge .depth) (t .load) (t .get) (loaded rs h) (h .some) f (ef ∙ e) v wv l
 
-    pub test-more : t .get + 1 < t .turn .judge .depth
+    test-more : t .get + 1 < t .turn .judge .depth
         → r ≡ record { go = true; get = t .get + 1; put = t .get; rec = rec; testing = true; load = t .load + v; number = 0; place = 0; turn = t .turn } → TestIs t rec r
     test-more m q = rw q (record {
       place = refl;
@@ -194,10 +235,27 @@ module _ (t : Round) (rec : OpenRecord) (f : Open) (ef : f ≡ openIn rec) (v : 
       };
     })
 
-    pub test-last : t .turn .judge .depth ≤ t .get + 1 → ReadyIs (t .turn) (t .load + v) (t .get) rec r → TestIs t rec r
+    test-last : t .turn .judge .depth ≤ t .get + 1 → ReadyIs (t .turn) (t .load + v) (t .get) rec r → TestIs t rec r
     test-last m y = decides (t .load + v) y (λ rs h e. loaded-all rs (t .turn .judge .depth) (t .load + v) (t .get + 1) (next rs h e) m (t .load + v) refl)
 
-pub ruleset test-laws = (test-load, test-get, test-most, test-over, test-more, test-last)
+pub test-by : (t : Round) (rec : OpenRecord) (f : Open) → f ≡ openIn rec → (x : Decision)
+    → TestBy (t .turn .judge) (t .load) (t .get) f (ltb (t .turn .at) (t .turn .end)) (t .turn .get) x → (r : Round) → r ≡ made x (t .get) rec (t .turn) → TestIs t rec r
+test-by t rec f ef x h r q = by-load (ltb 16777217 (t .load + h .v)) refl
+  where
+    ready : (w : ℕ) → FineBy (t .turn .judge) w (ltb (t .turn .at) (t .turn .end)) (t .turn .get) x → ReadyIs (t .turn) w (t .get) rec r
+    ready = ready-by (t .get) rec (t .turn) x r q
+
+    by-last : t .load + h .v ≤ 16777217 → (m : Bool) → ltb (t .get + 1) (t .turn .judge .depth) ≡ m → TestIs t rec r
+    by-last l true e =
+        let m = ltb-true (t .get + 1) (t .turn .judge .depth) e in
+        test-more t rec f ef (h .v) (h .weighs) r l m (made-by (t .get) rec (t .turn) x r q (testing (t .get + 1) (t .load + h .v)) (h .more l m))
+    by-last l false e = let m = ltb-false (t .get + 1) (t .turn .judge .depth) e in test-last t rec f ef (h .v) (h .weighs) r l m (ready (t .load + h .v) (h .last l m))
+
+    by-load : (o : Bool) → ltb 16777217 (t .load + h .v) ≡ o → TestIs t rec r
+    by-load true e = let o = ltb-true 16777217 (t .load + h .v) e in test-over t rec f ef (h .v) (h .weighs) r o (ready 16777218 (h .over o))
+    by-load false e = by-last (ltb-false 16777217 (t .load + h .v) e) (ltb (t .get + 1) (t .turn .judge .depth)) refl
+
+pub ruleset test-laws = (test-load, test-get)
 
 -- ---- a turn
 

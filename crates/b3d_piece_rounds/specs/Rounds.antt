@@ -20,7 +20,6 @@ use Rattle.b3d_piece_state.specs.declared.PieceState.{PieceState}
 use Rattle.b3d_piece_state.specs.declared.PieceFed.{PieceFed}
 use Rattle.b3d_piece_state.specs.Records.{openIn}
 use Rattle.b3d_piece_state.specs.States.{judgeIn, stateOf}
-use Rattle.b3d_piece_entry.specs.Tests.{RowFits}
 use Rattle.b3d_piece_answers.specs.declared.Closing.the-variants.{Bad}
 use Rattle.b3d_piece_answers.specs.Closes.{closingOf, answerBy, wordAnswer}
 use Rattle.b3d_piece_calls.specs.Called.{Holding, shutting}
@@ -64,13 +63,6 @@ pub record Decided (n : ℕ) (rs : ℕ → Open) (t : Round) : Type 0 where
 pub record Stands (n : ℕ) (rs : ℕ → Open) (t : Round) : Type 0 where
   pub testing : t .testing ≡ true → Testing rs t
   pub decided : t .testing ≡ false → Decided n rs t
-
-pub record ReadyIs (t : Turn) (w put : ℕ) (rec : OpenRecord) (r : Round) : Type 0 where
-  pub place : r .put ≡ put
-  pub back : r .rec ≡ rec
-  pub turn : r .turn ≡ t
-  pub testing : r .testing ≡ false
-  pub is : (n : ℕ) (rs : ℕ → Open) → 19 ≤ n → RowFits rs (t .judge .depth) w → Decided n rs r
 
 -- no round at all
 pub record Refusing (n p : ℕ) (r : Round) : Type 0 where

@@ -5,7 +5,7 @@ use crate::PieceState;
 use crate::records::flag_of;
 use crate::records::open_of;
 use crate::records::record_of;
-use b3d_piece_bytes::headers::fresh;
+use b3d_piece_headers::fresh;
 use b3d_piece_parts::Now;
 use b3d_piece_take::Judge;
 use b3d_piece_take::taking::nothing;

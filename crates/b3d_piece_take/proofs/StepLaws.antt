@@ -1,8 +1,10 @@
 -- The laws of the loop's functions, in the words of the code.
 use mathlib.Core.Path.{_≡_, refl, ap, sym, _∙_}
-use Prim.Native.Nat.{ℕ, _+_}
+use Prim.Native.Nat.{ℕ, _+_, _<_}
+use native.Mathlib.Omega.{arith}
 use mathlib.Core.Bool.{Bool, true, false}
 use Rattle.b3d_pieces.specs.declared.Open.{Open}
+use Rattle.b3d_piece_parts.specs.declared.Now.{Now}
 use Rattle.b3d_piece_turn.specs.Turns.{slotOf, pends}
 use Rattle.b3d_piece_take.specs.declared.Judge.{Judge}
 use Rattle.b3d_piece_take.specs.declared.Taken.{Taken}
@@ -13,11 +15,20 @@ use Rattle.b3d_piece_take.specs.Loops.{Begins, nextAt, StepIs}
 pub begins-is : (j : Judge) (bytes get : ℕ) → get ≡ slotOf (j .depth) → (f : Open) (r : Turn) → r ≡ record { judge = j; at = 0; end = bytes; get = get; put = 0; rec = f } → Begins j bytes r
 begins-is j bytes get e f r q = rw q (record { judge = refl; at = refl; end = refl; get = e })
 
-module _ (t : Turn) (rec : Open) (b : ℕ) (x : Taken) (h : TakeIs (t .judge) rec b x) (get : ℕ) (eg : get ≡ slotOf (x .judge .depth)) (p : Bool) (ep : p ≡ pends (x .judge .now)) (r : Turn) where
-  pub step-waits : p ≡ true → r ≡ record { judge = x .judge; at = t .at; end = t .end; get = get; put = x .put; rec = x .rec } → StepIs t rec b r
-  step-waits e q = rw q (record { took = h; at = ap (λ (y : Bool). nextAt y (t .at)) (sym e ∙ ep); end = refl; get = eg })
+module _ (now : Now) (at : ℕ) (p : Bool) (ep : p ≡ pends now) (r : ℕ) where
+  pub next-waits : p ≡ true → r ≡ at → r ≡ nextAt (pends now) at
+  next-waits e q = q ∙ ap (λ (y : Bool). nextAt y at) (sym e ∙ ep)
 
-  pub step-goes : p ≡ false → r ≡ record { judge = x .judge; at = t .at + 1; end = t .end; get = get; put = x .put; rec = x .rec } → StepIs t rec b r
-  step-goes e q = rw q (record { took = h; at = ap (λ (y : Bool). nextAt y (t .at)) (sym e ∙ ep); end = refl; get = eg })
+  pub next-goes : p ≡ false → r ≡ at + 1 → r ≡ nextAt (pends now) at
+  next-goes e q = q ∙ ap (λ (y : Bool). nextAt y at) (sym e ∙ ep)
 
-pub ruleset step-laws = (begins-is, step-waits, step-goes)
+pub ruleset next-laws = (next-waits, next-goes)
+
+pub at-small : (at end : ℕ) → at < end → end < 18446744073709551616 → at < 18446744073709551615
+at-small at end h l = omega arith
+
+pub step-is : (t : Turn) (rec : Open) (b : ℕ) (x : Taken) → TakeIs (t .judge) rec b x → (at : ℕ) → at ≡ nextAt (pends (x .judge .now)) (t .at) → (get : ℕ) → get ≡ slotOf (x .judge .depth)
+    → (r : Turn) → r ≡ record { judge = x .judge; at = at; end = t .end; get = get; put = x .put; rec = x .rec } → StepIs t rec b r
+step-is t rec b x h at ea get eg r q = rw q (record { took = h; at = ea; end = refl; get = eg })
+
+pub ruleset step-laws = (begins-is, at-small, step-is)

@@ -25,7 +25,7 @@ use Rattle.b3d_piece_turn.specs.Turns.{stackBy, slotOf, pends, ReadyNow, afterT
 use Rattle.b3d_piece_turn.proofs.TurnLaws.{same-stack, slot-most, none}
 use Rattle.b3d_piece_take.specs.declared.Judge.{Judge}
 use Rattle.b3d_piece_take.specs.declared.Taken.{Taken}
-use Rattle.b3d_piece_take.specs.Takes.{byteOf, headLow, headWorth, nowWith, heldOf, TakeReady, BodyReady, Changes, afterTake, TakeIs}
+use Rattle.b3d_piece_take.specs.Takes.{byteOf, headLow, headWorth, heldOf, TakeReady, BodyReady, Changes, afterTake, TakeIs}
 
 -- ---- a number of the header
 
@@ -195,8 +195,8 @@ module _ (j : Judge) (rec : Open) (b : ℕ) (ready : TakeReady j rec) (h : j .si
     head-3 e q = rw q (head-on 0 v (λ z. omega arith) (ap (heading (j .size + 1) 0) ev ∙ third-byte (j .size) (j .worth) (j .letters) b e) (rw e (omega arith)))
 
     pub head-7 : j .size ≡ 7 → (g : Totals) → g ≡ nothing → (f : Open) → f ≡ file v → (x : Now) → Gives 0 8 g f x (enter (texted (f .tag)) 8 g f)
-        → (y : Judge) → y ≡ begun v x .judge → r ≡ record { judge = y; put = p; rec = rec } → TakeIs j rec b r
-    head-7 e g eg f ef x h y ey q = rw (q, ey) (head-last v ev e x (rw (eg, ef) at h))
+        → r ≡ begun v x → TakeIs j rec b r
+    head-7 e g eg f ef x h q = rw q (head-last v ev e x (rw (eg, ef) at h))
 
     pub head-other : b < 256 → (j .size ≡ 3 → ⊥) → (j .size ≡ 7 → ⊥) → r ≡ on v (j .letters) → TakeIs j rec b r
     head-other w y z q =
@@ -292,8 +292,8 @@ module _ (j : Judge) (rec : Open) (b came : ℕ) (ready : TakeReady j rec) (k : 
             go true e = let z = k .wait e in let s = ready .size in omega arith
             go false e = let z = k .byte e .0 in let s = k .byte e .1 in omega arith
 
-    pub body-next : (x : Judge) → x ≡ next .judge → (r : Taken) → r ≡ record { judge = x; put = y .put; rec = y .rec } → TakeIs j rec b r
-    body-next x ex r q = rw (q, ex) next-is
+    pub body-next : (r : Taken) → r ≡ next → TakeIs j rec b r
+    body-next r q = rw q next-is
 
 pub ready-depth : (j : Judge) (rec : Open) → TakeReady j rec → j .depth ≤ 18
 ready-depth j rec h = h .depth

@@ -6,7 +6,6 @@ use lib.Dec.{ltb}
 use Rattle.b3d_pieces.specs.declared.Open.{Open}
 use Rattle.b3d_pieces.specs.Close.{Whole, heading, inside, Held, byte}
 use Rattle.b3d_pieces.specs.Good.{worth}
-use Rattle.b3d_piece_parts.specs.declared.Now.{Now}
 use Rattle.b3d_piece_parts.specs.Nows.{stateWith, GoodNow}
 use Rattle.b3d_piece_bytes.specs.Bytes.{gathers}
 use Rattle.b3d_piece_turn.specs.Turns.{stackBy, pends, pendOf, ReadyNow}
@@ -27,10 +26,6 @@ headLow n = worth (byteOf n)
 
 abbrev pub headWorth : ℕ → ℕ → ℕ → ℕ
 headWorth n acc b = gathers (byteOf n) acc b
-
--- with so many chunks in the row, and this in the innermost
-abbrev pub nowWith : Judge → ℕ → Now → Judge
-nowWith j depth x = record { size = j .size; worth = j .worth; letters = j .letters; length = j .length; shut = j .shut; depth = depth; now = x }
 
 abbrev pub wholeOf : Bool → Judge → (ℕ → Open) → Whole
 wholeOf true j rs = heading (j .size) (j .worth) (j .letters)

@@ -1,12 +1,15 @@
 // The loop over a piece's bytes, by value: what it begins with, and a turn. Whoever holds the row reads the record at `get` before a turn
 // and writes `rec` at `put` after it.
+ghost use mathlib.Core.Path.{_≡_};
 ghost use Prim.Native.Nat.{_<_};
+ghost use Rattle.b3d_piece_turn.specs.Turns.{pends};
 ghost use Rattle.b3d_piece_take.specs.Takes.{TakeReady};
-ghost use Rattle.b3d_piece_take.specs.Loops.{Begins, StepIs};
+ghost use Rattle.b3d_piece_take.specs.Loops.{Begins, nextAt, StepIs};
 use crate::Judge;
 use crate::Turn;
 use crate::taking::take;
-use b3d_piece_bytes::headers::fresh;
+use b3d_piece_headers::fresh;
+use b3d_piece_parts::Now;
 use b3d_piece_turn::turning::pending;
 use b3d_piece_turn::turning::slot;
 use b3d_pieces::Open;
@@ -28,6 +31,17 @@ pub fn begin(j: Judge, bytes: usize) -> Turn
     }
 }
 
+// The place of the next byte to take: this one while chunks are entered or left.
+fn next_at(now: Now, at: usize) -> usize
+    requires { ⌜ at < 18446744073709551615 ⌝ }
+    ensures { λ r. ⌜ r ≡ nextAt (pends now) at ⌝ }
+{
+    if pending(now) {
+        return at;
+    }
+    at + 1
+}
+
 pub fn step(t: Turn, rec: Open, b: u8) -> Turn
     requires { ⌜ TakeReady (t .judge) rec × (t .at < t .end) ⌝ }
     ensures { λ r. ⌜ StepIs t rec b r ⌝ }
@@ -37,19 +51,14 @@ pub fn step(t: Turn, rec: Open, b: u8) -> Turn
     let next = x.judge;
     let back = x.rec;
     let now = next.now;
-    let depth = next.depth;
-    let get = slot(depth);
-    let mut y = Turn {
+    let at = next_at(now, t.at);
+    let get = slot(next.depth);
+    Turn {
         judge: next,
-        at: t.at,
+        at: at,
         end: t.end,
         get: get,
         put: x.put,
         rec: back,
-    };
-    if pending(now) {
-        return y;
     }
-    y.at = t.at + 1;
-    y
 }

@@ -3,14 +3,14 @@ ghost use mathlib.Core.Path.{_≡_};
 ghost use Prim.Native.Nat.{_+_, _<_};
 ghost use mathlib.Core.Bool.{false};
 ghost use Rattle.b3d_pieces.specs.Close.{nothing as nothingOf};
-ghost use Rattle.b3d_piece_take.specs.Takes.{headLow, headWorth, nowWith, TakeReady, BodyReady, TakeIs};
+ghost use Rattle.b3d_piece_take.specs.Takes.{headLow, headWorth, TakeReady, BodyReady, TakeIs};
 ghost use Rattle.b3d_piece_turn.specs.Turns.{pends};
 use crate::Judge;
 use crate::Taken;
+use b3d_piece_bodies::enter;
 use b3d_piece_bytes::bytes::gathered;
-use b3d_piece_bytes::headers::fresh;
+use b3d_piece_headers::fresh;
 use b3d_piece_parts::Now;
-use b3d_piece_parts::bodies::enter;
 use b3d_piece_turn::turning::pending;
 use b3d_piece_turn::turning::slot;
 use b3d_piece_turn::turning::turn;
@@ -47,21 +47,6 @@ pub fn nothing() -> Totals
     }
 }
 
-// With so many chunks in the row, and this in the innermost.
-pub fn with_now(j: Judge, depth: usize, now: Now) -> Judge
-    ensures { λ r. ⌜ r ≡ nowWith j depth now ⌝ }
-{
-    Judge {
-        size: j.size,
-        worth: j.worth,
-        letters: j.letters,
-        length: j.length,
-        shut: j.shut,
-        depth: depth,
-        now: now,
-    }
-}
-
 pub fn head_turn(j: Judge, rec: Open, b: u8) -> Taken
     requires { ⌜ TakeReady j rec × (j .size < 8) × (pends (j .now) ≡ false) ⌝ }
     ensures { λ r. ⌜ TakeIs j rec b r ⌝ }
@@ -70,21 +55,27 @@ pub fn head_turn(j: Judge, rec: Open, b: u8) -> Taken
     let depth = j.depth;
     let put = slot(depth);
     let v = head_number(size, j.worth, b);
+    if size == 7 {
+        let f = fresh(Tag::BB3D, 0, 8 + v, 16, 0);
+        let g = nothing();
+        let first = enter(8, g, f);
+        let x = Judge {
+            size: size + 1,
+            worth: 0,
+            letters: j.letters,
+            length: v,
+            shut: j.shut,
+            depth: 0,
+            now: first,
+        };
+        return Taken { judge: x, put, rec };
+    }
     let mut x = j;
     x.size = size + 1;
     if size == 3 {
         x.worth = 0;
         x.letters = v;
         return Taken { judge: x, put, rec };
-    }
-    if size == 7 {
-        x.worth = 0;
-        x.length = v;
-        let f = fresh(Tag::BB3D, 0, 8 + v, 16, 0);
-        let g = nothing();
-        let first = enter(8, g, f);
-        let y = with_now(x, 0, first);
-        return Taken { judge: y, put, rec };
     }
     x.worth = v;
     Taken { judge: x, put, rec }
@@ -99,14 +90,19 @@ pub fn body_turn(j: Judge, rec: Open, b: u8, came: usize) -> Taken
     let depth = j.depth;
     let y = turn(now, depth, rec, b);
     let next = y.now;
-    let put = y.put;
     let back = y.rec;
-    let mut x = j;
-    x.size = j.size + came;
-    let z = with_now(x, y.depth, next);
+    let x = Judge {
+        size: j.size + came,
+        worth: j.worth,
+        letters: j.letters,
+        length: j.length,
+        shut: j.shut,
+        depth: y.depth,
+        now: next,
+    };
     Taken {
-        judge: z,
-        put: put,
+        judge: x,
+        put: y.put,
         rec: back,
     }
 }

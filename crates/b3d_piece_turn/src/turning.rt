@@ -4,10 +4,10 @@ ghost use mathlib.Core.Path.{_≡_};
 ghost use Prim.Native.Nat.{_≤_};
 ghost use Rattle.b3d_piece_turn.specs.Turns.{slotOf, pends, ReadyNow, TurnIs};
 use crate::Turned;
+use b3d_piece_bodies::enter;
 use b3d_piece_bytes::bytes::byte_in;
 use b3d_piece_parts::Now;
 use b3d_piece_parts::between::edge;
-use b3d_piece_parts::bodies::enter;
 use b3d_pieces::Open;
 
 // The place of the last of so many records.

@@ -1,5 +1,5 @@
 // Rows that begin with a name: its place and its size in the bytes that hold the names.
-use b3d_put::number;
+use b3d_put_words::number;
 ghost use Prim.Native.Nat.{_+_, _*_, _/_, _<_, _≤_};
 ghost use lib.ListN.{length};
 ghost use Rattle.emit.specs.Writing.{Room, Put};

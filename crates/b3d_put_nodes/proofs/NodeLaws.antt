@@ -23,7 +23,7 @@ use Rattle.b3d_sound.specs.CellCounts.{cellCounts}
 use Rattle.b3d_sound.proofs.Below.{here-more, here-data, here-counts}
 use Rattle.b3d_check_rows.specs.Rows.{rowAt}
 use Rattle.b3d_sound.specs.Rooms.{Limited}
-use Rattle.b3d_check_node.specs.Parts.{partRows, Below}
+use Rattle.b3d_check_counts.specs.Parts.{partRows, Below}
 use Rattle.b3d_put_own.specs.Own.{tableRows, ownBytes, OwnThere}
 use Rattle.b3d_put_nodes.specs.Walk.{nodesBytes, bodyBytes, nodeBytes, Sized, Stand, Placed, Writable, Writes, WritableFirst, WritesFirst}
 use Rattle.b3d_put_nodes.proofs.NodeBytes.{body-both, node-chunk}

@@ -24,7 +24,7 @@ use Rattle.b3d_scene.proofs.Rows.Trees.{nodes-rise}
 use Rattle.b3d_scene.proofs.Rows.RowLists.{cut-length}
 use Rattle.b3d_sound.proofs.Below.{here-more, here-end}
 use Rattle.b3d_sound.proofs.Places.{cut-cell}
-use Rattle.b3d_check_node.specs.Parts.{Below}
+use Rattle.b3d_check_counts.specs.Parts.{Below}
 use Rattle.b3d_put_own.specs.Own.{tableRows}
 use Rattle.b3d_put_nodes.specs.Walk.{nodesBytes, nodeBytes, Sized, There, Stand, First, Placed, Writable, Writes, WritableFirst, WritesFirst}
 use Rattle.b3d_put_nodes.proofs.NodeBytes.{nodes-both}

@@ -18,11 +18,12 @@ use Rattle.b3d_sound.specs.CellCounts.{endOf, meshCounts, weightCounts, kindCou
 use Rattle.b3d_sound.proofs.Places.{cut-cell}
 use Rattle.b3d_check_rows.specs.Rows.{rowAt}
 use Rattle.b3d_sound.specs.Rooms.{Limited}
-use Rattle.b3d_check_node.specs.Parts.{partRows, Below}
+use Rattle.b3d_check_counts.specs.Parts.{partRows, Below}
 use Rattle.b3d_put_rows.specs.Lent.{rowsIn}
 use Rattle.b3d_put_lists.specs.Named.{NameThere}
-use Rattle.b3d_put.specs.Chunks.{MeshThere}
-use Rattle.b3d_put_own.specs.Own.{tableRows, KindThere, MovesThere, OwnThere}
+use Rattle.b3d_put_mesh.specs.Mesh.{MeshThere}
+use Rattle.b3d_put_moves.specs.Moves.{MovesThere}
+use Rattle.b3d_put_own.specs.Own.{tableRows, KindThere, OwnThere}
 use Rattle.b3d_put_nodes.specs.Walk.{Sized, There}
 
 -- ---- rows

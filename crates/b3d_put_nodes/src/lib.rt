@@ -36,7 +36,7 @@ pub fn put_node(
 {
     let body = &mut out[8..];
     let own = b3d_put_own::put_own(names, t3, t4, t5, t6, t7, t8, t9, t10, n, body);
-    let m = b3d_check_node::node_counts(n, all, t3, t4, t6, t9);
+    let m = b3d_check_counts::node_counts(n, all, t3, t4, t6, t9);
     let i = n.nodes;
     let l = levels - 1;
     let rest = &mut out[own + 8..];
@@ -74,7 +74,7 @@ pub fn put_nodes(
     let mut size: usize = 0;
     let mut m = n;
     while m.nodes < all.nodes {
-        if b3d_put::number(t3, NODE_WIDTH * m.nodes + 2) != parent {
+        if b3d_put_words::number(t3, NODE_WIDTH * m.nodes + 2) != parent {
             return Walked { size, counts: m };
         }
         let rest = &mut out[size..];

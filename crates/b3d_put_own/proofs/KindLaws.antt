@@ -23,9 +23,11 @@ use Rattle.b3d_scene.specs.declared.Counts.{Counts}
 use Rattle.b3d_scene.specs.declared.Tag.{Tag}
 use Rattle.b3d_scene.specs.declared.Tag.the-variants.{MESH, VRTS, BONE}
 use Rattle.b3d_put_rows.specs.Lent.{rowsIn}
-use Rattle.b3d_put.specs.Chunks.{boneBytes, verticesBody, verticesBytes, setsBytes, MeshThere, meshBody, meshBytes}
+use Rattle.b3d_put_words.specs.Chunks.{boneBytes}
+use Rattle.b3d_put_runs.specs.Runs.{setsBytes}
+use Rattle.b3d_put_mesh.specs.Mesh.{verticesBody, verticesBytes, MeshThere, meshBody, meshBytes}
 use Rattle.b3d_put_own.specs.Own.{tableRows, kindBytes, KindThere}
-use Rattle.b3d_put_own.proofs.Cells.{rows-cell, three-words}
+use Rattle.b3d_put_rows.proofs.Cells.{rows-cell, three-words}
 
 -- ---- a mesh
 

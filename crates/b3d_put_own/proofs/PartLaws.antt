@@ -24,8 +24,9 @@ use Rattle.b3d_scene.specs.Tables.{nodeWidth}
 use Rattle.b3d_put_rows.specs.Lent.{rowsIn}
 use Rattle.b3d_put_lists.specs.Named.{namedBytes}
 use Rattle.b3d_put_rows.proofs.Cutting.{part-take}
-use Rattle.b3d_put_own.specs.Own.{tableRows, kindBytes, moveChunks, movesBytes, partsBytes, ownBytes}
-use Rattle.b3d_put_own.proofs.Cells.{rows-row}
+use Rattle.b3d_put_moves.specs.Moves.{moveChunks, movesBytes}
+use Rattle.b3d_put_own.specs.Own.{tableRows, kindBytes, partsBytes, ownBytes}
+use Rattle.b3d_put_rows.proofs.Cells.{rows-row}
 use Rattle.b3d_put_own.proofs.KindLaws.{kind-append}
 
 -- ---- the kind, and what moves

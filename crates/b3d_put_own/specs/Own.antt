@@ -2,18 +2,18 @@
 use mathlib.Core.Path.{_≡_}
 use Prim.Native.Nat.{ℕ, _+_, _*_, _/_, _<_, _≤_}
 use mathlib.Core.List.{List, []}
-use lib.ListN.{length, take, drop, getD}
+use lib.ListN.{length, getD}
 use lib.Dec.{eqb}
 use Rattle.wire.specs.Test.{if}
-use Rattle.b3d_scene.specs.Encode.{kindChunks, keyChunks, animChunks, writeNode}
-use Rattle.b3d_scene.specs.Rebuild.{Rows, mine, keysFrom, animFrom, kindFrom, dataFrom}
-use Rattle.b3d_scene.specs.Tags.{Chunk, writeChunks}
+use Rattle.b3d_scene.specs.Encode.{kindChunks, writeNode}
+use Rattle.b3d_scene.specs.Rebuild.{Rows, kindFrom, dataFrom}
+use Rattle.b3d_scene.specs.Tags.{writeChunks}
 use Rattle.b3d_scene.specs.declared.Counts.{Counts}
 use Rattle.b3d_scene.specs.Tables.{nodeWidth}
-use Rattle.b3d_sound.specs.CellCounts.{endOf}
 use Rattle.b3d_put_rows.specs.Lent.{rowsIn}
 use Rattle.b3d_put_lists.specs.Named.{NameThere}
-use Rattle.b3d_put.specs.Chunks.{MeshThere}
+use Rattle.b3d_put_mesh.specs.Mesh.{MeshThere}
+use Rattle.b3d_put_moves.specs.Moves.{moveChunks, MovesThere}
 
 -- the rows of tables 3 to 10, each by its words
 unfoldable pub tableRows : List ℕ → List ℕ → List ℕ → List ℕ → List ℕ → List ℕ → List ℕ → List ℕ → Rows
@@ -33,19 +33,6 @@ tableRows ds ms vs ss ts ws ls ks k =
 unfoldable pub kindBytes : List ℕ → List ℕ → List ℕ → List ℕ → List ℕ → Counts → ℕ → ℕ → List ℕ
 kindBytes ms vs ss ts ws n k c = writeChunks (kindChunks (kindFrom (tableRows [] ms vs ss ts ws [] []) n k c) [])
 
--- the ANIM that the four words of ds from word i on say
-unfoldable pub animPart : List ℕ → ℕ → List ℕ
-animPart ds i = writeChunks (animChunks (animFrom (take 4 (drop i ds))) [])
-
--- the KEYS and the ANIM of the node whose row begins at word i of ds, when n rows came before
-abbrev pub moveChunks : List ℕ → ℕ → List ℕ → List ℕ → Counts → List Chunk
-moveChunks ds i ls ks n =
-    let ls′ = mine (n .nodes) (drop (n .lists) (rowsIn 4 ls)) in
-    keyChunks (keysFrom ls′ (drop (n .keys) (rowsIn 11 ks))) (animChunks (animFrom (take 4 (drop (i + 16) ds))) [])
-
-unfoldable pub movesBytes : List ℕ → ℕ → List ℕ → List ℕ → Counts → List ℕ
-movesBytes ds i ls ks n = writeChunks (moveChunks ds i ls ks n)
-
 -- its kind, its KEYS and its ANIM
 unfoldable pub partsBytes : List ℕ → ℕ → List ℕ → List ℕ → List ℕ → List ℕ → List ℕ → List ℕ → List ℕ → Counts → List ℕ
 partsBytes ds i ms vs ss ts ws ls ks n =
@@ -61,11 +48,6 @@ ownBytes ns ds ms vs ss ts ws ls ks n = writeNode (dataFrom ns (tableRows ds ms 
 pub record KindThere (ms vs ss ts ws : List ℕ) (n : Counts) (k c : ℕ) : Type 0 where
   pub mesh : k ≡ 1 → MeshThere ms (9 * n .meshes) vs (n .vertices) ss (n .sets) ts (n .triangles)
   pub bone : k ≡ 2 → n .weights + c ≤ length ws / 2
-
--- the keys that the key lists of the node name
-pub record MovesThere (ls ks : List ℕ) (n : Counts) : Type 0 where
-  pub lists : n .lists ≤ length ls / 4
-  pub keys : endOf (n .keys) (mine (n .nodes) (drop (n .lists) (rowsIn 4 ls))) ≤ length ks / 11
 
 -- the row of the node and all that it names
 pub record OwnThere (ns ds ms vs ss ts ws ls ks : List ℕ) (n : Counts) : Type 0 where

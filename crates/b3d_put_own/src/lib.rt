@@ -1,19 +1,15 @@
 // What the body of a NODE holds before the nodes below it, written from rows of lent tables: the name, ten words, the kind, KEYS, ANIM.
 // t3 to t10 are those tables, by their numbers.
-ghost use mathlib.Core.Path.{_≡_};
-ghost use Prim.Native.Nat.{_+_, _*_, _/_, _<_, _≤_};
-ghost use lib.ListN.{length, drop, getD};
+ghost use Prim.Native.Nat.{_+_, _*_, _≤_};
+ghost use lib.ListN.{length, getD};
 ghost use Rattle.emit.specs.Writing.{Room, Put};
-ghost use Rattle.b3d_scene.specs.Rebuild.{mine};
 ghost use Rattle.b3d_scene.specs.Tables.{nodeWidth};
-ghost use Rattle.b3d_put_rows.specs.Lent.{rowsIn};
-ghost use Rattle.b3d_put_own.specs.Own.{kindBytes, animPart, movesBytes, ownBytes, KindThere, MovesThere, OwnThere};
-use b3d_put::number;
-use b3d_put::put_mesh;
-use b3d_put::put_runs;
-use b3d_put::put_values;
-use b3d_put::put_weights;
+ghost use Rattle.b3d_put_own.specs.Own.{kindBytes, ownBytes, KindThere, OwnThere};
 use b3d_put_lists::named::put_named;
+use b3d_put_mesh::put_mesh;
+use b3d_put_moves::put_moves;
+use b3d_put_words::number;
+use b3d_put_words::put_weights;
 use b3d_scene::Counts;
 use b3d_scene::NODE_WIDTH;
 
@@ -47,45 +43,6 @@ fn put_kind(
         return put_weights(t8, n.weights, many, out);
     }
     0
-}
-
-// The ANIM that the four words of the nodes from word `at` on say, or nothing.
-fn put_anim(nodes: &[u32], at: usize, out: &mut [u8]) -> usize
-    requires { ⌜ at + 4 ≤ length (now nodes) ⌝ }
-    requires { ⌜ Room (animPart (now nodes) at) (now out) ⌝ }
-    ensures { λ r. ⌜ Put (animPart (now (nodes .entry)) at) (now (out .entry)) (now (out .exit)) r ⌝ }
-{
-    if nodes[at] == 1 {
-        return put_values(nodes, at + 1, out);
-    }
-    0
-}
-
-// How many rows of key lists from row `first` on are those of a node.
-fn count_lists(lists: &[u32], first: usize, node: usize) -> usize
-    ensures { λ r. ⌜ r ≡ length (mine node (drop first (rowsIn 4 (now (lists .entry))))) ⌝ }
-{
-    let mut i = first;
-    while i < lists.len() / 4 {
-        if number(lists, 4 * i) != node {
-            return i - first;
-        }
-        i += 1;
-    }
-    i - first
-}
-
-// The KEYS and the ANIM of the node whose row begins at word `row`.
-fn put_moves(t3: &[u32], row: usize, t9: &[u32], t10: &[u32], n: Counts, out: &mut [u8]) -> usize
-    requires { ⌜ row + nodeWidth ≤ length (now t3) ⌝ }
-    requires { ⌜ MovesThere (now t9) (now t10) n ⌝ }
-    requires { ⌜ Room (movesBytes (now t3) row (now t9) (now t10) n) (now out) ⌝ }
-    ensures { λ r. ⌜ Put (movesBytes (now (t3 .entry)) row (now (t9 .entry)) (now (t10 .entry)) n) (now (out .entry)) (now (out .exit)) r ⌝ }
-{
-    let count = count_lists(t9, n.lists, n.nodes);
-    let a = put_runs(true, t9, n.lists, count, t10, n.keys, out);
-    let b = put_anim(t3, row + 16, &mut out[a..]);
-    a + b
 }
 
 // All that the body of the node after n rows holds before the nodes below it.

@@ -1,10 +1,10 @@
 -- A row by its runs is what the mask says of it.
 use mathlib.Core.Path.{_≡_, refl, ap, ap₂, sym, _∙_}
-use Prim.Native.Nat.{ℕ, zero, suc, _+_, _-_, _*_, _/_, _<_, _≤_}
-use native.Mathlib.Nat.{add-zero, mul-comm, add-mul, mul-le-mul-right, div-mul-le-self}
+use Prim.Native.Nat.{ℕ, zero, suc, _+_, _-_, _*_, _/_, _≤_}
+use native.Mathlib.Nat.{mul-comm, add-mul, mul-le-mul-right, div-mul-le-self}
 use native.Mathlib.Omega.{arith}
 use mathlib.Core.Bool.{Bool, true, false}
-use mathlib.Core.List.{List, [], _∷_, _++_, map, append-nil, append-assoc}
+use mathlib.Core.List.{List, [], _∷_, _++_, map, append-assoc}
 use lib.ListN.{length, take, drop, replicate}
 use lib.Seq.{drop-nil, drop-drop, take-take}
 use Rattle.layout.specs.Write.{writeWords, writeItems}
@@ -14,12 +14,12 @@ use Rattle.emit.proofs.Appends.{words-both}
 use Rattle.emit.proofs.Joining.{Both, Begins, both-begins}
 use Rattle.b3d_scene.specs.Mask.{squeeze}
 use Rattle.b3d_scene.specs.Rebuild.{cut}
-use Rattle.b3d_masks.specs.Runs.{run, setRuns, runMask, width, Short, OfVertex}
+use Rattle.b3d_masks.specs.Runs.{run, setRuns, runMask, width, Short}
 use Rattle.b3d_masks.specs.declared.RowRuns.{RowRuns}
 use Rattle.b3d_masks.proofs.Masks.{mask-width}
 use Rattle.b3d_put_rows.specs.Lent.{rowsIn, eachRow}
 use Rattle.b3d_put_rows.specs.RowBytes.{setsBytes, frontBytes, backBytes, rowBytes}
-use Rattle.b3d_put_rows.proofs.Cutting.{rows-from, part-take}
+use Rattle.b3d_put_rows.proofs.Cutting.{rows-from}
 use Rattle.b3d_put_rows.proofs.RowByRow.{items-each, RowsLeft, rows-none}
 
 -- ---- so many words, by their number
@@ -28,10 +28,7 @@ module _ (l : List ℕ) (n : ℕ) where
   pub few-is : (i : ℕ) → n ≡ i → writeWords (take n l) [] ≡ writeWords (take i l) []
   few-is i e = rw e
 
-  pub few-last : n ≤ 4 → (n ≡ 0 → ⊥) → (n ≡ 1 → ⊥) → (n ≡ 2 → ⊥) → (n ≡ 3 → ⊥) → writeWords (take n l) [] ≡ writeWords (take 4 l) []
-  few-last h a b c d = few-is 4 (omega arith)
-
-pub ruleset few-laws = (few-is, few-last)
+pub ruleset few-laws = (few-is)
 
 -- ---- what a mask of runs takes of a row
 
@@ -105,15 +102,6 @@ pub ruleset row-laws = (row-piece, masked-each)
 
 -- ---- the parts of a row
 
-pub sets-each : (sets size : ℕ) (ws : List ℕ) (p : ℕ) → setsBytes sets size ws p ≡ eachRow (λ x. writeWords (take size x) []) (cut 4 sets (drop p ws))
-unfolding setsBytes
-sets-each sets size ws p = refl
-
-pub sets-piece : (size : ℕ) (l : List ℕ) → size ≤ 4 → writeWords (take size (take 4 l)) [] ≡ writeWords (take size l) []
-sets-piece size l h = rw (take-take size 4 l h)
-
-pub ruleset sets-laws = (sets-each, sets-piece)
-
 module _ (head three : ℕ) (ws : List ℕ) (p : ℕ) where
   pub front-both : Both (frontBytes head three ws p) (writeWords (take head (drop p ws)) []) (writeWords (take three (drop (p + head) ws)) [])
   unfolding frontBytes
@@ -127,17 +115,6 @@ module _ (g : RowRuns) (ws : List ℕ) (p : ℕ) where
   unfolding backBytes
   back-begins = both-begins (record { is = refl })
 
-  pub vertex-back : g .wide ≡ 4 → Both (backBytes g ws p) (writeWords (take (g .some) (drop p ws)) []) (setsBytes (g .sets) (g .size) ws (p + 4))
-  unfolding backBytes
-  vertex-back e = rw e (record { is = refl })
-
-  -- a key's rotation is one set
-  pub key-back : Short g → g .wide ≡ 3 → g .sets ≡ 1 → Both (backBytes g ws p) (writeWords (take (g .some) (drop p ws)) []) (writeWords (take (g .size) (drop (p + 3) ws)) [])
-  unfolding backBytes setsBytes cut eachRow
-  key-back h e f =
-      let one : setsBytes 1 (g .size) ws (p + 3) ≡ writeWords (take (g .size) (drop (p + 3) ws)) [] = rw (append-nil (writeWords (take (g .size) (take 4 (drop (p + 3) ws))) []), take-take (g .size) 4 (drop (p + 3) ws) (h .size)) in
-      record { is = rw (e, f) (ap (λ (l : List ℕ). writeWords (take (g .some) (drop p ws)) [] ++ l) one) }
-
   module _ (h : ℕ) (e : g .head ≡ h) where
     pub row-both : Both (rowBytes g ws p) (frontBytes h (g .three) ws p) (backBytes g ws (p + h + 3))
     unfolding rowBytes
@@ -146,10 +123,7 @@ module _ (g : RowRuns) (ws : List ℕ) (p : ℕ) where
     pub row-begins : Begins (rowBytes g ws p) (frontBytes h (g .three) ws p)
     row-begins = both-begins row-both
 
-  pub row-back : OfVertex g → p + 42 ≤ length ws → p + 3 + 3 + 4 + g .sets * 4 ≤ length ws
-  row-back v h = omega (arith, v .sets)
-
-pub ruleset part-laws = (front-both, front-begins, back-begins, vertex-back, key-back, row-both, row-begins, row-back)
+pub ruleset part-laws = (front-both, front-begins, back-begins, row-both, row-begins)
 
 -- ---- rows by a mask that is known
 

@@ -28,7 +28,7 @@ use Rattle.b3d_scene.proofs.Rows.CountLaws.{table-length}
 use Rattle.b3d_file_rows.specs.Rows.{fileRows}
 use Rattle.b3d_file_rows.proofs.Laws.{rows-law}
 use Rattle.b3d_fill.specs.Fills.{Fillable, Filled}
-use Rattle.counted.specs.Rooms.{numberOf}
+use Rattle.table_room.specs.Rooms.{numberOf}
 use Rattle.b3d_read.specs.Reads.{tableIn, roomIn, Reads}
 use Rattle.b3d_limits.proofs.RoomLaws.{stored-over}
 

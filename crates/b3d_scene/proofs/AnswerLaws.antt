@@ -11,7 +11,7 @@ use borrow.Author.Tests.{lt-leb, le-leb, lt-ltb, le-ltb}
 use Rattle.wire.specs.Test.{if}
 use Rattle.layout.specs.Out.{Out, got, bad, _>>=_}
 use Rattle.layout.proofs.Lists.{All, all-map}
-use Rattle.layout.proofs.Outs.{by-test, if-yes, if-no, by-check, by-got, bad-got, check-yes, got-inj, check-no}
+use Rattle.layout.proofs.Outs.{by-test, if-yes, if-no, by-check, by-got, bad-got, check-yes, got-inj, check-no, each-got, each-yes}
 use Rattle.layout.specs.Rows.{eachOf, mostBytes}
 use Rattle.b3d_scene.specs.declared.Mode.{Mode}
 use Rattle.b3d_scene.specs.declared.Mode.the-variants.{Lenient}
@@ -26,16 +26,6 @@ use Rattle.b3d_scene.specs.Scene.{Scene}
 use Rattle.b3d_scene.specs.Tables.{width, rows, tables}
 
 -- ---- ten tables, each within a bound
-
-each-got : (n : ℕ) (ok : ℕ → Bool) (ks : List ℕ) → eachOf n ok ks ≡ got tt → All (λ k. T (ok k)) ks
-unfolding eachOf
-each-got n ok [] e = tt
-each-got n ok (k ∷ ks) e = by-check (ok k) n k _ e (λ t e₁. (t, each-got n ok ks e₁))
-
-each-yes : (n : ℕ) (ok : ℕ → Bool) (ks : List ℕ) → All (λ k. T (ok k)) ks → eachOf n ok ks ≡ got tt
-unfolding eachOf
-each-yes n ok [] h = refl
-each-yes n ok (k ∷ ks) h = rw (check-yes (ok k) n k (h .0)) (each-yes n ok ks (h .1))
 
 -- the test holds of each just where the first without it is 0; else that is refused
 module _ (n : ℕ) (ok : ℕ → Bool) where

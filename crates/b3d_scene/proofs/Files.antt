@@ -9,6 +9,5 @@ pub mod NameLaws
 pub mod ByteLaws
 pub mod SizeLaws
 pub mod PlaceLaws
-pub mod RefusalLaws
 pub mod TagLaws
 pub mod ModeLaws

@@ -29,7 +29,7 @@ use Rattle.b3d_scene.proofs.Files.FileLaws.{parse-back, parse-fine}
 use Rattle.b3d_scene.proofs.Files.NameLaws.{encode-bare, Copied, copy-back, same-copy, shortest}
 use Rattle.b3d_scene.proofs.Files.ByteLaws.{encode-bytes}
 use Rattle.b3d_scene.proofs.Files.SizeLaws.{encode-size}
-use Rattle.b3d_scene.proofs.Files.RefusalLaws.{parse-refusal}
+use Rattle.b3d_scene.proofs.Refusals.{parse-refusal}
 use Rattle.b3d_scene.proofs.Files.PlaceLaws.{NamesIn, parse-names}
 
 -- a scene that fits, with colours that the mode takes, is what its file parses to, name places aside

@@ -1,5 +1,5 @@
--- Refusals in numbers: a place is one of the file or a table's number, so no more than the most bytes of a file; a refusal's number is not 0.
-use mathlib.Core.Path.{_≡_, refl, subst}
+-- Refusals in numbers: one of `parse` is 1 to 9; a place is one of the file or a table's number, so no more than the most bytes of a file; no refusal is 0.
+use mathlib.Core.Path.{_≡_, subst}
 use Prim.Native.Nat.{ℕ, zero, suc, _+_, _*_, _≤_}
 use native.Mathlib.Omega.{arith}
 use mathlib.Core.Bool.{Bool, true, false}
@@ -15,6 +15,7 @@ use Rattle.layout.specs.Out.{Out, got, bad, check, _>>=_}
 use Rattle.layout.specs.Parts.{Step, text, words, judged, row, number, named, itemsIn, items}
 use Rattle.layout.specs.Rules.{Rule, holds, refusal}
 use Rattle.layout.proofs.Lists.{All}
+use Rattle.layout.proofs.RefusalLaws.{OneToNine, refusal-range}
 use Rattle.layout.specs.Rows.{eachOf, sizeFits, mostBytes}
 use Rattle.b3d_scene.specs.declared.Mode.{Mode}
 use Rattle.b3d_scene.specs.declared.Tag.{Tag}
@@ -27,13 +28,19 @@ use Rattle.b3d_scene.specs.Scene.{Anim, still, anim, Data, leaf, Scene}
 use Rattle.b3d_scene.specs.Tables.{tables}
 use Rattle.b3d_scene.specs.Tags.{code, tagOf, is, Chunks, split, Found}
 use Rattle.b3d_scene.proofs.Files.FileLaws.{size-bound}
-use Rattle.b3d_scene.proofs.Files.RefusalLaws.{parse-refusal}
 use Rattle.b3d_scene.proofs.Rows.Numbers.{each-table}
 
--- a value with P, or a refusal whose place is no more than the most bytes of a file
+-- a refusal from 1 to 9 whose place is no more than the most bytes of a file
+abbrev Told : ℕ → ℕ → Type 0
+Told n p = OneToNine n × (p ≤ mostBytes)
+
+-- a value with P, or such a refusal
 abbrev Low : {A : Type 0} → (A → Type 0) → Out A → Type 0
 Low P (got a) = P a
-Low P (bad n p) = p ≤ mostBytes
+Low P (bad n p) = Told n p
+
+told : {p : ℕ} (n : ℕ) → T (leb 1 n) → T (leb n 9) → p ≤ mostBytes → Told n p
+told n a b h = ((leb→le 1 n a, leb→le n 9 b), h)
 
 abbrev Any : {A : Type 0} → A → Type 0
 Any a = Unit {0}
@@ -47,7 +54,7 @@ unfolding if
 if-low P true x y h k = h
 if-low P false x y h k = k
 
-check-low : (b : Bool) (n p : ℕ) → p ≤ mostBytes → Low Any (check b n p)
+check-low : (b : Bool) (n p : ℕ) → Told n p → Low Any (check b n p)
 unfolding check
 check-low true n p h = tt
 check-low false n p h = h
@@ -60,7 +67,7 @@ Left x = x .place + length (x .left) ≤ mostBytes
 
 text-low : (first p : ℕ) (s : List ℕ) → first ≤ mostBytes → p + length s ≤ mostBytes → Low Left (text first p s)
 unfolding text
-text-low first p [] h k = h
+text-low first p [] h k = told 5 tt tt h
 text-low first p (zero ∷ s) h k = omega arith
 text-low first p (suc c ∷ s) h k = bind-low Left _ (text first (p + 1) s) _ (text-low first (p + 1) s h (omega arith)) (λ x hx. hx)
 
@@ -71,10 +78,10 @@ Words p x = (x .place ≡ p + 4 * length (x .value)) × Left x
 words-low : (first n p : ℕ) (s : List ℕ) → first ≤ mostBytes → p + length s ≤ mostBytes → Low (Words p) (words first n p s)
 unfolding words
 words-low first zero p s h k = (omega arith, k)
-words-low first (suc n) p [] h k = h
-words-low first (suc n) p (a ∷ []) h k = h
-words-low first (suc n) p (a ∷ b ∷ []) h k = h
-words-low first (suc n) p (a ∷ b ∷ c ∷ []) h k = h
+words-low first (suc n) p [] h k = told 5 tt tt h
+words-low first (suc n) p (a ∷ []) h k = told 5 tt tt h
+words-low first (suc n) p (a ∷ b ∷ []) h k = told 5 tt tt h
+words-low first (suc n) p (a ∷ b ∷ c ∷ []) h k = told 5 tt tt h
 words-low first (suc n) p (a ∷ b ∷ c ∷ d ∷ s) h k =
     bind-low (Words (p + 4)) _ (words first n (p + 4) s) _ (words-low first n (p + 4) s h (omega arith)) (λ x hx. (omega (arith, hx .0), hx .1))
 
@@ -83,7 +90,7 @@ unfolding judged
 judged-low P [] p ws a h k = k
 judged-low P (r ∷ rs) p [] a h k = k
 judged-low P (r ∷ rs) p (w ∷ ws) a h k =
-    bind-low Any P (check (holds r w) (refusal r) p) _ (check-low (holds r w) (refusal r) p (omega arith)) (λ u _. judged-low P rs (p + 4) ws a (omega arith) k)
+    bind-low Any P (check (holds r w) (refusal r) p) _ (check-low (holds r w) (refusal r) p (refusal-range r, omega arith)) (λ u _. judged-low P rs (p + 4) ws a (omega arith) k)
 
 row-low : (rs : List Rule) (p : ℕ) (s : List ℕ) → p + length s ≤ mostBytes → Low Left (row rs p s)
 unfolding row
@@ -102,7 +109,7 @@ module _ {A : Type 0} (one : ℕ → List ℕ → Out (Step A)) (low : (p : ℕ)
   in-low : (f p : ℕ) (s : List ℕ) → p + length s ≤ mostBytes → Low Any (itemsIn f one p s)
   unfolding itemsIn
   in-low zero p [] h = tt
-  in-low zero p (c ∷ s) h = omega arith
+  in-low zero p (c ∷ s) h = told 5 tt tt (omega arith)
   in-low (suc f) p [] h = tt
   in-low (suc f) p (c ∷ s) h =
       bind-low Left Any (one p (c ∷ s)) _ (low p (c ∷ s) h) (λ x hx. bind-low Any Any (itemsIn f one (x .place) (x .left)) _ (in-low f (x .place) (x .left) hx) (λ l _. tt))
@@ -116,7 +123,7 @@ module _ {A : Type 0} (one : ℕ → List ℕ → Out (Step A)) (low : (p : ℕ)
 -- each chunk ends there or before, and the refusal that they end in has its place there or before
 abbrev LowC : Chunks → Type 0
 LowC done = Unit {0}
-LowC (stop n p) = p ≤ mostBytes
+LowC (stop n p) = Told n p
 LowC (chunk t p b r) = (p + 8 + length b ≤ mostBytes) × LowC r
 
 abbrev Rest : {A : Type 0} → Found A → Type 0
@@ -136,28 +143,28 @@ split-in-low : (f p : ℕ) (s : List ℕ) → p + length s ≤ mostBytes → Low
 unfolding splitIn
 split-in-low zero p s h = tt
 split-in-low (suc f) p [] h = tt
-split-in-low (suc f) p (a ∷ []) h = omega arith
-split-in-low (suc f) p (a ∷ b ∷ []) h = omega arith
-split-in-low (suc f) p (a ∷ b ∷ c ∷ []) h = omega arith
-split-in-low (suc f) p (a ∷ b ∷ c ∷ d ∷ []) h = omega arith
-split-in-low (suc f) p (a ∷ b ∷ c ∷ d ∷ e ∷ []) h = omega arith
-split-in-low (suc f) p (a ∷ b ∷ c ∷ d ∷ e ∷ g ∷ []) h = omega arith
-split-in-low (suc f) p (a ∷ b ∷ c ∷ d ∷ e ∷ g ∷ i ∷ []) h = omega arith
+split-in-low (suc f) p (a ∷ []) h = told 3 tt tt (omega arith)
+split-in-low (suc f) p (a ∷ b ∷ []) h = told 3 tt tt (omega arith)
+split-in-low (suc f) p (a ∷ b ∷ c ∷ []) h = told 3 tt tt (omega arith)
+split-in-low (suc f) p (a ∷ b ∷ c ∷ d ∷ []) h = told 3 tt tt (omega arith)
+split-in-low (suc f) p (a ∷ b ∷ c ∷ d ∷ e ∷ []) h = told 3 tt tt (omega arith)
+split-in-low (suc f) p (a ∷ b ∷ c ∷ d ∷ e ∷ g ∷ []) h = told 3 tt tt (omega arith)
+split-in-low (suc f) p (a ∷ b ∷ c ∷ d ∷ e ∷ g ∷ i ∷ []) h = told 3 tt tt (omega arith)
 split-in-low (suc f) p (a ∷ b ∷ c ∷ d ∷ e ∷ g ∷ i ∷ j ∷ s) h =
     let n = word e g i j in
     if-chunks (leb n (length s)) _ (stop 3 p)
     (λ t. let l = leb→le n (length s) t in
     keep-low (tagOf (word a b c d)) p (take n s) _ (omega (arith, length-take-le n s l)) (split-in-low f (p + 8 + n) (drop n s) (omega (arith, length-drop n s))))
-    (omega arith)
+    (told 3 tt tt (omega arith))
 
 onward-low : (o : Option Reached) (p : ℕ) (go : Reached → Chunks) → p ≤ mostBytes → ((r : Reached) → LowC (go r)) → LowC (onward o p go)
 unfolding onward
-onward-low none p go k h = k
+onward-low none p go k h = told 4 tt tt k
 onward-low (some r) p go k h = h r
 
 order-low : (k : Tag) (head : ℕ) (r : Reached) (cs : Chunks) → head ≤ mostBytes → LowC cs → LowC (order k head r cs)
 unfolding order
-order-low k head r done g h = if-chunks (owed (nesting k) (r .turn) end) (stop 8 head) done (λ t. g) tt
+order-low k head r done g h = if-chunks (owed (nesting k) (r .turn) end) (stop 8 head) done (λ t. (told 8 tt tt g)) tt
 order-low k head r (stop n p) g h = h
 order-low k head r (chunk t p b l) g h = onward-low (next (nesting k) (nesting k) r t) p _ (omega (arith, h .0)) (λ q. (h .0, order-low k head q l g (h .1)))
 
@@ -245,7 +252,7 @@ keys-low p b h =
 filled-low : (p : ℕ) (s ws : List ℕ) → p ≤ mostBytes → Low Any (filled p s ws)
 unfolding filled
 filled-low p [] ws h = tt
-filled-low p (c ∷ s) ws h = h
+filled-low p (c ∷ s) ws h = told 5 tt tt h
 
 anim-low : Body readAnim
 unfolding readAnim
@@ -279,7 +286,7 @@ nodes-low one low (chunk t p b r) h =
 
 node-low : (mode : Mode) (l brushes : ℕ) (above : Option ℕ) → Body (readNode mode l brushes above)
 unfolding readNode readBelow
-node-low mode zero brushes above p b h = omega arith
+node-low mode zero brushes above p b h = told 9 tt tt (omega arith)
 node-low mode (suc l) brushes above p b h =
     bind-low Left Any (named nodeRow (p + 8) b) _ (named-low nodeRow (p + 8) b h) (λ x hx.
     let cs = inside NODE p (x .place) (x .left) in
@@ -304,69 +311,64 @@ body-low mode p b h =
     bind-low Rest Any (readOne NODE leaf (readRoot mode (length (u .value .1))) (u .rest)) _ (one-low NODE leaf (readRoot mode (length (u .value .1))) (root-low mode (length (u .value .1))) (u .rest) hu) (λ n hn.
     ended-low (n .rest) _ hn))))
 
--- the number of a table
-each-low : (n : ℕ) (ok : ℕ → Bool) (ks : List ℕ) → All (λ k. k ≤ mostBytes) ks → Low Any (eachOf n ok ks)
-unfolding eachOf
-each-low n ok [] h = tt
-each-low n ok (k ∷ ks) h = bind-low Any Any (check (ok k) n k) _ (check-low (ok k) n k (h .0)) (λ u _. each-low n ok ks (h .1))
-
 -- ---- what is answered
 
 -- a file is read only where its size is within the limits
 size-low : {A : Type 0} (b : Bool) (m : Out A) → (T b → Low Any m) → Low Any (check b 1 0 >>= λ _. m)
 unfolding check
 size-low true m h = h tt
-size-low false m h = omega arith
+size-low false m h = told 1 tt tt (omega arith)
 
 parse-low : (mode : Mode) (s : List ℕ) → Low Any (parse mode s)
 unfolding parse
 parse-low mode s =
     size-low (sizeFits (length s)) _ (λ t.
     bind-low Left Any (row header 0 s) _ (row-low header 0 s (omega (arith, size-bound (length s) t))) (λ x hx.
-    bind-low Any Any (check (eqb (number x 0) (code BB3D)) 2 0) _ (check-low (eqb (number x 0) (code BB3D)) 2 0 (omega arith)) (λ u _.
-    bind-low Any Any (check (eqb (number x 1) (length (x .left))) 2 4) _ (check-low (eqb (number x 1) (length (x .left))) 2 4 (omega arith)) (λ v _.
+    bind-low Any Any (check (eqb (number x 0) (code BB3D)) 2 0) _ (check-low (eqb (number x 0) (code BB3D)) 2 0 (told 2 tt tt (omega arith))) (λ u _.
+    bind-low Any Any (check (eqb (number x 1) (length (x .left))) 2 4) _ (check-low (eqb (number x 1) (length (x .left))) 2 4 (told 2 tt tt (omega arith))) (λ v _.
     body-low mode (x .place) (x .left) hx))))
 
-judge-low : (mode : Mode) (s : List ℕ) → Low Any (judge mode s)
+pub parse-refusal : (mode : Mode) (s : List ℕ) (n p : ℕ) → parse mode s ≡ bad n p → OneToNine n
+parse-refusal mode s n p e = subst (λ (o : Out Scene). Low Any o) e (parse-low mode s) .0
+
+-- ---- 10 and 11 too
+
+-- a refusal that is not 0, whose place is no more than the most bytes of a file
+abbrev Bounded : {A : Type 0} → Out A → Type 0
+Bounded (got a) = Unit {0}
+Bounded (bad n p) = (1 ≤ n) × (p ≤ mostBytes)
+
+bind-bounded : {A B : Type 0} (m : Out A) (k : A → Out B) → Bounded m → ((a : A) → Bounded (k a)) → Bounded (m >>= k)
+bind-bounded (got a) k h f = f a
+bind-bounded (bad n p) k h f = h
+
+low-bounded : {A : Type 0} (o : Out A) → Low Any o → Bounded o
+low-bounded (got a) h = tt
+low-bounded (bad n p) h = (h .0 .0, h .1)
+
+-- the number of a table
+each-bounded : (n : ℕ) (ok : ℕ → Bool) (ks : List ℕ) → 1 ≤ n → All (λ k. k ≤ mostBytes) ks → Bounded (eachOf n ok ks)
+unfolding eachOf check
+each-bounded n ok [] a h = tt
+each-bounded n ok (k ∷ ks) a h = bind-bounded (check (ok k) n k) _ (one (ok k)) (λ u. each-bounded n ok ks a (h .1))
+  where
+    one : (b : Bool) → Bounded (check b n k)
+    one true = tt
+    one false = (a, h .0)
+
+tables-bounded : (n : ℕ) (ok : ℕ → Bool) → 1 ≤ n → Bounded (eachOf n ok tables)
+tables-bounded n ok a = each-bounded n ok tables a (each-table (λ k. k ≤ mostBytes) (λ k lo hi. omega arith))
+
+judge-bounded : (mode : Mode) (s : List ℕ) → Bounded (judge mode s)
 unfolding judge
-judge-low mode s =
-    bind-low Any Any (parse mode s) _ (parse-low mode s) (λ t _.
-    bind-low Any Any (eachOf 10 _ tables) _ (each-low 10 _ tables (each-table (λ k. k ≤ mostBytes) (λ k a b. omega arith))) (λ u _. tt))
+judge-bounded mode s = bind-bounded (parse mode s) _ (low-bounded (parse mode s) (parse-low mode s)) (λ t. bind-bounded (eachOf 10 _ tables) _ (tables-bounded 10 _ (omega arith)) (λ u. tt))
 
 pub judge-place : (mode : Mode) (s : List ℕ) (n p : ℕ) → judge mode s ≡ bad n p → p ≤ mostBytes
-judge-place mode s n p e = subst (λ (o : Out Scene). Low Any o) e (judge-low mode s)
+judge-place mode s n p e = subst (λ (o : Out Scene). Bounded o) e (judge-bounded mode s) .1
 
--- ---- numbers: 1 to 9, then 10, then 11
-
-abbrev Numbered : {A : Type 0} → Out A → Type 0
-Numbered (got a) = Unit {0}
-Numbered (bad n p) = 1 ≤ n
-
-bind-numbered : {A B : Type 0} (m : Out A) (k : A → Out B) → Numbered m → ((a : A) → Numbered (k a)) → Numbered (m >>= k)
-bind-numbered (got a) k h f = f a
-bind-numbered (bad n p) k h f = h
-
-each-numbered : (n : ℕ) (ok : ℕ → Bool) (ks : List ℕ) → 1 ≤ n → Numbered (eachOf n ok ks)
-unfolding eachOf check
-each-numbered n ok [] h = tt
-each-numbered n ok (k ∷ ks) h = bind-numbered (check (ok k) n k) _ (one (ok k)) (λ u. each-numbered n ok ks h)
-  where
-    one : (b : Bool) → Numbered (check b n k)
-    one true = tt
-    one false = h
-
-parse-numbered : (mode : Mode) (s : List ℕ) → Numbered (parse mode s)
-parse-numbered mode s = go (parse mode s) (λ n p e. parse-refusal mode s n p e .0)
-  where
-    go : (o : Out Scene) → ((n p : ℕ) → o ≡ bad n p → 1 ≤ n) → Numbered o
-    go (got t) f = tt
-    go (bad n p) f = f n p refl
-
-read-numbered : (mode : Mode) (room : ℕ → ℕ) (s : List ℕ) → Numbered (read mode room s)
-unfolding read judge
-read-numbered mode room s =
-    bind-numbered (judge mode s) _ (bind-numbered (parse mode s) _ (parse-numbered mode s) (λ t. bind-numbered (eachOf 10 _ tables) _ (each-numbered 10 _ tables (omega arith)) (λ u. tt)))
-    (λ t. bind-numbered (eachOf 11 _ tables) _ (each-numbered 11 _ tables (omega arith)) (λ u. tt))
+read-bounded : (mode : Mode) (room : ℕ → ℕ) (s : List ℕ) → Bounded (read mode room s)
+unfolding read
+read-bounded mode room s = bind-bounded (judge mode s) _ (judge-bounded mode s) (λ t. bind-bounded (eachOf 11 _ tables) _ (tables-bounded 11 _ (omega arith)) (λ u. tt))
 
 pub read-number : (mode : Mode) (room : ℕ → ℕ) (s : List ℕ) (n p : ℕ) → read mode room s ≡ bad n p → 1 ≤ n
-read-number mode room s n p e = subst (λ (o : Out Scene). Numbered o) e (read-numbered mode room s)
+read-number mode room s n p e = subst (λ (o : Out Scene). Bounded o) e (read-bounded mode room s) .0

@@ -1,4 +1,3 @@
 -- The size of lent tables is that of their scene's file.
 pub mod SizeLaws
-pub mod RowLaws
 pub mod TotalLaws

@@ -1,6 +1,6 @@
 -- The size of lent tables is that of the shortest file of their scene.
 use mathlib.Core.Path.{_≡_, refl, ap, ap₂, sym, _∙_}
-use Prim.Native.Nat.{ℕ, zero, suc, _+_, _*_, _≤_}
+use Prim.Native.Nat.{ℕ, zero, suc, _+_, _*_}
 use native.Mathlib.Omega.{arith}
 use mathlib.Core.Option.{Option, none, some}
 use mathlib.Core.List.{List, [], _∷_, _++_, map}
@@ -15,18 +15,18 @@ use Rattle.layout.specs.Rows.{nameCells}
 use Rattle.b3d_scene.specs.declared.Mode.{Mode}
 use Rattle.b3d_scene.specs.declared.Counts.{Counts}
 use Rattle.b3d_scene.specs.Encode.{encode}
-use Rattle.b3d_scene.specs.Mask.{spread, vertexMask, keyMask}
-use Rattle.b3d_scene.specs.Rebuild.{Lent, cut, lentRows, rebuild}
-use Rattle.b3d_scene.specs.Rules.{vertexWords, keyWords, bonesBelow, boneVertices, levels}
+use Rattle.b3d_scene.specs.Rebuild.{Lent, lentRows, rebuild}
+use Rattle.b3d_scene.specs.Rules.{bonesBelow, boneVertices, levels}
 use Rattle.b3d_scene.specs.Scene.{Texture, Brush, TriangleSet, Kind, pivot, mesh, bone, Keys, Anim, still, anim, Data, Forest, leaf, node, Scene}
 use Rattle.b3d_scene.specs.Sizes.{textureSize, texsSize, brushSize, brusSize, setsSize, kindSize, keysSize, animSize, nodesSize, sizeOf}
-use Rattle.b3d_scene.specs.Tables.{start, textureRow, brushRow, kindCells, animCells, nodeRow, meshRow, setRows, triangleRows, listRows, meshesOf, weightsOf, meshRows, ownRows, withNode, withForest, forestRows, rows, tables, nodeTables, nodesIn}
+use Rattle.b3d_scene.specs.Tables.{start, textureRow, brushRow, kindCells, animCells, nodeRow, meshRow, triangleRows, listRows, meshesOf, weightsOf, meshRows, ownRows, withNode, withForest, forestRows, rows, tables, nodeTables, nodesIn}
 use Rattle.b3d_scene.proofs.Fitting.{FitKind, FitKeys, FitNodes, Fit}
 use Rattle.b3d_scene.proofs.Laws.{file-length}
 use Rattle.b3d_scene.proofs.Rows.RebuildLaws.{Holds, rebuild-fine, held-rows}
 use Rattle.b3d_scene.proofs.Rows.RowParts.{sets-length}
 use Rattle.b3d_scene.proofs.Rows.WordCounts.{any-words}
-use Rattle.b3d_size.specs.LentSize.{sum, around, namedBytes, nodeBytes, meshBytes, listBytes, rowBytes, rowsBytes, listsBytes, nodesBytes, lentSize, Sizable}
+use Rattle.b3d_row_size.specs.RowSize.{sum, namedBytes, nodeBytes, meshBytes, listBytes, rowBytes, rowsBytes, Sizable}
+use Rattle.b3d_size.specs.LentSize.{around, listsBytes, nodesBytes, lentSize}
 
 -- ---- sums
 

@@ -1,21 +1,20 @@
 -- A law for each way through the functions that add up tables.
-use mathlib.Core.Path.{_≡_, refl, ap, sym, _∙_}
-use Prim.Native.Nat.{ℕ, _+_, _*_, _<_, _≤_}
+use mathlib.Core.Path.{_≡_, refl}
+use Prim.Native.Nat.{ℕ, _+_, _*_, _≤_}
 use native.Mathlib.Omega.{arith}
 use mathlib.Core.Bool.{Bool, true, false}
 use mathlib.Core.List.{List}
 use mir.Syntax.{w64}
 use mir.Val.{Fits}
-use lib.ListN.{length}
 use lib.Dec.{eqb}
 use borrow.Author.Tests.{eq-eqb, ne-eqb}
 use Rattle.wire.specs.Test.{if}
 use Rattle.layout.proofs.Lists.{All, all-pure}
 use Rattle.b3d_scene.specs.declared.Counts.{Counts}
 use Rattle.b3d_scene.specs.Rebuild.{cut}
-use Rattle.b3d_scene.specs.Rules.{rowLimit}
 use Rattle.b3d_scene.specs.Tables.{nodeWidth}
-use Rattle.b3d_size.specs.LentSize.{tableMost, partMost, around, rowsBytes, listsBytes, nodesBytes, fileBytes, Sizable, Wide, Sums, NodesSizable}
+use Rattle.b3d_row_size.specs.RowSize.{tableMost, rowsBytes, Sizable, Wide, Sums}
+use Rattle.b3d_size.specs.LentSize.{partMost, around, listsBytes, nodesBytes, fileBytes, NodesSizable}
 
 -- ---- a chunk around rows
 

@@ -10,7 +10,8 @@ use Rattle.b3d_scene.specs.declared.Tag.{Tag}
 use Rattle.b3d_scene.specs.Tags.{Chunks}
 use Rattle.b3d_scene.specs.Nesting.{nesting, Reached, end, next, onward, order}
 use Rattle.b3d_nesting.specs.declared.Entry.{Entry}
-use Rattle.b3d_turns.specs.ByTable.{standsBy, afterBy, owesBefore, entryOf, ByTable}
+use Rattle.b3d_entries.specs.Entries.{entryOf}
+use Rattle.b3d_turns.specs.ByTable.{standsBy, afterBy, owesBefore, ByTable}
 use Rattle.b3d_turns.proofs.Rows.{row-owed}
 use Rattle.b3d_turns.proofs.MayStand.{nextBy, next-by, entry-is}
 

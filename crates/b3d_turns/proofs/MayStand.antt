@@ -20,7 +20,8 @@ use Rattle.b3d_turns.specs.declared.Permit.{Permit}
 use Rattle.b3d_turns.specs.declared.Permit.the-variants as permit
 use Rattle.b3d_nesting.specs.Table.{tags, denied, decoded, entryIn, entryFor, nestingTable, entryAt}
 use Rattle.b3d_turns.specs.Turns.{between, reachedOf, permitOf}
-use Rattle.b3d_turns.specs.ByTable.{standsBy, afterBy, entryOf}
+use Rattle.b3d_entries.specs.Entries.{entryOf}
+use Rattle.b3d_turns.specs.ByTable.{standsBy, afterBy}
 
 -- ---- an entry that must stand, between two turns
 

@@ -1,10 +1,10 @@
--- A row of the table, the number of an entry in it, and what is owed there.
+-- What a row of the table owes.
 use mathlib.Core.Path.{_≡_, refl, ap, sym, _∙_}
-use Prim.Native.Nat.{ℕ, zero, suc, _+_, _<_, _≤_}
+use Prim.Native.Nat.{ℕ, _+_, _<_, _≤_}
 use native.Mathlib.Numerals.{add-one}
 use native.Mathlib.Omega.{arith}
 use mathlib.Core.Bool.{Bool, true, false, _||_}
-use mathlib.Core.List.{List, [], _∷_}
+use mathlib.Core.List.{List}
 use lib.ListN.{length, drop, getD, drop-of-length-le, length-map}
 use lib.Seq.{drop-cons}
 use Rattle.wire.specs.Test.{if}
@@ -12,34 +12,11 @@ use Rattle.b3d_scene.specs.declared.Tag.{Tag}
 use Rattle.b3d_scene.specs.Nesting.{nesting, owed}
 use Rattle.b3d_scene.proofs.Files.TagCodes.{by-tag}
 use Rattle.b3d_nesting.specs.declared.Entry.{Entry}
-use Rattle.b3d_nesting.specs.Table.{denied, decoded, entriesOf, tableOf, entryIn, nestingTable, entryAt}
+use Rattle.b3d_nesting.specs.Table.{decoded, entriesOf, entryIn, nestingTable}
 use Rattle.b3d_scene.specs.Tags.{tagNumber}
 use Rattle.b3d_turns.specs.Turns.{between}
-use Rattle.b3d_turns.specs.ByTable.{rowAt, owedIn, entryOf}
-
--- ---- what stands at a tag's place
-
--- the number in a row of the table stands for the entry there, and a row of numbers for the row
-code-at : (row : List ℕ) (j : ℕ) → decoded (getD row j 0) ≡ getD (entriesOf row) j denied
-unfolding entriesOf
-code-at [] j = refl
-code-at (n ∷ row) zero = refl
-code-at (n ∷ row) (suc j) = code-at row j
-
-codes-at : (rows : List (List ℕ)) (j : ℕ) → entriesOf (getD rows j []) ≡ getD (tableOf rows) j []
-unfolding entriesOf tableOf
-codes-at [] j = refl
-codes-at (row ∷ rows) zero = refl
-codes-at (row ∷ rows) (suc j) = codes-at rows j
-
-pub row-picked : (t k : Tag) (rows : List (List ℕ)) → tableOf rows ≡ nestingTable → k ≡ t → entriesOf (getD rows (tagNumber t) []) ≡ rowAt (tagNumber k)
-row-picked t k rows is e = rw e (codes-at rows (tagNumber t) ∙ ap (λ (x : List (List Entry)). getD x (tagNumber t) []) is)
-
-pub code-picked : (t k u : Tag) (row : List ℕ) → entriesOf row ≡ rowAt (tagNumber u) → k ≡ t → decoded (getD row (tagNumber t) 0) ≡ entryOf u k
-unfolding entryAt
-code-picked t k u row is e = rw e (code-at row (tagNumber t) ∙ ap (λ (x : List Entry). getD x (tagNumber t) denied) is)
-
--- ---- what is owed
+use Rattle.b3d_entries.specs.Entries.{rowAt}
+use Rattle.b3d_turns.specs.ByTable.{owedIn}
 
 -- the rule's list for a tag owes what its row does
 pub row-owed : (k : Tag) (lo hi : ℕ) → owedIn (rowAt (tagNumber k)) lo hi ≡ owed (nesting k) lo hi

@@ -4,18 +4,14 @@ use Prim.Native.Nat.{ℕ}
 use mathlib.Core.Bool.{Bool, false, not, _&&_, _||_}
 use mathlib.Core.List.{List, [], _∷_}
 use lib.Dec.{eqb, ltb}
-use lib.ListN.{getD}
 use Rattle.wire.specs.Test.{if}
 use Rattle.layout.specs.Chunks.{done, stop, chunk}
 use Rattle.b3d_scene.specs.declared.Tag.{Tag}
 use Rattle.b3d_scene.specs.Tags.{Chunks, tagNumber}
 use Rattle.b3d_scene.specs.Nesting.{Reached, end, order}
 use Rattle.b3d_nesting.specs.declared.Entry.{Entry}
-use Rattle.b3d_nesting.specs.Table.{nestingTable, entryAt}
+use Rattle.b3d_entries.specs.Entries.{rowAt, entryOf}
 use Rattle.b3d_turns.specs.Turns.{between}
-
-abbrev pub rowAt : ℕ → List Entry
-rowAt row = getD nestingTable row []
 
 -- one of the entries must stand, at a turn after lo and before hi
 abbrev pub owedIn : List Entry → ℕ → ℕ → Bool
@@ -33,10 +29,6 @@ afterBy q e = record { turn = e .turn; spent = (eqb (q .turn) (e .turn) && q .sp
 -- inside a chunk of tag k, after q: its row of the table owes a tag before this turn
 abbrev pub owesBefore : Tag → Reached → ℕ → Bool
 owesBefore k q turn = owedIn (rowAt (tagNumber k)) (q .turn) turn
-
--- inside a chunk of tag k: the entry for a tag
-abbrev pub entryOf : Tag → Tag → Entry
-entryOf k t = entryAt (tagNumber k) (tagNumber t)
 
 -- `order` is what `parse` reads the chunks inside a chunk of tag k by, whose header is at `head`: q is how far they have come
 pub record ByTable : Type 0 where

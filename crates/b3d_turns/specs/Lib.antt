@@ -1,4 +1,3 @@
--- How far the chunks inside a chunk have come, the answers for the next one, and what the table alone says of it.
+-- How far the chunks inside a chunk have come, and what the table alone says of the next one.
 pub mod Turns
-pub mod Steps
 pub mod ByTable

@@ -3,11 +3,7 @@ use Prim.Native.Nat.{ℕ}
 use mathlib.Core.Bool.{Bool, false, _&&_}
 use mathlib.Core.Option.{Option, none, some}
 use lib.Dec.{ltb}
-use Rattle.wire.specs.Test.{if}
-use Rattle.b3d_scene.specs.declared.Tag.{Tag}
 use Rattle.b3d_scene.specs.Nesting as nest
-use Rattle.b3d_chunks.specs.declared.Next.{Next}
-use Rattle.b3d_chunks.specs.declared.Next.the-variants as next
 use Rattle.b3d_nesting.specs.declared.Entry.{Entry}
 use Rattle.b3d_turns.specs.declared.Reached.{Reached}
 use Rattle.b3d_turns.specs.declared.Permit.{Permit}
@@ -21,12 +17,6 @@ reachedOf r = record { turn = r .turn; spent = r .spent }
 abbrev pub permitOf : Option nest.Reached → Permit
 permitOf none = permit.No
 permitOf (some r) = permit.Yes (record { turn = r .turn; spent = r .spent })
-
--- what the rule permits of what was found next inside a chunk of tag k, after q: a chunk, or the end of the chunks
-abbrev pub permitFor : Tag → Reached → Next → Permit
-permitFor k q (next.Cut p) = permit.No
-permitFor k q next.Done = if (nest.owed (nest.nesting k) (q .turn) nest.end) permit.No (permit.Yes q)
-permitFor k q (next.Chunk t p b n) = permitOf (nest.next (nest.nesting k) (nest.nesting k) (reachedOf q) t)
 
 -- no chunk was read yet
 abbrev pub first : Reached

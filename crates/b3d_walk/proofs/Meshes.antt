@@ -1,19 +1,14 @@
 -- The chunks inside a MESH, as the code finds them.
-use mathlib.Core.Path.{_≡_, refl, ap, sym, _∙_}
-use Prim.Native.Nat.{ℕ, _+_, _≤_}
+use mathlib.Core.Path.{_≡_, refl, ap, _∙_}
+use Prim.Native.Nat.{ℕ, _+_}
 use native.Mathlib.Omega.{arith}
-use mathlib.Core.Bool.{not}
 use mathlib.Core.List.{List, [], _∷_}
 use lib.ListN.{length, drop}
-use lib.Dec.{T}
 use Rattle.wire.specs.Test.{if}
 use Rattle.wire.specs.Cursors.{Inside, left}
 use Rattle.wire.specs.declared.Cursor.{Cursor}
-use Rattle.layout.specs.Chunks.{done, stop, chunk}
-use Rattle.layout.proofs.Outs.{if-yes, if-no}
-use Rattle.b3d_scene.specs.declared.Tag.{Tag}
+use Rattle.layout.proofs.Outs.{if-no}
 use Rattle.b3d_scene.specs.declared.Tag.the-variants.{TRIS}
-use Rattle.b3d_scene.specs.Scene.{TriangleSet}
 use Rattle.b3d_scene.specs.Tags.{Chunks, split, is}
 use Rattle.b3d_file_rows.specs.Plain.{plainTriangles, setsOf}
 use Rattle.b3d_walk.specs.Walks.{BodyAt}
@@ -34,7 +29,6 @@ sets-seek : (cs : Chunks) → setsOf cs ≡ setsOf (seekOf TRIS cs)
 unfolding setsOf if
 sets-seek cs =
     by-seek TRIS setsOf (λ n p. refl)
-    (λ t p b r y. if-yes (is t TRIS) (plainTriangles b ∷ setsOf r) (setsOf r) y)
     (λ t p b r y. if-no (is t TRIS) (plainTriangles b ∷ setsOf r) (setsOf r) y)
     cs
 

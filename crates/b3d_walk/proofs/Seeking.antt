@@ -1,18 +1,19 @@
 -- The loop of `seek`, and what its answer says.
 use mathlib.Core.Path.{_≡_, refl, ap, sym, subst, _∙_}
-use Prim.Native.Nat.{ℕ, _+_, _-_, _<_, _≤_}
+use Prim.Native.Nat.{ℕ, _-_, _<_, _≤_}
 use native.Mathlib.Omega.{arith}
 use mathlib.Core.Bool.{Bool, true, false, not}
 use mathlib.Core.List.{List}
 use lib.ListN.{length}
-use lib.Dec.{T}
-use Rattle.wire.specs.Test.{if}
+use lib.Dec.{T, eqb→eq}
+use borrow.Author.Tests.{eq-eqb}
 use Rattle.wire.specs.Cursors.{Inside, left}
 use Rattle.wire.specs.declared.Cursor.{Cursor}
 use Rattle.layout.specs.Chunks.{done, stop, chunk}
 use Rattle.layout.proofs.Outs.{if-yes, if-no, by-test}
 use Rattle.b3d_scene.specs.declared.Tag.{Tag}
-use Rattle.b3d_scene.specs.Tags.{Chunks, split, is}
+use Rattle.b3d_scene.specs.Tags.{Chunks, code, is}
+use Rattle.b3d_scene.proofs.Files.Entries.{same-tag}
 use Rattle.b3d_chunks.specs.Chunks.{Among, NextIs}
 use Rattle.b3d_chunks.specs.declared.Next.{Next}
 use Rattle.b3d_chunks.specs.declared.Next.the-variants as next
@@ -99,14 +100,16 @@ pub ruleset soughts = (sought-none, sought-is, sought-among, sought-body, sought
 
 -- ---- what goes by the chunks of one tag alone
 
+one-tag : (t k : Tag) → T (is t k) → t ≡ k
+one-tag t k y = same-tag t k (eq-eqb (code t) (code k) (eqb→eq (code t) (code k) y))
+
 pub by-seek : {A : Type 0} (k : Tag) (f : Chunks → A) → ((n p : ℕ) → f (stop n p) ≡ f done)
-    → ((t : Tag) (p : ℕ) (b : List ℕ) (r : Chunks) → T (is t k) → f (chunk t p b r) ≡ f (chunk k p b r))
     → ((t : Tag) (p : ℕ) (b : List ℕ) (r : Chunks) → T (not (is t k)) → f (chunk t p b r) ≡ f r)
     → (cs : Chunks) → f cs ≡ f (seekOf k cs)
 unfolding seekOf
-by-seek k f ends own other done = refl
-by-seek k f ends own other (stop n p) = ends n p
-by-seek k f ends own other (chunk t p b r) =
+by-seek k f ends other done = refl
+by-seek k f ends other (stop n p) = ends n p
+by-seek k f ends other (chunk t p b r) =
     by-test (is t k)
-    (λ y. own t p b r y ∙ ap f (sym (if-yes (is t k) (chunk k p b r) (seekOf k r) y)))
-    (λ y. other t p b r y ∙ by-seek k f ends own other r ∙ ap f (sym (if-no (is t k) (chunk k p b r) (seekOf k r) y)))
+    (λ y. ap (λ (x : Tag). f (chunk x p b r)) (one-tag t k y) ∙ ap f (sym (if-yes (is t k) (chunk k p b r) (seekOf k r) y)))
+    (λ y. other t p b r y ∙ by-seek k f ends other r ∙ ap f (sym (if-no (is t k) (chunk k p b r) (seekOf k r) y)))

@@ -1,6 +1,6 @@
 -- Sound tables, cut to their counted rows, are those of their scene.
 use mathlib.Core.Path.{_≡_, refl, ap, sym, _∙_, subst}
-use Prim.Native.Nat.{ℕ, _+_, _*_, _/_, _<_, _≤_}
+use Prim.Native.Nat.{ℕ, _*_, _/_, _≤_}
 use native.Mathlib.Omega.{arith}
 use mathlib.Core.Option.{none, some}
 use mathlib.Core.List.{List, [], _∷_, _++_, map}
@@ -12,23 +12,23 @@ use Rattle.layout.proofs.Lists.{All, all-left, all-right, all-from-map, all-zip
 use Rattle.layout.specs.Rows.{nameCells}
 use Rattle.b3d_scene.specs.declared.Counts.{Counts}
 use Rattle.b3d_scene.specs.declared.Mode.{Mode}
-use Rattle.b3d_scene.specs.Rebuild.{Lent, Rows, cut, lentRows, textureFrom, brushFrom, together, nodeNames, names, rebuild}
+use Rattle.b3d_scene.specs.Rebuild.{Lent, Rows, lentRows, textureFrom, brushFrom, together, nodeNames, names, rebuild}
 use Rattle.b3d_scene.specs.Rules.{levels}
 use Rattle.b3d_scene.specs.Scene.{Texture, Brush, Scene}
-use Rattle.b3d_scene.specs.Tables.{width, textureRow, brushRow, rows, tables, nodeTables, partTables, nodeWidth}
+use Rattle.b3d_scene.specs.Tables.{width, textureRow, brushRow, rows, tables, nodeTables, nodeWidth}
 use Rattle.b3d_scene.proofs.Fitting.{FitNodes}
 use Rattle.b3d_scene.proofs.Rows.RebuildLaws.{Holds, together-back}
 use Rattle.b3d_scene.proofs.Rows.RowLists.{cut-length}
 use Rattle.b3d_scene.proofs.Rows.RowParts.{Stands}
-use Rattle.b3d_check.specs.Lent.{lentOf, partCounts, Rooms}
+use Rattle.b3d_check_rooms.specs.LentRooms.{partCounts, Rooms}
+use Rattle.b3d_check.specs.Lent.{lentOf}
 use Rattle.b3d_put_rows.specs.Lent.{rowsIn}
 use Rattle.b3d_put_rows.proofs.Cutting.{rows-lent}
 use Rattle.b3d_put_lists.specs.Named.{NamesThere}
 use Rattle.b3d_put_own.specs.Own.{tableRows}
-use Rattle.b3d_put_own.proofs.Trimmed.{trimmed, trimmed-rows}
-use Rattle.b3d_put_nodes.specs.Walk.{Sized}
+use Rattle.b3d_put_own.proofs.Trimmed.{trimmed-rows}
 use Rattle.b3d_put_nodes.proofs.TableLaws.{quotient}
-use Rattle.b3d_put_file.specs.Whole.{OfNodes, OfRest, OfAll, OfScene}
+use Rattle.b3d_put_file.specs.Whole.{OfNodes, OfScene}
 use Rattle.b3d_write.proofs.SoundLaws.{fit, agree, sound-rooms, sound-slots, sound-rows}
 
 -- the names of rows that begin with their cells
@@ -52,22 +52,6 @@ module _ (mode : Mode) (v slots : ℕ) (counts t₁ t₂ t₃ t₄ t₅ t₆ t�
 
   abbrev all : Counts
   all = partCounts counts
-
-  pub are-sized : Sized all (take (nodeWidth * all .nodes) t₃) (take (9 * all .meshes) t₄) (take (42 * all .vertices) t₅) (take (4 * all .sets) t₆) (take (3 * all .triangles) t₇) (take (2 * all .weights) t₈) (take (4 * all .lists) t₉) (take (11 * all .keys) t₁₀)
-  unfolding partCounts
-  are-sized =
-      let r = rs in
-      record {
-        nodes = length-take-le (nodeWidth * getD counts 2 0) t₃ (r .room₃);
-        meshes = length-take-le (9 * getD counts 3 0) t₄ (r .kinds .room₄);
-        vertices = length-take-le (42 * getD counts 4 0) t₅ (r .kinds .room₅);
-        sets = length-take-le (4 * getD counts 5 0) t₆ (r .kinds .room₆);
-        triangles = length-take-le (3 * getD counts 6 0) t₇ (r .kinds .room₇);
-        weights = length-take-le (2 * getD counts 7 0) t₈ (r .kinds .room₈);
-        lists = length-take-le (4 * getD counts 8 0) t₉ (r .lists .room₉);
-        keys = length-take-le (11 * getD counts 9 0) t₁₀ (r .lists .room₁₀);
-        limited = r .limited;
-      }
 
   abbrev R : Rows
   R = tableRows (take (nodeWidth * all .nodes) t₃) (take (9 * all .meshes) t₄) (take (42 * all .vertices) t₅) (take (4 * all .sets) t₆) (take (3 * all .triangles) t₇) (take (2 * all .weights) t₈) (take (4 * all .lists) t₉) (take (11 * all .keys) t₁₀)

@@ -1,34 +1,26 @@
 -- What sound tables have.
-use mathlib.Core.Path.{_≡_, refl, ap, sym, _∙_, subst}
-use Prim.Native.Nat.{ℕ, _+_, _*_, _<_, _≤_}
+use mathlib.Core.Path.{_≡_, sym, subst}
+use Prim.Native.Nat.{ℕ, _≤_}
 use native.Mathlib.Omega.{arith}
-use mathlib.Core.Bool.{Bool, true, false, not}
-use mathlib.Core.Option.{Option, none, some}
-use mathlib.Core.List.{List, [], _∷_}
+use mathlib.Core.Option.{none, some}
+use mathlib.Core.List.{List}
 use lib.ListN.{length, getD}
-use lib.Dec.{leb→le}
-use borrow.Author.Tests.{not-true, not-false, lt-leb, le-leb}
 use Rattle.wire.specs.Test.{if}
-use Rattle.layout.specs.Out.{Out, got, bad, check, _>>=_}
 use Rattle.layout.specs.Rules.{NONE}
-use Rattle.layout.proofs.Lists.{All, all-map}
-use Rattle.b3d_scene.specs.declared.Counts.{Counts}
+use Rattle.layout.proofs.Lists.{All}
 use Rattle.b3d_scene.specs.declared.Mode.{Mode}
-use Rattle.b3d_scene.specs.Answers.{shortest}
 use Rattle.b3d_scene.specs.Encode.{encode}
-use Rattle.b3d_scene.specs.Rebuild.{Lent, cut, lentRows, together, rebuild}
-use Rattle.b3d_scene.specs.Rules.{rowLimit, levels}
-use Rattle.b3d_scene.specs.Scene.{Brush, Scene}
-use Rattle.b3d_scene.specs.Tables.{width, start, forestRows, rows, tables, nodeTables}
-use Rattle.b3d_scene.proofs.Fitting.{FitSlots, Fit}
-use Rattle.b3d_scene.proofs.Rows.RebuildLaws.{Holds, Agree, rebuild-fine, held-rows}
-use Rattle.b3d_check.specs.Lent.{lentOf, partCounts, Rooms}
-use Rattle.b3d_size.specs.LentSize.{Sizable, NodesSizable, lentSize, fileBytes}
+use Rattle.b3d_scene.specs.Rebuild.{Lent, cut, lentRows, rebuild}
+use Rattle.b3d_scene.specs.Rules.{levels}
+use Rattle.b3d_scene.specs.Scene.{Scene}
+use Rattle.b3d_scene.specs.Tables.{width, start, rows, tables, nodeTables}
+use Rattle.b3d_scene.proofs.Fitting.{Fit, slots-few}
+use Rattle.b3d_scene.proofs.Rows.RebuildLaws.{Agree, rebuild-fine, held-rows}
+use Rattle.b3d_check_rooms.specs.LentRooms.{partCounts, Rooms}
+use Rattle.b3d_check.specs.Lent.{lentOf}
+use Rattle.b3d_row_size.specs.RowSize.{Sizable}
+use Rattle.b3d_size.specs.LentSize.{NodesSizable, lentSize, fileBytes}
 use Rattle.b3d_size.proofs.SizeLaws.{lent-size, nodes-sizable}
-
-few-slots : (n : ℕ) (l : List Brush) → FitSlots n l → n ≤ 8
-few-slots n [] h = omega arith
-few-slots n (b ∷ l) h = leb→le n 8 (h .1)
 
 module _ (mode : Mode) (v slots : ℕ) (counts t₁ t₂ t₃ t₄ t₅ t₆ t₇ t₈ t₉ t₁₀ ns : List ℕ) where
   abbrev L : Lent
@@ -62,7 +54,7 @@ module _ (mode : Mode) (v slots : ℕ) (counts t₁ t₂ t₃ t₄ t₅ t₆ t�
 
     pub sound-slots : slots ≤ 8
     unfolding lentOf
-    sound-slots = let q = few-slots (t .slots) (t .brushes) (fit .slots) in omega (arith, agree .slots)
+    sound-slots = let q = slots-few (t .slots) (t .brushes) (fit .slots) in omega (arith, agree .slots)
 
     -- the rows of table k are those of the scene
     pub sound-rows : All (λ k. lentRows L k ≡ rows k t) tables

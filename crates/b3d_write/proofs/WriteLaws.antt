@@ -1,11 +1,11 @@
 -- A law for each way through `write`.
 use mathlib.Core.Path.{_≡_, ap, _∙_}
-use Prim.Native.Nat.{ℕ, _*_, _<_, _≤_}
+use Prim.Native.Nat.{ℕ, _<_, _≤_}
 use native.Mathlib.Omega.{arith}
 use mathlib.Core.Bool.{Bool, true, false, not}
 use mathlib.Core.Option.{none, some}
 use mathlib.Core.List.{List}
-use lib.ListN.{length, take, getD}
+use lib.ListN.{length, getD}
 use borrow.Author.Tests.{not-true, not-false, lt-leb, le-leb}
 use Rattle.wire.specs.Test.{if}
 use Rattle.layout.specs.Out.{got, check}
@@ -17,15 +17,14 @@ use Rattle.b3d_scene.specs.Answers.{shortest, roomFor, write, written, outputAf
 use Rattle.b3d_scene.specs.Encode.{encode}
 use Rattle.b3d_scene.specs.Rebuild.{Lent, together, rebuild}
 use Rattle.b3d_scene.specs.Scene.{Scene}
-use Rattle.b3d_scene.specs.Tables.{nodeWidth}
-use Rattle.b3d_check.specs.Lent.{lentOf, partCounts, Rooms}
+use Rattle.b3d_check_rooms.specs.LentRooms.{partCounts, Rooms}
+use Rattle.b3d_check.specs.Lent.{lentOf}
 use Rattle.b3d_size.specs.LentSize.{NodesSizable, fileBytes}
-use Rattle.b3d_put_own.specs.Own.{tableRows}
-use Rattle.b3d_put_nodes.specs.Walk.{Sized}
-use Rattle.b3d_put_file.specs.Whole.{OfScene, Some, Each}
+use Rattle.b3d_put_file.specs.Whole.{Some, Each}
+use Rattle.b3d_put_counted.specs.Counted.{OfCounted}
 use Rattle.b3d_write.specs.Writes.{Writes}
 use Rattle.b3d_write.proofs.SoundLaws.{sound-rooms, sound-slots, sound-sizable, sound-bytes}
-use Rattle.b3d_write.proofs.SceneLaws.{are-sized, is-scene}
+use Rattle.b3d_write.proofs.SceneLaws.{is-scene}
 
 module _ (mode : Mode) (v slots : ℕ) (counts t₁ t₂ t₃ t₄ t₅ t₆ t₇ t₈ t₉ t₁₀ ns : List ℕ) (s : Bool) where
   abbrev L : Lent
@@ -53,9 +52,6 @@ module _ (mode : Mode) (v slots : ℕ) (counts t₁ t₂ t₃ t₄ t₅ t₆ t�
       pub asked-sizable : NodesSizable all t₃ t₄ t₉
       asked-sizable = rw ea (sound-sizable mode v slots counts t₁ t₂ t₃ t₄ t₅ t₆ t₇ t₈ t₉ t₁₀ ns t is-some)
 
-      pub asked-sized : Sized all (take (nodeWidth * all .nodes) t₃) (take (9 * all .meshes) t₄) (take (42 * all .vertices) t₅) (take (4 * all .sets) t₆) (take (3 * all .triangles) t₇) (take (2 * all .weights) t₈) (take (4 * all .lists) t₉) (take (11 * all .keys) t₁₀)
-      asked-sized = rw ea (are-sized mode v slots counts t₁ t₂ t₃ t₄ t₅ t₆ t₇ t₈ t₉ t₁₀ ns t is-some)
-
       module _ (size : ℕ) (es : size ≡ fileBytes slots c₁ c₂ all t₁ t₂ t₃ t₄ t₉) (out : List ℕ) where
         bytes : size ≡ length (encode t)
         bytes = es ∙ (λ i. fileBytes slots (e₁ i) (e₂ i) (ea i) t₁ t₂ t₃ t₄ t₉) ∙ sound-bytes mode v slots counts t₁ t₂ t₃ t₄ t₅ t₆ t₇ t₈ t₉ t₁₀ ns t is-some
@@ -77,7 +73,7 @@ module _ (mode : Mode) (v slots : ℕ) (counts t₁ t₂ t₃ t₄ t₅ t₆ t�
 
           module _ (l : size ≤ length out) where
             abbrev Of : Scene → Type 0
-            Of = OfScene ns (take (9 * c₁) t₁) (take (17 * c₂) t₂) (tableRows (take (nodeWidth * all .nodes) t₃) (take (9 * all .meshes) t₄) (take (42 * all .vertices) t₅) (take (4 * all .sets) t₆) (take (3 * all .triangles) t₇) (take (2 * all .weights) t₈) (take (4 * all .lists) t₉) (take (11 * all .keys) t₁₀)) v slots
+            Of = OfCounted ns v slots c₁ c₂ all t₁ t₂ t₃ t₄ t₅ t₆ t₇ t₈ t₉ t₁₀
 
             of-scene : Of t
             of-scene = rw (e₁, e₂, ea) (is-scene mode v slots counts t₁ t₂ t₃ t₄ t₅ t₆ t₇ t₈ t₉ t₁₀ ns t is-some)

@@ -2,7 +2,6 @@
 ghost use Rattle.b3d_check.specs.Lent.{lentOf};
 ghost use Rattle.b3d_write.specs.Writes.{Writes};
 use b3d_scene::Mode;
-use b3d_scene::NODE_WIDTH;
 use b3d_scene::Written;
 
 // Writes the shortest file that has these tables, with names in `names`: 12 where no file that the mode accepts has them, 11 with the size
@@ -53,7 +52,7 @@ pub fn write(
     ) {
         return unsound;
     }
-    let all = b3d_check::sizes(counts);
+    let all = b3d_check_rooms::sizes(counts);
     let textures = wire::size(counts[0]);
     let brushes = wire::size(counts[1]);
     let size = b3d_size::file_bytes(slots, textures, brushes, all, t1, t2, t3, t4, t9);
@@ -67,20 +66,13 @@ pub fn write(
             size: 0,
         };
     }
-    let t1 = &t1[..9 * textures];
-    let t2 = &t2[..17 * brushes];
-    let t3 = &t3[..NODE_WIDTH * all.nodes];
-    let t4 = &t4[..9 * all.meshes];
-    let t5 = &t5[..42 * all.vertices];
-    let t6 = &t6[..4 * all.sets];
-    let t7 = &t7[..3 * all.triangles];
-    let t8 = &t8[..2 * all.weights];
-    let t9 = &t9[..4 * all.lists];
-    let t10 = &t10[..11 * all.keys];
-    b3d_put_file::put_file(
+    b3d_put_counted::put_counted(
         names,
         version,
         slots,
+        textures,
+        brushes,
+        all,
         t1,
         t2,
         t3,
@@ -91,7 +83,6 @@ pub fn write(
         t8,
         t9,
         t10,
-        all,
         out,
     );
     Written {

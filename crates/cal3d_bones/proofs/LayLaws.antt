@@ -20,7 +20,7 @@ use Rattle.layout.proofs.CountLaws.{moved-on, row-moves, row-got, times-moves, 
 use Rattle.counted.specs.Runs.{Runs}
 use Rattle.counted.specs.declared.Ran.{Ran}
 use Rattle.counted.specs.declared.Ran.the-variants as ran
-use Rattle.counted.proofs.Ids.{word-at}
+use Rattle.id_check.proofs.Ids.{word-at}
 use Rattle.counted.proofs.Runs.{runs-bad, runs-passed, runs-inside, runs-read}
 use Rattle.cal3d_scene.specs.Rules.{boneNumbers, childrenAt, childNumbers}
 use Rattle.cal3d_scene.specs.Skeletons.{parentOf, listOf, readBone}

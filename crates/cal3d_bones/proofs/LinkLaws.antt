@@ -18,11 +18,11 @@ use Rattle.layout.specs.Counted.{times}
 use Rattle.layout.proofs.Outs.{by-check}
 use Rattle.layout.proofs.StepLaws.{length-words-of, row-enough}
 use Rattle.layout.proofs.CountLaws.{row-moves, row-got, times-moves, times-length}
-use Rattle.counted.specs.Ids.{idRow}
+use Rattle.id_check.specs.Ids.{idRow}
 use Rattle.counted.specs.Runs.{Passes, Runs}
 use Rattle.counted.specs.declared.Ran.{Ran}
 use Rattle.counted.specs.declared.Ran.the-variants as ran
-use Rattle.counted.proofs.Ids.{word-at}
+use Rattle.id_check.proofs.Ids.{word-at}
 use Rattle.counted.proofs.Links.{link-judged}
 use Rattle.counted.proofs.Runs.{Read, runs-bad, runs-place, runs-passed, runs-inside, runs-read}
 use Rattle.cal3d_scene.specs.Rules.{boneNumbers, childNumbers}

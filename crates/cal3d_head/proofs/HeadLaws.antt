@@ -18,7 +18,7 @@ use Rattle.layout.proofs.Outs.{bind-bind, bind-cong, by-got, by-check, got-inj}
 use Rattle.layout.proofs.StepLaws.{length-words-of, word-of, row-enough, row-short, row-any, judged-any}
 use Rattle.layout.specs.Rows.{sizeFits}
 use Rattle.layout.proofs.CountLaws.{row-got}
-use Rattle.counted.proofs.Ids.{word-at}
+use Rattle.id_check.proofs.Ids.{word-at}
 use Rattle.cal3d_head.specs.Heads.{headNumbers, readHead, openedOf}
 use Rattle.cal3d_head.specs.declared.Opened.the-variants as opened
 

@@ -15,7 +15,7 @@ use Rattle.layout.specs.Parts.{Step, number}
 use Rattle.layout.specs.Counted.{times, atEnd}
 use Rattle.layout.specs.Rows.{eachOf}
 use Rattle.layout.proofs.CountLaws.{times-moves, times-length}
-use Rattle.counted.proofs.Ids.{word-at}
+use Rattle.id_check.proofs.Ids.{word-at}
 use Rattle.cal3d_scene.specs.Rules.{skeletonMagic}
 use Rattle.layout.proofs.Outs.{bind-bind}
 use Rattle.cal3d_scene.specs.Skeletons.{Bone, Skeleton, readBone, skeletonFrom, skeleton}

@@ -8,7 +8,7 @@ use lib.Dec.{leb, leb→le}
 use Rattle.wire.specs.Test.{if}
 use Rattle.wire.specs.Cursors.{Inside, left}
 use Rattle.wire.proofs.Left.{span, left-length}
-use Rattle.counted.proofs.Ids.{word-at}
+use Rattle.id_check.proofs.Ids.{word-at}
 use Rattle.cal3d_head.specs.Heads.{readHead}
 use Rattle.cal3d_head.proofs.HeadLaws.{headOf, HeadAt, head-at}
 use Rattle.layout.specs.Out.{got, check, _>>=_}
@@ -26,7 +26,7 @@ use Rattle.cal3d_bones.specs.Bones.{childrenIn}
 use Rattle.cal3d_limits.proofs.FileLaws.{bone-rows, limits, ended, skeleton-head}
 
 -- where the bones of a file stand
-pub record Limited (s : List ℕ) (t : Skeleton) : Type 0 where
+pub record BonesStand (s : List ℕ) (t : Skeleton) : Type 0 where
   pub small : length s ≤ 16777216
   pub long : 24 ≤ length s
   pub read : Step (List Bone)
@@ -57,7 +57,7 @@ limits-good t u e =
 
 -- behind the header
 from-good : (s : List ℕ) (t : Skeleton) (k : ℕ) → HeadAt s 4608835 1300 3 k
-    → ended (headOf 3 s) (times (getD (headOf 3 s) 1 0) (readBone (getD (headOf 3 s) 1 0)) 24 (left (span 24 (length s)) s)) ≡ got t → Limited s t
+    → ended (headOf 3 s) (times (getD (headOf 3 s) 1 0) (readBone (getD (headOf 3 s) 1 0)) 24 (left (span 24 (length s)) s)) ≡ got t → BonesStand s t
 unfolding skeletonRows childrenIn if
 from-good s t k a e =
     by-got (times (getD (headOf 3 s) 1 0) (readBone (getD (headOf 3 s) 1 0)) 24 (left (span 24 (length s)) s) >>= λ l. atEnd (l .place) (l .left) >>= λ _. got (record { head = headOf 3 s; bones = l .value })) limits e (λ u eu e₁.
@@ -87,7 +87,7 @@ from-good s t k a e =
       kids = rw (g .0) at (g .2);
     })))
 
-pub limited-good : (s : List ℕ) (t : Skeleton) → limitedSkeleton s ≡ got t → Limited s t
+pub limited-good : (s : List ℕ) (t : Skeleton) → limitedSkeleton s ≡ got t → BonesStand s t
 limited-good s t e =
     by-got (readHead skeletonMagic 1300 3 s) _ (sym (skeleton-head s) ∙ e) (λ h eh e₁.
     let a = head-at 4608835 1300 3 s h eh in

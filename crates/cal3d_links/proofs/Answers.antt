@@ -25,7 +25,7 @@ use Rattle.cal3d_scene.specs.Trees.{occurs, trees}
 use Rattle.cal3d_bones.specs.Bones.{bonesIn}
 use Rattle.cal3d_bones.proofs.LinkLaws.{numbers-parent}
 use Rattle.cal3d_trees.specs.Scores.{weight, score, sound, lowest, Named, Scored, Zeros, placeAt, strayAt}
-use Rattle.cal3d_trees.proofs.ScoreLaws.{trees-stray}
+use Rattle.cal3d_scores.proofs.ScoreLaws.{trees-stray}
 use Rattle.cal3d_links.specs.Links.{Good, bonesAt, toldOf}
 use Rattle.cal3d_links.specs.declared.Told.the-variants as told
 

@@ -12,7 +12,7 @@ use Rattle.wire.proofs.Left.{span, left-length}
 use Rattle.layout.specs.Parts.{Step, wordsOf}
 use Rattle.layout.proofs.Lists.{All}
 use Rattle.layout.proofs.StepLaws.{length-words-of}
-use Rattle.counted.proofs.Ids.{word-at}
+use Rattle.id_check.proofs.Ids.{word-at}
 use Rattle.cal3d_scene.specs.Skeletons.{Bone, listOf, readBone}
 use Rattle.cal3d_scene.specs.Trees.{occurs}
 use Rattle.cal3d_bones.specs.Bones.{LaidAt, NoBone, Lays, bonesIn}
@@ -20,8 +20,8 @@ use Rattle.cal3d_bones.specs.declared.Laid.{Laid}
 use Rattle.cal3d_bones.specs.declared.Laid.the-variants as laid
 use Rattle.cal3d_bones.proofs.Walked.{Walked, walked-start, walked-none, walked-gone, walked-next}
 use Rattle.cal3d_trees.specs.Scores.{score, Zeros, Scored, Low, Listed, noted}
-use Rattle.cal3d_trees.proofs.ScoreLaws.{scored-next}
-use Rattle.cal3d_trees.proofs.Noting.{noted-scored}
+use Rattle.cal3d_scores.proofs.ScoreLaws.{scored-next}
+use Rattle.cal3d_scores.proofs.Noting.{noted-scored}
 use Rattle.cal3d_links.specs.Links.{Good, bonesAt}
 
 left-last : (s : List ℕ) (p e : ℕ) → e ≡ length s → left (span p e) s ≡ drop p s

@@ -46,7 +46,7 @@ fn tell(s: &[u8], from: Cursor, bones: usize, parents: &[u32], scores: &mut [u32
         let Laid::At(numbers, count, next) = cal3d_bones::lay_bone(s, c, bones) else {
             return;
         };
-        cal3d_trees::note_list(s, numbers + 80, count, i as u32, parents, entries, scores);
+        cal3d_scores::note_list(s, numbers + 80, count, i as u32, parents, entries, scores);
         entries += count;
         i += 1;
         c = next;

@@ -2,7 +2,6 @@
 use mathlib.Core.Path.{_≡_, ap, sym, subst, _∙_}
 use Prim.Native.Nat.{ℕ, _*_, _≤_}
 use native.Mathlib.Omega.{arith}
-use mathlib.Core.Bool.{Bool}
 use mathlib.Core.List.{List, [], _∷_}
 use lib.ListN.{length}
 use lib.Seq.{sets}
@@ -10,7 +9,7 @@ use lib.Dec.{T, leb, leb→le}
 use Rattle.layout.specs.Out.{Out, got, bad}
 use Rattle.layout.specs.Rows.{eachOf}
 use Rattle.layout.proofs.Lists.{All, all-zip}
-use Rattle.layout.proofs.Outs.{by-check, by-got, got-inj}
+use Rattle.layout.proofs.Outs.{by-got, got-inj, each-got}
 use Rattle.cells.proofs.Joined.{over-all}
 use Rattle.cal3d_scene.specs.Meshes.{Mesh, mesh}
 use Rattle.cal3d_scene.specs.Tables.{meshTables, meshWidth, meshRows}
@@ -20,18 +19,13 @@ use Rattle.cal3d_mesh_rows.specs.Plain.{plainMesh}
 use Rattle.cal3d_mesh_rows.proofs.Readings.{Plainly, mesh-plain}
 use Rattle.cal3d_mesh_rows.proofs.Widths.{tables-wide}
 use Rattle.cal3d_mesh_fill.specs.Fills.{fileWords, MeshFit, MeshFilled}
-use Rattle.counted.specs.Rooms.{numberOf}
+use Rattle.table_room.specs.Rooms.{numberOf}
 use Rattle.cal3d_mesh_room.specs.Rooms.{WithRoom}
 use Rattle.cal3d_mesh_room.proofs.Refusals.{read-number}
 use Rattle.cal3d_mesh_room.proofs.RoomLaws.{number-of, accepted}
 use Rattle.cal3d_mesh.specs.Meshes.{readInto, ReadsMesh}
 
 -- ---- what was read
-
-each-got : (n : ℕ) (ok : ℕ → Bool) (ks : List ℕ) → eachOf n ok ks ≡ got tt → All (λ (k : ℕ). T (ok k)) ks
-unfolding eachOf
-each-got n ok [] e = tt
-each-got n ok (k ∷ ks) e = by-check (ok k) n k _ e (λ t e₁. (t, each-got n ok ks e₁))
 
 -- a mesh that is read keeps the rules, and its rows have room
 record Given (room : ℕ → ℕ) (bones : ℕ) (s : List ℕ) (t : Mesh) : Type 0 where

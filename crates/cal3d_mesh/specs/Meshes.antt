@@ -7,7 +7,7 @@ use Rattle.layout.specs.Out.{Out}
 use Rattle.cal3d_scene.specs.Meshes.{Mesh}
 use Rattle.cal3d_scene.specs.Answers.{readMesh, meshAnswer, meshTable}
 use Rattle.cal3d_scene.specs.declared.MeshAnswer.{MeshAnswer}
-use Rattle.counted.specs.Rooms.{numberOf}
+use Rattle.table_room.specs.Rooms.{numberOf}
 
 -- what is read with six tables that are as long as these
 abbrev pub readInto : List ℕ → List ℕ → List ℕ → List ℕ → List ℕ → List ℕ → ℕ → List ℕ → Out Mesh

@@ -14,7 +14,7 @@ use Rattle.layout.specs.Counted.{times}
 use Rattle.layout.specs.Rows.{eachOf}
 use Rattle.layout.proofs.StepLaws.{length-words-of}
 use Rattle.layout.proofs.CountLaws.{times-moves, times-length}
-use Rattle.counted.proofs.Ids.{word-at}
+use Rattle.id_check.proofs.Ids.{word-at}
 use Rattle.cal3d_scene.specs.Rules.{meshMagic}
 use Rattle.cal3d_scene.specs.Meshes.{Submesh, Mesh, readSubmesh, meshFrom, mesh}
 use Rattle.cal3d_scene.specs.Tables.{meshTables, meshRows, mostRows}
@@ -25,10 +25,10 @@ use Rattle.cal3d_head.specs.declared.Opened.{Opened}
 use Rattle.cal3d_head.specs.declared.Opened.the-variants as opened
 use Rattle.cal3d_head.proofs.HeadLaws.{headOf, HeadAt, head-then, opened-bad, opened-at}
 use Rattle.cal3d_head.proofs.FileEnd.{toEnd, ended-bad, ended-spare, ended-done, left-over}
-use Rattle.cal3d_submeshes.specs.Contents.{contentsIn, Contains}
-use Rattle.cal3d_submeshes.specs.declared.Contents.{Contents}
-use Rattle.cal3d_submeshes.specs.declared.Contained.{Contained}
-use Rattle.cal3d_submeshes.specs.declared.Contained.the-variants as contained
+use Rattle.cal3d_submesh_lists.specs.Contents.{contentsIn, Contains}
+use Rattle.cal3d_submesh_lists.specs.declared.Contents.{Contents}
+use Rattle.cal3d_submesh_lists.specs.declared.Contained.{Contained}
+use Rattle.cal3d_submesh_lists.specs.declared.Contained.the-variants as contained
 use Rattle.cal3d_submeshes.proofs.SubmeshLaws.{submesh-moves}
 use Rattle.cal3d_submeshes.proofs.TotalLaws.{contained-bad, contained-got}
 use Rattle.cal3d_mesh_judge.specs.Limits.{rowCounts, firstOver, acceptedAs, overAs, limitedAs}

@@ -17,8 +17,8 @@ use Rattle.cal3d_scene.specs.Answers.{meshAnswer}
 use Rattle.cal3d_scene.specs.declared.MeshAnswer.{MeshAnswer}
 use Rattle.cal3d_mesh_rows.proofs.Widths.{vertex-rows-length}
 use Rattle.cal3d_vertices.specs.Vertices.{mapsIn, influencesIn}
-use Rattle.cal3d_submeshes.specs.Contents.{contentsIn, Within}
-use Rattle.cal3d_submeshes.specs.declared.Contents.{Contents}
+use Rattle.cal3d_submesh_lists.specs.Contents.{contentsIn, Within}
+use Rattle.cal3d_submesh_lists.specs.declared.Contents.{Contents}
 use Rattle.cal3d_mesh_judge.specs.Limits.{rowCounts, firstOver, acceptedAs, overAs, limitedAs}
 
 -- ---- the steps

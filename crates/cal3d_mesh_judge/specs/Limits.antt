@@ -7,7 +7,7 @@ use Rattle.layout.specs.Out.{bad}
 use Rattle.cal3d_scene.specs.Answers.{meshAnswer}
 use Rattle.cal3d_scene.specs.declared.MeshAnswer.{MeshAnswer}
 use Rattle.cal3d_scene.specs.Tables.{mostRows}
-use Rattle.cal3d_submeshes.specs.declared.Contents.{Contents}
+use Rattle.cal3d_submesh_lists.specs.declared.Contents.{Contents}
 
 -- the rows of the six tables
 abbrev pub rowCounts : ℕ → Contents → List ℕ

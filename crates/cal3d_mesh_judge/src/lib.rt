@@ -3,12 +3,12 @@ ghost use mathlib.Core.Path.{_≡_};
 ghost use Prim.Native.Nat.{ℕ};
 ghost use Rattle.layout.specs.Out.{bad};
 ghost use Rattle.cal3d_scene.specs.Answers.{judgeMesh, meshAnswer};
-ghost use Rattle.cal3d_submeshes.specs.Contents.{Within};
+ghost use Rattle.cal3d_submesh_lists.specs.Contents.{Within};
 ghost use Rattle.cal3d_mesh_judge.specs.Limits.{rowCounts, firstOver, acceptedAs, limitedAs};
 use cal3d_head::Opened;
 use cal3d_scene::MeshAnswer;
-use cal3d_submeshes::Contained;
-use cal3d_submeshes::Contents;
+use cal3d_submesh_lists::Contained;
+use cal3d_submesh_lists::Contents;
 use wire::Cursor;
 
 // The answer for a refusal.

@@ -7,8 +7,8 @@ use lib.ListN.{length, getD}
 use lib.Dec.{ltb}
 use Rattle.wire.specs.Test.{if}
 use Rattle.layout.specs.Out.{Out, got, bad}
-use Rattle.counted.specs.Rooms.{numberOf, firstShort}
-use Rattle.counted.proofs.Rooms.{short-at-most, each-short, each-room}
+use Rattle.table_room.specs.Rooms.{numberOf, firstShort}
+use Rattle.table_room.proofs.Rooms.{short-at-most, each-short, each-room}
 use Rattle.cal3d_scene.specs.Meshes.{Mesh}
 use Rattle.cal3d_scene.specs.Tables.{meshTables, meshWidth, meshRows}
 use Rattle.cal3d_scene.specs.Answers.{judgeMesh, readMesh, meshAnswer}

@@ -2,7 +2,7 @@
 use mathlib.Core.Path.{_≡_}
 use Prim.Native.Nat.{ℕ}
 use mathlib.Core.List.{List}
-use Rattle.counted.specs.Rooms.{numberOf}
+use Rattle.table_room.specs.Rooms.{numberOf}
 use Rattle.cal3d_scene.specs.Answers.{judgeMesh, readMesh, meshAnswer}
 use Rattle.cal3d_scene.specs.declared.MeshAnswer.{MeshAnswer}
 

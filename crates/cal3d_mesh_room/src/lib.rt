@@ -2,7 +2,7 @@
 ghost use mathlib.Core.Path.{_≡_};
 ghost use mathlib.Core.List.{[], _∷_};
 ghost use Prim.Native.Nat.{_≤_};
-ghost use Rattle.counted.specs.Rooms.{numberOf, firstShort};
+ghost use Rattle.table_room.specs.Rooms.{numberOf, firstShort};
 ghost use Rattle.cal3d_scene.specs.Tables.{meshTables, meshWidth};
 ghost use Rattle.cal3d_mesh_room.specs.Rooms.{WithRoom};
 use cal3d_scene::MeshAnswer;
@@ -19,12 +19,12 @@ fn first_short(
 ) -> usize
     ensures { λ r. ⌜ (r ≡ firstShort meshWidth (numberOf counts) (numberOf (l1 ∷ l2 ∷ l3 ∷ l4 ∷ l5 ∷ l6 ∷ [])) meshTables) × (r ≤ 6) ⌝ }
 {
-    let from6 = counted::short_or(6, 3, wire::size(counts[5]), l6, 0);
-    let from5 = counted::short_or(5, 4, wire::size(counts[4]), l5, from6);
-    let from4 = counted::short_or(4, 2, wire::size(counts[3]), l4, from5);
-    let from3 = counted::short_or(3, 2, wire::size(counts[2]), l3, from4);
-    let from2 = counted::short_or(2, 12, wire::size(counts[1]), l2, from3);
-    counted::short_or(1, 9, wire::size(counts[0]), l1, from2)
+    let from6 = table_room::short_or(6, 3, wire::size(counts[5]), l6, 0);
+    let from5 = table_room::short_or(5, 4, wire::size(counts[4]), l5, from6);
+    let from4 = table_room::short_or(4, 2, wire::size(counts[3]), l4, from5);
+    let from3 = table_room::short_or(3, 2, wire::size(counts[2]), l3, from4);
+    let from2 = table_room::short_or(2, 12, wire::size(counts[1]), l2, from3);
+    table_room::short_or(1, 9, wire::size(counts[0]), l1, from2)
 }
 
 // The reader's answer with tables of these lengths, where the judge's is `judged`.

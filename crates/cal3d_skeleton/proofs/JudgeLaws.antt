@@ -21,7 +21,7 @@ use Rattle.cal3d_limits.specs.declared.Summary.{Summary}
 use Rattle.cal3d_limits.specs.declared.Verdict.{Verdict}
 use Rattle.cal3d_limits.specs.declared.Verdict.the-variants as verdict
 use Rattle.cal3d_limits.proofs.FileLaws.{bone-rows}
-use Rattle.cal3d_limits.proofs.GoodLaws.{Limited, limited-good}
+use Rattle.cal3d_limits.proofs.GoodLaws.{BonesStand, limited-good}
 use Rattle.cal3d_links.specs.Links.{Good, bonesAt, toldOf}
 use Rattle.cal3d_links.specs.declared.Told.{Told}
 use Rattle.cal3d_links.specs.declared.Told.the-variants as told
@@ -49,7 +49,7 @@ told-same (got tt) e = refl
 told-same (bad m q) e = let z : _≡_ {A = ℕ} 0 1 = cc in absurd (omega arith)
 
 -- the bones of a file, by the number that its header says
-module _ (s : List ℕ) (t : Skeleton) (l : Limited s t) where
+module _ (s : List ℕ) (t : Skeleton) (l : BonesStand s t) where
   pub bones-good : Good s (span 24 (length s)) (getD (t .head) 1 0)
   bones-good =
       record {
@@ -65,7 +65,7 @@ module _ (s : List ℕ) (t : Skeleton) (l : Limited s t) where
   bones-are = ap bonesIn (l .is) ∙ l .same
 
 -- the answer for an accepted file
-pub answer-good : (t : Skeleton) (s : List ℕ) → Limited s t
+pub answer-good : (t : Skeleton) (s : List ℕ) → BonesStand s t
     → skeletonAnswer (got t) ≡ record {
       number = 0;
       place = 0;
@@ -113,7 +113,7 @@ pub ruleset judges = (judge-limited, judge-good, judge-stray, judge-same)
 -- ---- an accepted file
 
 -- a judged file is limited
-pub judged-limited : (s : List ℕ) (t : Skeleton) → judgeSkeleton s ≡ got t → Limited s t
+pub judged-limited : (s : List ℕ) (t : Skeleton) → judgeSkeleton s ≡ got t → BonesStand s t
 unfolding judgeSkeleton
 judged-limited s t e =
     by-got (limitedSkeleton s) _ e (λ u eu e₁.

@@ -21,7 +21,7 @@ use Rattle.cal3d_limits.specs.declared.Summary.{Summary}
 use Rattle.cal3d_limits.specs.declared.Verdict.{Verdict}
 use Rattle.cal3d_limits.specs.declared.Verdict.the-variants as verdict
 use Rattle.cal3d_limits.proofs.FileLaws.{bone-rows}
-use Rattle.cal3d_limits.proofs.GoodLaws.{Limited}
+use Rattle.cal3d_limits.proofs.GoodLaws.{BonesStand}
 use Rattle.cal3d_links.specs.Links.{Good, bonesAt}
 use Rattle.cal3d_skeleton.specs.Skeletons.{acceptedAs, ReadsSkeleton}
 use Rattle.cal3d_skeleton.proofs.JudgeLaws.{bones-good, bones-are, judged-limited, refused-bad, accepted-good, accepted-answer}
@@ -66,7 +66,7 @@ module _ (s b k : List ℕ) (v : Verdict) (e : v ≡ verdictOf (judgeSkeleton s)
     unfolding t
     is = accepted-good s v e x w .1
 
-    limited : Limited s t
+    limited : BonesStand s t
     limited = judged-limited s t is
 
     many : x .bones ≡ getD (t .head) 1 0

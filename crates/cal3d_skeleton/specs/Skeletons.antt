@@ -1,7 +1,7 @@
 -- What the reader of skeleton files answers and leaves.
 use Prim.Native.Nat.{ℕ}
 use mathlib.Core.Path.{_≡_}
-use mathlib.Core.List.{List, [], _∷_, _++_}
+use mathlib.Core.List.{List, [], _∷_}
 use lib.ListN.{length}
 use Rattle.cal3d_scene.specs.Answers.{readSkeleton, skeletonRoom, skeletonAnswer, skeletonTable}
 use Rattle.cal3d_scene.specs.declared.SkeletonAnswer.{SkeletonAnswer}
@@ -9,10 +9,6 @@ use Rattle.cal3d_limits.specs.declared.Summary.{Summary}
 
 abbrev pub acceptedAs : Summary → SkeletonAnswer
 acceptedAs x = record { number = 0; place = 0; head = 1300 ∷ x .bones ∷ x .red ∷ x .green ∷ x .blue ∷ []; counts = x .bones ∷ x .children ∷ [] }
-
--- a bone's row
-abbrev pub boneCells : ℕ → ℕ → List ℕ → ℕ → List ℕ
-boneCells place size numbers before = (place ∷ size ∷ []) ++ (numbers ++ (before ∷ []))
 
 -- from a file and two tables, the tables afterwards and the answer
 pub record ReadsSkeleton (s bones₀ children₀ bones children : List ℕ) (r : SkeletonAnswer) : Type 0 where

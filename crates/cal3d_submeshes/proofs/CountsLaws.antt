@@ -10,10 +10,10 @@ use Rattle.wire.proofs.Left.{left-length}
 use Rattle.layout.specs.Parts.{Step, wordsOf, row}
 use Rattle.layout.specs.Rules.{names, count}
 use Rattle.layout.proofs.StepLaws.{row-enough, row-short}
-use Rattle.counted.specs.Ids.{firstBad}
+use Rattle.id_check.specs.Ids.{firstBad}
 use Rattle.counted.specs.Runs.{Runs}
 use Rattle.counted.specs.declared.Ran.the-variants as ran
-use Rattle.counted.proofs.Ids.{after-good, after-bad, first-count}
+use Rattle.id_check.proofs.Ids.{after-good, after-bad, first-count}
 use Rattle.cal3d_scene.specs.Rules.{submeshNumbers}
 
 module _ (s : List ℕ) (c : Cursor) (inside : Inside c (length s)) where

@@ -1,4 +1,3 @@
 pub mod CountsLaws
-pub mod ListLaws
 pub mod SubmeshLaws
 pub mod TotalLaws

@@ -18,14 +18,14 @@ use Rattle.layout.proofs.CountLaws.{Moves, moved-as, moved-on, row-moves, row-g
 use Rattle.counted.specs.Runs.{Passes, Runs}
 use Rattle.counted.specs.declared.Ran.{Ran}
 use Rattle.counted.specs.declared.Ran.the-variants as ran
-use Rattle.counted.proofs.Ids.{word-at}
+use Rattle.id_check.proofs.Ids.{word-at}
 use Rattle.counted.proofs.Runs.{runs-bad, runs-place, runs-passed, runs-inside, runs-read}
 use Rattle.cal3d_scene.specs.Rules.{submeshNumbers, springNumbers, faceNumbers}
 use Rattle.cal3d_scene.specs.Meshes.{Vertex, Submesh, readVertex, readSubmesh}
 use Rattle.cal3d_vertices.proofs.VertexLaws.{vertex-moves}
-use Rattle.cal3d_submeshes.specs.Contents.{contentsOf, readLists, containedOf, ContentPasses, Contains}
-use Rattle.cal3d_submeshes.specs.declared.Contained.{Contained}
-use Rattle.cal3d_submeshes.specs.declared.Contained.the-variants as contained
+use Rattle.cal3d_submesh_lists.specs.Contents.{contentsOf, readLists, containedOf, ContentPasses, Contains}
+use Rattle.cal3d_submesh_lists.specs.declared.Contained.{Contained}
+use Rattle.cal3d_submesh_lists.specs.declared.Contained.the-variants as contained
 
 abbrev Rows : Type 0
 Rows = List (List ℕ)

@@ -14,11 +14,11 @@ use Rattle.counted.proofs.Walks.{mapped, Walk, walk-start, walk-none, walk-refu
 use Rattle.cal3d_scene.specs.Meshes.{Vertex, Submesh, readSubmesh}
 use Rattle.cal3d_scene.specs.Tables.{verticesOf}
 use Rattle.cal3d_vertices.specs.Vertices.{mapsIn, influencesIn}
-use Rattle.cal3d_submeshes.specs.Contents.{contentsOf, contentsIn, both, Within, containedOf, Takes, ContentPasses, Contains}
-use Rattle.cal3d_submeshes.specs.declared.Contents.{Contents}
-use Rattle.cal3d_submeshes.specs.declared.Contained.{Contained}
-use Rattle.cal3d_submeshes.specs.declared.Contained.the-variants as contained
-use Rattle.cal3d_submeshes.proofs.ListLaws.{same-contents}
+use Rattle.cal3d_submesh_lists.specs.Contents.{contentsOf, contentsIn, both, Within, containedOf, Takes, ContentPasses, Contains}
+use Rattle.cal3d_submesh_lists.specs.declared.Contents.{Contents}
+use Rattle.cal3d_submesh_lists.specs.declared.Contained.{Contained}
+use Rattle.cal3d_submesh_lists.specs.declared.Contained.the-variants as contained
+use Rattle.cal3d_submesh_lists.proofs.ListLaws.{same-contents}
 use Rattle.cal3d_submeshes.proofs.SubmeshLaws.{submesh-moves}
 
 -- ---- answers

@@ -1,6 +1,5 @@
 // The submeshes of a mesh file by cursor, one after the other against the rules, and how many entries they hold in all.
 ghost use mathlib.Core.Path.{_≡_};
-ghost use Prim.Native.Nat.{ℕ, _+_, _*_, _≤_};
 ghost use lib.ListN.{length};
 ghost use Rattle.wire.specs.Cursors.{Inside, left};
 ghost use Rattle.layout.specs.Parts.{row};
@@ -8,26 +7,12 @@ ghost use Rattle.layout.specs.Counted.{times};
 ghost use Rattle.counted.specs.Runs.{Runs};
 ghost use Rattle.cal3d_scene.specs.Rules.{submeshNumbers};
 ghost use Rattle.cal3d_scene.specs.Meshes.{readSubmesh};
-ghost use Rattle.cal3d_submeshes.specs.Contents.{Contains, Within, both, contentsOf, contentsIn, readLists};
+ghost use Rattle.cal3d_submesh_lists.specs.Contents.{Contains, Within, both, contentsOf, contentsIn};
+use cal3d_submesh_lists::Contained;
+use cal3d_submesh_lists::Contents;
 use cal3d_vertices::Sizes;
 use counted::Ran;
-use counted::Summed;
 use wire::Cursor;
-
-// How many vertices, maps, influences, springs and faces.
-pub struct Contents {
-    pub vertices: usize,
-    pub maps: usize,
-    pub influences: usize,
-    pub springs: usize,
-    pub faces: usize,
-}
-
-// What was read contains so many entries, and the cursor after it; or a refusal and its place.
-pub enum Contained {
-    To(Contents, Cursor),
-    Not(u32, usize),
-}
 
 // A submesh's numbers: five counts behind the first.
 fn pass_counts(s: &[u8], c: Cursor) -> Ran
@@ -39,40 +24,11 @@ fn pass_counts(s: &[u8], c: Cursor) -> Ran
     if end - at < 24 {
         return Ran::Not(5, at);
     }
-    let good = counted::first_bad(s, Cursor { at: at + 4, end }, 5, 2147483648, false);
+    let good = id_check::first_bad(s, Cursor { at: at + 4, end }, 5, 2147483648, false);
     if good < 5 {
         return Ran::Not(6, at + 4 + 4 * good);
     }
     Ran::To(Cursor { at: at + 24, end })
-}
-
-// The lists of a submesh: its vertices, its springs, its faces.
-fn judge_lists(s: &[u8], c: Cursor, bones: usize, n: Sizes, faces: usize) -> Contained
-    requires { ⌜ Inside c (length (now s)) ⌝ }
-    ensures { λ r. ⌜ Contains contentsOf (readLists bones (n .vertices) (n .springs) (n .maps) faces (c .at) (left c (now (s .entry)))) c 0 r ⌝ }
-{
-    match cal3d_vertices::judge_vertices(s, c, bones, n) {
-        Summed::Not(e, p) => Contained::Not(e, p),
-        Summed::To(influences, first) => {
-            let maps = n.vertices * n.maps;
-            match counted::id_rows(s, first, n.springs, 4, 2, n.vertices) {
-                Ran::Not(e, p) => Contained::Not(e, p),
-                Ran::To(second) => match counted::id_rows(s, second, faces, 3, 3, n.vertices) {
-                    Ran::Not(e, p) => Contained::Not(e, p),
-                    Ran::To(next) => Contained::To(
-                        Contents {
-                            vertices: n.vertices,
-                            maps,
-                            influences,
-                            springs: n.springs,
-                            faces,
-                        },
-                        next,
-                    ),
-                },
-            }
-        }
-    }
 }
 
 // One submesh.
@@ -90,7 +46,7 @@ fn judge_submesh(s: &[u8], c: Cursor, bones: usize) -> Contained
                 springs: wire::size(wire::number_at(s, at + 16)),
                 maps: wire::size(wire::number_at(s, at + 20)),
             };
-            judge_lists(s, lists, bones, n, faces)
+            cal3d_submesh_lists::judge_lists(s, lists, bones, n, faces)
         }
     }
 }

@@ -14,7 +14,7 @@ use Rattle.layout.specs.Rules.{any, count}
 use Rattle.layout.specs.Counted.{times}
 use Rattle.layout.proofs.Outs.{by-got, got-inj}
 use Rattle.layout.proofs.CountLaws.{Moved, Moves, moved-as, moved-on, row-moves, times-moves, times-length}
-use Rattle.counted.specs.Ids.{idRow}
+use Rattle.id_check.specs.Ids.{idRow}
 use Rattle.counted.specs.Runs.{ranOf, Runs}
 use Rattle.counted.specs.Sums.{Sums}
 use Rattle.counted.specs.declared.Ran.{Ran}

@@ -17,10 +17,10 @@ use Rattle.layout.specs.Rules.{any, namesOrNone, count, holds}
 use Rattle.layout.proofs.Outs.{bind-cong}
 use Rattle.layout.proofs.StepLaws.{length-words-of, row-enough, row-short}
 use Rattle.layout.proofs.CountLaws.{judged-one}
-use Rattle.counted.specs.Ids.{linkRow}
+use Rattle.id_check.specs.Ids.{linkRow}
 use Rattle.counted.specs.Runs.{Runs}
 use Rattle.counted.specs.declared.Ran.the-variants as ran
-use Rattle.counted.proofs.Ids.{word-at}
+use Rattle.id_check.proofs.Ids.{word-at}
 
 link-length : (front between limit : ℕ) → length (linkRow front between limit) ≡ front + between + 2
 link-length front between limit = simp (length-append, length-replicate) (omega arith)

@@ -7,9 +7,9 @@ ghost use lib.ListN.{length};
 ghost use Rattle.b3d_scene.specs.Answers.{judge, answer};
 ghost use Rattle.b3d_read.specs.Reads.{Reads};
 ghost use Rattle.slip.specs.Slips.{readSlipAnswer};
-ghost use Rattle.b3d_label.specs.Walk.{labelOf};
+ghost use Rattle.b3d_label_walk.specs.Walk.{labelOf};
 ghost use Rattle.kelompuris_mode.specs.Modes.{modeOf};
-use b3d_label::TrayLabel;
+use b3d_label_walk::TrayLabel;
 use b3d_scene::Answer;
 use slip::Slip;
 

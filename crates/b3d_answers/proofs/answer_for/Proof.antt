@@ -13,8 +13,5 @@ answer-for-spec =
     (λ c κs. search (answer-laws, needs))
     (λ c. search (answer-laws, needs))
     (λ c κs. search (answer-laws, needs))
-    (λ c κs. search (answer-laws, needs))
-    (λ c. search (answer-laws, needs))
-    (λ c κs. search (answer-laws, needs))
     (λ c. search (answer-laws, needs))
     (λ c. search (answer-laws, needs)))

@@ -5,8 +5,10 @@ use native.Mathlib.Omega.{arith}
 use lib.ListN.{length}
 use Rattle.b3d_scene.specs.Rebuild.{Lent}
 use Rattle.b3d_sound.specs.Check.{checkIn}
-use Rattle.b3d_check.specs.Lent.{lentOf, Says, Rooms}
-use Rattle.b3d_check.proofs.CheckLaws.{rooms-true, slots-eight, no-rooms, no-version, no-slots, no-textures, no-brushes, no-tree, by-colours}
+use Rattle.b3d_check_rooms.specs.LentRooms.{Rooms}
+use Rattle.b3d_check_rooms.proofs.RoomLaws.{rooms-true}
+use Rattle.b3d_check.specs.Lent.{lentOf, Says}
+use Rattle.b3d_check.proofs.CheckLaws.{slots-eight, no-rooms, no-version, no-slots, no-textures, no-brushes, no-tree, by-colours}
 use Rattle.b3d_check.proofs.Verdict.{all-words, lent-typed, verdict}
 use borrow.Author.Needs.{needs}
 use Rattle.wire.proofs.Words.{all-bytes}

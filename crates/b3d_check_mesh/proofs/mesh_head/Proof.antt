@@ -1,4 +1,4 @@
--- `mesh_head` answers `meshHead` of the row by its cells.
+-- `mesh_head` answers `meshRowHere` of the row by its cells.
 use Rattle.b3d_check_mesh.proofs.MeshLaws.{head-cells}
 use borrow.Author.Needs.{needs}
 use Rattle.b3d_check_mesh.proofs.mesh_head.Statement.{statement}

@@ -18,7 +18,7 @@ kind-here-spec =
     (λ c κs. search needs)
     (λ c. kind-wrong _ _ _ _ _ _ _ _ _ _ _ _ (c .before .before .before .before .cell .ensures) (c .before .before .before .cell2 .ensures) (c .before .before .before .before .before .before .before .before .before .before .before .before .before .pre .0 .0) (c .before .before .if1 .taken) (c .if2 .taken))
     (λ c. kind-past _ _ _ _ _ _ _ _ _ _ _ _ (c .before .before .before .before .before .before .before .cell .ensures) (c .before .before .before .before .before .before .cell2 .ensures) (c .before .before .before .before .before .before .before .before .before .before .before .before .before .before .before .before .pre .0 .0) (c .before .before .before .before .before .if1 .taken) (c .before .before .before .if2 .left) (c .if3 .taken))
-    (λ c κs. let n = c .before .before .before .before .before .before .before .before .before .before .before .before .before .before .before .before .pre .0 .0 in let r = c .before .before .before .before .before .before .before .before .before .before .before .before .before .before .before .before .pre .0 .1 in record { one = c .if3 .left; vertices = n .vertices; sets = n .sets; triangles = n .triangles; room₄ = r .room₄; room₅ = r .room₅; room₆ = r .room₆; room₇ = r .room₇ })
+    (λ c κs. let n = c .before .before .before .before .before .before .before .before .before .before .before .before .before .before .before .before .pre .0 .0 in let r = c .before .before .before .before .before .before .before .before .before .before .before .before .before .before .before .before .pre .0 .1 in record { one = c .if3 .left; vertices = n .vertices; sets = n .sets; triangles = n .triangles; words₈ = _; rooms = r })
     (λ c. kind-mesh _ _ _ _ _ _ _ _ _ _ _ _ (c .before .before .before .before .before .before .before .before .cell .ensures) (c .before .before .before .before .before .before .before .cell2 .ensures) (c .before .before .before .before .before .before .before .before .before .before .before .before .before .before .before .before .before .pre .0 .0) (c .before .before .before .before .before .before .if1 .taken) (c .before .before .before .before .if2 .left) (c .before .if3 .left) _ (c .mesh-here .ensures))
     (λ c. bone-wrong _ _ _ _ _ _ _ _ _ _ _ _ (c .before .before .before .before .before .cell .ensures) (c .before .before .before .before .cell2 .ensures) (c .before .before .before .before .before .before .before .before .before .before .before .before .before .before .pre .0 .0) (c .before .before .if4 .taken) (c .if5 .taken))
     (λ c κs. let h = c .before .before .before .before .before .before .before .before .before .before .before .before .before .before .pre .0 in (h .0 .weights, h .1 .room₈))

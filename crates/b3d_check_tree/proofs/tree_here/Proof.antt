@@ -1,7 +1,7 @@
 -- `tree_here` looks at the root, then at the nodes below it.
 use native.Mathlib.Omega.{arith}
 use Rattle.b3d_check_tree.proofs.TreeLaws.{tree-empty, tree-wrong, tree-node, root-after, root-below, tree-nodes}
-use Rattle.b3d_check_tree.proofs.NodesLaws.{cell-there}
+use Rattle.b3d_check_nodes.proofs.NodesLaws.{cell-there}
 use borrow.Author.Needs.{needs}
 use Rattle.b3d_check_tree.proofs.tree_here.Statement.{statement}
 use Rattle.b3d_check_tree.proofs.tree_here.Tie as tie

@@ -16,7 +16,6 @@ clear-spec =
     (λ c κs. search (clear-laws, needs))
     (λ c. search (clear-laws, needs))
     (λ c κs. search (clear-laws, needs))
-    (λ c κs. search (clear-laws, needs))
     (λ c. search (clear-laws, needs))
     (λ c. search (clear-laws, needs))
     (λ c. search (clear-laws, needs)))

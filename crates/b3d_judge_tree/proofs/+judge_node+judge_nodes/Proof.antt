@@ -10,7 +10,7 @@ use Rattle.b3d_judge_tree.proofs.+judge_node+judge_nodes.Lts-judge_node
 use Rattle.b3d_tally.proofs.none.Reads as none-reads
 use Rattle.b3d_tally.proofs.plus.Reads as plus-reads
 use Rattle.b3d_chunks.proofs.next_chunk.Reads as next-chunk-reads
-use Rattle.b3d_turns.proofs.next_inside.Reads as next-inside-reads
+use Rattle.b3d_enclosed.proofs.next_inside.Reads as next-inside-reads
 use Rattle.b3d_judge_node.proofs.judge_own.Reads as judge-own-reads
 use Rattle.b3d_judge_tree.proofs.+judge_node+judge_nodes.{statement}
 use Rattle.b3d_judge_tree.proofs.+judge_node+judge_nodes.Tie.{close}

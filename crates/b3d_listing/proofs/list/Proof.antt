@@ -1,5 +1,5 @@
 -- `list` has room for every listing.
-use Rattle.b3d_listing.proofs.Lengths.{list-whole}
+use Rattle.b3d_listing_text.proofs.Lengths.{list-whole}
 use borrow.Author.Needs.{needs}
 use Rattle.b3d_listing.proofs.list.Statement.{statement}
 use Rattle.b3d_listing.proofs.list.Tie as tie

@@ -8,8 +8,8 @@ use Rattle.b3d_put_nodes.proofs.+put_node+put_nodes.Lts-put_node as put
 use Rattle.b3d_put_nodes.proofs.put_nodes.Reads as put-nodes
 use Rattle.b3d_put_nodes.proofs.put_nodes.Kinds as put-nodes-kinds
 use Rattle.b3d_put_nodes.proofs.+put_node+put_nodes.Lts-put_nodes as put-nodes-lts
-use Rattle.b3d_check_node.proofs.node_counts.Reads as node-counts-reads
-use Rattle.b3d_put.proofs.number.Reads as number-reads
+use Rattle.b3d_check_counts.proofs.node_counts.Reads as node-counts-reads
+use Rattle.b3d_put_words.proofs.number.Reads as number-reads
 use Rattle.b3d_put_own.proofs.put_own.Reads as put-own-reads
 use Rattle.emit.proofs.put_header.Reads as put-header-reads
 use Rattle.b3d_put_nodes.proofs.+put_node+put_nodes.{statement}

@@ -1,9 +1,7 @@
 -- `write` answers as the definition, and writes the file where there is one with room.
-use mathlib.Core.Path.{sym}
 use lib.ListN.{length}
-use lib.Seq.{length-take-le}
-use Rattle.b3d_check.specs.Lent.{Rooms}
-use Rattle.b3d_write.proofs.WriteLaws.{write-unsound, asked-rooms, asked-slots, asked-sizable, write-long, write-short, asked-sized, asked-some, write-done}
+use Rattle.b3d_check_rooms.specs.LentRooms.{Rooms}
+use Rattle.b3d_write.proofs.WriteLaws.{write-unsound, asked-rooms, asked-slots, asked-sizable, write-long, write-short, asked-some, write-done}
 use borrow.Author.Needs.{needs}
 use Rattle.b3d_write.proofs.write.Statement.{statement}
 use Rattle.b3d_write.proofs.write.Tie as tie
@@ -28,27 +26,7 @@ write-spec =
     (λ c. write-long _ _ _ _ _ _ _ _ _ _ _ _ _ _ _ _ (c .before .before .before .before .before .before .before .before .sound .ensures) (c .before .before .before .before .before .before .before .if1 .left) _ (c .before .before .before .before .before .before .sizes .ensures) _ _ (c .before .before .before .before .size .ensures) (c .before .before .size2 .ensures) _ (c .before .file-bytes .ensures) _ (c .if2 .taken))
     (λ c. search needs)
     (λ c. write-short _ _ _ _ _ _ _ _ _ _ _ _ _ _ _ _ (c .before .before .before .before .before .before .before .before .before .sound .ensures) (c .before .before .before .before .before .before .before .before .if1 .left) _ (c .before .before .before .before .before .before .before .sizes .ensures) _ _ (c .before .before .before .before .before .size .ensures) (c .before .before .before .size2 .ensures) _ (c .before .before .file-bytes .ensures) _ (c .before .if2 .left) (c .if3 .taken))
-    (λ c. let h = rooms (c .before .before .before) .few₁ in search needs)
-    (λ c. sym (length-take-le _ _ (rooms (c .before .before .before .before) .room₁)))
-    (λ c. let h = rooms (c .before .before .before .before) .few₂ in search needs)
-    (λ c. sym (length-take-le _ _ (rooms (c .before .before .before .before .before) .room₂)))
-    (λ c. let h = rooms (c .before .before .before .before .before .before) .limited .nodes in search needs)
-    (λ c. sym (length-take-le _ _ (rooms (c .before .before .before .before .before .before .before) .room₃)))
-    (λ c. let h = rooms (c .before .before .before .before .before .before .before .before) .limited .meshes in search needs)
-    (λ c. sym (length-take-le _ _ (rooms (c .before .before .before .before .before .before .before .before .before) .kinds .room₄)))
-    (λ c. let h = rooms (c .before .before .before .before .before .before .before .before .before .before) .limited .vertices in search needs)
-    (λ c. sym (length-take-le _ _ (rooms (c .before .before .before .before .before .before .before .before .before .before .before) .kinds .room₅)))
-    (λ c. let h = rooms (c .before .before .before .before .before .before .before .before .before .before .before .before) .limited .sets in search needs)
-    (λ c. sym (length-take-le _ _ (rooms (c .before .before .before .before .before .before .before .before .before .before .before .before .before) .kinds .room₆)))
-    (λ c. let h = rooms (c .before .before .before .before .before .before .before .before .before .before .before .before .before .before) .limited .triangles in search needs)
-    (λ c. sym (length-take-le _ _ (rooms (c .before .before .before .before .before .before .before .before .before .before .before .before .before .before .before) .kinds .room₇)))
-    (λ c. let h = rooms (c .before .before .before .before .before .before .before .before .before .before .before .before .before .before .before .before) .limited .weights in search needs)
-    (λ c. sym (length-take-le _ _ (rooms (c .before .before .before .before .before .before .before .before .before .before .before .before .before .before .before .before .before) .kinds .room₈)))
-    (λ c. let h = rooms (c .before .before .before .before .before .before .before .before .before .before .before .before .before .before .before .before .before .before) .limited .lists in search needs)
-    (λ c. sym (length-take-le _ _ (rooms (c .before .before .before .before .before .before .before .before .before .before .before .before .before .before .before .before .before .before .before) .lists .room₉)))
-    (λ c. let h = rooms (c .before .before .before .before .before .before .before .before .before .before .before .before .before .before .before .before .before .before .before .before) .limited .keys in search needs)
-    (λ c. sym (length-take-le _ _ (rooms (c .before .before .before .before .before .before .before .before .before .before .before .before .before .before .before .before .before .before .before .before .before) .lists .room₁₀)))
-    (λ c κs. (asked-sized _ _ _ _ _ _ _ _ _ _ _ _ _ _ _ _ (c .before .before .before .before .before .before .before .before .before .before .before .before .before .before .before .before .before .before .before .before .before .before .before .before .before .before .before .before .sound .ensures) (c .before .before .before .before .before .before .before .before .before .before .before .before .before .before .before .before .before .before .before .before .before .before .before .before .before .before .before .if1 .left) _ (c .before .before .before .before .before .before .before .before .before .before .before .before .before .before .before .before .before .before .before .before .before .before .before .before .before .before .sizes .ensures) _ _ (c .before .before .before .before .before .before .before .before .before .before .before .before .before .before .before .before .before .before .before .before .before .before .before .before .size .ensures) (c .before .before .before .before .before .before .before .before .before .before .before .before .before .before .before .before .before .before .before .before .before .before .size2 .ensures), asked-some _ _ _ _ _ _ _ _ _ _ _ _ _ _ _ _ (c .before .before .before .before .before .before .before .before .before .before .before .before .before .before .before .before .before .before .before .before .before .before .before .before .before .before .before .before .sound .ensures) (c .before .before .before .before .before .before .before .before .before .before .before .before .before .before .before .before .before .before .before .before .before .before .before .before .before .before .before .if1 .left) _ (c .before .before .before .before .before .before .before .before .before .before .before .before .before .before .before .before .before .before .before .before .before .before .before .before .before .before .sizes .ensures) _ _ (c .before .before .before .before .before .before .before .before .before .before .before .before .before .before .before .before .before .before .before .before .before .before .before .before .size .ensures) (c .before .before .before .before .before .before .before .before .before .before .before .before .before .before .before .before .before .before .before .before .before .before .size2 .ensures) _ (c .before .before .before .before .before .before .before .before .before .before .before .before .before .before .before .before .before .before .before .before .before .file-bytes .ensures) _ (c .before .before .before .before .before .before .before .before .before .before .before .before .before .before .before .before .before .before .before .before .if2 .left) (c .before .before .before .before .before .before .before .before .before .before .before .before .before .before .before .before .before .before .before .if3 .left)))
-    (λ c. let h = c .before .before .before .before .before .before .before .before .before .before .before .before .before .before .before .before .before .before .before .before .before .before .before .if2 .left in search needs)
+    (λ c κs. (rooms (c .before .before .before .before), asked-some _ _ _ _ _ _ _ _ _ _ _ _ _ _ _ _ (c .before .before .before .before .before .before .before .before .before .before .sound .ensures) (c .before .before .before .before .before .before .before .before .before .if1 .left) _ (c .before .before .before .before .before .before .before .before .sizes .ensures) _ _ (c .before .before .before .before .before .before .size .ensures) (c .before .before .before .before .size2 .ensures) _ (c .before .before .before .file-bytes .ensures) _ (c .before .before .if2 .left) (c .before .if3 .left)))
+    (λ c. let h = c .before .before .before .before .before .if2 .left in search needs)
     (λ c. search needs)
-    (λ c. write-done _ _ _ _ _ _ _ _ _ _ _ _ _ _ _ _ (c .before .before .before .before .before .before .before .before .before .before .before .before .before .before .before .before .before .before .before .before .before .before .before .before .before .before .before .before .before .before .before .sound .ensures) (c .before .before .before .before .before .before .before .before .before .before .before .before .before .before .before .before .before .before .before .before .before .before .before .before .before .before .before .before .before .before .if1 .left) _ (c .before .before .before .before .before .before .before .before .before .before .before .before .before .before .before .before .before .before .before .before .before .before .before .before .before .before .before .before .before .sizes .ensures) _ _ (c .before .before .before .before .before .before .before .before .before .before .before .before .before .before .before .before .before .before .before .before .before .before .before .before .before .before .before .size .ensures) (c .before .before .before .before .before .before .before .before .before .before .before .before .before .before .before .before .before .before .before .before .before .before .before .before .before .size2 .ensures) _ (c .before .before .before .before .before .before .before .before .before .before .before .before .before .before .before .before .before .before .before .before .before .before .before .before .file-bytes .ensures) _ (c .before .before .before .before .before .before .before .before .before .before .before .before .before .before .before .before .before .before .before .before .before .before .before .if2 .left) (c .before .before .before .before .before .before .before .before .before .before .before .before .before .before .before .before .before .before .before .before .before .before .if3 .left) _ _ (c .before .before .put-file .ensures)))
+    (λ c. write-done _ _ _ _ _ _ _ _ _ _ _ _ _ _ _ _ (c .before .before .before .before .before .before .before .before .before .before .before .before .before .sound .ensures) (c .before .before .before .before .before .before .before .before .before .before .before .before .if1 .left) _ (c .before .before .before .before .before .before .before .before .before .before .before .sizes .ensures) _ _ (c .before .before .before .before .before .before .before .before .before .size .ensures) (c .before .before .before .before .before .before .before .size2 .ensures) _ (c .before .before .before .before .before .before .file-bytes .ensures) _ (c .before .before .before .before .before .if2 .left) (c .before .before .before .before .if3 .left) _ _ (c .before .before .put-counted .ensures)))

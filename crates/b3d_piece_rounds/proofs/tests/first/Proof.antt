@@ -10,4 +10,7 @@ first-spec =
     (tie.spec
     (λ c κs. search needs)
     (λ c κs. search needs)
-    (λ c. first-by _ _ (c .before .judge-of .ensures) _ _ _ (c .first-of .ensures)))
+    (λ c κs. search needs)
+    (λ c κs. search needs)
+    (λ c κs. search needs)
+    (λ c. search (first-by, needs)))

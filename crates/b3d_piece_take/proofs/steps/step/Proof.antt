@@ -6,4 +6,4 @@ use Rattle.b3d_piece_take.proofs.steps.step.Tie as tie
 
 pub step-spec : {M : Type 1} → statement M
 step-spec =
-    tie.close (tie.spec (λ c κs. search needs) (λ c κs. search needs) (λ c κs. search needs) (λ c. search (step-laws, needs)) (λ c. search needs) (λ c. search (step-laws, needs)))
+    tie.close (tie.spec (λ c κs. search needs) (λ c κs. search (step-laws, needs)) (λ c κs. search needs) (λ c. search (step-laws, needs)))

@@ -1,0 +1,2 @@
+-- What is answered on brushes.
+pub mod Brushes

@@ -1,0 +1,2 @@
+-- The laws of a brush, and of how many slots there are.
+pub mod BrushLaws

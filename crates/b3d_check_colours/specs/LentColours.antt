@@ -1,0 +1,13 @@
+-- The colours of lent tables.
+use Prim.Native.Nat.{ℕ}
+use mathlib.Core.Bool.{Bool}
+use mathlib.Core.List.{List}
+use lib.Dec.{eqb}
+use Rattle.wire.specs.Test.{if}
+use Rattle.b3d_scene.specs.Colours.{passes}
+use Rattle.b3d_scene.specs.Rebuild.{cut}
+use Rattle.b3d_scene.specs.declared.Mode.{Mode}
+
+-- what a mode asks of colours: so many rows of brushes and of vertices
+unfoldable pub coloursPart : Mode → ℕ → List ℕ → ℕ → List ℕ → Bool
+coloursPart mode brushes t₂ vertices t₅ = passes mode (λ k. if (eqb k 2) (cut 17 brushes t₂) (cut 42 vertices t₅))

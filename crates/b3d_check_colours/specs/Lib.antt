@@ -1,0 +1,2 @@
+-- What a mode asks of colours.
+pub mod LentColours

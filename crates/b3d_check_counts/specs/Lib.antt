@@ -1,0 +1,3 @@
+-- The rows that counts speak of, and what is left over of them.
+pub mod Parts
+pub mod Ended

@@ -1,0 +1,2 @@
+-- The laws of nodes one after the other.
+pub mod NodesLaws

@@ -1,0 +1,2 @@
+-- The laws of counts and rooms.
+pub mod RoomLaws

@@ -1,0 +1,2 @@
+-- Counts and rooms of lent tables.
+pub mod LentRooms

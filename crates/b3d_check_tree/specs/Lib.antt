@@ -1,2 +1,0 @@
--- What is left over of lent tables.
-pub mod Ended

@@ -1,0 +1,2 @@
+-- The next chunk inside a chunk.
+pub mod Steps

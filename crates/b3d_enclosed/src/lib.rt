@@ -1,0 +1,112 @@
+// The next known chunk inside a chunk, by cursor: of a file at hand refusals 4 and 8 are given here, by `by_permit`, and nowhere else.
+ghost use mathlib.Core.Path.{_≡_};
+ghost use Prim.Native.Nat.{_≤_};
+ghost use lib.ListN.{length};
+ghost use Rattle.wire.specs.Cursors.{Inside};
+ghost use Rattle.b3d_chunks.specs.Chunks.{NextIs};
+ghost use Rattle.b3d_turns.specs.Turns.{first};
+ghost use Rattle.b3d_enclosed.specs.Steps.{permitFor, EnclosedIs};
+use b3d_chunks::Next;
+use b3d_scene::Tag;
+use b3d_turns::Permit;
+use b3d_turns::Reached;
+use wire::Cursor;
+
+// The next known chunk inside one that encloses it: its tag, the place of its header, its body, the cursor after it, how far the chunks
+// have come with it; or a refusal and its place; or the end, with nothing owed.
+pub enum Enclosed {
+    Chunk {
+        tag: Tag,
+        at: usize,
+        body: Cursor,
+        next: Cursor,
+        reached: Reached,
+    },
+    Not(u32, usize),
+    End,
+}
+
+// No chunk was read yet.
+const FIRST: Reached = Reached {
+    turn: 0,
+    spent: false,
+};
+
+// What the table permits of what was found next: the chunk there, or the end of the chunks.
+fn permit_for(found: Next, enclosing: Tag, reached: Reached) -> Permit
+    ensures { λ r. ⌜ r ≡ permitFor enclosing reached found ⌝ }
+{
+    match found {
+        Next::Cut(_) => Permit::No,
+        Next::Done => {
+            if b3d_turns::owes(enclosing, reached) {
+                return Permit::No;
+            }
+            Permit::Yes(reached)
+        }
+        Next::Chunk { tag, .. } => b3d_turns::may_stand(enclosing, reached, tag),
+    }
+}
+
+// The answer for what was found next, by what the table permits: 3 at a cut header, 4 at a chunk that may not stand there, 8 at the header
+// of a chunk that ends and still owes one.
+fn by_permit(
+    s: &[u8],
+    from: Cursor,
+    found: Next,
+    permit: Permit,
+    enclosing: Tag,
+    head: usize,
+    reached: Reached,
+) -> Enclosed
+    requires { ⌜ NextIs (now s) from found × Inside from (length (now s)) × (head ≤ from .at) × (permit ≡ permitFor enclosing reached found) ⌝ }
+    ensures { λ r. ⌜ EnclosedIs (now (s .entry)) enclosing head reached from r ⌝ }
+{
+    match found {
+        Next::Cut(p) => Enclosed::Not(3, p),
+        Next::Done => match permit {
+            Permit::No => Enclosed::Not(8, head),
+            Permit::Yes(_) => Enclosed::End,
+        },
+        Next::Chunk {
+            tag,
+            at,
+            body,
+            next,
+        } => match permit {
+            Permit::No => Enclosed::Not(4, at),
+            Permit::Yes(z) => Enclosed::Chunk {
+                tag,
+                at,
+                body,
+                next,
+                reached: z,
+            },
+        },
+    }
+}
+
+// The first known chunk inside one whose header is at `head`, by what was found from a cursor on.
+pub fn first_inside(s: &[u8], from: Cursor, found: Next, enclosing: Tag, head: usize) -> Enclosed
+    requires { ⌜ NextIs (now s) from found × Inside from (length (now s)) × (head ≤ from .at) ⌝ }
+    ensures { λ r. ⌜ EnclosedIs (now (s .entry)) enclosing head first from r ⌝ }
+{
+    let permit = permit_for(found, enclosing, FIRST);
+    by_permit(s, from, found, permit, enclosing, head, FIRST)
+}
+
+// The next one, after those that have come so far.
+pub fn next_inside(
+    s: &[u8],
+    from: Cursor,
+    found: Next,
+    enclosing: Tag,
+    head: usize,
+    reached: Reached,
+) -> Enclosed
+    requires { ⌜ NextIs (now s) from found × Inside from (length (now s)) × (head ≤ from .at) ⌝ }
+    ensures { λ r. ⌜ EnclosedIs (now (s .entry)) enclosing head reached from r ⌝ }
+{
+    let permit = permit_for(found, enclosing, reached);
+    by_permit(s, from, found, permit, enclosing, head, reached)
+}

@@ -1,0 +1,2 @@
+-- What stands at a tag's place.
+pub mod Picked

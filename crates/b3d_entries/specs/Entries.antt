@@ -1,0 +1,15 @@
+-- Rows and entries of the table by their tags.
+use Prim.Native.Nat.{ℕ}
+use mathlib.Core.List.{List, []}
+use lib.ListN.{getD}
+use Rattle.b3d_scene.specs.declared.Tag.{Tag}
+use Rattle.b3d_scene.specs.Tags.{tagNumber}
+use Rattle.b3d_nesting.specs.declared.Entry.{Entry}
+use Rattle.b3d_nesting.specs.Table.{nestingTable, entryAt}
+
+abbrev pub rowAt : ℕ → List Entry
+rowAt row = getD nestingTable row []
+
+-- inside a chunk of tag k: the entry for a tag
+abbrev pub entryOf : Tag → Tag → Entry
+entryOf k t = entryAt (tagNumber k) (tagNumber t)

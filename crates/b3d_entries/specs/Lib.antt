@@ -1,0 +1,2 @@
+-- Rows and entries of the table by their tags.
+pub mod Entries

@@ -1,0 +1,2 @@
+-- Tables without rows.
+pub mod Empty

@@ -1,0 +1,2 @@
+-- What is answered of the chunks of a file.
+pub mod Bodies

@@ -1,0 +1,2 @@
+-- Laws of keys by runs.
+pub mod Keys

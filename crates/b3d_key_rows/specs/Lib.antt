@@ -1,0 +1,2 @@
+-- A key by runs.
+pub mod Keys

@@ -1,0 +1,4 @@
+-- The label of accepted files, and worked files.
+pub mod Walked
+pub mod Tables
+pub mod Cases

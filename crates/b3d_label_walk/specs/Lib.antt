@@ -1,0 +1,2 @@
+-- What the tray label says of a file, on every input.
+pub mod Walk

@@ -1,3 +1,0 @@
--- What the lister prints.
-pub mod Listing
-pub mod Parts

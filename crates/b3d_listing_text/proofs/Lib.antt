@@ -1,0 +1,4 @@
+-- The laws of the lister's text.
+pub mod NameLines
+pub mod Lengths
+pub mod Cases

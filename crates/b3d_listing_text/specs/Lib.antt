@@ -1,0 +1,2 @@
+-- What the lister prints.
+pub mod Listing

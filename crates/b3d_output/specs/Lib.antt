@@ -1,0 +1,2 @@
+-- Answers for bytes of a size.
+pub mod Sizes

@@ -1,0 +1,11 @@
+-- The answer for bytes of which only the size is known.
+use mathlib.Core.Path.{_≡_}
+use Prim.Native.Nat.{ℕ}
+use mathlib.Core.List.{List}
+use lib.ListN.{length}
+use Rattle.b3d_scene.specs.Answers.{roomFor, written}
+use Rattle.b3d_scene.specs.declared.Written.{Written}
+
+-- r is the answer for bytes of this size, whichever they are, and an output of `room` bytes
+pub record OfSize (size room : ℕ) (r : Written) : Type 0 where
+  pub is : (b : List ℕ) → length b ≡ size → r ≡ written (roomFor room b)

@@ -1,0 +1,2 @@
+-- Laws of the way up.
+pub mod Climb

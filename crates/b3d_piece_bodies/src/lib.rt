@@ -1,0 +1,96 @@
+// A chunk's body begins, its fixed data ends, a chunk is passed over. By value, as in b3d_piece_parts.
+ghost use mathlib.Core.Path.{_≡_};
+ghost use Prim.Native.Nat.{_*_, _≤_};
+ghost use Rattle.b3d_pieces.specs.Bodies.{wrongFor};
+ghost use Rattle.b3d_pieces.specs.Machine.{textFrom, fixedDone, fixedRowFrom, enter as enterOf, skipFrom};
+ghost use Rattle.b3d_pieces.specs.Good.{Words};
+ghost use Rattle.b3d_piece_parts.specs.Nows.{Ready, Gives, texted as textedOf};
+use b3d_chunks::same;
+use b3d_piece_parts::Now;
+use b3d_piece_parts::between::edge;
+use b3d_piece_parts::between::less;
+use b3d_piece_rules::lengths::fixed_len;
+use b3d_piece_totals::headed;
+use b3d_pieces::Kept;
+use b3d_pieces::NONE_KEPT;
+use b3d_pieces::Open;
+use b3d_pieces::Part;
+use b3d_pieces::Totals;
+use b3d_scene::Tag;
+
+pub fn text_from(fixed: bool, start: usize, at: usize, g: Totals, f: Open) -> Now
+    ensures { λ r. ⌜ Gives 0 at g f r (textFrom fixed start at g f) ⌝ }
+{
+    if at == f.end {
+        return Now::Fault(5, start);
+    }
+    Now::Live(at, Part::Text(fixed, start), g, f)
+}
+
+pub fn skip_from(until: usize, at: usize, g: Totals, f: Open) -> Now
+    requires { ⌜ Ready 0 at g f ⌝ }
+    ensures { λ r. ⌜ Gives 0 at g f r (skipFrom until at g f) ⌝ }
+{
+    if at == until {
+        return edge(at, g, f);
+    }
+    Now::Live(at, Part::Skip(until), g, f)
+}
+
+pub fn fixed_done(at: usize, k: Kept, g: Totals, f: Open) -> Now
+    requires { ⌜ Ready 0 at g f × Words k ⌝ }
+    ensures { λ r. ⌜ Gives 0 at g f r (fixedDone at k g f) ⌝ }
+{
+    let tag = f.tag;
+    let x = headed(tag, k, g);
+    let mut y = f;
+    y.kept = k;
+    edge(at, x, y)
+}
+
+// So many bytes for a row of so many numbers are wrong.
+pub fn wrong_for(tag: Tag, left: usize, n: usize) -> bool
+    requires { ⌜ n ≤ 10 ⌝ }
+    ensures { λ r. ⌜ r ≡ wrongFor tag left (4 * n) ⌝ }
+{
+    let need = 4 * n;
+    if same(tag, Tag::ANIM) {
+        return left != need;
+    }
+    left < need
+}
+
+pub fn fixed_row_from(at: usize, g: Totals, f: Open) -> Now
+    requires { ⌜ Ready 0 at g f ⌝ }
+    ensures { λ r. ⌜ Gives 0 at g f r (fixedRowFrom at g f) ⌝ }
+{
+    let tag = f.tag;
+    let end = f.end;
+    let n = fixed_len(tag, g);
+    let left = less(end, at);
+    if wrong_for(tag, left, n) {
+        return Now::Fault(5, at);
+    }
+    if n == 0 {
+        return fixed_done(at, NONE_KEPT, g, f);
+    }
+    Now::Live(at, Part::Row(true, at, 0, 0, 0, NONE_KEPT), g, f)
+}
+
+// The body begins with a text.
+pub fn texted(tag: Tag) -> bool
+    ensures { λ r. ⌜ r ≡ textedOf tag ⌝ }
+{
+    same(tag, Tag::NODE)
+}
+
+pub fn enter(at: usize, g: Totals, f: Open) -> Now
+    requires { ⌜ Ready 0 at g f ⌝ }
+    ensures { λ r. ⌜ Gives 0 at g f r (enterOf (textedOf (f .tag)) at g f) ⌝ }
+{
+    let tag = f.tag;
+    if texted(tag) {
+        return text_from(true, at, at, g, f);
+    }
+    fixed_row_from(at, g, f)
+}

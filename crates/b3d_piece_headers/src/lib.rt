@@ -1,0 +1,91 @@
+// A header was read: what it says is held to the nesting rule, and the chunk entered or passed over. By value, as in b3d_piece_parts.
+ghost use mathlib.Core.Path.{_≡_};
+ghost use Rattle.wire.specs.Bytes.{IsWord};
+ghost use Rattle.b3d_pieces.specs.Machine.{fresh as freshOf, headerDone};
+ghost use Rattle.b3d_piece_parts.specs.Nows.{Ready, Gives};
+ghost use Rattle.b3d_piece_headers.specs.Heads.{Opens, standHere};
+use b3d_chunks::Tagged;
+use b3d_chunks::tag_of;
+use b3d_piece_bodies::skip_from;
+use b3d_piece_bodies::texted;
+use b3d_piece_parts::Now;
+use b3d_piece_parts::between::less;
+use b3d_piece_parts::nesting::stands;
+use b3d_piece_totals::node_begins;
+use b3d_pieces::NONE_KEPT;
+use b3d_pieces::Open;
+use b3d_pieces::Totals;
+use b3d_scene::Tag;
+use b3d_turns::Permit;
+
+// A chunk that is opened: nothing of it was read.
+pub fn fresh(tag: Tag, head: usize, end: usize, level: usize, told: usize) -> Open
+    ensures { λ r. ⌜ r ≡ freshOf tag head end level told ⌝ }
+{
+    Open {
+        tag: tag,
+        head: head,
+        end: end,
+        turn: 0,
+        spent: false,
+        level: level,
+        kept: NONE_KEPT,
+        count: 0,
+        told: told,
+    }
+}
+
+// A chunk inside f, which goes to the row.
+fn open_chunk(t: Tag, head: usize, e: usize, at: usize, g: Totals, f: Open) -> Now
+    requires { ⌜ Ready 1 at g f ⌝ }
+    ensures { λ r. ⌜ Opens t head e at g f r ⌝ }
+{
+    let level = f.level;
+    if texted(t) {
+        if level == 0 {
+            return Now::Fault(9, head);
+        }
+        let told = g.below;
+        let x = node_begins(g);
+        let y = fresh(t, head, e, level - 1, told);
+        return Now::Push(at, x, y, f);
+    }
+    let y = fresh(t, head, e, level, 0);
+    Now::Push(at, g, y, f)
+}
+
+// A known chunk inside f: it may stand there or not.
+fn stand_here(t: Tag, head: usize, e: usize, at: usize, g: Totals, f: Open) -> Now
+    requires { ⌜ Ready 1 at g f ⌝ }
+    ensures { λ r. ⌜ Gives 1 at g f r (standHere t head e at g f) ⌝ }
+{
+    let tag = f.tag;
+    let turn = f.turn;
+    let spent = f.spent;
+    match stands(tag, turn, spent, t) {
+        Permit::No => Now::Fault(4, head),
+        Permit::Yes(reached) => {
+            let mut y = f;
+            y.turn = reached.turn as usize;
+            y.spent = reached.spent;
+            open_chunk(t, head, e, at, g, y)
+        }
+    }
+}
+
+// A header was read.
+pub fn header_done(head: usize, tag: usize, n: usize, at: usize, g: Totals, f: Open) -> Now
+    requires { ⌜ Ready 1 at g f × IsWord tag × IsWord n ⌝ }
+    ensures { λ r. ⌜ Gives 1 at g f r (headerDone head tag n at g f) ⌝ }
+{
+    let end = f.end;
+    let left = less(end, at);
+    if left < n {
+        return Now::Fault(3, head);
+    }
+    let word = tag as u32;
+    match tag_of(word) {
+        Tagged::Other => skip_from(at + n, at, g, f),
+        Tagged::Known(t) => stand_here(t, head, at + n, at, g, f),
+    }
+}

@@ -1,0 +1,2 @@
+pub mod LoadTests
+pub mod PartTests

@@ -1,0 +1,29 @@
+-- Tests that hold just where a statement does, and sums that are right where they are small.
+use mathlib.Core.Path.{_≡_}
+use Prim.Native.Nat.{ℕ, _+_, _<_, _≤_}
+use mathlib.Core.Bool.{Bool, true}
+use Rattle.b3d_pieces.specs.declared.Kept.{Kept}
+use Rattle.b3d_pieces.specs.declared.Open.{Open}
+use Rattle.b3d_pieces.specs.Good.{Words, Bound, worth}
+
+pub record Tests (b : Bool) (P : Type 0) : Type 0 where
+  pub yes : b ≡ true → P
+  pub all : P → b ≡ true
+
+-- r is n if P holds and n is at most 16,777,217; otherwise r is above that
+pub record Weighs (P : Type 0) (n r : ℕ) : Type 0 where
+  pub yes : r ≤ 16777217 → P × (r ≡ n)
+  pub all : P → n ≤ 16777217 → r ≡ n
+  pub most : r ≤ 16777218
+
+abbrev pub OpenFits : Open → ℕ → Type 0
+OpenFits f n = Bound (f .tag) (f .level) n × Words (f .kept)
+
+-- r is n where either is at most 16,777,217
+pub record Small (m n r : ℕ) : Type 0 where
+  pub yes : r ≤ 16777217 → r ≡ n
+  pub all : n ≤ 16777217 → r ≡ n
+  pub most : r ≤ m
+
+abbrev pub RowOff : ℕ → ℕ → ℕ → Kept → ℕ → ℕ → Type 0
+RowOff i j acc k at n = (at + j ≡ n) × (j ≤ 3) × (i ≤ at) × (acc < worth j) × Words k

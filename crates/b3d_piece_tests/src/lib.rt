@@ -1,0 +1,100 @@
+// What the rounds that test a caller's state and row decide, by numbers: 11, then 15, another record to test, or turns. The row is not at hand: a round
+// is handed the record that it tests.
+ghost use mathlib.Core.Path.{_≡_};
+ghost use Prim.Native.Nat.{_≤_};
+ghost use Rattle.b3d_piece_tests.specs.Decisions.{refusing, FineBy, FirstBy, TestBy};
+use b3d_piece_entry::state::state_fine;
+use b3d_piece_loads::loads::open_load;
+use b3d_piece_take::Judge;
+use b3d_pieces::Open;
+
+// Whether another round follows; the record to read; whether it is to be tested, and the load of those before it; the refusal and its place, or 0 and 0.
+pub struct Decision {
+    pub go: bool,
+    pub get: usize,
+    pub testing: bool,
+    pub load: usize,
+    pub number: u32,
+    pub place: u32,
+}
+
+fn refusal(number: u32, place: u32) -> Decision
+    ensures { λ r. ⌜ r ≡ refusing number place ⌝ }
+{
+    Decision {
+        go: false,
+        get: 0,
+        testing: false,
+        load: 0,
+        number: number,
+        place: place,
+    }
+}
+
+// The records in use were tested, and have this load: turns, of which the first reads the record at `get`, if there are bytes; or 15.
+fn decided(j: Judge, load: usize, go: bool, get: usize) -> Decision
+    requires { ⌜ load ≤ 16777218 ⌝ }
+    ensures { λ r. ⌜ FineBy j load go get r ⌝ }
+{
+    if state_fine(j, load) {
+        return Decision {
+            go: go,
+            get: get,
+            testing: false,
+            load: 0,
+            number: 0,
+            place: 0,
+        };
+    }
+    refusal(15, 0)
+}
+
+// What is handed in, over so many records.
+pub fn first_decision(j: Judge, records: usize, go: bool, get: usize) -> Decision
+    ensures { λ r. ⌜ FirstBy j records go get r ⌝ }
+{
+    if records < 19 {
+        return refusal(11, 19);
+    }
+    if j.shut {
+        return refusal(15, 0);
+    }
+    let depth = j.depth;
+    if 18 < depth {
+        return refusal(15, 0);
+    }
+    if depth == 0 {
+        return decided(j, 0, go, get);
+    }
+    Decision {
+        go: true,
+        get: 0,
+        testing: true,
+        load: 0,
+        number: 0,
+        place: 0,
+    }
+}
+
+// The record at place i is tested; those before it have this load.
+pub fn test_decision(j: Judge, load: usize, i: usize, f: Open, go: bool, get: usize) -> Decision
+    requires { ⌜ (load ≤ 16777217) × (i ≤ 17) ⌝ }
+    ensures { λ r. ⌜ TestBy j load i f go get r ⌝ }
+{
+    let v = open_load(f, i);
+    let sum = load + v;
+    if 16777217 < sum {
+        return decided(j, 16777218, go, get);
+    }
+    if i + 1 < j.depth {
+        return Decision {
+            go: true,
+            get: i + 1,
+            testing: true,
+            load: sum,
+            number: 0,
+            place: 0,
+        };
+    }
+    decided(j, sum, go, get)
+}

@@ -1,2 +1,0 @@
--- What the writer's chunks are of.
-pub mod Chunks

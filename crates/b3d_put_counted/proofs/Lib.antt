@@ -1,0 +1,2 @@
+-- The laws of counted rows.
+pub mod Sizes

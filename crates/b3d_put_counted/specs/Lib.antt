@@ -1,0 +1,2 @@
+-- Counted rows.
+pub mod Counted

@@ -1,0 +1,53 @@
+// Rows of keys as bytes in a lent output, run by run.
+ghost use mathlib.Core.Path.{_≡_};
+ghost use mathlib.Core.List.{map};
+ghost use Prim.Native.Nat.{_+_, _*_, _/_, _<_, _≤_};
+ghost use lib.ListN.{length};
+ghost use Rattle.layout.specs.Write.{writeWords, writeItems};
+ghost use Rattle.emit.specs.Writing.{Room, Put};
+ghost use Rattle.b3d_scene.specs.Mask.{squeeze, keyMask};
+ghost use Rattle.b3d_masks.specs.Runs.{Short, OfKey};
+ghost use Rattle.b3d_put_rows.specs.Lent.{rowsFrom};
+ghost use Rattle.b3d_put_rows.specs.RowBytes.{backBytes, rowBytes};
+use b3d_masks::RowRuns;
+
+// The other runs of a key, from word `base` on.
+fn key_back(g: RowRuns, words: &[u32], base: usize, out: &mut [u8]) -> usize
+    requires { ⌜ Short g × (g .wide ≡ 3) × (g .sets ≡ 1) × (base + 7 ≤ length (now words)) ⌝ }
+    requires { ⌜ Room (backBytes g (now words) base) (now out) ⌝ }
+    ensures { λ r. ⌜ Put (backBytes g (now (words .entry)) base) (now (out .entry)) (now (out .exit)) r ⌝ }
+{
+    let n = b3d_put_rows::put_full(words, base, g.some, 3, out);
+    let m = b3d_put_rows::put_full(words, base + 3, g.size, 4, &mut out[n..]);
+    n + m
+}
+
+// The key from word `base` on.
+fn put_key(g: RowRuns, words: &[u32], base: usize, out: &mut [u8]) -> usize
+    requires { ⌜ Short g × OfKey g × (base + 11 ≤ length (now words)) ⌝ }
+    requires { ⌜ Room (rowBytes g (now words) base) (now out) ⌝ }
+    ensures { λ r. ⌜ Put (rowBytes g (now (words .entry)) base) (now (out .entry)) (now (out .exit)) r ⌝ }
+{
+    let n = b3d_put_rows::put_front(1, g.three, words, base, out);
+    let m = key_back(g, words, base + 1 + 3, &mut out[n..]);
+    n + m
+}
+
+// `count` keys from row `first` on, by their flags.
+pub fn put_key_rows(flags: u32, keys: &[u32], first: usize, count: usize, out: &mut [u8]) -> usize
+    requires { ⌜ first + count ≤ length (now keys) / 11 ⌝ }
+    requires { ⌜ Room (writeItems writeWords (map (squeeze (keyMask flags)) (rowsFrom 11 (now keys) first count))) (now out) ⌝ }
+    ensures { λ r. ⌜ Put (writeItems writeWords (map (squeeze (keyMask flags)) (rowsFrom 11 (now (keys .entry)) first count))) (now (out .entry)) (now (out .exit)) r ⌝ }
+{
+    let g = b3d_masks::key_runs(flags);
+    let mut at: usize = 0;
+    let mut b = 11 * first;
+    let mut left = count;
+    while 0 < left {
+        let n = put_key(g, keys, b, &mut out[at..]);
+        at += n;
+        b += 11;
+        left -= 1;
+    }
+    at
+}

@@ -1,0 +1,2 @@
+-- The laws of a MESH that is written.
+pub mod Bodies

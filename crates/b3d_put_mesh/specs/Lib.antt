@@ -1,0 +1,2 @@
+-- What a MESH is of.
+pub mod Mesh

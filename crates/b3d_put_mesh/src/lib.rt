@@ -1,0 +1,52 @@
+// The MESH of the writer: its brush, the VRTS, the TRIS.
+use b3d_put_runs::put_runs;
+use b3d_put_vertices::put_vertex_rows;
+use b3d_put_words::number;
+use b3d_scene::letters;
+ghost use Prim.Native.Nat.{_+_, _/_, _≤_};
+ghost use lib.ListN.{length};
+ghost use Rattle.emit.specs.Writing.{Room, Put};
+ghost use Rattle.b3d_put_rows.specs.Lent.{rowsFrom};
+ghost use Rattle.b3d_put_mesh.specs.Mesh.{verticesBytes, MeshThere, meshBytes};
+
+// A VRTS of flags, sets and set size, the words of the meshes t4 from word `from` on, and n vertices of t5 from row v on.
+fn put_vertices(t4: &[u32], from: usize, t5: &[u32], v: usize, n: usize, out: &mut [u8]) -> usize
+    requires { ⌜ from + 3 ≤ length (now t4) ⌝ }
+    requires { ⌜ v + n ≤ length (now t5) / 42 ⌝ }
+    requires { ⌜ Room (verticesBytes (now t4) from (rowsFrom 42 (now t5) v n)) (now out) ⌝ }
+    ensures { λ r. ⌜ Put (verticesBytes (now (t4 .entry)) from (rowsFrom 42 (now (t5 .entry)) v n)) (now (out .entry)) (now (out .exit)) r ⌝ }
+{
+    let flags = t4[from];
+    let sets = t4[from + 1];
+    let size = t4[from + 2];
+    let a = emit::put_words(t4, from, 3, &mut out[8..]);
+    let rest = &mut out[a + 8..];
+    let b = put_vertex_rows(flags, sets, size, t5, v, n, rest);
+    emit::put_header(out, letters::VRTS, a + b);
+    a + b + 8
+}
+
+// A MESH: its brush, the VRTS, the TRIS. The mesh's row begins at word `row`; its vertices, sets and triangles are those from rows v, s and t on.
+pub fn put_mesh(
+    meshes: &[u32],
+    row: usize,
+    vertices: &[u32],
+    v: usize,
+    sets: &[u32],
+    s: usize,
+    triangles: &[u32],
+    t: usize,
+    out: &mut [u8],
+) -> usize
+    requires { ⌜ MeshThere (now meshes) row (now vertices) v (now sets) s (now triangles) t ⌝ }
+    requires { ⌜ Room (meshBytes (now meshes) row (now vertices) v (now sets) s (now triangles) t) (now out) ⌝ }
+    ensures { λ r. ⌜ Put (meshBytes (now (meshes .entry)) row (now (vertices .entry)) v (now (sets .entry)) s (now (triangles .entry)) t) (now (out .entry)) (now (out .exit)) r ⌝ }
+{
+    let brush = meshes[row + 1];
+    let count = number(meshes, row + 6);
+    let many = number(meshes, row + 8);
+    let n = put_vertices(meshes, row + 2, vertices, v, count, &mut out[12..]);
+    let m = put_runs(false, sets, s, many, triangles, t, &mut out[n + 12..]);
+    emit::put_opening(out, letters::MESH, n + m, brush);
+    n + m + 12
+}

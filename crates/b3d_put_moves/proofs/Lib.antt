@@ -1,0 +1,2 @@
+-- The laws of what moves a node.
+pub mod MoveLaws

@@ -1,0 +1,2 @@
+-- What moves a node.
+pub mod Moves

@@ -1,0 +1,59 @@
+// The KEYS and the ANIM of a node, written from rows of lent tables: t3 the nodes, t9 the key lists, t10 the keys.
+ghost use mathlib.Core.Path.{_≡_};
+ghost use Prim.Native.Nat.{_+_, _*_, _/_, _<_, _≤_};
+ghost use lib.ListN.{length, drop};
+ghost use Rattle.emit.specs.Writing.{Room, Put};
+ghost use Rattle.b3d_scene.specs.Rebuild.{mine};
+ghost use Rattle.b3d_scene.specs.Tables.{nodeWidth};
+ghost use Rattle.b3d_put_rows.specs.Lent.{rowsIn};
+ghost use Rattle.b3d_put_moves.specs.Moves.{animPart, movesBytes, MovesThere};
+use b3d_put_runs::put_runs;
+use b3d_put_words::number;
+use b3d_put_words::put_values;
+use b3d_scene::Counts;
+
+// The ANIM that the four words of the nodes from word `at` on say, or nothing.
+fn put_anim(nodes: &[u32], at: usize, out: &mut [u8]) -> usize
+    requires { ⌜ at + 4 ≤ length (now nodes) ⌝ }
+    requires { ⌜ Room (animPart (now nodes) at) (now out) ⌝ }
+    ensures { λ r. ⌜ Put (animPart (now (nodes .entry)) at) (now (out .entry)) (now (out .exit)) r ⌝ }
+{
+    if nodes[at] == 1 {
+        return put_values(nodes, at + 1, out);
+    }
+    0
+}
+
+// How many rows of key lists from row `first` on are those of a node.
+fn count_lists(lists: &[u32], first: usize, node: usize) -> usize
+    ensures { λ r. ⌜ r ≡ length (mine node (drop first (rowsIn 4 (now (lists .entry))))) ⌝ }
+{
+    let mut i = first;
+    while i < lists.len() / 4 {
+        if number(lists, 4 * i) != node {
+            return i - first;
+        }
+        i += 1;
+    }
+    i - first
+}
+
+// The KEYS and the ANIM of the node whose row begins at word `row`.
+pub fn put_moves(
+    t3: &[u32],
+    row: usize,
+    t9: &[u32],
+    t10: &[u32],
+    n: Counts,
+    out: &mut [u8],
+) -> usize
+    requires { ⌜ row + nodeWidth ≤ length (now t3) ⌝ }
+    requires { ⌜ MovesThere (now t9) (now t10) n ⌝ }
+    requires { ⌜ Room (movesBytes (now t3) row (now t9) (now t10) n) (now out) ⌝ }
+    ensures { λ r. ⌜ Put (movesBytes (now (t3 .entry)) row (now (t9 .entry)) (now (t10 .entry)) n) (now (out .entry)) (now (out .exit)) r ⌝ }
+{
+    let count = count_lists(t9, n.lists, n.nodes);
+    let a = put_runs(true, t9, n.lists, count, t10, n.keys, out);
+    let b = put_anim(t3, row + 16, &mut out[a..]);
+    a + b
+}

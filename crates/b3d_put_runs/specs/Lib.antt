@@ -1,0 +1,2 @@
+-- Chunks whose items are runs of rows.
+pub mod Runs

@@ -1,0 +1,20 @@
+-- The bytes of chunks whose items are words of a table as they stand.
+use Prim.Native.Nat.{ℕ}
+use mathlib.Core.List.{List, []}
+use Rattle.wire.specs.Bytes.{bytes}
+use Rattle.layout.specs.Write.{writeItems, writeWords}
+use Rattle.emit.specs.Writing.{chunk}
+use Rattle.b3d_scene.specs.Tags.{code}
+use Rattle.b3d_scene.specs.declared.Tag.the-variants.{TRIS, BONE, ANIM}
+
+-- a TRIS of this brush and these triangles
+abbrev pub setBytes : ℕ → List (List ℕ) → List ℕ
+setBytes b ts = chunk (code TRIS) (bytes b []) (writeItems writeWords ts)
+
+-- a BONE of these weights
+abbrev pub boneBytes : List (List ℕ) → List ℕ
+boneBytes ws = chunk (code BONE) [] (writeItems writeWords ws)
+
+-- an ANIM of these words
+abbrev pub animBytes : List ℕ → List ℕ
+animBytes ws = chunk (code ANIM) [] (writeWords ws [])

@@ -1,0 +1,2 @@
+-- Chunks of words.
+pub mod Chunks

@@ -1,0 +1,2 @@
+-- The laws of their ways.
+pub mod RoomAnswers

@@ -1,0 +1,76 @@
+// The reader's answers by numbers alone: for a refusal, and for a file that was accepted, whether ten lent tables have room for its rows or not.
+ghost use mathlib.Core.Path.{_≡_};
+ghost use mathlib.Core.List.{[], _∷_};
+ghost use Prim.Native.Nat.{_<_};
+ghost use Rattle.layout.specs.Out.{bad};
+ghost use Rattle.b3d_scene.specs.Answers.{answer};
+ghost use Rattle.table_room.specs.Rooms.{numberOf};
+ghost use Rattle.b3d_limits.specs.Limits.{TallyLimited};
+ghost use Rattle.b3d_room.specs.Answers.{acceptedAs, roomAnswer};
+use b3d_scene::Answer;
+use b3d_tally::Tally;
+
+// The answer for a refusal.
+pub fn refused(number: u32, place: usize) -> Answer
+    requires { ⌜ place < 4294967296 ⌝ }
+    ensures { λ r. ⌜ r ≡ answer (bad number place) ⌝ }
+{
+    Answer {
+        number,
+        place: place as u32,
+        version: 0,
+        n_texs: 0,
+        counts: [0; 10],
+    }
+}
+
+// The answer for a file that was accepted.
+pub fn accepted(version: u32, slots: u32, t: Tally) -> Answer
+    requires { ⌜ TallyLimited t ⌝ }
+    ensures { λ r. ⌜ r ≡ acceptedAs version slots t ⌝ }
+{
+    Answer {
+        number: 0,
+        place: 0,
+        version,
+        n_texs: slots,
+        counts: [
+            t.textures as u32,
+            t.brushes as u32,
+            t.nodes as u32,
+            t.meshes as u32,
+            t.vertices as u32,
+            t.sets as u32,
+            t.triangles as u32,
+            t.weights as u32,
+            t.lists as u32,
+            t.keys as u32,
+        ],
+    }
+}
+
+// The answer for a file that was accepted and ten tables of these lengths.
+pub fn with_room(
+    version: u32,
+    slots: u32,
+    t: Tally,
+    l1: usize,
+    l2: usize,
+    l3: usize,
+    l4: usize,
+    l5: usize,
+    l6: usize,
+    l7: usize,
+    l8: usize,
+    l9: usize,
+    l10: usize,
+) -> Answer
+    requires { ⌜ TallyLimited t ⌝ }
+    ensures { λ r. ⌜ r ≡ roomAnswer version slots t (numberOf (l1 ∷ l2 ∷ l3 ∷ l4 ∷ l5 ∷ l6 ∷ l7 ∷ l8 ∷ l9 ∷ l10 ∷ [])) ⌝ }
+{
+    let short = b3d_limits::first_short(t, l1, l2, l3, l4, l5, l6, l7, l8, l9, l10);
+    if short != 0 {
+        return refused(11, short);
+    }
+    accepted(version, slots, t)
+}

@@ -1,0 +1,2 @@
+-- The laws of what rows add.
+pub mod RowLaws

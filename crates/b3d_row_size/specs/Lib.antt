@@ -1,0 +1,2 @@
+-- What rows add.
+pub mod RowSize

@@ -1,0 +1,2 @@
+-- Rows of triangle sets.
+pub mod Sets

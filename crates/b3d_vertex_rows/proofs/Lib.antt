@@ -1,0 +1,3 @@
+-- Laws of vertices by runs.
+pub mod Sets
+pub mod Vertices

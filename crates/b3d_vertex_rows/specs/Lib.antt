@@ -1,0 +1,2 @@
+-- A vertex by runs.
+pub mod Vertices

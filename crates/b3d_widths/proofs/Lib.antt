@@ -1,0 +1,3 @@
+-- Their laws.
+pub mod Widths
+pub mod Clips

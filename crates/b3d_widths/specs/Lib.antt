@@ -1,0 +1,2 @@
+-- Numbers that rows of items are measured by.
+pub mod Widths

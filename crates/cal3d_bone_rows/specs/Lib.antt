@@ -1,0 +1,2 @@
+-- A bone's row.
+pub mod Cells

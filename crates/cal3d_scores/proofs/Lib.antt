@@ -1,0 +1,3 @@
+-- Scores and lists.
+pub mod ScoreLaws
+pub mod Noting

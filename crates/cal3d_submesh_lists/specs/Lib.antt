@@ -1,0 +1,2 @@
+-- How many entries submeshes hold.
+pub mod Contents

@@ -1,0 +1,2 @@
+-- Ids that name something.
+pub mod Ids

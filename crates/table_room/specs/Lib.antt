@@ -1,0 +1,2 @@
+-- Which of the lent tables is too short.
+pub mod Rooms
