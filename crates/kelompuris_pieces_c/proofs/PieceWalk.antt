@@ -29,7 +29,7 @@ use Rattle.kelompuris_pieces_c.proofs.WalkParts.{word, Element, typeOf,
 
 -- ---- the code as the compiler has it, over the functions that it calls and the types of its locals
 
-abbrev pub turn : Name → Ty → Body
+abbrev turn : Name → Ty → Body
 turn next ω =
     seq (assign (place 7 []) (rvOpd (copy (place 4 (field 0 ∷ [])))))
     (seq (cond (copy (place 7 [])) skip (exit 1))
@@ -50,7 +50,7 @@ from-loop next last ω = seq (block (loop (turn next ω))) (after-loop last)
 abbrev from-first : Name → Name → Name → Ty → Body
 from-first first next last ω = seq (call first (copy (place 1 []) ∷ copy (place 5 []) ∷ copy (place 6 []) ∷ []) (place 4 [])) (from-loop next last ω)
 
-abbrev pub function : Name → Name → Name → (result state row piece carried element : Ty) → Fn
+abbrev function : Name → Name → Name → (result state row piece carried element : Ty) → Fn
 function first next last φ σ ρ β τ ω = record {
   lifetimes = 2;
   outlives = [];
