@@ -1,6 +1,5 @@
 // The nesting table read by tags: the row for the tag that encloses, and the entry in it.
 ghost use mathlib.Core.Path.{_≡_};
-ghost use Rattle.b3d_nesting.specs.Table.{decoded, entriesOf};
 ghost use Rattle.b3d_scene.specs.Tags.{tagNumber};
 ghost use Rattle.b3d_entries.specs.Entries.{rowAt, entryOf};
 use b3d_nesting::Entry;
@@ -8,8 +7,8 @@ use b3d_scene::Tag;
 
 // The table's row for the tag that encloses. Rows and numbers are picked by constants: where a caller names the tag that encloses, the
 // compiler looks them up.
-pub fn row_of(enclosing: Tag) -> [u8; 10]
-    ensures { λ r. ⌜ entriesOf r ≡ rowAt (tagNumber enclosing) ⌝ }
+pub fn row_of(enclosing: Tag) -> [Entry; 10]
+    ensures { λ r. ⌜ r ≡ rowAt (tagNumber enclosing) ⌝ }
 {
     let table = b3d_nesting::nesting_table();
     match enclosing {
@@ -26,9 +25,9 @@ pub fn row_of(enclosing: Tag) -> [u8; 10]
     }
 }
 
-// The number of the table's entry for a tag inside a chunk.
-pub fn code_of(enclosing: Tag, tag: Tag) -> u8
-    ensures { λ r. ⌜ decoded r ≡ entryOf enclosing tag ⌝ }
+// The table's entry for a tag inside a chunk.
+pub fn entry_of(enclosing: Tag, tag: Tag) -> Entry
+    ensures { λ r. ⌜ r ≡ entryOf enclosing tag ⌝ }
 {
     let row = row_of(enclosing);
     match tag {
@@ -42,17 +41,5 @@ pub fn code_of(enclosing: Tag, tag: Tag) -> u8
         Tag::BONE => row[7],
         Tag::KEYS => row[8],
         Tag::ANIM => row[9],
-    }
-}
-
-// The entry that a number of the table stands for.
-pub fn decode(code: u8) -> Entry
-    ensures { λ r. ⌜ r ≡ decoded code ⌝ }
-{
-    Entry {
-        allowed: 0 < code,
-        turn: code % 10,
-        must: 100 <= code,
-        again: code / 10 % 10 == 1,
     }
 }

@@ -1,8 +1,7 @@
 -- The nesting rule of b3d_scene by rows and columns: for each two tags the entry that the rule has for them.
-use Prim.Native.Nat.{ℕ, _/_, _%_}
+use Prim.Native.Nat.{ℕ}
 use mathlib.Core.Bool.{true, false}
 use mathlib.Core.List.{List, [], _∷_, map}
-use lib.Dec.{eqb, ltb, leb}
 use lib.ListN.{getD}
 use Rattle.wire.specs.Test.{if}
 use Rattle.b3d_scene.specs.declared.Tag.{Tag}
@@ -19,17 +18,6 @@ tags = BB3D ∷ TEXS ∷ BRUS ∷ NODE ∷ MESH ∷ VRTS ∷ TRIS ∷ BONE ∷ K
 -- what may not stand
 abbrev pub denied : Entry
 denied = record { allowed = false; turn = 0; must = false; again = false }
-
--- the entry that a number stands for, by its digits: 100 where one or more must stand, 10 where more than one may, and the turn
-abbrev pub decoded : ℕ → Entry
-decoded n = record { allowed = ltb 0 n; turn = n % 10; must = leb 100 n; again = eqb (n / 10 % 10) 1 }
-
--- the entries of a row of numbers, and of a table of them
-unfoldable pub entriesOf : List ℕ → List Entry
-entriesOf ns = map decoded ns
-
-unfoldable pub tableOf : List (List ℕ) → List (List Entry)
-tableOf rows = map entriesOf rows
 
 -- the first entry of the rule's list for a tag
 unfoldable pub entryIn : List nest.Entry → Tag → Entry

@@ -1,6 +1,6 @@
 // What may stand inside what, in which order and how often: the nesting rule as one constant table, which docs/NESTING.md shows in words.
 ghost use mathlib.Core.Path.{_≡_};
-ghost use Rattle.b3d_nesting.specs.Table.{tableOf, nestingTable};
+ghost use Rattle.b3d_nesting.specs.Table.{nestingTable};
 
 // A tag inside a chunk. Permission: `allowed`. Order: `turn`, chunks stand in the order of their turns. Number: `must`, one or more stand
 // there; `again`, more than one may. Tags of one turn mix freely, but only one chunk of a turn has a tag that may not stand again.
@@ -11,26 +11,69 @@ pub struct Entry {
     pub again: bool,
 }
 
-// Entries as numbers, by their digits: 100 where one or more must stand, 10 where more than one may, and the turn, 1 to 3.
-// DENY: never. OPT: at most once. ANY: any number. ONE: exactly one. MIN: one or more. Then the turn.
-const DENY: u8 = 0;
+// Never.
+const DENY: Entry = Entry {
+    allowed: false,
+    turn: 0,
+    must: false,
+    again: false,
+};
 
-const OPT1: u8 = 1;
+// At most once, at turn 1, 2 or 3.
+const OPT1: Entry = Entry {
+    allowed: true,
+    turn: 1,
+    must: false,
+    again: false,
+};
 
-const OPT2: u8 = 2;
+const OPT2: Entry = Entry {
+    allowed: true,
+    turn: 2,
+    must: false,
+    again: false,
+};
 
-const OPT3: u8 = 3;
+const OPT3: Entry = Entry {
+    allowed: true,
+    turn: 3,
+    must: false,
+    again: false,
+};
 
-const ANY2: u8 = 12;
+// Any number, at turn 2 or 3.
+const ANY2: Entry = Entry {
+    allowed: true,
+    turn: 2,
+    must: false,
+    again: true,
+};
 
-const ANY3: u8 = 13;
+const ANY3: Entry = Entry {
+    allowed: true,
+    turn: 3,
+    must: false,
+    again: true,
+};
 
-const ONE1: u8 = 101;
+// Exactly one, at turn 1.
+const ONE1: Entry = Entry {
+    allowed: true,
+    turn: 1,
+    must: true,
+    again: false,
+};
 
-const MIN2: u8 = 112;
+// One or more, at turn 2.
+const MIN2: Entry = Entry {
+    allowed: true,
+    turn: 2,
+    must: true,
+    again: true,
+};
 
 // A row for the chunk that encloses, a column for the tag that stands in it.
-const NESTING: [[u8; 10]; 10] = [
+const NESTING: [[Entry; 10]; 10] = [
     //BB3D TEXS  BRUS  NODE  MESH  VRTS  TRIS  BONE  KEYS  ANIM
     [DENY, OPT1, OPT2, OPT3, DENY, DENY, DENY, DENY, DENY, DENY], // BB3D
     [DENY; 10], // TEXS
@@ -44,9 +87,9 @@ const NESTING: [[u8; 10]; 10] = [
     [DENY; 10], // ANIM
 ];
 
-// The table: its numbers stand for what the definition has, for each tag that encloses and each that stands in it.
-pub fn nesting_table() -> [[u8; 10]; 10]
-    ensures { λ r. ⌜ tableOf r ≡ nestingTable ⌝ }
+// The table: what the definition has, for each tag that encloses and each that stands in it.
+pub fn nesting_table() -> [[Entry; 10]; 10]
+    ensures { λ r. ⌜ r ≡ nestingTable ⌝ }
 {
     NESTING
 }

@@ -18,7 +18,7 @@ use Rattle.b3d_nesting.specs.declared.Entry.{Entry}
 use Rattle.b3d_turns.specs.declared.Reached.{Reached}
 use Rattle.b3d_turns.specs.declared.Permit.{Permit}
 use Rattle.b3d_turns.specs.declared.Permit.the-variants as permit
-use Rattle.b3d_nesting.specs.Table.{tags, denied, decoded, entryIn, entryFor, nestingTable, entryAt}
+use Rattle.b3d_nesting.specs.Table.{tags, denied, entryIn, entryFor, nestingTable, entryAt}
 use Rattle.b3d_turns.specs.Turns.{between, reachedOf, permitOf}
 use Rattle.b3d_entries.specs.Entries.{entryOf}
 use Rattle.b3d_turns.specs.ByTable.{standsBy, afterBy}
@@ -67,12 +67,12 @@ next-by all (entry k turn often ∷ l) r t = go (is t k) (next-by all l r t)
 
 -- ---- the ways of `may_stand`
 
-module _ (k t : Tag) (code : ℕ) (here : decoded code ≡ entryOf k t) (e : Entry) (read : e ≡ decoded code) (r : Reached) where
+module _ (k t : Tag) (e : Entry) (here : e ≡ entryOf k t) (r : Reached) where
   abbrev Right : Permit → Type 0
   Right x = x ≡ permitOf (next (nesting k) (nesting k) (reachedOf r) t)
 
   right-by-entry : (x : Permit) → x ≡ permitOf (nextBy (nesting k) (reachedOf r) e) → Right x
-  right-by-entry x h = h ∙ ap (λ (y : Entry). permitOf (nextBy (nesting k) (reachedOf r) y)) (read ∙ here ∙ entry-is k t) ∙ ap permitOf (sym (next-by (nesting k) (nesting k) (reachedOf r) t))
+  right-by-entry x h = h ∙ ap (λ (y : Entry). permitOf (nextBy (nesting k) (reachedOf r) y)) (here ∙ entry-is k t) ∙ ap permitOf (sym (next-by (nesting k) (nesting k) (reachedOf r) t))
 
   pub stand-never : e .allowed ≡ false → Right permit.No
   unfolding if

@@ -5,14 +5,14 @@ use native.Mathlib.Numerals.{add-one}
 use native.Mathlib.Omega.{arith}
 use mathlib.Core.Bool.{Bool, true, false, _||_}
 use mathlib.Core.List.{List}
-use lib.ListN.{length, drop, getD, drop-of-length-le, length-map}
+use lib.ListN.{length, drop, getD, drop-of-length-le}
 use lib.Seq.{drop-cons}
 use Rattle.wire.specs.Test.{if}
 use Rattle.b3d_scene.specs.declared.Tag.{Tag}
 use Rattle.b3d_scene.specs.Nesting.{nesting, owed}
 use Rattle.b3d_scene.proofs.Files.TagCodes.{by-tag}
 use Rattle.b3d_nesting.specs.declared.Entry.{Entry}
-use Rattle.b3d_nesting.specs.Table.{decoded, entriesOf, entryIn, nestingTable}
+use Rattle.b3d_nesting.specs.Table.{denied, entryIn, nestingTable}
 use Rattle.b3d_scene.specs.Tags.{tagNumber}
 use Rattle.b3d_turns.specs.Turns.{between}
 use Rattle.b3d_entries.specs.Entries.{rowAt}
@@ -27,39 +27,33 @@ row-long : (k : Tag) → length (rowAt (tagNumber k)) ≡ 10
 unfolding nestingTable entryIn if
 row-long = by-tag (λ k. length (rowAt (tagNumber k)) ≡ 10) (refl, refl, refl, refl, refl, refl, refl, refl, refl, refl)
 
-row-length : (row : List ℕ) → length (entriesOf row) ≡ length row
-unfolding entriesOf
-row-length row = length-map row decoded
-
--- nothing before this column of a row of numbers is owed
-pub record Looking (row : List ℕ) (lo hi column : ℕ) : Type 0 where
+-- nothing before this column of a row is owed
+pub record Looking (row : List Entry) (lo hi column : ℕ) : Type 0 where
   pub small : column ≤ 10
   pub long : length row ≡ 10
-  pub same : owedIn (entriesOf (drop column row)) lo hi ≡ owedIn (entriesOf row) lo hi
+  pub same : owedIn (drop column row) lo hi ≡ owedIn row lo hi
 
-module _ (k : Tag) (row : List ℕ) (is : entriesOf row ≡ rowAt (tagNumber k)) (lo hi : ℕ) where
+module _ (k : Tag) (row : List Entry) (is : row ≡ rowAt (tagNumber k)) (lo hi : ℕ) where
   pub looking-start : Looking row lo hi 0
-  looking-start = record { small = omega arith; long = sym (row-length row) ∙ ap length is ∙ row-long k; same = refl }
+  looking-start = record { small = omega arith; long = ap length is ∙ row-long k; same = refl }
 
-  by-rule : owedIn (entriesOf row) lo hi ≡ owed (nesting k) lo hi
+  by-rule : owedIn row lo hi ≡ owed (nesting k) lo hi
   by-rule = ap (λ (l : List Entry). owedIn l lo hi) is ∙ row-owed k lo hi
 
   module _ (column : ℕ) (v : Looking row lo hi column) where
-    abbrev from : List ℕ → Bool
-    from l = owedIn (entriesOf l) lo hi
+    abbrev from : List Entry → Bool
+    from l = owedIn l lo hi
 
     pub looking-done : 10 ≤ column → false ≡ owed (nesting k) lo hi
-    unfolding entriesOf
     looking-done d = sym (ap from (drop-of-length-le row {i = column} (omega (arith, v .long)))) ∙ v .same ∙ by-rule
 
-    module _ (l : column < 10) (e : Entry) (d : e ≡ decoded (getD row column 0)) (b : Bool) (t : b ≡ between e lo hi) where
+    module _ (l : column < 10) (b : Bool) (t : b ≡ between (getD row column denied) lo hi) where
       step : b || from (drop (column + 1) row) ≡ from row
-      unfolding entriesOf
       step =
           let n : column < length row = omega (arith, v .long) in
-          ap (λ (z : Bool). z || from (drop (column + 1) row)) (t ∙ ap (λ (x : Entry). between x lo hi) d)
-          ∙ ap (λ (j : ℕ). between (decoded (getD row column 0)) lo hi || from (drop j row)) (add-one column)
-          ∙ sym (ap from (drop-cons row column 0 n)) ∙ v .same
+          ap (λ (z : Bool). z || from (drop (column + 1) row)) t
+          ∙ ap (λ (j : ℕ). between (getD row column denied) lo hi || from (drop j row)) (add-one column)
+          ∙ sym (ap from (drop-cons row column denied n)) ∙ v .same
 
       pub looking-found : b ≡ true → true ≡ owed (nesting k) lo hi
       looking-found y = ap (λ (z : Bool). z || from (drop (column + 1) row)) (sym y) ∙ step ∙ by-rule

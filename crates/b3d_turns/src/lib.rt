@@ -26,7 +26,7 @@ fn owed_between(enclosing: Tag, lo: u8, hi: u8) -> bool
     let row = b3d_entries::row_of(enclosing);
     let mut column: usize = 0;
     while column < 10 {
-        if is_between(b3d_entries::decode(row[column]), lo, hi) {
+        if is_between(row[column], lo, hi) {
             return true;
         }
         column += 1;
@@ -50,7 +50,7 @@ pub enum Permit {
 pub fn may_stand(enclosing: Tag, reached: Reached, tag: Tag) -> Permit
     ensures { λ r. ⌜ r ≡ permitOf (next (nesting enclosing) (nesting enclosing) (reachedOf reached) tag) ⌝ }
 {
-    let e = b3d_entries::decode(b3d_entries::code_of(enclosing, tag));
+    let e = b3d_entries::entry_of(enclosing, tag);
     let turn = e.turn;
     if e.allowed {
         if reached.turn < turn {

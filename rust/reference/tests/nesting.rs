@@ -52,25 +52,38 @@ fn between<'a>(text: &'a str, first: &str, last: &str) -> Vec<&'a str> {
     body
 }
 
-/// The named entries of the source: the digits of a number are whether one
-/// must stand, whether more than one may, and the turn.
+/// The named entries of the source.
 fn entries(source: &str) -> HashMap<&str, Entry> {
     let mut named = HashMap::new();
     for line in source.lines() {
-        let Some((name, number)) = line
+        let Some(name) = line
             .strip_prefix("const ")
-            .and_then(|line| line.strip_suffix(';'))
-            .and_then(|line| line.split_once(": u8 = "))
+            .and_then(|line| line.strip_suffix(": Entry = Entry {"))
         else {
             continue;
         };
-        let code: u8 = number.parse().expect("a number");
-        let entry = Entry {
-            allowed: code > 0,
-            turn: code % 10,
-            must: code / 100 == 1,
-            again: code / 10 % 10 == 1,
+        let fields: HashMap<&str, &str> = between(source, line, "};")
+            .into_iter()
+            .map(|field| {
+                field
+                    .trim()
+                    .trim_end_matches(',')
+                    .split_once(": ")
+                    .expect("a field")
+            })
+            .collect();
+        let flag = |field| match fields[field] {
+            "true" => true,
+            "false" => false,
+            other => panic!("{name}: {field} is {other}"),
         };
+        let entry = Entry {
+            allowed: flag("allowed"),
+            turn: fields["turn"].parse().expect("a turn"),
+            must: flag("must"),
+            again: flag("again"),
+        };
+        assert_eq!(fields.len(), 4, "{name}");
         assert!(named.insert(name, entry).is_none(), "{name} twice");
     }
     named
@@ -80,7 +93,7 @@ fn entries(source: &str) -> HashMap<&str, Entry> {
 fn constant() -> Table {
     let source = text("crates/b3d_nesting/src/lib.rt");
     let named = entries(&source);
-    let lines = between(&source, "const NESTING: [[u8; 10]; 10] = [", "];");
+    let lines = between(&source, "const NESTING: [[Entry; 10]; 10] = [", "];");
     let columns: Vec<&str> = lines[0]
         .trim()
         .trim_start_matches('/')

@@ -1,12 +1,12 @@
--- The constant's numbers stand for the definition's table: one test, computed over the hundred entries.
+-- The constant is the definition's table: one test, computed over the hundred entries.
 use mathlib.Core.Path.{refl}
 use Rattle.wire.specs.Test.{if}
-use Rattle.b3d_nesting.specs.Table.{tableOf, entriesOf, entryIn, nestingTable}
+use Rattle.b3d_nesting.specs.Table.{entryIn, nestingTable}
 use Rattle.b3d_nesting.proofs.nesting_table.Statement.{statement}
 use Rattle.b3d_nesting.proofs.nesting_table.Tie as tie
 
 returns : tie.Need-returns
-unfolding tableOf entriesOf nestingTable entryIn if
+unfolding nestingTable entryIn if
 returns c = refl
 
 pub nesting-table-spec : {M : Type 1} → statement M

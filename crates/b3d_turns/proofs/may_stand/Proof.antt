@@ -10,7 +10,6 @@ may-stand-spec =
     (tie.spec
     (λ c κs. search needs)
     (λ c κs. search needs)
-    (λ c κs. search needs)
     (λ c. search (may-stand-laws, needs))
     (λ c. search (may-stand-laws, needs))
     (λ c. search (may-stand-laws, needs))
