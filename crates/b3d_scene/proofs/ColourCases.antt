@@ -32,23 +32,23 @@ vertex alpha = ws (NONE ∷ NONE ∷ NONE ∷ NONE ∷ NONE ∷ NONE ∷ 0x3F800
 abbrev says : Mode → List ℕ → ℕ × ℕ
 says mode s = let a = readAnswer mode (λ k. 126) s in (a .number, a .place)
 
--- 1, minus zero; the next above 1, the smallest negative, two that are not numbers, and -1
+-- zero, minus zero, 1; the next above 1, the smallest negative, two that are not numbers, and -1
 pub alphas : List ℕ
-alphas = 0x3F800000 ∷ 0x80000000 ∷ 0x3F800001 ∷ 0x80000001 ∷ 0x7FC00000 ∷ 0xFFC00000 ∷ 0xBF800000 ∷ []
+alphas = 0 ∷ 0x80000000 ∷ 0x3F800000 ∷ 0x3F800001 ∷ 0x80000001 ∷ 0x7FC00000 ∷ 0xFFC00000 ∷ 0xBF800000 ∷ []
 
-pub strict-brushes : map (λ a. says Strict (brush a)) alphas ≡ (0, 0) ∷ (0, 0) ∷ (6, 37) ∷ (6, 37) ∷ (6, 37) ∷ (6, 37) ∷ (6, 37) ∷ []
+pub strict-brushes : map (λ a. says Strict (brush a)) alphas ≡ (0, 0) ∷ (0, 0) ∷ (0, 0) ∷ (6, 37) ∷ (6, 37) ∷ (6, 37) ∷ (6, 37) ∷ (6, 37) ∷ []
 unfolding computing alphas
 strict-brushes = refl
 
-pub strict-vertices : map (λ a. says Strict (vertices (vertex a))) alphas ≡ (0, 0) ∷ (0, 0) ∷ (6, 129) ∷ (6, 129) ∷ (6, 129) ∷ (6, 129) ∷ (6, 129) ∷ []
+pub strict-vertices : map (λ a. says Strict (vertices (vertex a))) alphas ≡ (0, 0) ∷ (0, 0) ∷ (0, 0) ∷ (6, 129) ∷ (6, 129) ∷ (6, 129) ∷ (6, 129) ∷ (6, 129) ∷ []
 unfolding computing alphas
 strict-vertices = refl
 
-pub lenient-brushes : map (λ a. says Lenient (brush a)) alphas ≡ replicate 7 (0, 0)
+pub lenient-brushes : map (λ a. says Lenient (brush a)) alphas ≡ replicate 8 (0, 0)
 unfolding computing alphas
 lenient-brushes = refl
 
-pub lenient-vertices : map (λ a. says Lenient (vertices (vertex a))) alphas ≡ replicate 7 (0, 0)
+pub lenient-vertices : map (λ a. says Lenient (vertices (vertex a))) alphas ≡ replicate 8 (0, 0)
 unfolding computing alphas
 lenient-vertices = refl
 
@@ -69,7 +69,7 @@ lent alpha = record {
   words = λ k. getD ([] ∷ [] ∷ (0 ∷ 0 ∷ 0 ∷ 0 ∷ 0 ∷ alpha ∷ NONE ∷ 0 ∷ 0 ∷ replicate 8 NONE) ∷ []) k [];
 }
 
-pub strict-written : map (λ a. write Strict (lent a) [] 60) alphas ≡ got (brush 0x3F800000) ∷ got (brush 0x80000000) ∷ replicate 5 (bad 12 0)
+pub strict-written : map (λ a. write Strict (lent a) [] 60) alphas ≡ got (brush 0) ∷ got (brush 0x80000000) ∷ got (brush 0x3F800000) ∷ replicate 5 (bad 12 0)
 unfolding computing alphas write shortest rebuild coloured passes cut lentRows roomy nameFrom textureFrom brushFrom walk tree together same sameRows nodeNames names stands sound fits
 strict-written = refl
 
