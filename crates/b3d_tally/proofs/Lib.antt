@@ -3,3 +3,4 @@ pub mod Tallies
 pub mod Answered
 pub mod Chains
 pub mod Totals
+pub mod OnlyKeys

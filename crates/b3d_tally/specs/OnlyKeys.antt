@@ -1,0 +1,18 @@
+-- What 02's E12 says of the row limit: within the file size no table but that of the keys can pass it.
+use mathlib.Core.Path.{_≡_}
+use Prim.Native.Nat.{ℕ, _≤_}
+use mathlib.Core.List.{List, [], _∷_}
+use lib.ListN.{length}
+use Rattle.layout.specs.Lists.{All}
+use Rattle.layout.specs.Out.{got}
+use Rattle.b3d_scene.specs.declared.Mode.{Mode}
+use Rattle.b3d_scene.specs.Parse.{parse}
+use Rattle.b3d_scene.specs.Rules.{rowLimit}
+use Rattle.b3d_scene.specs.Scene.{Scene}
+use Rattle.b3d_scene.specs.Tables.{rows}
+
+abbrev pub otherTables : List ℕ
+otherTables = 1 ∷ 2 ∷ 3 ∷ 4 ∷ 5 ∷ 6 ∷ 7 ∷ 8 ∷ 9 ∷ []
+
+abbrev pub OnlyKeys : Mode → List ℕ → Type 0
+OnlyKeys mode s = (t : Scene) → parse mode s ≡ got t → All (λ k. length (rows k t) ≤ rowLimit) otherTables
