@@ -350,7 +350,8 @@ kelompuris_csf_answer kelompuris_csf_read(
  *       bytes after the last entry                                       the first of these bytes
  *    6  version not 700, or a count below 0                              byte of the number
  *    7  an id that names nothing: a vertex that its submesh has not      byte of the number
- *       (-1 is allowed for a collapse id), a bone not below bone_count
+ *       (-1 is allowed for a collapse id), a bone below 0 or not below
+ *       bone_count
  *   10  a table would have more than 16,383 rows                         lowest such table, 1 to 6
  *   11  a lent table is too short for its rows                           lowest such table, 1 to 6
  */

@@ -5,6 +5,8 @@ use mathlib.Core.Path.{_≡_, refl, ap, sym, _∙_}
 use mathlib.Core.List.{List, [], _∷_}
 use lib.ListN.{length, getD}
 use lib.Dec.{leb}
+use borrow.Author.Tests.{lt-ltb, le-ltb}
+use Rattle.wire.specs.Test.{if}
 use Rattle.wire.specs.Cursors.{Inside, left}
 use Rattle.wire.specs.declared.Cursor.{Cursor}
 use Rattle.wire.proofs.Left.{span, left-length}
@@ -15,7 +17,7 @@ use Rattle.layout.specs.Rows.{eachOf}
 use Rattle.layout.proofs.StepLaws.{length-words-of}
 use Rattle.layout.proofs.CountLaws.{times-moves, times-length}
 use Rattle.id_check.proofs.Ids.{word-at}
-use Rattle.cal3d_scene.specs.Rules.{meshMagic}
+use Rattle.cal3d_scene.specs.Rules.{meshMagic, namedBones}
 use Rattle.cal3d_scene.specs.Meshes.{Submesh, Mesh, readSubmesh, meshFrom, mesh}
 use Rattle.cal3d_scene.specs.Tables.{meshTables, meshRows, mostRows}
 use Rattle.cal3d_scene.specs.Answers.{judgeMesh, meshAnswer}
@@ -34,6 +36,18 @@ use Rattle.cal3d_submeshes.proofs.TotalLaws.{contained-bad, contained-got}
 use Rattle.cal3d_mesh_judge.specs.Limits.{rowCounts, firstOver, acceptedAs, overAs, limitedAs}
 use Rattle.cal3d_mesh_judge.proofs.LimitLaws.{countsOf, counts-are, overOut, limits-are}
 
+-- ---- the bones that ids can name
+
+pub named-most : (n : ℕ) → 2147483648 < n → 2147483648 ≡ namedBones n
+unfolding if namedBones
+named-most n h = simp (lt-ltb 2147483648 n h)
+
+pub named-all : (n r : ℕ) → n ≤ 2147483648 → r ≡ n → r ≡ namedBones n
+unfolding if namedBones
+named-all n r h e = simp (le-ltb 2147483648 n h) e
+
+pub ruleset bones-named = (named-most, named-all)
+
 -- ---- the file by its head
 
 -- a mesh of these numbers and submeshes
@@ -44,9 +58,9 @@ made-of ws l = record { head = ws; submeshes = l }
 abbrev limits : Mesh → Out Mesh
 limits t = eachOf 10 (λ k. leb (length (meshRows k t)) mostRows) meshTables >>= λ _. got t
 
-mesh-head : (bones : ℕ) (s : List ℕ) → mesh bones s ≡ (readHead meshMagic 700 0 s >>= λ h. toEnd (made-of (h .value)) (times (number h 1) (readSubmesh bones) (h .place) (h .left)))
+mesh-head : (bones : ℕ) (s : List ℕ) → mesh bones s ≡ (readHead meshMagic 700 0 s >>= λ h. toEnd (made-of (h .value)) (times (number h 1) (readSubmesh (namedBones bones)) (h .place) (h .left)))
 unfolding mesh meshFrom
-mesh-head bones s = head-then meshMagic 700 0 s (λ h. toEnd (made-of (h .value)) (times (number h 1) (readSubmesh bones) (h .place) (h .left)))
+mesh-head bones s = head-then meshMagic 700 0 s (λ h. toEnd (made-of (h .value)) (times (number h 1) (readSubmesh (namedBones bones)) (h .place) (h .left)))
 
 -- ---- the limits of a mesh
 
@@ -94,7 +108,7 @@ module _ (bones : ℕ) (s : List ℕ) (r : Opened) (e : r ≡ openedOf (readHead
         let v : getD (headOf 0 s) 0 0 ≡ 700 = word-at s (span 4 (length s)) 2 0 i (omega arith) (omega arith) ∙ head .first in
         two (headOf 0 s) l ∙ rw (v, number-is)
 
-    module _ (x : ℕ) (ex : x ≡ k) (b : ℕ) (eb : b ≡ bones) (y : Contained)
+    module _ (x : ℕ) (ex : x ≡ k) (b : ℕ) (eb : b ≡ namedBones bones) (y : Contained)
         (v : Contains contentsIn (times x (readSubmesh b) 12 (left (record { at = 12; end = length s }) s)) (record { at = 12; end = length s }) 0 y) where
       walked : judgeMesh bones s ≡ (toEnd (made-of (headOf 0 s)) (times x (readSubmesh b) 12 (left (span 12 (length s)) s)) >>= limits)
       unfolding judgeMesh

@@ -2,6 +2,7 @@
 ghost use mathlib.Core.Path.{_≡_};
 ghost use Prim.Native.Nat.{ℕ};
 ghost use Rattle.layout.specs.Out.{bad};
+ghost use Rattle.cal3d_scene.specs.Rules.{namedBones};
 ghost use Rattle.cal3d_scene.specs.Answers.{judgeMesh, meshAnswer};
 ghost use Rattle.cal3d_submesh_lists.specs.Contents.{Within};
 ghost use Rattle.cal3d_mesh_judge.specs.Limits.{rowCounts, firstOver, acceptedAs, limitedAs};
@@ -79,7 +80,17 @@ fn limited(submeshes: u32, t: Contents) -> MeshAnswer
     accepted(submeshes, t)
 }
 
-// The answer for a file without any table, bone ids being below a count.
+// So many bones that ids can name, of those that the caller counts: a negative id names none.
+fn named_bones(bone_count: u32) -> usize
+    ensures { λ r. ⌜ r ≡ namedBones «bone_count» ⌝ }
+{
+    if 2147483648 < bone_count {
+        return 2147483648;
+    }
+    wire::size(bone_count)
+}
+
+// The answer for a file without any table, bone ids being below a count, and not negative.
 pub fn judge(file: &[u8], bone_count: u32) -> MeshAnswer
     ensures { λ r. ⌜ r ≡ meshAnswer (judgeMesh «bone_count» (now (file .entry))) ⌝ }
 {
@@ -90,7 +101,7 @@ pub fn judge(file: &[u8], bone_count: u32) -> MeshAnswer
             match cal3d_submeshes::judge_submeshes(
                 file,
                 Cursor { at: 12, end: n },
-                wire::size(bone_count),
+                named_bones(bone_count),
                 wire::size(submeshes),
             ) {
                 Contained::Not(e, p) => refused(e, p as u32),

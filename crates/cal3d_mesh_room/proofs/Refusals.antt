@@ -57,7 +57,7 @@ unfolding mesh
 mesh-fair bones s =
     bind-fair _ (check _ 1 0) _ (check-fair _ 1 0 (omega arith, omega arith)) (λ u.
     bind-fair _ (row _ 0 s) _ (row-fair _ 0 s) (λ m.
-    bind-fair _ (check _ 2 0) _ (check-fair _ 2 0 (omega arith, omega arith)) (λ v. from-fair bones (m .place) (m .left))))
+    bind-fair _ (check _ 2 0) _ (check-fair _ 2 0 (omega arith, omega arith)) (λ v. from-fair _ (m .place) (m .left))))
 
 -- a value, or a refusal that is not 0
 abbrev Told : {A : Type 0} → Out A → Type 0

@@ -16,7 +16,7 @@ use Rattle.layout.specs.Rules.{any}
 use Rattle.layout.specs.Counted.{times, atEnd}
 use Rattle.layout.proofs.Outs.{by-got, by-check, got-inj}
 use Rattle.cells.specs.Words.{wordsAt}
-use Rattle.cal3d_scene.specs.Rules.{meshHead, submeshNumbers, vertexNumbers, mapNumbers, influencesHead, influenceNumbers, clothNumbers, springNumbers, faceNumbers}
+use Rattle.cal3d_scene.specs.Rules.{namedBones, meshHead, submeshNumbers, vertexNumbers, mapNumbers, influencesHead, influenceNumbers, clothNumbers, springNumbers, faceNumbers}
 use Rattle.cal3d_scene.specs.Meshes.{Vertex, Submesh, Mesh, readCloth, readVertex, readSubmesh, meshFrom, mesh}
 use Rattle.cal3d_mesh_rows.specs.declared.Shape.{Shape}
 use Rattle.cal3d_mesh_rows.specs.Plain.{wordRows, influencesPlace, influencesOf, clothAt, clothBytes, clothPlace, vertexAt, vertexEnd, shapeAt, verticesAt, verticesEnd, springsPlace, facesPlace, submeshAt, submeshEnd, submeshesAt, submeshesEnd, plainMesh, meshEnd}
@@ -120,14 +120,14 @@ pub record Plainly (s : List ℕ) (t : Mesh) : Type 0 where
   pub head : 12 ≤ length s
 
 module _ (s : List ℕ) (bones : ℕ) (t : Mesh) where
-  from-four : 4 ≤ length s → meshFrom bones 4 (after s 4) ≡ got t → (plainMesh s ≡ t) × (meshEnd s ≤ length s)
+  from-four : (limit : ℕ) → 4 ≤ length s → meshFrom limit 4 (after s 4) ≡ got t → (plainMesh s ≡ t) × (meshEnd s ≤ length s)
   unfolding meshFrom meshEnd
-  from-four f e =
+  from-four limit f e =
       by-got (row meshHead 4 (after s 4)) _ e (λ h eh e₁.
       let fh = row-finds s meshHead 4 h f eh in
-      by-got (times (number h 1) (readSubmesh bones) (h .place) (h .left)) _ e₁ (λ l el e₂.
+      by-got (times (number h 1) (readSubmesh limit) (h .place) (h .left)) _ e₁ (λ l el e₂.
       let n = head-is s h _ fh in
-      let fl = submeshes-find s bones (wordAt s 8) 12 l (fh .within) (found-next s h _ _ fh (times (wordAt s 8) (readSubmesh bones)) l (rw n at el)) in
+      let fl = submeshes-find s limit (wordAt s 8) 12 l (fh .within) (found-next s h _ _ fh (times (wordAt s 8) (readSubmesh limit)) l (rw n at el)) in
       by-got (atEnd (l .place) (l .left)) _ e₂ (λ u eu e₃. (sym (mesh-is s _ _ (fh .is) (fl .is)) ∙ got-inj e₃, fl .within))))
 
   whole : after s 0 ≡ s
@@ -144,5 +144,5 @@ module _ (s : List ℕ) (bones : ℕ) (t : Mesh) where
       by-got (row (any ∷ []) 0 s) _ e₁ (λ m em e₂.
       let fm = row-finds s (any ∷ []) 0 m (omega arith) (ap (row (any ∷ []) 0) whole ∙ em) in
       by-check _ 2 0 _ e₂ (λ y e₃.
-      let p = from-four (omega arith) (ap₂ (meshFrom bones) (sym (fm .to)) (sym (fm .rest)) ∙ e₃) in
+      let p = from-four (namedBones bones) (omega arith) (ap₂ (meshFrom (namedBones bones)) (sym (fm .to)) (sym (fm .rest)) ∙ e₃) in
       record { is = p .0; within = p .1; small = high; head = low })))

@@ -222,6 +222,13 @@ pub meshes-told : map (λ (s : List ℕ). toldMesh (judgeMesh 2 s))
 unfolding computing
 meshes-told = refl
 
+-- the largest bone id that is not negative, and negative ones, for the largest counts
+pub negative-bones : map (λ (c : ℕ × ℕ). toldMesh (judgeMesh (c .0) (clothOf 0 (c .1) 1)))
+    ((2147483648, 2147483647) ∷ (4294967295, 2147483647) ∷ (2147483649, 2147483648) ∷ (4294967295, 4294967294) ∷ [])
+    ≡ (7 ∷ 116 ∷ []) ∷ (7 ∷ 116 ∷ []) ∷ (7 ∷ 80 ∷ []) ∷ (7 ∷ 80 ∷ []) ∷ []
+unfolding computing
+negative-bones = refl
+
 -- what is answered and left in the last table, for tables of so many words each
 abbrev meshAs : ℕ → MeshAnswer × List ℕ
 meshAs n = let o = readMesh (λ k. n) 2 (clothOf 0 1 0) in (meshAnswer o, meshTable 6 o (lent 4))

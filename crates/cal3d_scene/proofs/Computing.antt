@@ -5,6 +5,7 @@ use Rattle.layout.specs.Out.{check}
 use Rattle.layout.specs.Parts.{words, judged, row}
 use Rattle.layout.specs.Counted.{run, nameOf, sized, before, times, atEnd}
 use Rattle.layout.specs.Rows.{nameCells, joined, eachOf}
+use Rattle.cal3d_scene.specs.Rules.{namedBones}
 use Rattle.cal3d_scene.specs.Skeletons.{parentOf, listOf, readBone, skeletonFrom, skeleton}
 use Rattle.cal3d_scene.specs.Meshes.{readCloth, readVertex, readSubmesh, meshFrom, mesh}
 use Rattle.cal3d_scene.specs.Trees.{occurs, listed, ends, stands, standing, trees}
@@ -12,5 +13,5 @@ use Rattle.cal3d_scene.specs.Tables.{skeletonWidth, boneRows, childRows,
 use Rattle.cal3d_scene.specs.Answers.{limitedSkeleton, judgeSkeleton, readSkeleton, skeletonAnswer, skeletonTable, judgeMesh, readMesh, meshAnswer, meshTable}
 
 unfoldable pub computing : Unit {0}
-unfolding if word over check words judged row run nameOf sized before times atEnd nameCells joined eachOf mostRows parentOf listOf readBone skeletonFrom skeleton readCloth readVertex readSubmesh meshFrom mesh occurs listed ends stands standing trees skeletonWidth boneRows childRows skeletonRows meshWidth submeshRows vertexRows verticesOf meshRows limitedSkeleton judgeSkeleton readSkeleton skeletonAnswer skeletonTable judgeMesh readMesh meshAnswer meshTable
+unfolding if word over check words judged row run nameOf sized before times atEnd nameCells joined eachOf mostRows parentOf listOf readBone skeletonFrom skeleton readCloth readVertex readSubmesh meshFrom namedBones mesh occurs listed ends stands standing trees skeletonWidth boneRows childRows skeletonRows meshWidth submeshRows vertexRows verticesOf meshRows limitedSkeleton judgeSkeleton readSkeleton skeletonAnswer skeletonTable judgeMesh readMesh meshAnswer meshTable
 computing = tt

@@ -1,5 +1,5 @@
 -- A mesh file: from bytes to submeshes, or to the first refusal in reading order (1, 2, 5, 6, 7). Bone ids are below a count that the
--- caller gives.
+-- caller gives, and not negative.
 use Prim.Native.Nat.{ℕ, zero, suc}
 use mathlib.Core.List.{List, [], _∷_}
 use lib.ListN.{length}
@@ -9,7 +9,7 @@ use Rattle.layout.specs.Parts.{Step, row, number}
 use Rattle.layout.specs.Counted.{times, atEnd}
 use Rattle.layout.specs.Rows.{sizeFits}
 use Rattle.layout.specs.Rules.{any}
-use Rattle.cal3d_scene.specs.Rules.{meshMagic, meshHead, submeshNumbers, vertexNumbers, mapNumbers, influencesHead, influenceNumbers, clothNumbers, springNumbers, faceNumbers}
+use Rattle.cal3d_scene.specs.Rules.{meshMagic, meshHead, namedBones, submeshNumbers, vertexNumbers, mapNumbers, influencesHead, influenceNumbers, clothNumbers, springNumbers, faceNumbers}
 
 -- a vertex: its 8 numbers, its maps, its influences, its cloth weight (0 where there is none)
 pub record Vertex : Type 0 where
@@ -68,4 +68,4 @@ mesh bones s = do
   _ ← check (sizeFits (length s)) 1 0
   m ← row (any ∷ []) 0 s
   _ ← check (eqb (number m 0) meshMagic) 2 0
-  meshFrom bones (m .place) (m .left)
+  meshFrom (namedBones bones) (m .place) (m .left)

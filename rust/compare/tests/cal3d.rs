@@ -61,8 +61,8 @@ fn meshes(compared: &mut Compared, rng: &mut Rng) -> Result<(), Disagreement> {
     Ok(())
 }
 
-/// Meshes with bone ids anywhere, and any count of bones given: the first id not
-/// below the count is refused, and no other.
+/// Meshes with bone ids anywhere, and any count of bones given: the first id that
+/// is negative or not below the count is refused, and no other.
 fn bone_counts(compared: &mut Compared, rng: &mut Rng) -> Result<(), Disagreement> {
     for _ in 0..FILES {
         let Made {
@@ -77,7 +77,8 @@ fn bone_counts(compared: &mut Compared, rng: &mut Rng) -> Result<(), Disagreemen
         }
         let id_at = |place: usize| u32::from_le_bytes(file[place..place + 4].try_into().unwrap());
         for count in [0, 1, 2, 3, 5, 16_383, 0x8000_0000, 0xFFFF_FFFF] {
-            let known = match influences.iter().find(|&&place| id_at(place) >= count) {
+            let names = |id: u32| (id as i32) >= 0 && id < count;
+            let known = match influences.iter().find(|&&place| !names(id_at(place))) {
                 Some(&place) => (7, place),
                 None => (0, 0),
             };

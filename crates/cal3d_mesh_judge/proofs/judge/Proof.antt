@@ -10,7 +10,7 @@ cast-refused-2 : tie.Need-cast-refused-2
 cast-refused-2 c =
     let walk = c .before .before .before .before .before .before in
     let head = walk .before .before .before .before .before .before in
-    let room = judge-end _ _ _ (head .entry-count .ensures) _ (walk .before .before .before .before .submeshes .given .1) _ (walk .before .size2 .ensures) _ (walk .before .before .size .ensures) _ (walk .judge-submeshes .ensures) _ _ (c .before .before .before .before .t .given .1) in
+    let room = judge-end _ _ _ (head .entry-count .ensures) _ (walk .before .before .before .before .submeshes .given .1) _ (walk .before .size .ensures) _ (walk .before .before .named-bones .ensures) _ (walk .judge-submeshes .ensures) _ _ (c .before .before .before .before .t .given .1) in
     omega arith
 
 pub judge-spec : {M : Type 1} → statement M

@@ -10,7 +10,7 @@ pub enum Rule {
     Exactly(u32),
     /// Not negative.
     Count,
-    /// An id below this count.
+    /// An id below this count, and not negative.
     Id(u32),
     /// Such an id, or -1.
     IdOrNone(u32),
@@ -23,8 +23,8 @@ impl Rule {
             Rule::Any => Ok(()),
             Rule::Exactly(wanted) if number == wanted => Ok(()),
             Rule::Count if signed >= 0 => Ok(()),
-            Rule::Id(count) if number < count => Ok(()),
-            Rule::IdOrNone(count) if signed == -1 || number < count => Ok(()),
+            Rule::Id(count) if signed >= 0 && number < count => Ok(()),
+            Rule::IdOrNone(count) if signed == -1 || (signed >= 0 && number < count) => Ok(()),
             Rule::Exactly(_) | Rule::Count => refuse(RANGE, place),
             Rule::Id(_) | Rule::IdOrNone(_) => refuse(ID, place),
         }
