@@ -153,6 +153,12 @@ pub fn tables(kind: Kind, path: &Path, folder: &Path) -> Result<(), Stop> {
 /// its own before its name, so that the listing of a chain stays linear.
 const DEEPEST: usize = 32;
 
+/// A name as it is listed: cal3d's own writer stores a zero behind each name, and
+/// counts it in the length.
+fn without_zero(name: &[u8]) -> &[u8] {
+    name.strip_suffix(&[0]).unwrap_or(name)
+}
+
 /// The bones as trees, a parent before its children, these in the order of its
 /// list, two spaces further in.
 fn list_bones(file: &[u8], tables: &[Vec<u32>], out: &mut Vec<u8>) {
@@ -165,7 +171,7 @@ fn list_bones(file: &[u8], tables: &[Vec<u32>], out: &mut Vec<u8>) {
         .collect();
     while let Some((level, bone)) = left.pop() {
         let bone = bones[bone as usize];
-        let name = shown(name(file, bone));
+        let name = shown(without_zero(name(file, bone)));
         let line = match level {
             0..=DEEPEST => format!("{:1$}{name}", "", 2 * level),
             _ => format!("{:1$}{level}: {name}", "", 2 * DEEPEST),

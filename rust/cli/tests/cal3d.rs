@@ -29,6 +29,26 @@ unnamed
     run(&folder, &["skeleton", "--check", "door.csf"]).is(0, checked);
 }
 
+/// Names as cal3d's own writer stores them, with a zero behind each.
+#[test]
+fn names_with_a_zero() {
+    let folder = fresh("names_with_a_zero");
+    let mut file = b"CSF\0".to_vec();
+    let mut put = |numbers: &[u32], name: &[u8]| {
+        file.extend(numbers.iter().flat_map(|number| number.to_le_bytes()));
+        file.extend(name);
+    };
+    put(&[1300, 2, 0, 0, 0], b"");
+    for name in [&b"hip\0"[..], b"\0"] {
+        put(&[name.len() as u32], name);
+        put(&[0; 14], b"");
+        put(&[NONE, 0, 0, 0, 0, 0], b"");
+    }
+    fs::write(folder.join("hip.csf"), file).unwrap();
+    let listed = "0 0\n1300 2 00000000 00000000 00000000\n2 0\nhip\nunnamed\n";
+    run(&folder, &["skeleton", "hip.csf"]).is(0, listed);
+}
+
 #[test]
 fn meshes_of_the_door() {
     let folder = fresh("door_meshes");
@@ -237,6 +257,7 @@ fn generated_tables() {
 fn branch(made: &Made, bone: usize, level: usize, lines: &mut Vec<String>) {
     let row = &made.tables[0][23 * bone..][..23];
     let name = &made.file[row[0] as usize..][..row[1] as usize];
+    let name = name.strip_suffix(&[0]).unwrap_or(name);
     let shown: String = name
         .iter()
         .map(|&byte| {
