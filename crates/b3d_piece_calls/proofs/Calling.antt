@@ -21,16 +21,19 @@ use Rattle.b3d_scene.specs.declared.Answer.{Answer}
 use Rattle.b3d_piece_answers.specs.declared.Closing.{Closing}
 use Rattle.b3d_piece_answers.specs.declared.Closing.the-variants.{Bad}
 use Rattle.b3d_piece_answers.specs.Closes.{closingOf, asWord, answerBy, wordAnswer, Closes}
-use Rattle.b3d_piece_calls.specs.Called.{Holding, words, Fresh, PieceIs, shutting, CloseIs}
+use Rattle.b3d_piece_calls.specs.Called.{Holding, words, freshJudge, Fresh, PieceIs, shutting, CloseIs}
 
-pub fresh-is : (g : Totals) → g ≡ nothing → (r : Judge) → r ≡ record { size = 0; worth = 0; letters = 0; length = 0; shut = false; depth = 0; now = Over g } → Fresh r
+pub fresh-is : (g : Totals) → g ≡ nothing → (r : Judge) → r ≡ record { size = 0; worth = 0; letters = 0; length = 0; shut = false; depth = 0; now = Over g } → r ≡ freshJudge
+fresh-is g e r q = rw (q, e)
+
+pub fresh-judge : Fresh freshJudge
 unfolding heldOf
-fresh-is g e r q = rw q (record {
+fresh-judge = record {
   is = λ rs. refl;
   shut = refl;
   calm = refl;
   good = λ rs. record { size = omega arith; depth = omega arith; calm = λ l. refl; head = λ l. omega arith; body = λ l. absurd (omega arith) };
-})
+}
 
 -- ---- a piece, however state and row are held
 

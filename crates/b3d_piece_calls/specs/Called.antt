@@ -10,9 +10,10 @@ use Rattle.wire.specs.Bytes.{AllBytes}
 use Rattle.b3d_scene.specs.declared.Answer.{Answer}
 use Rattle.b3d_scene.specs.declared.Mode.the-variants.{Strict}
 use Rattle.b3d_scene.specs.Answers.{readAnswer}
-use Rattle.b3d_pieces.specs.Close.{freshHeld, closing}
+use Rattle.b3d_pieces.specs.Close.{nothing, freshHeld, closing}
 use Rattle.b3d_pieces.specs.Calls.{Pieces, taken}
 use Rattle.b3d_pieces.specs.InPieces.{Ample}
+use Rattle.b3d_piece_parts.specs.declared.Now.the-variants.{Over}
 use Rattle.b3d_piece_turn.specs.Turns.{pends}
 use Rattle.b3d_piece_take.specs.declared.Judge.{Judge}
 use Rattle.b3d_piece_take.specs.Takes.{heldOf, GoodJudge}
@@ -33,7 +34,11 @@ words = record { judge = λ j. j; count = λ row. length row / 11; at = openAt }
 abbrev pub piecesOf : {S R : Type 0} → Holding S R → S → R → Pieces
 piecesOf h st row = record { held = heldOf (h .judge st) (h .at row); shut = h .judge st .shut }
 
--- whatever stands in the row
+-- no byte came
+abbrev pub freshJudge : Judge
+freshJudge = record { size = 0; worth = 0; letters = 0; length = 0; shut = false; depth = 0; now = Over nothing }
+
+-- a state that files may begin with, whatever stands in the row
 pub record Fresh (j : Judge) : Type 0 where
   pub is : (rs : ℕ → Open) → heldOf j rs ≡ freshHeld
   pub shut : j .shut ≡ false

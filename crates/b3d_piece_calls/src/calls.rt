@@ -1,6 +1,7 @@
 // The three calls. 11 with size 19 where fewer records are lent; then 15 at place 0 after the close, or for a state and a row that do not keep
 // what calls keep: these leave the state as it was, and they and the close change no record.
-ghost use Rattle.b3d_piece_calls.specs.Called.{words, Fresh, PieceIs, CloseIs};
+ghost use mathlib.Core.Path.{_≡_};
+ghost use Rattle.b3d_piece_calls.specs.Called.{words, freshJudge, PieceIs, CloseIs};
 use crate::Closed;
 use crate::Fed;
 use b3d_piece_answers::answer_of;
@@ -14,7 +15,7 @@ use b3d_piece_take::taking::nothing;
 
 // A fresh state.
 pub fn start() -> Judge
-    ensures { λ r. ⌜ Fresh r ⌝ }
+    ensures { λ r. ⌜ r ≡ freshJudge ⌝ }
 {
     let g = nothing();
     Judge {

@@ -4,7 +4,8 @@ use Rattle.b3d_piece_take.specs.declared.Judge.{Judge}
 use Rattle.b3d_piece_state.specs.declared.PieceState.{PieceState}
 use Rattle.b3d_piece_state.specs.States.{judgeIn, stateOf}
 use Rattle.b3d_piece_state.proofs.StateLaws.{state-back}
-use Rattle.b3d_piece_calls.specs.Called.{Fresh, JudgedInCalls}
+use Rattle.b3d_piece_calls.specs.Called.{freshJudge, Fresh, JudgedInCalls}
+use Rattle.b3d_piece_calls.proofs.Calling.{fresh-judge}
 use Rattle.b3d_piece_calls.proofs.Judged.{judged-in-calls}
 use Rattle.b3d_piece_rounds.specs.Rounds.{numbers}
 
@@ -12,5 +13,9 @@ use Rattle.b3d_piece_rounds.specs.Rounds.{numbers}
 pub judged-from-c : JudgedInCalls numbers
 judged-from-c = judged-in-calls numbers
 
-pub fresh-state : (j : Judge) → Fresh j → (r : PieceState) → r ≡ stateOf j → Fresh (judgeIn r)
-fresh-state j f r e = subst Fresh (sym (ap judgeIn e ∙ state-back j (f .calm))) f
+-- it may begin with what `kelompuris_b3d_pieces_start` gives
+pub fresh-from-c : Fresh (judgeIn (stateOf freshJudge))
+fresh-from-c = subst Fresh (sym (state-back freshJudge (fresh-judge .calm))) fresh-judge
+
+pub fresh-state : (j : Judge) → j ≡ freshJudge → (r : PieceState) → r ≡ stateOf j → r ≡ stateOf freshJudge
+fresh-state j f r e = e ∙ ap stateOf f

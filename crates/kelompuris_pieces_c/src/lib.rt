@@ -1,9 +1,10 @@
 // What terminals call to hand a file over in pieces, as C functions: the judge of pieces over a lent row of records. `rust/build-lib` puts them into the
 // one archive, include/kelompuris.h declares them. `kelompuris_b3d_pieces_piece` and `_close` are proved by walks of their code by hand; all that they
 // call is covered (`b3d_piece_rounds`). They ask nothing of the caller: with any state and any row they end.
-ghost use Rattle.b3d_piece_calls.specs.Called.{Fresh, PieceIs, CloseIs};
+ghost use mathlib.Core.Path.{_≡_};
+ghost use Rattle.b3d_piece_calls.specs.Called.{freshJudge, PieceIs, CloseIs};
 ghost use Rattle.b3d_piece_rounds.specs.Rounds.{numbers};
-ghost use Rattle.b3d_piece_state.specs.States.{judgeIn};
+ghost use Rattle.b3d_piece_state.specs.States.{stateOf};
 use b3d_piece_calls::calls::start;
 use b3d_piece_rounds::PieceClosed;
 use b3d_piece_rounds::closing::closed;
@@ -19,7 +20,7 @@ use b3d_piece_state::states::state_of;
 // A fresh state.
 #[no_mangle]
 pub extern "C" fn kelompuris_b3d_pieces_start() -> PieceState
-    ensures { λ r. ⌜ Fresh (judgeIn r) ⌝ }
+    ensures { λ r. ⌜ r ≡ stateOf freshJudge ⌝ }
 {
     let j = start();
     state_of(j)
