@@ -15,3 +15,4 @@ pub mod Privacy
 pub mod Worked
 pub mod ModesHold
 pub mod Branching
+pub mod BonesHold

@@ -4,3 +4,4 @@ pub mod Demands
 pub mod Calls
 pub mod Private
 pub mod Branches
+pub mod Bones

@@ -188,7 +188,7 @@ node-wide brushes bones d p below n h =
     omega (arith, any-words 10 (d .words) (h .words), length-append (d .words) c, length-append (kindCells (d .kind) n) a, length-append (animCells (d .anim)) (below ∷ []), kind-wide (d .kind) n, anim-wide (d .anim) (h .anim))
 
 -- a cell behind n others
-cell-past : (a r : List ℕ) (n i : ℕ) → length a ≡ n → getD (a ++ r) (n + i) 0 ≡ getD r i 0
+pub cell-past : (a r : List ℕ) (n i : ℕ) → length a ≡ n → getD (a ++ r) (n + i) 0 ≡ getD r i 0
 cell-past a r n i e = rw (← e) (getD-append-add a r i 0)
 
 -- the last word of a node's row
