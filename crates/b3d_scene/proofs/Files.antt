@@ -11,3 +11,4 @@ pub mod SizeLaws
 pub mod PlaceLaws
 pub mod TagLaws
 pub mod ModeLaws
+pub mod BodyRefusals

@@ -1,10 +1,10 @@
 -- Refusals in numbers: one of `parse` is 1 to 9; a place is one of the file or a table's number, so no more than the most bytes of a file; no refusal is 0.
 use mathlib.Core.Path.{_≡_, subst}
-use Prim.Native.Nat.{ℕ, zero, suc, _+_, _*_, _≤_}
+use Prim.Native.Nat.{ℕ, zero, suc, _+_, _≤_, _<_}
 use native.Mathlib.Omega.{arith}
 use mathlib.Core.Bool.{Bool, true, false}
 use mathlib.Core.Option.{Option, none, some}
-use mathlib.Core.List.{List, [], _∷_, _++_}
+use mathlib.Core.List.{List, [], _∷_}
 use lib.ListN.{length, take, drop, length-drop}
 use lib.Seq.{length-take-le}
 use lib.Dec.{T, leb, eqb, leb→le}
@@ -12,8 +12,8 @@ use Rattle.wire.specs.Test.{if}
 use Rattle.wire.specs.Bytes.{word}
 use Rattle.layout.specs.Chunks.{done, stop, chunk, keep, splitIn, split as splitOf, ended}
 use Rattle.layout.specs.Out.{Out, got, bad, check, _>>=_}
-use Rattle.layout.specs.Parts.{Step, text, words, judged, row, number, named, itemsIn, items}
-use Rattle.layout.specs.Rules.{Rule, holds, refusal}
+use Rattle.layout.specs.Parts.{Step, words, row, number, named, items}
+use Rattle.layout.specs.Rules.{Rule, refusal}
 use Rattle.layout.proofs.Lists.{All}
 use Rattle.layout.proofs.RefusalLaws.{OneToNine, refusal-range}
 use Rattle.layout.specs.Rows.{eachOf, sizeFits, mostBytes}
@@ -22,11 +22,13 @@ use Rattle.b3d_scene.specs.declared.Tag.{Tag}
 use Rattle.b3d_scene.specs.declared.Tag.the-variants.{BB3D, TEXS, BRUS, NODE, MESH, VRTS, BONE, KEYS, ANIM}
 use Rattle.b3d_scene.specs.Answers.{judge, read}
 use Rattle.b3d_scene.specs.Nesting.{nesting, Reached, start, owed, end, next, onward, order, inside}
-use Rattle.b3d_scene.specs.Parse.{readOne, readTexture, readTextures, readBrush, readBrushes, noVertices, readVertices, readTriangles, readSets, readMesh, readBone, readKeys, filled, readAnim, aMesh, aBone, readKind, withKeys, readMoves, Inner, readNodes, readBelow, readNode, readRoot, readBody, parse}
-use Rattle.b3d_scene.specs.Rules.{header, fileHead, textureRow, brushesHead, brushRow, brushIds, nodeRow, meshHead, verticesHead, vertexRow, trianglesHead, triangleRow, weightRow, keysHead, keyRow, animRow, boneVertices, bonesBelow, levels}
+use Rattle.b3d_scene.specs.Parse.{readOne, readTextures, readBrushes, noVertices, readVertices, readTriangles, readSets, readMesh, readBone, readKeys, readAnim, aMesh, aBone, readKind, withKeys, readMoves, Inner, readNodes, readBelow, readNode, readRoot, readBody, parse}
+use Rattle.b3d_scene.specs.Rules.{header, fileHead, nodeRow, meshHead, boneVertices, bonesBelow, levels}
 use Rattle.b3d_scene.specs.Scene.{Anim, still, anim, Data, leaf, Scene}
 use Rattle.b3d_scene.specs.Tables.{tables}
 use Rattle.b3d_scene.specs.Tags.{code, tagOf, is, Chunks, split, Found}
+use Rattle.b3d_scene.proofs.Files.BodyRefusals as body
+use Rattle.b3d_scene.proofs.Files.BodyRefusals.{Any}
 use Rattle.b3d_scene.proofs.Files.FileLaws.{size-bound}
 use Rattle.b3d_scene.proofs.Rows.Numbers.{each-table}
 
@@ -36,87 +38,23 @@ Told n p = OneToNine n × (p ≤ mostBytes)
 
 -- a value with P, or such a refusal
 abbrev Low : {A : Type 0} → (A → Type 0) → Out A → Type 0
-Low P (got a) = P a
-Low P (bad n p) = Told n p
+Low P o = body.Low Told P o
 
 told : {p : ℕ} (n : ℕ) → T (leb 1 n) → T (leb n 9) → p ≤ mostBytes → Told n p
 told n a b h = ((leb→le 1 n a, leb→le n 9 b), h)
 
-abbrev Any : {A : Type 0} → A → Type 0
-Any a = Unit {0}
+five : (p : ℕ) → p ≤ mostBytes → Told 5 p
+five p h = told 5 tt tt h
+
+ruled : (r : Rule) (p : ℕ) → p < mostBytes → Told (refusal r) p
+ruled r p h = (refusal-range r, omega arith)
 
 bind-low : {A B : Type 0} (P : A → Type 0) (Q : B → Type 0) (m : Out A) (k : A → Out B) → Low P m → ((a : A) → P a → Low Q (k a)) → Low Q (m >>= k)
-bind-low P Q (got a) k h f = f a h
-bind-low P Q (bad n p) k h f = h
-
-if-low : {A : Type 0} (P : A → Type 0) (b : Bool) (x y : Out A) → Low P x → Low P y → Low P (if b x y)
-unfolding if
-if-low P true x y h k = h
-if-low P false x y h k = k
-
-check-low : (b : Bool) (n p : ℕ) → Told n p → Low Any (check b n p)
-unfolding check
-check-low true n p h = tt
-check-low false n p h = h
-
--- ---- parts
+bind-low P Q m k h f = body.bind-low Told P Q m k h f
 
 -- what is left ends there or before
 abbrev Left : {A : Type 0} → Step A → Type 0
 Left x = x .place + length (x .left) ≤ mostBytes
-
-text-low : (first p : ℕ) (s : List ℕ) → first ≤ mostBytes → p + length s ≤ mostBytes → Low Left (text first p s)
-unfolding text
-text-low first p [] h k = told 5 tt tt h
-text-low first p (zero ∷ s) h k = omega arith
-text-low first p (suc c ∷ s) h k = bind-low Left _ (text first (p + 1) s) _ (text-low first (p + 1) s h (omega arith)) (λ x hx. hx)
-
--- the words too
-abbrev Words : ℕ → Step (List ℕ) → Type 0
-Words p x = (x .place ≡ p + 4 * length (x .value)) × Left x
-
-words-low : (first n p : ℕ) (s : List ℕ) → first ≤ mostBytes → p + length s ≤ mostBytes → Low (Words p) (words first n p s)
-unfolding words
-words-low first zero p s h k = (omega arith, k)
-words-low first (suc n) p [] h k = told 5 tt tt h
-words-low first (suc n) p (a ∷ []) h k = told 5 tt tt h
-words-low first (suc n) p (a ∷ b ∷ []) h k = told 5 tt tt h
-words-low first (suc n) p (a ∷ b ∷ c ∷ []) h k = told 5 tt tt h
-words-low first (suc n) p (a ∷ b ∷ c ∷ d ∷ s) h k =
-    bind-low (Words (p + 4)) _ (words first n (p + 4) s) _ (words-low first n (p + 4) s h (omega arith)) (λ x hx. (omega (arith, hx .0), hx .1))
-
-judged-low : {A : Type 0} (P : A → Type 0) (rs : List Rule) (p : ℕ) (ws : List ℕ) (a : A) → p + 4 * length ws ≤ mostBytes → P a → Low P (judged rs p ws a)
-unfolding judged
-judged-low P [] p ws a h k = k
-judged-low P (r ∷ rs) p [] a h k = k
-judged-low P (r ∷ rs) p (w ∷ ws) a h k =
-    bind-low Any P (check (holds r w) (refusal r) p) _ (check-low (holds r w) (refusal r) p (refusal-range r, omega arith)) (λ u _. judged-low P rs (p + 4) ws a (omega arith) k)
-
-row-low : (rs : List Rule) (p : ℕ) (s : List ℕ) → p + length s ≤ mostBytes → Low Left (row rs p s)
-unfolding row
-row-low rs p s h =
-    bind-low (Words p) Left (words p (length rs) p s) _ (words-low p (length rs) p s (omega arith) h) (λ x hx.
-    judged-low Left rs p (x .value) x (omega (arith, hx .0, hx .1)) (hx .1))
-
-named-low : (rs : List Rule) (p : ℕ) (s : List ℕ) → p + length s ≤ mostBytes → Low Left (named rs p s)
-unfolding named
-named-low rs p s h =
-    bind-low Left Left (text p p s) _ (text-low p p s (omega arith) h) (λ n hn.
-    bind-low (Words (n .place)) Left (words p (length rs) (n .place) (n .left)) _ (words-low p (length rs) (n .place) (n .left) (omega arith) hn) (λ x hx.
-    judged-low Left rs (n .place) (x .value) _ (omega (arith, hx .0, hx .1)) (hx .1)))
-
-module _ {A : Type 0} (one : ℕ → List ℕ → Out (Step A)) (low : (p : ℕ) (s : List ℕ) → p + length s ≤ mostBytes → Low Left (one p s)) where
-  in-low : (f p : ℕ) (s : List ℕ) → p + length s ≤ mostBytes → Low Any (itemsIn f one p s)
-  unfolding itemsIn
-  in-low zero p [] h = tt
-  in-low zero p (c ∷ s) h = told 5 tt tt (omega arith)
-  in-low (suc f) p [] h = tt
-  in-low (suc f) p (c ∷ s) h =
-      bind-low Left Any (one p (c ∷ s)) _ (low p (c ∷ s) h) (λ x hx. bind-low Any Any (itemsIn f one (x .place) (x .left)) _ (in-low f (x .place) (x .left) hx) (λ l _. tt))
-
-  items-low : (p : ℕ) (s : List ℕ) → p + length s ≤ mostBytes → Low Any (items one p s)
-  unfolding items
-  items-low p s h = in-low (length s) p s h
 
 -- ---- chunks
 
@@ -186,77 +124,25 @@ one-low : {A : Type 0} (k : Tag) (a : A) (one : ℕ → List ℕ → Out A) → 
 unfolding readOne
 one-low k a one low done h = tt
 one-low k a one low (stop n p) h = h
-one-low k a one low (chunk t p b r) h = if-low Rest (is t k) _ _ (bind-low Any Rest (one p b) _ (low p b (h .0)) (λ x _. h .1)) h
+one-low k a one low (chunk t p b r) h = body.if-low Told Rest (is t k) _ _ (bind-low Any Rest (one p b) _ (low p b (h .0)) (λ x _. h .1)) h
 
--- ---- bodies
-
-rows-low : (rs : List Rule) (p : ℕ) (b : List ℕ) → p + length b ≤ mostBytes → Low Any (items (row rs) p b)
-rows-low rs p b h = items-low (row rs) (row-low rs) p b h
-
-texture-low : (p : ℕ) (s : List ℕ) → p + length s ≤ mostBytes → Low Left (readTexture p s)
-unfolding readTexture
-texture-low p s h = bind-low Left Left (named textureRow p s) _ (named-low textureRow p s h) (λ x hx. hx)
-
-textures-low : Body readTextures
-unfolding readTextures
-textures-low p b h = items-low readTexture texture-low (p + 8) b h
-
-brush-low : (mode : Mode) (n textures p : ℕ) (s : List ℕ) → p + length s ≤ mostBytes → Low Left (readBrush mode n textures p s)
-unfolding readBrush
-brush-low mode n textures p s h = bind-low Left Left (named (brushRow mode ++ brushIds n textures) p s) _ (named-low (brushRow mode ++ brushIds n textures) p s h) (λ x hx. hx)
-
-brushes-low : (mode : Mode) (textures : ℕ) → Body (readBrushes mode textures)
-unfolding readBrushes
-brushes-low mode textures p b h =
-    bind-low Left Any (row brushesHead (p + 8) b) _ (row-low brushesHead (p + 8) b h) (λ x hx.
-    bind-low Any Any (items (readBrush mode (number x 0) textures) (x .place) (x .left)) _ (items-low (readBrush mode (number x 0) textures) (brush-low mode (number x 0) textures) (x .place) (x .left) hx) (λ l _. tt))
-
-vertices-low : (mode : Mode) → Body (readVertices mode)
-unfolding readVertices
-vertices-low mode p b h =
-    bind-low Left Any (row verticesHead (p + 8) b) _ (row-low verticesHead (p + 8) b h) (λ x hx.
-    bind-low Any Any (items (row (vertexRow mode (number x 0) (number x 1) (number x 2))) (x .place) (x .left)) _ (rows-low (vertexRow mode (number x 0) (number x 1) (number x 2)) (x .place) (x .left) hx) (λ l _. tt))
-
-triangles-low : (brushes n : ℕ) → Body (readTriangles brushes n)
-unfolding readTriangles
-triangles-low brushes n p b h =
-    bind-low Left Any (row (trianglesHead brushes) (p + 8) b) _ (row-low (trianglesHead brushes) (p + 8) b h) (λ x hx.
-    bind-low Any Any (items (row (triangleRow n)) (x .place) (x .left)) _ (rows-low (triangleRow n) (x .place) (x .left) hx) (λ l _. tt))
+-- ---- meshes
 
 sets-low : (brushes n : ℕ) (cs : Chunks) → LowC cs → Low Any (readSets brushes n cs)
 unfolding readSets
 sets-low brushes n done h = tt
 sets-low brushes n (stop i p) h = h
 sets-low brushes n (chunk t p b r) h =
-    bind-low Any Any (readTriangles brushes n p b) _ (triangles-low brushes n p b (h .0)) (λ x _.
+    bind-low Any Any (readTriangles brushes n p b) _ (body.triangles-low mostBytes Told five ruled brushes n p b (h .0)) (λ x _.
     bind-low Any Any (readSets brushes n r) _ (sets-low brushes n r (h .1)) (λ l _. tt))
 
 mesh-low : (mode : Mode) (brushes : ℕ) → Body (readMesh mode brushes)
 unfolding readMesh
 mesh-low mode brushes p b h =
-    bind-low Left Any (row (meshHead brushes) (p + 8) b) _ (row-low (meshHead brushes) (p + 8) b h) (λ x hx.
+    bind-low Left Any (row (meshHead brushes) (p + 8) b) _ (body.row-low mostBytes Told five ruled (meshHead brushes) (p + 8) b h) (λ x hx.
     let cs = inside MESH p (x .place) (x .left) in
-    bind-low Rest Any (readOne VRTS noVertices (readVertices mode) cs) _ (one-low VRTS noVertices (readVertices mode) (vertices-low mode) cs (inside-low MESH p (x .place) (x .left) (omega arith) hx)) (λ v hv.
+    bind-low Rest Any (readOne VRTS noVertices (readVertices mode) cs) _ (one-low VRTS noVertices (readVertices mode) (body.vertices-low mostBytes Told five ruled mode) cs (inside-low MESH p (x .place) (x .left) (omega arith) hx)) (λ v hv.
     bind-low Any Any (readSets brushes (length (v .value .items)) (v .rest)) _ (sets-low brushes (length (v .value .items)) (v .rest) hv) (λ l _. tt)))
-
-bone-low : (n : ℕ) → Body (readBone n)
-unfolding readBone
-bone-low n p b h = rows-low (weightRow n) (p + 8) b h
-
-keys-low : Body readKeys
-unfolding readKeys
-keys-low p b h =
-    bind-low Left Any (row keysHead (p + 8) b) _ (row-low keysHead (p + 8) b h) (λ x hx.
-    bind-low Any Any (items (row (keyRow (number x 0))) (x .place) (x .left)) _ (rows-low (keyRow (number x 0)) (x .place) (x .left) hx) (λ l _. tt))
-
-filled-low : (p : ℕ) (s ws : List ℕ) → p ≤ mostBytes → Low Any (filled p s ws)
-unfolding filled
-filled-low p [] ws h = tt
-filled-low p (c ∷ s) ws h = told 5 tt tt h
-
-anim-low : Body readAnim
-unfolding readAnim
-anim-low p b h = bind-low Left Any (row animRow (p + 8) b) _ (row-low animRow (p + 8) b h) (λ x hx. filled-low (p + 8) (x .left) (x .value) (omega arith))
 
 -- ---- nodes
 
@@ -265,17 +151,17 @@ unfolding readKind aMesh aBone
 kind-low mode brushes n done h = tt
 kind-low mode brushes n (stop i p) h = h
 kind-low mode brushes n (chunk t p b r) h =
-    if-low Rest (is t MESH) _ _ (bind-low Any Rest (readMesh mode brushes p b) _ (mesh-low mode brushes p b (h .0)) (λ m _. h .1))
-    (if-low Rest (is t BONE) _ _ (bind-low Any Rest (readBone n p b) _ (bone-low n p b (h .0)) (λ w _. h .1)) h)
+    body.if-low Told Rest (is t MESH) _ _ (bind-low Any Rest (readMesh mode brushes p b) _ (mesh-low mode brushes p b (h .0)) (λ m _. h .1))
+    (body.if-low Told Rest (is t BONE) _ _ (bind-low Any Rest (readBone n p b) _ (body.bone-low mostBytes Told five ruled n p b (h .0)) (λ w _. h .1)) h)
 
 moves-low : (cs : Chunks) (seen : Anim) → LowC cs → Low Rest (readMoves seen cs)
 unfolding readMoves withKeys
 moves-low done seen h = tt
 moves-low (stop i p) seen h = h
 moves-low (chunk t p b r) seen h =
-    if-low Rest (is t KEYS) _ _
-    (bind-low Any Rest (readKeys p b) _ (keys-low p b (h .0)) (λ k _. bind-low Rest Rest (readMoves seen r) _ (moves-low r seen (h .1)) (λ x hx. hx)))
-    (if-low Rest (is t ANIM) _ _ (bind-low Any Rest (readAnim p b) _ (anim-low p b (h .0)) (λ ws _. moves-low r (anim ws) (h .1))) h)
+    body.if-low Told Rest (is t KEYS) _ _
+    (bind-low Any Rest (readKeys p b) _ (body.keys-low mostBytes Told five ruled p b (h .0)) (λ k _. bind-low Rest Rest (readMoves seen r) _ (moves-low r seen (h .1)) (λ x hx. hx)))
+    (body.if-low Told Rest (is t ANIM) _ _ (bind-low Any Rest (readAnim p b) _ (body.anim-low mostBytes Told five ruled p b (h .0)) (λ ws _. moves-low r (anim ws) (h .1))) h)
 
 nodes-low : (one : ℕ → List ℕ → Out Inner) → Body one → (cs : Chunks) → LowC cs → Low Any (readNodes one cs)
 unfolding readNodes
@@ -288,7 +174,7 @@ node-low : (mode : Mode) (l brushes : ℕ) (above : Option ℕ) → Body (readNo
 unfolding readNode readBelow
 node-low mode zero brushes above p b h = told 9 tt tt (omega arith)
 node-low mode (suc l) brushes above p b h =
-    bind-low Left Any (named nodeRow (p + 8) b) _ (named-low nodeRow (p + 8) b h) (λ x hx.
+    bind-low Left Any (named nodeRow (p + 8) b) _ (body.named-low mostBytes Told five ruled nodeRow (p + 8) b h) (λ x hx.
     let cs = inside NODE p (x .place) (x .left) in
     bind-low Rest Any (readKind mode brushes (boneVertices above) cs) _ (kind-low mode brushes (boneVertices above) cs (inside-low NODE p (x .place) (x .left) (omega arith) hx)) (λ k hk.
     bind-low Rest Any (readMoves still (k .rest)) _ (moves-low (k .rest) still hk) (λ m hm.
@@ -304,10 +190,10 @@ root-low mode brushes p b h = bind-low Any Any (readNode mode levels brushes non
 body-low : (mode : Mode) (p : ℕ) (b : List ℕ) → p + length b ≤ mostBytes → Low Any (readBody mode p b)
 unfolding readBody
 body-low mode p b h =
-    bind-low Left Any (row fileHead p b) _ (row-low fileHead p b h) (λ x hx.
+    bind-low Left Any (row fileHead p b) _ (body.row-low mostBytes Told five ruled fileHead p b h) (λ x hx.
     let cs = inside BB3D 0 (x .place) (x .left) in
-    bind-low Rest Any (readOne TEXS [] readTextures cs) _ (one-low TEXS [] readTextures textures-low cs (inside-low BB3D 0 (x .place) (x .left) (omega arith) hx)) (λ t ht.
-    bind-low Rest Any (readOne BRUS (0, []) (readBrushes mode (length (t .value))) (t .rest)) _ (one-low BRUS (0, []) (readBrushes mode (length (t .value))) (brushes-low mode (length (t .value))) (t .rest) ht) (λ u hu.
+    bind-low Rest Any (readOne TEXS [] readTextures cs) _ (one-low TEXS [] readTextures (body.textures-low mostBytes Told five ruled) cs (inside-low BB3D 0 (x .place) (x .left) (omega arith) hx)) (λ t ht.
+    bind-low Rest Any (readOne BRUS (0, []) (readBrushes mode (length (t .value))) (t .rest)) _ (one-low BRUS (0, []) (readBrushes mode (length (t .value))) (body.brushes-low mostBytes Told five ruled mode (length (t .value))) (t .rest) ht) (λ u hu.
     bind-low Rest Any (readOne NODE leaf (readRoot mode (length (u .value .1))) (u .rest)) _ (one-low NODE leaf (readRoot mode (length (u .value .1))) (root-low mode (length (u .value .1))) (u .rest) hu) (λ n hn.
     ended-low (n .rest) _ hn))))
 
@@ -323,9 +209,9 @@ parse-low : (mode : Mode) (s : List ℕ) → Low Any (parse mode s)
 unfolding parse
 parse-low mode s =
     size-low (sizeFits (length s)) _ (λ t.
-    bind-low Left Any (row header 0 s) _ (row-low header 0 s (omega (arith, size-bound (length s) t))) (λ x hx.
-    bind-low Any Any (check (eqb (number x 0) (code BB3D)) 2 0) _ (check-low (eqb (number x 0) (code BB3D)) 2 0 (told 2 tt tt (omega arith))) (λ u _.
-    bind-low Any Any (check (eqb (number x 1) (length (x .left))) 2 4) _ (check-low (eqb (number x 1) (length (x .left))) 2 4 (told 2 tt tt (omega arith))) (λ v _.
+    bind-low Left Any (row header 0 s) _ (body.row-low mostBytes Told five ruled header 0 s (omega (arith, size-bound (length s) t))) (λ x hx.
+    bind-low Any Any (check (eqb (number x 0) (code BB3D)) 2 0) _ (body.check-low Told (eqb (number x 0) (code BB3D)) 2 0 (told 2 tt tt (omega arith))) (λ u _.
+    bind-low Any Any (check (eqb (number x 1) (length (x .left))) 2 4) _ (body.check-low Told (eqb (number x 1) (length (x .left))) 2 4 (told 2 tt tt (omega arith))) (λ v _.
     body-low mode (x .place) (x .left) hx))))
 
 pub parse-refusal : (mode : Mode) (s : List ℕ) (n p : ℕ) → parse mode s ≡ bad n p → OneToNine n

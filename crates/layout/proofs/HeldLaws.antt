@@ -141,18 +141,18 @@ module _ (file : List ℕ) where
   unit-held false c p m m′ w h = stopped (λ _. false) 6 p m′ (refl, w) (λ a e. refl)
 
   -- words stand in the file from a place on
-  abbrev WordsIn : ℕ → List ℕ → Type 0
+  abbrev pub WordsIn : ℕ → List ℕ → Type 0
   WordsIn p [] = Unit {0}
   WordsIn p (w ∷ ws) = (wordAt file p ≡ w) × WordsIn (p + 4) ws
 
-  word-in : (p a b c d : ℕ) (r : List ℕ) → At file p (a ∷ b ∷ c ∷ d ∷ r) → wordAt file p ≡ word a b c d
+  pub word-in : (p a b c d : ℕ) (r : List ℕ) → At file p (a ∷ b ∷ c ∷ d ∷ r) → wordAt file p ≡ word a b c d
   unfolding wordAt
   word-in p a b c d r h =
       let byte : (i : ℕ) → getD file (p + i) 0 ≡ getD (a ∷ b ∷ c ∷ d ∷ r ++ h .after) i 0 = λ i. sym (getD-drop p file i 0) ∙ ap (λ (l : List ℕ). getD l i 0) (h .stands) in
       let z : p ≡ p + 0 = omega arith in
       rw (byte 1, byte 2, byte 3, z, byte 0)
 
-  words-in : (start n p : ℕ) (b : List ℕ) (x : Step (List ℕ)) → At file p b → words start n p b ≡ got x → WordsIn p (x .value)
+  pub words-in : (start n p : ℕ) (b : List ℕ) (x : Step (List ℕ)) → At file p b → words start n p b ≡ got x → WordsIn p (x .value)
   unfolding words
   words-in start zero p b x h e = subst (λ (y : Step (List ℕ)). WordsIn p (y .value)) (got-inj e) tt
   words-in start (suc n) p [] x h e = bad-got e
