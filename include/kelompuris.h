@@ -5,7 +5,11 @@
  *
  * A lent array is a pointer and its number of elements. The caller sees to this:
  *   - the pointer holds for that many elements, and is aligned as its type asks; with 0 elements it may be null;
- *   - no two lent arrays overlap, and nothing else writes them while the function runs.
+ *   - no two lent arrays overlap, and nothing else writes them while the function runs. So a file is not cleared into itself:
+ *     lend another output and copy back.
+ *
+ * Threads may call the functions at the same time, each with arrays of its own; files may be shared. Of other libraries they need memset only.
+ * Measured on a file of 16 levels, judge, read, clear and label take 8 kB of stack, the pieces 9 kB, write 17 kB.
  */
 #ifndef KELOMPURIS_H
 #define KELOMPURIS_H
@@ -63,6 +67,85 @@ enum {
     KELOMPURIS_WEIGHT_WORDS = 2,
     KELOMPURIS_KEY_LIST_WORDS = 4,
     KELOMPURIS_KEY_WORDS = 11
+};
+
+/* No such row: the parent of the root, a brush or a texture that is not there. */
+#define KELOMPURIS_NONE UINT32_C(0xFFFFFFFF)
+
+/* What stands in which word of a row, from 0 on. Rows are in file order, a node before what is in it; ids and numbers of rows count from 0.
+ * Signed numbers and floats are held by their bits (copy a word into a float by memcpy); what is not in the file is 0.
+ * A name is NAME_LENGTH bytes of the file from its byte NAME_PLACE on, and a zero byte stands behind it, so it is a C string too. It may be empty,
+ * and it may hold bytes that steer a screen: print only those from 32 to 126 of it. */
+enum {
+    KELOMPURIS_NAME_PLACE = 0, /* of a texture, a brush and a node */
+    KELOMPURIS_NAME_LENGTH = 1,
+
+    KELOMPURIS_TEXTURE_FLAGS = 2,
+    KELOMPURIS_TEXTURE_BLEND = 3,
+    KELOMPURIS_TEXTURE_POSITION = 4, /* x y */
+    KELOMPURIS_TEXTURE_SCALE = 6,    /* x y */
+    KELOMPURIS_TEXTURE_ROTATION = 8,
+
+    KELOMPURIS_BRUSH_COLOUR = 2, /* red green blue alpha */
+    KELOMPURIS_BRUSH_SHININESS = 6,
+    KELOMPURIS_BRUSH_BLEND = 7,
+    KELOMPURIS_BRUSH_FX = 8,
+    KELOMPURIS_BRUSH_TEXTURES = 9, /* eight slots */
+
+    KELOMPURIS_NODE_PARENT = 2,
+    KELOMPURIS_NODE_POSITION = 3, /* x y z */
+    KELOMPURIS_NODE_SCALE = 6,    /* x y z */
+    KELOMPURIS_NODE_ROTATION = 9, /* w x y z */
+    KELOMPURIS_NODE_KIND = 13,
+    KELOMPURIS_NODE_FIRST = 14, /* its mesh, or its first weight */
+    KELOMPURIS_NODE_COUNT = 15, /* 1 for a mesh, or how many weights */
+    KELOMPURIS_NODE_ANIM = 16,  /* 1 if it has an ANIM, whose three numbers follow */
+    KELOMPURIS_NODE_ANIM_FLAGS = 17,
+    KELOMPURIS_NODE_ANIM_FRAMES = 18,
+    KELOMPURIS_NODE_ANIM_FPS = 19,
+    KELOMPURIS_NODE_BELOW = 20, /* nodes below it at all depths: the next so many rows */
+
+    KELOMPURIS_MESH_NODE = 0,
+    KELOMPURIS_MESH_BRUSH = 1,
+    KELOMPURIS_MESH_FLAGS = 2, /* 1: vertices have normals, 2: they have colours */
+    KELOMPURIS_MESH_SETS = 3,  /* texture coordinates of a vertex */
+    KELOMPURIS_MESH_SET_SIZE = 4,
+    KELOMPURIS_MESH_FIRST_VERTEX = 5,
+    KELOMPURIS_MESH_VERTICES = 6,
+    KELOMPURIS_MESH_FIRST_TRIANGLE_SET = 7,
+    KELOMPURIS_MESH_TRIANGLE_SETS = 8,
+
+    KELOMPURIS_VERTEX_POSITION = 0,     /* x y z */
+    KELOMPURIS_VERTEX_NORMAL = 3,       /* x y z */
+    KELOMPURIS_VERTEX_COLOUR = 6,       /* red green blue alpha */
+    KELOMPURIS_VERTEX_COORDINATES = 10, /* coordinate c of set s is 4 * s + c words further */
+
+    KELOMPURIS_TRIANGLE_SET_MESH = 0,
+    KELOMPURIS_TRIANGLE_SET_BRUSH = 1,
+    KELOMPURIS_TRIANGLE_SET_FIRST_TRIANGLE = 2,
+    KELOMPURIS_TRIANGLE_SET_TRIANGLES = 3,
+
+    /* A triangle is three vertices, counted from its mesh's first one on. */
+
+    KELOMPURIS_WEIGHT_VERTEX = 0, /* counted from its mesh's first one on */
+    KELOMPURIS_WEIGHT_WEIGHT = 1,
+
+    KELOMPURIS_KEY_LIST_NODE = 0,
+    KELOMPURIS_KEY_LIST_FLAGS = 1, /* 1: keys have positions, 2: scales, 4: rotations */
+    KELOMPURIS_KEY_LIST_FIRST_KEY = 2,
+    KELOMPURIS_KEY_LIST_KEYS = 3,
+
+    KELOMPURIS_KEY_FRAME = 0,
+    KELOMPURIS_KEY_POSITION = 1, /* x y z */
+    KELOMPURIS_KEY_SCALE = 4,    /* x y z */
+    KELOMPURIS_KEY_ROTATION = 7  /* w x y z */
+};
+
+/* Kinds of a node. */
+enum {
+    KELOMPURIS_PIVOT = 0,
+    KELOMPURIS_MESH = 1,
+    KELOMPURIS_BONE = 2
 };
 
 /* Reads a file in a mode into ten lent tables of 32-bit words: answers 0 or 1 to 11.

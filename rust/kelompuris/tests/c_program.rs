@@ -5,7 +5,7 @@ use std::path::Path;
 use std::process::Command;
 
 /// Each program and what it prints.
-const SAMPLES: [(&str, &str); 5] = [
+const SAMPLES: [(&str, &str); 6] = [
     (
         "read_sample",
         "\
@@ -21,6 +21,21 @@ lenient: 0 0, 1 0, 0 1 0 0 0 0 0 0 0 0
 mode 2: 6 37, 0 0, 0 0 0 0 0 0 0 0 0 0
 label: 0 0, 20 4 0, Hall
 no label: 14 0, 0 0 0, 
+",
+    ),
+    (
+        "tree_sample",
+        "\
+judged: 0 at 0
+read: 0 at 0
+cupboard: mesh, 8 vertices
+  hinge: bone, 4 weights
+    handle: bone, 2 weights
+  worktop: mesh, 4 vertices
+  lamp over the worktop
+    
+cleared: 0, 1412 bytes of 1574
+over a lead: 0 at 0
 ",
     ),
     (
