@@ -6,10 +6,11 @@ CLI = rust/target/release/kelompuris
 demo: cli
 	$(CLI) check samples/*.b3d
 	$(CLI) list samples/kitchen.b3d
+	$(CLI) tree samples/kitchen.b3d
 	$(CLI) stream < samples/kitchen.b3d
-	$(CLI) clear samples/kitchen.b3d target/kitchen_cleared.b3d
+	$(CLI) clear --force samples/kitchen.b3d target/kitchen_cleared.b3d
 	$(CLI) list target/kitchen_cleared.b3d
-	$(CLI) slip samples/kitchen.b3d target/kitchen.slip
+	$(CLI) slip --force samples/kitchen.b3d target/kitchen.slip
 	$(CLI) slip --show target/kitchen.slip
 	$(CLI) skeleton samples/door.csf
 	$(CLI) mesh samples/door.cmf --skeleton samples/door.csf

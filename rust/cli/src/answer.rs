@@ -3,6 +3,7 @@
 use crate::columns::{cal3d, Table, TABLES};
 use kelompuris::{Answer, Written};
 use std::fmt::Display;
+use std::os::unix::ffi::OsStrExt;
 use std::path::Path;
 
 /// The number for an output that is too short; its place is the size needed.
@@ -71,7 +72,26 @@ impl Stop {
 
 /// A line about a file.
 pub fn about(path: &Path, what: impl Display) -> String {
-    format!("{}: {what}", path.display())
+    format!("{}: {what}", printable(path))
+}
+
+/// A path on one line: bytes that steer a screen and those of no text as \\xNN.
+pub fn printable(path: &Path) -> String {
+    let mut text = String::new();
+    for part in path.as_os_str().as_bytes().utf8_chunks() {
+        for letter in part.valid().chars() {
+            match letter.is_control() {
+                true => text.extend(letter.to_string().bytes().map(escaped)),
+                false => text.push(letter),
+            }
+        }
+        text.extend(part.invalid().iter().copied().map(escaped));
+    }
+    text
+}
+
+fn escaped(byte: u8) -> String {
+    format!("\\x{byte:02x}")
 }
 
 /// An answer of the judge of scenes: the refusal, or what the file holds.

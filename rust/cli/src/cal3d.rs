@@ -6,6 +6,7 @@ use crate::columns::Table;
 use crate::commands::{add_line, add_numbers, check_each, put_tables, shown};
 use crate::scene::{load, name};
 use crate::text;
+use crate::words::Words;
 use kelompuris::cal3d::{judge_mesh, judge_skeleton, read_mesh, read_skeleton, Answer};
 use kelompuris::slices;
 use std::path::Path;
@@ -86,29 +87,25 @@ impl Kind {
 /// As many bones as a skeleton can have.
 const MOST_BONES: u32 = 16_383;
 
-/// How many bones a mesh may name, by the last two words of a command: a number
-/// behind `--bones`, or those of an accepted skeleton behind `--skeleton`;
-/// without either as many as a skeleton can have. With them the words before.
-/// None where the number is none.
-pub fn bones<'a>(words: &'a [&'a Path]) -> Result<Option<(u32, &'a [&'a Path])>, Stop> {
-    let (rest, option, value) = match words {
-        [rest @ .., option, value] => (rest, option.to_str(), value),
-        _ => return Ok(Some((MOST_BONES, words))),
-    };
-    match option {
-        Some("--bones") => {
-            let count = value.to_str().and_then(|digits| digits.parse().ok());
-            Ok(count.map(|count| (count, rest)))
+/// How many bones a mesh may name: the number behind `--bones`, or the bones of
+/// the accepted skeleton behind `--skeleton`; without either as many as a
+/// skeleton can have.
+pub fn bones(words: &Words) -> Result<u32, Stop> {
+    match (words.value("--bones")?, words.value("--skeleton")?) {
+        (None, None) => Ok(MOST_BONES),
+        (Some(count), None) => {
+            let count = count.to_str().and_then(|digits| digits.parse().ok());
+            count.ok_or_else(|| words.wrong("--bones takes a number of bones"))
         }
-        Some("--skeleton") => {
-            let kind = Kind::Skeleton;
-            let told = kind.judge(&load(value)?);
+        (None, Some(path)) => {
+            let (kind, path) = (Kind::Skeleton, Path::new(path));
+            let told = kind.judge(&load(path)?);
             match told.number {
-                0 => Ok(Some((told.counts[0], rest))),
-                number => Err(Stop::refused(kind.format(), value, number, told.place)),
+                0 => Ok(told.counts[0]),
+                number => Err(Stop::refused(kind.format(), path, number, told.place)),
             }
         }
-        _ => Ok(Some((MOST_BONES, words))),
+        _ => Err(words.wrong("--bones or --skeleton, not both")),
     }
 }
 

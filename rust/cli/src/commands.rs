@@ -8,8 +8,8 @@ use crate::scene::{self, load, name, Scene};
 use crate::text;
 use kelompuris::pieces::Pieces;
 use kelompuris::{judge, read_slip, Answer, Mode};
-use std::fs;
-use std::io::{ErrorKind, Read};
+use std::fs::{self, File};
+use std::io::{self, ErrorKind, Read};
 use std::path::Path;
 
 /// A line for each file: its answer in words.
@@ -93,9 +93,9 @@ pub fn stream(most: usize, input: &mut impl Read, out: &mut Vec<u8>) -> Result<(
 }
 
 /// Number and place; if found the root's name and the vertices of its mesh. No
-/// size limit holds here.
+/// size limit holds here; what stands behind BB3D is not read.
 pub fn label(path: &Path, out: &mut Vec<u8>) -> Result<(), Stop> {
-    let file = fs::read(path).map_err(|error| Stop::failed(path, error))?;
+    let file = first_chunk(path).map_err(|error| Stop::failed(path, error))?;
     let label = kelompuris::label(&file);
     add_numbers(out, &[label.number, label.place]);
     if label.number != 0 {
@@ -103,6 +103,28 @@ pub fn label(path: &Path, out: &mut Vec<u8>) -> Result<(), Stop> {
     }
     add_line(out, shown(kelompuris::label_name(&file)));
     add_line(out, label.vertices.to_string());
+    Ok(())
+}
+
+/// The first chunk of a file as far as it is there; of a file that does not begin
+/// with BB3D its first eight bytes, which have no label either.
+fn first_chunk(path: &Path) -> io::Result<Vec<u8>> {
+    let mut file = File::open(path)?;
+    let mut bytes = Vec::new();
+    file.by_ref().take(8).read_to_end(&mut bytes)?;
+    if let [b'B', b'B', b'3', b'D', length @ ..] = &bytes[..] {
+        let length = length.try_into().map_or(0, u32::from_le_bytes);
+        file.take(length.into()).read_to_end(&mut bytes)?;
+    }
+    Ok(bytes)
+}
+
+/// The nodes of a file as a tree, its textures and its brushes.
+pub fn tree(mode: Mode, path: &Path, out: &mut Vec<u8>) -> Result<(), Stop> {
+    let file = load(path)?;
+    let answer = judge(mode, &file);
+    let scene = accepted(mode, path, file, &answer)?;
+    crate::tree::print(&scene, out);
     Ok(())
 }
 
@@ -131,7 +153,7 @@ pub fn put_tables<'a>(
 }
 
 /// A file from such a folder.
-pub fn build(mode: Mode, folder: &Path, target: &Path) -> Result<(), Stop> {
+pub fn build(mode: Mode, folder: &Path, target: &Path, force: bool) -> Result<(), Stop> {
     let mut names = Vec::new();
     let mut read = |table: &Table| {
         let path = folder.join(table.file_name());
@@ -154,23 +176,23 @@ pub fn build(mode: Mode, folder: &Path, target: &Path) -> Result<(), Stop> {
     };
     let bytes = scene.write(mode);
     let bytes = bytes.map_err(|written| Stop::not_written(folder, written))?;
-    put_file(target, &bytes)
+    put_file(target, &bytes, force)
 }
 
 /// The copy of a file without names.
-pub fn clear(path: &Path, target: &Path) -> Result<(), Stop> {
+pub fn clear(path: &Path, target: &Path, force: bool) -> Result<(), Stop> {
     let file = load(path)?;
     let bytes = scene::clear(&file);
     let bytes = bytes.map_err(|written| Stop::not_written(path, written))?;
-    put_file(target, &bytes)
+    put_file(target, &bytes, force)
 }
 
 /// The slip of a file.
-pub fn slip(path: &Path, target: &Path) -> Result<(), Stop> {
+pub fn slip(path: &Path, target: &Path, force: bool) -> Result<(), Stop> {
     let file = load(path)?;
     let bytes = scene::slip_of(&file);
     let bytes = bytes.map_err(|written| Stop::not_written(path, written))?;
-    put_file(target, &bytes)
+    put_file(target, &bytes, force)
 }
 
 /// Number and place of a slip; if accepted version and n_texs, ten counts.

@@ -9,6 +9,8 @@ mod commands;
 mod output;
 mod scene;
 mod text;
+mod tree;
+mod words;
 
 use answer::Stop;
 use cal3d::Kind;
@@ -18,31 +20,15 @@ use std::ffi::OsString;
 use std::io::{self, Write};
 use std::path::Path;
 use std::process::ExitCode;
-
-const USAGE: &str = "\
-usage: kelompuris check [--lenient] FILE..
-       kelompuris list [--lenient] FILE
-       kelompuris stream [--piece N]
-       kelompuris label FILE
-       kelompuris tables [--lenient] FILE DIR
-       kelompuris build [--lenient] DIR OUT
-       kelompuris clear FILE OUT
-       kelompuris slip FILE OUT
-       kelompuris slip --show SLIP
-       kelompuris skeleton FILE
-       kelompuris skeleton --check FILE..
-       kelompuris skeleton --tables FILE DIR
-       kelompuris mesh FILE [--bones N | --skeleton FILE]
-       kelompuris mesh --check FILE.. [--bones N | --skeleton FILE]
-       kelompuris mesh --tables FILE DIR [--bones N | --skeleton FILE]
-       kelompuris --help
-";
+use words::{usage, Words, COMMANDS};
 
 const HELP: &str = "
 check   one line for each file: accepted and what it holds, or the refusal's
         number, its place and what that means
 list    number and place; if accepted version and n_texs, the ten row counts
         and the name of each node
+tree    its nodes as a tree, each with its kind, mesh, weights, keys and ANIM; its
+        textures and brushes
 stream  the first three lines of `list` for a file that comes by standard input: it
         is taken N bytes at a time (1 to 65536, 200 without N) and never held
 label   number and place; if found the root's name and the vertices of its
@@ -67,15 +53,17 @@ mesh    the same of a mesh of cal3d (CMF version 700), with six row counts and a
         it is 16,383, the most that a skeleton can have
 
 A red, green, blue or alpha that is not a number or lies outside 0 to 1 is
-refused; with --lenient any is taken. `clear` takes any.
+refused; with --lenient any is taken. `clear` and `slip` take any.
 
 In the texts of `tables` the first line has the column names, and a tab stands
 between cells. Whole numbers are signed decimals, so NONE is -1. A float is its
 32-bit word as 8 hex digits (3f800000 is 1.0), so it comes back exactly. In a
 name the backslash and bytes outside 33 to 126 are \\xNN, so a space is \\x20.
 
-A command that is refused or fails writes no file. Exit status: 0 accepted,
-1 refused, 2 wrong usage or a file that cannot be read or written.
+A file that stands at OUT is replaced only with --force. A command that is refused
+or fails writes no file. Options may stand anywhere; behind -- nothing is one.
+Exit status: 0 accepted, 1 refused, 2 wrong usage or a file that cannot be read
+or written.
 ";
 
 fn main() -> ExitCode {
@@ -96,72 +84,77 @@ fn main() -> ExitCode {
 
 fn run(args: &[OsString], out: &mut Vec<u8>) -> Result<(), Stop> {
     let Some((command, words)) = args.split_first() else {
-        return usage();
+        return Err(Stop::Failed(usage(&COMMANDS)));
     };
-    let command = command.to_str();
-    let with_mode = matches!(command, Some("check" | "list" | "tables" | "build"));
-    let (mode, paths) = match words.split_first() {
-        Some((first, rest)) if with_mode && first == "--lenient" => (Mode::Lenient, rest),
-        _ => (Mode::Strict, words),
+    match (command.to_str(), words) {
+        (Some("--help" | "-h" | "help"), []) => return help(out),
+        (Some("--version" | "-V"), []) => {
+            let version = concat!("kelompuris ", env!("CARGO_PKG_VERSION"), "\n");
+            out.extend_from_slice(version.as_bytes());
+            return Ok(());
+        }
+        _ => {}
+    }
+    let Some(found) = COMMANDS.iter().find(|each| command == each.name) else {
+        let command = answer::printable(Path::new(command));
+        return Err(Stop::Failed(format!(
+            "no command {command}\n{}",
+            usage(&COMMANDS)
+        )));
     };
-    let paths: Vec<&Path> = paths.iter().map(Path::new).collect();
-    match (command, &paths[..]) {
-        (Some("check"), [_, ..]) => commands::check(mode, &paths, out),
-        (Some("list"), [file]) => commands::list(mode, file, out),
-        (Some("stream"), words) => match most_of(words) {
-            Some(most) => commands::stream(most, &mut io::stdin().lock(), out),
-            None => usage(),
-        },
-        (Some("label"), [file]) => commands::label(file, out),
-        (Some("tables"), [file, folder]) => commands::tables(mode, file, folder),
-        (Some("build"), [folder, target]) => commands::build(mode, folder, target),
-        (Some("clear"), [file, target]) => commands::clear(file, target),
-        (Some("slip"), [show, slip]) if *show == Path::new("--show") => {
-            commands::show_slip(slip, out)
+    let words = Words::of(found, words)?;
+    if words.help {
+        return help(out);
+    }
+    let mode = match words.flag("--lenient") {
+        true => Mode::Lenient,
+        false => Mode::Strict,
+    };
+    let force = words.flag("--force");
+    let paths: Vec<&Path> = words.paths.iter().map(|path| path.as_path()).collect();
+    match (found.name, &paths[..]) {
+        ("check", [_, ..]) => commands::check(mode, &paths, out),
+        ("list", [file]) => commands::list(mode, file, out),
+        ("tree", [file]) => commands::tree(mode, file, out),
+        ("stream", []) => commands::stream(piece(&words)?, &mut io::stdin().lock(), out),
+        ("label", [file]) => commands::label(file, out),
+        ("tables", [file, folder]) => commands::tables(mode, file, folder),
+        ("build", [folder, target]) => commands::build(mode, folder, target, force),
+        ("clear", [file, target]) => commands::clear(file, target, force),
+        ("slip", [slip]) if words.flag("--show") && !force => commands::show_slip(slip, out),
+        ("slip", [file, target]) if !words.flag("--show") => commands::slip(file, target, force),
+        ("skeleton", paths) => on_cal3d(&words, Kind::Skeleton, paths, out),
+        ("mesh", paths) => {
+            let bones = cal3d::bones(&words)?;
+            on_cal3d(&words, Kind::Mesh { bones }, paths, out)
         }
-        (Some("slip"), [file, target]) => commands::slip(file, target),
-        (Some("skeleton"), words) => on_cal3d(Kind::Skeleton, words, out),
-        (Some("mesh"), words) => match cal3d::bones(words)? {
-            Some((bones, words)) => on_cal3d(Kind::Mesh { bones }, words, out),
-            None => usage(),
-        },
-        (Some("--help"), []) => {
-            out.extend_from_slice(USAGE.as_bytes());
-            out.extend_from_slice(HELP.as_bytes());
-            Ok(())
-        }
-        _ => usage(),
+        _ => Err(words.wrong("not these files")),
     }
 }
 
-/// The most bytes of a piece that the words behind `stream` ask for.
-fn most_of(words: &[&Path]) -> Option<usize> {
-    match words {
-        [] => Some(commands::PIECE),
-        [flag, most] if *flag == Path::new("--piece") => {
-            let most = most.to_str()?.parse().ok()?;
-            (1..=commands::LARGEST_PIECE)
-                .contains(&most)
-                .then_some(most)
-        }
-        _ => None,
-    }
+fn help(out: &mut Vec<u8>) -> Result<(), Stop> {
+    out.extend_from_slice(usage(&COMMANDS).as_bytes());
+    out.extend_from_slice(b"       kelompuris --help\n       kelompuris --version\n");
+    out.extend_from_slice(HELP.as_bytes());
+    Ok(())
+}
+
+/// The most bytes of a piece that `stream` is to take.
+fn piece(words: &Words) -> Result<usize, Stop> {
+    let Some(most) = words.value("--piece")? else {
+        return Ok(commands::PIECE);
+    };
+    let most = most.to_str().and_then(|digits| digits.parse().ok());
+    let most = most.filter(|most| (1..=commands::LARGEST_PIECE).contains(most));
+    most.ok_or_else(|| words.wrong("a piece is 1 to 65536 bytes"))
 }
 
 /// What the words behind `skeleton` or `mesh` ask for.
-fn on_cal3d(kind: Kind, words: &[&Path], out: &mut Vec<u8>) -> Result<(), Stop> {
-    let Some((first, rest)) = words.split_first() else {
-        return usage();
-    };
-    match (first.to_str(), rest) {
-        (Some("--check"), [_, ..]) => cal3d::check(kind, rest, out),
-        (Some("--tables"), [file, folder]) => cal3d::tables(kind, file, folder),
-        (Some("--check" | "--tables"), _) => usage(),
-        (_, []) => cal3d::list(kind, first, out),
-        _ => usage(),
+fn on_cal3d(words: &Words, kind: Kind, paths: &[&Path], out: &mut Vec<u8>) -> Result<(), Stop> {
+    match (words.flag("--check"), words.flag("--tables"), paths) {
+        (true, false, [_, ..]) => cal3d::check(kind, paths, out),
+        (false, true, [file, folder]) => cal3d::tables(kind, file, folder),
+        (false, false, [file]) => cal3d::list(kind, file, out),
+        _ => Err(words.wrong("not these files")),
     }
-}
-
-fn usage() -> Result<(), Stop> {
-    Err(Stop::Failed(USAGE.to_string()))
 }

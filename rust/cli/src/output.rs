@@ -7,12 +7,16 @@ use std::io::{self, Error, ErrorKind, Write};
 use std::path::{Path, PathBuf};
 use std::process;
 
-/// Puts a file there; one of that name is replaced.
-pub fn put_file(path: &Path, bytes: &[u8]) -> Result<(), Stop> {
+/// Puts a file there; one of that name is replaced where that is asked for.
+pub fn put_file(path: &Path, bytes: &[u8], force: bool) -> Result<(), Stop> {
     let put = || {
-        let taken = fs::symlink_metadata(path).is_ok_and(|found| !found.is_file());
-        if taken {
-            return Err(Error::new(ErrorKind::AlreadyExists, "not a plain file"));
+        let taken = match fs::symlink_metadata(path) {
+            Ok(found) if !found.is_file() => Some("not a plain file"),
+            Ok(_) if !force => Some("there is such a file; --force replaces it"),
+            _ => None,
+        };
+        if let Some(why) = taken {
+            return Err(Error::new(ErrorKind::AlreadyExists, why));
         }
         let part = beside(path)?;
         let file = File::create_new(&part)?;

@@ -160,3 +160,38 @@ fn labels() {
     fs::write(folder.join("p.b3d"), worked::p()).unwrap();
     run(&folder, &["label", "p.b3d"]).is(1, "14 0\n");
 }
+
+#[test]
+fn a_label_reads_no_more_than_the_first_chunk() {
+    let folder = fresh("label_reads");
+    run(&folder, &["label", "/dev/zero"]).is(1, "14 0\n");
+    let mut file = worked::h();
+    file.extend_from_slice(b"behind");
+    fs::write(folder.join("more.b3d"), file).unwrap();
+    run(&folder, &["label", "more.b3d"]).is(0, "0 0\nHall\n0\n");
+    for cut in 0..worked::h().len() {
+        fs::write(folder.join("cut.b3d"), &worked::h()[..cut]).unwrap();
+        run(&folder, &["label", "cut.b3d"]).is(1, "14 0\n");
+    }
+}
+
+#[test]
+fn trees() {
+    let folder = fresh("trees");
+    run(&folder, &["tree", "hall.b3d"]).is(0, "Hall\n");
+    let kitchen = "\
+cupboard: mesh of 8 vertices, 2 triangle sets, ANIM of 50 frames, 25 fps
+  hinge: bone of 4 weights, 3 keys
+    handle: bone of 2 weights
+  worktop: mesh of 4 vertices, 1 triangle set
+  lamp over the worktop: 1 key
+    unnamed
+texture oak.png
+texture tiles.png
+texture steel.png
+brush oak
+brush stone
+brush steel door
+";
+    run(&folder, &["tree", "kitchen.b3d"]).is(0, kitchen);
+}

@@ -28,9 +28,9 @@ fn colours_outside_0_to_1() {
         assert_eq!(run(&folder, &["list", "--lenient", "f"]).status, 0);
         run(&folder, &["tables", "--lenient", "f", "t"]).is(0, "");
         run(&folder, &["build", "t", "b"]).stops(1, "12");
-        run(&folder, &["build", "--lenient", "t", "b"]).is(0, "");
-        run(&folder, &["clear", "f", "c"]).is(0, "");
-        run(&folder, &["clear", "b", "d"]).is(0, "");
+        run(&folder, &["build", "--lenient", "--force", "t", "b"]).is(0, "");
+        run(&folder, &["clear", "--force", "f", "c"]).is(0, "");
+        run(&folder, &["clear", "--force", "b", "d"]).is(0, "");
         assert!(fs::read(folder.join("c")).unwrap() == fs::read(folder.join("d")).unwrap());
         for name in ["b", "c", "d"] {
             fs::remove_file(folder.join(name)).unwrap();

@@ -17,7 +17,7 @@ fn rebuilt(folder: &Path, file: &str) -> Vec<u8> {
         fs::remove_dir_all(&parts).unwrap();
     }
     run(folder, &["tables", file, "parts"]).is(0, "");
-    run(folder, &["build", "parts", "built"]).is(0, "");
+    run(folder, &["build", "--force", "parts", "built"]).is(0, "");
     fs::read(folder.join("built")).unwrap()
 }
 
@@ -110,18 +110,30 @@ fn cleared_files_are_those_of_the_independent_clearer() {
     for file in files {
         fs::write(folder.join("f"), &file).unwrap();
         let copy = cleared(&file);
-        run(&folder, &["clear", "f", "once"]).is(0, "");
-        run(&folder, &["clear", "once", "twice"]).is(0, "");
+        run(&folder, &["clear", "--force", "f", "once"]).is(0, "");
+        run(&folder, &["clear", "--force", "once", "twice"]).is(0, "");
         assert!(fs::read(folder.join("once")).unwrap() == copy);
         assert!(fs::read(folder.join("twice")).unwrap() == copy);
     }
 }
 
 #[test]
-fn a_file_can_be_cleared_in_place() {
+fn a_file_is_replaced_only_by_force() {
     let folder = fresh("in_place");
     let before = names_in(&folder);
-    run(&folder, &["clear", "hall.b3d", "hall.b3d"]).is(0, "");
+    run(&folder, &["tables", "hall.b3d", "parts"]).is(0, "");
+    for words in [
+        &["clear", "hall.b3d", "hall.b3d"][..],
+        &["clear", "hall.b3d", "table.b3d"],
+        &["slip", "hall.b3d", "table.b3d"],
+        &["build", "parts", "table.b3d"],
+    ] {
+        run(&folder, words).stops(2, "--force replaces it");
+    }
+    fs::remove_dir_all(folder.join("parts")).unwrap();
+    assert_eq!(fs::read(folder.join("hall.b3d")).unwrap(), worked::h());
+    assert_eq!(fs::read(folder.join("table.b3d")).unwrap(), worked::t());
+    run(&folder, &["clear", "hall.b3d", "hall.b3d", "--force"]).is(0, "");
     assert_eq!(
         fs::read(folder.join("hall.b3d")).unwrap(),
         worked::cleared_h()

@@ -15,7 +15,7 @@ fn a_refused_file_leaves_nothing() {
     let before = names_in(&folder);
     let words = "bad: 7 at 69: an id that names nothing";
     for target in ["new", "old"] {
-        run(&folder, &["clear", "bad", target]).stops(1, words);
+        run(&folder, &["clear", "--force", "bad", target]).stops(1, words);
         run(&folder, &["tables", "bad", target]).stops(1, words);
     }
     assert_eq!(names_in(&folder), before);
@@ -33,7 +33,7 @@ fn build_changed(name: &str, table: &str, old: &str, new: &str, status: i32, wor
     fs::write(folder.join("old"), "old").unwrap();
     let before = names_in(&folder);
     for target in ["new", "old"] {
-        run(&folder, &["build", "parts", target]).stops(status, words);
+        run(&folder, &["build", "--force", "parts", target]).stops(status, words);
     }
     assert_eq!(names_in(&folder), before);
     assert_eq!(fs::read(folder.join("old")).unwrap(), b"old");

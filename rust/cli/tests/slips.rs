@@ -28,7 +28,7 @@ fn slips_of_the_samples() {
         ),
     ];
     for (file, slip, shown) in samples {
-        run(&folder, &["slip", file, "slip"]).is(0, "");
+        run(&folder, &["slip", "--force", file, "slip"]).is(0, "");
         assert_eq!(fs::read(folder.join("slip")).unwrap(), slip);
         run(&folder, &["slip", "--show", "slip"]).is(0, shown);
     }
@@ -44,7 +44,7 @@ fn a_slip_shows_the_first_lines_of_the_list() {
     files.push(scenes::rows::file_with_rows(5, 16_383));
     for file in files {
         fs::write(folder.join("f"), &file).unwrap();
-        run(&folder, &["slip", "f", "slip"]).is(0, "");
+        run(&folder, &["slip", "--force", "f", "slip"]).is(0, "");
         let listed = run(&folder, &["list", "f"]).out;
         let first: Vec<&str> = listed.lines().take(3).collect();
         let shown = format!("{}\n", first.join("\n"));

@@ -62,6 +62,6 @@ fn wrong_use() {
         &["stream", "--piece", "2", "3"],
         &["stream", "--lenient"],
     ] {
-        run(&folder, words).stops(2, "usage: kelompuris check");
+        run(&folder, words).stops(2, "usage: kelompuris stream");
     }
 }

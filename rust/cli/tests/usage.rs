@@ -8,7 +8,7 @@ use std::fs;
 #[test]
 fn wrong_use() {
     let folder = fresh("wrong_use");
-    let wrong: [&[&str]; 36] = [
+    let wrong: [&[&str]; 33] = [
         &[],
         &["check"],
         &["list"],
@@ -26,14 +26,12 @@ fn wrong_use() {
         &["skeleton", "door.csf", "door.csf"],
         &["skeleton", "--check"],
         &["skeleton", "--tables", "door.csf"],
-        &["skeleton", "door.csf", "--check"],
         &["mesh"],
         &["mesh", "--bones", "4"],
         &["mesh", "door.cmf", "--bones"],
         &["mesh", "door.cmf", "--bones", "-1"],
         &["mesh", "door.cmf", "--bones", "4294967296"],
         &["mesh", "door.cmf", "--bones", "door.csf"],
-        &["mesh", "--bones", "4", "door.cmf"],
         &["mesh", "--check", "--bones", "4"],
         &["mesh", "--tables", "door.cmf", "--skeleton", "door.csf"],
         &["mesh", "door.cmf", "--bones", "4", "--skeleton", "door.csf"],
@@ -41,14 +39,13 @@ fn wrong_use() {
         &["--help", "hall.b3d"],
         &["hall.b3d"],
         &["check", "--lenient"],
-        &["list", "hall.b3d", "--lenient"],
         &["clear", "--lenient", "hall.b3d", "a"],
         &["label", "--lenient", "hall.b3d"],
         &["--lenient", "check", "hall.b3d"],
     ];
     let before = names_in(&folder);
     for args in wrong {
-        run(&folder, args).stops(2, "usage: kelompuris check [--lenient] FILE..");
+        run(&folder, args).stops(2, "usage: kelompuris ");
     }
     assert_eq!(names_in(&folder), before);
 }
@@ -58,12 +55,44 @@ fn help_names_all_commands() {
     let help = run(&fresh("help"), &["--help"]);
     assert_eq!((help.status, help.err.as_str()), (0, ""));
     let commands = [
-        "check", "list", "label", "tables", "build", "clear", "slip", "skeleton", "mesh",
+        "check", "list", "tree", "label", "tables", "build", "clear", "slip", "skeleton", "mesh",
     ];
     for command in commands {
         let line = |line: &str| line.split(' ').next() == Some(command);
         assert!(help.out.lines().any(line), "{command}");
     }
+}
+
+#[test]
+fn options_stand_anywhere() {
+    let folder = fresh("anywhere");
+    let hall = "hall.b3d: accepted, version 1, 1 node\n";
+    run(&folder, &["check", "hall.b3d", "--lenient"]).is(0, hall);
+    run(&folder, &["check", "--", "hall.b3d"]).is(0, hall);
+    run(&folder, &["check", "--loose", "hall.b3d"]).stops(2, "check: no option --loose");
+    run(&folder, &["list", "--", "--lenient"]).stops(2, "--lenient: ");
+    let before = run(&folder, &["mesh", "--bones", "4", "door.cmf"]);
+    let behind = run(&folder, &["mesh", "door.cmf", "--bones", "4"]);
+    assert_eq!((before.status, before.out), (0, behind.out));
+    run(&folder, &["--version"]).is(0, "kelompuris 0.1.0\n");
+    let help = run(&folder, &["--help"]).out;
+    for words in [
+        &["-h"][..],
+        &["help"],
+        &["clear", "--help"],
+        &["check", "hall.b3d", "-h"],
+    ] {
+        run(&folder, words).is(0, &help);
+    }
+}
+
+#[test]
+fn paths_do_not_steer_a_screen() {
+    let folder = fresh("paths");
+    let name = "a\u{1b}[2J\nb\u{e9}.b3d";
+    fs::copy(folder.join("hall.b3d"), folder.join(name)).unwrap();
+    let line = "a\\x1b[2J\\x0ab\u{e9}.b3d: accepted, version 1, 1 node\n";
+    run(&folder, &["check", name]).is(0, line);
 }
 
 #[test]
@@ -118,9 +147,9 @@ fn a_failing_write_leaves_nothing() {
     fs::write(folder.join("old"), "old").unwrap();
     let before = names_in(&folder);
     for target in ["new", "old"] {
-        run_on_full_disk(&folder, &["clear", "kitchen.b3d", target]).stops(2, target);
-        run_on_full_disk(&folder, &["slip", "kitchen.b3d", target]).stops(2, target);
-        run_on_full_disk(&folder, &["build", "parts", target]).stops(2, target);
+        run_on_full_disk(&folder, &["clear", "--force", "kitchen.b3d", target]).stops(2, target);
+        run_on_full_disk(&folder, &["slip", "--force", "kitchen.b3d", target]).stops(2, target);
+        run_on_full_disk(&folder, &["build", "--force", "parts", target]).stops(2, target);
         run_on_full_disk(&folder, &["tables", "kitchen.b3d", target]).stops(2, target);
         run_on_full_disk(&folder, &["skeleton", "--tables", "door.csf", target]).stops(2, target);
         run_on_full_disk(&folder, &["mesh", "--tables", "door.cmf", target]).stops(2, target);
