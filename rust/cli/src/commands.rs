@@ -106,6 +106,20 @@ pub fn label(path: &Path, out: &mut Vec<u8>) -> Result<(), Stop> {
     Ok(())
 }
 
+/// The answer in words, and of a refusal where it stands.
+pub fn explain(mode: Mode, path: &Path, out: &mut Vec<u8>) -> Result<(), Stop> {
+    let file = load(path)?;
+    let answer = judge(mode, &file);
+    add_line(out, in_words(&answer));
+    for line in crate::explain::lines(&file, answer.number, answer.place) {
+        add_line(out, line);
+    }
+    match answer.number {
+        0 => Ok(()),
+        number => Err(Stop::refused(&SCENE, path, number, answer.place)),
+    }
+}
+
 /// The first chunk of a file as far as it is there; of a file that does not begin
 /// with BB3D its first eight bytes, which have no label either.
 fn first_chunk(path: &Path) -> io::Result<Vec<u8>> {

@@ -6,6 +6,7 @@ mod answer;
 mod cal3d;
 mod columns;
 mod commands;
+mod explain;
 mod output;
 mod scene;
 mod text;
@@ -29,6 +30,9 @@ list    number and place; if accepted version and n_texs, the ten row counts
         and the name of each node
 tree    its nodes as a tree, each with its kind, mesh, weights, keys and ANIM; its
         textures and brushes
+explain
+        what `check` says of one file, and of a refusal the chunks around its
+        place and the number there; no name is told
 stream  the first three lines of `list` for a file that comes by standard input: it
         is taken N bytes at a time (1 to 65536, 200 without N) and never held
 label   number and place; if found the root's name and the vertices of its
@@ -116,6 +120,7 @@ fn run(args: &[OsString], out: &mut Vec<u8>) -> Result<(), Stop> {
         ("check", [_, ..]) => commands::check(mode, &paths, out),
         ("list", [file]) => commands::list(mode, file, out),
         ("tree", [file]) => commands::tree(mode, file, out),
+        ("explain", [file]) => commands::explain(mode, file, out),
         ("stream", []) => commands::stream(piece(&words)?, &mut io::stdin().lock(), out),
         ("label", [file]) => commands::label(file, out),
         ("tables", [file, folder]) => commands::tables(mode, file, folder),

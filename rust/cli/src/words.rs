@@ -27,10 +27,11 @@ const fn command(
     }
 }
 
-pub static COMMANDS: [Command; 11] = [
+pub static COMMANDS: [Command; 12] = [
     command("check", &["--lenient"], &[], &["[--lenient] FILE.."]),
     command("list", &["--lenient"], &[], &["[--lenient] FILE"]),
     command("tree", &["--lenient"], &[], &["[--lenient] FILE"]),
+    command("explain", &["--lenient"], &[], &["[--lenient] FILE"]),
     command("stream", &[], &["--piece"], &["[--piece N]"]),
     command("label", &[], &[], &["FILE"]),
     command("tables", &["--lenient"], &[], &["[--lenient] FILE DIR"]),

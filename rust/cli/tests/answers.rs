@@ -195,3 +195,56 @@ brush steel door
 ";
     run(&folder, &["tree", "kitchen.b3d"]).is(0, kitchen);
 }
+
+#[test]
+fn refusals_are_explained() {
+    let folder = fresh("explained");
+    let explained = |file: &[u8], told: &str| {
+        fs::write(folder.join("bad.b3d"), file).unwrap();
+        run(&folder, &["explain", "bad.b3d"]).is(1, told);
+    };
+    let vertex = "\
+7 at 149: an id that names nothing
+BB3D at 0, 145 bytes
+  NODE at 12, 133 bytes
+    MESH at 61, 84 bytes
+      TRIS at 129, 16 bytes
+a vertex id is 3, not a vertex of the same mesh
+the mesh has 3 vertices
+";
+    explained(&with(worked::t(), 149, 3), vertex);
+    let version = "\
+6 at 8: a number outside its range
+BB3D at 0, 57 bytes
+the version is 100, not 0 to 99
+";
+    explained(&with(worked::h(), 8, 100), version);
+    let cut = "\
+2 at 4: a BB3D length that is not the file size minus 8
+BB3D says 57 bytes, 52 are there: 5 are missing: the file may be cut
+";
+    explained(&worked::h()[..60], cut);
+    let door = "\
+2 at 0: a first tag that is not BB3D
+the file looks like a skeleton of cal3d: kelompuris skeleton FILE
+";
+    run(&folder, &["explain", "door.csf"]).is(1, door);
+    run(&folder, &["explain", "hall.b3d"]).is(0, "accepted, version 1, 1 node\n");
+}
+
+#[test]
+fn every_cut_and_every_changed_byte_is_explained() {
+    let folder = fresh("explained_all");
+    let kitchen = fs::read(folder.join("kitchen.b3d")).unwrap();
+    for place in (0..kitchen.len()).step_by(7) {
+        for byte in [0, 0xFF] {
+            let mut bad = kitchen.clone();
+            bad[place] = byte;
+            fs::write(folder.join("bad.b3d"), &bad).unwrap();
+            let explained = run(&folder, &["explain", "bad.b3d"]);
+            assert!(explained.status <= 1, "{place}: {explained:?}");
+        }
+        fs::write(folder.join("bad.b3d"), &kitchen[..place]).unwrap();
+        assert_eq!(run(&folder, &["explain", "bad.b3d"]).status, 1, "{place}");
+    }
+}
