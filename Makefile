@@ -1,7 +1,10 @@
 # `make demo` lists a sample, judges it piece by piece, clears it of names and writes its slip, and lists a skeleton and a mesh; `make test` is the gate.
 CLI = rust/target/release/kelompuris
 
-.PHONY: demo cli peers test
+PREFIX = /usr/local
+VERSION = $(shell sed -n 's/.define KELOMPURIS_VERSION "\(.*\)"/\1/p' include/kelompuris.h)
+
+.PHONY: demo cli install peers test
 
 demo: cli
 	$(CLI) check samples/*.b3d
@@ -18,6 +21,16 @@ demo: cli
 cli:
 	rust/build-lib
 	cd rust && cargo build --offline --release -p kelompuris-cli --target-dir target
+
+# The tool, its manual page, the header, the library and its pkg-config file; what `make cli` made.
+install:
+	install -D $(CLI) $(DESTDIR)$(PREFIX)/bin/kelompuris
+	install -D -m 644 docs/kelompuris.1 $(DESTDIR)$(PREFIX)/share/man/man1/kelompuris.1
+	install -D -m 644 include/kelompuris.h $(DESTDIR)$(PREFIX)/include/kelompuris.h
+	install -D -m 644 target/staticlib/libkelompuris_c.a $(DESTDIR)$(PREFIX)/lib/libkelompuris_c.a
+	mkdir -p $(DESTDIR)$(PREFIX)/lib/pkgconfig
+	printf 'Name: kelompuris\nDescription: B3D scenes and cal3d files, proved\nVersion: %s\nCflags: -I%s/include\nLibs: -L%s/lib -lkelompuris_c\n' \
+	    $(VERSION) $(PREFIX) $(PREFIX) > $(DESTDIR)$(PREFIX)/lib/pkgconfig/kelompuris.pc
 
 # Times beside Assimp's and Irrlicht's loaders, where libassimp-dev and libirrlicht-dev are installed.
 peers:

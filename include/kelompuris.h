@@ -21,6 +21,9 @@
 extern "C" {
 #endif
 
+/* The version of header and library: together they are one release. */
+#define KELOMPURIS_VERSION "0.1.0"
+
 /* The mode of judge, read and write. The strict one refuses a red, green, blue or alpha, of a brush or a vertex, that is not a number or lies
  * outside 0 to 1; minus zero passes. As bits, 0 to 0x3F800000 and 0x80000000 pass and nothing else does. The lenient one takes any.
  * Any other number given as a mode means strict. */
@@ -29,7 +32,28 @@ enum {
     KELOMPURIS_LENIENT = 1
 };
 
-/* What judge and read answer.
+/* What judge and read answer. The refusals are named where the first of them is told; numbers of functions below are of the same list. */
+enum {
+    KELOMPURIS_ACCEPTED = 0,
+    KELOMPURIS_FILE_SIZE = 1,
+    KELOMPURIS_FIRST_TAG = 2,
+    KELOMPURIS_CUT_CHUNK = 3,
+    KELOMPURIS_NESTING = 4,
+    KELOMPURIS_CUT_ITEM = 5,
+    KELOMPURIS_RANGE = 6,
+    KELOMPURIS_NO_SUCH_ID = 7,
+    KELOMPURIS_NO_VRTS_OR_TRIS = 8,
+    KELOMPURIS_TOO_DEEP = 9,
+    KELOMPURIS_TOO_MANY_ROWS = 10,
+    KELOMPURIS_TOO_SHORT = 11,
+    KELOMPURIS_NO_SUCH_TABLES = 12,
+    KELOMPURIS_NO_SLIP = 13,
+    KELOMPURIS_NO_LABEL = 14,
+    KELOMPURIS_CLOSED = 15,
+    KELOMPURIS_NO_TREE = 16
+};
+
+/* An answer:
  *
  * number 0: accepted. place is 0; version, n_texs (texture slots of a brush, 0 without a brush) and counts (rows of tables 1 to 10) are
  * the file's. Any other number is a refusal, and version, n_texs and counts are 0:

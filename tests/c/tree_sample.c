@@ -56,7 +56,7 @@ static uint32_t print_branch(const uint8_t *file, uint32_t *const tables[TABLES]
 /* Lends no output to learn the size, then just that much. */
 static void send_cleared(const uint8_t *file, size_t size) {
     kelompuris_written asked = kelompuris_b3d_clear(file, size, NULL, 0);
-    if (asked.number == 11) {
+    if (asked.number == KELOMPURIS_TOO_SHORT) {
         uint8_t *copy = (uint8_t *)malloc(asked.place);
         kelompuris_written written = kelompuris_b3d_clear(file, size, copy, asked.place);
         printf("cleared: %u, %u bytes of %u\n", (unsigned)written.number, (unsigned)written.size, (unsigned)size);
@@ -84,7 +84,7 @@ int main(int argc, char **argv) {
     kelompuris_answer answer = kelompuris_b3d_judge(KELOMPURIS_STRICT, file, size);
     int k;
     printf("judged: %u at %u\n", (unsigned)answer.number, (unsigned)answer.place);
-    if (answer.number != 0) {
+    if (answer.number != KELOMPURIS_ACCEPTED) {
         free(file);
         return 1;
     }
@@ -96,7 +96,7 @@ int main(int argc, char **argv) {
         KELOMPURIS_STRICT, file, size, t[0], words[0], t[1], words[1], t[2], words[2], t[3], words[3], t[4], words[4],
         t[5], words[5], t[6], words[6], t[7], words[7], t[8], words[8], t[9], words[9]);
     printf("read: %u at %u\n", (unsigned)answer.number, (unsigned)answer.place);
-    if (answer.number == 0 && answer.counts[2] > 0) {
+    if (answer.number == KELOMPURIS_ACCEPTED && answer.counts[2] > 0) {
         print_branch(file, t, 0, 0);
     }
     send_cleared(file, size);
