@@ -3,6 +3,7 @@
 
 use crate::answer::{about, in_words, Stop, SCENE};
 use crate::columns::{Table, HEAD, NODES, TABLES};
+use crate::json;
 use crate::output::{put_file, put_folder};
 use crate::scene::{self, load, name, Scene};
 use crate::text;
@@ -10,14 +11,63 @@ use kelompuris::pieces::Pieces;
 use kelompuris::{judge, read_slip, Answer, Mode};
 use std::fs::{self, File};
 use std::io::{self, ErrorKind, Read};
-use std::path::Path;
+use std::path::{Path, PathBuf};
 
-/// A line for each file: its answer in words.
-pub fn check(mode: Mode, paths: &[&Path], out: &mut Vec<u8>) -> Result<(), Stop> {
-    check_each(paths, out, |file| {
-        let answer = judge(mode, file);
-        (answer.number, in_words(&answer))
-    })
+/// A line for each file: its answer in words, or in JSON. Of a folder each scene in
+/// it and below it is taken.
+pub fn check(mode: Mode, paths: &[&Path], json: bool, out: &mut Vec<u8>) -> Result<(), Stop> {
+    let mut files = Vec::new();
+    for path in paths {
+        let before = files.len();
+        match path.is_dir() {
+            true => scenes_below(path, &mut files).map_err(|error| Stop::failed(path, error))?,
+            false => files.push(path.to_path_buf()),
+        }
+        if files.len() == before {
+            return Err(Stop::failed(path, "no .b3d in it"));
+        }
+    }
+    let files: Vec<&Path> = files.iter().map(PathBuf::as_path).collect();
+    if !json {
+        return check_each(&files, out, |file| {
+            let answer = judge(mode, file);
+            (answer.number, in_words(&answer))
+        });
+    }
+    let (mut refused, mut failed) = (0, 0);
+    for path in &files {
+        let line = match load(path) {
+            Ok(file) => {
+                let answer = judge(mode, &file);
+                refused += usize::from(answer.number != 0);
+                json::answer(path, &answer)
+            }
+            Err(Stop::Failed(why) | Stop::Refused(why)) => {
+                failed += 1;
+                json::failure(path, &why)
+            }
+        };
+        add_line(out, line);
+    }
+    verdict(files.len(), refused, failed)
+}
+
+/// The files in a folder and below it whose names end in .b3d, in order of their
+/// names. A link to a folder is not followed.
+fn scenes_below(folder: &Path, files: &mut Vec<PathBuf>) -> io::Result<()> {
+    let entries: io::Result<Vec<_>> = fs::read_dir(folder)?.collect();
+    let mut entries = entries?;
+    entries.sort_by_key(|entry| entry.file_name());
+    for entry in entries {
+        let path = entry.path();
+        let ending = path.extension().map(|ending| ending.to_ascii_lowercase());
+        if entry.file_type()?.is_dir() {
+            scenes_below(&path, files)?;
+        } else if ending.is_some_and(|ending| ending == "b3d") {
+            files.push(path);
+        }
+    }
+    Ok(())
 }
 
 /// The same for files of any kind, whose judge gives number and words.
@@ -41,7 +91,11 @@ pub fn check_each(
         };
         add_line(out, line);
     }
-    let of = paths.len();
+    verdict(paths.len(), refused, failed)
+}
+
+/// How a check of so many files ends.
+fn verdict(of: usize, refused: usize, failed: usize) -> Result<(), Stop> {
     match (refused, failed) {
         (0, 0) => Ok(()),
         (_, 0) => Err(Stop::Refused(format!("{refused} of {of} refused"))),

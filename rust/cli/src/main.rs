@@ -7,6 +7,7 @@ mod cal3d;
 mod columns;
 mod commands;
 mod explain;
+mod json;
 mod output;
 mod scene;
 mod text;
@@ -25,7 +26,8 @@ use words::{usage, Words, COMMANDS};
 
 const HELP: &str = "
 check   one line for each file: accepted and what it holds, or the refusal's
-        number, its place and what that means
+        number, its place and what that means. Of a folder it takes each .b3d in
+        it and below it. With --json a line is a JSON object
 list    number and place; if accepted version and n_texs, the ten row counts
         and the name of each node
 tree    its nodes as a tree, each with its kind, mesh, weights, keys and ANIM; its
@@ -117,7 +119,7 @@ fn run(args: &[OsString], out: &mut Vec<u8>) -> Result<(), Stop> {
     let force = words.flag("--force");
     let paths: Vec<&Path> = words.paths.iter().map(|path| path.as_path()).collect();
     match (found.name, &paths[..]) {
-        ("check", [_, ..]) => commands::check(mode, &paths, out),
+        ("check", [_, ..]) => commands::check(mode, &paths, words.flag("--json"), out),
         ("list", [file]) => commands::list(mode, file, out),
         ("tree", [file]) => commands::tree(mode, file, out),
         ("explain", [file]) => commands::explain(mode, file, out),

@@ -28,7 +28,12 @@ const fn command(
 }
 
 pub static COMMANDS: [Command; 12] = [
-    command("check", &["--lenient"], &[], &["[--lenient] FILE.."]),
+    command(
+        "check",
+        &["--lenient", "--json"],
+        &[],
+        &["[--lenient] [--json] FILE.."],
+    ),
     command("list", &["--lenient"], &[], &["[--lenient] FILE"]),
     command("tree", &["--lenient"], &[], &["[--lenient] FILE"]),
     command("explain", &["--lenient"], &[], &["[--lenient] FILE"]),

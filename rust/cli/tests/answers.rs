@@ -248,3 +248,23 @@ fn every_cut_and_every_changed_byte_is_explained() {
         assert_eq!(run(&folder, &["explain", "bad.b3d"]).status, 1, "{place}");
     }
 }
+
+#[test]
+fn folders_and_json() {
+    let folder = fresh("folders");
+    fs::create_dir_all(folder.join("rooms/upper.b3d")).unwrap();
+    fs::write(folder.join("rooms/upper.b3d/Z.B3D"), worked::h()).unwrap();
+    fs::write(folder.join("rooms/\"a\\.b3d"), &worked::h()[..11]).unwrap();
+    fs::write(folder.join("rooms/note.txt"), "no scene").unwrap();
+    let words = "1 at 0: a file size outside 12 to 16,777,216 bytes";
+    let told =
+        format!("rooms/\"a\\.b3d: {words}\nrooms/upper.b3d/Z.B3D: accepted, version 1, 1 node\n");
+    run(&folder, &["check", "rooms"]).is(1, &told);
+    let told = format!(
+        "{{\"file\":\"rooms/\\\"a\\\\.b3d\",\"number\":1,\"place\":0,\"words\":\"{words}\"}}\n\
+{{\"file\":\"rooms/upper.b3d/Z.B3D\",\"number\":0,\"place\":0,\"words\":\"accepted, version 1, 1 node\",\
+\"version\":1,\"n_texs\":0,\"textures\":0,\"brushes\":0,\"nodes\":1,\"meshes\":0,\"vertices\":0,\
+\"triangle_sets\":0,\"triangles\":0,\"weights\":0,\"key_lists\":0,\"keys\":0}}\n"
+    );
+    run(&folder, &["check", "--json", "rooms"]).is(1, &told);
+}

@@ -1,0 +1,37 @@
+//! Answers for programs: one JSON object on a line for each file.
+
+use crate::answer::{in_words, printable};
+use crate::columns::TABLES;
+use kelompuris::Answer;
+use std::path::Path;
+
+/// A file and its answer. On a refusal there are no counts.
+pub fn answer(path: &Path, answer: &Answer) -> String {
+    let Answer { number, place, .. } = answer;
+    let mut cells = vec![
+        format!("\"file\":{}", text(&printable(path))),
+        format!("\"number\":{number}"),
+        format!("\"place\":{place}"),
+        format!("\"words\":{}", text(&in_words(answer))),
+    ];
+    if answer.number == 0 {
+        cells.push(format!("\"version\":{}", answer.version));
+        cells.push(format!("\"n_texs\":{}", answer.n_texs));
+        for (table, count) in TABLES.iter().zip(answer.counts) {
+            cells.push(format!("{}:{count}", text(&table.many.replace(' ', "_"))));
+        }
+    }
+    format!("{{{}}}", cells.join(","))
+}
+
+/// A file that cannot be read.
+pub fn failure(path: &Path, why: &str) -> String {
+    let (file, why) = (text(&printable(path)), text(why));
+    format!("{{\"file\":{file},\"error\":{why}}}")
+}
+
+/// A text without control letters in quotes.
+fn text(text: &str) -> String {
+    let text = text.replace('\\', "\\\\").replace('"', "\\\"");
+    format!("\"{text}\"")
+}
