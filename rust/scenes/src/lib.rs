@@ -8,6 +8,8 @@
 //! - `labels`: files for the tray label, with labels made by hand.
 //! - `rows`: files with a given number of rows in one table.
 //! - `nesting`: known chunks in any order inside one chunk.
+//! - `pairs`: two files that differ in a few cells, with the list of these.
+//! - `groups`: numbers in groups of seven bits.
 //! - `private`: files that differ only in what a clearer drops.
 //! - `words`: damaged tables for a writer.
 //! - `worked`: the worked files and cases of paper 01.
@@ -19,9 +21,11 @@ pub mod change;
 pub mod chunk;
 pub mod colour;
 pub mod damage;
+pub mod groups;
 pub mod labels;
 pub mod make;
 pub mod nesting;
+pub mod pairs;
 pub mod private;
 pub mod rebuild;
 pub mod rng;
