@@ -5,12 +5,15 @@
 //! Reading: `parse` makes a `scene` (refusals 1 to 9), `tables` counts its rows
 //! (10) and fills them. Writing: `soundness` judges lent tables (12), `encode`
 //! makes the bytes. Reader and writer take a mode: whether colours are judged.
-//! `label` walks headers by itself.
+//! `label` walks headers by itself. `compare` lists what differs between the words of
+//! two files.
 //! `cal3d` reads skeletons and meshes of another format.
 
 pub mod cal3d;
 mod chunks;
+mod compare;
 mod encode;
+mod groups;
 mod label;
 mod layout;
 mod lent;
@@ -25,6 +28,7 @@ mod slip;
 mod soundness;
 mod tables;
 
+use compare::Side;
 use lent::Lent;
 use limits::{BRUSHES, NODES, ROW_WORDS, TEXTURES};
 use refusal::{Refusal, SHORT, UNSOUND};
@@ -63,6 +67,16 @@ pub struct Written {
     pub number: u32,
     pub place: u32,
     pub size: u32,
+}
+
+/// What a comparison is answered: a refusal of the first or the second file says
+/// which. The size is 0 on refusal.
+#[derive(Clone, Copy, Debug, Default, PartialEq, Eq)]
+pub struct Compared {
+    pub number: u32,
+    pub which: u32,
+    pub place: u64,
+    pub size: u64,
 }
 
 /// Judges a file without tables: refusals 1 to 10.
@@ -163,6 +177,34 @@ pub fn slip_of(file: &[u8], out: &mut [u8]) -> Written {
     let mut numbers = [answer.version, answer.n_texs, 0, 0, 0, 0, 0, 0, 0, 0, 0, 0];
     numbers[2..].copy_from_slice(&answer.counts);
     write_slip(&numbers, out)
+}
+
+/// Lists what differs between two files, judged leniently: the first one's refusals
+/// 1 to 10, then the second's, then 11. A refused call changes no byte, and bytes
+/// past the size stay as found.
+pub fn compare(first: &[u8], second: &[u8], out: &mut [u8]) -> Compared {
+    let refused = |which, number, place: usize| Compared {
+        number,
+        which,
+        place: place as u64,
+        size: 0,
+    };
+    let mut sides = Vec::new();
+    for (which, file) in [(1, first), (2, second)] {
+        match accept(Mode::Lenient, file) {
+            Ok(words) => sides.push(Side { words, file }),
+            Err(refusal) => return refused(which, refusal.number, refusal.place),
+        }
+    }
+    let list = compare::list(&sides[0], &sides[1]);
+    if out.len() < list.len() {
+        return refused(0, SHORT, list.len());
+    }
+    out[..list.len()].copy_from_slice(&list);
+    Compared {
+        size: list.len() as u64,
+        ..Compared::default()
+    }
 }
 
 /// An accepted file's words: all that the reader gives.

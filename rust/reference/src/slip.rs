@@ -3,6 +3,7 @@
 //! exactly if no number in its range has bytes that begin so: all that are
 //! right stand in a list.
 
+use crate::groups::{grouped, groups};
 use crate::limits::{HIGHEST_VERSION, MOST_ROWS, MOST_SLOTS};
 use crate::refusal::{refuse, Refusal, SLIP};
 use std::collections::HashMap;
@@ -15,20 +16,6 @@ fn highest(position: usize) -> u32 {
         1 => MOST_SLOTS,
         _ => MOST_ROWS as u32,
     }
-}
-
-/// The shortest bytes of a number: the highest group first, the top bit set on
-/// all but the last.
-fn groups(number: u32) -> Vec<u8> {
-    let mut bytes: Vec<u8> = Vec::new();
-    for shift in [28, 21, 14, 7, 0] {
-        let group = (number >> shift & 0x7F) as u8;
-        if group != 0 || !bytes.is_empty() || shift == 0 {
-            bytes.push(group | 0x80);
-        }
-    }
-    *bytes.last_mut().expect("a last group") &= 0x7F;
-    bytes
 }
 
 /// What right bytes are: all of a number, or the first of some number.
@@ -97,5 +84,5 @@ pub fn write(numbers: &[u32; 12]) -> Result<Vec<u8>, Refusal> {
     if let Some(position) = (0..12).find(out) {
         return refuse(SLIP, position);
     }
-    Ok(numbers.iter().flat_map(|&number| groups(number)).collect())
+    Ok(grouped(numbers))
 }
