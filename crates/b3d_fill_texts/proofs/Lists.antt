@@ -90,7 +90,7 @@ brushes-are : (k p : ℕ) (s : List ℕ) → k ≤ 8 → brushesOf k p s ≡ map
 unfolding brushesOf if
 brushes-are k p s h = rw (le-leb k 8 h) (map-two brushRow brushOf (namedItems (7 + k) p s) ∙ each-item (7 + k) (λ x. brushRow (brushOf x)) (8 - k) (brush-row k) p s)
 
-no-brushes : (k p : ℕ) (s : List ℕ) → 8 < k → brushesOf k p s ≡ []
+pub no-brushes : (k p : ℕ) (s : List ℕ) → 8 < k → brushesOf k p s ≡ []
 unfolding brushesOf if
 no-brushes k p s h = rw (lt-leb k 8 h)
 
@@ -127,7 +127,7 @@ module _ (s : List ℕ) (k : Tag) (one : ℕ → List ℕ → List (List ℕ)) (
   found : (y : Sought) → r ≡ y → firstOf k one (rest s 12) ≡ firstOf k one (soughtOf s k y)
   found y w = first-seek k one (rest s 12) ∙ ap (firstOf k one) (x .says ∙ ap (soughtOf s k) w)
 
-  first-none : r ≡ sought.Nothing → firstOf k one (rest s 12) ≡ []
+  pub first-none : r ≡ sought.Nothing → firstOf k one (rest s 12) ≡ []
   unfolding firstOf
   first-none w = found sought.Nothing w
 
@@ -142,11 +142,11 @@ unfolding joined
 none-put l e out = sym (ap (λ y. sets out 0 (joined y)) e)
 
 module _ (s out : List ℕ) where
-  file-one : fileRows 1 s ≡ firstOf TEXS textureRows (rest s 12)
+  pub file-one : fileRows 1 s ≡ firstOf TEXS textureRows (rest s 12)
   unfolding fileRows if
   file-one = refl
 
-  file-two : fileRows 2 s ≡ firstOf BRUS brushRows (rest s 12)
+  pub file-two : fileRows 2 s ≡ firstOf BRUS brushRows (rest s 12)
   unfolding fileRows if
   file-two = refl
 
@@ -159,7 +159,7 @@ module _ (s out : List ℕ) where
         pub textures-body : Inside b (length s)
         textures-body = let y = x .body p b n w in record { before = y .room; within = y .within }
 
-        rows-are : fileRows 1 s ≡ map (namedRow 0) (namedItems 7 (b .at) (left b s))
+        pub rows-are : fileRows 1 s ≡ map (namedRow 0) (namedItems 7 (b .at) (left b s))
         rows-are =
             let y = x .body p b n w in
             file-one ∙ first-is s TEXS textureRows r x p b n w ∙ textures-are p (left b s) ∙ ap (λ (k : ℕ). map (namedRow 0) (namedItems 7 k (left b s))) (sym (y .head))
@@ -182,7 +182,7 @@ module _ (s out : List ℕ) where
           pub brushes-rest : Inside (h .rest) (length s)
           brushes-rest = f .inside
 
-          head-is : fileRows 2 s ≡ brushesOf (h .word) (p + 12) (drop 4 (left b s))
+          pub head-is : fileRows 2 s ≡ brushesOf (h .word) (p + 12) (drop 4 (left b s))
           unfolding brushRows
           head-is = file-two ∙ first-is s BRUS brushRows r x p b n w ∙ ap (λ (k : ℕ). brushesOf k (p + 12) (drop 4 (left b s))) (sym (f .number))
 
@@ -190,7 +190,7 @@ module _ (s out : List ℕ) where
           brushes-over k = none-put (fileRows 2 s) (head-is ∙ no-brushes (h .word) (p + 12) (drop 4 (left b s)) k) out
 
           module _ (k : h .word ≤ 8) (ids : ℕ) (ei : ids ≡ h .word) where
-            texts-are : fileRows 2 s ≡ map (namedRow (8 - ids)) (namedItems (7 + ids) (h .rest .at) (left (h .rest) s))
+            pub texts-are : fileRows 2 s ≡ map (namedRow (8 - ids)) (namedItems (7 + ids) (h .rest .at) (left (h .rest) s))
             texts-are =
                 let y = x .body p b n w in
                 let q : b .at + 4 ≡ p + 12 = omega (arith, y .head) in

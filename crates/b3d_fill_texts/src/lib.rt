@@ -17,7 +17,7 @@ use b3d_walk::Sought;
 use wire::Cursor;
 
 // A row: the cells of a name, so many words of the file, so many cells that name nothing. Gives the place of the next row.
-fn put_row(
+pub fn put_row(
     file: &[u8],
     place: usize,
     size: usize,
@@ -63,7 +63,7 @@ fn fill_named(file: &[u8], from: Cursor, n: usize, rest: usize, out: &mut [u32])
 }
 
 // The first chunk of a tag behind the head of a file.
-fn first_chunk(file: &[u8], tag: Tag) -> Sought
+pub fn first_chunk(file: &[u8], tag: Tag) -> Sought
     ensures { λ r. ⌜ FirstIs (now (file .entry)) tag r ⌝ }
 {
     let end = file.len();

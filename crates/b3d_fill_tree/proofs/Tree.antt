@@ -70,7 +70,7 @@ linked-after s rows put p q le (o ∷ l) same h =
 -- ---- a row
 
 -- it tells of two counts alone
-row-told : (o : Out (Step (Name × List ℕ))) (cs : Chunks) (parent end : ℕ) (n : Counts) → rowOf o cs parent end n ≡ rowOf o cs parent end (told (n .meshes) (n .weights))
+pub row-told : (o : Out (Step (Name × List ℕ))) (cs : Chunks) (parent end : ℕ) (n : Counts) → rowOf o cs parent end n ≡ rowOf o cs parent end (told (n .meshes) (n .weights))
 unfolding rowOf nodeRow kindCells told
 row-told (bad i p) cs parent end n = refl
 row-told (got x) cs parent end n = ap (λ (l : List ℕ). nameCells (x .value .0) ++ (parent ∷ (x .value .1 ++ (l ++ (animCells (animOf cs) ++ (nodesBefore end cs ∷ [])))))) (cells (kindOf cs))
@@ -81,13 +81,13 @@ row-told (got x) cs parent end n = ap (λ (l : List ℕ). nameCells (x .value .0
     cells (bone ws) = refl
 
 -- a row of all its cells, the first and the third being these
-record Row (place parent : ℕ) (row : List ℕ) : Type 0 where
-  size : ℕ
-  others : List ℕ
-  is : row ≡ place ∷ size ∷ parent ∷ others
-  long : length row ≡ nodeWidth
+pub record Row (place parent : ℕ) (row : List ℕ) : Type 0 where
+  pub size : ℕ
+  pub others : List ℕ
+  pub is : row ≡ place ∷ size ∷ parent ∷ others
+  pub long : length row ≡ nodeWidth
 
-row-of : (s : List ℕ) (p : ℕ) (b : Cursor) → NodeRead s p b → (cs : Chunks) (parent end : ℕ) (n : Counts) → Row (p + 8) parent (rowOf (named nodeWords (p + 8) (left b s)) cs parent end n)
+pub row-of : (s : List ℕ) (p : ℕ) (b : Cursor) → NodeRead s p b → (cs : Chunks) (parent end : ℕ) (n : Counts) → Row (p + 8) parent (rowOf (named nodeWords (p + 8) (left b s)) cs parent end n)
 unfolding rowOf nodeRow nameCells
 row-of s p b x cs parent end n =
     let ws = x .step .value .1 in

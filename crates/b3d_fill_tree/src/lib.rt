@@ -19,7 +19,7 @@ use b3d_walk::Flat;
 use wire::Cursor;
 
 // The row of a NODE whose own chunks begin at `next`, from word `base` of the table on.
-fn put_node(
+pub fn put_node(
     file: &[u8],
     p: usize,
     body: Cursor,

@@ -1,0 +1,2 @@
+-- The loop of `meet`.
+pub mod Meetings

@@ -1,0 +1,2 @@
+-- The next chunk of a tag in the flat run.
+pub mod Meeting

@@ -1,0 +1,3 @@
+-- A law for each need of the functions.
+pub mod Chunks
+pub mod Sets

@@ -1,0 +1,2 @@
+-- The next row of tables that have a row for a chunk.
+pub mod NextChunk

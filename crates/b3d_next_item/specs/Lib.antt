@@ -1,0 +1,2 @@
+-- The next row of a table of items.
+pub mod NextItem

@@ -1,0 +1,2 @@
+-- The next row of table 3.
+pub mod NextNode

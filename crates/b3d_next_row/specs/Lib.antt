@@ -1,0 +1,2 @@
+-- The rows of any table one after the other.
+pub mod NextRow

@@ -1,0 +1,2 @@
+-- The nodes that are open at a place.
+pub mod OpenNodes

@@ -1,0 +1,2 @@
+-- Rows that are still to come from a spot.
+pub mod Spots
