@@ -297,6 +297,35 @@ typedef struct {
  */
 kelompuris_label kelompuris_b3d_label(const uint8_t *file, size_t file_len);
 
+/* What a comparison is answered.
+ *
+ * number 0: written. place and which are 0; size is the number of bytes of the list, 0 if nothing differs. Any other number is a refusal, and
+ * size is 0: 1 to 10 are those of kelompuris_b3d_judge in lenient mode, with which 1 for the first file and 2 for the second, the first one's
+ * coming first; then 11 with which 0, where place is the size needed.
+ */
+typedef struct {
+    uint32_t number, which;
+    uint64_t place, size;
+} kelompuris_compared;
+
+/* Lists what differs between two files: answers 0 or 1 to 11.
+ *
+ * The list is entries one behind the other, in order of table, row and word. An entry is five numbers, each in groups of seven bits as those of
+ * slips are: table, row and word, then the cell of the first file and that of the second. Floats are held by their bits and compared by them, so
+ * the two zeros differ and each NaN is as good as another number.
+ *   - If any of version, n_texs and the ten counts differs, the list has those and nothing else: table 0, row 0, words 0 to 11.
+ *   - Otherwise tables are 1 to 10, rows and words count from 0, and all cells that differ are there, once each.
+ *   - A name is word 0 of its row; its place and its length are no cells. The two numbers are the lengths of both names, and behind them stand
+ *     the bytes of both. Names are compared by their bytes.
+ * So the list is empty exactly if the tables are the same, name places aside. What the tables do not have is not compared: chunks of other tags,
+ * and where ANIM stands among KEYS.
+ *
+ * Written: the output's bytes behind the size stay as they were. Refused, also by 11: the whole output stays as it was.
+ * The files are not written; the same file may be lent as both.
+ */
+kelompuris_compared kelompuris_b3d_compare(
+    const uint8_t *first, size_t first_len, const uint8_t *second, size_t second_len, uint8_t *out, size_t out_len);
+
 /* A file in pieces, for a terminal that is handed a file some bytes at a time and cannot hold it.
  *
  *     kelompuris_b3d_open_chunk row[KELOMPURIS_B3D_OPEN_CHUNKS];

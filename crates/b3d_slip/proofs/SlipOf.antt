@@ -52,20 +52,20 @@ module _ (s out : List ℕ) where
   got-slip t e = rw e
 
   -- what was answered, by what the file is
-  record Refused (a : Answer) : Type 0 where
-    is : judge Lenient s ≡ bad (a .number) (a .place)
+  pub record Refused (a : Answer) : Type 0 where
+    pub is : judge Lenient s ≡ bad (a .number) (a .place)
 
-  record Accepted (a : Answer) : Type 0 where
-    scene : Scene
-    is : judge Lenient s ≡ got scene
-    numbers : a .version ∷ a .«n_texs» ∷ a .counts ≡ sceneNumbers scene
+  pub record Accepted (a : Answer) : Type 0 where
+    pub scene : Scene
+    pub is : judge Lenient s ≡ got scene
+    pub numbers : a .version ∷ a .«n_texs» ∷ a .counts ≡ sceneNumbers scene
 
-  refused-as : (o : Out Scene) → judge Lenient s ≡ o → (a : Answer) → a ≡ answer o → (a .number ≡ 0 → ⊥) → Refused a
+  pub refused-as : (o : Out Scene) → judge Lenient s ≡ o → (a : Answer) → a ≡ answer o → (a .number ≡ 0 → ⊥) → Refused a
   unfolding answer
   refused-as (got t) e a h d = absurd (d (ap (λ (x : Answer). x .number) h))
   refused-as (bad n p) e a h d = rw h (record { is = e })
 
-  accepted-as : (o : Out Scene) → judge Lenient s ≡ o → (a : Answer) → a ≡ answer o → a .number ≡ 0 → Accepted a
+  pub accepted-as : (o : Out Scene) → judge Lenient s ≡ o → (a : Answer) → a ≡ answer o → a .number ≡ 0 → Accepted a
   unfolding answer
   accepted-as (got t) e a h z = record { scene = t; is = e; numbers = rw h }
   accepted-as (bad n p) e a h z =

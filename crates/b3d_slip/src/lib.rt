@@ -7,7 +7,7 @@ use b3d_scene::Mode;
 use b3d_scene::Written;
 
 // The twelve numbers of an answer.
-fn numbers_of(a: Answer) -> [u32; 12]
+pub fn numbers_of(a: Answer) -> [u32; 12]
     ensures { λ r. ⌜ r ≡ a .version ∷ a .«n_texs» ∷ a .counts ⌝ }
 {
     let c = a.counts;

@@ -63,6 +63,22 @@ impl Table {
         names.collect::<Vec<_>>().join("\t")
     }
 
+    /// The kind and the name of the column that begins at a word, with spaces in the
+    /// name.
+    pub fn column(&self, word: usize) -> Option<(Kind, String)> {
+        let mut start = 0;
+        for group in self.groups {
+            for part in group.parts {
+                if start == word {
+                    let name = format!("{} {part}", group.name).replace('_', " ");
+                    return Some((group.kind, name.trim_end().to_string()));
+                }
+                start += group.kind.words();
+            }
+        }
+        None
+    }
+
     /// The file that holds the table as text.
     pub fn file_name(&self) -> String {
         format!("{}.tsv", self.many.replace(' ', "_"))

@@ -42,7 +42,7 @@ pub fn check(mode: Mode, paths: &[&Path], json: bool, out: &mut Vec<u8>) -> Resu
                 refused += usize::from(answer.number != 0);
                 json::answer(path, &answer)
             }
-            Err(Stop::Failed(why) | Stop::Refused(why)) => {
+            Err(Stop::Failed(why) | Stop::Refused(why) | Stop::Found(why)) => {
                 failed += 1;
                 json::failure(path, &why)
             }
@@ -84,7 +84,7 @@ pub fn check_each(
                 refused += usize::from(number != 0);
                 about(path, words)
             }
-            Err(Stop::Failed(line) | Stop::Refused(line)) => {
+            Err(Stop::Failed(line) | Stop::Refused(line) | Stop::Found(line)) => {
                 failed += 1;
                 line
             }
@@ -286,14 +286,19 @@ fn accepted(mode: Mode, path: &Path, file: Vec<u8>, answer: &Answer) -> Result<S
 
 /// `unnamed` if empty, bytes outside 32 to 126 as `?`.
 pub fn shown(name: &[u8]) -> String {
-    let shown = |&byte: &u8| match byte {
+    match name {
+        [] => "unnamed".to_string(),
+        _ => plain(name),
+    }
+}
+
+/// Bytes outside 32 to 126 as `?`.
+pub fn plain(name: &[u8]) -> String {
+    let plain = |&byte: &u8| match byte {
         32..=126 => byte as char,
         _ => '?',
     };
-    match name {
-        [] => "unnamed".to_string(),
-        _ => name.iter().map(shown).collect(),
-    }
+    name.iter().map(plain).collect()
 }
 
 pub fn add_numbers(out: &mut Vec<u8>, numbers: &[u32]) {

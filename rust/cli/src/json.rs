@@ -31,7 +31,7 @@ pub fn failure(path: &Path, why: &str) -> String {
 }
 
 /// A text without control letters in quotes.
-fn text(text: &str) -> String {
+pub fn text(text: &str) -> String {
     let text = text.replace('\\', "\\\\").replace('"', "\\\"");
     format!("\"{text}\"")
 }

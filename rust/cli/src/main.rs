@@ -1,12 +1,14 @@
 //! `kelompuris`: B3D scene files checked, also as they come, listed, labelled, taken apart, put
-//! together and cleared of names, and their slips; skeletons and meshes of cal3d
+//! together, cleared of names and compared, and their slips; skeletons and meshes of cal3d
 //! checked, listed and taken apart; all by the proved functions.
 
 mod answer;
 mod cal3d;
 mod columns;
 mod commands;
+mod diff;
 mod explain;
+mod groups;
 mod json;
 mod output;
 mod scene;
@@ -46,6 +48,10 @@ clear   a copy without names and without chunks of other tags
 slip    the slip of a file: version, n_texs and the ten row counts in 12 to 32
         bytes; with --show, number and place of a slip, and if it is accepted
         its numbers, as `list` prints them
+diff    what differs between two files, a line for each cell, or with --json a JSON
+        object: its table and row, counted from 0, what it means and both values.
+        If version, n_texs or the numbers of rows differ, only these are told. With
+        --raw the list is written to OUT too, in groups of seven bits
 skeleton
         of a skeleton of cal3d (CSF version 1300): number and place; if accepted
         the header's numbers, the two row counts, and its bones as trees, a bone
@@ -59,7 +65,7 @@ mesh    the same of a mesh of cal3d (CMF version 700), with six row counts and a
         it is 16,383, the most that a skeleton can have
 
 A red, green, blue or alpha that is not a number or lies outside 0 to 1 is
-refused; with --lenient any is taken. `clear` and `slip` take any.
+refused; with --lenient any is taken. `clear`, `slip` and `diff` take any.
 
 In the texts of `tables` the first line has the column names, and a tab stands
 between cells. Whole numbers are signed decimals, so NONE is -1. A float is its
@@ -69,7 +75,7 @@ name the backslash and bytes outside 33 to 126 are \\xNN, so a space is \\x20.
 A file that stands at OUT is replaced only with --force. A command that is refused
 or fails writes no file. Options may stand anywhere; behind -- nothing is one.
 Exit status: 0 accepted, 1 refused, 2 wrong usage or a file that cannot be read
-or written.
+or written. Of `diff` 0 nothing differs, 1 something does, 2 refused too.
 ";
 
 fn main() -> ExitCode {
@@ -80,7 +86,7 @@ fn main() -> ExitCode {
     let printed = printed.map_err(|error| Stop::Failed(format!("standard output: {error}")));
     let (why, status) = match printed.and(done) {
         Ok(()) => return ExitCode::SUCCESS,
-        Err(Stop::Refused(why)) => (why, 1),
+        Err(Stop::Refused(why) | Stop::Found(why)) => (why, 1),
         Err(Stop::Failed(why)) => (why, 2),
     };
     // Nothing is left to tell if this cannot be written either.
@@ -130,6 +136,10 @@ fn run(args: &[OsString], out: &mut Vec<u8>) -> Result<(), Stop> {
         ("clear", [file, target]) => commands::clear(file, target, force),
         ("slip", [slip]) if words.flag("--show") && !force => commands::show_slip(slip, out),
         ("slip", [file, target]) if !words.flag("--show") => commands::slip(file, target, force),
+        ("diff", [old, new]) => {
+            let raw = words.value("--raw")?.map(Path::new);
+            diff::diff([old, new], raw, words.flag("--json"), force, out)
+        }
         ("skeleton", paths) => on_cal3d(&words, Kind::Skeleton, paths, out),
         ("mesh", paths) => {
             let bones = cal3d::bones(&words)?;

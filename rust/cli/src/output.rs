@@ -4,6 +4,7 @@
 use crate::answer::Stop;
 use std::fs::{self, File};
 use std::io::{self, Error, ErrorKind, Write};
+use std::os::unix::fs::MetadataExt;
 use std::path::{Path, PathBuf};
 use std::process;
 
@@ -24,6 +25,33 @@ pub fn put_file(path: &Path, bytes: &[u8], force: bool) -> Result<(), Stop> {
         done.inspect_err(|_| drop(fs::remove_file(&part)))
     };
     put().map_err(|error| Stop::failed(path, error))
+}
+
+/// Refuses an output that is what is to be kept.
+pub fn keep(kept: &Path, target: &Path) -> Result<(), Stop> {
+    match same_file(kept, target) {
+        true => Err(Stop::failed(target, "would be written over what is read")),
+        false => Ok(()),
+    }
+}
+
+/// Whether two paths lead to one file, or would if it were made.
+fn same_file(one: &Path, other: &Path) -> bool {
+    let place = |path: &Path| {
+        let folder = match path.parent() {
+            Some(folder) if folder != Path::new("") => folder,
+            _ => Path::new("."),
+        };
+        Some((fs::canonicalize(folder).ok()?, path.file_name()?.to_owned()))
+    };
+    let found = |path: &Path| {
+        let found = fs::metadata(path).ok()?;
+        Some((found.dev(), found.ino()))
+    };
+    match (found(one), found(other)) {
+        (Some(one), Some(other)) => one == other,
+        _ => place(one).is_some() && place(one) == place(other),
+    }
 }
 
 /// Puts a folder of these names and texts there. An empty one may stand there

@@ -27,7 +27,7 @@ const fn command(
     }
 }
 
-pub static COMMANDS: [Command; 12] = [
+pub static COMMANDS: [Command; 13] = [
     command(
         "check",
         &["--lenient", "--json"],
@@ -52,6 +52,12 @@ pub static COMMANDS: [Command; 12] = [
         &["--force", "--show"],
         &[],
         &["[--force] FILE OUT", "--show SLIP"],
+    ),
+    command(
+        "diff",
+        &["--json", "--force"],
+        &["--raw"],
+        &["[--json] [--raw OUT [--force]] OLD NEW"],
     ),
     command(
         "skeleton",

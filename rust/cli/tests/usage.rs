@@ -8,7 +8,7 @@ use std::fs;
 #[test]
 fn wrong_use() {
     let folder = fresh("wrong_use");
-    let wrong: [&[&str]; 33] = [
+    let wrong: [&[&str]; 36] = [
         &[],
         &["check"],
         &["list"],
@@ -22,6 +22,9 @@ fn wrong_use() {
         &["slip", "hall.b3d"],
         &["slip", "--show"],
         &["slip", "--show", "a", "b"],
+        &["diff", "hall.b3d"],
+        &["diff", "--lenient", "hall.b3d", "hall.b3d"],
+        &["diff", "hall.b3d", "hall.b3d", "--raw"],
         &["skeleton"],
         &["skeleton", "door.csf", "door.csf"],
         &["skeleton", "--check"],
@@ -55,7 +58,8 @@ fn help_names_all_commands() {
     let help = run(&fresh("help"), &["--help"]);
     assert_eq!((help.status, help.err.as_str()), (0, ""));
     let commands = [
-        "check", "list", "tree", "label", "tables", "build", "clear", "slip", "skeleton", "mesh",
+        "check", "list", "tree", "label", "tables", "build", "clear", "slip", "diff", "skeleton",
+        "mesh",
     ];
     for command in commands {
         let line = |line: &str| line.split(' ').next() == Some(command);
@@ -108,6 +112,7 @@ fn files_that_cannot_be_read() {
         run(&folder, &["clear", missing, "out"]).stops(2, missing);
         run(&folder, &["slip", missing, "out"]).stops(2, missing);
         run(&folder, &["slip", "--show", missing]).stops(2, missing);
+        run(&folder, &["diff", "hall.b3d", missing]).stops(2, missing);
         run(&folder, &["skeleton", missing]).stops(2, missing);
         run(&folder, &["skeleton", "--tables", missing, "out"]).stops(2, missing);
         run(&folder, &["mesh", missing]).stops(2, missing);
@@ -127,6 +132,7 @@ fn places_that_cannot_be_written() {
         run(&folder, &["clear", "hall.b3d", target]).stops(2, target);
         run(&folder, &["slip", "hall.b3d", target]).stops(2, target);
         run(&folder, &["build", "t", target]).stops(2, target);
+        run(&folder, &["diff", "hall.b3d", "hall.b3d", "--raw", target]).stops(2, target);
         run(&folder, &["tables", "hall.b3d", target]).stops(2, target);
         run(&folder, &["skeleton", "--tables", "door.csf", target]).stops(2, target);
         run(&folder, &["mesh", "--tables", "door.cmf", target]).stops(2, target);

@@ -4,6 +4,7 @@
 //!
 //! - here: judging and reading; the tray label.
 //! - `cal3d`: skeletons and meshes of cal3d.
+//! - `diff`: comparing two files.
 //! - `lent`: tables to lend, and what becomes of them.
 //! - `output`: writing, clearing and slips of files.
 //! - `pieces`: a file in pieces.
@@ -11,6 +12,7 @@
 //! - `run`: runs groups of comparisons and prints what was compared.
 
 mod cal3d;
+mod diff;
 mod lent;
 mod output;
 pub mod pieces;
@@ -38,7 +40,7 @@ pub struct Compared {
     pub reads: usize,
     /// Words of tables, those around the rows too.
     pub words: usize,
-    /// Calls with an output: writer, clearer, slips.
+    /// Calls with an output: writer, clearer, slips, comparing.
     pub outputs: usize,
     /// Bytes of outputs, those around them too.
     pub bytes: usize,

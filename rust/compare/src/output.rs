@@ -132,10 +132,9 @@ impl Compared {
     /// and the bytes written.
     fn output(&mut self, call: Call, size: usize) -> Result<(Written, Vec<u8>), Disagreement> {
         self.outputs += 1;
-        let fill: Vec<u8> = (0..size + 2 * AROUND).map(pattern).collect();
-        let (mut proved, mut plain) = (fill.clone(), fill);
-        let answer = call.proved(&mut proved[AROUND..AROUND + size]);
-        let expected = call.plain(&mut plain[AROUND..AROUND + size]);
+        let (mut proved, mut plain) = (Lent::new(size), Lent::new(size));
+        let answer = call.proved(proved.part());
+        let expected = call.plain(plain.part());
         self.count(answer.number);
         self.bytes += proved.len();
         let about = format!("output of {size} bytes");
@@ -143,16 +142,50 @@ impl Compared {
             let values = format!("proved {answer:?}, reference {expected:?}");
             return call.disagree(format!("{about}: {values}"));
         }
-        if let Some(at) = (0..proved.len()).find(|&at| proved[at] != plain[at]) {
-            let values = format!("proved {:#x}, reference {:#x}", proved[at], plain[at]);
-            let at = at as isize - AROUND as isize;
-            return call.disagree(format!("{about}: byte {at}: {values}"));
+        let written = answer.size as usize;
+        match proved.wrong(&plain, written) {
+            None => Ok((answer, proved.written(written))),
+            Some(wrong) => call.disagree(format!("{about}: {wrong}")),
         }
-        let end = AROUND + answer.size as usize;
-        let mut outside = (0..AROUND).chain(end..proved.len());
-        match outside.all(|at| proved[at] == pattern(at)) {
-            true => Ok((answer, proved[AROUND..end].to_vec())),
-            false => call.disagree(format!("{about}: changed outside the bytes written")),
+    }
+}
+
+/// A lent output, with bytes before and behind it.
+pub struct Lent(Vec<u8>);
+
+impl Lent {
+    pub fn new(size: usize) -> Lent {
+        Lent((0..size + 2 * AROUND).map(pattern).collect())
+    }
+
+    /// The output.
+    pub fn part(&mut self) -> &mut [u8] {
+        let end = self.0.len() - AROUND;
+        &mut self.0[AROUND..end]
+    }
+
+    /// Its bytes, those around it too.
+    pub fn len(&self) -> usize {
+        self.0.len()
+    }
+
+    /// What was written: so many bytes from its start.
+    pub fn written(&self, size: usize) -> Vec<u8> {
+        self.0[AROUND..AROUND + size].to_vec()
+    }
+
+    /// Where it is not as the reference's, or changed outside what was written.
+    pub fn wrong(&self, plain: &Lent, size: usize) -> Option<String> {
+        if let Some(at) = (0..self.0.len()).find(|&at| self.0[at] != plain.0[at]) {
+            let values = format!("proved {:#x}, reference {:#x}", self.0[at], plain.0[at]);
+            let at = at as isize - AROUND as isize;
+            return Some(format!("byte {at}: {values}"));
+        }
+        let end = AROUND + size;
+        let mut outside = (0..AROUND).chain(end..self.0.len());
+        match outside.all(|at| self.0[at] == pattern(at)) {
+            true => None,
+            false => Some("changed outside the bytes written".to_string()),
         }
     }
 }

@@ -3,6 +3,9 @@
 
 pub mod cal3d;
 pub mod pieces;
+mod planner;
+
+pub use planner::{compare, Compared};
 
 /// Whether a red, green, blue or alpha outside 0 to 1 is refused.
 #[repr(u32)]

@@ -5,7 +5,7 @@ use std::path::Path;
 use std::process::Command;
 
 /// Each program and what it prints.
-const SAMPLES: [(&str, &str); 6] = [
+const SAMPLES: [(&str, &str); 7] = [
     (
         "read_sample",
         "\
@@ -64,6 +64,17 @@ cut slip: 13 14, 0 0 0 0 0 0 0 0 0 0 0 0
 spare byte: 13 15, 0 0 0 0 0 0 0 0 0 0 0 0
 four groups: 13 2, 0 0 0 0 0 0 0 0 0 0 0 0
 no slip: 13 0, 0 0 0 0 0 0 0 0 0 0 0 0
+",
+    ),
+    (
+        "compare_sample",
+        "\
+same: 0 0 0 0, 77 77 77 77 77 77 77 77 77 77 77 77 77 77 77 77 77 77 77 77 77 77 77 77
+version: 0 0 0 5, 0 0 0 1 9 77 77 77 77 77 77 77 77 77 77 77 77 77 77 77 77 77 77 77
+name and position: 0 0 0 22, 3 0 0 4 4 72 97 108 108 66 97 108 108 3 0 3 0 136 128 128 128 0 77 77
+short: 11 22 0 0, 77 77 77 77 77 77 77 77 77 77 77 77 77 77 77 77 77 77 77 77 77 77 77 77
+cut: 1 0 2 0, 77 77 77 77 77 77 77 77 77 77 77 77 77 77 77 77 77 77 77 77 77 77 77 77
+no file: 1 0 1 0
 ",
     ),
     (

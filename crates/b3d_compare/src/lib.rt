@@ -1,0 +1,73 @@
+// What differs between two files, as a list in a lent output. No table is needed.
+ghost use mathlib.Core.Path.{_≡_};
+ghost use lib.ListN.{length};
+ghost use Rattle.b3d_compare_list.specs.Compare.{compareAnswer, compareOutput, roomFor, compared, outputAfter};
+ghost use Rattle.b3d_compare_files.specs.Files.{Judged, filesBytes};
+use b3d_compare_list::Compared;
+use b3d_scene::Mode;
+
+// The list of two accepted files with these twelve numbers; where the output is too short, 11 and the size that is needed.
+fn list_into(a: &[u8], b: &[u8], x: [u32; 12], y: [u32; 12], out: &mut [u8]) -> Compared
+    requires { ⌜ Judged (now a) x × Judged (now b) y ⌝ }
+    ensures { λ r. ⌜ r ≡ compared (roomFor (length (now (out .entry))) (filesBytes (now (a .entry)) (now (b .entry)) x y)) ⌝ }
+    ensures { λ _. ⌜ now (out .exit) ≡ outputAfter (roomFor (length (now (out .entry))) (filesBytes (now (a .entry)) (now (b .entry)) x y)) (now (out .entry)) ⌝ }
+{
+    let size = b3d_compare_files::list_size(a, b, x, y);
+    if size == 0 {
+        return Compared {
+            number: 0,
+            which: 0,
+            place: 0,
+            size: 0,
+        };
+    }
+    if out.len() < size {
+        return Compared {
+            number: 11,
+            which: 0,
+            place: size as u64,
+            size: 0,
+        };
+    }
+    b3d_compare_files::put_list(a, b, x, y, out);
+    Compared {
+        number: 0,
+        which: 0,
+        place: 0,
+        size: size as u64,
+    }
+}
+
+// Writes the list of what differs between two files, judged in lenient mode, into the output, and says how long it is; what stood behind it stays. Where the
+// first file is refused (1 to 10, which 1), or the second (which 2), or the output is too short (11, which 0, and the size of the list), the output stays
+// as it was.
+pub fn compare(first: &[u8], second: &[u8], out: &mut [u8]) -> Compared
+    ensures { λ r. ⌜ r ≡ compareAnswer (now (first .entry)) (now (second .entry)) (now (out .entry)) ⌝ }
+    ensures { λ _. ⌜ now (out .exit) ≡ compareOutput (now (first .entry)) (now (second .entry)) (now (out .entry)) ⌝ }
+{
+    let x = b3d_answers::judge(Mode::Lenient, first);
+    if x.number != 0 {
+        return Compared {
+            number: x.number,
+            which: 1,
+            place: x.place as u64,
+            size: 0,
+        };
+    }
+    let y = b3d_answers::judge(Mode::Lenient, second);
+    if y.number != 0 {
+        return Compared {
+            number: y.number,
+            which: 2,
+            place: y.place as u64,
+            size: 0,
+        };
+    }
+    list_into(
+        first,
+        second,
+        b3d_slip::numbers_of(x),
+        b3d_slip::numbers_of(y),
+        out,
+    )
+}

@@ -1,0 +1,28 @@
+-- `put_numbers` puts one number a turn: those from i on are left.
+use Prim.Native.Nat.{_-_}
+use borrow.Author.Needs.{needs}
+use Rattle.b3d_compare_entries.proofs.Entering.{NumbersLeft, putting-laws}
+use Rattle.b3d_compare_entries.proofs.put_numbers.Statement.{statement}
+use Rattle.b3d_compare_entries.proofs.put_numbers.Tie as tie
+
+abbrev Inv-loop : tie.InvT-loop
+Inv-loop out₀ at ns next₀ i₀ out next i = NumbersLeft ns out₀ at out next i
+
+abbrev μ-loop : tie.MeasureT-loop
+μ-loop out₀ at ns next₀ i₀ out next i = 5 - i
+
+pub put-numbers-spec : {M : Type 1} → statement M
+put-numbers-spec =
+    tie.close
+    (tie.spec
+    Inv-loop
+    μ-loop
+    (λ c. search (putting-laws, needs))
+    (λ c. search needs)
+    (λ c. search needs)
+    (λ c κs. search (putting-laws, needs))
+    (λ c. search needs)
+    (λ c. search needs)
+    (λ c. search (putting-laws, needs))
+    (λ c. search (putting-laws, needs))
+    (λ c. search (putting-laws, needs)))

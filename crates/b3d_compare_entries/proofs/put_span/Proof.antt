@@ -1,0 +1,19 @@
+-- `put_span` copies the span's bytes.
+use borrow.Author.Needs.{needs}
+use Rattle.b3d_compare_entries.proofs.Entering.{span-put}
+use Rattle.b3d_compare_entries.proofs.put_span.Statement.{statement}
+use Rattle.b3d_compare_entries.proofs.put_span.Tie as tie
+
+pub put-span-spec : {M : Type 1} → statement M
+put-span-spec =
+    tie.close
+    (tie.spec
+    (λ c κs. search needs)
+    (λ c κs. search needs)
+    (λ c. search needs)
+    (λ c. search needs)
+    (λ c. search needs)
+    (λ c κs. search (span-put, needs))
+    (λ c. search needs)
+    (λ c. search needs)
+    (λ c. search (span-put, needs)))

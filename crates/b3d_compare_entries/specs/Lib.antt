@@ -1,0 +1,2 @@
+-- What the code for an entry promises.
+pub mod Entries

@@ -1,0 +1,2 @@
+-- The list of two files.
+pub mod Files

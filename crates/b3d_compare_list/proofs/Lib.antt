@@ -1,0 +1,10 @@
+pub mod Orders
+pub mod Cells
+pub mod Exact
+pub mod Sizes
+pub mod Reading
+pub mod Theorem
+pub mod WordLaws
+pub mod Walking
+pub mod Naming
+pub mod Cases

@@ -1,0 +1,2 @@
+-- Entries of two tables, row by row.
+pub mod Putting

@@ -1,0 +1,2 @@
+-- What the code for two rows promises.
+pub mod Rows

@@ -1,0 +1,43 @@
+-- Entries of two rows.
+use mathlib.Core.Path.{_≡_}
+use Prim.Native.Nat.{ℕ, _<_, _≤_}
+use mathlib.Core.List.{List, [], _∷_}
+use lib.ListN.{length, getD}
+use lib.Dec.{eqb}
+use Rattle.wire.specs.Test.{if}
+use Rattle.b3d_compare_list.specs.Words.{wordsOf}
+use Rattle.b3d_compare_list.specs.Changes.{Change, number, cellAt, wordChanges}
+use Rattle.b3d_compare_list.specs.List.{listBytes}
+use Rattle.b3d_difference.specs.Spans.{Clean}
+use Rattle.b3d_compare_entries.specs.Entries.{Lies, changeOf, textsSize}
+use Rattle.b3d_compare_rows.specs.declared.Names.{Names}
+use Rattle.b3d_compare_rows.specs.declared.Names.the-variants.{Same, Differ}
+
+-- the entry of word w where it is a number, p in the first file and q in the second
+unfoldable pub wordEntry : ℕ → ℕ → ℕ → ℕ → ℕ → List Change
+wordEntry k r w p q = if (eqb p q) [] (record { table = k; row = r; word = w; first = number p; second = number q } ∷ [])
+
+-- the words of table k from w on are numbers
+pub record Plain (k from : ℕ) : Type 0 where
+  pub start : from ≤ wordsOf k
+  pub numbers : (w : ℕ) → from ≤ w → w < wordsOf k → (s x : List ℕ) → cellAt k s x w ≡ number (getD x w 0)
+
+-- n is how many bytes the entries take, and no more than `most`
+pub record RowSize (l : List Change) (most n : ℕ) : Type 0 where
+  pub is : n ≡ length (listBytes l)
+  pub few : n ≤ most
+
+-- the entries of the names of two rows, words 0 and 1
+unfoldable pub nameEntries : List ℕ → List ℕ → ℕ → ℕ → Names → List Change
+nameEntries a b k r Same = []
+nameEntries a b k r (Differ d) = changeOf a b k r 0 d ∷ []
+
+-- spans that lie in their files, of lengths of four bytes
+abbrev pub Fine : List ℕ → List ℕ → Names → Type 0
+Fine a b Same = Unit {0}
+Fine a b (Differ d) = Clean d × Lies a b d × (textsSize d ≤ 8589934590)
+
+-- the names of rows x and y of files a and b, whatever the table of named rows
+pub record NamesAre (a b x y : List ℕ) (n : Names) : Type 0 where
+  pub is : (k r : ℕ) → 0 < k → k < 4 → wordChanges k a b r x y 0 2 ≡ nameEntries a b k r n
+  pub fine : Fine a b n

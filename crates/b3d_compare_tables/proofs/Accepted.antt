@@ -1,0 +1,34 @@
+-- Files that are accepted can be compared row by row.
+use mathlib.Core.Path.{_≡_, ap}
+use Prim.Native.Nat.{ℕ, _<_, _≤_}
+use native.Mathlib.Omega.{arith}
+use mathlib.Core.List.{List}
+use lib.ListN.{length}
+use Rattle.layout.specs.Out.{got}
+use Rattle.layout.specs.Rows.{sizeFits}
+use Rattle.layout.proofs.Outs.{by-check}
+use Rattle.b3d_scene.specs.declared.Mode.the-variants.{Lenient}
+use Rattle.b3d_scene.specs.Answers.{judge}
+use Rattle.b3d_scene.specs.Parse.{parse}
+use Rattle.b3d_scene.specs.Scene.{Scene}
+use Rattle.b3d_scene.specs.Tables.{rows}
+use Rattle.b3d_scene.proofs.AnswerLaws.{judge-got}
+use Rattle.b3d_scene.proofs.Files.FileLaws.{size-bound}
+use Rattle.b3d_inside.proofs.Files.{parse-low}
+use Rattle.b3d_file_rows.proofs.Laws.{rows-law}
+use Rattle.b3d_next_node.proofs.Depth.{accepted-shallow}
+use Rattle.b3d_compare_tables.specs.Tables.{Comparable}
+
+small : (s : List ℕ) (t : Scene) → parse Lenient s ≡ got t → length s < 0x100000000
+unfolding parse
+small s t e = by-check (sizeFits (length s)) 1 0 _ e (λ z _. omega (arith, size-bound (length s) z))
+
+pub comparable : (s : List ℕ) (t : Scene) → judge Lenient s ≡ got t → (k : ℕ) → 1 ≤ k → k ≤ 10 → Comparable k (length (rows k t)) s
+comparable s t e k lo hi = record {
+  low = lo;
+  high = hi;
+  long = parse-low Lenient s t (judge-got Lenient s t e .0);
+  small = small s t (judge-got Lenient s t e .0);
+  deep = accepted-shallow s t e;
+  count = ap length (rows-law s t e k lo hi);
+}

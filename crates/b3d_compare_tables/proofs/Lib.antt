@@ -1,0 +1,3 @@
+pub mod Places
+pub mod Turning
+pub mod Accepted

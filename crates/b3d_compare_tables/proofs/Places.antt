@@ -1,0 +1,242 @@
+-- Places in one table of both files, a row of each at a time.
+use mathlib.Core.Path.{_≡_, refl, ap, ap₂, sym, _∙_, subst}
+use mathlib.Core.Logic.{_⊎_, ⊎-elim}
+use Prim.Native.Nat.{ℕ, zero, suc, _+_, _-_, _<_, _≤_}
+use native.Mathlib.Nat.{eq-or-lt-of-le}
+use native.Mathlib.Omega.{arith}
+use mathlib.Core.List.{List, [], _∷_, _++_}
+use lib.ListN.{length, getD, length-append}
+use lib.Seq.{length-sets}
+use borrow.Author.Tests.{eq-eqb}
+use Rattle.layout.proofs.Lists.{All}
+use Rattle.b3d_scene.specs.Tables.{width, tables, nodeTables}
+use Rattle.b3d_file_rows.specs.Flat.{flatAt}
+use Rattle.b3d_next_node.specs.NextNode.{Shallow}
+use Rattle.b3d_next_node.specs.declared.Place.{Place}
+use Rattle.b3d_next_row.specs.NextRow.{rowsFrom, PlaceAt, Starts, RowNext}
+use Rattle.b3d_compare_list.specs.Words.{wordsOf}
+use Rattle.wire.specs.Test.{if}
+use Rattle.b3d_same_items.specs.declared.Run.{Run}
+use Rattle.b3d_item_spots.specs.declared.Items.{Items}
+use Rattle.b3d_same_items.specs.SameItems.{RowsSame, SameItems, placePast}
+use Rattle.b3d_same_items.proofs.Passing.{above-four, rows-past, place-past}
+use Rattle.b3d_compare_list.specs.Changes.{Change, sameCell, wordChanges, rowChanges, tableChanges}
+use Rattle.b3d_compare_list.specs.List.{listBytes}
+use Rattle.b3d_compare_list.proofs.WordLaws.{widths}
+use Rattle.b3d_compare_rows.proofs.Rowing.{few-words, plain-high}
+use Rattle.b3d_compare_put.proofs.TableLaws.{come-step, come-end}
+use Rattle.b3d_compare_tables.specs.Tables.{Comparable, bytesFrom, tableBytes, Onward}
+
+-- ---- widths
+
+abbrev pub range : ℕ → ℕ → List ℕ
+range w zero = []
+range w (suc n) = w ∷ range (w + 1) n
+
+pub at-range : (P : ℕ → Type 0) (w n : ℕ) → All P (range w n) → (k : ℕ) → w ≤ k → k < w + n → P k
+at-range P w zero h k i j = absurd (omega arith)
+at-range P w (suc n) h k i j = ⊎-elim (λ e. subst P e (h .0)) (λ l. at-range P (w + 1) n (h .1) k (omega arith) (omega arith)) (eq-or-lt-of-le i)
+
+ten-widths : All (λ k. wordsOf k ≡ width k) (range 1 10)
+unfolding tables nodeTables
+ten-widths = widths
+
+width-is : (k : ℕ) → 1 ≤ k → k ≤ 10 → wordsOf k ≡ width k
+width-is k h i = at-range (λ j. wordsOf j ≡ width j) 1 10 ten-widths k h (omega arith)
+
+-- ---- a row of each
+
+next-long : (k : ℕ) (s : List ℕ) (x : Place) (p p′ : List ℕ) (y : Place) → RowNext k s x p p′ y → length p′ ≡ length p
+next-long k s x p p′ y n = ap length (n .comes .stores) ∙ length-sets p 0 (n .comes .cells)
+
+module _ (k : ℕ) (lo : 1 ≤ k) (hi : k ≤ 10) (a b : List ℕ) (x y : Place) (p q : List ℕ) (hp : 42 ≤ length p) (hq : 42 ≤ length q) (p′ q′ : List ℕ) (x′ y′ : Place)
+    (na : RowNext k a x p p′ x′) (nb : RowNext k b y q q′ y′) where
+  -- entries of the two rows, then of those that follow
+  pub step-is : (r : ℕ) → bytesFrom k a b r x y ≡ listBytes (rowChanges k a b r p′ q′) ++ bytesFrom k a b (r + 1) x′ y′
+  unfolding bytesFrom
+  step-is r =
+      let ca = na .comes in
+      let cb = nb .comes in
+      come-step k a b p p′ q q′ (ca .cells) (cb .cells) (ca .stores) (cb .stores) (ca .wide ∙ sym (width-is k lo hi)) (cb .wide ∙ sym (width-is k lo hi)) hp hq r
+      (rowsFrom k a x) (rowsFrom k b y) (rowsFrom k a x′) (rowsFrom k b y′) (ca .is) (cb .is)
+
+  pub step-on : Onward k a b x y x′ y′ p q p′ q′ 1
+  step-on =
+      record {
+        some = omega arith;
+        first-at = na .at;
+        second-at = nb .at;
+        first-on = omega (arith, ap length (na .comes .is));
+        second-on = omega (arith, ap length (nb .comes .is));
+        first-kept = next-long k a x p p′ x′ na;
+        second-kept = next-long k b y q q′ y′ nb;
+      }
+
+  module _ (kk : ℕ) (ek : kk ≡ k) where
+    pub turn-high : kk ≤ 10
+    turn-high = omega arith
+
+    pub turn-first : wordsOf kk ≤ length p′
+    turn-first = omega (arith, few-words kk, next-long k a x p p′ x′ na)
+
+    pub turn-second : wordsOf kk ≤ length q′
+    turn-second = omega (arith, few-words kk, next-long k b y q q′ y′ nb)
+
+-- ---- rows that are the same
+
+module _ (k : ℕ) (a b : List ℕ) (hk : 4 ≤ k) where
+  none-words : (r : ℕ) (x : List ℕ) (n w : ℕ) → w + n ≤ wordsOf k → wordChanges k a b r x x w n ≡ []
+  unfolding wordChanges sameCell if
+  none-words r x zero w h = refl
+  none-words r x (suc n) w h =
+      let g = plain-high k hk in
+      rw (g .numbers w (omega arith) (omega arith) a x, g .numbers w (omega arith) (omega arith) b x, eq-eqb (getD x w 0) (getD x w 0) refl) (none-words r x n (w + 1) (omega arith))
+
+  none-row : (r : ℕ) (x : List ℕ) → rowChanges k a b r x x ≡ []
+  unfolding rowChanges
+  none-row r x = none-words r x (wordsOf k) 0 (omega arith)
+
+  -- rows that are the same have no entries
+  same-front : (l : List (List ℕ)) (r : ℕ) (xs ys : List (List ℕ)) → tableChanges k a b r (l ++ xs) (l ++ ys) ≡ tableChanges k a b (r + length l) xs ys
+  unfolding tableChanges
+  same-front [] r xs ys = let z : r + 0 ≡ r = omega arith in rw z
+  same-front (x ∷ l) r xs ys =
+      let z : r + 1 + length l ≡ r + suc (length l) = omega arith in
+      ap (λ (c : List Change). c ++ tableChanges k a b (r + 1) (l ++ xs) (l ++ ys)) (none-row r x) ∙ same-front l (r + 1) xs ys ∙ ap (λ (n : ℕ). tableChanges k a b n xs ys) z
+
+module _ (k : ℕ) (a b : List ℕ) (i j : Items) (t : Run) (s : SameItems k a b i j t) (h : t .count ≡ 0 → ⊥) where
+  pub run-first : i .rest .at + t .bytes ≤ i .rest .end
+  run-first = s .is (omega arith) .first-there
+
+  pub run-second : j .rest .at + t .bytes ≤ j .rest .end
+  run-second = s .is (omega arith) .second-there
+
+module _ (k : ℕ) (a b : List ℕ) (x y : Place) (t : Run) (v : RowsSame k a b (x .spot .items) (y .spot .items) t) where
+  first-past : rowsFrom k a x ≡ v .rows ++ rowsFrom k a (placePast (t .bytes) x)
+  first-past = rows-past k a x (v .items) (t .bytes) (v .rows) (v .first)
+
+  second-past : rowsFrom k b y ≡ v .rows ++ rowsFrom k b (placePast (t .bytes) y)
+  second-past = rows-past k b y (v .items) (t .bytes) (v .rows) (v .second)
+
+  pub pass-is : (r : ℕ) → bytesFrom k a b r x y ≡ bytesFrom k a b (r + t .count) (placePast (t .bytes) x) (placePast (t .bytes) y)
+  unfolding bytesFrom
+  pass-is r =
+      let h = above-four k (v .items) in
+      ap₂ (λ (xs ys : List (List ℕ)). listBytes (tableChanges k a b r xs ys)) first-past second-past
+      ∙ ap listBytes (same-front k a b (omega arith) (v .rows) r (rowsFrom k a (placePast (t .bytes) x)) (rowsFrom k b (placePast (t .bytes) y)))
+      ∙ ap (λ (n : ℕ). listBytes (tableChanges k a b (r + n) (rowsFrom k a (placePast (t .bytes) x)) (rowsFrom k b (placePast (t .bytes) y)))) (v .long)
+
+  pub pass-on : 0 < t .count → PlaceAt k a x → PlaceAt k b y → (p q : List ℕ) → Onward k a b x y (placePast (t .bytes) x) (placePast (t .bytes) y) p q p q (t .count)
+  pass-on h ax by p q =
+      record {
+        some = omega arith;
+        first-at = place-past k a x (v .items) (t .bytes) ax (v .first-there);
+        second-at = place-past k b y (v .items) (t .bytes) by (v .second-there);
+        first-on = ap length first-past ∙ length-append (v .rows) (rowsFrom k a (placePast (t .bytes) x)) ∙ ap (λ (n : ℕ). n + length (rowsFrom k a (placePast (t .bytes) x))) (v .long);
+        second-on = ap length second-past ∙ length-append (v .rows) (rowsFrom k b (placePast (t .bytes) y)) ∙ ap (λ (n : ℕ). n + length (rowsFrom k b (placePast (t .bytes) y))) (v .long);
+        first-kept = refl;
+        second-kept = refl;
+      }
+
+-- ---- rows from r on are left
+
+module _ (k rows : ℕ) (s : List ℕ) (v : Comparable k rows s) where
+  pub file-low : 1 ≤ k
+  file-low = v .low
+
+  pub file-high : k ≤ 10
+  file-high = v .high
+
+  pub file-long : 12 ≤ length s
+  file-long = v .long
+
+  pub file-small : length s < 0x100000000
+  file-small = v .small
+
+  pub file-deep : Shallow 0 [] (flatAt s 12)
+  file-deep = v .deep
+
+pub ruleset file-laws = (file-low, file-high, file-long, file-small, file-deep)
+
+pub record BothLeft (k rows : ℕ) (a b p₀ q₀ p q : List ℕ) (x y : Place) (r : ℕ) : Type 0 where
+  pub low : 1 ≤ k
+  pub high : k ≤ 10
+  pub first-at : PlaceAt k a x
+  pub second-at : PlaceAt k b y
+  pub first-left : length (rowsFrom k a x) + r ≡ rows
+  pub second-left : length (rowsFrom k b y) + r ≡ rows
+  pub most : rows ≤ 2097151
+  pub first-long : 42 ≤ length p₀
+  pub second-long : 42 ≤ length q₀
+  pub first-same : length p ≡ length p₀
+  pub second-same : length q ≡ length q₀
+
+module _ (k rows : ℕ) (a b p₀ q₀ : List ℕ) where
+  module _ (x y : Place) (sa : Starts k a x) (sb : Starts k b y) where
+    pub both-start : Comparable k rows a → Comparable k rows b → rows ≤ 2097151 → 42 ≤ length p₀ → 42 ≤ length q₀ → BothLeft k rows a b p₀ q₀ p₀ q₀ x y 0
+    both-start va vb m hp hq =
+        record {
+          low = va .low;
+          high = va .high;
+          first-at = sa .at;
+          second-at = sb .at;
+          first-left = let z = ap length (sa .rows) in omega (arith, va .count);
+          second-left = let z = ap length (sb .rows) in omega (arith, vb .count);
+          most = m;
+          first-long = hp;
+          second-long = hq;
+          first-same = refl;
+          second-same = refl;
+        }
+
+    pub start-bytes : bytesFrom k a b 0 x y ≡ tableBytes k a b
+    unfolding bytesFrom tableBytes
+    start-bytes = rw (sa .rows, sb .rows)
+
+  module _ (p q : List ℕ) (x y : Place) (r : ℕ) (g : BothLeft k rows a b p₀ q₀ p q x y r) where
+    pub row-long : 42 ≤ length p
+    row-long = omega (arith, g .first-long, g .first-same)
+
+    pub row-long-2 : 42 ≤ length q
+    row-long-2 = omega (arith, g .second-long, g .second-same)
+
+    module _ (h : rows ≤ r) where
+      pub end-bytes : bytesFrom k a b r x y ≡ []
+      unfolding bytesFrom
+      end-bytes = come-end k a b r (rowsFrom k a x) (rowsFrom k b y) (omega (arith, g .first-left))
+
+      pub end-row : r ≡ rows
+      end-row = omega (arith, g .first-left)
+
+    module _ (h : r < rows) where
+      pub row-some : 0 < length (rowsFrom k a x)
+      row-some = omega (arith, g .first-left)
+
+      pub row-some-2 : 0 < length (rowsFrom k b y)
+      row-some-2 = omega (arith, g .second-left)
+
+    module _ (x′ y′ : Place) (p′ q′ : List ℕ) (n : ℕ) (s : Onward k a b x y x′ y′ p q p′ q′ n) where
+      pub rows-low : n < 4294967296
+      rows-low = omega (arith, g .most, g .first-left, s .first-on)
+
+      pub rows-sum : r + n < 4294967296
+      rows-sum = omega (arith, g .most, g .first-left, s .first-on)
+
+      pub rows-less : rows - (r + n) < rows - r
+      rows-less = omega (arith, g .first-left, s .first-on, s .some)
+
+      pub both-next : BothLeft k rows a b p₀ q₀ p′ q′ x′ y′ (r + n)
+      both-next =
+          record {
+            low = g .low;
+            high = g .high;
+            first-at = s .first-at;
+            second-at = s .second-at;
+            first-left = omega (arith, g .first-left, s .first-on);
+            second-left = omega (arith, g .second-left, s .second-on);
+            most = g .most;
+            first-long = g .first-long;
+            second-long = g .second-long;
+            first-same = s .first-kept ∙ g .first-same;
+            second-same = s .second-kept ∙ g .second-same;
+          }

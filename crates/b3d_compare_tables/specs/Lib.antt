@@ -1,0 +1,2 @@
+-- What the code for two tables promises.
+pub mod Tables

@@ -1,0 +1,49 @@
+-- Two tables row by row.
+use mathlib.Core.Path.{_≡_}
+use Prim.Native.Nat.{ℕ, _+_, _*_, _<_, _≤_}
+use mathlib.Core.List.{List, []}
+use lib.ListN.{length}
+use Rattle.b3d_file_rows.specs.Flat.{flatAt}
+use Rattle.b3d_file_rows.specs.Rows.{fileRows}
+use Rattle.b3d_next_node.specs.NextNode.{Shallow}
+use Rattle.b3d_next_node.specs.declared.Place.{Place}
+use Rattle.b3d_next_row.specs.NextRow.{rowsFrom, PlaceAt}
+use Rattle.b3d_compare_list.specs.Changes.{tableChanges}
+use Rattle.b3d_compare_list.specs.List.{listBytes}
+use Rattle.b3d_compare_tables.specs.declared.Turn.{Turn}
+
+-- a file with so many rows in table k, of nodes that nest at most 16 deep
+pub record Comparable (k rows : ℕ) (s : List ℕ) : Type 0 where
+  pub low : 1 ≤ k
+  pub high : k ≤ 10
+  pub long : 12 ≤ length s
+  pub small : length s < 0x100000000
+  pub deep : Shallow 0 [] (flatAt s 12)
+  pub count : length (fileRows k s) ≡ rows
+
+-- the entries of table k of two files
+unfoldable pub tableBytes : ℕ → List ℕ → List ℕ → List ℕ
+tableBytes k a b = listBytes (tableChanges k a b 0 (fileRows k a) (fileRows k b))
+
+-- the entries of the rows from two places on, the first of them row r
+unfoldable pub bytesFrom : ℕ → List ℕ → List ℕ → ℕ → Place → Place → List ℕ
+bytesFrom k a b r x y = listBytes (tableChanges k a b r (rowsFrom k a x) (rowsFrom k b y))
+
+-- n rows of each were passed: places x and y became x′ and y′, the rows p and q, into which words may have been read, p′ and q′
+pub record Onward (k : ℕ) (a b : List ℕ) (x y x′ y′ : Place) (p q p′ q′ : List ℕ) (n : ℕ) : Type 0 where
+  pub some : 1 ≤ n
+  pub first-at : PlaceAt k a x′
+  pub second-at : PlaceAt k b y′
+  pub first-on : length (rowsFrom k a x) ≡ n + length (rowsFrom k a x′)
+  pub second-on : length (rowsFrom k b y) ≡ n + length (rowsFrom k b y′)
+  pub first-kept : length p′ ≡ length p
+  pub second-kept : length q′ ≡ length q
+
+pub record SizeTurn (k r : ℕ) (a b : List ℕ) (x y : Place) (p q p′ q′ : List ℕ) (t : Turn) : Type 0 where
+  pub on : Onward k a b x y (t .first) (t .second) p q p′ q′ (t .rows)
+  pub is : length (bytesFrom k a b r x y) ≡ t .size + length (bytesFrom k a b (r + t .rows) (t .first) (t .second))
+  pub few : t .size ≤ 8589935665
+
+pub record TableSize (k rows : ℕ) (a b : List ℕ) (n : ℕ) : Type 0 where
+  pub is : n ≡ length (tableBytes k a b)
+  pub few : n ≤ 8589935665 * rows

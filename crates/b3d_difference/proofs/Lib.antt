@@ -1,0 +1,2 @@
+pub mod FloatWords
+pub mod Values

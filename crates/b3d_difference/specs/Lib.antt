@@ -1,0 +1,2 @@
+-- What the code for a difference promises.
+pub mod Spans

@@ -1,0 +1,2 @@
+-- Items of two files that are the same.
+pub mod SameItems
