@@ -9,6 +9,8 @@
 //! - `rows`: files with a given number of rows in one table.
 //! - `nesting`: known chunks in any order inside one chunk.
 //! - `pairs`: two files that differ in a few cells, with the list of these.
+//! - `mendable`: files with faults that can be mended, with the mended files and the
+//!   reports.
 //! - `groups`: numbers in groups of seven bits.
 //! - `private`: files that differ only in what a clearer drops.
 //! - `words`: damaged tables for a writer.
@@ -24,6 +26,7 @@ pub mod damage;
 pub mod groups;
 pub mod labels;
 pub mod make;
+pub mod mendable;
 pub mod nesting;
 pub mod pairs;
 pub mod private;
