@@ -6,7 +6,8 @@
 //! (10) and fills them. Writing: `soundness` judges lent tables (12), `encode`
 //! makes the bytes. Reader and writer take a mode: whether colours are judged.
 //! `label` walks headers by itself. `compare` lists what differs between the words of
-//! two files.
+//! two files. `mend` walks a file by itself, with the reader's rules for chunks in
+//! which there is nothing to mend.
 //! `cal3d` reads skeletons and meshes of another format.
 
 pub mod cal3d;
@@ -19,6 +20,7 @@ mod layout;
 mod lent;
 pub mod limits;
 mod lister;
+mod mend;
 mod numbers;
 mod parse;
 pub mod refusal;
@@ -77,6 +79,16 @@ pub struct Compared {
     pub which: u32,
     pub place: u64,
     pub size: u64,
+}
+
+/// What mending is answered. The sizes, of the mended file and of the report, are 0
+/// on refusal.
+#[derive(Clone, Copy, Debug, Default, PartialEq, Eq)]
+pub struct Mended {
+    pub number: u32,
+    pub place: u32,
+    pub size: u32,
+    pub report_size: u32,
 }
 
 /// Judges a file without tables: refusals 1 to 10.
@@ -204,6 +216,33 @@ pub fn compare(first: &[u8], second: &[u8], out: &mut [u8]) -> Compared {
     Compared {
         size: list.len() as u64,
         ..Compared::default()
+    }
+}
+
+/// Mends a file and reports what it mended: its first fault of another kind than the
+/// four, then 11 for the mended file, then 11 for the report. A refused call changes
+/// no byte, and bytes past the sizes stay as found.
+pub fn mend(file: &[u8], out: &mut [u8], report: &mut [u8]) -> Mended {
+    let refused = |number, place: usize| Mended {
+        number,
+        place: place as u32,
+        ..Mended::default()
+    };
+    let mended = match mend::mend(file) {
+        Ok(mended) => mended,
+        Err(refusal) => return refused(refusal.number, refusal.place),
+    };
+    if out.len() < mended.file.len() {
+        return refused(SHORT, mended.file.len());
+    }
+    if report.len() < mended.report.len() {
+        return refused(SHORT, mended.report.len());
+    }
+    Mended {
+        number: 0,
+        place: 0,
+        size: put(&mended.file, out).size,
+        report_size: put(&mended.report, report).size,
     }
 }
 

@@ -39,7 +39,7 @@ pub fn mesh(mode: Mode, file: &[u8], chunk: &Chunk, brushes: usize) -> Result<Me
 
 /// VRTS: flags, sets, set size, then the vertices. The colour stands behind
 /// position and normal.
-fn vrts(mode: Mode, file: &[u8], chunk: &Chunk) -> Result<Vertices, Refusal> {
+pub fn vrts(mode: Mode, file: &[u8], chunk: &Chunk) -> Result<Vertices, Refusal> {
     fits(chunk.body, 12, chunk.end)?;
     let flags = ranged(file, chunk.body, HIGHEST_VERTEX_FLAGS)?;
     let sets = ranged(file, chunk.body + 4, MOST_SETS)?;

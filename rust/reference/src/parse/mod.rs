@@ -1,8 +1,8 @@
 //! File to scene, with refusals 1 to 9 in reading order.
 
-mod materials;
-mod mesh;
-mod node;
+pub mod materials;
+pub mod mesh;
+pub mod node;
 
 use crate::chunks::chunk_at;
 use crate::limits::{HIGHEST_VERSION, LARGEST_FILE, SMALLEST_FILE};
@@ -14,23 +14,29 @@ use crate::Mode;
 /// The scene of a file without faults 1 to 9, else the first fault.
 pub fn parse(mode: Mode, file: &[u8]) -> Result<Scene, Refusal> {
     check_size(file)?;
-    check_first_header(file)?;
+    check_first_tag(file)?;
+    check_first_length(file)?;
     bb3d(mode, file)
 }
 
 /// 1 at 0: file size outside its limits.
-fn check_size(file: &[u8]) -> Result<(), Refusal> {
+pub fn check_size(file: &[u8]) -> Result<(), Refusal> {
     if file.len() < SMALLEST_FILE || file.len() > LARGEST_FILE {
         return refuse(FILE_SIZE, 0);
     }
     Ok(())
 }
 
-/// 2 at 0 for the first tag, 2 at 4 for its length.
-fn check_first_header(file: &[u8]) -> Result<(), Refusal> {
+/// 2 at 0: the first tag is not BB3D.
+pub fn check_first_tag(file: &[u8]) -> Result<(), Refusal> {
     if &file[0..4] != b"BB3D" {
         return refuse(FIRST_HEADER, 0);
     }
+    Ok(())
+}
+
+/// 2 at 4: its length is not the file size minus 8.
+fn check_first_length(file: &[u8]) -> Result<(), Refusal> {
     if word(file, 4) as usize != file.len() - 8 {
         return refuse(FIRST_HEADER, 4);
     }

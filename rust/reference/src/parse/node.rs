@@ -112,7 +112,7 @@ impl Nodes<'_> {
 }
 
 /// KEYS: flags, then the keys.
-fn keys(file: &[u8], chunk: &Chunk) -> Result<KeyList, Refusal> {
+pub fn keys(file: &[u8], chunk: &Chunk) -> Result<KeyList, Refusal> {
     fits(chunk.body, 4, chunk.end)?;
     let flags = ranged(file, chunk.body, HIGHEST_KEY_FLAGS)?;
     let size = 4 * key_cells(flags).len();
@@ -123,7 +123,7 @@ fn keys(file: &[u8], chunk: &Chunk) -> Result<KeyList, Refusal> {
 }
 
 /// ANIM: flags, frames, fps; 5 at their start if the length is not 12.
-fn anim(file: &[u8], chunk: &Chunk) -> Result<[u32; 3], Refusal> {
+pub fn anim(file: &[u8], chunk: &Chunk) -> Result<[u32; 3], Refusal> {
     if chunk.end - chunk.body != 12 {
         return refuse(CUT, chunk.body);
     }
