@@ -326,6 +326,42 @@ typedef struct {
 kelompuris_compared kelompuris_b3d_compare(
     const uint8_t *first, size_t first_len, const uint8_t *second, size_t second_len, uint8_t *out, size_t out_len);
 
+/* What mending is answered.
+ *
+ * number 0: written. place is 0; size is the number of bytes of the mended file, report_size that of the report, 0 if nothing was to be mended.
+ * Any other number is a refusal, and both sizes are 0: 1 to 10 for the first fault that cannot be mended, with its place in the file as it was
+ * given; then 11 where out is too short, then 11 where report is; place is the size needed.
+ */
+typedef struct {
+    uint32_t number, place, size, report_size;
+} kelompuris_mended;
+
+/* Which of the four a mend is. */
+enum {
+    KELOMPURIS_MENDED_LENGTH = 1, /* a wrong BB3D length: it ends where the file does */
+    KELOMPURIS_MENDED_ID = 2,     /* a brush or texture id that names nothing: it is -1 */
+    KELOMPURIS_MENDED_ITEM = 3,   /* a triangle or weight with a vertex id that names nothing: it is taken out */
+    KELOMPURIS_MENDED_SPARE = 4   /* 1 to 7 bytes at the end of BB3D, NODE or MESH: they are taken out */
+};
+
+/* Mends a file and reports what it mended: answers 0, 1 to 6 or 8 to 11; 1 to 10 as kelompuris_b3d_judge does in lenient mode if the four kinds
+ * of faults above are left out, with 10 counted over the rows of the mended file. 1 is judged by the size of the given file.
+ *
+ * The mended file is accepted in lenient mode. The lengths of chunks around bytes taken out follow; no other byte changes. An accepted file
+ * comes back as it was, with an empty report. The mended file is no longer than the given one, so that with an output of file_len bytes 11 is
+ * the report's. The report is no longer than ten times the given file.
+ *
+ * The report is entries one behind the other, by their places in the given file, one for each mend. An entry is four numbers, each in groups of
+ * seven bits as those of slips are: the place where its bytes begin (the length, the id, the whole triangle or weight, the spare bytes), which of
+ * the four, and how many bytes those are in the given and in the mended file (4 and 4, or so many and 0); then these bytes as the given file
+ * has them and as the mended one does. A length that only follows has no entry.
+ *
+ * Written: the bytes of out and report behind their sizes stay as they were. Refused, also by 11: both stay as they were whole.
+ * The file is not written.
+ */
+kelompuris_mended kelompuris_b3d_mend(
+    const uint8_t *file, size_t file_len, uint8_t *out, size_t out_len, uint8_t *report, size_t report_len);
+
 /* A file in pieces, for a terminal that is handed a file some bytes at a time and cannot hold it.
  *
  *     kelompuris_b3d_open_chunk row[KELOMPURIS_B3D_OPEN_CHUNKS];

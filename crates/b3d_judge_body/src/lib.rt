@@ -30,7 +30,7 @@ pub enum Verdict {
 }
 
 // The rows of a file: its header and version, its textures, the rest.
-fn file_rows(textures: Tally, rest: Tally) -> Tally
+pub fn file_rows(textures: Tally, rest: Tally) -> Tally
     requires { ⌜ Within textures mostBytes × Within (plus (bytesTally 12) textures) mostBytes × Within rest mostBytes ⌝ }
     ensures { λ r. ⌜ r ≡ plus (plus (bytesTally 12) textures) rest ⌝ }
 {

@@ -72,7 +72,7 @@ pub fn judge_sets(s: &[u8], at: usize, from: Cursor, brushes: usize, vertices: u
 }
 
 // The rows of a mesh of n vertices of so many words each, and of its TRIS.
-fn mesh_rows(n: usize, words: usize, sets: Tally) -> Tally
+pub fn mesh_rows(n: usize, words: usize, sets: Tally) -> Tally
     requires { ⌜ (n ≤ mostBytes) × (words ≤ 42) × Within (verticesTally n words) mostBytes × Within sets mostBytes ⌝ }
     ensures { λ r. ⌜ r ≡ plus (verticesTally n words) sets ⌝ }
 {

@@ -51,7 +51,7 @@ pub fn bone_vertices(a: Above) -> usize
 }
 
 // What a node with so many vertices of its own, and with an ANIM or without, says to those below.
-fn bones_below(a: Above, anim: bool, own: usize) -> Above
+pub fn bones_below(a: Above, anim: bool, own: usize) -> Above
     ensures { λ r. ⌜ aboveOf r ≡ bonesFrom (aboveOf a) anim own ⌝ }
 {
     match a {
@@ -102,7 +102,7 @@ pub fn judge_kind(
 }
 
 // The rows of a node without those below it: its NODE, its kind, its KEYS and ANIM.
-fn own_rows(kind: Tally, moves: Tally) -> Tally
+pub fn own_rows(kind: Tally, moves: Tally) -> Tally
     requires { ⌜ Within kind mostBytes × Within (plus headTally kind) mostBytes × Within moves mostBytes ⌝ }
     ensures { λ r. ⌜ r ≡ plus (plus headTally kind) moves ⌝ }
 {

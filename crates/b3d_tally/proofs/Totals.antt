@@ -242,3 +242,20 @@ pub total : (t : Scene) → Fit t → sceneTally t ≡ tallyOf t
 total t f =
     same-parts (sceneTally t) (tallyOf t) (sym (forest-rows t) ∙ sym (forest-adds (t .nodes) start) ∙ rows-are t) (scene-textures t) (scene-brushes t)
     (scene-copy t ∙ sym (copy-size t f))
+
+-- of any scene, whether it keeps the rules or not: the row counts
+pub total-rows : (t : Scene) → sceneTally t
+    ≡ record {
+      textures = length (rows 1 t);
+      brushes = length (rows 2 t);
+      nodes = length (rows 3 t);
+      meshes = length (rows 4 t);
+      vertices = length (rows 5 t);
+      sets = length (rows 6 t);
+      triangles = length (rows 7 t);
+      weights = length (rows 8 t);
+      lists = length (rows 9 t);
+      keys = length (rows 10 t);
+      copy = (sceneTally t) .copy;
+    }
+total-rows t = same-parts (sceneTally t) _ (sym (forest-rows t) ∙ sym (forest-adds (t .nodes) start) ∙ rows-are t) (scene-textures t) (scene-brushes t) refl

@@ -49,7 +49,7 @@ const FULL_TABLE: &str = "more than 16,383 rows";
 pub enum Stop {
     /// The proved functions refuse the file or the tables.
     Refused(String),
-    /// There is what was looked for: differences.
+    /// There is what was looked for: differences, or faults that are mended.
     Found(String),
     /// Wrong use, or a file that cannot be read or written.
     Failed(String),

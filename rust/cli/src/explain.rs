@@ -1,6 +1,8 @@
 //! Where a refusal stands: the chunks around its place, and the number there. No
 //! name and no other byte of the file is told.
 
+use std::ops::Range;
+
 /// A chunk around a place: its tag, the byte of its header and the byte behind it.
 #[derive(Clone, Copy)]
 struct Chunk {
@@ -57,6 +59,19 @@ fn around(file: &[u8], place: usize) -> Vec<Chunk> {
         }
     }
     chunks
+}
+
+/// Where the brushes of a file stand whose chunks hold together, whatever its first
+/// length says.
+pub fn brushes(file: &[u8]) -> Range<usize> {
+    let mut at = 12;
+    while let Some(chunk) = Chunk::at(file, at) {
+        if &chunk.tag == b"BRUS" {
+            return at..chunk.end;
+        }
+        at = chunk.end;
+    }
+    0..0
 }
 
 /// Lines on a refusal of a scene.

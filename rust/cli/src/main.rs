@@ -1,5 +1,5 @@
 //! `kelompuris`: B3D scene files checked, also as they come, listed, labelled, taken apart, put
-//! together, cleared of names and compared, and their slips; skeletons and meshes of cal3d
+//! together, cleared of names, compared and mended, and their slips; skeletons and meshes of cal3d
 //! checked, listed and taken apart; all by the proved functions.
 
 mod answer;
@@ -10,6 +10,7 @@ mod diff;
 mod explain;
 mod groups;
 mod json;
+mod mend;
 mod output;
 mod scene;
 mod text;
@@ -52,6 +53,11 @@ diff    what differs between two files, a line for each cell, or with --json a J
         object: its table and row, counted from 0, what it means and both values.
         If version, n_texs or the numbers of rows differ, only these are told. With
         --raw the list is written to OUT too, in groups of seven bits
+mend    a copy of a file whose faults are mended, and a line for each: a wrong first
+        length, brushes and textures that are not there, triangles and weights of
+        vertices that are not there, 1 to 7 spare bytes at the end of BB3D, NODE or
+        MESH. Any other fault is refused. With --report the report is written to
+        REPORT too. The file itself is never written to
 skeleton
         of a skeleton of cal3d (CSF version 1300): number and place; if accepted
         the header's numbers, the two row counts, and its bones as trees, a bone
@@ -65,7 +71,7 @@ mesh    the same of a mesh of cal3d (CMF version 700), with six row counts and a
         it is 16,383, the most that a skeleton can have
 
 A red, green, blue or alpha that is not a number or lies outside 0 to 1 is
-refused; with --lenient any is taken. `clear`, `slip` and `diff` take any.
+refused; with --lenient any is taken. `clear`, `slip`, `diff` and `mend` take any.
 
 In the texts of `tables` the first line has the column names, and a tab stands
 between cells. Whole numbers are signed decimals, so NONE is -1. A float is its
@@ -75,7 +81,8 @@ name the backslash and bytes outside 33 to 126 are \\xNN, so a space is \\x20.
 A file that stands at OUT is replaced only with --force. A command that is refused
 or fails writes no file. Options may stand anywhere; behind -- nothing is one.
 Exit status: 0 accepted, 1 refused, 2 wrong usage or a file that cannot be read
-or written. Of `diff` 0 nothing differs, 1 something does, 2 refused too.
+or written. Of `diff` and `mend` 0 nothing differs, nothing to mend, 1 something
+does, something mended, 2 refused too.
 ";
 
 fn main() -> ExitCode {
@@ -139,6 +146,10 @@ fn run(args: &[OsString], out: &mut Vec<u8>) -> Result<(), Stop> {
         ("diff", [old, new]) => {
             let raw = words.value("--raw")?.map(Path::new);
             diff::diff([old, new], raw, words.flag("--json"), force, out)
+        }
+        ("mend", [file, target]) => {
+            let report = words.value("--report")?.map(Path::new);
+            mend::mend(file, target, report, force, out)
         }
         ("skeleton", paths) => on_cal3d(&words, Kind::Skeleton, paths, out),
         ("mesh", paths) => {

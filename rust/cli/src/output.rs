@@ -7,30 +7,70 @@ use std::io::{self, Error, ErrorKind, Write};
 use std::os::unix::fs::MetadataExt;
 use std::path::{Path, PathBuf};
 use std::process;
+use std::sync::atomic::{AtomicUsize, Ordering};
 
 /// Puts a file there; one of that name is replaced where that is asked for.
 pub fn put_file(path: &Path, bytes: &[u8], force: bool) -> Result<(), Stop> {
-    let put = || {
-        let taken = match fs::symlink_metadata(path) {
-            Ok(found) if !found.is_file() => Some("not a plain file"),
-            Ok(_) if !force => Some("there is such a file; --force replaces it"),
-            _ => None,
-        };
-        if let Some(why) = taken {
-            return Err(Error::new(ErrorKind::AlreadyExists, why));
+    put_files(&[(path, bytes)], force)
+}
+
+/// Puts files there, all or none.
+pub fn put_files(files: &[(&Path, &[u8])], force: bool) -> Result<(), Stop> {
+    let mut parts = Vec::new();
+    let done = files
+        .iter()
+        .try_for_each(|(path, bytes)| {
+            let part = make_part(path, bytes, force).map_err(|error| Stop::failed(path, error))?;
+            parts.push(part);
+            Ok(())
+        })
+        .and_then(|()| rename_all(files, &parts));
+    if done.is_err() {
+        for part in &parts {
+            // Those that are renamed are not there any more.
+            drop(fs::remove_file(part));
         }
-        let part = beside(path)?;
-        let file = File::create_new(&part)?;
-        let done = fill(file, bytes).and_then(|()| fs::rename(&part, path));
-        done.inspect_err(|_| drop(fs::remove_file(&part)))
+    }
+    done
+}
+
+/// The bytes under another name beside this one, if they may come to stand here.
+fn make_part(path: &Path, bytes: &[u8], force: bool) -> io::Result<PathBuf> {
+    let taken = match fs::symlink_metadata(path) {
+        Ok(found) if !found.is_file() => Some("not a plain file"),
+        Ok(_) if !force => Some("there is such a file; --force replaces it"),
+        _ => None,
     };
-    put().map_err(|error| Stop::failed(path, error))
+    if let Some(why) = taken {
+        return Err(Error::new(ErrorKind::AlreadyExists, why));
+    }
+    let part = beside(path)?;
+    let file = File::create_new(&part)?;
+    let done = fill(file, bytes);
+    done.inspect_err(|_| drop(fs::remove_file(&part)))?;
+    Ok(part)
+}
+
+/// Gives the files their names; where one cannot have it those before it go.
+fn rename_all(files: &[(&Path, &[u8])], parts: &[PathBuf]) -> Result<(), Stop> {
+    for (number, ((path, _), part)) in files.iter().zip(parts).enumerate() {
+        if let Err(error) = fs::rename(part, path) {
+            for (path, _) in &files[..number] {
+                drop(fs::remove_file(path));
+            }
+            return Err(Stop::failed(path, error));
+        }
+    }
+    Ok(())
 }
 
 /// Refuses an output that is what is to be kept.
 pub fn keep(kept: &Path, target: &Path) -> Result<(), Stop> {
     match same_file(kept, target) {
-        true => Err(Stop::failed(target, "would be written over what is read")),
+        true => Err(Stop::failed(
+            target,
+            "would be written over what is read or written too",
+        )),
         false => Ok(()),
     }
 }
@@ -79,6 +119,7 @@ fn beside(path: &Path) -> io::Result<PathBuf> {
     if path.file_name().is_none() {
         return Err(Error::new(ErrorKind::InvalidInput, "no name to write to"));
     }
-    let part = format!(".kelompuris.{}.part", process::id());
-    Ok(path.with_file_name(part))
+    static MADE: AtomicUsize = AtomicUsize::new(0);
+    let (own, number) = (process::id(), MADE.fetch_add(1, Ordering::Relaxed));
+    Ok(path.with_file_name(format!(".kelompuris.{own}.{number}.part")))
 }

@@ -27,7 +27,7 @@ const fn command(
     }
 }
 
-pub static COMMANDS: [Command; 13] = [
+pub static COMMANDS: [Command; 14] = [
     command(
         "check",
         &["--lenient", "--json"],
@@ -58,6 +58,12 @@ pub static COMMANDS: [Command; 13] = [
         &["--json", "--force"],
         &["--raw"],
         &["[--json] [--raw OUT [--force]] OLD NEW"],
+    ),
+    command(
+        "mend",
+        &["--force"],
+        &["--report"],
+        &["[--report REPORT] [--force] FILE OUT"],
     ),
     command(
         "skeleton",

@@ -8,7 +8,7 @@ use std::fs;
 #[test]
 fn wrong_use() {
     let folder = fresh("wrong_use");
-    let wrong: [&[&str]; 36] = [
+    let wrong: [&[&str]; 38] = [
         &[],
         &["check"],
         &["list"],
@@ -25,6 +25,8 @@ fn wrong_use() {
         &["diff", "hall.b3d"],
         &["diff", "--lenient", "hall.b3d", "hall.b3d"],
         &["diff", "hall.b3d", "hall.b3d", "--raw"],
+        &["mend", "hall.b3d"],
+        &["mend", "hall.b3d", "a", "--report"],
         &["skeleton"],
         &["skeleton", "door.csf", "door.csf"],
         &["skeleton", "--check"],
@@ -58,8 +60,8 @@ fn help_names_all_commands() {
     let help = run(&fresh("help"), &["--help"]);
     assert_eq!((help.status, help.err.as_str()), (0, ""));
     let commands = [
-        "check", "list", "tree", "label", "tables", "build", "clear", "slip", "diff", "skeleton",
-        "mesh",
+        "check", "list", "tree", "label", "tables", "build", "clear", "slip", "diff", "mend",
+        "skeleton", "mesh",
     ];
     for command in commands {
         let line = |line: &str| line.split(' ').next() == Some(command);
@@ -113,6 +115,7 @@ fn files_that_cannot_be_read() {
         run(&folder, &["slip", missing, "out"]).stops(2, missing);
         run(&folder, &["slip", "--show", missing]).stops(2, missing);
         run(&folder, &["diff", "hall.b3d", missing]).stops(2, missing);
+        run(&folder, &["mend", missing, "out"]).stops(2, missing);
         run(&folder, &["skeleton", missing]).stops(2, missing);
         run(&folder, &["skeleton", "--tables", missing, "out"]).stops(2, missing);
         run(&folder, &["mesh", missing]).stops(2, missing);
@@ -132,6 +135,7 @@ fn places_that_cannot_be_written() {
         run(&folder, &["clear", "hall.b3d", target]).stops(2, target);
         run(&folder, &["slip", "hall.b3d", target]).stops(2, target);
         run(&folder, &["build", "t", target]).stops(2, target);
+        run(&folder, &["mend", "hall.b3d", target]).stops(2, target);
         run(&folder, &["diff", "hall.b3d", "hall.b3d", "--raw", target]).stops(2, target);
         run(&folder, &["tables", "hall.b3d", target]).stops(2, target);
         run(&folder, &["skeleton", "--tables", "door.csf", target]).stops(2, target);

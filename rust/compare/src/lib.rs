@@ -6,6 +6,7 @@
 //! - `cal3d`: skeletons and meshes of cal3d.
 //! - `diff`: comparing two files.
 //! - `lent`: tables to lend, and what becomes of them.
+//! - `mend`: mending.
 //! - `output`: writing, clearing and slips of files.
 //! - `pieces`: a file in pieces.
 //! - `slip`: reading slips.
@@ -14,6 +15,7 @@
 mod cal3d;
 mod diff;
 mod lent;
+mod mend;
 mod output;
 pub mod pieces;
 mod run;
@@ -40,7 +42,7 @@ pub struct Compared {
     pub reads: usize,
     /// Words of tables, those around the rows too.
     pub words: usize,
-    /// Calls with an output: writer, clearer, slips, comparing.
+    /// Calls with an output: writer, clearer, slips, comparing, mending.
     pub outputs: usize,
     /// Bytes of outputs, those around them too.
     pub bytes: usize,

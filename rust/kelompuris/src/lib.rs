@@ -5,7 +5,7 @@ pub mod cal3d;
 pub mod pieces;
 mod planner;
 
-pub use planner::{compare, Compared};
+pub use planner::{compare, mend, Compared, Mended};
 
 /// Whether a red, green, blue or alpha outside 0 to 1 is refused.
 #[repr(u32)]

@@ -1,0 +1,65 @@
+-- What becomes of a TRIS, a BONE and a BRUS, from their bytes alone and without refusals: what code that writes follows, once the
+-- file is judged.
+use Prim.Native.Nat.{ℕ, zero, suc, _+_, _*_}
+use mathlib.Core.List.{List, [], _∷_, _++_}
+use lib.ListN.{length, drop, replicate}
+use lib.Dec.{leb}
+use Rattle.layout.specs.Out.{Out, got, bad}
+use Rattle.wire.specs.Bytes.{bytes}
+use Rattle.wire.specs.Test.{if}
+use Rattle.layout.specs.Parts.{Name, Step, wordsOf, row, number, named}
+use Rattle.layout.specs.Rules.{Rule, any, NONE, holds}
+use Rattle.layout.specs.Write.{writeWords, writeText}
+use Rattle.b3d_scene.specs.declared.Mode.the-variants.{Lenient}
+use Rattle.b3d_scene.specs.Rules.{brushRow, brushIds, brushesHead, triangleRow, weightRow, trianglesHead}
+use Rattle.b3d_mend.specs.Edits.{Edit, keep, idSet, itemOut}
+use Rattle.b3d_mend.specs.Mend.{allHold}
+
+-- a number that stays, or an id set to -1
+unfoldable pub wordEdit : Rule → ℕ → Edit
+wordEdit r w = if (holds r w) (keep (bytes w [])) (idSet w NONE)
+
+unfoldable pub wordEdits : List Rule → List ℕ → List Edit
+wordEdits [] ws = []
+wordEdits (r ∷ rs) [] = []
+wordEdits (r ∷ rs) (w ∷ ws) = wordEdit r w ∷ wordEdits rs ws
+
+-- an item that stays, or is taken out
+unfoldable pub itemEdit : List Rule → List ℕ → Edit
+itemEdit rs ws = if (allHold rs ws) (keep (writeWords ws [])) (itemOut (writeWords ws []))
+
+-- items up to the first that is not all there, at most so many
+unfoldable pub itemEditsIn : ℕ → List Rule → List ℕ → List Edit
+itemEditsIn zero rs s = []
+itemEditsIn (suc f) rs [] = []
+itemEditsIn (suc f) rs (c ∷ s) =
+    let it = itemEdit rs (wordsOf (length rs) (c ∷ s)) ∷ itemEditsIn f rs (drop (4 * length rs) (c ∷ s)) in
+    if (leb (4 * length rs) (length (c ∷ s))) it []
+
+unfoldable pub itemEdits : List Rule → List ℕ → List Edit
+itemEdits rs s = itemEditsIn (length s) rs s
+
+unfoldable pub trisEdits : ℕ → ℕ → List ℕ → List Edit
+trisEdits brushes vertices b = wordEdits (trianglesHead brushes) (wordsOf 1 b) ++ itemEdits (triangleRow vertices) (drop 4 b)
+
+unfoldable pub boneEdits : ℕ → List ℕ → List Edit
+boneEdits vertices b = itemEdits (weightRow vertices) b
+
+-- a brush that is there, then what `rest` makes of what follows
+unfoldable pub brushOf : List Rule → (ℕ → List ℕ → List Edit) → Out (Step (Name × List ℕ)) → List Edit
+brushOf rs rest (got x) = keep (writeText (x .value .0 .bytes) []) ∷ (wordEdits rs (x .value .1) ++ rest (x .place) (x .left))
+brushOf rs rest (bad n p) = []
+
+-- brushes up to the first that is not all there, at most so many
+unfoldable pub brushEditsIn : ℕ → List Rule → ℕ → List ℕ → List Edit
+brushEditsIn zero rs p s = []
+brushEditsIn (suc f) rs p [] = []
+brushEditsIn (suc f) rs p (c ∷ s) = brushOf rs (brushEditsIn f rs) (named (replicate (length rs) any) p (c ∷ s))
+
+-- a BRUS by its fixed data
+unfoldable pub brusOf : ℕ → Out (Step (List ℕ)) → List Edit
+brusOf textures (got h) = keep (bytes (number h 0) []) ∷ brushEditsIn (length (h .left)) (brushRow Lenient ++ brushIds (number h 0) textures) (h .place) (h .left)
+brusOf textures (bad n p) = []
+
+unfoldable pub brusEdits : ℕ → ℕ → List ℕ → List Edit
+brusEdits textures p b = brusOf textures (row brushesHead (p + 8) b)

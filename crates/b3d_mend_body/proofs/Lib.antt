@@ -1,0 +1,3 @@
+-- The laws of its ways.
+pub mod ChunksLaws
+pub mod BodyLaws

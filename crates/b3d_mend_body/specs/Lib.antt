@@ -1,0 +1,2 @@
+-- The chunks of a file.
+pub mod Bodies

@@ -1,0 +1,2 @@
+-- The laws of one edit.
+pub mod Showing

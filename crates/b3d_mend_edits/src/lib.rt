@@ -1,0 +1,108 @@
+// One edit of the file, put into the output or only counted: in the mended file what it becomes, in the report its entry.
+ghost use Prim.Native.Nat.{_+_, _≤_, _<_};
+ghost use mathlib.Core.List.{[], _∷_, _++_};
+ghost use lib.ListN.{length, take, drop};
+ghost use Rattle.wire.specs.Bytes.{bytes};
+ghost use Rattle.groups.specs.Groups.{writeNumbers};
+ghost use Rattle.b3d_mend.specs.Edits.{keep, mend};
+ghost use Rattle.b3d_mend_puts.specs.Emits.{Emits, Fits, shown};
+
+// Two numbers in groups.
+fn put_two(n: u32, m: u32, wet: bool, out: &mut [u8], at: usize) -> usize
+    requires { ⌜ Fits wet (writeNumbers (n ∷ m ∷ []) []) at (now out) ⌝ }
+    ensures { λ r. ⌜ Emits wet (writeNumbers (n ∷ m ∷ []) []) (now (out .entry)) at (now (out .exit)) r ⌝ }
+{
+    let next = b3d_mend_puts::put_grouped(n, wet, out, at);
+    b3d_mend_puts::put_grouped(m, wet, out, next)
+}
+
+// The numbers of an entry: the place, which of the four, the byte counts before and after.
+fn put_entry(
+    place: u32,
+    which: u32,
+    before: u32,
+    after: u32,
+    wet: bool,
+    out: &mut [u8],
+    at: usize,
+) -> usize
+    requires { ⌜ Fits wet (writeNumbers (place ∷ which ∷ before ∷ after ∷ []) []) at (now out) ⌝ }
+    ensures { λ r. ⌜ Emits wet (writeNumbers (place ∷ which ∷ before ∷ after ∷ []) []) (now (out .entry)) at (now (out .exit)) r ⌝ }
+{
+    let next = put_two(place, which, wet, out, at);
+    put_two(before, after, wet, out, next)
+}
+
+// Bytes that stay.
+pub fn put_kept(
+    file: &[u8],
+    from: usize,
+    count: usize,
+    report: bool,
+    wet: bool,
+    out: &mut [u8],
+    at: usize,
+) -> usize
+    requires { ⌜ from + count ≤ length (now file) ⌝ }
+    requires { ⌜ Fits wet (shown report from (keep (take count (drop from (now file))) ∷ [])) at (now out) ⌝ }
+    ensures { λ r. ⌜ Emits wet (shown report from (keep (take count (drop from (now (file .entry)))) ∷ [])) (now (out .entry)) at (now (out .exit)) r ⌝ }
+{
+    if report {
+        return at;
+    }
+    b3d_mend_puts::put_copy(file, from, count, wet, out, at)
+}
+
+// Bytes that are taken out.
+pub fn put_taken(
+    file: &[u8],
+    from: usize,
+    count: usize,
+    which: u32,
+    report: bool,
+    wet: bool,
+    out: &mut [u8],
+    at: usize,
+) -> usize
+    requires { ⌜ (from + count ≤ length (now file)) × (length (now file) < 4294967296) ⌝ }
+    requires { ⌜ Fits wet (shown report from (mend which (take count (drop from (now file))) [] ∷ [])) at (now out) ⌝ }
+    ensures { λ r. ⌜ Emits wet (shown report from (mend which (take count (drop from (now (file .entry)))) [] ∷ [])) (now (out .entry)) at (now (out .exit)) r ⌝ }
+{
+    if report {
+        let m = put_entry(from as u32, which, count as u32, 0, wet, out, at);
+        return b3d_mend_puts::put_copy(file, from, count, wet, out, m);
+    }
+    at
+}
+
+// A number of the file, then another.
+fn put_pair(file: &[u8], from: usize, value: u32, wet: bool, out: &mut [u8], at: usize) -> usize
+    requires { ⌜ from + 4 ≤ length (now file) ⌝ }
+    requires { ⌜ Fits wet (take 4 (drop from (now file)) ++ bytes value []) at (now out) ⌝ }
+    ensures { λ r. ⌜ Emits wet (take 4 (drop from (now (file .entry))) ++ bytes value []) (now (out .entry)) at (now (out .exit)) r ⌝ }
+{
+    let next = b3d_mend_puts::put_copy(file, from, 4, wet, out, at);
+    b3d_mend_puts::put_word(value, wet, out, next)
+}
+
+// A number that is set to another.
+pub fn put_set(
+    file: &[u8],
+    from: usize,
+    which: u32,
+    value: u32,
+    report: bool,
+    wet: bool,
+    out: &mut [u8],
+    at: usize,
+) -> usize
+    requires { ⌜ (from + 4 ≤ length (now file)) × (length (now file) < 4294967296) ⌝ }
+    requires { ⌜ Fits wet (shown report from (mend which (take 4 (drop from (now file))) (bytes value []) ∷ [])) at (now out) ⌝ }
+    ensures { λ r. ⌜ Emits wet (shown report from (mend which (take 4 (drop from (now (file .entry)))) (bytes value []) ∷ [])) (now (out .entry)) at (now (out .exit)) r ⌝ }
+{
+    if report {
+        let m = put_entry(from as u32, which, 4, 4, wet, out, at);
+        return put_pair(file, from, value, wet, out, m);
+    }
+    b3d_mend_puts::put_word(value, wet, out, at)
+}

@@ -1,0 +1,2 @@
+-- The chunks of a file after its textures.
+pub mod Phases

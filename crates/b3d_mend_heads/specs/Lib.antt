@@ -1,0 +1,2 @@
+-- Where a chunk's body goes.
+pub mod Heads

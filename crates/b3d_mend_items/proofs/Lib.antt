@@ -1,0 +1,3 @@
+-- The laws of its functions.
+pub mod Keeping
+pub mod KeptLaws

@@ -1,0 +1,2 @@
+-- One item, counted.
+pub mod Ones

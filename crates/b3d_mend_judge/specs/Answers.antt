@@ -1,0 +1,18 @@
+-- What is answered of a file that is to be mended: the refusal, or what the mended file holds, counted.
+use mathlib.Core.Path.{_≡_}
+use Prim.Native.Nat.{ℕ, _≤_}
+use Rattle.layout.specs.Rows.{mostBytes}
+use Rattle.layout.specs.Out.{Out, got, bad}
+use Rattle.b3d_scene.specs.Scene.{Scene}
+use Rattle.b3d_tally.specs.Tally.{sceneTally}
+use Rattle.b3d_judge_body.specs.declared.Verdict.{Verdict}
+use Rattle.b3d_judge_body.specs.declared.Verdict.the-variants as verdict
+use Rattle.b3d_mend.specs.Mend.{Mended}
+
+abbrev pub mendedVerdict : Out (Mended Scene) → Verdict
+mendedVerdict (got x) = verdict.Good (record { version = x .value .version; «n_texs» = x .value .slots; tally = sceneTally (x .value) })
+mendedVerdict (bad n p) = verdict.Bad n p
+
+-- a refusal's place is one of the file, or a table's number
+pub record Placed (r : Verdict) : Type 0 where
+  pub most : (n p : ℕ) → r ≡ verdict.Bad n p → p ≤ mostBytes

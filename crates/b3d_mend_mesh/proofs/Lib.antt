@@ -1,0 +1,3 @@
+-- The laws of its ways.
+pub mod SetLaws
+pub mod MeshLaws

@@ -1,0 +1,2 @@
+-- A mesh from its parts.
+pub mod Parts

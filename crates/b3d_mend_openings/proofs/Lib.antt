@@ -1,0 +1,2 @@
+-- The laws of openings.
+pub mod OpenLaws

@@ -1,0 +1,2 @@
+-- Where the chunks inside a chunk begin.
+pub mod Opens

@@ -1,0 +1,2 @@
+-- Brushes.
+pub mod Brushes

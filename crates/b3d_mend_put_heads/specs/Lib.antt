@@ -1,0 +1,2 @@
+-- Headers.
+pub mod Heads

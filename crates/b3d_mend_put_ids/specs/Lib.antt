@@ -1,0 +1,2 @@
+-- Ids one after the other.
+pub mod Ids

@@ -1,0 +1,3 @@
+-- The laws of its functions.
+pub mod Slices
+pub mod ItemPuts

@@ -1,0 +1,3 @@
+-- The laws of its loop.
+pub mod ListPuts
+pub mod BrusPuts

@@ -1,0 +1,2 @@
+-- Brushes to the end.
+pub mod Lists

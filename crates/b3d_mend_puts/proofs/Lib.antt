@@ -1,0 +1,3 @@
+-- The laws of what is put.
+pub mod Putting
+pub mod Shows

@@ -1,0 +1,80 @@
+-- What edits one after the other show.
+use mathlib.Core.Path.{_≡_, refl, sym, ap, ap₂, _∙_}
+use Prim.Native.Nat.{ℕ, _+_, _<_, _≤_}
+use native.Mathlib.Nat.{add-assoc}
+use native.Mathlib.Omega.{arith}
+use mathlib.Core.Bool.{Bool, true, false}
+use mathlib.Core.List.{List, [], _∷_, _++_, append-assoc, append-nil}
+use lib.ListN.{length, length-append}
+use Rattle.emit.proofs.Joining.{Both}
+use Rattle.groups.specs.Groups.{writeNumbers}
+use Rattle.groups.proofs.Fronts.{numbers-append}
+use Rattle.b3d_mend.specs.Edits.{Edit, keep, follow, mend, was, becomes, before, after}
+use Rattle.b3d_mend.specs.Report.{Entry, numbersOf, entries, entryBytes, reportBytes}
+use Rattle.b3d_mend_puts.specs.Emits.{shown, Fits, Emits}
+use Rattle.b3d_mend_puts.proofs.Putting.{emits-none, fits-first, fits-second, emits-both}
+
+entry-append : (e : Entry) (r : List ℕ) → entryBytes e r ≡ entryBytes e [] ++ r
+unfolding entryBytes
+entry-append e r =
+    numbers-append (numbersOf e) (e .before ++ (e .after ++ r))
+    ∙ ap (λ (l : List ℕ). writeNumbers (numbersOf e) [] ++ l) (ap (λ (l : List ℕ). e .before ++ (l ++ r)) (sym (append-nil (e .after))) ∙ sym (append-assoc (e .before) (e .after ++ []) r))
+    ∙ sym (append-assoc (writeNumbers (numbersOf e) []) (e .before ++ (e .after ++ [])) r)
+    ∙ ap (λ (l : List ℕ). l ++ r) (sym (numbers-append (numbersOf e) (e .before ++ (e .after ++ []))))
+
+pub shown-none : (report : Bool) (p : ℕ) → shown report p [] ≡ []
+unfolding shown entries reportBytes after
+shown-none true p = refl
+shown-none false p = refl
+
+pub shown-cons : (report : Bool) (p : ℕ) (e : Edit) (l : List Edit) → Both (shown report p (e ∷ l)) (shown report p (e ∷ [])) (shown report (p + length (was e)) l)
+unfolding shown entries reportBytes after was becomes
+shown-cons false p e l = record { is = ap (λ (z : List ℕ). z ++ after l) (sym (append-nil (becomes e))) }
+shown-cons true p (keep b) l = record { is = refl }
+shown-cons true p (follow n m) l = record { is = refl }
+shown-cons true p (mend k b a) l = record { is = entry-append (record { place = p; which = k; before = b; after = a }) (reportBytes (entries (p + length b) l)) }
+
+pub shown-append : (report : Bool) (p : ℕ) (x y : List Edit) → Both (shown report p (x ++ y)) (shown report p x) (shown report (p + length (before x)) y)
+unfolding before
+shown-append report p [] y = record { is = ap (λ (n : ℕ). shown report n y) (let q : p ≡ p + 0 = omega arith in q) ∙ ap (λ (z : List ℕ). z ++ shown report (p + 0) y) (sym (shown-none report p)) }
+shown-append report p (e ∷ x) y =
+    let n : p + length (was e) + length (before x) ≡ p + length (was e ++ before x) = omega (arith, length-append (was e) (before x)) in
+    record {
+      is =
+          shown-cons report p e (x ++ y) .is
+          ∙ ap (λ (z : List ℕ). shown report p (e ∷ []) ++ z) (shown-append report (p + length (was e)) x y .is)
+          ∙ sym (append-assoc (shown report p (e ∷ [])) (shown report (p + length (was e)) x) (shown report (p + length (was e) + length (before x)) y))
+          ∙ ap₂ (λ (z : List ℕ) (k : ℕ). z ++ shown report k y) (sym (shown-cons report p e x .is)) n;
+    }
+
+-- ---- parts one after the other, up to a place
+
+-- all of it was to be put from `at` on; what is left from m on is `rest`
+pub record Left (wet : Bool) (all xs : List ℕ) (at : ℕ) (ys : List ℕ) (m : ℕ) (rest : List ℕ) : Type 0 where
+  pub front : List ℕ
+  pub both : Both all front rest
+  pub put : Emits wet front xs at ys m
+  pub fits : Fits wet rest m ys
+
+pub left-none : (wet : Bool) (all xs : List ℕ) (at : ℕ) → Fits wet all at xs → Left wet all xs at xs at all
+left-none wet all xs at f = record { front = []; both = record { is = refl }; put = emits-none wet [] xs at refl; fits = f }
+
+module _ (wet : Bool) (all xs : List ℕ) (at : ℕ) (ys : List ℕ) (m : ℕ) (rest : List ℕ) (l : Left wet all xs at ys m rest) where
+  pub left-done : rest ≡ [] → Emits wet all xs at ys m
+  left-done e = emits-both (l .both) wet xs at ys m (l .put) ys m (emits-none wet rest ys m e)
+
+  module _ (a b : List ℕ) (two : Both rest a b) where
+    pub left-fits : Fits wet a m ys
+    left-fits = fits-first two wet ys m (l .fits)
+
+    pub left-next : (zs : List ℕ) (n : ℕ) → Emits wet a ys m zs n → Left wet all xs at zs n b
+    left-next zs n e = record {
+      front = l .front ++ a;
+      both = record { is = l .both .is ∙ ap (λ (z : List ℕ). l .front ++ z) (two .is) ∙ sym (append-assoc (l .front) a b) };
+      put = emits-both (record { is = refl }) wet xs at ys m (l .put) zs n e;
+      fits = fits-second two wet ys m zs n e (l .fits);
+    }
+
+    -- the last part
+    pub left-last : b ≡ [] → (zs : List ℕ) (n : ℕ) → Emits wet a ys m zs n → Emits wet all xs at zs n
+    left-last e zs n g = emits-both (l .both) wet xs at ys m (l .put) zs n (emits-both two wet ys m zs n g zs n (emits-none wet b zs n e))

@@ -1,0 +1,2 @@
+-- What is put into an output.
+pub mod Emits

@@ -1,0 +1,2 @@
+-- The mending read without what becomes of the bytes.
+pub mod Lax

@@ -1,0 +1,2 @@
+-- Answers for bytes of two sizes.
+pub mod BothSizes

@@ -1,0 +1,2 @@
+-- A cursor without spare bytes.
+pub mod Trimmed

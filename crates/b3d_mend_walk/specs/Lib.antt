@@ -1,0 +1,2 @@
+-- Steps of a walk.
+pub mod Steps

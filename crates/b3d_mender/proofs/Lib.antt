@@ -1,0 +1,2 @@
+-- The laws of the mender.
+pub mod MendLaws

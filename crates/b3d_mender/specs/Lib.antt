@@ -1,0 +1,2 @@
+-- Files that can be mended.
+pub mod Mendable
