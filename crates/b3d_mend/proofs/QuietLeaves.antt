@@ -127,7 +127,7 @@ in-strict (suc f) p (a ∷ b ∷ c ∷ d ∷ e ∷ g ∷ h ∷ i ∷ s) =
     if-strict (leb n (length s)) _ _ p (a ∷ b ∷ c ∷ d ∷ e ∷ g ∷ h ∷ i ∷ s)
     (piece-strict (tagOf (word a b c d)) p (a ∷ b ∷ c ∷ d ∷ e ∷ g ∷ h ∷ i ∷ []) (take n s) (piecesIn f (p + 8 + n) (drop n s)) _ (in-strict f (p + 8 + n) (drop n s)))
 
-split-strict : (p : ℕ) (s : List ℕ) → split p s ≡ strictOf (pieces p s)
+pub split-strict : (p : ℕ) (s : List ℕ) → split p s ≡ strictOf (pieces p s)
 unfolding splitOf pieces
 split-strict p s = in-strict (length s) p s
 

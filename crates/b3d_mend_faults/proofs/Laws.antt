@@ -1,0 +1,143 @@
+-- The reader's refusal is the first of a file's faults, the mender's the first of another kind.
+use mathlib.Core.Logic.{_⊎_, inl, inr}
+use mathlib.Core.Path.{_≡_, refl, ap, ap₂, sym, _∙_, subst}
+use Prim.Native.Nat.{ℕ, _≤_}
+use native.Mathlib.Omega.{arith}
+use mathlib.Core.Bool.{Bool, true, false}
+use mathlib.Core.List.{List, [], _∷_}
+use lib.ListN.{length}
+use lib.Dec.{leb}
+use Rattle.layout.specs.Out.{Out, got, bad, check, _>>=_}
+use Rattle.layout.specs.Rows.{eachOf}
+use Rattle.layout.proofs.Outs.{bad-got}
+use Rattle.b3d_scene.specs.declared.Mode.the-variants.{Lenient}
+use Rattle.b3d_scene.specs.Answers.{judge}
+use Rattle.b3d_scene.specs.Parse.{parse}
+use Rattle.b3d_scene.specs.Rules.{rowLimit}
+use Rattle.b3d_scene.specs.Scene.{Scene}
+use Rattle.b3d_scene.specs.Tables.{rows, tables}
+use Rattle.b3d_mend.specs.Mend.{Mended, mendFile}
+use Rattle.b3d_mend.specs.Report.{Mending, mending, mendJudged, roomForBoth, mendInto}
+use Rattle.b3d_mend_faults.specs.Faults.{Fault, Reading, gives, ends, passes, listed, fileFaults, faults}
+use Rattle.b3d_mend_faults.specs.Headers.{Spare, Past}
+use Rattle.b3d_mend_faults.specs.FirstFault.{refusalBy, others, refusalOf, FirstFault}
+use Rattle.b3d_mend_faults.proofs.Agreeing.{Agrees, Any}
+use Rattle.b3d_mend_faults.proofs.Reader.{file-read}
+use Rattle.b3d_mend_faults.proofs.Mender.{file-mend}
+use Rattle.b3d_mend_faults.proofs.Dues.{apart}
+use Rattle.b3d_mend_faults.proofs.Threes.{Each, Three, file-each}
+
+-- ---- the list
+
+-- who refuses all refuses the first
+first-of : {A B : Type 0} (m : Reading A) (o : Out B) → Agrees false Any m o → refusalOf o ≡ refusalBy (listed m)
+unfolding refusalOf refusalBy listed
+first-of (gives a) (got b) h = refl
+first-of (gives a) (bad n p) h = absurd h
+first-of (ends n p) o h = ap refusalOf h
+first-of (passes k n p m) o h = ap refusalOf h
+
+-- who passes the four refuses the first other
+other-of : {A B : Type 0} (m : Reading A) (o : Out B) → Agrees true Any m o → refusalOf o ≡ refusalBy (others (listed m))
+unfolding refusalOf refusalBy others listed
+other-of (gives a) (got b) h = refl
+other-of (gives a) (bad n p) h = absurd h
+other-of (ends n p) o h = ap refusalOf h
+other-of (passes k n p m) o h = other-of m o h
+
+-- ---- answers
+
+whole : {A : Type 0} (o : Out A) (n p : ℕ) → refusalOf o ≡ bad n p → o ≡ bad n p
+unfolding refusalOf
+whole (got a) n p e = bad-got (sym e)
+whole {A} (bad i q) n p e = let en : i ≡ n = cc in let ep : q ≡ p = cc in ap₂ {C = Out A} bad en ep
+
+-- where the rest refuses with other numbers, it was refused before
+before : {A B : Type 0} (m : Out A) (k : A → Out B) (n p : ℕ) → ((a : A) → k a ≡ bad n p → ⊥) → (m >>= k) ≡ bad n p → m ≡ bad n p
+before (got a) k n p f e = absurd (f a e)
+before {A} (bad i q) k n p f e = let en : i ≡ n = cc in let ep : q ≡ p = cc in ap₂ {C = Out A} bad en ep
+
+each-not : {A : Type 0} (i : ℕ) (ok : ℕ → Bool) (ks : List ℕ) (a : A) (n p : ℕ) → (i ≡ n → ⊥) → (eachOf i ok ks >>= λ _. got a) ≡ bad n p → ⊥
+unfolding eachOf check
+each-not i ok [] a n p f e = bad-got (sym e)
+each-not {A} i ok (k ∷ ks) a n p f e = by (ok k) (each-not i ok ks a n p f) e
+  where
+    by : (b : Bool) → ((eachOf i ok ks >>= λ _. got a) ≡ bad n p → ⊥) → ((check b i k >>= λ _. eachOf i ok ks) >>= λ _. got a) ≡ bad n p → ⊥
+    by true g e = g e
+    by false g e = let z : i ≡ n = cc in f z
+
+check-not : {A : Type 0} (b : Bool) (i q : ℕ) (o : Out A) (n p : ℕ) → (i ≡ n → ⊥) → (o ≡ bad n p → ⊥) → (check b i q >>= λ _. o) ≡ bad n p → ⊥
+unfolding check
+check-not true i q o n p f g e = g e
+check-not false i q o n p f g e = let z : i ≡ n = cc in f z
+
+room-not : (room reportRoom : ℕ) (m : Mending) (n p : ℕ) → (11 ≡ n → ⊥) → roomForBoth room reportRoom m ≡ bad n p → ⊥
+unfolding roomForBoth
+room-not room reportRoom m n p f e =
+    check-not (leb (length (m .file)) room) 11 (length (m .file)) _ n p f
+    (λ e₁. check-not (leb (length (m .report)) reportRoom) 11 (length (m .report)) (got m) n p f (λ e₂. bad-got (sym e₂)) e₁) e
+
+judge-stays : (s : List ℕ) (n p : ℕ) → parse Lenient s ≡ bad n p → judge Lenient s ≡ bad n p
+unfolding judge
+judge-stays s n p e = ap (λ (o : Out Scene). o >>= λ t. eachOf 10 (λ k. leb (length (rows k t)) rowLimit) tables >>= λ _. got t) e
+
+judge-before : (s : List ℕ) (n p : ℕ) → n ≤ 9 → judge Lenient s ≡ bad n p → parse Lenient s ≡ bad n p
+unfolding judge
+judge-before s n p l e = before (parse Lenient s) _ n p (λ t e₁. each-not 10 (λ k. leb (length (rows k t)) rowLimit) tables t n p (λ z. omega arith) e₁) e
+
+mend-stays : (s : List ℕ) (n p room reportRoom : ℕ) → mendFile s ≡ bad n p → mendInto room reportRoom s ≡ bad n p
+unfolding mendInto mendJudged
+mend-stays s n p room reportRoom e =
+    ap (λ (o : Out (Mended Scene)). o >>= (λ x. eachOf 10 (λ k. leb (length (rows k (x .value))) rowLimit) tables >>= λ _. got x) >>= λ y. roomForBoth room reportRoom (mending (y .edits))) e
+
+mend-before : (s : List ℕ) (n p room reportRoom : ℕ) → n ≤ 9 → mendInto room reportRoom s ≡ bad n p → mendFile s ≡ bad n p
+unfolding mendInto mendJudged
+mend-before s n p room reportRoom l e =
+    before (mendFile s) _ n p (λ x e₁. each-not 10 (λ k. leb (length (rows k (x .value))) rowLimit) tables x n p (λ z. omega arith) e₁)
+    (before (mendJudged s) _ n p (λ x e₁. room-not room reportRoom (mending (x .edits)) n p (λ z. omega arith) e₁) e)
+
+-- ---- the two kinds of 3
+
+same-refusal : {A : Type 0} {i q n p : ℕ} → _≡_ {A = Out A} (bad i q) (bad n p) → (i ≡ n) × (q ≡ p)
+same-refusal e = (cc, cc)
+
+-- a 3 that comes first is spare bytes, or a length past what encloses it, which comes first of the others too
+first-three : {A : Type 0} (s : List ℕ) (R : A → Type 0) (m : Reading A) (p : ℕ) → Each (Three s) R m → refusalBy (listed m) ≡ bad 3 p → Spare s p ⊎ (Past s p × (refusalBy (others (listed m)) ≡ bad 3 p))
+unfolding refusalBy others listed
+first-three s R (gives a) p h e = bad-got (sym e)
+first-three s R (ends n q) p h e = let z = same-refusal e in inr (subst (Past s) (z .1) (h (z .0)), e)
+first-three s R (passes k n q m) p h e = let z = same-refusal e in inl (subst (Spare s) (z .1) (h .0 (z .0)))
+
+other-three : {A : Type 0} (s : List ℕ) (R : A → Type 0) (m : Reading A) (p : ℕ) → Each (Three s) R m → refusalBy (others (listed m)) ≡ bad 3 p → Past s p
+unfolding refusalBy others listed
+other-three s R (gives a) p h e = bad-got (sym e)
+other-three s R (ends n q) p h e = let z = same-refusal e in subst (Past s) (z .1) (h (z .0))
+other-three s R (passes k n q m) p h e = other-three s R m p (h .1) e
+
+-- ---- the statement
+
+pub first-fault : (s : List ℕ) → FirstFault s
+unfolding faults refusalBy others refusalOf
+first-fault s =
+    let reader = first-of (fileFaults s) (parse Lenient s) (file-read s) in
+    let mender = other-of (fileFaults s) (mendFile s) (file-mend s) in
+    let by-three : (p : ℕ) → judge Lenient s ≡ bad 3 p → Spare s p ⊎ (Past s p × (refusalBy (others (listed (fileFaults s))) ≡ bad 3 p)) = λ p e. first-three s _ (fileFaults s) p (file-each s) (sym reader ∙ ap refusalOf (judge-before s 3 p (omega arith) e)) in
+    record {
+      reader = reader;
+      mender = mender;
+      judged = λ n p e. judge-stays s n p (whole (parse Lenient s) n p (reader ∙ e));
+      judged-by = λ n p l e. sym reader ∙ ap refusalOf (judge-before s n p l e);
+      refused = λ n p e room reportRoom. mend-stays s n p room reportRoom (whole (mendFile s) n p (mender ∙ e));
+      refused-by = λ n p l room reportRoom e. sym mender ∙ ap refusalOf (mend-before s n p room reportRoom l e);
+      same = λ n p l e room reportRoom. (
+        judge-stays s n p (whole (parse Lenient s) n p (reader ∙ ap refusalBy e)),
+        mend-stays s n p room reportRoom (whole (mendFile s) n p (mender ∙ ap (λ (x : List Fault). refusalBy (others x)) e)),
+      );
+      three = λ p e. elim (by-three p e) [ inl x ↦ inl x | inr x ↦ inr (x .0) ];
+      apart = apart s;
+      past = λ p e h room reportRoom. elim (by-three p e) [
+        | inl x ↦ absurd (apart s p x h)
+        | inr x ↦ mend-stays s 3 p room reportRoom (whole (mendFile s) 3 p (mender ∙ x .1))
+      ];
+      only-past = λ p room reportRoom e. other-three s _ (fileFaults s) p (file-each s) (sym mender ∙ ap refusalOf (mend-before s 3 p room reportRoom (omega arith) e));
+    }
