@@ -25,6 +25,7 @@ use Rattle.b3d_scene.specs.Rules.{header, rowLimit}
 use Rattle.b3d_scene.specs.Scene.{Scene}
 use Rattle.b3d_scene.specs.Tables.{rows, tables}
 use Rattle.b3d_scene.specs.Tags.{code}
+use Rattle.b3d_scene.proofs.Laws.{refused}
 use Rattle.b3d_faults.specs.ByHeaders.{Looked, Meets, here, passed, behind, within, endOf, withChunk, Sooner}
 use Rattle.b3d_faults.specs.GivenByTable.{SaysNo, denied, owing, Fault, GivenByTable}
 use Rattle.b3d_faults.specs.GivenAtColours.{HasColour, brush, vertex, Colour, GivenAtColours}
@@ -143,8 +144,9 @@ module _ (mode : Mode) (answer soft : List ℕ → Out Scene) (says : (s : List 
       by (got t) e h = absurd (h .0 n p m f)
       by (bad i q) e h = elim (h .0 .first n p m f) [ inl x ↦ inl (e ∙ ap (λ (j : ℕ). bad j q) (x .0) ∙ ap (bad n) (x .1)) | inr x ↦ inr (i, q, e, x) ]
 
-  given-by-table : GivenByTable answer
-  given-by-table = record {
+  given-by-table : ((s : List ℕ) (n p m q : ℕ) → Fault s n p m → answer s ≡ bad 10 q → ⊥) → GivenByTable answer
+  given-by-table late = record {
+    before-ten = late;
     four = λ s p e.
         let x = subst (λ (o : Out Scene). Answers mode s o (soft s)) e (says s) .0 .given (inl refl) in
         let f = fault-of mode s 4 p (x .0) (λ z. omega arith) (x .1) in
@@ -153,11 +155,23 @@ module _ (mode : Mode) (answer soft : List ℕ → Out Scene) (says : (s : List 
     given = λ s n p m f. found-given s n p m (of-fault mode s n p m f);
   }
 
+-- ---- 10 comes after what is found in a body
+
+same-place : {i q j p : ℕ} → _≡_ {A = Out Scene} (bad i q) (bad j p) → (i ≡ j) × (q ≡ p)
+same-place e = (cc, cc)
+
+not-ten : (mode : Mode) (s : List ℕ) (i p q : ℕ) → parse mode s ≡ bad i p → judge mode s ≡ bad 10 q → ⊥
+unfolding judge
+not-ten mode s i p q e h = let j : judge mode s ≡ bad i p = rw e in omega (arith, same-place (sym j ∙ h) .0, refused mode s i p e)
+
+found-not-ten : (mode : Mode) (s : List ℕ) (n p m q : ℕ) → InBody mode s n p m → judge mode s ≡ bad 10 q → ⊥
+found-not-ten mode s n p m q f h = elim (found-given mode (parse mode) (parse Lenient) (parse-answers mode) s n p m f) [ inl x ↦ not-ten mode s n p q x h | inr x ↦ not-ten mode s (x .0) (x .1) q (x .2) h ]
+
 pub parse-given : (mode : Mode) → GivenByTable (parse mode)
-parse-given mode = given-by-table mode (parse mode) (parse Lenient) (parse-answers mode)
+parse-given mode = given-by-table mode (parse mode) (parse Lenient) (parse-answers mode) (λ s n p m q f h. omega (arith, refused mode s 10 q h))
 
 pub judge-given : (mode : Mode) → GivenByTable (judge mode)
-judge-given mode = given-by-table mode (judge mode) (judge Lenient) (judge-answers mode)
+judge-given mode = given-by-table mode (judge mode) (judge Lenient) (judge-answers mode) (λ s n p m q f h. found-not-ten mode s n p m q (of-fault mode s n p m f) h)
 
 -- ---- 6 at a colour
 
@@ -187,11 +201,11 @@ colour-found s p f = (
   meets-all s (Event Strict s 6 p p) (holds unit (wordAt s p) ≡ false) (λ k head h last r x. elim x [ inl y ↦ absurd (no-six s p p k head h last r y) | inr y ↦ y .4 .2 ]) BB3D 0 12 (length s) start f,
 )
 
-colour-given : (s : List ℕ) (p : ℕ) → Colour s p → holds unit (wordAt s p) ≡ false → (judge Strict s ≡ bad 6 p) ⊎ ((i : ℕ) × (q : ℕ) × (judge Strict s ≡ bad i q) × Sooner p i q)
-colour-given s p c n = found-given Strict (judge Strict) (judge Lenient) (judge-answers Strict) s 6 p p (meets-as s (HasColour s p) (Event Strict s 6 p p) (colour-event s p n) BB3D 0 12 (length s) start c)
+colour-met : (s : List ℕ) (p : ℕ) → Colour s p → holds unit (wordAt s p) ≡ false → InBody Strict s 6 p p
+colour-met s p c n = meets-as s (HasColour s p) (Event Strict s 6 p p) (colour-event s p n) BB3D 0 12 (length s) start c
 
-same-place : {i q j p : ℕ} → _≡_ {A = Out Scene} (bad i q) (bad j p) → (i ≡ j) × (q ≡ p)
-same-place e = (cc, cc)
+colour-given : (s : List ℕ) (p : ℕ) → Colour s p → holds unit (wordAt s p) ≡ false → (judge Strict s ≡ bad 6 p) ⊎ ((i : ℕ) × (q : ℕ) × (judge Strict s ≡ bad i q) × Sooner p i q)
+colour-given s p c n = found-given Strict (judge Strict) (judge Lenient) (judge-answers Strict) s 6 p p (colour-met s p c n)
 
 colour-first : (s : List ℕ) (p q : ℕ) → judge Strict s ≡ bad 6 p → Colour s q → q < p → holds unit (wordAt s q) ≡ true
 colour-first s p q e c l = by (holds unit (wordAt s q)) refl
@@ -208,4 +222,5 @@ colours-given s = record {
   colour = λ p e n. elim (subst (λ (o : Out Scene). Answers Strict s o (judge Lenient s)) e (judge-answers Strict s) .1) [ inl x ↦ absurd (n x) | inr x ↦ colour-found s p x ];
   first = colour-first s;
   given = colour-given s;
+  before-ten = λ p q c n h. found-not-ten Strict s 6 p p q (colour-met s p c n) h;
 }

@@ -20,15 +20,15 @@ use Rattle.b3d_faults.specs.ByHeaders.{tagAt, endOf, part, mayStand, InF
 
 -- ---- items
 
--- the item that begins at place q of a chunk that ends at `last` ends at e: a brush, its name and its numbers, of so many slots; a vertex of so many numbers
+-- the item that begins at place q of a chunk that ends at `last` ends at e: a brush, which is a name, seven numbers and `slots` ids; a vertex, which is `numbers` numbers
 abbrev pub BrushTo : List ℕ → ℕ → ℕ → ℕ → ℕ → Type 0
 BrushTo s slots last q e = (x : Step (Name × List ℕ)) × (named (replicate (7 + slots) any) q (part s q last) ≡ got x) × (e ≡ x .place)
 
 abbrev pub VertexTo : ℕ → ℕ → ℕ → ℕ → Type 0
 VertexTo numbers last q e = (e ≡ q + 4 * numbers) × (e ≤ last)
 
--- p is the place of a colour in an item from place q on; an item is so many numbers and what stands before them, of which `colours` are colours, the first of
--- them behind `before` others
+-- p is the place of a colour in an item from place q on; an item ends with `numbers` numbers, of which `colours` are colours, the first of them behind
+-- `before` others
 pub data ColourIn (To : ℕ → ℕ → Type 0) (numbers before colours p : ℕ) : ℕ → Type 0 where
   this : (q e : ℕ) → To q e → (c : ℕ) → c < colours → p + 4 * numbers ≡ e + 4 * (before + c) → ColourIn To numbers before colours p q
   later : (q e : ℕ) → To q e → ColourIn To numbers before colours p e → ColourIn To numbers before colours p q
@@ -62,3 +62,5 @@ pub record GivenAtColours (s : List ℕ) : Type 0 where
   pub first : (p q : ℕ) → judge Strict s ≡ bad 6 p → Colour s q → q < p → holds unit (wordAt s q) ≡ true
   -- a colour that does not pass is refused, unless another refusal comes sooner
   pub given : (p : ℕ) → Colour s p → holds unit (wordAt s p) ≡ false → (judge Strict s ≡ bad 6 p) ⊎ ((i : ℕ) × (q : ℕ) × (judge Strict s ≡ bad i q) × Sooner p i q)
+  -- which 10 never does
+  pub before-ten : (p q : ℕ) → Colour s p → holds unit (wordAt s p) ≡ false → judge Strict s ≡ bad 10 q → ⊥

@@ -32,3 +32,5 @@ pub record GivenByTable (answer : List ℕ → Out Scene) : Type 0 where
   pub eight : (s : List ℕ) (p : ℕ) → answer s ≡ bad 8 p → (m : ℕ) × Fault s 8 p m
   -- and wherever it says so, unless another refusal comes sooner
   pub given : (s : List ℕ) (n p m : ℕ) → Fault s n p m → (answer s ≡ bad n p) ⊎ ((i : ℕ) × (q : ℕ) × (answer s ≡ bad i q) × Sooner m i q)
+  -- which 10 never does: its place is a table's number
+  pub before-ten : (s : List ℕ) (n p m q : ℕ) → Fault s n p m → answer s ≡ bad 10 q → ⊥

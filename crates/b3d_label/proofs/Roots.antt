@@ -1,7 +1,7 @@
 -- What each step of `root_label` and `file_label` says of the label.
 use Prim.Native.Nat.{ℕ}
 use native.Mathlib.Omega.{arith}
-use mathlib.Core.Path.{_≡_, refl, sym, _∙_}
+use mathlib.Core.Path.{_≡_, refl, ap, sym, _∙_}
 use mathlib.Core.List.{List}
 use lib.ListN.{length, take}
 use lib.Seq.{length-take-le}
@@ -24,7 +24,7 @@ use Rattle.b3d_walk.specs.declared.Sought.{Sought}
 use Rattle.b3d_walk.specs.declared.Sought.the-variants as sought
 use Rattle.b3d_walk.proofs.Seeking.{sought-body}
 use Rattle.b3d_label_walk.specs.Walk.{Refused, rootVertices, Printed, rootIn, fileIn, noLabel, labelled}
-use Rattle.b3d_label.specs.Answers.{manyOf, Labels}
+use Rattle.b3d_label.specs.Answers.{manySays, onLabel, Labels}
 use Rattle.b3d_label.specs.declared.Many.{Many}
 use Rattle.b3d_label.specs.declared.Many.the-variants as many
 use Rattle.b3d_label_walk.specs.declared.TrayLabel.{TrayLabel}
@@ -41,11 +41,11 @@ refused-then o f h = (h .0, h .1, rw (h .2))
 
 -- ---- what vertices say
 
-many-not : (o : Out ℕ) → manyOf o ≡ many.Not → Refused o
+many-not : (o : Out ℕ) → onLabel o ≡ bad 14 0 → Refused o
 many-not (got k) e = let z : _≡_ {A = ℕ} 0 1 = cc in absurd (omega arith)
 many-not (bad n p) e = (n, p, refl)
 
-many-are : (o : Out ℕ) (k : ℕ) → manyOf o ≡ many.Are k → o ≡ got k
+many-are : (o : Out ℕ) (k : ℕ) → onLabel o ≡ got k → o ≡ got k
 many-are (got j) k e = cc
 many-are (bad n p) k e = let z : _≡_ {A = ℕ} 0 1 = cc in absurd (omega arith)
 
@@ -77,17 +77,17 @@ module _ (s : List ℕ) (b : Cursor) (i : Inside b (length s)) (r : Named) (e : 
     long : length (take len (left b s)) ≡ len
     long = let g = named-among b 10 r f len row n w in length-take-le len (left b s) (omega (arith, left-length s b i))
 
-    module _ (m : Many) (y : m ≡ manyOf Inside-root) where
+    module _ (m : Many) (y : manySays m ≡ onLabel Inside-root) where
       pub root-refused : m ≡ many.Not → (l : TrayLabel) → l ≡ noLabel → Right l
       root-refused q =
-          let h = refused-then Inside-root named-with (many-not Inside-root (sym y ∙ q)) in
+          let h = refused-then Inside-root named-with (many-not Inside-root (sym y ∙ ap manySays q)) in
           label-none _ (length s) (h .0, h .1, opened ∙ h .2)
 
       pub root-labelled : (k : ℕ) → m ≡ many.Are k → Right (record { number = 0; place = 0; «name_place» = b .at; «name_length» = len; vertices = k })
       unfolding labelled
       root-labelled k q =
           let g = named-among b 10 r f len row n w in
-          record { is = rw (opened, many-are Inside-root k (sym y ∙ q), long); within = omega (arith, i) }
+          record { is = rw (opened, many-are Inside-root k (sym y ∙ ap manySays q), long); within = omega (arith, i) }
 
 pub ruleset root-label-laws = (root-unnamed, root-after, root-refused, root-labelled)
 

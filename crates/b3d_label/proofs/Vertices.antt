@@ -14,7 +14,7 @@ use Rattle.wire.specs.declared.Number.{Number}
 use Rattle.wire.specs.declared.Number.the-variants as number
 use Rattle.wire.proofs.Found.{number-inside}
 use Rattle.wire.proofs.Left.{span, left-length, left-drop}
-use Rattle.layout.specs.Out.{got, check, _>>=_}
+use Rattle.layout.specs.Out.{Out, got, bad, check, _>>=_}
 use Rattle.layout.specs.Parts.{wordsOf, judged, row}
 use Rattle.layout.proofs.StepLaws.{row-enough, row-short, three-left}
 use Rattle.b3d_scene.specs.declared.Tag.{Tag}
@@ -33,7 +33,7 @@ use Rattle.b3d_walk.specs.declared.Sought.{Sought}
 use Rattle.b3d_walk.specs.declared.Sought.the-variants as sought
 use Rattle.b3d_walk.proofs.Seeking.{sought-body}
 use Rattle.b3d_label_walk.specs.Walk.{vrtsVertices, meshVertices, rootVertices}
-use Rattle.b3d_label.specs.Answers.{manyOf}
+use Rattle.b3d_label.specs.Answers.{manySays, onLabel}
 use Rattle.b3d_label.specs.declared.Many.{Many}
 use Rattle.b3d_label.specs.declared.Many.the-variants as many
 use Rattle.b3d_label.proofs.Heads.{one-cut, one-got}
@@ -46,18 +46,18 @@ abbrev after : Cursor → Cursor
 after b = span (b .at + 12) (b .end)
 
 -- how many items, if they were counted
-abbrev manyCounted : Counted → Many
-manyCounted (counts.Is k) = many.Are k
-manyCounted (counts.Not n p) = many.Not
+abbrev saysCounted : Counted → Out ℕ
+saysCounted (counts.Is k) = got k
+saysCounted (counts.Not n p) = bad 14 0
 
-many-counted : (t : Bool) (k n p : ℕ) → manyOf (check t 14 0 >>= λ _. got k) ≡ manyCounted (if t (counts.Is k) (counts.Not n p))
+many-counted : (t : Bool) (k n p : ℕ) → onLabel (check t 14 0 >>= λ _. got k) ≡ saysCounted (if t (counts.Is k) (counts.Not n p))
 unfolding check if
 many-counted true k n p = refl
 many-counted false k n p = refl
 
 module _ (s : List ℕ) (b : Cursor) (i : Inside b (length s)) where
   abbrev Right : Many → Type 0
-  Right m = m ≡ manyOf (vrtsVertices (b .at) (left b s))
+  Right m = manySays m ≡ onLabel (vrtsVertices (b .at) (left b s))
 
   pub vrts-cut : b .end - b .at < 12 → Right many.Not
   unfolding vrtsVertices
@@ -92,21 +92,21 @@ module _ (s : List ℕ) (b : Cursor) (i : Inside b (length s)) where
           unfolding judged check
           whole = rw (head, le-leb _ _ f3, le-leb _ _ s8, le-leb _ _ s4)
 
-          counted : manyOf (vrtsVertices (b .at) (left b s)) ≡ manyCounted x
+          counted : onLabel (vrtsVertices (b .at) (left b s)) ≡ saysCounted x
           unfolding vrtsVertices dividedAt
           counted = rw (whole, ← v, left-length s (after b) (record { before = omega arith; within = i .within }), y) (many-counted _ _ _ _)
 
           pub vrts-bad : (n p : ℕ) → x ≡ counts.Not n p → Right many.Not
-          vrts-bad n p q = sym (counted ∙ ap manyCounted q)
+          vrts-bad n p q = sym (counted ∙ ap saysCounted q)
 
           pub vrts-all : (k : ℕ) → x ≡ counts.Is k → Right (many.Are k)
-          vrts-all k q = sym (counted ∙ ap manyCounted q)
+          vrts-all k q = sym (counted ∙ ap saysCounted q)
 
 -- ---- MESH
 
 module _ (s : List ℕ) (b : Cursor) (i : Inside b (length s)) (r : Number) (e : r ≡ numberAt s b) where
   abbrev MeshRight : Many → Type 0
-  MeshRight m = m ≡ manyOf (meshVertices (b .at) (left b s))
+  MeshRight m = manySays m ≡ onLabel (meshVertices (b .at) (left b s))
 
   pub mesh-cut : r ≡ number.Cut → MeshRight many.Not
   unfolding meshVertices
@@ -117,7 +117,7 @@ module _ (s : List ℕ) (b : Cursor) (i : Inside b (length s)) (r : Number) (e :
     unfolding meshVertices
     mesh-none q = rw (one-got s b i r e k c w, first-not s c VRTS x y q .2)
 
-    pub mesh-some : (p : ℕ) (v n : Cursor) → x ≡ sought.Found p v n → (m : Many) → m ≡ manyOf (vrtsVertices (v .at) (left v s)) → MeshRight m
+    pub mesh-some : (p : ℕ) (v n : Cursor) → x ≡ sought.Found p v n → (m : Many) → manySays m ≡ onLabel (vrtsVertices (v .at) (left v s)) → MeshRight m
     unfolding meshVertices
     mesh-some p v n q m h = h ∙ rw (one-got s b i r e k c w, first-found s c VRTS x y p v n q)
 
@@ -127,7 +127,7 @@ pub ruleset mesh-laws = (number-inside, mesh-cut, mesh-none, sought-body, mesh-s
 
 module _ (s : List ℕ) (c : Cursor) (r : Next) (x : NextIs s c r) where
   abbrev RootRight : Many → Type 0
-  RootRight m = m ≡ manyOf (rootVertices (split (c .at) (left c s)))
+  RootRight m = manySays m ≡ onLabel (rootVertices (split (c .at) (left c s)))
 
   pub root-done : r ≡ next.Done → RootRight (many.Are 0)
   unfolding rootVertices
@@ -142,7 +142,7 @@ module _ (s : List ℕ) (c : Cursor) (r : Next) (x : NextIs s c r) where
     root-inside i = body-inside s c r x t p b n w (length s) i
 
     module _ (k : ℕ) (e : k ≡ code t) where
-      pub root-mesh : k ≡ code MESH → (m : Many) → m ≡ manyOf (meshVertices (b .at) (left b s)) → RootRight m
+      pub root-mesh : k ≡ code MESH → (m : Many) → manySays m ≡ onLabel (meshVertices (b .at) (left b s)) → RootRight m
       unfolding rootVertices if
       root-mesh q m h = let f = chunk-among s c r x t p b n w in h ∙ rw (chunk-is s c r x t p b n w, ← e, q, f .body)
 

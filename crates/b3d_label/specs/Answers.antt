@@ -9,9 +9,15 @@ use Rattle.b3d_label_walk.specs.declared.TrayLabel.{TrayLabel}
 
 -- ---- vertices
 
-abbrev pub manyOf : Out ℕ → Many
-manyOf (got n) = many.Are n
-manyOf (bad n p) = many.Not
+-- an answer in the paper's numbers: so many vertices; or 14, at place 0
+abbrev pub manySays : Many → Out ℕ
+manySays (many.Are n) = got n
+manySays many.Not = bad 14 0
+
+-- what a step of the walk says, as the label has it: for each refusal 14 at place 0
+abbrev pub onLabel : Out ℕ → Out ℕ
+onLabel (got n) = got n
+onLabel (bad n p) = bad 14 0
 
 -- ---- a label
 

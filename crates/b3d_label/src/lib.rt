@@ -6,7 +6,7 @@ ghost use lib.ListN.{length};
 ghost use Rattle.wire.specs.Cursors.{Inside, left};
 ghost use Rattle.b3d_scene.specs.Tags.{split};
 ghost use Rattle.b3d_label_walk.specs.Walk.{vrtsVertices, meshVertices, rootVertices, rootIn, fileIn, noLabel, labelOf, nameOn};
-ghost use Rattle.b3d_label.specs.Answers.{manyOf, Labels};
+ghost use Rattle.b3d_label.specs.Answers.{manySays, onLabel, Labels};
 use b3d_chunks::Named;
 use b3d_chunks::Next;
 use b3d_items::Counted;
@@ -18,16 +18,16 @@ use wire::Cursor;
 use wire::Header;
 use wire::Number;
 
-// So many vertices.
+// How many vertices there are; or the walk meets what makes the label 14.
 pub enum Many {
     Are(usize),
     Not,
 }
 
-// The vertices of a VRTS.
+// Counts the vertices of the VRTS of this body. `Not` where its head is cut or out of range, or its items do not fill it.
 fn vrts_vertices(s: &[u8], body: Cursor) -> Many
     requires { ⌜ Inside body (length (now s)) ⌝ }
-    ensures { λ r. ⌜ r ≡ manyOf (vrtsVertices (body .at) (left body (now (s .entry)))) ⌝ }
+    ensures { λ r. ⌜ manySays r ≡ onLabel (vrtsVertices (body .at) (left body (now (s .entry)))) ⌝ }
 {
     let start = body.at;
     let end = body.end;
@@ -57,10 +57,10 @@ fn vrts_vertices(s: &[u8], body: Cursor) -> Many
     }
 }
 
-// The vertices of a MESH.
+// Counts the vertices of the first VRTS in the MESH of this body. `Not` where its brush id is cut, or a VRTS is missing.
 fn mesh_vertices(s: &[u8], body: Cursor) -> Many
     requires { ⌜ Inside body (length (now s)) ⌝ }
-    ensures { λ r. ⌜ r ≡ manyOf (meshVertices (body .at) (left body (now (s .entry)))) ⌝ }
+    ensures { λ r. ⌜ manySays r ≡ onLabel (meshVertices (body .at) (left body (now (s .entry)))) ⌝ }
 {
     match body.number(s) {
         Number::Cut => Many::Not,
@@ -74,7 +74,7 @@ fn mesh_vertices(s: &[u8], body: Cursor) -> Many
 // The vertices of a root whose chunks a cursor has left: those of its mesh, 0 without one.
 fn root_vertices(s: &[u8], from: Cursor) -> Many
     requires { ⌜ Inside from (length (now s)) ⌝ }
-    ensures { λ r. ⌜ r ≡ manyOf (rootVertices (split (from .at) (left from (now (s .entry))))) ⌝ }
+    ensures { λ r. ⌜ manySays r ≡ onLabel (rootVertices (split (from .at) (left from (now (s .entry))))) ⌝ }
 {
     match b3d_chunks::next_chunk(s, from) {
         Next::Done => Many::Are(0),

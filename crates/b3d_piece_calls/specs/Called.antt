@@ -34,7 +34,7 @@ words = record { judge = λ j. j; count = λ row. length row / 11; at = openAt }
 abbrev pub piecesOf : {S R : Type 0} → Holding S R → S → R → Pieces
 piecesOf h st row = record { held = heldOf (h .judge st) (h .at row); shut = h .judge st .shut }
 
--- no byte came
+-- the state before the first call: no byte came, no chunk is open, nothing was counted
 abbrev pub freshJudge : Judge
 freshJudge = record { size = 0; worth = 0; letters = 0; length = 0; shut = false; depth = 0; now = Over nothing }
 

@@ -13,7 +13,7 @@ use b3d_piece_run::run;
 use b3d_piece_take::Judge;
 use b3d_piece_take::taking::nothing;
 
-// A fresh state.
+// Answers the state that a first call begins with.
 pub fn start() -> Judge
     ensures { λ r. ⌜ r ≡ freshJudge ⌝ }
 {

@@ -80,7 +80,7 @@ fn limited(submeshes: u32, t: Contents) -> MeshAnswer
     accepted(submeshes, t)
 }
 
-// So many bones that ids can name, of those that the caller counts: a negative id names none.
+// Returns how many bones ids can name where the caller counts `bone_count`: at most 2147483648, since a negative id names none.
 fn named_bones(bone_count: u32) -> usize
     ensures { λ r. ⌜ r ≡ namedBones «bone_count» ⌝ }
 {
@@ -90,7 +90,7 @@ fn named_bones(bone_count: u32) -> usize
     wire::size(bone_count)
 }
 
-// The answer for a file without any table, bone ids being below a count, and not negative.
+// Answers what `file` is without any table: bone ids are below `bone_count` and not negative.
 pub fn judge(file: &[u8], bone_count: u32) -> MeshAnswer
     ensures { λ r. ⌜ r ≡ meshAnswer (judgeMesh «bone_count» (now (file .entry))) ⌝ }
 {

@@ -17,7 +17,7 @@ use b3d_piece_state::PieceFed;
 use b3d_piece_state::PieceState;
 use b3d_piece_state::states::state_of;
 
-// A fresh state.
+// Answers the state that a first call begins with.
 #[no_mangle]
 pub extern "C" fn kelompuris_b3d_pieces_start() -> PieceState
     ensures { λ r. ⌜ r ≡ stateOf freshJudge ⌝ }

@@ -1,0 +1,2 @@
+-- The answers of cursors in 01's numbers.
+pub mod Answers
