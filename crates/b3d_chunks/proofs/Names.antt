@@ -48,7 +48,8 @@ pub ruleset naming = (no-text, row-before, short-row, whole-row, row-in)
 
 -- ---- what an answer says
 
-text-is : (s : List ℕ) (c : Cursor) (len : ℕ) (w : Cursor) → textAt s c ≡ text.Is len w
+-- a text that was read at c, as the definition reads it
+pub text-is : (s : List ℕ) (c : Cursor) (len : ℕ) (w : Cursor) → textAt s c ≡ text.Is len w
     → textOf (c .at) (c .at) (left c s) ≡ got (record { value = take len (left c s); place = w .at; left = left w s })
 text-is s c len w e =
     let f = texted s c len w e in

@@ -1,10 +1,10 @@
 -- By each case of an answer what the definitions read where the cursor stands.
-use Prim.Native.Nat.{ℕ, _+_}
+use Prim.Native.Nat.{ℕ}
 use native.Mathlib.Omega.{arith}
 use mathlib.Core.Path.{_≡_, refl, ap, sym, _∙_}
 use mathlib.Core.List.{List, [], _∷_}
 use mathlib.Core.Option.{Option, none, some}
-use lib.ListN.{length, take, replicate, length-replicate}
+use lib.ListN.{length, replicate, length-replicate}
 use Rattle.wire.specs.Bytes.{wordAt}
 use Rattle.wire.specs.Cursors.{Inside, left, numberAt, textAt, headerAt}
 use Rattle.wire.specs.declared.Cursor.{Cursor}
@@ -14,26 +14,19 @@ use Rattle.wire.specs.declared.Text.{Text}
 use Rattle.wire.specs.declared.Text.the-variants as text
 use Rattle.wire.specs.declared.Header.{Header}
 use Rattle.wire.specs.declared.Header.the-variants as header
-use Rattle.wire.proofs.Found.{numbered, number-cut, texted, text-cut, left-length, left-drop}
+use Rattle.wire.proofs.Found.{numbered, number-cut, text-cut, left-length, left-drop}
 use Rattle.layout.specs.Chunks.{keep}
-use Rattle.layout.specs.Out.{got}
 use Rattle.layout.specs.Parts.{wordsOf, row, text as readText, named as readNamed}
 use Rattle.layout.specs.Rules.{any}
-use Rattle.layout.proofs.StepLaws.{row-any, any-short, word-left, text-found, text-none}
+use Rattle.layout.proofs.StepLaws.{row-any, any-short, word-left, text-none}
 use Rattle.b3d_scene.specs.declared.Tag.{Tag}
 use Rattle.b3d_scene.specs.Tags.{tagOf, split}
 use Rattle.b3d_chunks.specs.Chunks.{tagged, namedAt}
 use Rattle.b3d_chunks.specs.declared.Named.{Named}
 use Rattle.b3d_chunks.specs.declared.Named.the-variants as named
-use Rattle.b3d_chunks.proofs.Names.{named-cut, named-any}
+use Rattle.b3d_chunks.proofs.Names.{text-is, named-cut, named-any}
 use Rattle.b3d_chunks.proofs.Passing.{pass-none, next-none, next-cut, next-known, pass-one}
 use Rattle.b3d_cursors.specs.Answers.{numberSays, textSays, headerSays, namedSays, Answered}
-
-text-is : (s : List ℕ) (c : Cursor) (len : ℕ) (w : Cursor) → textAt s c ≡ text.Is len w → readText (c .at) (c .at) (left c s) ≡ textSays s c (text.Is len w)
-text-is s c len w e =
-    let f = texted s c len w e in
-    let p : c .at + length (take len (left c s)) + 1 ≡ w .at = omega arith in
-    ap (readText (c .at) (c .at)) (f .is) ∙ (text-found (c .at) (c .at) (take len (left c s)) (left w s) (f .nonzero) ∙ ap (λ (q : ℕ). got (record { value = take len (left c s); place = q; left = left w s })) p)
 
 module _ (s : List ℕ) (c : Cursor) (i : Inside c (length s)) where
   number-told : row (any ∷ []) (c .at) (left c s) ≡ numberSays s c (numberAt s c)
