@@ -1,4 +1,4 @@
-// Rows of the items of one chunk, from its body: plain items, vertices and keys; and the row that a TRIS or KEYS has itself.
+// Rows of the items of one chunk, from its body: items copied as they are, vertices and keys; and the row that a TRIS or KEYS has itself.
 ghost use mathlib.Core.Path.{_≡_};
 ghost use Prim.Native.Nat.{_+_, _-_, _*_, _/_, _<_, _≤_};
 ghost use lib.ListN.{length};
