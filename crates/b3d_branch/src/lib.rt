@@ -1,4 +1,4 @@
-// How many nodes are below a node at all depths, counted along the flat run of a file's chunks: the 21st word of its row.
+// How many nodes are below a node at all depths, counted along the flat run of a file's chunks: the branch word of 02's E4.
 ghost use mathlib.Core.Path.{_≡_};
 ghost use Prim.Native.Nat.{_<_, _≤_};
 ghost use lib.ListN.{length};

@@ -1,4 +1,5 @@
-// The path from a node of lent tables up to the root: its parent on it, where its nodes end, and the bone limit that a node hands down.
+// The path from a node of lent tables up to the root: its parent on it, where its nodes end, and the bone limit that a node hands down. The bone limit is how
+// many vertices a weight below the node may name.
 ghost use mathlib.Core.Path.{_≡_};
 ghost use Prim.Native.Nat.{_+_, _-_, _*_, _<_, _≤_};
 ghost use lib.ListN.{length, getD};

@@ -5,8 +5,8 @@ use b3d_judge_body::Verdict;
 use b3d_scene::Mode;
 use b3d_scene::Written;
 
-// Writes the copy without names of `file` to the start of `out`; the bytes behind it stay as they were. Returns 0 and its size. Where the file is refused (1
-// to 10), or `out` is too short (11, with the size of the copy as place), `out` stays as it was and the size is 0.
+// Writes the copy without names of `file` to the start of `out`; the bytes behind it stay as they were. Returns 0 and its size. Where the lenient mode
+// refuses the file (1 to 10), or `out` is too short (11, with the size of the copy as place), `out` stays as it was and the size is 0.
 pub fn clear(file: &[u8], out: &mut [u8]) -> Written
     ensures { λ r. ⌜ r ≡ clearAnswer (now (file .entry)) (now (out .entry)) ⌝ }
     ensures { λ _. ⌜ now (out .exit) ≡ clearOutput (now (file .entry)) (now (out .entry)) ⌝ }

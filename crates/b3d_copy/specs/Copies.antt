@@ -130,6 +130,6 @@ nodeCopy (suc l) p b = nodeOf (nodeCopy l) (named nodeRow (p + 8) b)
 abbrev pub inFile : Chunks → List ℕ
 inFile cs = each TEXS texsCopy cs ++ (each BRUS brusCopy cs ++ each NODE (nodeCopy levels) cs)
 
--- what the file s becomes: BB3D's header, its version, and the chunks inside
+-- what the file s becomes, for an accepted file what 01 calls the copy: BB3D's header, its version, and the chunks inside
 abbrev pub fileCopy : List ℕ → List ℕ
 fileCopy s = chunkOf (code BB3D) (bytes (wordAt s 8) (inFile (chunksAt s (record { at = 12; end = length s }))))

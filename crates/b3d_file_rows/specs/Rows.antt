@@ -155,7 +155,7 @@ brushRows p b = brushesOf (getD (wordsOf 1 b) 0 0) (p + 12) (drop 4 b)
 
 -- ---- the file
 
--- the rows of table k, 1 to 10, of the file s: table 1 of its first TEXS, table 2 of its first BRUS, the others of its flat run
+-- the rows of 01's table k, 1 to 10, of the file s: table 1 from its first TEXS, table 2 from its first BRUS, the others from its flat run
 unfoldable pub fileRows : ℕ → List ℕ → List (List ℕ)
 fileRows k s =
     if (eqb k 1) (firstOf TEXS textureRows (rest s 12))

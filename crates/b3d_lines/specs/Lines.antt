@@ -6,7 +6,7 @@ use Rattle.b3d_scene.specs.Tables.{nodeWidth}
 use Rattle.b3d_names.specs.Name.{nameOr}
 use Rattle.b3d_text.specs.Text.{textLine}
 
--- the word `unnamed`, printed for an empty name
+-- the word `unnamed`, which 01 prints for an empty name
 abbrev pub unnamed : List ℕ
 unnamed = 117 ∷ 110 ∷ 110 ∷ 97 ∷ 109 ∷ 101 ∷ 100 ∷ []
 

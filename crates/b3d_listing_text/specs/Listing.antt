@@ -14,11 +14,12 @@ use Rattle.b3d_scene.specs.Tables.{counts}
 use Rattle.b3d_text.specs.Text.{numberLine, textLine}
 use Rattle.b3d_lines.specs.Lines.{unnamed}
 
--- the most bytes of input that the lister reads
+-- the most bytes of input that the lister reads, as 01 has it
 abbrev pub mostListed : ℕ
 mostListed = 65536
 
--- the most bytes that the lister prints: 14 numbers of at most ten digits with what follows each, and for the nodes no more than their bytes of the file
+-- the most bytes that the lister prints: 14 numbers of at most ten digits with what follows each, and for the nodes no more than the file has behind its
+-- first 12 bytes
 abbrev pub mostPrinted : ℕ
 mostPrinted = 65678
 
@@ -37,7 +38,7 @@ unfoldable pub listed : Out Scene → List ℕ
 listed (got t) = numberLine (0 ∷ 0 ∷ []) ++ (numberLine (t .version ∷ t .slots ∷ []) ++ (numberLine (counts t) ++ nodeLines (t .nodes)))
 listed (bad n p) = numberLine (n ∷ p ∷ [])
 
--- the whole text for the input s: the lines of its verdict under the strict mode; `1 0` where it is over 65,536 bytes
+-- what 01's lister prints for the input s: the lines of its verdict under the strict mode; `1 0` where it is over 65,536 bytes
 unfoldable pub listing : List ℕ → List ℕ
 listing s = if (ltb mostListed (length s)) (numberLine (1 ∷ 0 ∷ [])) (listed (judge Strict s))
 

@@ -72,11 +72,11 @@ pub record OfScene (ns t₁ t₂ : List ℕ) (R : Rows) (version slots : ℕ) (t
 
 -- ---- what is asked, and what is left
 
--- what a function that writes asks: something `Is` holds of, for which there is room
+-- what a function that writes asks: there is something that `Is` holds of, and room for it
 pub record Some {A : Type 0} (Is : A → Type 0) (w : A → List ℕ) (out : List ℕ) : Type 0 where
   -- that which is written
   pub value : A
-  -- it is so
+  -- `Is` holds of it
   pub is : Is value
   -- its bytes w have room in the output
   pub room : Room (w value) out
@@ -85,5 +85,5 @@ pub record Some {A : Type 0} (Is : A → Type 0) (w : A → List ℕ) (out : Lis
 pub record Each {A : Type 0} (Is : A → Type 0) (w : A → List ℕ) (out put : List ℕ) (size : ℕ) : Type 0 where
   -- the size fits a word
   pub small : size < 4294967296
-  -- of whatever `Is` holds of and has room, the bytes w are written and `size` is their length
+  -- of whatever `Is` holds of and has room, the bytes w are written, and `size` is their length
   pub bytes : (a : A) → Is a → Room (w a) out → Put (w a) out put size

@@ -77,9 +77,9 @@ pub record First (ns : List ℕ) (R : Rows) (levels b : ℕ) (above : Option ℕ
 
 -- what `put_nodes` asks: some nodes stand there, and there is room for them
 pub record Writable (ns : List ℕ) (R : Rows) (levels p : ℕ) (n : Counts) (out : List ℕ) : Type 0 where
-  -- beside how many brushes
+  -- how many brushes there are
   pub brushes : ℕ
-  -- the bone limit that they get, none above the root
+  -- the bone limit that they get; `none` for the root
   pub above : Option ℕ
   -- the nodes
   pub forest : Forest
@@ -103,7 +103,7 @@ pub record Writes (ns : List ℕ) (R : Rows) (levels p : ℕ) (n : Counts) (out 
 pub record Placed (ns : List ℕ) (R : Rows) (levels : ℕ) (n : Counts) : Type 0 where
   -- how many brushes there are
   pub brushes : ℕ
-  -- the bone limit that it gets, none above the root
+  -- the bone limit that it gets; `none` for the root
   pub above : Option ℕ
   -- the node without those below it
   pub own : Data

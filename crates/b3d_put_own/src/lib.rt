@@ -1,5 +1,5 @@
-// What the body of a NODE holds before the nodes below it, written from rows of lent tables: the name, ten words, the kind, KEYS, ANIM. t3 to t10 are those
-// tables, by their numbers.
+// What the body of a NODE holds before the nodes below it, written from rows of lent tables: the name, ten words, the kind, KEYS, ANIM. The tables t3 to t10
+// have their numbers as names.
 ghost use Prim.Native.Nat.{_+_, _*_, _≤_};
 ghost use lib.ListN.{length, getD};
 ghost use Rattle.emit.specs.Writing.{Room, Put};

@@ -1,4 +1,4 @@
-// Groups of cells that rows of vertices and keys are made of: some words of the file, then zeros. Each call copies a fixed number of words.
+// Stores the groups of cells that rows of vertices and keys are made of: some words of the file, then zeros, each with a constant count.
 ghost use mathlib.Core.Path.{_≡_};
 ghost use Prim.Native.Nat.{_+_, _-_, _*_, _≤_};
 ghost use lib.ListN.{length};

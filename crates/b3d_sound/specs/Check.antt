@@ -121,7 +121,7 @@ pub record Level : Type 0 where
   pub node : ℕ
   -- the row behind it and the nodes below it
   pub end : ℕ
-  -- its bone limit: how many vertices a weight below it may name
+  -- its bone limit, by 02's E3: how many vertices a weight below it may name
   pub bones : ℕ
 
 -- the path from node p up, at row i; empty where p is not on it, or where a node that is left does not end at row i
@@ -133,7 +133,7 @@ upTo i p (q ∷ qs) = if (eqb p (q .node)) (q ∷ qs) (if (eqb (q .end) i) (upTo
 unfoldable pub endHere : ℕ → List Level → Bool
 endHere i path = all (λ (q : Level). eqb (q .end) i) path
 
--- the row behind node i and the nodes below it, as cell 20 of its row x says
+-- the row behind node i and the nodes below it, by cell 20 of its row x, the branch word of 02's E4
 abbrev pub endFrom : ℕ → List ℕ → ℕ
 endFrom i x = i + 1 + getD x 20 0
 

@@ -47,8 +47,8 @@ fn put_sets(file: &[u8], at: usize, sets: usize, size: usize, base: usize, out: 
     zero_sets(8 - k, o, out);
 }
 
-// Stores the row of one vertex in `out` from cell `base` on, from byte `at` of `file`: 3 words of a position, `a` (0 or 3) of a normal, `b` (0 or 4) of a
-// colour, and `sets` sets of `size` words; absent parts are zeros.
+// Stores the row of one vertex in `out` from cell `base` on, from byte `at` of `file`: 3 words of a position, `a` of a normal, `b` of a colour, and `sets`
+// sets of `size` words; absent parts are zeros.
 fn put_vertex(
     file: &[u8],
     at: usize,

@@ -1,4 +1,5 @@
-// The walk over a file's chunks in one flat run, and the search for the first chunk of a tag. Nothing is judged here.
+// The walk over a file's chunks in one flat run, into each NODE and past every other chunk; and the search for the first chunk of a tag. Nothing is judged
+// here.
 ghost use mathlib.Core.Path.{_≡_};
 ghost use Prim.Native.Nat.{ℕ, _-_, _≤_};
 ghost use lib.ListN.{length};
@@ -63,7 +64,7 @@ pub enum Sought {
 }
 
 // Returns the first chunk of `tag` among those that stand one after the other from the cursor `from` on; no chunk is entered. Returns `Nothing` where there
-// is none before the end or the first cut header.
+// is none before the end, or before a header that is cut or whose length passes the end.
 pub fn seek(file: &[u8], from: Cursor, tag: Tag) -> Sought
     requires { ⌜ Inside from (length (now file)) ⌝ }
     ensures { λ r. ⌜ Seeks (now (file .entry)) from tag r ⌝ }
