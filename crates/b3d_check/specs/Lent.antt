@@ -10,7 +10,7 @@ use Rattle.wire.specs.Test.{if}
 use Rattle.b3d_scene.specs.Rebuild.{Lent, together, rebuild}
 use Rattle.b3d_scene.specs.declared.Mode.{Mode}
 
--- version, n_texs, ten counts and ten tables as one record of lent tables
+-- version, n_texs (`slots`), ten counts and the words t₁ to t₁₀ of ten tables, as one record of lent tables
 unfoldable pub lentOf : ℕ → ℕ → List ℕ → List ℕ → List ℕ → List ℕ → List ℕ → List ℕ → List ℕ → List ℕ → List ℕ → List ℕ → List ℕ → Lent
 lentOf version slots counts t₁ t₂ t₃ t₄ t₅ t₆ t₇ t₈ t₉ t₁₀ =
     record {

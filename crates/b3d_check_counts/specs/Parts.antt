@@ -9,7 +9,7 @@ use Rattle.b3d_scene.specs.declared.Counts.{Counts}
 use Rattle.b3d_sound.specs.CellCounts.{endOf}
 use Rattle.b3d_check_rows.specs.Rows.{rowsAt}
 
--- the rows of tables 4 to 10, of each as many as a counts; none for another number k
+-- the rows of table k, 4 to 10, as many as a counts, the words of the tables being t₄ to t₁₀; none for another k
 unfoldable pub partRows : Counts → List ℕ → List ℕ → List ℕ → List ℕ → List ℕ → List ℕ → List ℕ → Rows
 partRows a t₄ t₅ t₆ t₇ t₈ t₉ t₁₀ k =
     if (eqb k 4) (cut 9 (a .meshes) t₄)

@@ -1,4 +1,4 @@
--- The bytes of a MESH and of its VRTS, from rows of lent tables.
+-- The bytes of a MESH and of its VRTS, from rows of lent tables. The words of tables 4 to 7 are ms, vs, ss and ts.
 use Prim.Native.Nat.{ℕ, _+_, _/_, _≤_}
 use mathlib.Core.List.{List, [], _++_, map}
 use lib.ListN.{length, take, drop, getD}

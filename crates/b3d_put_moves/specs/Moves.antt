@@ -1,4 +1,4 @@
--- The KEYS and the ANIM of a node, from rows of lent tables, and what must be there for them.
+-- The KEYS and the ANIM of a node, from rows of lent tables, and what must be there for them. The words of tables 3, 9 and 10 are ds, ls and ks.
 use Prim.Native.Nat.{ℕ, _+_, _/_, _≤_}
 use mathlib.Core.List.{List, []}
 use lib.ListN.{length, take, drop}

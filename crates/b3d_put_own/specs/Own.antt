@@ -1,4 +1,5 @@
--- What the body of a NODE holds before the nodes below it, from rows of lent tables, and what must be there for it.
+-- What the body of a NODE holds before the nodes below it, from rows of lent tables, and what must be there for it. The words of tables 3 to 10 are ds, ms,
+-- vs, ss, ts, ws, ls and ks; ns are the bytes that hold the names.
 use mathlib.Core.Path.{_≡_}
 use Prim.Native.Nat.{ℕ, _+_, _*_, _/_, _<_, _≤_}
 use mathlib.Core.List.{List, []}
@@ -46,9 +47,9 @@ ownBytes ns ds ms vs ss ts ws ls ks n = writeNode (dataFrom ns (tableRows ds ms 
 
 -- what `put_kind` asks: the rows that kind k and count c name are there after the counts n
 pub record KindThere (ms vs ss ts ws : List ℕ) (n : Counts) (k c : ℕ) : Type 0 where
-  -- of a mesh its row and all that it names
+  -- for a mesh its row and all that it names
   pub mesh : k ≡ 1 → MeshThere ms (9 * n .meshes) vs (n .vertices) ss (n .sets) ts (n .triangles)
-  -- of a bone its weights
+  -- for a bone its weights
   pub bone : k ≡ 2 → n .weights + c ≤ length ws / 2
 
 -- what `put_own` asks of the node after the counts n
