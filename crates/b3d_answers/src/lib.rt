@@ -1,4 +1,4 @@
-// The reader's answers, as numbers: for a file alone (`judge`), and for a file and tables of given lengths.
+// The reader's answers, with no table touched: for a file alone (`judge`), and for a file and tables of given lengths.
 ghost use mathlib.Core.Path.{_≡_};
 ghost use mathlib.Core.List.{[], _∷_};
 ghost use Rattle.b3d_scene.specs.Answers.{judge, answer, readAnswer};
@@ -7,7 +7,7 @@ use b3d_judge_body::Verdict;
 use b3d_scene::Answer;
 use b3d_scene::Mode;
 
-// The answer for a file in a mode without any table.
+// Returns the reader's answer for `file` in `mode` with ample tables: refusals 1 to 10, or 0 with version, n_texs and counts.
 pub fn judge(mode: Mode, file: &[u8]) -> Answer
     ensures { λ r. ⌜ r ≡ answer (judge mode (now (file .entry))) ⌝ }
 {
@@ -17,7 +17,7 @@ pub fn judge(mode: Mode, file: &[u8]) -> Answer
     }
 }
 
-// The answer for a file in a mode and ten tables of these lengths.
+// Returns the reader's answer for `file` in `mode` and ten tables of `l1` to `l10` words: refusals 1 to 11, or 0 with version, n_texs and counts.
 pub fn answer_for(
     mode: Mode,
     file: &[u8],

@@ -1,4 +1,4 @@
-// How many nodes are below a node, by the flat run of a file's chunks.
+// How many nodes are below a node at all depths, counted along the flat run of a file's chunks: the branch word of 02's E4.
 ghost use mathlib.Core.Path.{_≡_};
 ghost use Prim.Native.Nat.{_<_, _≤_};
 ghost use lib.ListN.{length};
@@ -7,7 +7,7 @@ ghost use Rattle.b3d_file_rows.specs.Rows.{nodesBefore};
 use b3d_scene::Tag;
 use b3d_walk::Flat;
 
-// How many nodes are below one whose own chunks begin at a place: the NODEs from there on that begin before its end.
+// Returns how many nodes are below the node whose own chunks begin at `from` and which ends at `end`: the NODEs from `from` on that begin before `end`.
 pub fn nodes_before(file: &[u8], from: usize, end: usize) -> u32
     requires { ⌜ (from ≤ length (now file)) × (length (now file) < 0x100000000) ⌝ }
     ensures { λ r. ⌜ r ≡ nodesBefore end (flatAt (now (file .entry)) from) ⌝ }

@@ -1,6 +1,7 @@
-// The cases of 01's "Worked files" without a star: n_texs and depth. Those of rows are run by the Rust comparison, which builds their files.
+// The cases of 01's "Worked files" without a star: n_texs and depth. The cases of rows are run by the Rust comparison, which builds their files.
 use crate::case;
 
+// Prints a line for each file at a limit of n_texs or depth, and for each one beyond it.
 pub fn cases() {
     // BRUS without a brush: its n_texs stands behind the header of BB3D, the version and its own header, at 12 + 8. Without a brush n_texs counts
     // as 0, and the copy has no BRUS: 12 bytes.

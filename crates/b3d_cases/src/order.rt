@@ -1,6 +1,7 @@
 // Files with a chunk out of order, or with two faults, of which 01 says which one counts.
 use crate::case;
 
+// Prints a line for each file with a chunk out of order or with two faults.
 pub fn cases() {
     // NODE at 12, BRUS at 61. Then a root with a mesh without a vertex, of 32 + 12 bytes, at 61, and another at 105.
     case(

@@ -1,7 +1,8 @@
-// One file for each slip of 01's "Slips that look right" that a judge can make: the slip would answer otherwise. Tables filled while checking
-// are no slip of a judge, which writes nothing; the last file has rows before its fault, and the answer no count.
+// One file for each slip of 01's "Slips that look right" that a judge can make: the slip would give another answer. Tables filled while checking are no slip
+// of a judge, which writes nothing; the last file has rows before its fault, and the answer no count.
 use crate::case;
 
+// Prints a line for each file that tells a rule from a slip.
 pub fn cases() {
     // Slip: a vertex id held to all vertices read so far. A root whose mesh has 3 vertices (49 + 92 bytes from 12 on, as in file T of 01), and a child
     // at 153 whose mesh at 202 has one vertex; its TRIS stands at 202 + 32 + 12 = 246 and its ids at 258, 262 and 266.

@@ -1,4 +1,4 @@
--- What the writer is lent, as code has it, and what is said of it.
+-- What the writer is lent, as code has it, and what the check says of it.
 use mathlib.Core.Path.{_≡_}
 use Prim.Native.Nat.{ℕ, _-_}
 use mathlib.Core.Bool.{Bool}
@@ -10,7 +10,7 @@ use Rattle.wire.specs.Test.{if}
 use Rattle.b3d_scene.specs.Rebuild.{Lent, together, rebuild}
 use Rattle.b3d_scene.specs.declared.Mode.{Mode}
 
--- ten counts and ten tables
+-- version, n_texs (`slots`), ten counts and the words t₁ to t₁₀ of ten tables, as one record of lent tables
 unfoldable pub lentOf : ℕ → ℕ → List ℕ → List ℕ → List ℕ → List ℕ → List ℕ → List ℕ → List ℕ → List ℕ → List ℕ → List ℕ → List ℕ → Lent
 lentOf version slots counts t₁ t₂ t₃ t₄ t₅ t₆ t₇ t₈ t₉ t₁₀ =
     record {
@@ -30,6 +30,6 @@ lentOf version slots counts t₁ t₂ t₃ t₄ t₅ t₆ t₇ t₈ t₉ t₁₀
           (if (eqb k 10) t₁₀ [])))))))));
     }
 
--- r says whether lent tables, with names in ns, are those of a scene
+-- r says whether the lent tables L, with names in ns, are those of a scene that the mode accepts: the one put together from them
 abbrev pub Says : Mode → Lent → List ℕ → Bool → Type 0
 Says mode L ns r = rebuild mode L ns ≡ if r (some (together ns L)) none

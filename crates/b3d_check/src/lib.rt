@@ -1,9 +1,9 @@
-// Does some accepted file have these lent tables? The writer's check of soundness, row by row.
+// The writer's check of lent tables, row by row: whether some accepted file has them.
 ghost use Rattle.b3d_check.specs.Lent.{lentOf, Says};
 use b3d_scene::Mode;
 
-// The verdict in a mode on all that is lent, counts by table, and the bytes that hold the names: true just where some scene has these tables and
-// their colours pass, which is then the one that they are put together to.
+// Returns whether some file that `mode` accepts has these tables: `version`, n_texs (`slots`), `counts` by table, the tables `t1` to `t10` and the bytes
+// `names` that hold the names. Then the scene put together from them is that file's.
 pub fn sound(
     mode: Mode,
     version: u32,

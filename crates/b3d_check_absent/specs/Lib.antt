@@ -1,2 +1,2 @@
--- Runs of words that are 0.
+-- Cells that are left out of a row and must be 0.
 pub mod Zeros

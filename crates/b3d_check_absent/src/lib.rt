@@ -1,5 +1,5 @@
-// The words of lent vertices and keys that their flags, sets and set size leave out are 0. A row is looked at by runs, each by a loop of a constant
-// count that no word ends early. Keys and vertices have each their own functions down to the run, so that the compiler knows every count.
+// Whether the cells of lent vertices and keys that flags, sets and set size leave out are 0. A row is looked at by groups of cells, each in a loop of a
+// constant count that no cell ends early. Keys and vertices have each their own functions down to the group, so that the compiler knows every count.
 ghost use mathlib.Core.Path.{_≡_};
 ghost use Prim.Native.Nat.{_+_, _*_, _≤_};
 ghost use lib.ListN.{length};
@@ -11,7 +11,7 @@ ghost use Rattle.b3d_check_rows.specs.Rows.{rowsAt};
 ghost use Rattle.b3d_check_absent.specs.Zeros.{zerosAt, setsClean, rowClean};
 use b3d_masks::RowRuns;
 
-// n words from a place on are 0.
+// Returns whether the `n` words of `t` from word `at` on are 0.
 fn zeros(t: &[u32], at: usize, n: usize) -> bool
     requires { ⌜ at + n ≤ length (now t) ⌝ }
     ensures { λ r. ⌜ r ≡ zerosAt n (now (t .entry)) at ⌝ }
@@ -27,7 +27,7 @@ fn zeros(t: &[u32], at: usize, n: usize) -> bool
     ok
 }
 
-// At most four words.
+// Returns whether the `n` words of `t` from word `at` on are 0, `n` being at most four.
 fn few_zeros(t: &[u32], at: usize, n: usize) -> bool
     requires { ⌜ (n ≤ 4) × (at + n ≤ length (now t)) ⌝ }
     ensures { λ r. ⌜ r ≡ zerosAt n (now (t .entry)) at ⌝ }
@@ -41,7 +41,7 @@ fn few_zeros(t: &[u32], at: usize, n: usize) -> bool
     }
 }
 
-// n words; most often n is 0 or `most`, which the compiler knows where it is called.
+// Returns whether the `n` words of `t` from word `at` on are 0; most often `n` is 0 or `most`, which the compiler knows where this is called.
 fn full_zeros(t: &[u32], at: usize, n: usize, most: usize) -> bool
     requires { ⌜ at + n ≤ length (now t) ⌝ }
     ensures { λ r. ⌜ r ≡ zerosAt n (now (t .entry)) at ⌝ }
@@ -55,7 +55,7 @@ fn full_zeros(t: &[u32], at: usize, n: usize, most: usize) -> bool
     zeros(t, at, n)
 }
 
-// Of so many sets, four words each, all but the first `size`.
+// Returns whether in each of `sets` sets of four words, from word `at` on, all words but the first `size` are 0.
 fn sets_clean(t: &[u32], at: usize, sets: usize, size: usize) -> bool
     requires { ⌜ (size ≤ 4) × (at + sets * 4 ≤ length (now t)) ⌝ }
     ensures { λ r. ⌜ r ≡ setsClean sets size (now (t .entry)) at ⌝ }
@@ -71,7 +71,7 @@ fn sets_clean(t: &[u32], at: usize, sets: usize, size: usize) -> bool
     ok
 }
 
-// The key from word `base` on.
+// Returns whether the cells that the groups `g` leave out of the key row at word `base` are 0.
 fn key_clean(g: RowRuns, t: &[u32], base: usize) -> bool
     requires { ⌜ Short g × OfKey g × (base + 11 ≤ length (now t)) ⌝ }
     ensures { λ r. ⌜ r ≡ rowClean g (now (t .entry)) base ⌝ }
@@ -85,7 +85,7 @@ fn key_clean(g: RowRuns, t: &[u32], base: usize) -> bool
     a & (b & c)
 }
 
-// The vertex from word `base` on.
+// Returns whether the cells that the groups `g` leave out of the vertex row at word `base` are 0.
 fn vertex_clean(g: RowRuns, t: &[u32], base: usize) -> bool
     requires { ⌜ Short g × OfVertex g × (base + 42 ≤ length (now t)) ⌝ }
     ensures { λ r. ⌜ r ≡ rowClean g (now (t .entry)) base ⌝ }
@@ -101,7 +101,7 @@ fn vertex_clean(g: RowRuns, t: &[u32], base: usize) -> bool
     a & (b & (c & d))
 }
 
-// So many keys from row `first` on.
+// Returns whether the cells that the groups `g` leave out of `count` key rows from row `first` on are 0.
 fn keys_clean(g: RowRuns, t: &[u32], first: usize, count: usize) -> bool
     requires { ⌜ Short g × OfKey g × (width g ≡ 11) × (11 * (first + count) ≤ length (now t)) ⌝ }
     ensures { λ r. ⌜ r ≡ all (clean (runMask g)) (rowsAt 11 first count (now (t .entry))) ⌝ }
@@ -117,7 +117,7 @@ fn keys_clean(g: RowRuns, t: &[u32], first: usize, count: usize) -> bool
     true
 }
 
-// So many vertices from row `first` on.
+// Returns whether the cells that the groups `g` leave out of `count` vertex rows from row `first` on are 0.
 fn vertices_clean(g: RowRuns, t: &[u32], first: usize, count: usize) -> bool
     requires { ⌜ Short g × OfVertex g × (width g ≡ 42) × (42 * (first + count) ≤ length (now t)) ⌝ }
     ensures { λ r. ⌜ r ≡ all (clean (runMask g)) (rowsAt 42 first count (now (t .entry))) ⌝ }
@@ -133,7 +133,7 @@ fn vertices_clean(g: RowRuns, t: &[u32], first: usize, count: usize) -> bool
     true
 }
 
-// So many vertices.
+// Returns whether the cells that `flags`, `sets` and set `size` leave out of `count` vertex rows from row `first` on are 0.
 pub fn vertices_here(
     t: &[u32],
     flags: u32,
@@ -149,7 +149,7 @@ pub fn vertices_here(
     vertices_clean(g, t, first, count)
 }
 
-// So many keys.
+// Returns whether the cells that `flags` leave out of `count` key rows from row `first` on are 0.
 pub fn keys_here(t: &[u32], flags: u32, first: usize, count: usize) -> bool
     requires { ⌜ 11 * (first + count) ≤ length (now t) ⌝ }
     ensures { λ r. ⌜ r ≡ all (clean (keyMask flags)) (rowsAt 11 first count (now (t .entry))) ⌝ }

@@ -1,4 +1,4 @@
-// The textures and brushes of lent tables against their rules, and how many slots a brush may have.
+// Whether the textures and brushes of lent tables keep their rules, and whether n_texs does.
 ghost use mathlib.Core.Path.{_≡_};
 ghost use Prim.Native.Nat.{_+_, _*_, _<_, _≤_};
 ghost use lib.ListN.{length, take, drop};
@@ -8,7 +8,7 @@ ghost use Rattle.b3d_scene.specs.Rules.{textureId};
 ghost use Rattle.b3d_sound.specs.Check.{nameHere, brushHere, slotsHere};
 ghost use Rattle.b3d_check_rows.specs.Rows.{rowAt, rowsAt};
 
-// Each texture has its name.
+// Returns whether each of the first `count` rows of table 1, `t`, has its name in `names`.
 pub fn textures_here(names: &[u8], t: &[u32], count: usize) -> bool
     requires { ⌜ 9 * count ≤ length (now t) ⌝ }
     ensures { λ r. ⌜ r ≡ all (nameHere (now (names .entry))) (rowsAt 9 0 count (now (t .entry))) ⌝ }
@@ -24,7 +24,7 @@ pub fn textures_here(names: &[u8], t: &[u32], count: usize) -> bool
     true
 }
 
-// So many cells from a place on each name one of so many textures or none.
+// Returns whether each of the `count` cells of `t` from cell `place` on is NONE or below `textures`.
 fn ids_here(t: &[u32], textures: u32, place: usize, count: usize) -> bool
     requires { ⌜ place + count ≤ length (now t) ⌝ }
     ensures { λ r. ⌜ r ≡ all (holds (textureId textures)) (take count (drop place (now (t .entry)))) ⌝ }
@@ -41,7 +41,7 @@ fn ids_here(t: &[u32], textures: u32, place: usize, count: usize) -> bool
     true
 }
 
-// Row i, a brush of so many slots beside so many textures: a slot that is not used names none.
+// Returns whether row `i` of table 2, `t`, is sound: its name is in `names`, its first `slots` ids are NONE or below `textures`, the unused ones NONE.
 fn brush_here(names: &[u8], slots: u32, textures: u32, t: &[u32], i: usize) -> bool
     requires { ⌜ (slots ≤ 8) × (17 * i + 17 ≤ length (now t)) ⌝ }
     ensures { λ r. ⌜ r ≡ brushHere (now (names .entry)) slots textures (rowAt 17 i (now (t .entry))) ⌝ }
@@ -57,7 +57,7 @@ fn brush_here(names: &[u8], slots: u32, textures: u32, t: &[u32], i: usize) -> b
     ids_here(t, 0, o + 9 + many, 8 - many)
 }
 
-// Each brush.
+// Returns whether each of the first `count` rows of table 2, `t`, is sound, with `slots` ids in use and `textures` textures.
 pub fn brushes_here(names: &[u8], slots: u32, textures: u32, t: &[u32], count: usize) -> bool
     requires { ⌜ (slots ≤ 8) × (17 * count ≤ length (now t)) ⌝ }
     ensures { λ r. ⌜ r ≡ all (brushHere (now (names .entry)) slots textures) (rowsAt 17 0 count (now (t .entry))) ⌝ }
@@ -72,7 +72,7 @@ pub fn brushes_here(names: &[u8], slots: u32, textures: u32, t: &[u32], count: u
     true
 }
 
-// No slots where there is no brush, else at most eight.
+// Returns whether n_texs (`slots`) is sound: 0 without a brush, else at most eight.
 pub fn slots_here(slots: u32, brushes: u32) -> bool
     ensures { λ r. ⌜ r ≡ slotsHere slots brushes ⌝ }
 {

@@ -8,6 +8,6 @@ use Rattle.b3d_scene.specs.Colours.{passes}
 use Rattle.b3d_scene.specs.Rebuild.{cut}
 use Rattle.b3d_scene.specs.declared.Mode.{Mode}
 
--- what a mode asks of colours: so many rows of brushes and of vertices
+-- the mode accepts the colours of the first `brushes` rows of table 2 and the first `vertices` rows of table 5
 unfoldable pub coloursPart : Mode → ℕ → List ℕ → ℕ → List ℕ → Bool
 coloursPart mode brushes t₂ vertices t₅ = passes mode (λ k. if (eqb k 2) (cut 17 brushes t₂) (cut 42 vertices t₅))

@@ -1,4 +1,4 @@
-// Colours of lent tables against their rule: four words of each row, as far as a mode looks at them.
+// Whether the colours of lent brushes and vertices are from 0 to 1, as far as a mode looks at them.
 ghost use mathlib.Core.Path.{_≡_};
 ghost use Prim.Native.Nat.{_+_, _*_, _≤_};
 ghost use lib.ListN.{length};
@@ -8,7 +8,7 @@ ghost use Rattle.b3d_check_rows.specs.Rows.{rowAt, rowsAt};
 ghost use Rattle.b3d_check_colours.specs.LentColours.{coloursPart};
 use b3d_scene::Mode;
 
-// The four words of row i from a word on.
+// Returns whether the four words of row `i` of `t` from word `word` of the row on are colours from 0 to 1; a row has `width` words.
 fn row_coloured(t: &[u32], width: usize, word: usize, i: usize) -> bool
     requires { ⌜ (word + 4 ≤ width) × (width * i + width ≤ length (now t)) ⌝ }
     ensures { λ r. ⌜ r ≡ coloured word (rowAt width i (now (t .entry))) ⌝ }
@@ -21,7 +21,7 @@ fn row_coloured(t: &[u32], width: usize, word: usize, i: usize) -> bool
     red & (green & (blue & alpha))
 }
 
-// Those of so many rows.
+// Returns whether in each of the first `count` rows of `t` the four words from word `word` on are colours from 0 to 1; a row has `width` words.
 pub fn rows_coloured(t: &[u32], width: usize, word: usize, count: usize) -> bool
     requires { ⌜ (word + 4 ≤ width) × (width * count ≤ length (now t)) ⌝ }
     ensures { λ r. ⌜ r ≡ all (coloured word) (rowsAt width 0 count (now (t .entry))) ⌝ }
@@ -36,7 +36,7 @@ pub fn rows_coloured(t: &[u32], width: usize, word: usize, count: usize) -> bool
     true
 }
 
-// The colours of so many brushes and of so many vertices, as far as a mode looks at them.
+// Returns whether `mode` accepts the colours of the first `brushes` rows of `t2` and the first `vertices` rows of `t5`; the lenient mode always does.
 pub fn colours_here(mode: Mode, brushes: usize, t2: &[u32], vertices: usize, t5: &[u32]) -> bool
     requires { ⌜ (17 * brushes ≤ length (now t2)) × (42 * vertices ≤ length (now t5)) ⌝ }
     ensures { λ r. ⌜ r ≡ coloursPart mode brushes (now (t2 .entry)) vertices (now (t5 .entry)) ⌝ }

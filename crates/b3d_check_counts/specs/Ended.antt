@@ -1,8 +1,9 @@
--- No row that a counts is left over after n rows.
+-- Whether rows are left over after the nodes.
 use mathlib.Core.Bool.{Bool, _&&_}
 use lib.Dec.{leb}
 use Rattle.b3d_scene.specs.declared.Counts.{Counts}
 
+-- no row of tables 4 to 10 that a counts is left over after the counts n
 unfoldable pub ended : Counts → Counts → Bool
 ended n a =
     leb (a .meshes) (n .meshes)

@@ -1,4 +1,4 @@
-// The running counts of a walk over the nodes of lent tables: those after a node, and whether they leave no row over.
+// The running counts of the check's walk over the nodes of lent tables: the counts after a node, and whether they leave no row over.
 ghost use mathlib.Core.Path.{_≡_};
 ghost use mathlib.Core.List.{[], _∷_};
 ghost use Prim.Native.Nat.{_+_, _-_, _*_, _<_, _≤_};
@@ -12,7 +12,7 @@ ghost use Rattle.b3d_check_counts.specs.Ended.{ended};
 use b3d_scene::Counts;
 use b3d_scene::NODE_WIDTH;
 
-// After the mesh that comes after n rows.
+// Returns the counts after the mesh that comes after the counts `n`, by its row in `t4` and its triangle sets in `t6`.
 fn mesh_counts(n: Counts, all: Counts, t4: &[u32], t6: &[u32]) -> Counts
     requires { ⌜ MeshEnds n all (now t4) (now t6) × Limited all × (9 * all .meshes ≤ length (now t4)) × (4 * all .sets ≤ length (now t6)) ⌝ }
     ensures { λ r. ⌜ r ≡ meshCounts (rowAt 9 (n .meshes) (now (t4 .entry))) (rowsAt 4 (n .sets) (all .sets - n .sets) (now (t6 .entry))) n ⌝ }
@@ -30,7 +30,7 @@ fn mesh_counts(n: Counts, all: Counts, t4: &[u32], t6: &[u32]) -> Counts
     m
 }
 
-// After the kind and count of the node that comes after n rows.
+// Returns the counts after the mesh (`kind` 1) or the `count` weights (`kind` 2) of the node that comes after the counts `n`; `n` for any other kind.
 fn kind_counts(n: Counts, all: Counts, kind: u32, count: usize, t4: &[u32], t6: &[u32]) -> Counts
     requires { ⌜ Below n all × Limited all × (9 * all .meshes ≤ length (now t4)) × (4 * all .sets ≤ length (now t6)) ⌝ }
     requires { ⌜ Below (kindCounts (partRows all (now t4) [] (now t6) [] [] [] []) n (kind ∷ 0 ∷ count ∷ [])) all ⌝ }
@@ -47,7 +47,7 @@ fn kind_counts(n: Counts, all: Counts, kind: u32, count: usize, t4: &[u32], t6: 
     n
 }
 
-// After the node that comes after n rows, where that is sound.
+// Returns the counts after the node that comes after the counts `n`; no count passes `all`, as for a sound node.
 pub fn node_counts(n: Counts, all: Counts, t3: &[u32], t4: &[u32], t6: &[u32], t9: &[u32]) -> Counts
     requires { ⌜ Below n all × Limited all × (n .nodes < all .nodes) × (nodeWidth * all .nodes ≤ length (now t3)) ⌝ }
     requires { ⌜ (9 * all .meshes ≤ length (now t4)) × (4 * all .sets ≤ length (now t6)) × (4 * all .lists ≤ length (now t9)) ⌝ }
@@ -66,7 +66,7 @@ pub fn node_counts(n: Counts, all: Counts, t3: &[u32], t4: &[u32], t6: &[u32], t
     after
 }
 
-// No row that `all` counts is left over after n rows.
+// Returns whether no row of tables 4 to 10 that `all` counts is left over after the counts `n`.
 pub fn ended(n: Counts, all: Counts) -> bool
     ensures { λ r. ⌜ r ≡ ended n all ⌝ }
 {

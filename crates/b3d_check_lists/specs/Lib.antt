@@ -1,3 +1,3 @@
--- Rows with runs of items among the rows of lent tables; key lists.
+-- Rows that own groups of items in lent tables; the key lists of a node.
 pub mod Items
 pub mod Mine

@@ -1,5 +1,5 @@
-// Rows with runs of items among the rows of lent tables, and where the items of rows end: each function is a test of b3d_sound's specs/Check,
-// or a count of rows, on rows that are given by their number.
+// Whether rows that own groups of items, key lists and triangle sets, are sound in lent tables, and where their items end. Each function is a test of
+// b3d_sound's specs/Check, or a count of rows, on rows that are given by their number.
 ghost use mathlib.Core.Path.{_≡_};
 ghost use Prim.Native.Nat.{_+_, _-_, _*_, _≤_};
 ghost use lib.ListN.{length};
@@ -10,14 +10,14 @@ ghost use Rattle.b3d_check_lists.specs.Items.{runWidth, runTest};
 ghost use Rattle.b3d_check_lists.specs.Mine.{MineTo};
 use b3d_check_rows::Ids;
 
-// What rows and their items are: key lists and keys; or triangle sets and triangles, beside so many brushes, of a mesh with so many vertices and its
-// number.
+// Which rows own groups of items: key lists, whose items are keys; or the triangle sets of a mesh, given by the number of brushes, the mesh's vertices and
+// its number.
 pub enum Run {
     Keys,
     Triangles(u32, u32, usize),
 }
 
-// Row i, a key list, with so many keys from row `first` on.
+// Returns whether row `i` of table 9, `t`, has flags in their range and the cells that they leave out of its `count` keys from row `first` on are 0.
 fn list_here(t: &[u32], i: usize, keys: &[u32], first: usize, count: usize) -> bool
     requires { ⌜ (4 * i + 4 ≤ length (now t)) × (11 * (first + count) ≤ length (now keys)) ⌝ }
     ensures { λ r. ⌜ r ≡ listHere (rowAt 4 i (now (t .entry))) (rowsAt 11 first count (now (keys .entry))) ⌝ }
@@ -29,7 +29,8 @@ fn list_here(t: &[u32], i: usize, keys: &[u32], first: usize, count: usize) -> b
     b3d_check_absent::keys_here(keys, flags, first, count)
 }
 
-// Row i, a set of mesh number `mesh`, which has v vertices, with so many triangles from row `first` on.
+// Returns whether row `i` of table 6, `t`, belongs to mesh `mesh` and has a brush that is NONE or below `brushes`, and its `count` triangles from row `first`
+// on name vertices below `v`.
 fn set_here(
     brushes: u32,
     v: u32,
@@ -55,7 +56,7 @@ fn set_here(
     b3d_check_rows::id_rows_here(Ids::Triangles, triangles, v, first, count)
 }
 
-// Row i with so many items from row `first` on.
+// Returns whether row `i` of `t`, a key list or a triangle set as `run` says, is sound with its `count` items from row `first` on.
 fn run_here(run: Run, t: &[u32], i: usize, items: &[u32], first: usize, count: usize) -> bool
     requires { ⌜ (4 * i + 4 ≤ length (now t)) × (runWidth run * (first + count) ≤ length (now items)) ⌝ }
     ensures { λ r. ⌜ r ≡ runTest run (rowAt 4 i (now (t .entry))) (rowsAt (runWidth run) first count (now (items .entry))) ⌝ }
@@ -66,7 +67,8 @@ fn run_here(run: Run, t: &[u32], i: usize, items: &[u32], first: usize, count: u
     }
 }
 
-// So many rows from row `first` on; their items are those from number `from` on, of which there are `total` in all.
+// Returns whether the `count` rows of `t` from row `first` on are sound: their groups of items follow each other from number `from` on, none passes `total`,
+// and each row is sound with its items.
 pub fn runs_here(
     run: Run,
     t: &[u32],
@@ -100,7 +102,7 @@ pub fn runs_here(
     true
 }
 
-// Where the key lists of a node end, of those from row `first` on.
+// Returns the number behind the last key list of `node`, of the rows from `first` up to `total` that follow each other; `first` if that row is not its own.
 pub fn lists_of(node: usize, t: &[u32], first: usize, total: usize) -> usize
     requires { ⌜ (first ≤ total) × (4 * total ≤ length (now t)) ⌝ }
     ensures { λ r. ⌜ MineTo node first total (now (t .entry)) r ⌝ }
@@ -116,7 +118,7 @@ pub fn lists_of(node: usize, t: &[u32], first: usize, total: usize) -> usize
     i
 }
 
-// The number after the last item of so many rows from row `first` on, the first item being number `from`.
+// Returns the number behind the last item of the `count` rows from row `first` on, the first item being number `from`.
 pub fn end_of(t: &[u32], first: usize, count: usize, from: usize) -> usize
     requires { ⌜ (4 * (first + count) ≤ length (now t)) × (endOf from (rowsAt 4 first count (now t)) ≤ 0xFFFFFFFF) ⌝ }
     ensures { λ r. ⌜ r ≡ endOf from (rowsAt 4 first count (now (t .entry))) ⌝ }

@@ -1,4 +1,4 @@
--- What a mesh row says by itself, and where the rows of meshes stand.
+-- What a mesh row says by itself, and what must be there of a mesh.
 use Prim.Native.Nat.{ℕ, _≤_, _<_}
 use mathlib.Core.Bool.{Bool, _&&_}
 use mathlib.Core.List.{List}
@@ -10,25 +10,31 @@ use Rattle.b3d_scene.specs.declared.Counts.{Counts}
 use Rattle.b3d_sound.specs.Check.{runsHere, setHere}
 use Rattle.b3d_sound.specs.Rooms.{KindRoom}
 
--- mesh row x of node number `node`, its first vertex being number `first`
+-- mesh row x is of node number `node`, has a brush that is NONE or below `brushes`, numbers in their range, and `first` as its first vertex
 unfoldable pub meshRowHere : ℕ → ℕ → ℕ → List ℕ → Bool
 meshRowHere brushes node first x =
     eqb (getD x 0 0) node
     && (holds (brushId brushes) (getD x 1 0)
     && (holds vertexFlags (getD x 2 0) && (holds sets (getD x 3 0) && (holds setSize (getD x 4 0) && eqb (getD x 5 0) first))))
 
--- the sets of mesh row x, which is number i: they are the first of ss, from number `first` on, and their triangles those of ts, from number r on
+-- the triangle sets of mesh row x, which is number i, are sound: at least one, the first of ss, from number `first` on; their triangles are those of ts, from
+-- number r on
 unfoldable pub meshSets : ℕ → ℕ → ℕ → ℕ → List ℕ → List (List ℕ) → List (List ℕ) → Bool
 meshSets brushes i first r x ss ts =
     eqb (getD x 7 0) first
     && (ltb 0 (getD x 8 0) && (leb (getD x 8 0) (length ss) && runsHere (setHere brushes (getD x 6 0) i) r (take (getD x 8 0) ss) ts))
 
--- after n rows a mesh comes, of those that a counts, and the tables 4 to 7, of so many words, have the rows that a counts
+-- what `mesh_here` asks: after the counts n a mesh comes, of those that a counts, and tables 4 to 7 have the rows that a counts
 pub record MeshAfter (n a : Counts) (words₄ words₅ words₆ words₇ : ℕ) : Type 0 where
+  -- one more mesh is counted
   pub one : n .meshes < a .meshes
+  -- the vertices before it are counted
   pub vertices : n .vertices ≤ a .vertices
+  -- the triangle sets before it are counted
   pub sets : n .sets ≤ a .sets
+  -- the triangles before it are counted
   pub triangles : n .triangles ≤ a .triangles
-  -- those of table 8, which are not looked at
+  -- the words of table 8, which is not looked at
   pub words₈ : ℕ
+  -- the tables have the counted rows
   pub rooms : KindRoom a words₄ words₅ words₆ words₇ words₈

@@ -1,5 +1,5 @@
-// Meshes with their sets, and weights, among the rows of lent tables: each function is a test of b3d_sound's specs/Check on rows that are given by
-// their number.
+// Whether meshes with their triangle sets, and weights, are sound in lent tables. Each function is a test of b3d_sound's specs/Check on rows that are given
+// by their number.
 ghost use mathlib.Core.Path.{_≡_};
 ghost use Prim.Native.Nat.{_+_, _-_, _*_, _<_, _≤_};
 ghost use lib.ListN.{length};
@@ -14,7 +14,7 @@ use b3d_scene::Counts;
 
 // ---- vertices and weights
 
-// So many vertices from row `first` on, of which there are `total` in all.
+// Returns whether `count` vertices are there from row `first` on, of `total` in all, with 0 in the cells that `flags`, `sets` and `size` leave out.
 fn vertices_left(
     t: &[u32],
     flags: u32,
@@ -33,7 +33,7 @@ fn vertices_left(
     b3d_check_absent::vertices_here(t, flags, sets, size, first, count)
 }
 
-// So many weights from row `first` on, of which there are `total` in all.
+// Returns whether `count` weights are there from row `first` on, of `total` in all, and each names a vertex below `bones`.
 pub fn weights_left(t: &[u32], bones: u32, count: usize, first: usize, total: usize) -> bool
     requires { ⌜ (first ≤ total) × (2 * total ≤ length (now t)) ⌝ }
     ensures { λ r. ⌜ r ≡ rowsHere (keeps (weightRow bones)) count (rowsAt 2 first (total - first) (now (t .entry))) ⌝ }
@@ -46,7 +46,8 @@ pub fn weights_left(t: &[u32], bones: u32, count: usize, first: usize, total: us
 
 // ---- meshes
 
-// Row i, a mesh of node number `node`, by its cells alone.
+// Returns whether row `i` of table 4, `t`, is sound by its cells alone: it belongs to `node`, its brush is NONE or below `brushes`, its numbers are in range,
+// and its first vertex is `vertices`.
 fn mesh_head(brushes: u32, node: usize, vertices: usize, t: &[u32], i: usize) -> bool
     requires { ⌜ 9 * i + 9 ≤ length (now t) ⌝ }
     ensures { λ r. ⌜ r ≡ meshRowHere brushes node vertices (rowAt 9 i (now (t .entry))) ⌝ }
@@ -60,7 +61,8 @@ fn mesh_head(brushes: u32, node: usize, vertices: usize, t: &[u32], i: usize) ->
     (own == node) & (some & ranges)
 }
 
-// The sets of row i, a mesh: those from row `first` on, of which there are `total` in all, their triangles from number `from` on.
+// Returns whether the triangle sets of row `i` of table 4, `t`, are sound: at least one, from row `first` of `sets` on, of `total` in all; their triangles
+// follow each other from number `from` on, of `all` in all.
 fn mesh_sets(
     brushes: u32,
     t: &[u32],
@@ -93,7 +95,7 @@ fn mesh_sets(
     b3d_check_lists::runs_here(run, sets, first, count, triangles, from, all)
 }
 
-// The mesh that comes after n rows, of those that `all` counts, in the tables 4 to 7.
+// Returns whether the mesh that comes after the counts `n` is sound in tables 4 to 7, whose rows `all` counts.
 pub fn mesh_here(
     brushes: u32,
     n: Counts,

@@ -1,4 +1,4 @@
-// A node and what is its own among the rows of lent tables: is it sound?
+// Whether one node of lent tables is sound, with all rows that are its own.
 ghost use mathlib.Core.Path.{_≡_};
 ghost use mathlib.Core.List.{[]};
 ghost use Prim.Native.Nat.{_+_, _-_, _*_, _<_, _≤_};
@@ -13,7 +13,8 @@ use b3d_check_lists::Run;
 use b3d_scene::Counts;
 use b3d_scene::NODE_WIDTH;
 
-// The kind, first and count of the node that comes after n rows, of those that `all` counts; a weight may name so many vertices at most.
+// Returns whether kind, first and count of the node that comes after the counts `n` are sound, with its mesh or weights; a weight may name a vertex below
+// `most`. `all` counts the rows of the tables.
 fn kind_here(
     brushes: u32,
     most: u32,
@@ -52,7 +53,7 @@ fn kind_here(
     (kind == 0) & ((first == 0) & (count == 0))
 }
 
-// The key lists of the node that comes after n rows, with their keys.
+// Returns whether the key lists of the node that comes after the counts `n` are sound, with their keys.
 fn own_lists(n: Counts, all: Counts, t9: &[u32], t10: &[u32]) -> bool
     requires { ⌜ Below n all × ListRoom all (length (now t9)) (length (now t10)) ⌝ }
     ensures { λ r. ⌜ r ≡ runsHere listHere (n .keys) (mine (n .nodes) (rowsAt 4 (n .lists) (all .lists - n .lists) (now (t9 .entry)))) (rowsAt 11 (n .keys) (all .keys - n .keys) (now (t10 .entry))) ⌝ }
@@ -61,7 +62,7 @@ fn own_lists(n: Counts, all: Counts, t9: &[u32], t10: &[u32]) -> bool
     b3d_check_lists::runs_here(Run::Keys, t9, n.lists, end - n.lists, t10, n.keys, all.keys)
 }
 
-// Row i, a node: is ANIM there, and its values.
+// Returns whether row `i` of table 3, `t`, has 1 for an ANIM, or 0 and three values of 0.
 fn anim_here(t: &[u32], i: usize) -> bool
     requires { ⌜ nodeWidth * i + nodeWidth ≤ length (now t) ⌝ }
     ensures { λ r. ⌜ r ≡ animHere (take 4 (drop 3 (drop 13 (rowAt nodeWidth i (now (t .entry)))))) ⌝ }
@@ -74,8 +75,8 @@ fn anim_here(t: &[u32], i: usize) -> bool
     (there == 0) & ((t[o + 17] == 0) & ((t[o + 18] == 0) & (t[o + 19] == 0)))
 }
 
-// The node that comes after n rows and all that is its own, in the tables 3 to 10. The names are in `text`; a weight may name so many
-// vertices at most.
+// Returns whether the node that comes after the counts `n` is sound, with all that is its own in tables 3 to 10. The names are in `text`; a weight may name a
+// vertex below `most`; `all` counts the rows of the tables.
 pub fn node_here(
     text: &[u8],
     brushes: u32,

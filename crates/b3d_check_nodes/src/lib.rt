@@ -1,4 +1,4 @@
-// The nodes of lent tables below the root: each with what is its own, its parent and what the nodes above say of bones, and that no row is left over.
+// Whether the nodes of lent tables below the root are sound: their own rows, parents, branch words and bone limits; and that no row is left over.
 ghost use mathlib.Core.Path.{_≡_};
 ghost use mathlib.Core.List.{[], _∷_};
 ghost use Prim.Native.Nat.{_-_, _*_, _≤_};
@@ -11,8 +11,8 @@ ghost use Rattle.b3d_check_counts.specs.Parts.{partRows, Below};
 use b3d_check_node::node_here;
 use b3d_scene::Counts;
 
-// The nodes after the root, whose rows are `from`, of those that `all` counts, in the tables 3 to 10. The names are in `text`; the root says to
-// those below it that a weight may name its vertices, and ends at this row. The path has 16 levels: each its node, where that ends, and what it says of bones.
+// Returns whether the nodes after the root are sound in tables 3 to 10, whose rows `all` counts; `from` are the counts after the root, whose branch ends at
+// row `end` and whose bone limit is its vertices. The names are in `text`. A path of 16 levels holds the open nodes, where each ends and its bone limit.
 pub fn nodes_here(
     text: &[u8],
     brushes: u32,

@@ -9,7 +9,7 @@ use Rattle.b3d_scene.specs.declared.Counts.{Counts}
 use Rattle.b3d_scene.specs.Tables.{nodeWidth}
 use Rattle.b3d_sound.specs.Rooms.{Limited, KindRoom, ListRoom}
 
--- the counts of the tables 3 to 10
+-- the counts of tables 3 to 10 out of the ten counts
 unfoldable pub partCounts : List ℕ → Counts
 partCounts counts =
     record {
@@ -23,11 +23,11 @@ partCounts counts =
       keys = getD counts 9 0;
     }
 
--- c rows of w words are no more than the limit, and than so many words
+-- c rows are no more than the row limit, and their words, w each, no more than l
 unfoldable pub fitsIn : ℕ → ℕ → ℕ → Bool
 fitsIn c w l = leb c rowLimit && leb (w * c) l
 
--- the counted rows of each table are there: c₁ textures, c₂ brushes and the rows that a counts, in tables of so many words
+-- the counted rows of each table are there and within the row limit: c₁ textures, c₂ brushes and the rows that a counts, in tables of l₁ to l₁₀ words
 unfoldable pub rooms : ℕ → ℕ → Counts → ℕ → ℕ → ℕ → ℕ → ℕ → ℕ → ℕ → ℕ → ℕ → ℕ → Bool
 rooms c₁ c₂ a l₁ l₂ l₃ l₄ l₅ l₆ l₇ l₈ l₉ l₁₀ =
     fitsIn c₁ 9 l₁
@@ -41,13 +41,21 @@ rooms c₁ c₂ a l₁ l₂ l₃ l₄ l₅ l₆ l₇ l₈ l₉ l₁₀ =
     && (fitsIn (a .lists) 4 l₉
     && fitsIn (a .keys) 11 l₁₀))))))))
 
--- the same, as facts
+-- the test `rooms` as facts
 pub record Rooms (c₁ c₂ : ℕ) (a : Counts) (l₁ l₂ l₃ l₄ l₅ l₆ l₇ l₈ l₉ l₁₀ : ℕ) : Type 0 where
+  -- the textures are within the row limit
   pub few₁ : c₁ ≤ rowLimit
+  -- the brushes are
   pub few₂ : c₂ ≤ rowLimit
+  -- the rows that a counts are
   pub limited : Limited a
+  -- table 1 has its rows
   pub room₁ : 9 * c₁ ≤ l₁
+  -- table 2 has its rows
   pub room₂ : 17 * c₂ ≤ l₂
+  -- table 3 has its rows
   pub room₃ : nodeWidth * a .nodes ≤ l₃
+  -- tables 4 to 8 have their rows
   pub kinds : KindRoom a l₄ l₅ l₆ l₇ l₈
+  -- tables 9 and 10 have their rows
   pub lists : ListRoom a l₉ l₁₀

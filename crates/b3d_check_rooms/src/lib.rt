@@ -1,4 +1,4 @@
-// Counts of lent tables: are the counted rows of each there, and no more than the limit?
+// Whether the counted rows of each lent table are there, and no more than the row limit.
 ghost use mathlib.Core.Path.{_≡_};
 ghost use Prim.Native.Nat.{_*_, _≤_};
 ghost use lib.ListN.{length};
@@ -6,7 +6,7 @@ ghost use Rattle.b3d_check_rooms.specs.LentRooms.{partCounts, fitsIn, ro
 use b3d_scene::Counts;
 use b3d_scene::NODE_WIDTH;
 
-// So many rows of a width are no more than the limit, and than so many words.
+// Returns whether `n` rows are no more than the row limit, and their words, `width` each, no more than `words`.
 fn fits_in(n: usize, width: usize, words: usize) -> bool
     requires { ⌜ width ≤ 42 ⌝ }
     ensures { λ r. ⌜ r ≡ fitsIn n width words ⌝ }
@@ -17,7 +17,7 @@ fn fits_in(n: usize, width: usize, words: usize) -> bool
     width * n <= words
 }
 
-// The counted rows of each table are there.
+// Returns whether the counted rows of each table are there and within the row limit: `textures`, `brushes`, and those that `all` counts.
 pub fn rooms_here(
     textures: usize,
     brushes: usize,
@@ -51,7 +51,7 @@ pub fn rooms_here(
     b1 & (b2 & (b3 & (b4 & (b5 & last))))
 }
 
-// The counts of the tables 3 to 10.
+// Returns the counts of tables 3 to 10 out of the ten `counts`.
 pub fn sizes(counts: &[u32; 10]) -> Counts
     ensures { λ r. ⌜ r ≡ partCounts (now (counts .entry)) ⌝ }
 {

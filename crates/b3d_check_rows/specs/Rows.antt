@@ -4,10 +4,10 @@ use mathlib.Core.List.{List}
 use lib.ListN.{take, drop}
 use Rattle.b3d_scene.specs.Rebuild.{cut}
 
--- row i
+-- row i of the table ws, whose rows have w words
 unfoldable pub rowAt : ℕ → ℕ → List ℕ → List ℕ
 rowAt w i ws = take w (drop (w * i) ws)
 
--- c rows from row i on
+-- the c rows of the table ws from row i on, of w words each
 unfoldable pub rowsAt : ℕ → ℕ → ℕ → List ℕ → List (List ℕ)
 rowsAt w i c ws = cut w c (drop (w * i) ws)

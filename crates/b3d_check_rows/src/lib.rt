@@ -1,5 +1,5 @@
-// Rows of lent tables against their rules: names, and rows that name vertices. Each function is a test of b3d_sound's
-// specs/Check on rows that are given by their number.
+// Whether names, triangles and weights of lent tables keep their rules. Each function is a test of b3d_sound's specs/Check on rows that are given by their
+// number.
 ghost use mathlib.Core.Path.{_≡_};
 ghost use mathlib.Core.List.{[], _∷_};
 ghost use Prim.Native.Nat.{_+_, _*_, _<_, _≤_};
@@ -11,7 +11,7 @@ ghost use Rattle.b3d_sound.specs.Check.{keeps, nameHere};
 ghost use Rattle.b3d_check_rows.specs.IdRows.{idWidth, idRow};
 ghost use Rattle.b3d_check_rows.specs.Rows.{rowAt, rowsAt};
 
-// A cell as a number of rows.
+// Returns cell `at` of the table `t` as a number.
 pub fn cell(t: &[u32], at: usize) -> usize
     requires { ⌜ at < length (now t) ⌝ }
     ensures { λ r. ⌜ r ≡ getD (now (t .entry)) at 0 ⌝ }
@@ -21,7 +21,7 @@ pub fn cell(t: &[u32], at: usize) -> usize
 
 // ---- names
 
-// No byte of so many from a place on is zero.
+// Returns whether none of the `count` bytes of `names` from `place` on is zero.
 fn text_here(names: &[u8], place: usize, count: usize) -> bool
     requires { ⌜ place + count ≤ length (now names) ⌝ }
     ensures { λ r. ⌜ r ≡ all (λ b. ltb 0 b) (take count (drop place (now (names .entry)))) ⌝ }
@@ -38,7 +38,7 @@ fn text_here(names: &[u8], place: usize, count: usize) -> bool
     true
 }
 
-// The name that a row's first two cells say is among the bytes, with no zero inside.
+// Returns whether the name of `count` bytes at `place` lies in `names`, with no zero inside.
 pub fn name_here(names: &[u8], place: u32, count: u32) -> bool
     ensures { λ r. ⌜ r ≡ nameHere (now (names .entry)) (place ∷ count ∷ []) ⌝ }
 {
@@ -52,13 +52,13 @@ pub fn name_here(names: &[u8], place: u32, count: u32) -> bool
 
 // ---- ids
 
-// Rows that name vertices.
+// Which rows name vertices.
 pub enum Ids {
     Triangles,
     Weights,
 }
 
-// Row i, a triangle, names three of v vertices.
+// Returns whether row `i` of table 7, `t`, names three vertices below `v`.
 fn triangle_here(t: &[u32], v: u32, i: usize) -> bool
     requires { ⌜ 3 * i + 3 ≤ length (now t) ⌝ }
     ensures { λ r. ⌜ r ≡ keeps (triangleRow v) (rowAt 3 i (now (t .entry))) ⌝ }
@@ -67,7 +67,7 @@ fn triangle_here(t: &[u32], v: u32, i: usize) -> bool
     (t[o] < v) & ((t[o + 1] < v) & (t[o + 2] < v))
 }
 
-// Row i, a weight, names one of so many vertices.
+// Returns whether row `i` of table 8, `t`, names a vertex below `bones`.
 fn weight_here(t: &[u32], bones: u32, i: usize) -> bool
     requires { ⌜ 2 * i + 2 ≤ length (now t) ⌝ }
     ensures { λ r. ⌜ r ≡ keeps (weightRow bones) (rowAt 2 i (now (t .entry))) ⌝ }
@@ -75,7 +75,7 @@ fn weight_here(t: &[u32], bones: u32, i: usize) -> bool
     t[2 * i] < bones
 }
 
-// Row i, a triangle or a weight.
+// Returns whether row `i` of `t`, a triangle or a weight as `ids` says, names vertices below `v`.
 fn id_row_here(ids: Ids, t: &[u32], v: u32, i: usize) -> bool
     requires { ⌜ idWidth ids * i + idWidth ids ≤ length (now t) ⌝ }
     ensures { λ r. ⌜ r ≡ keeps (idRow ids v) (rowAt (idWidth ids) i (now (t .entry))) ⌝ }
@@ -86,7 +86,7 @@ fn id_row_here(ids: Ids, t: &[u32], v: u32, i: usize) -> bool
     }
 }
 
-// So many of them from row `first` on.
+// Returns whether each of the `count` rows of `t` from row `first` on, triangles or weights as `ids` says, names vertices below `v`.
 pub fn id_rows_here(ids: Ids, t: &[u32], v: u32, first: usize, count: usize) -> bool
     requires { ⌜ idWidth ids * (first + count) ≤ length (now t) ⌝ }
     ensures { λ r. ⌜ r ≡ all (keeps (idRow ids v)) (rowsAt (idWidth ids) first count (now (t .entry))) ⌝ }

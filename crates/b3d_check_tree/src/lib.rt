@@ -1,4 +1,4 @@
-// The nodes of lent tables: the root, and those below it.
+// Whether the nodes of lent tables are sound: the root, and those below it.
 ghost use mathlib.Core.Path.{_≡_};
 ghost use Prim.Native.Nat.{_*_, _≤_};
 ghost use lib.ListN.{length};
@@ -11,7 +11,8 @@ use b3d_check_node::node_here;
 use b3d_scene::Counts;
 use b3d_scene::START;
 
-// The root and all nodes below it, of those that `all` counts, in the tables 3 to 10. The names are in `text`.
+// Returns whether all nodes are sound in tables 3 to 10, whose rows `all` counts: the root, whose parent is NONE, and those below it. The names are in
+// `text`. Without a node no row of tables 4 to 10 may be left.
 pub fn tree_here(
     text: &[u8],
     brushes: u32,

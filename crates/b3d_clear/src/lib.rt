@@ -1,12 +1,12 @@
-// The clearer: from a lent file to its copy without names in a lent output, with no tables.
+// The clearer: writes the copy of a lent file without names to a lent output, with no tables.
 ghost use mathlib.Core.Path.{_≡_};
 ghost use Rattle.b3d_scene.specs.Answers.{clearAnswer, clearOutput};
 use b3d_judge_body::Verdict;
 use b3d_scene::Mode;
 use b3d_scene::Written;
 
-// Writes the copy without names of a file into the output, and says how long it is; what stood behind it stays. Where the file is refused
-// (1 to 10), or the output is too short (11, and the size of the copy), the output stays as it was.
+// Writes the copy without names of `file` to the start of `out`; the bytes behind it stay as they were. Returns 0 and its size. Where the lenient mode
+// refuses the file (1 to 10), or `out` is too short (11, with the size of the copy as place), `out` stays as it was and the size is 0.
 pub fn clear(file: &[u8], out: &mut [u8]) -> Written
     ensures { λ r. ⌜ r ≡ clearAnswer (now (file .entry)) (now (out .entry)) ⌝ }
     ensures { λ _. ⌜ now (out .exit) ≡ clearOutput (now (file .entry)) (now (out .entry)) ⌝ }

@@ -1,5 +1,5 @@
-// Chunks that stay as they stand in the copy without names, written into a lent output. Each function is lent the output from where it is to write; a
-// chunk's header is written last, when the length of its body is known.
+// Chunks that stay as they are in the copy without names, written into a lent output. Each function is lent the output from where it is to write, and returns
+// how many bytes it wrote; a chunk's header is written last, when the length of its body is known.
 ghost use Prim.Native.Nat.{_≤_};
 ghost use mathlib.Core.List.{_++_};
 ghost use lib.ListN.{length};
@@ -12,7 +12,7 @@ use b3d_scene::Tag;
 use b3d_walk::Sought;
 use wire::Cursor;
 
-// A chunk of this tag whose body is the bytes of a cursor.
+// Writes a chunk of `tag` with the bytes of `body`. Returns its size.
 pub fn copy_chunk(file: &[u8], body: Cursor, tag: Tag, out: &mut [u8]) -> usize
     requires { ⌜ Inside body (length (now file)) ⌝ }
     requires { ⌜ Room (chunkOf (code tag) (left body (now file))) (now out) ⌝ }
@@ -25,7 +25,7 @@ pub fn copy_chunk(file: &[u8], body: Cursor, tag: Tag, out: &mut [u8]) -> usize
     count + 8
 }
 
-// Each chunk of this tag among those that a cursor has left.
+// Writes each chunk of `tag` that stands from the cursor `from` on, as it is. Returns their size; 0 where there is none.
 pub fn copy_each(file: &[u8], from: Cursor, tag: Tag, out: &mut [u8]) -> usize
     requires { ⌜ Inside from (length (now file)) × (length (now file) ≤ mostBytes) ⌝ }
     requires { ⌜ Room (each tag (asIs tag) (chunksAt (now file) from)) (now out) ⌝ }
@@ -47,7 +47,7 @@ pub fn copy_each(file: &[u8], from: Cursor, tag: Tag, out: &mut [u8]) -> usize
     }
 }
 
-// Each chunk of one tag, then each of another.
+// Writes each chunk of tag `first` that stands from the cursor `from` on, then each of tag `second`. Returns their size.
 pub fn copy_two(file: &[u8], from: Cursor, first: Tag, second: Tag, out: &mut [u8]) -> usize
     requires { ⌜ Inside from (length (now file)) × (length (now file) ≤ mostBytes) ⌝ }
     requires { ⌜ Room (each first (asIs first) (chunksAt (now file) from) ++ each second (asIs second) (chunksAt (now file) from)) (now out) ⌝ }

@@ -1,4 +1,4 @@
-// The copy without names of a whole file, in an output with room for it: its version, then its chunks.
+// The copy without names of a whole file, written into an output with room for it: BB3D's header, the version, then the chunks.
 ghost use mathlib.Core.List.{_++_};
 ghost use Prim.Native.Nat.{_≤_};
 ghost use lib.ListN.{length};
@@ -13,7 +13,7 @@ use b3d_scene::Tag;
 use b3d_scene::letters;
 use wire::Cursor;
 
-// The brushes, then the nodes.
+// Writes each BRUS, then each NODE, of those from the cursor `from` on, without names. Returns their size.
 fn clear_rest(file: &[u8], from: Cursor, out: &mut [u8]) -> usize
     requires { ⌜ Inside from (length (now file)) × (length (now file) ≤ mostBytes) × AllBytes (now file) ⌝ }
     requires { ⌜ Room (each BRUS brusCopy (chunksAt (now file) from) ++ each NODE (nodeCopy levels) (chunksAt (now file) from)) (now out) ⌝ }
@@ -24,7 +24,7 @@ fn clear_rest(file: &[u8], from: Cursor, out: &mut [u8]) -> usize
     n + m
 }
 
-// The textures, then the rest.
+// Writes each TEXS, BRUS and NODE, in this order, of those from the cursor `from` on, without names. Returns their size.
 fn clear_chunks(file: &[u8], from: Cursor, out: &mut [u8]) -> usize
     requires { ⌜ Inside from (length (now file)) × (length (now file) ≤ mostBytes) × AllBytes (now file) ⌝ }
     requires { ⌜ Room (inFile (chunksAt (now file) from)) (now out) ⌝ }
@@ -35,7 +35,8 @@ fn clear_chunks(file: &[u8], from: Cursor, out: &mut [u8]) -> usize
     n + m
 }
 
-// The copy of a file that has a version, with room for it: the version, then the chunks.
+// Writes the copy without names of `file`, of at least 12 bytes, to the start of `out`, which has room for it. Returns its size. The bytes behind it stay as
+// they were.
 pub fn clear_file(file: &[u8], out: &mut [u8]) -> usize
     requires { ⌜ (12 ≤ length (now file)) × (length (now file) ≤ mostBytes) × AllBytes (now file) ⌝ }
     requires { ⌜ Room (fileCopy (now file)) (now out) ⌝ }

@@ -1,4 +1,4 @@
-// The two lists of a file, TEXS and BRUS, in the copy without names: items that are a text and words, with the text left empty.
+// TEXS and BRUS in the copy without names: items of a text and words, with the text left empty.
 ghost use Prim.Native.Nat.{_+_, _*_, _≤_};
 ghost use lib.ListN.{length};
 ghost use Rattle.wire.specs.Bytes.{bytes, AllBytes};
@@ -14,7 +14,7 @@ use b3d_scene::letters;
 use wire::Cursor;
 use wire::Number;
 
-// An empty text, and so many words of the file.
+// Writes an empty text and the `words` words of `file` at `row`. Returns the size.
 pub fn put_unnamed(file: &[u8], row: Cursor, words: usize, out: &mut [u8]) -> usize
     requires { ⌜ Inside row (length (now file)) × (row .at + 4 * words ≤ row .end) × (words ≤ 64) × AllBytes (now file) ⌝ }
     requires { ⌜ Room (unnamed (wordsOf words (left row (now file)))) (now out) ⌝ }
@@ -25,7 +25,7 @@ pub fn put_unnamed(file: &[u8], row: Cursor, words: usize, out: &mut [u8]) -> us
     4 * words + 1
 }
 
-// Items of so many words, up to the first that is not all there.
+// Writes the items of a text and `words` words from the cursor `from` on with empty texts, up to the first that is not all there. Returns the size.
 fn clear_items(file: &[u8], from: Cursor, words: usize, out: &mut [u8]) -> usize
     requires { ⌜ Inside from (length (now file)) × (words ≤ 64) × AllBytes (now file) ⌝ }
     requires { ⌜ Room (unnamedItems words (from .at) (left from (now file))) (now out) ⌝ }
@@ -51,7 +51,7 @@ fn clear_items(file: &[u8], from: Cursor, words: usize, out: &mut [u8]) -> usize
     }
 }
 
-// A TEXS of the items that a cursor has left.
+// Writes a TEXS of the `items` with empty texts. Returns its size.
 fn texs_chunk(file: &[u8], items: Cursor, out: &mut [u8]) -> usize
     requires { ⌜ Inside items (length (now file)) × AllBytes (now file) ⌝ }
     requires { ⌜ Room (chunkOf (code TEXS) (unnamedItems 7 (items .at) (left items (now file)))) (now out) ⌝ }
@@ -62,7 +62,7 @@ fn texs_chunk(file: &[u8], items: Cursor, out: &mut [u8]) -> usize
     n + 8
 }
 
-// A TEXS whose header is at `at`: its items, or nothing where it has none.
+// Writes what the TEXS at `at` with this `body` becomes. Returns its size; 0 where it has no item.
 pub fn clear_textures(file: &[u8], at: usize, body: Cursor, out: &mut [u8]) -> usize
     requires { ⌜ Body at body (length (now file)) × AllBytes (now file) ⌝ }
     requires { ⌜ Room (texsCopy at (left body (now file))) (now out) ⌝ }
@@ -74,7 +74,7 @@ pub fn clear_textures(file: &[u8], at: usize, body: Cursor, out: &mut [u8]) -> u
     texs_chunk(file, body, out)
 }
 
-// A BRUS of so many slots, of the items of so many words that a cursor has left.
+// Writes a BRUS of n_texs `slots` and the `items` of `words` words each, with empty texts. Returns its size.
 fn brus_chunk(file: &[u8], items: Cursor, slots: u32, words: usize, out: &mut [u8]) -> usize
     requires { ⌜ Inside items (length (now file)) × (words ≤ 64) × AllBytes (now file) ⌝ }
     requires { ⌜ Room (chunkOf (code BRUS) (bytes slots (unnamedItems words (items .at) (left items (now file))))) (now out) ⌝ }
@@ -85,7 +85,7 @@ fn brus_chunk(file: &[u8], items: Cursor, slots: u32, words: usize, out: &mut [u
     n + 12
 }
 
-// A BRUS whose header is at `at`: its slots and its items, or nothing where it has none.
+// Writes what the BRUS at `at` with this `body` becomes. Returns its size; 0 where n_texs is cut or over 8, or it has no item.
 pub fn clear_brushes(file: &[u8], at: usize, body: Cursor, out: &mut [u8]) -> usize
     requires { ⌜ Body at body (length (now file)) × AllBytes (now file) ⌝ }
     requires { ⌜ Room (brusCopy at (left body (now file))) (now out) ⌝ }

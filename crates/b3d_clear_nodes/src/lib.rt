@@ -1,4 +1,4 @@
-// The nodes of the copy without names, written into a lent output: a node's own, then those below it.
+// The nodes of the copy without names, written into a lent output: a node's own part, then those below it.
 ghost use Prim.Native.Nat.{_+_, _*_, _≤_};
 ghost use mathlib.Core.List.{_++_};
 ghost use lib.ListN.{length};
@@ -17,7 +17,7 @@ use b3d_scene::letters;
 use b3d_walk::Sought;
 use wire::Cursor;
 
-// What stands inside a NODE besides meshes and nodes: BONE, KEYS, ANIM.
+// Writes each BONE, KEYS and ANIM, in this order, of the chunks from the cursor `from` on, as they are. Returns their size.
 fn clear_moves(file: &[u8], from: Cursor, out: &mut [u8]) -> usize
     requires { ⌜ Inside from (length (now file)) × (length (now file) ≤ mostBytes) ⌝ }
     requires { ⌜ Room (each BONE (asIs BONE) (chunksAt (now file) from) ++ (each KEYS (asIs KEYS) (chunksAt (now file) from) ++ each ANIM (asIs ANIM) (chunksAt (now file) from))) (now out) ⌝ }
@@ -28,7 +28,7 @@ fn clear_moves(file: &[u8], from: Cursor, out: &mut [u8]) -> usize
     n + m
 }
 
-// What stands inside a NODE besides nodes: its kind, KEYS, ANIM.
+// Writes what stands inside a NODE from the cursor `from` on besides nodes: MESH or BONE, KEYS, ANIM. Returns the size.
 fn clear_inside(file: &[u8], from: Cursor, out: &mut [u8]) -> usize
     requires { ⌜ Inside from (length (now file)) × (length (now file) ≤ mostBytes) × AllBytes (now file) ⌝ }
     requires { ⌜ Room (inNode (chunksAt (now file) from)) (now out) ⌝ }
@@ -39,7 +39,7 @@ fn clear_inside(file: &[u8], from: Cursor, out: &mut [u8]) -> usize
     n + m
 }
 
-// The body of a NODE without the nodes below: an empty name, its ten words at `row`, and what stands inside from `next` on.
+// Writes the body of a NODE without the nodes below: an empty name, its ten words at `row`, and what stands inside from `next` on. Returns the size.
 fn clear_own(file: &[u8], row: Cursor, next: Cursor, out: &mut [u8]) -> usize
     requires { ⌜ Inside row (length (now file)) × (row .at + 4 * 10 ≤ row .end) × AllBytes (now file) ⌝ }
     requires { ⌜ Inside next (length (now file)) × (length (now file) ≤ mostBytes) ⌝ }
@@ -51,7 +51,7 @@ fn clear_own(file: &[u8], row: Cursor, next: Cursor, out: &mut [u8]) -> usize
     n + m
 }
 
-// A NODE whose header is at `at`, with so many levels left.
+// Writes what the NODE at `at` with this `body` becomes, with `levels` levels left. Returns its size; 0 where no level is left, or text or words are cut.
 pub fn clear_node(file: &[u8], at: usize, body: Cursor, levels: u32, out: &mut [u8]) -> usize
     requires { ⌜ Body at body (length (now file)) × AllBytes (now file) ⌝ }
     requires { ⌜ Room (nodeCopy levels at (left body (now file))) (now out) ⌝ }
@@ -66,7 +66,7 @@ pub fn clear_node(file: &[u8], at: usize, body: Cursor, levels: u32, out: &mut [
     }
 }
 
-// A NODE of its ten words at `row` and the chunks from `next` on; the nodes below it have so many levels left.
+// Writes a NODE of its ten words at `row` and the chunks from `next` on; the nodes below it have `levels` levels left. Returns its size.
 fn node_chunk(file: &[u8], row: Cursor, next: Cursor, levels: u32, out: &mut [u8]) -> usize
     requires { ⌜ Inside row (length (now file)) × (row .at + 4 * 10 ≤ row .end) × AllBytes (now file) ⌝ }
     requires { ⌜ Inside next (length (now file)) × (length (now file) ≤ mostBytes) ⌝ }
@@ -80,7 +80,7 @@ fn node_chunk(file: &[u8], row: Cursor, next: Cursor, levels: u32, out: &mut [u8
     n + m + 8
 }
 
-// Each NODE among the chunks that a cursor has left, with so many levels left.
+// Writes what each NODE from the cursor `from` on becomes, with `levels` levels left. Returns their size; 0 where there is none.
 pub fn clear_nodes(file: &[u8], from: Cursor, levels: u32, out: &mut [u8]) -> usize
     requires { ⌜ Inside from (length (now file)) × (length (now file) ≤ mostBytes) × AllBytes (now file) ⌝ }
     requires { ⌜ Room (each NODE (nodeCopy levels) (chunksAt (now file) from)) (now out) ⌝ }

@@ -1,4 +1,4 @@
-// A MESH in the copy without names, and a chunk by its tag: made anew where it holds names, else as it stands.
+// A MESH in the copy without names, and a chunk by its tag: made anew where it holds names or unknown chunks, else as it is.
 ghost use Prim.Native.Nat.{_≤_};
 ghost use lib.ListN.{length};
 ghost use Rattle.wire.specs.Bytes.{bytes, AllBytes};
@@ -15,7 +15,7 @@ use b3d_walk::Sought;
 use wire::Cursor;
 use wire::Number;
 
-// A MESH of this brush, of the chunks that a cursor has left.
+// Writes a MESH of `brush` and of each VRTS, then each TRIS, from the cursor `from` on. Returns its size.
 fn mesh_chunk(file: &[u8], from: Cursor, brush: u32, out: &mut [u8]) -> usize
     requires { ⌜ Inside from (length (now file)) × (length (now file) ≤ mostBytes) ⌝ }
     requires { ⌜ Room (chunkOf (code MESH) (bytes brush (inMesh (chunksAt (now file) from)))) (now out) ⌝ }
@@ -26,7 +26,7 @@ fn mesh_chunk(file: &[u8], from: Cursor, brush: u32, out: &mut [u8]) -> usize
     n + 12
 }
 
-// A MESH whose header is at `at`.
+// Writes what the MESH at `at` with this `body` becomes. Returns its size; 0 where its brush is cut.
 pub fn clear_mesh(file: &[u8], at: usize, body: Cursor, out: &mut [u8]) -> usize
     requires { ⌜ Body at body (length (now file)) ⌝ }
     requires { ⌜ Room (meshCopy at (left body (now file))) (now out) ⌝ }
@@ -38,7 +38,7 @@ pub fn clear_mesh(file: &[u8], at: usize, body: Cursor, out: &mut [u8]) -> usize
     }
 }
 
-// A chunk of this tag whose header is at `at`; a NODE is taken as it stands.
+// Writes what the chunk of `tag` at `at` with this `body` becomes; a NODE is taken as it is. Returns its size.
 fn clear_chunk(file: &[u8], at: usize, body: Cursor, tag: Tag, out: &mut [u8]) -> usize
     requires { ⌜ Body at body (length (now file)) × AllBytes (now file) ⌝ }
     requires { ⌜ Room (partCopy tag at (left body (now file))) (now out) ⌝ }
@@ -52,7 +52,7 @@ fn clear_chunk(file: &[u8], at: usize, body: Cursor, tag: Tag, out: &mut [u8]) -
     }
 }
 
-// Each chunk of this tag among those that a cursor has left.
+// Writes what each chunk of `tag` from the cursor `from` on becomes; a NODE is taken as it is. Returns their size; 0 where there is none.
 pub fn clear_each(file: &[u8], from: Cursor, tag: Tag, out: &mut [u8]) -> usize
     requires { ⌜ Inside from (length (now file)) × (length (now file) ≤ mostBytes) × AllBytes (now file) ⌝ }
     requires { ⌜ Room (each tag (partCopy tag) (chunksAt (now file) from)) (now out) ⌝ }

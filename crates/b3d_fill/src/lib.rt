@@ -1,9 +1,9 @@
-// The ten tables of a file, of so many rows, filled.
+// The ten tables of a file filled, their row counts being known.
 ghost use mathlib.Core.List.{[], _∷_};
 ghost use lib.ListN.{length};
 ghost use Rattle.b3d_fill.specs.Fills.{Fillable, Filled};
 
-// The ten tables of a file, of so many rows.
+// Stores the rows of the ten tables of `file` in `table1` to `table10`; `rows` holds how many each has. The cells behind them stay as they were.
 pub fn fill_tables(
     file: &[u8],
     rows: [u32; 10],

@@ -1,4 +1,4 @@
-// Tables 4 to 7, the meshes with their vertices, sets and triangles, filled by one loop over the flat run.
+// Tables 4 to 7, the meshes with their vertices, triangle sets and triangles, filled by one loop over the flat run.
 ghost use mathlib.Core.Path.{_≡_};
 ghost use Prim.Native.Nat.{_+_, _-_, _<_, _≤_};
 ghost use lib.ListN.{length};
@@ -11,7 +11,7 @@ use b3d_scene::Tag;
 use b3d_walk::Flat;
 use wire::Cursor;
 
-// How far the tables of meshes are filled: how many nodes, meshes, vertices, sets and triangles came before, and the word of each table that comes next.
+// How far tables 4 to 7 are filled: how many nodes, meshes, vertices, triangle sets and triangles came before, and the next free cell of each table.
 pub struct Marks {
     pub nodes: usize,
     pub meshes: usize,
@@ -24,7 +24,7 @@ pub struct Marks {
     pub to7: usize,
 }
 
-// The rows of a MESH whose header is at p in each of the four tables.
+// Stores the rows of the MESH at `p` with this `body` in tables 4 to 7, filled as far as `m` says. Returns how far they are filled then.
 fn put_one(
     file: &[u8],
     p: usize,
@@ -62,7 +62,7 @@ fn put_one(
     }
 }
 
-// Tables 4 to 7 of a file: the meshes, their vertices, sets and triangles.
+// Stores the rows of tables 4 to 7 of `file` in `t4` to `t7`. The cells behind them stay as they were.
 pub fn fill_meshes(file: &[u8], t4: &mut [u32], t5: &mut [u32], t6: &mut [u32], t7: &mut [u32])
     requires { ⌜ (length (now file) < 0x100000000) × (length (joined (fileRows 4 (now file))) ≤ length (now t4)) × (length (joined (fileRows 5 (now file))) ≤ length (now t5))
         × (length (joined (fileRows 6 (now file))) ≤ length (now t6)) × (length (joined (fileRows 7 (now file))) ≤ length (now t7)) ⌝ }

@@ -8,7 +8,7 @@ ghost use Rattle.b3d_file_rows.specs.Rows.{fileRows};
 use b3d_scene::Tag;
 use b3d_walk::Flat;
 
-// Tables 8, 9 and 10 of a file: the weights, the key lists and the keys.
+// Stores the rows of tables 8, 9 and 10 of `file` in `weights`, `lists` and `keys`. The cells behind them stay as they were.
 pub fn fill_moves(file: &[u8], weights: &mut [u32], lists: &mut [u32], keys: &mut [u32])
     requires { ⌜ (length (now file) < 0x100000000) × (length (joined (fileRows 8 (now file))) ≤ length (now weights))
         × (length (joined (fileRows 9 (now file))) ≤ length (now lists)) × (length (joined (fileRows 10 (now file))) ≤ length (now keys)) ⌝ }

@@ -1,2 +1,2 @@
--- The row that a text with its words makes.
+-- The row that an item of a text and words makes.
 pub mod Texts

@@ -1,4 +1,4 @@
--- The row that a text with its words makes, and the first chunk of a tag in a file.
+-- The row that an item of a text and words makes, and the first chunk of a tag in a file.
 use mathlib.Core.Path.{_≡_}
 use Prim.Native.Nat.{ℕ}
 use mathlib.Core.List.{List, _++_}
@@ -14,11 +14,13 @@ use Rattle.b3d_walk.specs.Walks.{BodyAt}
 use Rattle.b3d_walk.specs.declared.Sought.{Sought}
 use Rattle.b3d_walk.specs.declared.Sought.the-variants as sought
 
--- the cells of the name, the words, and so many cells that name nothing
+-- the row of an item x: its name's place and length, its words, and `rest` cells of NONE
 unfoldable pub namedRow : ℕ → Name × List ℕ → List ℕ
 namedRow rest x = nameCells (x .0) ++ (x .1 ++ replicate rest NONE)
 
--- r is the first chunk of tag k behind the head of the file
+-- what `first_chunk` promises of its answer r for tag k in the file s
 pub record FirstIs (s : List ℕ) (k : Tag) (r : Sought) : Type 0 where
+  -- r is the first chunk of tag k from place 12 on, and what stands after it
   pub says : seekOf k (rest s 12) ≡ soughtOf s k r
+  -- the body of the chunk found lies in the file
   pub body : (p : ℕ) (b n : Cursor) → r ≡ sought.Found p b n → BodyAt s p b

@@ -1,4 +1,4 @@
-// Tables 1 and 2, the textures and the brushes: of the first TEXS and of the first BRUS of a file, a row for each text with its words.
+// Tables 1 and 2, textures and brushes, filled from the first TEXS and the first BRUS of a file: a row for each item.
 ghost use mathlib.Core.Path.{_≡_};
 ghost use Prim.Native.Nat.{ℕ, _+_, _*_, _<_, _≤_};
 ghost use mathlib.Core.List.{_∷_, _++_, map};
@@ -16,7 +16,8 @@ use b3d_scene::Tag;
 use b3d_walk::Sought;
 use wire::Cursor;
 
-// A row: the cells of a name, so many words of the file, so many cells that name nothing. Gives the place of the next row.
+// Stores a row in `out` from cell `base` on: the name's `place` and length `size`, `n` words of `file` from `row` on, then `rest` cells of NONE. Returns the
+// cell behind it.
 pub fn put_row(
     file: &[u8],
     place: usize,
@@ -41,7 +42,8 @@ pub fn put_row(
     after + rest
 }
 
-// A row for each text with so many words, up to the first that is not all there.
+// Stores in `out` a row for each item of a text and `n` words from the cursor `from` on, each with `rest` cells of NONE behind, up to the first item that is
+// not all there.
 fn fill_named(file: &[u8], from: Cursor, n: usize, rest: usize, out: &mut [u32])
     requires { ⌜ Inside from (length (now file)) × (length (now file) < 0x100000000) × (n ≤ 64) ⌝ }
     requires { ⌜ length (joined (map (namedRow rest) (namedItems n (from .at) (left from (now file))))) ≤ length (now out) ⌝ }
@@ -62,7 +64,8 @@ fn fill_named(file: &[u8], from: Cursor, n: usize, rest: usize, out: &mut [u32])
     }
 }
 
-// The first chunk of a tag behind the head of a file.
+// Returns the first chunk of `tag` inside BB3D, from byte 12 of `file` on; no chunk is entered. Returns `Nothing` where there is none or the file is shorter
+// than 12 bytes.
 pub fn first_chunk(file: &[u8], tag: Tag) -> Sought
     ensures { λ r. ⌜ FirstIs (now (file .entry)) tag r ⌝ }
 {
@@ -73,7 +76,7 @@ pub fn first_chunk(file: &[u8], tag: Tag) -> Sought
     b3d_walk::seek(file, Cursor { at: 12, end }, tag)
 }
 
-// Table 1 of a file.
+// Stores the rows of table 1 of `file` in `out`. The cells behind them stay as they were.
 pub fn fill_textures(file: &[u8], out: &mut [u32])
     requires { ⌜ (length (now file) < 0x100000000) × (length (joined (fileRows 1 (now file))) ≤ length (now out)) ⌝ }
     ensures { λ _. ⌜ now (out .exit) ≡ stored (now (out .entry)) 0 (joined (fileRows 1 (now (file .entry)))) ⌝ }
@@ -84,7 +87,8 @@ pub fn fill_textures(file: &[u8], out: &mut [u32])
     fill_named(file, body, 7, 0, out);
 }
 
-// Table 2 of a file. A row has room for eight ids.
+// Stores the rows of table 2 of `file` in `out`. A row has room for eight ids: with an n_texs over 8 nothing is stored. The cells behind the rows stay as
+// they were.
 pub fn fill_brushes(file: &[u8], out: &mut [u32])
     requires { ⌜ (length (now file) < 0x100000000) × (length (joined (fileRows 2 (now file))) ≤ length (now out)) ⌝ }
     ensures { λ _. ⌜ now (out .exit) ≡ stored (now (out .entry)) 0 (joined (fileRows 2 (now (file .entry)))) ⌝ }

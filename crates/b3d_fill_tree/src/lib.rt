@@ -1,4 +1,4 @@
-// Table 3, the nodes, filled by one loop over the flat run. A node's parent is found in the rows that stand already.
+// Table 3, the nodes, filled by one loop over the flat run. A node's parent is found in the rows that are filled already.
 ghost use mathlib.Core.Path.{_≡_};
 ghost use Prim.Native.Nat.{_+_, _<_, _≤_};
 ghost use lib.ListN.{length};
@@ -18,7 +18,8 @@ use b3d_scene::Tag;
 use b3d_walk::Flat;
 use wire::Cursor;
 
-// The row of a NODE whose own chunks begin at `next`, from word `base` of the table on.
+// Stores the row of the NODE at `p` with this `body` in `out` from cell `base` on. Its own chunks begin at `next`, and `meshes` meshes and `weights` weights
+// were read before it. Nothing is stored if its text or numbers are cut.
 pub fn put_node(
     file: &[u8],
     p: usize,
@@ -47,7 +48,7 @@ pub fn put_node(
     }
 }
 
-// Table 3 of a file.
+// Stores the rows of table 3 of `file` in `out`. The cells behind them stay as they were.
 pub fn fill_nodes(file: &[u8], out: &mut [u32])
     requires { ⌜ (length (now file) < 0x100000000) × (length (joined (fileRows 3 (now file))) ≤ length (now out)) ⌝ }
     ensures { λ _. ⌜ now (out .exit) ≡ stored (now (out .entry)) 0 (joined (fileRows 3 (now (file .entry)))) ⌝ }

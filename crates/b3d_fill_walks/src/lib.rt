@@ -1,5 +1,4 @@
-// Tables 1, 2 and 3, tables 4 to 7 and tables 8 to 10, each filled by its walk. Of a table it is known how many rows it has: where it has none,
-// the file need not be walked.
+// Tables 1, 2 and 3, tables 4 to 7 and tables 8 to 10, each filled by its walk. The row counts are known: where tables have no rows, the file is not walked.
 ghost use mathlib.Core.Path.{_≡_};
 ghost use Prim.Native.Nat.{_<_, _≤_};
 ghost use lib.ListN.{length};
@@ -7,7 +6,7 @@ ghost use lib.Seq.{sets as stored};
 ghost use Rattle.layout.specs.Rows.{joined};
 ghost use Rattle.b3d_file_rows.specs.Rows.{fileRows};
 
-// Table 1, 2 or 3, of so many rows.
+// Stores the rows of table `k` (1, 2 or 3) of `file`, which has `rows` rows, in `out`. The cells behind them stay as they were.
 pub fn one_table(file: &[u8], k: usize, rows: u32, out: &mut [u32])
     requires { ⌜ (1 ≤ k) × (k ≤ 3) × (length (now file) < 0x100000000) × (rows ≡ length (fileRows k (now file))) × (length (joined (fileRows k (now file))) ≤ length (now out)) ⌝ }
     ensures { λ _. ⌜ now (out .exit) ≡ stored (now (out .entry)) 0 (joined (fileRows k (now (file .entry)))) ⌝ }
@@ -24,7 +23,8 @@ pub fn one_table(file: &[u8], k: usize, rows: u32, out: &mut [u32])
     }
 }
 
-// Tables 4 to 7, of so many meshes: where there are none, they all are without rows.
+// Stores the rows of tables 4 to 7 of `file`, which has `rows` meshes, in `t4` to `t7`: without a mesh none has a row. The cells behind the rows stay as they
+// were.
 pub fn meshes(
     file: &[u8],
     rows: u32,
@@ -47,7 +47,8 @@ pub fn meshes(
     b3d_fill_meshes::fill_meshes(file, t4, t5, t6, t7);
 }
 
-// Tables 8 to 10, of so many weights and key lists: where there are no lists, there are no keys.
+// Stores the rows of tables 8 to 10 of `file`, which has `weights` weights and `lists` key lists, in `t8` to `t10`: without a list there are no keys. The
+// cells behind the rows stay as they were.
 pub fn moves(file: &[u8], weights: u32, lists: u32, t8: &mut [u32], t9: &mut [u32], t10: &mut [u32])
     requires { ⌜ (length (now file) < 0x100000000) × (weights ≡ length (fileRows 8 (now file))) × (lists ≡ length (fileRows 9 (now file)))
         × (length (joined (fileRows 8 (now file))) ≤ length (now t8)) × (length (joined (fileRows 9 (now file))) ≤ length (now t9)) × (length (joined (fileRows 10 (now file))) ≤ length (now t10)) ⌝ }

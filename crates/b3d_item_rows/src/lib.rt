@@ -1,4 +1,4 @@
-// Rows of the items of one chunk, from its body: items that are copied as they stand, vertices, keys; and the row that a chunk of items has itself.
+// Rows of the items of one chunk, from its body: items copied as they are, vertices and keys; and the row that a TRIS or KEYS has itself.
 ghost use mathlib.Core.Path.{_≡_};
 ghost use Prim.Native.Nat.{_+_, _-_, _*_, _/_, _<_, _≤_};
 ghost use lib.ListN.{length};
@@ -11,7 +11,7 @@ ghost use Rattle.b3d_item_rows.specs.Items.{shapeRows, keyRowsOf, groupI
 use b3d_walk::Three;
 use wire::Cursor;
 
-// The items of so many words that are all there, from word `base` of the table on; gives the word after them.
+// Stores the items of `width` words at `c` that are all there in `out` from cell `base` on, as they stand. Returns the cell behind them.
 pub fn put_items(file: &[u8], c: Cursor, width: usize, base: usize, out: &mut [u32]) -> usize
     requires { ⌜ Inside c (length (now file)) × (0 < width) × (width ≤ 64) × (base + length (joined (whole width (left c (now file)))) ≤ length (now out)) ⌝ }
     ensures { λ r. ⌜ (r ≡ base + length (joined (whole width (left c (now (file .entry))))))
@@ -24,7 +24,8 @@ pub fn put_items(file: &[u8], c: Cursor, width: usize, base: usize, out: &mut [u
     base + n
 }
 
-// How many vertices stand behind the three numbers.
+// Returns how many whole vertices stand behind the three numbers `h` of a VRTS. Numbers out of range count as the row's groups take them: two flag bits, at
+// most 8 sets of at most 4.
 pub fn shape_count(h: Three) -> usize
     requires { ⌜ h .rest .at ≤ h .rest .end ⌝ }
     ensures { λ r. ⌜ r ≡ (h .rest .end - h .rest .at) / (4 * ones (vertexMask (h .first) (h .second) (h .third))) ⌝ }
@@ -38,7 +39,8 @@ pub fn shape_count(h: Three) -> usize
     (end - at) / (4 * width)
 }
 
-// The rows of a VRTS with this body, from word `base` of the table on; gives the word after them. A row has room for 8 sets of 4, whatever the numbers say.
+// Stores the rows of the vertices of a VRTS with this `body` in `out` from cell `base` on. Returns the cell behind them. A row has room for 8 sets of 4,
+// whatever the numbers say.
 pub fn put_shape(file: &[u8], body: Cursor, base: usize, out: &mut [u32]) -> usize
     requires { ⌜ Inside body (length (now file)) × (base + length (joined (shapeRows (plainVertices (left body (now file))))) ≤ length (now out)) ⌝ }
     ensures { λ r. ⌜ (r ≡ base + length (joined (shapeRows (plainVertices (left body (now (file .entry)))))))
@@ -66,7 +68,7 @@ pub fn put_shape(file: &[u8], body: Cursor, base: usize, out: &mut [u32]) -> usi
     base + count * 42
 }
 
-// The rows of a KEYS with this body, from word `base` of the table on; gives the word after them.
+// Stores the rows of the keys of a KEYS with this `body` in `out` from cell `base` on. Returns the cell behind them; `base` where the flags are cut.
 pub fn put_keys(file: &[u8], body: Cursor, base: usize, out: &mut [u32]) -> usize
     requires { ⌜ Inside body (length (now file)) × (base + length (joined (keyRowsOf (left body (now file)))) ≤ length (now out)) ⌝ }
     ensures { λ r. ⌜ (r ≡ base + length (joined (keyRowsOf (left body (now (file .entry))))))
@@ -93,8 +95,8 @@ pub fn put_keys(file: &[u8], body: Cursor, base: usize, out: &mut [u32]) -> usiz
     base + count * 11
 }
 
-// The row of a KEYS of a node, or of a TRIS of a mesh: the node or mesh, the first number of the body, the number of the first item, and how many
-// there are, which is the answer.
+// Stores the row of a KEYS (`keys`) of node `owner` or of a TRIS of mesh `owner` in `out` from cell `base` on: the owner, the first number of `body`, the
+// number `first` of the first item, and how many items are all there. Returns how many.
 pub fn put_group(
     file: &[u8],
     body: Cursor,

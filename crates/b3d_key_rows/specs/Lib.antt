@@ -1,2 +1,2 @@
--- A key by runs.
+-- A key row as groups of cells.
 pub mod Keys

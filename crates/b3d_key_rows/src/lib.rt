@@ -1,4 +1,4 @@
-// Rows of keys by runs: frame, position, scale and rotation, each so many words of the file, then zeros.
+// Rows of table 10 from the words of a file: frame, position, scale and rotation of each key, absent parts as zeros.
 ghost use mathlib.Core.Path.{_≡_};
 ghost use Prim.Native.Nat.{_+_, _*_, _≤_};
 ghost use lib.ListN.{length};
@@ -11,7 +11,8 @@ ghost use Rattle.layout.specs.Rows.{joined};
 ghost use Rattle.b3d_key_rows.specs.Keys.{keyAt};
 use wire::Cursor;
 
-// One key: a words of a position, b of a scale, c of a rotation.
+// Stores the row of one key in `out` from cell `base` on, from byte `at` of `file`: the frame, `a` words of a position, `b` of a scale, `c` of a rotation;
+// absent parts are zeros.
 fn put_key(file: &[u8], at: usize, a: usize, b: usize, c: usize, base: usize, out: &mut [u32])
     requires { ⌜ (a ≤ 3) × (b ≤ 3) × (c ≤ 4) × (at + 4 * (1 + a + b + c) ≤ length (now file)) × (base + 11 ≤ length (now out)) ⌝ }
     ensures { λ _. ⌜ now (out .exit) ≡ stored (now (out .entry)) base (keyAt a b c (now (file .entry)) at) ⌝ }
@@ -22,7 +23,8 @@ fn put_key(file: &[u8], at: usize, a: usize, b: usize, c: usize, base: usize, ou
     b3d_runs::put_four(file, at + 4 + 4 * a + 4 * b, c, base + 7, out);
 }
 
-// So many keys of so many words, each a row of 11 words.
+// Stores `count` rows of 11 cells in `out` from cell `base` on, from the keys of `words` words of a KEYS of `flags` that stand at `c`. The other cells stay
+// as they were.
 pub fn fill_keys(
     file: &[u8],
     c: Cursor,

@@ -10,7 +10,7 @@ ghost use Rattle.b3d_lines.specs.Lines.{rowLine, rowLines};
 use b3d_scene::NODE_WIDTH;
 use b3d_tally::Tally;
 
-// A line of two numbers.
+// Stores a line of the numbers `a` and `b` in `out` from `at` on. Returns the place of the next text.
 pub fn put_pair(a: usize, b: usize, out: &mut [u8], at: usize) -> usize
     requires { ⌜ at ≤ length (now out) ⌝ }
     ensures { λ r. ⌜ Puts (numberLine (a ∷ b ∷ [])) (now (out .entry)) at (now (out .exit)) r ⌝ }
@@ -19,7 +19,7 @@ pub fn put_pair(a: usize, b: usize, out: &mut [u8], at: usize) -> usize
     b3d_text::put_numbers(&numbers, out, at)
 }
 
-// The line of the ten counts.
+// Stores the line of the ten row counts of `t` in `out` from `at` on. Returns the place of the next text.
 pub fn put_counts(t: Tally, out: &mut [u8], at: usize) -> usize
     requires { ⌜ at ≤ length (now out) ⌝ }
     ensures { λ r. ⌜ Puts (numberLine (countsIn t)) (now (out .entry)) at (now (out .exit)) r ⌝ }
@@ -39,7 +39,7 @@ pub fn put_counts(t: Tally, out: &mut [u8], at: usize) -> usize
     b3d_text::put_numbers(&numbers, out, at)
 }
 
-// The line of node i, whose row stands in a table of nodes.
+// Stores the line of node `i` in `out` from `at` on: its name, by its row in the table `rows`, or `unnamed`. Returns the place of the next text.
 fn put_name(file: &[u8], rows: &[u32], i: usize, out: &mut [u8], at: usize) -> usize
     requires { ⌜ (nodeWidth * i + 2 ≤ length (now rows)) × (at ≤ length (now out)) ⌝ }
     ensures { λ r. ⌜ Puts (rowLine (now (file .entry)) (drop (nodeWidth * i) (now (rows .entry)))) (now (out .entry)) at (now (out .exit)) r ⌝ }
@@ -51,7 +51,7 @@ fn put_name(file: &[u8], rows: &[u32], i: usize, out: &mut [u8], at: usize) -> u
     b3d_text::put_line(name, out, at)
 }
 
-// The lines of the nodes, so many, whose rows stand in a table.
+// Stores the lines of the first `nodes` nodes of the table `rows` in `out` from `at` on. Returns the place of the next text.
 pub fn put_names(file: &[u8], rows: &[u32], nodes: usize, out: &mut [u8], at: usize) -> usize
     requires { ⌜ (nodeWidth * nodes ≤ length (now rows)) × (at ≤ length (now out)) ⌝ }
     ensures { λ r. ⌜ Puts (rowLines (now (file .entry)) (now (rows .entry)) nodes) (now (out .entry)) at (now (out .exit)) r ⌝ }

@@ -4,7 +4,7 @@ ghost use Rattle.b3d_listing_text.specs.Listing.{listing, Lists};
 use b3d_judge_body::Verdict;
 use b3d_scene::Mode;
 
-// What the lister prints for a file, put into an output from its start; how many bytes were put in.
+// Stores what the lister prints for `file` at the start of `out`, as far as there is room. Returns how many bytes were stored; the others stay as they were.
 pub fn put_listing(file: &[u8], out: &mut [u8]) -> usize
     ensures { λ r. ⌜ Puts (listing (now (file .entry))) (now (out .entry)) 0 (now (out .exit)) r ⌝ }
 {
@@ -21,7 +21,8 @@ pub fn put_listing(file: &[u8], out: &mut [u8]) -> usize
     }
 }
 
-// What the lister prints for a file, the whole of it, in an output that has room for every listing; how many bytes it has.
+// Stores all that the lister prints for `file` at the start of `out`, which has room for every listing. Returns how many bytes it has; the others stay as
+// they were.
 pub fn list(file: &[u8], out: &mut [u8; 65678]) -> usize
     ensures { λ r. ⌜ Lists (now (file .entry)) (now (out .entry)) (now (out .exit)) r ⌝ }
 {

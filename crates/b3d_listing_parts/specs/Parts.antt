@@ -1,4 +1,4 @@
--- The parts that the lister's text is put together of.
+-- The parts of the lister's text for an accepted file.
 use mathlib.Core.Path.{_≡_}
 use Prim.Native.Nat.{ℕ, _≤_}
 use mathlib.Core.List.{List, [], _∷_, _++_}
@@ -13,18 +13,22 @@ use Rattle.b3d_limits.specs.Rooms.{countsIn}
 use Rattle.b3d_text.specs.Text.{numberLine}
 use Rattle.b3d_listing_text.specs.Listing.{mostListed, nodeLines}
 
--- the first three lines, from what the judge answers
+-- the first three lines, from the summary x of an accepted file
 unfoldable pub headLines : Summary → List ℕ
 headLines x = numberLine (0 ∷ 0 ∷ []) ++ (numberLine (x .version ∷ x .«n_texs» ∷ []) ++ numberLine (countsIn (x .tally)))
 
--- the lines of the nodes of what was read
+-- the lines of the nodes of what was judged; nothing where refused
 unfoldable pub nodeLinesOf : Out Scene → List ℕ
 nodeLinesOf (got t) = nodeLines (t .nodes)
 nodeLinesOf (bad n p) = []
 
--- an accepted file of so many nodes, no longer than the lister reads
+-- what `put_nodes` asks of the file s
 pub record Listable (s : List ℕ) (nodes : ℕ) : Type 0 where
+  -- what the file holds
   pub scene : Scene
+  -- the file is accepted under the strict mode
   pub accepted : judge Strict s ≡ got scene
+  -- it has `nodes` nodes
   pub count : nodes ≡ length (rows 3 scene)
+  -- it is no longer than the lister reads
   pub short : length s ≤ mostListed

@@ -8,7 +8,7 @@ ghost use Rattle.b3d_text.specs.Puts.{Puts};
 ghost use Rattle.b3d_listing_parts.specs.Parts.{headLines, nodeLinesOf, Listable};
 use b3d_judge_body::Summary;
 
-// The first three lines for an accepted file.
+// Stores the first three lines for an accepted file with summary `x` at the start of `out`. Returns the place of the next text.
 pub fn put_heads(x: Summary, out: &mut [u8]) -> usize
     ensures { λ r. ⌜ Puts (headLines x) (now (out .entry)) 0 (now (out .exit)) r ⌝ }
 {
@@ -17,14 +17,14 @@ pub fn put_heads(x: Summary, out: &mut [u8]) -> usize
     b3d_lines::put_counts(x.tally, out, second)
 }
 
-// Room for the rows of 1337 nodes: a file of 65536 bytes has no more, for a NODE takes 49 bytes or more.
+// Returns a table with room for the rows of 1337 nodes: a file of 65536 bytes has no more, for a NODE takes 49 bytes or more.
 fn table() -> [u32; 28077]
     ensures { λ r. ⌜ 28077 ≡ length r ⌝ }
 {
     [0; 28077]
 }
 
-// The lines of the nodes of an accepted file.
+// Stores the lines of the `nodes` nodes of an accepted `file` in `out` from `at` on. Returns the place of the next text.
 pub fn put_nodes(file: &[u8], nodes: usize, out: &mut [u8], at: usize) -> usize
     requires { ⌜ Listable (now file) nodes × (at ≤ length (now out)) ⌝ }
     ensures { λ r. ⌜ Puts (nodeLinesOf (judge Strict (now (file .entry)))) (now (out .entry)) at (now (out .exit)) r ⌝ }

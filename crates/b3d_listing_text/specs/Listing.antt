@@ -14,15 +14,16 @@ use Rattle.b3d_scene.specs.Tables.{counts}
 use Rattle.b3d_text.specs.Text.{numberLine, textLine}
 use Rattle.b3d_lines.specs.Lines.{unnamed}
 
--- the most bytes that the lister reads
+-- the most bytes of input that the lister reads, as 01 has it
 abbrev pub mostListed : ℕ
 mostListed = 65536
 
--- the most bytes that it prints: 14 words of ten digits and what follows each, and for the nodes no more than their bytes of the file
+-- the most bytes that the lister prints: 14 numbers of at most ten digits with what follows each, and for the nodes no more than the file has behind its
+-- first 12 bytes
 abbrev pub mostPrinted : ℕ
 mostPrinted = 65678
 
--- a name, or that word where it is empty
+-- a name, or `unnamed` where it is empty
 unfoldable pub nameOrWord : List ℕ → List ℕ
 nameOrWord [] = unnamed
 nameOrWord (b ∷ bs) = b ∷ bs
@@ -32,18 +33,22 @@ unfoldable pub nodeLines : Forest → List ℕ
 nodeLines leaf = []
 nodeLines (node d f g) = textLine (nameOrWord (d .name .bytes)) ++ (nodeLines f ++ nodeLines g)
 
--- number and place; where accepted, version and n_texs, the ten counts, and the nodes' names
+-- the lines for what was judged: number and place; where accepted, version and n_texs, the ten counts, and the nodes' names
 unfoldable pub listed : Out Scene → List ℕ
 listed (got t) = numberLine (0 ∷ 0 ∷ []) ++ (numberLine (t .version ∷ t .slots ∷ []) ++ (numberLine (counts t) ++ nodeLines (t .nodes)))
 listed (bad n p) = numberLine (n ∷ p ∷ [])
 
--- the whole text; a file of too many bytes is refused with 1 at 0
+-- what 01's lister prints for the input s: the lines of its verdict under the strict mode; `1 0` where it is over 65,536 bytes
 unfoldable pub listing : List ℕ → List ℕ
 listing s = if (ltb mostListed (length s)) (numberLine (1 ∷ 0 ∷ [])) (listed (judge Strict s))
 
--- an output before and after a file was listed, and the size of the text
+-- what `list` promises for a file s, of the output before it (xs) and after it (ys), and of the size
 pub record Lists (s xs ys : List ℕ) (size : ℕ) : Type 0 where
+  -- the output is the text, then what stood there
   pub text : ys ≡ over (listing s) xs
+  -- the size is the text's length
   pub bytes : size ≡ length (listing s)
+  -- the whole text has room
   pub inside : size ≤ length ys
+  -- the first `size` bytes of the output are the text
   pub printed : take size ys ≡ listing s

@@ -1,1 +1,1 @@
-// What the lister prints for a file, as a definition; how long that is, and worked files. No function.
+// Definition of what the lister prints for a file; laws on how long that is, and worked files. No function.

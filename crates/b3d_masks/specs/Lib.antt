@@ -1,2 +1,2 @@
--- Masks as runs.
+-- Which cells of a row hold words of the file, as groups of cells.
 pub mod Runs

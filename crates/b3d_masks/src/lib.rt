@@ -1,9 +1,10 @@
-// Which words of a vertex and of a key there are, as runs: rows are read, checked and written by these, with no test for each word.
+// Which cells of a vertex row and of a key row hold words of the file, as groups of cells. Rows are read, checked and written by these groups, with no test
+// for each word.
 ghost use mathlib.Core.Path.{_≡_};
 ghost use Rattle.b3d_masks.specs.Runs.{atMost, vertexRuns, keyRuns};
 
-// Of a row the first `head` words are there, then `three` of three, then `some` of `wide`; then of each of `sets` sets `size` words of four; then
-// come `rest` words that are not there.
+// Which cells of a vertex or key row hold words of the file, by groups: all `head` cells; `three` of the next 3; `some` of the next `wide`; `size` of the 4
+// cells of each of `sets` sets; none of the last `rest`.
 pub struct RowRuns {
     pub head: usize,
     pub three: usize,
@@ -14,7 +15,7 @@ pub struct RowRuns {
     pub rest: usize,
 }
 
-// n, but no more than m.
+// Returns the lesser of `n` and `m`.
 fn at_most(m: u32, n: u32) -> usize
     ensures { λ r. ⌜ r ≡ atMost m n ⌝ }
 {
@@ -24,7 +25,7 @@ fn at_most(m: u32, n: u32) -> usize
     wire::size(m)
 }
 
-// The runs of a vertex.
+// Returns the groups of a vertex row for a VRTS of these `flags`, `sets` and set `size`; more than 8 sets count as 8, a size over 4 as 4.
 pub fn vertex_runs(flags: u32, sets: u32, size: u32) -> RowRuns
     ensures { λ r. ⌜ r ≡ vertexRuns flags sets size ⌝ }
 {
@@ -40,7 +41,7 @@ pub fn vertex_runs(flags: u32, sets: u32, size: u32) -> RowRuns
     }
 }
 
-// The runs of a key.
+// Returns the groups of a key row for a KEYS of these `flags`; bits above the lowest three are not looked at.
 pub fn key_runs(flags: u32) -> RowRuns
     ensures { λ r. ⌜ r ≡ keyRuns flags ⌝ }
 {

@@ -1,2 +1,2 @@
--- Rows of a MESH.
+-- The vertices and the own row of a MESH.
 pub mod Meshes

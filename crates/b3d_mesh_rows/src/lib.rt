@@ -1,4 +1,4 @@
-// Rows of one MESH, from its body: its vertices, and its row in the table of meshes.
+// Rows of tables 5 and 4 for one MESH, from its body: its vertices, and its own row.
 ghost use mathlib.Core.Path.{_≡_};
 ghost use Prim.Native.Nat.{_+_, _-_, _<_, _≤_};
 ghost use lib.ListN.{length};
@@ -13,7 +13,8 @@ use b3d_scene::Tag;
 use b3d_walk::Sought;
 use wire::Cursor;
 
-// The vertices of a MESH whose header is at p.
+// Stores the rows of the vertices of the MESH at `p` with this `body` in `out` from cell `base` on. Returns the cell behind them; `base` where it has no
+// VRTS.
 pub fn put_vertices(file: &[u8], p: usize, body: Cursor, base: usize, out: &mut [u32]) -> usize
     requires { ⌜ BodyAt (now file) p body × (base + length (joined (verticesIn p (left body (now file)))) ≤ length (now out)) ⌝ }
     ensures { λ r. ⌜ (r ≡ base + length (joined (verticesIn p (left body (now (file .entry))))))
@@ -26,7 +27,7 @@ pub fn put_vertices(file: &[u8], p: usize, body: Cursor, base: usize, out: &mut 
     }
 }
 
-// How many TRIS stand from a cursor on.
+// Returns how many TRIS stand from the cursor `from` on.
 fn count_sets(file: &[u8], from: Cursor) -> usize
     requires { ⌜ Inside from (length (now file)) ⌝ }
     ensures { λ r. ⌜ (r ≡ length (setsOf (ahead (now (file .entry)) from))) × (r ≤ from .end - from .at) ⌝ }
@@ -42,7 +43,7 @@ fn count_sets(file: &[u8], from: Cursor) -> usize
     }
 }
 
-// The numbers of the first VRTS, 0 where there is none, and how many vertices it has.
+// Flags, sets and set size of the first VRTS, 0 where there is none, and how many vertices it has.
 pub struct Vertices {
     pub flags: u32,
     pub sets: u32,
@@ -50,6 +51,7 @@ pub struct Vertices {
     pub count: usize,
 }
 
+// Returns the three numbers and the vertex count of the first VRTS from the cursor `from` on; zeros where there is none.
 fn find_shape(file: &[u8], from: Cursor) -> Vertices
     requires { ⌜ Inside from (length (now file)) ⌝ }
     ensures { λ r. ⌜ ShapeFound (now (file .entry)) from r ⌝ }
@@ -74,13 +76,14 @@ fn find_shape(file: &[u8], from: Cursor) -> Vertices
     }
 }
 
-// What a MESH adds.
+// How many vertices and triangle sets a MESH adds.
 pub struct Added {
     pub vertices: usize,
     pub sets: usize,
 }
 
-// The row of a MESH of a node, its first vertex and set being these numbers.
+// Stores the row of the MESH at `p` of node `node` in `out` from cell `base` on; its first vertex is number `vertices`, its first triangle set number `sets`.
+// Returns how many of both it has.
 pub fn put_mesh(
     file: &[u8],
     p: usize,

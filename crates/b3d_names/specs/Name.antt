@@ -1,4 +1,4 @@
--- The name that a row names, or the fallback word.
+-- The name of a row, or a fallback word.
 use Prim.Native.Nat.{ℕ, _+_}
 use mathlib.Core.Bool.{_&&_}
 use mathlib.Core.List.{List}
@@ -6,6 +6,6 @@ use lib.ListN.{length, take, drop}
 use lib.Dec.{ltb, leb}
 use Rattle.wire.specs.Test.{if}
 
--- a span that is not empty and lies in the file; else the fallback
+-- what 01 calls a printed name: the `size` bytes of s from `place` on, if there are any and they lie in s; else the fallback
 unfoldable pub nameOr : List ℕ → List ℕ → ℕ → ℕ → List ℕ
 nameOr s fallback place size = if (ltb 0 size && leb (place + size) (length s)) (take size (drop place s)) fallback

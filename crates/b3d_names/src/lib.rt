@@ -2,7 +2,7 @@
 ghost use mathlib.Core.Path.{_≡_};
 ghost use Rattle.b3d_names.specs.Name.{nameOr};
 
-// The bytes of the file from a place on, so many; the fallback where there are none, or where they pass the end of the file.
+// Returns the `size` bytes of `file` from `place` on; `fallback` where `size` is 0, or where they pass the end of the file.
 pub fn name_or<'a>(file: &'a [u8], fallback: &'a [u8], place: usize, size: usize) -> &'a [u8]
     ensures { λ r. ⌜ now r ≡ nameOr (now (file .entry)) (now (fallback .entry)) place size ⌝ }
 {

@@ -1,2 +1,2 @@
--- The cells that a node's chunks tell.
+-- The cells of a node's row that its chunks give.
 pub mod Parts

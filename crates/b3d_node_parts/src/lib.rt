@@ -1,4 +1,4 @@
-// The last eight cells of a node's row, from the chunks behind its numbers: its kind, its ANIM, and how many nodes are below it.
+// The last eight cells of a node's row, from the chunks behind its numbers: its kind, first, count, its ANIM, and how many nodes are below it.
 ghost use mathlib.Core.Path.{_≡_};
 ghost use Prim.Native.Nat.{ℕ, _<_, _≤_};
 ghost use lib.ListN.{length};
@@ -9,7 +9,8 @@ ghost use Rattle.b3d_node_parts.specs.Parts.{told, partCells};
 use b3d_scene::Tag;
 use b3d_walk::Flat;
 
-// Kind, first and count of a node whose own chunks begin at a place, after so many meshes and weights. The next NODE ends them.
+// Returns kind, first and count of the node whose own chunks begin at `from`, after `meshes` meshes and `weights` weights. Its own chunks end at the next
+// NODE. A node with no MESH or BONE is a pivot: 0, 0, 0.
 fn kind_cells(file: &[u8], from: usize, meshes: usize, weights: usize) -> [u32; 3]
     requires { ⌜ (from ≤ length (now file)) × (length (now file) < 0x100000000) × (meshes < 0x100000000) × (weights < 0x100000000) ⌝ }
     ensures { λ r. ⌜ r ≡ kindCells (kindOf (flatAt (now (file .entry)) from)) (told meshes weights) ⌝ }
@@ -33,7 +34,7 @@ fn kind_cells(file: &[u8], from: usize, meshes: usize, weights: usize) -> [u32; 
     }
 }
 
-// Whether a node whose own chunks begin at a place has an ANIM, and its three values.
+// Returns 1 and the three values of the ANIM of the node whose own chunks begin at `from`; four zeros where it has none.
 fn anim_cells(file: &[u8], from: usize) -> [u32; 4]
     requires { ⌜ from ≤ length (now file) ⌝ }
     ensures { λ r. ⌜ r ≡ animCells (animOf (flatAt (now (file .entry)) from)) ⌝ }
@@ -54,7 +55,7 @@ fn anim_cells(file: &[u8], from: usize) -> [u32; 4]
     }
 }
 
-// The eight cells of a node that ends at a place, whose own chunks begin at another, after so many meshes and weights.
+// Returns the last eight cells of the row of a node that ends at `end` and whose own chunks begin at `from`, after `meshes` meshes and `weights` weights.
 pub fn part_cells(file: &[u8], from: usize, end: usize, meshes: usize, weights: usize) -> [u32; 8]
     requires { ⌜ (from ≤ length (now file)) × (length (now file) < 0x100000000) × (meshes < 0x100000000) × (weights < 0x100000000) ⌝ }
     ensures { λ r. ⌜ r ≡ partCells (flatAt (now (file .entry)) from) end (told meshes weights) ⌝ }

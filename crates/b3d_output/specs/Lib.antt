@@ -1,2 +1,2 @@
--- Answers for bytes of a size.
+-- The answer for bytes of a given size.
 pub mod Sizes

@@ -6,6 +6,7 @@ use lib.ListN.{length}
 use Rattle.b3d_scene.specs.Answers.{roomFor, written}
 use Rattle.b3d_scene.specs.declared.Written.{Written}
 
--- r is the answer for bytes of this size, whichever they are, and an output of `room` bytes
+-- what `answer_of` promises of its answer r
 pub record OfSize (size room : ℕ) (r : Written) : Type 0 where
+  -- r is the answer for whatever bytes of this size and an output of `room` bytes
   pub is : (b : List ℕ) → length b ≡ size → r ≡ written (roomFor room b)

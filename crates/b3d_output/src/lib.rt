@@ -1,9 +1,9 @@
-// The answer for bytes that are to be put into an output, by numbers alone: 11 and the size that is needed, or 0 and the size that is written.
+// The answer for bytes that go into a lent output, by their size alone: 11 and the size needed, or 0 and the size written.
 ghost use Prim.Native.Nat.{_<_};
 ghost use Rattle.b3d_output.specs.Sizes.{OfSize};
 use b3d_scene::Written;
 
-// The answer for so many bytes and an output of this length.
+// Returns the answer for `size` bytes and an output of `room` bytes: 11 and `size` if it is too short, else 0 and `size` as the size written.
 pub fn answer_of(size: usize, room: usize) -> Written
     requires { ⌜ size < 0x100000000 ⌝ }
     ensures { λ r. ⌜ OfSize size room r ⌝ }

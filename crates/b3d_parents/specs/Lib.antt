@@ -1,2 +1,2 @@
--- The way up from a row to those above it.
+-- The way up from a node's row to those above it.
 pub mod Links

@@ -1,9 +1,9 @@
-// A node's parent, found in the rows of the nodes before it: from the last of them up, the first that is still open.
+// A node's parent, found in the rows of the nodes before it: from the last of them up, the first that has not ended.
 ghost use Rattle.b3d_parents.specs.Links.{Climbable, ParentIs};
 use b3d_scene::NODE_WIDTH;
 
-// The number of the node that a NODE at p stands in, by the rows of so many nodes before it: a row has the place of a name, which stands behind the
-// header, and the node above.
+// Returns the number of the node that the NODE at `p` stands in, or NONE. It is found in the rows of the `nodes` nodes before it: a row holds the place of
+// the name, which stands behind the header with the length, and the parent.
 pub fn parent_at(file: &[u8], rows: &[u32], nodes: usize, p: usize) -> u32
     requires { ⌜ Climbable (now file) (now rows) nodes p ⌝ }
     ensures { λ r. ⌜ ParentIs (now (file .entry)) (now (rows .entry)) nodes p r ⌝ }

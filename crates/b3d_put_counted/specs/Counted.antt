@@ -8,7 +8,7 @@ use Rattle.b3d_scene.specs.declared.Counts.{Counts}
 use Rattle.b3d_put_own.specs.Own.{tableRows}
 use Rattle.b3d_put_file.specs.Whole.{OfScene}
 
--- the scenes that have them, with names in ns
+-- a scene has the version, n_texs and the counted rows of these tables, with names in ns
 abbrev pub OfCounted : List ℕ → ℕ → ℕ → ℕ → ℕ → Counts → List ℕ → List ℕ → List ℕ → List ℕ → List ℕ → List ℕ → List ℕ → List ℕ → List ℕ → List ℕ → Scene → Type 0
 OfCounted ns version slots c₁ c₂ a t₁ t₂ t₃ t₄ t₅ t₆ t₇ t₈ t₉ t₁₀ =
     OfScene ns (take (9 * c₁) t₁) (take (17 * c₂) t₂)

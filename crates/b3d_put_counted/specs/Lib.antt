@@ -1,2 +1,2 @@
--- Counted rows.
+-- The scenes that the counted rows of lent tables stand for.
 pub mod Counted

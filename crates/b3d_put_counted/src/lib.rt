@@ -1,4 +1,4 @@
-// The file of the counted rows of lent tables: each table is cut to them, and the whole written into an output.
+// The file of the counted rows of lent tables: each table is cut to its counted rows, and the whole file is written into an output.
 ghost use lib.ListN.{length};
 ghost use Rattle.b3d_scene.specs.Encode.{encode};
 ghost use Rattle.b3d_check_rooms.specs.LentRooms.{Rooms};
@@ -7,7 +7,8 @@ ghost use Rattle.b3d_put_counted.specs.Counted.{OfCounted};
 use b3d_scene::Counts;
 use b3d_scene::NODE_WIDTH;
 
-// The file of so many textures and brushes and of the rows that `all` counts.
+// Writes the file of the first `textures` rows of `t1`, the first `brushes` rows of `t2` and the rows that `all` counts, with names in `names`, to the start
+// of `out`. Returns its size. The bytes behind it stay as they were.
 pub fn put_counted(
     names: &[u8],
     version: u32,

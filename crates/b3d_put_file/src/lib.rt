@@ -1,4 +1,4 @@
-// The file of lent tables, written into an output: its head, TEXS, BRUS and NODE.
+// The whole file of lent tables, written into an output: BB3D's header and version, TEXS, BRUS and NODE.
 ghost use Rattle.b3d_scene.specs.Encode.{encode};
 ghost use Rattle.b3d_put_nodes.specs.Walk.{nodesBytes, Sized};
 ghost use Rattle.b3d_put_own.specs.Own.{tableRows};
@@ -11,7 +11,7 @@ use b3d_scene::Counts;
 use b3d_scene::START;
 use b3d_scene::letters;
 
-// TEXS, if there is a texture, and BRUS, if there is a brush.
+// Writes TEXS, if there is a texture, and BRUS, if there is a brush, to the start of `out`. Returns their size.
 fn put_lists(names: &[u8], slots: u32, t1: &[u32], t2: &[u32], out: &mut [u8]) -> usize
     requires { ⌜ (slots ≤ 8) × NamesThere (now names) (rowsIn 9 (now t1)) × NamesThere (now names) (rowsIn 17 (now t2)) ⌝ }
     requires { ⌜ Room (listsBytes (now names) slots (now t1) (now t2)) (now out) ⌝ }
@@ -22,7 +22,8 @@ fn put_lists(names: &[u8], slots: u32, t1: &[u32], t2: &[u32], out: &mut [u8]) -
     a + b
 }
 
-// The nodes, if there are any, beside so many brushes.
+// Writes the root's NODE with all nodes, if there is one, to the start of `out`. Returns its size; 0 without a node. `all` counts the rows of `t3` to `t10`;
+// `brushes` is how many brushes there are.
 fn put_root(
     names: &[u8],
     t3: &[u32],
@@ -51,7 +52,8 @@ fn put_root(
     root.size
 }
 
-// The whole file: its head, TEXS and BRUS, and the nodes.
+// Writes the whole file to the start of `out`: BB3D's header and `version`, TEXS and BRUS, and the nodes. Returns its size. The bytes behind it stay as they
+// were.
 pub fn put_file(
     names: &[u8],
     version: u32,

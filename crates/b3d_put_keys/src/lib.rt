@@ -1,4 +1,4 @@
-// Rows of keys as bytes in a lent output, run by run.
+// Rows of keys written as the keys of a KEYS, group by group, into a lent output.
 ghost use mathlib.Core.Path.{_≡_};
 ghost use mathlib.Core.List.{map};
 ghost use Prim.Native.Nat.{_+_, _*_, _/_, _<_, _≤_};
@@ -11,7 +11,7 @@ ghost use Rattle.b3d_put_rows.specs.Lent.{rowsFrom};
 ghost use Rattle.b3d_put_rows.specs.RowBytes.{backBytes, rowBytes};
 use b3d_masks::RowRuns;
 
-// The other runs of a key, from word `base` on.
+// Writes the scale and the rotation of a key, as the groups `g` have them, from word `base` on. Returns the size.
 fn key_back(g: RowRuns, words: &[u32], base: usize, out: &mut [u8]) -> usize
     requires { ⌜ Short g × (g .wide ≡ 3) × (g .sets ≡ 1) × (base + 7 ≤ length (now words)) ⌝ }
     requires { ⌜ Room (backBytes g (now words) base) (now out) ⌝ }
@@ -22,7 +22,7 @@ fn key_back(g: RowRuns, words: &[u32], base: usize, out: &mut [u8]) -> usize
     n + m
 }
 
-// The key from word `base` on.
+// Writes the key of the row from word `base` of `words` on, as the groups `g` have it. Returns the size.
 fn put_key(g: RowRuns, words: &[u32], base: usize, out: &mut [u8]) -> usize
     requires { ⌜ Short g × OfKey g × (base + 11 ≤ length (now words)) ⌝ }
     requires { ⌜ Room (rowBytes g (now words) base) (now out) ⌝ }
@@ -33,7 +33,7 @@ fn put_key(g: RowRuns, words: &[u32], base: usize, out: &mut [u8]) -> usize
     n + m
 }
 
-// `count` keys from row `first` on, by their flags.
+// Writes `count` keys from row `first` of `keys` on, by their `flags`, to the start of `out`. Returns the size; 0 where `count` is 0.
 pub fn put_key_rows(flags: u32, keys: &[u32], first: usize, count: usize, out: &mut [u8]) -> usize
     requires { ⌜ first + count ≤ length (now keys) / 11 ⌝ }
     requires { ⌜ Room (writeItems writeWords (map (squeeze (keyMask flags)) (rowsFrom 11 (now keys) first count))) (now out) ⌝ }

@@ -1,3 +1,3 @@
--- What the chunks of rows with names are of.
+-- The bytes of chunks whose rows begin with a name.
 pub mod Named
 pub mod Lists

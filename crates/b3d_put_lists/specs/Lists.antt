@@ -10,18 +10,18 @@ use Rattle.b3d_scene.specs.declared.Tag.the-variants.{TEXS, BRUS}
 use Rattle.b3d_put_rows.specs.Lent.{eachRow}
 use Rattle.b3d_put_lists.specs.Named.{rowBytes}
 
--- a TEXS, of each row its name and seven words
+-- a TEXS of the rows rs: of each its name and seven words
 abbrev pub texsBytes : List ℕ → List (List ℕ) → List ℕ
 texsBytes ns rs = chunk (code TEXS) [] (eachRow (rowBytes ns 7) rs)
 
--- a BRUS, of each row its name, seven words and the slots that are used
+-- a BRUS of the rows rs: n_texs, and of each row its name, seven words and the slots in use
 abbrev pub brusBytes : List ℕ → ℕ → List (List ℕ) → List ℕ
 brusBytes ns slots rs = chunk (code BRUS) (bytes slots []) (eachRow (rowBytes ns (7 + slots)) rs)
 
--- what a file has of the rows of table 1
+-- the TEXS of the rows rs of table 1; empty without a row
 unfoldable pub texturesBytes : List ℕ → List (List ℕ) → List ℕ
 texturesBytes ns rs = writeChunks (textureChunks (map (textureFrom ns) rs) [])
 
--- and of the rows of table 2
+-- the BRUS of the rows rs of table 2; empty without a row
 unfoldable pub brushesBytes : List ℕ → ℕ → List (List ℕ) → List ℕ
 brushesBytes ns slots rs = writeChunks (brushChunks slots (map (brushFrom ns slots) rs) [])

@@ -1,4 +1,4 @@
-// The TEXS and the BRUS of a file, of all rows of their tables; nothing where a table has no row.
+// The TEXS and the BRUS of a file, written from all rows of their tables; nothing where a table has no row.
 pub mod named;
 
 use b3d_scene::letters;
@@ -11,7 +11,7 @@ ghost use Rattle.b3d_put_rows.specs.Lent.{rowsIn};
 ghost use Rattle.b3d_put_lists.specs.Named.{NamesThere};
 ghost use Rattle.b3d_put_lists.specs.Lists.{texsBytes, brusBytes, texturesBytes, brushesBytes};
 
-// A TEXS of `count` textures.
+// Writes a TEXS of the first `count` rows of `textures`, with names in `names`, to the start of `out`. Returns its size.
 fn put_texs(names: &[u8], textures: &[u32], count: usize, out: &mut [u8]) -> usize
     requires { ⌜ count * 9 ≤ length (now textures) ⌝ }
     requires { ⌜ NamesThere (now names) (cut 9 count (now textures)) ⌝ }
@@ -23,7 +23,7 @@ fn put_texs(names: &[u8], textures: &[u32], count: usize, out: &mut [u8]) -> usi
     n + 8
 }
 
-// The textures.
+// Writes the TEXS of all rows of `textures` to the start of `out`. Returns its size; 0 where there is no row.
 pub fn put_textures(names: &[u8], textures: &[u32], out: &mut [u8]) -> usize
     requires { ⌜ NamesThere (now names) (rowsIn 9 (now textures)) ⌝ }
     requires { ⌜ Room (texturesBytes (now names) (rowsIn 9 (now textures))) (now out) ⌝ }
@@ -36,7 +36,7 @@ pub fn put_textures(names: &[u8], textures: &[u32], out: &mut [u8]) -> usize
     put_texs(names, textures, count, out)
 }
 
-// A BRUS of `count` brushes, each with `slots` texture ids.
+// Writes a BRUS of the first `count` rows of `brushes`, each with `slots` texture ids and its name in `names`, to the start of `out`. Returns its size.
 fn put_brus(names: &[u8], slots: u32, brushes: &[u32], count: usize, out: &mut [u8]) -> usize
     requires { ⌜ (slots ≤ 8) × (count * 17 ≤ length (now brushes)) ⌝ }
     requires { ⌜ NamesThere (now names) (cut 17 count (now brushes)) ⌝ }
@@ -49,7 +49,7 @@ fn put_brus(names: &[u8], slots: u32, brushes: &[u32], count: usize, out: &mut [
     n + 12
 }
 
-// The brushes.
+// Writes the BRUS of all rows of `brushes` to the start of `out`. Returns its size; 0 where there is no row.
 pub fn put_brushes(names: &[u8], slots: u32, brushes: &[u32], out: &mut [u8]) -> usize
     requires { ⌜ slots ≤ 8 ⌝ }
     requires { ⌜ NamesThere (now names) (rowsIn 17 (now brushes)) ⌝ }

@@ -1,4 +1,4 @@
-// Rows that begin with a name: its place and its size in the bytes that hold the names.
+// Rows that begin with a name: its place and its length in the bytes that hold the names.
 use b3d_put_words::number;
 ghost use Prim.Native.Nat.{_+_, _*_, _/_, _<_, _≤_};
 ghost use lib.ListN.{length};
@@ -7,7 +7,7 @@ ghost use Rattle.b3d_scene.specs.Rebuild.{cut};
 ghost use Rattle.b3d_put_rows.specs.Lent.{eachRow};
 ghost use Rattle.b3d_put_lists.specs.Named.{NameThere, NamesThere, namedBytes, rowBytes};
 
-// The name of the row that begins at word `row`, and n words from word `at` on.
+// Writes the name of the row at word `row` of `t`, and `n` words from word `at` on, to the start of `out`. Returns the size.
 pub fn put_named(names: &[u8], t: &[u32], row: usize, at: usize, n: usize, out: &mut [u8]) -> usize
     requires { ⌜ (row + 2 ≤ length (now t)) × (at + n ≤ length (now t)) ⌝ }
     requires { ⌜ NameThere (now names) (now t) row ⌝ }
@@ -21,7 +21,7 @@ pub fn put_named(names: &[u8], t: &[u32], row: usize, at: usize, n: usize, out: 
     a + b
 }
 
-// n rows of a table whose rows are `width` words: of each the name and the m words after its two cells.
+// Writes the first `n` rows of `t`, of `width` words: of each the name and the `m` words behind its two cells. Returns the size; 0 where `n` is 0.
 pub fn put_rows(names: &[u8], t: &[u32], width: usize, m: usize, n: usize, out: &mut [u8]) -> usize
     requires { ⌜ (m + 2 ≤ width) × (width < 4294967296) × (n * width ≤ length (now t)) ⌝ }
     requires { ⌜ NamesThere (now names) (cut width n (now t)) ⌝ }

@@ -1,2 +1,2 @@
--- What a MESH is of.
+-- The bytes of a MESH.
 pub mod Mesh

@@ -1,4 +1,4 @@
-// The MESH of the writer: its brush, the VRTS, the TRIS.
+// A MESH written from rows of lent tables: its brush, its VRTS and its TRIS.
 use b3d_put_runs::put_runs;
 use b3d_put_vertices::put_vertex_rows;
 use b3d_put_words::number;
@@ -9,7 +9,7 @@ ghost use Rattle.emit.specs.Writing.{Room, Put};
 ghost use Rattle.b3d_put_rows.specs.Lent.{rowsFrom};
 ghost use Rattle.b3d_put_mesh.specs.Mesh.{verticesBytes, MeshThere, meshBytes};
 
-// A VRTS of flags, sets and set size, the words of the meshes t4 from word `from` on, and n vertices of t5 from row v on.
+// Writes a VRTS of the three words of `t4` from word `from` on (flags, sets, set size) and the `n` vertices of `t5` from row `v` on. Returns its size.
 fn put_vertices(t4: &[u32], from: usize, t5: &[u32], v: usize, n: usize, out: &mut [u8]) -> usize
     requires { ⌜ from + 3 ≤ length (now t4) ⌝ }
     requires { ⌜ v + n ≤ length (now t5) / 42 ⌝ }
@@ -26,7 +26,8 @@ fn put_vertices(t4: &[u32], from: usize, t5: &[u32], v: usize, n: usize, out: &m
     a + b + 8
 }
 
-// A MESH: its brush, the VRTS, the TRIS. The mesh's row begins at word `row`; its vertices, sets and triangles are those from rows v, s and t on.
+// Writes the MESH whose row begins at word `row` of `meshes`: its brush, the VRTS, the TRIS. Its vertices, triangle sets and triangles are those from rows
+// `v`, `s` and `t` on. Returns its size.
 pub fn put_mesh(
     meshes: &[u32],
     row: usize,

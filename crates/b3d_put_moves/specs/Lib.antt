@@ -1,2 +1,2 @@
--- What moves a node.
+-- The bytes of a node's KEYS and ANIM.
 pub mod Moves

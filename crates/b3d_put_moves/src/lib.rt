@@ -12,7 +12,7 @@ use b3d_put_words::number;
 use b3d_put_words::put_values;
 use b3d_scene::Counts;
 
-// The ANIM that the four words of the nodes from word `at` on say, or nothing.
+// Writes the ANIM that the four words of `nodes` from word `at` on say. Returns its size; 0 where they say there is none.
 fn put_anim(nodes: &[u32], at: usize, out: &mut [u8]) -> usize
     requires { ⌜ at + 4 ≤ length (now nodes) ⌝ }
     requires { ⌜ Room (animPart (now nodes) at) (now out) ⌝ }
@@ -24,7 +24,7 @@ fn put_anim(nodes: &[u32], at: usize, out: &mut [u8]) -> usize
     0
 }
 
-// How many rows of key lists from row `first` on are those of a node.
+// Returns how many rows of `lists` from row `first` on belong to `node`, up to the first that does not.
 fn count_lists(lists: &[u32], first: usize, node: usize) -> usize
     ensures { λ r. ⌜ r ≡ length (mine node (drop first (rowsIn 4 (now (lists .entry))))) ⌝ }
 {
@@ -38,7 +38,7 @@ fn count_lists(lists: &[u32], first: usize, node: usize) -> usize
     i - first
 }
 
-// The KEYS and the ANIM of the node whose row begins at word `row`.
+// Writes the KEYS and the ANIM of the node whose row begins at word `row` of `t3` and which comes after the counts `n`. Returns their size.
 pub fn put_moves(
     t3: &[u32],
     row: usize,

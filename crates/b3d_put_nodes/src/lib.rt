@@ -6,13 +6,14 @@ use b3d_scene::Counts;
 use b3d_scene::NODE_WIDTH;
 use b3d_scene::letters;
 
-// Bytes written, and the counts after the nodes that were.
+// How many bytes were written, and the counts after the nodes that were written.
 pub struct Walked {
     pub size: usize,
     pub counts: Counts,
 }
 
-// The node after n rows, with so many levels left: what is its own, the nodes below it, and then the header before them.
+// Writes the NODE that comes after the counts `n`, with `levels` levels left: what is its own, the nodes below it, then the header before them. Returns its
+// size and the counts after it.
 pub fn put_node(
     names: &[u8],
     t3: &[u32],
@@ -48,7 +49,8 @@ pub fn put_node(
     Walked { size, counts }
 }
 
-// The nodes after n rows that are under a parent, with so many levels left.
+// Writes the nodes after the counts `n` whose parent is `parent`, with `levels` levels left, up to the first that has another. Returns their size and the
+// counts after them.
 pub fn put_nodes(
     names: &[u8],
     t3: &[u32],

@@ -1,4 +1,5 @@
--- What the body of a NODE holds before the nodes below it, of rows of lent tables, and what must be there for it.
+-- What the body of a NODE holds before the nodes below it, from rows of lent tables, and what must be there for it. The words of tables 3 to 10 are ds, ms,
+-- vs, ss, ts, ws, ls and ks; ns are the bytes that hold the names.
 use mathlib.Core.Path.{_≡_}
 use Prim.Native.Nat.{ℕ, _+_, _*_, _/_, _<_, _≤_}
 use mathlib.Core.List.{List, []}
@@ -15,7 +16,7 @@ use Rattle.b3d_put_lists.specs.Named.{NameThere}
 use Rattle.b3d_put_mesh.specs.Mesh.{MeshThere}
 use Rattle.b3d_put_moves.specs.Moves.{moveChunks, MovesThere}
 
--- the rows of tables 3 to 10, each by its words
+-- the rows of table k, 3 to 10, each table given by its words
 unfoldable pub tableRows : List ℕ → List ℕ → List ℕ → List ℕ → List ℕ → List ℕ → List ℕ → List ℕ → Rows
 tableRows ds ms vs ss ts ws ls ks k =
     if (eqb k 3) (rowsIn nodeWidth ds)
@@ -29,31 +30,37 @@ tableRows ds ms vs ss ts ws ls ks k =
 
 -- ---- the parts
 
--- the chunk of a kind and a count, when n rows came before
+-- the MESH or BONE of a node of kind k and count c that comes after the counts n; empty for a pivot
 unfoldable pub kindBytes : List ℕ → List ℕ → List ℕ → List ℕ → List ℕ → Counts → ℕ → ℕ → List ℕ
 kindBytes ms vs ss ts ws n k c = writeChunks (kindChunks (kindFrom (tableRows [] ms vs ss ts ws [] []) n k c) [])
 
--- its kind, its KEYS and its ANIM
+-- the kind's chunk, the KEYS and the ANIM of the node whose row begins at word i of ds and which comes after the counts n
 unfoldable pub partsBytes : List ℕ → ℕ → List ℕ → List ℕ → List ℕ → List ℕ → List ℕ → List ℕ → List ℕ → Counts → List ℕ
 partsBytes ds i ms vs ss ts ws ls ks n =
     writeChunks (kindChunks (kindFrom (tableRows [] ms vs ss ts ws [] []) n (getD ds (i + 13) 0) (getD ds (i + 15) 0)) (moveChunks ds i ls ks n))
 
--- all that the body of the node after n rows holds before the nodes below it
+-- all that the body of the node after the counts n holds before the nodes below it
 unfoldable pub ownBytes : List ℕ → List ℕ → List ℕ → List ℕ → List ℕ → List ℕ → List ℕ → List ℕ → List ℕ → Counts → List ℕ
 ownBytes ns ds ms vs ss ts ws ls ks n = writeNode (dataFrom ns (tableRows ds ms vs ss ts ws ls ks) (getD (rowsIn nodeWidth ds) (n .nodes) []) n) []
 
 -- ---- what must be there
 
--- the rows that a kind and a count name
+-- what `put_kind` asks: the rows that kind k and count c name are there after the counts n
 pub record KindThere (ms vs ss ts ws : List ℕ) (n : Counts) (k c : ℕ) : Type 0 where
+  -- for a mesh its row and all that it names
   pub mesh : k ≡ 1 → MeshThere ms (9 * n .meshes) vs (n .vertices) ss (n .sets) ts (n .triangles)
+  -- for a bone its weights
   pub bone : k ≡ 2 → n .weights + c ≤ length ws / 2
 
--- the row of the node and all that it names
+-- what `put_own` asks of the node after the counts n
 pub record OwnThere (ns ds ms vs ss ts ws ls ks : List ℕ) (n : Counts) : Type 0 where
+  -- its row is there
   pub row : n .nodes < length ds / nodeWidth
+  -- its name is in ns
   pub name : NameThere ns ds (nodeWidth * n .nodes)
+  -- the rows that its kind and count name are there
   pub kind : KindThere ms vs ss ts ws n (getD ds (nodeWidth * n .nodes + 13) 0) (getD ds (nodeWidth * n .nodes + 15) 0)
+  -- its key lists and keys are there
   pub moves : MovesThere ls ks n
 
 -- no count of n is past the rows of its table

@@ -1,5 +1,5 @@
-// What the body of a NODE holds before the nodes below it, written from rows of lent tables: the name, ten words, the kind, KEYS, ANIM.
-// t3 to t10 are those tables, by their numbers.
+// What the body of a NODE holds before the nodes below it, written from rows of lent tables: the name, ten words, the kind, KEYS, ANIM. The tables t3 to t10
+// have their numbers as names.
 ghost use Prim.Native.Nat.{_+_, _*_, _≤_};
 ghost use lib.ListN.{length, getD};
 ghost use Rattle.emit.specs.Writing.{Room, Put};
@@ -13,7 +13,7 @@ use b3d_put_words::put_weights;
 use b3d_scene::Counts;
 use b3d_scene::NODE_WIDTH;
 
-// The chunk of the kind of the node whose row begins at word `row`: a MESH, a BONE, or none.
+// Writes the MESH or the BONE of the node whose row begins at word `row` of `t3` and which comes after the counts `n`. Returns its size; 0 for a pivot.
 fn put_kind(
     t3: &[u32],
     row: usize,
@@ -45,7 +45,7 @@ fn put_kind(
     0
 }
 
-// All that the body of the node after n rows holds before the nodes below it.
+// Writes all that the body of the node after the counts `n` holds before the nodes below it, to the start of `out`. Returns the size.
 pub fn put_own(
     names: &[u8],
     t3: &[u32],

@@ -1,4 +1,4 @@
--- The bytes of a row, run by run: the words that are there, from a word of the table on.
+-- The bytes of a row, by groups of cells: the words that are there, from a word of the table on.
 use Prim.Native.Nat.{ℕ, _+_}
 use mathlib.Core.List.{List, [], _++_}
 use lib.ListN.{take, drop}
@@ -7,17 +7,18 @@ use Rattle.b3d_scene.specs.Rebuild.{cut}
 use Rattle.b3d_masks.specs.declared.RowRuns.{RowRuns}
 use Rattle.b3d_put_rows.specs.Lent.{eachRow}
 
--- so many sets of four words, of each its first words
+-- the first `size` words of each of `sets` sets of four cells, from word `base` of ws on
 unfoldable pub setsBytes : ℕ → ℕ → List ℕ → ℕ → List ℕ
 setsBytes sets size ws base = eachRow (λ x. writeWords (take size x) []) (cut 4 sets (drop base ws))
 
--- the first two runs
+-- the first two groups of the row at word `base` of ws: `head` words, then `three` of three cells
 unfoldable pub frontBytes : ℕ → ℕ → List ℕ → ℕ → List ℕ
 frontBytes head three ws base = writeWords (take head (drop base ws)) [] ++ writeWords (take three (drop (base + head) ws)) []
 
--- the others
+-- the groups of g after the first two, from word `base` of ws on: `some` words of `wide` cells, then the sets
 unfoldable pub backBytes : RowRuns → List ℕ → ℕ → List ℕ
 backBytes g ws base = writeWords (take (g .some) (drop base ws)) [] ++ setsBytes (g .sets) (g .size) ws (base + g .wide)
 
+-- the bytes of the row at word `base` of ws, as the groups g have it
 unfoldable pub rowBytes : RowRuns → List ℕ → ℕ → List ℕ
 rowBytes g ws base = frontBytes (g .head) (g .three) ws base ++ backBytes g ws (base + g .head + 3)

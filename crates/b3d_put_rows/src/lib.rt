@@ -1,5 +1,5 @@
-// Rows of lent tables as bytes in a lent output, by runs: of each run the words that are there, by a loop of a constant count. Here is what vertices
-// and keys share; they have each their own functions down to the run, so that the compiler knows every count.
+// What vertices and keys share when their rows are written into an output: of each group of cells the words that are there, in a loop of a constant count.
+// Vertices and keys have each their own functions down to the group, so that the compiler knows every count.
 ghost use mathlib.Core.List.{[]};
 ghost use Prim.Native.Nat.{_+_, _≤_};
 ghost use lib.ListN.{length, take, drop};
@@ -7,7 +7,7 @@ ghost use Rattle.layout.specs.Write.{writeWords};
 ghost use Rattle.emit.specs.Writing.{Room, Put};
 ghost use Rattle.b3d_put_rows.specs.RowBytes.{frontBytes};
 
-// n words from word `first` on; most often n is 0 or `all`, which the compiler knows where it is called.
+// Writes the `n` words of `words` from word `first` on. Returns the size. Most often `n` is 0 or `all`, which the compiler knows where this is called.
 pub fn put_full(words: &[u32], first: usize, n: usize, all: usize, out: &mut [u8]) -> usize
     requires { ⌜ first + n ≤ length (now words) ⌝ }
     requires { ⌜ Room (writeWords (take n (drop first (now words))) []) (now out) ⌝ }
@@ -22,7 +22,7 @@ pub fn put_full(words: &[u32], first: usize, n: usize, all: usize, out: &mut [u8
     emit::put_words(words, first, n, out)
 }
 
-// The first two runs of the row from word `base` on: `head` words, `three` of the next three.
+// Writes the first two groups of the row from word `base` on: `head` words, `three` of the next three. Returns the size.
 pub fn put_front(head: usize, three: usize, words: &[u32], base: usize, out: &mut [u8]) -> usize
     requires { ⌜ (three ≤ 3) × (head ≤ 4) × (base + head + 3 ≤ length (now words)) ⌝ }
     requires { ⌜ Room (frontBytes head three (now words) base) (now out) ⌝ }

@@ -1,2 +1,2 @@
--- Chunks whose items are runs of rows.
+-- The bytes of KEYS and TRIS.
 pub mod Runs

@@ -1,4 +1,4 @@
-// The KEYS and the TRIS of the writer: a chunk for each row of a table of key lists or sets, its items the next rows of the table of keys or triangles.
+// The KEYS and the TRIS of the writer: a chunk for each key list or triangle set, its items the next rows of the table of keys or triangles.
 use b3d_put_keys::put_key_rows;
 use b3d_put_words::number;
 use b3d_put_words::put_set;
@@ -10,7 +10,7 @@ ghost use Rattle.b3d_put_rows.specs.Lent.{rowsIn, rowsFrom};
 ghost use Rattle.b3d_put_runs.specs.Runs.{listBytes, runWidth, runBytes, runsBytes};
 ghost use Rattle.b3d_sound.specs.CellCounts.{endOf};
 
-// A KEYS of flags and `count` keys from row `first` on.
+// Writes a KEYS of `flags` and the `count` keys from row `first` on. Returns its size.
 fn put_list(flags: u32, keys: &[u32], first: usize, count: usize, out: &mut [u8]) -> usize
     requires { ⌜ first + count ≤ length (now keys) / 11 ⌝ }
     requires { ⌜ Room (listBytes flags (rowsFrom 11 (now keys) first count)) (now out) ⌝ }
@@ -21,7 +21,7 @@ fn put_list(flags: u32, keys: &[u32], first: usize, count: usize, out: &mut [u8]
     n + 12
 }
 
-// A KEYS or a TRIS of a word and n items from row `first` on.
+// Writes a KEYS (`keys`) or a TRIS of its number `word`, flags or brush, and the `n` items from row `first` on. Returns its size.
 fn put_run(keys: bool, word: u32, items: &[u32], first: usize, n: usize, out: &mut [u8]) -> usize
     requires { ⌜ first + n ≤ length (now items) / runWidth keys ⌝ }
     requires { ⌜ Room (runBytes keys word (rowsFrom (runWidth keys) (now items) first n)) (now out) ⌝ }
@@ -33,8 +33,8 @@ fn put_run(keys: bool, word: u32, items: &[u32], first: usize, n: usize, out: &m
     put_set(word, items, first, n, out)
 }
 
-// The KEYS of `count` rows of key lists from row `first` on, or the TRIS of so many rows of sets, their items one run after the other from row
-// `start` on.
+// Writes a KEYS (`keys`) or a TRIS for each of the `count` rows of `rows` from row `first` on, their items following each other from row `start` of `items`
+// on. Returns the size; 0 where `count` is 0.
 pub fn put_runs(
     keys: bool,
     rows: &[u32],

@@ -1,4 +1,4 @@
-// Rows of vertices as bytes in a lent output, run by run.
+// Rows of vertices written as the vertices of a VRTS, group by group, into a lent output.
 ghost use mathlib.Core.Path.{_≡_};
 ghost use mathlib.Core.List.{[], map};
 ghost use Prim.Native.Nat.{_+_, _*_, _/_, _<_, _≤_};
@@ -11,7 +11,7 @@ ghost use Rattle.b3d_put_rows.specs.Lent.{rowsFrom};
 ghost use Rattle.b3d_put_rows.specs.RowBytes.{setsBytes, backBytes, rowBytes};
 use b3d_masks::RowRuns;
 
-// n words from word `first` on, at most four.
+// Writes the `n` words of `words` from word `first` on, at most four. Returns the size.
 fn put_few(words: &[u32], first: usize, n: usize, out: &mut [u8]) -> usize
     requires { ⌜ (n ≤ 4) × (first + n ≤ length (now words)) ⌝ }
     requires { ⌜ Room (writeWords (take n (drop first (now words))) []) (now out) ⌝ }
@@ -26,7 +26,7 @@ fn put_few(words: &[u32], first: usize, n: usize, out: &mut [u8]) -> usize
     }
 }
 
-// The words of so many sets from word `first` on, four cells each.
+// Writes of each of `sets` sets of four cells, from word `first` on, the first `size` words. Returns the size.
 fn put_sets(words: &[u32], first: usize, sets: usize, size: usize, out: &mut [u8]) -> usize
     requires { ⌜ (size ≤ 4) × (first + sets * 4 ≤ length (now words)) ⌝ }
     requires { ⌜ Room (setsBytes sets size (now words) first) (now out) ⌝ }
@@ -44,7 +44,7 @@ fn put_sets(words: &[u32], first: usize, sets: usize, size: usize, out: &mut [u8
     at
 }
 
-// The other runs of a vertex.
+// Writes the colour and the sets of a vertex, as the groups `g` have them, from word `base` on. Returns the size.
 fn vertex_back(g: RowRuns, words: &[u32], base: usize, out: &mut [u8]) -> usize
     requires { ⌜ Short g × (g .wide ≡ 4) × (base + 4 + g .sets * 4 ≤ length (now words)) ⌝ }
     requires { ⌜ Room (backBytes g (now words) base) (now out) ⌝ }
@@ -55,7 +55,7 @@ fn vertex_back(g: RowRuns, words: &[u32], base: usize, out: &mut [u8]) -> usize
     n + m
 }
 
-// The vertex from word `base` on.
+// Writes the vertex of the row from word `base` of `words` on, as the groups `g` have it. Returns the size.
 fn put_vertex(g: RowRuns, words: &[u32], base: usize, out: &mut [u8]) -> usize
     requires { ⌜ Short g × OfVertex g × (base + 42 ≤ length (now words)) ⌝ }
     requires { ⌜ Room (rowBytes g (now words) base) (now out) ⌝ }
@@ -66,7 +66,8 @@ fn put_vertex(g: RowRuns, words: &[u32], base: usize, out: &mut [u8]) -> usize
     n + m
 }
 
-// `count` vertices from row `first` on, by their flags, sets and set size.
+// Writes `count` vertices from row `first` of `vertices` on, by `flags`, `sets` and set `size`, to the start of `out`. Returns the size; 0 where `count` is
+// 0.
 pub fn put_vertex_rows(
     flags: u32,
     sets: u32,

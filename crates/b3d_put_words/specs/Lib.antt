@@ -1,2 +1,2 @@
--- Chunks of words.
+-- The bytes of chunks whose items are words as they are.
 pub mod Chunks

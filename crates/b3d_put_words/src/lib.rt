@@ -1,6 +1,6 @@
-// Chunks of the writer whose items are words of a lent table as they stand, and such a word as a size.
-// Each function is lent the output from where its chunks are to stand, answers how many bytes it wrote, and leaves all that comes after as it was;
-// a chunk's header is set when its body is written.
+// Chunks of the writer whose items are words of a lent table as they are: TRIS, BONE and ANIM; and such a word as a size. Each function is lent the output
+// from where its chunks are to stand, returns how many bytes it wrote, and leaves all that comes after as it was; a chunk's header is set when its body is
+// written.
 use b3d_scene::letters;
 ghost use mathlib.Core.Path.{_≡_};
 ghost use Prim.Native.Nat.{_+_, _*_, _/_, _<_, _≤_};
@@ -9,7 +9,7 @@ ghost use Rattle.emit.specs.Writing.{Room, Put};
 ghost use Rattle.b3d_put_rows.specs.Lent.{rowsFrom};
 ghost use Rattle.b3d_put_words.specs.Chunks.{setBytes, boneBytes, animBytes};
 
-// A word of a table as a size.
+// Returns word `i` of `table` as a size.
 pub fn number(table: &[u32], i: usize) -> usize
     requires { ⌜ i < length (now table) ⌝ }
     ensures { λ r. ⌜ (r ≡ getD (now (table .entry)) i 0) × (r < 4294967296) ⌝ }
@@ -17,7 +17,7 @@ pub fn number(table: &[u32], i: usize) -> usize
     table[i] as usize
 }
 
-// A TRIS of a brush and `count` triangles from row `first` on.
+// Writes a TRIS of `brush` and the `count` triangles from row `first` on. Returns its size.
 pub fn put_set(brush: u32, triangles: &[u32], first: usize, count: usize, out: &mut [u8]) -> usize
     requires { ⌜ first + count ≤ length (now triangles) / 3 ⌝ }
     requires { ⌜ Room (setBytes brush (rowsFrom 3 (now triangles) first count)) (now out) ⌝ }
@@ -28,7 +28,7 @@ pub fn put_set(brush: u32, triangles: &[u32], first: usize, count: usize, out: &
     n + 12
 }
 
-// A BONE of `count` weights from row `first` on.
+// Writes a BONE of the `count` weights from row `first` on. Returns its size.
 pub fn put_weights(weights: &[u32], first: usize, count: usize, out: &mut [u8]) -> usize
     requires { ⌜ first + count ≤ length (now weights) / 2 ⌝ }
     requires { ⌜ Room (boneBytes (rowsFrom 2 (now weights) first count)) (now out) ⌝ }
@@ -39,7 +39,7 @@ pub fn put_weights(weights: &[u32], first: usize, count: usize, out: &mut [u8]) 
     n + 8
 }
 
-// An ANIM of the three words from word `first` of the nodes on.
+// Writes an ANIM of the three words of `nodes` from word `first` on. Returns its size.
 pub fn put_values(nodes: &[u32], first: usize, out: &mut [u8]) -> usize
     requires { ⌜ first + 3 ≤ length (now nodes) ⌝ }
     requires { ⌜ Room (animBytes (take 3 (drop first (now nodes)))) (now out) ⌝ }

@@ -7,15 +7,17 @@ use Rattle.b3d_scene.specs.declared.Answer.{Answer}
 use Rattle.b3d_scene.specs.declared.Mode.{Mode}
 use Rattle.b3d_scene.specs.Answers.{readAnswer, readTable}
 
--- table k of the tables 1, 2 and so on
+-- table k of the list ts of tables, the first being table 1; empty where there is none
 abbrev pub tableIn : List (List ℕ) → ℕ → List ℕ
 tableIn ts k = getD ts (k - 1) []
 
--- how many words table k has
+-- how many words table k of the list ts has
 abbrev pub roomIn : List (List ℕ) → ℕ → ℕ
 roomIn ts k = length (tableIn ts k)
 
--- the answer in a mode for a file and ten lent tables, and each of these afterwards
+-- what `read` promises for a file s in a mode, of the ten lent tables before and after it, and of its answer r
 pub record Reads (mode : Mode) (s : List ℕ) (before after : List (List ℕ)) (r : Answer) : Type 0 where
+  -- r is 01's answer for the file and tables of those lengths
   pub answer : r ≡ readAnswer mode (roomIn before) s
+  -- table k is as 01 leaves it: its rows and then what stood there; where refused, what stood there
   pub table : (k : ℕ) → 1 ≤ k → k ≤ 10 → tableIn after k ≡ readTable mode k (roomIn before) s (tableIn before k)

@@ -1,11 +1,11 @@
-// The reader: a file's ten tables into lent slices, with the answer that 01 gives to every file and to tables of every length.
+// The reader: stores a file's ten tables in lent slices, and gives the answer of paper 01 for every file and tables of every length.
 ghost use mathlib.Core.List.{[], _∷_};
 ghost use Rattle.b3d_read.specs.Reads.{Reads};
 use b3d_scene::Answer;
 use b3d_scene::Mode;
 
-// Reads a file in a mode into ten lent tables: their rows are stored, and what stood behind them stays. Where the file is refused, or a table is too
-// short, each table stays as it was.
+// Reads `file` in `mode` into the ten lent tables `t1` to `t10`: stores their rows, and what stood behind them stays. Where the file is refused, or a table
+// is too short, each table stays as it was. Returns number, place, version, n_texs and the ten row counts.
 pub fn read(
     mode: Mode,
     file: &[u8],

@@ -1,4 +1,4 @@
--- The answer for a file that was accepted, from what was counted.
+-- The answer for an accepted file, from what was counted in it.
 use Prim.Native.Nat.{ℕ}
 use lib.Dec.{eqb}
 use Rattle.wire.specs.Test.{if}
@@ -10,11 +10,11 @@ use Rattle.b3d_tally.specs.declared.Tally.{Tally}
 use Rattle.table_room.specs.Rooms.{numberOf, firstShort}
 use Rattle.b3d_limits.specs.Rooms.{countsIn}
 
--- with ample tables: version, n_texs and the ten counts
+-- the answer with ample tables: version, n_texs (`slots`) and the ten counts of t
 unfoldable pub acceptedAs : ℕ → ℕ → Tally → Answer
 acceptedAs version slots t = record { number = 0; place = 0; version = version; «n_texs» = slots; counts = countsIn t }
 
--- with tables of room k words: 11 and the first that is too short, if there is one
+-- the answer with tables of room k words each: 11 and the number of the first that is too short, if there is one
 unfoldable pub roomAnswer : ℕ → ℕ → Tally → (ℕ → ℕ) → Answer
 roomAnswer version slots t room =
     let short = firstShort width (numberOf (countsIn t)) room tables in

@@ -1,4 +1,4 @@
-// The reader's answers by numbers alone: for a refusal, and for a file that was accepted, whether ten lent tables have room for its rows or not.
+// The reader's answers as numbers: for a refusal, for an accepted file, and 11 where one of ten lent tables has no room for its rows.
 ghost use mathlib.Core.Path.{_≡_};
 ghost use mathlib.Core.List.{[], _∷_};
 ghost use Prim.Native.Nat.{_<_};
@@ -10,7 +10,7 @@ ghost use Rattle.b3d_room.specs.Answers.{acceptedAs, roomAnswer};
 use b3d_scene::Answer;
 use b3d_tally::Tally;
 
-// The answer for a refusal.
+// Returns the answer for a refusal: `number` and `place`, with version, n_texs and counts all 0.
 pub fn refused(number: u32, place: usize) -> Answer
     requires { ⌜ place < 4294967296 ⌝ }
     ensures { λ r. ⌜ r ≡ answer (bad number place) ⌝ }
@@ -24,7 +24,7 @@ pub fn refused(number: u32, place: usize) -> Answer
     }
 }
 
-// The answer for a file that was accepted.
+// Returns the answer for an accepted file: 0 at 0, `version`, n_texs (`slots`) and the ten row counts of `t`.
 pub fn accepted(version: u32, slots: u32, t: Tally) -> Answer
     requires { ⌜ TallyLimited t ⌝ }
     ensures { λ r. ⌜ r ≡ acceptedAs version slots t ⌝ }
@@ -49,7 +49,8 @@ pub fn accepted(version: u32, slots: u32, t: Tally) -> Answer
     }
 }
 
-// The answer for a file that was accepted and ten tables of these lengths.
+// Returns the answer for an accepted file and ten tables of `l1` to `l10` words: 11 and the number of the first table with no room for its rows of `t`, else
+// the answer of `accepted`.
 pub fn with_room(
     version: u32,
     slots: u32,

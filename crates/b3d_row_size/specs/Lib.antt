@@ -1,2 +1,2 @@
--- What rows add.
+-- How many bytes rows of lent tables add to the shortest file.
 pub mod RowSize

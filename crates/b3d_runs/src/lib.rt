@@ -1,11 +1,11 @@
-// Runs of words and of zeros that rows of vertices and keys are made of, each of a fixed length.
+// Stores the groups of cells that rows of vertices and keys are made of: some words of the file, then zeros, each with a constant count.
 ghost use mathlib.Core.Path.{_≡_};
 ghost use Prim.Native.Nat.{_+_, _-_, _*_, _≤_};
 ghost use lib.ListN.{length};
 ghost use lib.Seq.{sets as stored};
 ghost use Rattle.b3d_runs.specs.Pieces.{pieceAt};
 
-// A run of words, then one of zeros.
+// Stores the `n` words of `file` from byte `at` on in `out` from cell `base` on, then `m` zeros. The other cells stay as they were.
 pub fn put_piece(file: &[u8], at: usize, n: usize, m: usize, base: usize, out: &mut [u32])
     requires { ⌜ (at + 4 * n ≤ length (now file)) × (base + n + m ≤ length (now out)) ⌝ }
     ensures { λ _. ⌜ now (out .exit) ≡ stored (now (out .entry)) base (pieceAt n m (now (file .entry)) at) ⌝ }
@@ -14,7 +14,7 @@ pub fn put_piece(file: &[u8], at: usize, n: usize, m: usize, base: usize, out: &
     cells::put_same(0, m, base + n, out);
 }
 
-// Four cells, n of them words.
+// Stores four cells of `out` from cell `base` on: the `n` words of `file` from byte `at` on, then zeros.
 pub fn put_four(file: &[u8], at: usize, n: usize, base: usize, out: &mut [u32])
     requires { ⌜ (at + 4 * n ≤ length (now file)) × (n ≤ 4) × (base + 4 ≤ length (now out)) ⌝ }
     ensures { λ _. ⌜ now (out .exit) ≡ stored (now (out .entry)) base (pieceAt n (4 - n) (now (file .entry)) at) ⌝ }
@@ -28,7 +28,7 @@ pub fn put_four(file: &[u8], at: usize, n: usize, base: usize, out: &mut [u32])
     }
 }
 
-// Three cells, n of them words.
+// Stores three cells of `out` from cell `base` on: the `n` words of `file` from byte `at` on, then zeros.
 pub fn put_three(file: &[u8], at: usize, n: usize, base: usize, out: &mut [u32])
     requires { ⌜ (at + 4 * n ≤ length (now file)) × (n ≤ 3) × (base + 3 ≤ length (now out)) ⌝ }
     ensures { λ _. ⌜ now (out .exit) ≡ stored (now (out .entry)) base (pieceAt n (3 - n) (now (file .entry)) at) ⌝ }

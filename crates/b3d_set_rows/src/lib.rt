@@ -1,4 +1,4 @@
-// Rows of the triangle sets of one MESH, and of their triangles, from its body.
+// Rows of tables 6 and 7 for one MESH, from its body: its triangle sets and their triangles.
 ghost use mathlib.Core.Path.{_≡_};
 ghost use Prim.Native.Nat.{_+_, _*_, _<_, _≤_};
 ghost use lib.ListN.{length};
@@ -11,7 +11,7 @@ use b3d_scene::Tag;
 use b3d_walk::Sought;
 use wire::Cursor;
 
-// The triangles of a MESH whose header is at p, from word `base` of the table on; gives the word after them.
+// Stores the triangles of the MESH at `p` with this `body` in `out` from cell `base` on. Returns the cell behind them.
 pub fn put_triangles(file: &[u8], p: usize, body: Cursor, base: usize, out: &mut [u32]) -> usize
     requires { ⌜ BodyAt (now file) p body × (base + length (joined (trianglesIn p (left body (now file)))) ≤ length (now out)) ⌝ }
     ensures { λ r. ⌜ (r ≡ base + length (joined (trianglesIn p (left body (now (file .entry))))))
@@ -30,13 +30,14 @@ pub fn put_triangles(file: &[u8], p: usize, body: Cursor, base: usize, out: &mut
     }
 }
 
-// The word of the table and the number of the triangle that come next.
+// The cell of table 6 and the number of the triangle that come next.
 pub struct After {
     pub base: usize,
     pub first: usize,
 }
 
-// The sets of a MESH whose header is at p.
+// Stores the rows of the triangle sets of the MESH at `p`, which is mesh number `mesh`, in `out` from cell `base` on; its first triangle is number `first`.
+// Returns the cell and the triangle number behind them.
 pub fn put_sets(
     file: &[u8],
     p: usize,

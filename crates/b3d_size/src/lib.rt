@@ -11,7 +11,7 @@ use b3d_row_size::rows_bytes;
 use b3d_scene::Counts;
 use b3d_scene::NODE_WIDTH;
 
-// A chunk around rows, if there is one.
+// Returns `bytes`, the header and fixed data of a chunk around `rows` rows; 0 without a row.
 fn chunk_around(rows: usize, bytes: usize) -> usize
     ensures { λ r. ⌜ r ≡ around rows bytes ⌝ }
 {
@@ -21,7 +21,7 @@ fn chunk_around(rows: usize, bytes: usize) -> usize
     bytes
 }
 
-// TEXS and BRUS.
+// Returns the size of TEXS and BRUS, of `textures` rows of `t1` and `brushes` rows of `t2` with `slots` ids each; 0 where both have no row.
 fn lists_bytes(slots: u32, textures: usize, brushes: usize, t1: &[u32], t2: &[u32]) -> usize
     requires { ⌜ (slots ≤ 8) × (9 * textures ≤ length (now t1)) × (17 * brushes ≤ length (now t2)) × (textures ≤ rowLimit) × (brushes ≤ rowLimit) ⌝ }
     ensures { λ r. ⌜ Sums partMost (listsBytes slots textures brushes (cut 9 textures (now (t1 .entry))) (cut 17 brushes (now (t2 .entry)))) r ⌝ }
@@ -31,7 +31,7 @@ fn lists_bytes(slots: u32, textures: usize, brushes: usize, t1: &[u32], t2: &[u3
     chunk_around(textures, 8) + texs + (chunk_around(brushes, 12) + brus)
 }
 
-// NODE, MESH and KEYS without what their other rows add.
+// Returns the size of what the rows of nodes, meshes and key lists add; `all` counts them.
 fn nodes_bytes(all: Counts, t3: &[u32], t4: &[u32], t9: &[u32]) -> usize
     requires { ⌜ NodesSizable all (now t3) (now t4) (now t9) ⌝ }
     ensures { λ r. ⌜ Sums partMost (nodesBytes (cut nodeWidth (all .nodes) (now (t3 .entry))) (cut 9 (all .meshes) (now (t4 .entry))) (cut 4 (all .lists) (now (t9 .entry)))) r ⌝ }
@@ -42,7 +42,8 @@ fn nodes_bytes(all: Counts, t3: &[u32], t4: &[u32], t9: &[u32]) -> usize
     nodes + meshes + lists
 }
 
-// The whole file of sound tables: their counts, and those of the tables whose rows do not all add the same.
+// Returns the size of the shortest file that has these sound tables: `textures`, `brushes` and the rows that `all` counts. Only the tables whose rows differ
+// in size are lent.
 pub fn file_bytes(
     slots: u32,
     textures: usize,

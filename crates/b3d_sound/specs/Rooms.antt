@@ -1,9 +1,9 @@
--- Counts and the tables that they count: none is above the limit of rows, and a table has the words of its counted rows.
+-- Counts and the tables that they count: no count is above the row limit, and a table has the words of its counted rows.
 use Prim.Native.Nat.{ℕ, _*_, _≤_}
 use Rattle.b3d_scene.specs.Rules.{rowLimit}
 use Rattle.b3d_scene.specs.declared.Counts.{Counts}
 
--- no count is above the limit of rows
+-- no count of a is above the row limit
 pub record Limited (a : Counts) : Type 0 where
   pub nodes : a .nodes ≤ rowLimit
   pub meshes : a .meshes ≤ rowLimit
@@ -14,15 +14,22 @@ pub record Limited (a : Counts) : Type 0 where
   pub lists : a .lists ≤ rowLimit
   pub keys : a .keys ≤ rowLimit
 
--- the rows of the tables 4 to 8 are there: these have so many words
+-- tables 4 to 8, of words₄ to words₈ words, have the rows that a counts
 pub record KindRoom (a : Counts) (words₄ words₅ words₆ words₇ words₈ : ℕ) : Type 0 where
+  -- nine words for each mesh
   pub room₄ : 9 * a .meshes ≤ words₄
+  -- 42 words for each vertex
   pub room₅ : 42 * a .vertices ≤ words₅
+  -- four words for each triangle set
   pub room₆ : 4 * a .sets ≤ words₆
+  -- three words for each triangle
   pub room₇ : 3 * a .triangles ≤ words₇
+  -- two words for each weight
   pub room₈ : 2 * a .weights ≤ words₈
 
--- and those of the tables 9 and 10
+-- tables 9 and 10, of words₉ and words₁₀ words, have the rows that a counts
 pub record ListRoom (a : Counts) (words₉ words₁₀ : ℕ) : Type 0 where
+  -- four words for each key list
   pub room₉ : 4 * a .lists ≤ words₉
+  -- eleven words for each key
   pub room₁₀ : 11 * a .keys ≤ words₁₀

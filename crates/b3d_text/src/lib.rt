@@ -1,5 +1,5 @@
-// Text put into a lent slice of bytes: bytes, decimal numbers, names. What has no room is left out, so that no output is too short to be
-// written to; `Puts` says what is there afterwards, and where the next text goes.
+// Text put into a lent slice of bytes: bytes, decimal numbers, names. What has no room is left out, so no output is too short to be written to; `Puts` says
+// what is there afterwards, and where the next text goes.
 ghost use mathlib.Core.Path.{_≡_};
 ghost use mathlib.Core.List.{[], _∷_, map};
 ghost use Prim.Native.Nat.{_+_, _≤_, _<_};
@@ -7,7 +7,7 @@ ghost use lib.ListN.{length, drop};
 ghost use Rattle.b3d_text.specs.Puts.{Puts};
 ghost use Rattle.b3d_text.specs.Text.{shown as shownAs, decimal, after as afterIn, numberAt, numberLine, textLine};
 
-// A byte.
+// Stores the byte `b` in `out` at `at`, if there is room. Returns the place of the next text.
 fn put(b: u8, out: &mut [u8], at: usize) -> usize
     requires { ⌜ at ≤ length (now out) ⌝ }
     ensures { λ r. ⌜ Puts (b ∷ []) (now (out .entry)) at (now (out .exit)) r ⌝ }
@@ -19,7 +19,7 @@ fn put(b: u8, out: &mut [u8], at: usize) -> usize
     at
 }
 
-// The byte that is printed for a byte of a text.
+// Returns the byte that is printed for byte `b` of a text: `b` itself from 32 to 126, else `?`.
 fn shown(b: u8) -> u8
     ensures { λ r. ⌜ r ≡ shownAs b ⌝ }
 {
@@ -32,7 +32,7 @@ fn shown(b: u8) -> u8
     b
 }
 
-// The digit of a number below ten.
+// Returns the digit of `n`, a number below ten.
 fn digit(n: usize) -> u8
     requires { ⌜ n < 10 ⌝ }
     ensures { λ r. ⌜ r ≡ 48 + n ⌝ }
@@ -40,7 +40,7 @@ fn digit(n: usize) -> u8
     48 + n as u8
 }
 
-// A number in decimal digits, the fewest that it has.
+// Stores `n` in decimal digits, without leading zeros, in `out` from `at` on. Returns the place of the next text.
 fn put_decimal(n: usize, out: &mut [u8], at: usize) -> usize
     requires { ⌜ at ≤ length (now out) ⌝ }
     ensures { λ r. ⌜ Puts (decimal n) (now (out .entry)) at (now (out .exit)) r ⌝ }
@@ -52,7 +52,7 @@ fn put_decimal(n: usize, out: &mut [u8], at: usize) -> usize
     put(digit(n % 10), out, next)
 }
 
-// What follows number i of a line: a space, or the end of the line.
+// Returns what follows number `i` of a line: a space, or the end of the line after the last.
 fn after(numbers: &[usize], i: usize) -> u8
     requires { ⌜ i < length (now numbers) ⌝ }
     ensures { λ r. ⌜ r ≡ afterIn (drop (i + 1) (now (numbers .entry))) ⌝ }
@@ -63,7 +63,7 @@ fn after(numbers: &[usize], i: usize) -> u8
     10
 }
 
-// Number i of a line, and what follows it.
+// Stores number `i` of a line, and what follows it, in `out` from `at` on. Returns the place of the next text.
 fn put_number(numbers: &[usize], i: usize, out: &mut [u8], at: usize) -> usize
     requires { ⌜ (i < length (now numbers)) × (at ≤ length (now out)) ⌝ }
     ensures { λ r. ⌜ Puts (numberAt (now (numbers .entry)) i) (now (out .entry)) at (now (out .exit)) r ⌝ }
@@ -72,7 +72,7 @@ fn put_number(numbers: &[usize], i: usize, out: &mut [u8], at: usize) -> usize
     put(after(numbers, i), out, next)
 }
 
-// A line of numbers.
+// Stores a line of `numbers` in `out` from `at` on. Returns the place of the next text. No number gives no line.
 pub fn put_numbers(numbers: &[usize], out: &mut [u8], at: usize) -> usize
     requires { ⌜ at ≤ length (now out) ⌝ }
     ensures { λ r. ⌜ Puts (numberLine (now (numbers .entry))) (now (out .entry)) at (now (out .exit)) r ⌝ }
@@ -86,7 +86,7 @@ pub fn put_numbers(numbers: &[usize], out: &mut [u8], at: usize) -> usize
     next
 }
 
-// The bytes of a text as they are printed.
+// Stores the bytes of `text` as they are printed in `out` from `at` on. Returns the place of the next text.
 fn put_shown(text: &[u8], out: &mut [u8], at: usize) -> usize
     requires { ⌜ at ≤ length (now out) ⌝ }
     ensures { λ r. ⌜ Puts (map shownAs (now (text .entry))) (now (out .entry)) at (now (out .exit)) r ⌝ }
@@ -100,7 +100,7 @@ fn put_shown(text: &[u8], out: &mut [u8], at: usize) -> usize
     next
 }
 
-// A line that has a text.
+// Stores a line with `text`, as it is printed, in `out` from `at` on. Returns the place of the next text. An empty text gives an empty line.
 pub fn put_line(text: &[u8], out: &mut [u8], at: usize) -> usize
     requires { ⌜ at ≤ length (now out) ⌝ }
     ensures { λ r. ⌜ Puts (textLine (now (text .entry))) (now (out .entry)) at (now (out .exit)) r ⌝ }

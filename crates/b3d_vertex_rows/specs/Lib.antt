@@ -1,2 +1,2 @@
--- A vertex by runs.
+-- A vertex row as groups of cells.
 pub mod Vertices

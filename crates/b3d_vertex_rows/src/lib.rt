@@ -1,4 +1,4 @@
-// Rows of vertices by runs: position, normal, colour and eight sets, each so many words of the file, then zeros.
+// Rows of table 5 from the words of a file: position, normal, colour and eight sets of coordinates, absent parts as zeros.
 ghost use mathlib.Core.Path.{_≡_};
 ghost use Prim.Native.Nat.{_+_, _-_, _*_, _≤_};
 ghost use lib.ListN.{length, replicate};
@@ -12,7 +12,7 @@ ghost use Rattle.layout.specs.Rows.{joined};
 ghost use Rattle.b3d_vertex_rows.specs.Vertices.{allSets, vertexAt};
 use wire::Cursor;
 
-// Four zeros for each of so many sets.
+// Stores zeros in the four cells of each of `n` sets, in `out` from cell `base` on.
 fn zero_sets(n: usize, base: usize, out: &mut [u32])
     requires { ⌜ (n ≤ 8) × (base + n * 4 ≤ length (now out)) ⌝ }
     ensures { λ _. ⌜ now (out .exit) ≡ stored (now (out .entry)) base (replicate (n * 4) 0) ⌝ }
@@ -30,7 +30,7 @@ fn zero_sets(n: usize, base: usize, out: &mut [u32])
     }
 }
 
-// The eight sets of a vertex.
+// Stores the 32 cells of the sets of a vertex in `out` from cell `base` on: `sets` sets of `size` words of `file` from byte `at` on, the others zero.
 fn put_sets(file: &[u8], at: usize, sets: usize, size: usize, base: usize, out: &mut [u32])
     requires { ⌜ (size ≤ 4) × (sets ≤ 8) × (at + 4 * (sets * size) ≤ length (now file)) × (base + 32 ≤ length (now out)) ⌝ }
     ensures { λ _. ⌜ now (out .exit) ≡ stored (now (out .entry)) base (allSets sets size (now (file .entry)) at) ⌝ }
@@ -47,7 +47,8 @@ fn put_sets(file: &[u8], at: usize, sets: usize, size: usize, base: usize, out: 
     zero_sets(8 - k, o, out);
 }
 
-// One vertex: a words of a normal, b of a colour.
+// Stores the row of one vertex in `out` from cell `base` on, from byte `at` of `file`: 3 words of a position, `a` of a normal, `b` of a colour, and `sets`
+// sets of `size` words; absent parts are zeros.
 fn put_vertex(
     file: &[u8],
     at: usize,
@@ -67,7 +68,8 @@ fn put_vertex(
     put_sets(file, at + 12 + 4 * a + 4 * b, sets, size, base + 10, out);
 }
 
-// So many vertices, each a row of 42 words.
+// Stores `count` rows of 42 cells in `out` from cell `base` on, from the vertices of a VRTS of `flags`, `sets` and set `size` that stand at `c`. The other
+// cells stay as they were.
 pub fn fill_vertices(
     file: &[u8],
     c: Cursor,

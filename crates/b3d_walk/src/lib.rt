@@ -1,4 +1,5 @@
-// The flat walk over a file's chunks, and the first chunk of a tag. Nothing is judged here.
+// The walk over a file's chunks in one flat run, into each NODE and past every other chunk; and the search for the first chunk of a tag. Nothing is judged
+// here.
 ghost use mathlib.Core.Path.{_≡_};
 ghost use Prim.Native.Nat.{ℕ, _-_, _≤_};
 ghost use lib.ListN.{length};
@@ -10,13 +11,14 @@ use b3d_chunks::Next;
 use b3d_scene::Tag;
 use wire::Cursor;
 
-// The next chunk of the flat run: its tag, the place of its header, its body, and the place where the run goes on.
+// What `flat_next` finds: the next chunk of the flat run, with its tag, the place of its header, its body and the place where the run goes on; or the run's
+// end.
 pub enum Flat {
     Chunk(Tag, usize, Cursor, usize),
     End,
 }
 
-// Into a NODE, behind its text and ten numbers.
+// Returns the NODE at `p` with this `body`; the run goes on behind its text and ten numbers. Returns `End` if these are not all there.
 fn enter(file: &[u8], at: usize, p: usize, body: Cursor) -> Flat
     requires { ⌜ NodeAt (now file) at p body ⌝ }
     ensures { λ r. ⌜ Steps (now (file .entry)) at r ⌝ }
@@ -27,7 +29,8 @@ fn enter(file: &[u8], at: usize, p: usize, body: Cursor) -> Flat
     }
 }
 
-// The chunk of the flat run at a place.
+// Returns the first known chunk of the flat run of `file` from `at` on. Returns `End` at the file's end, at a cut header, at a length past the file and at a
+// NODE whose text or numbers are cut.
 pub fn flat_next(file: &[u8], at: usize) -> Flat
     requires { ⌜ at ≤ length (now file) ⌝ }
     ensures { λ r. ⌜ Steps (now (file .entry)) at r ⌝ }
@@ -50,7 +53,7 @@ pub fn flat_next(file: &[u8], at: usize) -> Flat
     }
 }
 
-// The first chunk of a tag: the place of its header, its body, the cursor after it.
+// What `seek` finds: the first chunk of a tag, with the place of its header, its body and the cursor after it; or that there is none.
 pub enum Sought {
     Found {
         at: usize,
@@ -60,7 +63,8 @@ pub enum Sought {
     Nothing,
 }
 
-// The first chunk of a tag among those that stand from a cursor on, none of them entered.
+// Returns the first chunk of `tag` among those that stand one after the other from the cursor `from` on; no chunk is entered. Returns `Nothing` where there
+// is none before the end, or before a header that is cut or whose length passes the end.
 pub fn seek(file: &[u8], from: Cursor, tag: Tag) -> Sought
     requires { ⌜ Inside from (length (now file)) ⌝ }
     ensures { λ r. ⌜ Seeks (now (file .entry)) from tag r ⌝ }
@@ -95,6 +99,7 @@ pub struct Headed {
     pub rest: Cursor,
 }
 
+// Returns the first number of `body` and a cursor behind it. If fewer than four bytes are left, the number is 0 and the cursor is at the end.
 pub fn first_word(file: &[u8], body: Cursor) -> Headed
     requires { ⌜ Inside body (length (now file)) ⌝ }
     ensures { λ r. ⌜ FirstWord (now (file .entry)) body r ⌝ }
@@ -121,6 +126,7 @@ pub struct Three {
     pub rest: Cursor,
 }
 
+// Returns the first three numbers of `body` and a cursor behind them. A number that is not all there is 0, and the cursor is then at the end.
 pub fn three_words(file: &[u8], body: Cursor) -> Three
     requires { ⌜ Inside body (length (now file)) ⌝ }
     ensures { λ r. ⌜ ThreeWords (now (file .entry)) body r ⌝ }
@@ -137,7 +143,7 @@ pub fn three_words(file: &[u8], body: Cursor) -> Three
     }
 }
 
-// The number of the node that is being read, 0 before the first.
+// Returns the number of the node that is being read after `nodes` nodes have begun: `nodes` - 1, and 0 before the first.
 pub fn current(nodes: usize) -> usize
     ensures { λ r. ⌜ r ≡ nodes - 1 ⌝ }
 {

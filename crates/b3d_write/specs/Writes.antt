@@ -7,7 +7,9 @@ use Rattle.b3d_scene.specs.declared.Written.{Written}
 use Rattle.b3d_scene.specs.Answers.{writeAnswer, writeOutput}
 use Rattle.b3d_scene.specs.Rebuild.{Lent}
 
--- the answer for lent tables with names in ns, and the output afterwards
+-- what `write` promises for the lent tables T with names in ns, of the output before it (out) and after it (put), and of its answer r
 pub record Writes (mode : Mode) (T : Lent) (ns out put : List ℕ) (r : Written) : Type 0 where
+  -- r is 01's answer
   pub answer : r ≡ writeAnswer mode T ns out
+  -- the output is the file, then what stood there; where refused, what stood there
   pub output : put ≡ writeOutput mode T ns out

@@ -1,11 +1,12 @@
-// The writer: lent tables and the bytes that hold their names into the shortest file that has them, with the answer that 01 gives to all tables.
+// The writer: writes the shortest file that has the lent tables and names, and gives the answer of paper 01 for all tables.
 ghost use Rattle.b3d_check.specs.Lent.{lentOf};
 ghost use Rattle.b3d_write.specs.Writes.{Writes};
 use b3d_scene::Mode;
 use b3d_scene::Written;
 
-// Writes the shortest file that has these tables, with names in `names`: 12 where no file that the mode accepts has them, 11 with the size
-// needed where the output is too short; then the output stays as it was. Past the file it stays so too.
+// Writes the shortest file that has the tables `t1` to `t10`, `counts`, `version` and n_texs (`slots`), with names in `names`, to the start of `out`. Returns
+// 0 and the size written; 12 where no file that `mode` accepts has them; 11 with the size needed where `out` is too short. Where refused `out` stays as it
+// was; past the file it stays so too.
 pub fn write(
     mode: Mode,
     t1: &[u32],
