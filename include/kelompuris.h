@@ -301,11 +301,11 @@ kelompuris_label kelompuris_b3d_label(const uint8_t *file, size_t file_len);
  *
  * number 0: written. place and which are 0; size is the number of bytes of the list, 0 if nothing differs. Any other number is a refusal, and
  * size is 0: 1 to 10 are those of kelompuris_b3d_judge in lenient mode, with which 1 for the first file and 2 for the second, the first one's
- * coming first; then 11 with which 0, where place is the size needed.
+ * coming first; then 11 with which 0, where place is the size needed. The list of two accepted files has at most 53 * first_len + second_len
+ * bytes.
  */
 typedef struct {
-    uint32_t number, which;
-    uint64_t place, size;
+    uint32_t number, place, which, size;
 } kelompuris_compared;
 
 /* Lists what differs between two files: answers 0 or 1 to 11.

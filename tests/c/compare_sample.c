@@ -6,7 +6,7 @@
 #include <stdio.h>
 #include <string.h>
 
-static_assert(sizeof(kelompuris_compared) == 2 * 4 + 2 * 8, "four numbers, no gap");
+static_assert(sizeof(kelompuris_compared) == 4 * 4, "four numbers, no gap");
 
 enum { OUT = 24, MARK = 77 };
 

@@ -2,12 +2,13 @@
 use mathlib.Core.Path.{_≡_, refl, ap, sym, _∙_}
 use Prim.Native.Nat.{ℕ, _<_, _≤_}
 use native.Mathlib.Omega.{arith}
+use mathlib.Core.Bool.{true, false}
 use mathlib.Core.List.{List, [], _∷_}
 use lib.ListN.{length}
 use borrow.Author.Tests.{le-leb, lt-leb}
 use Rattle.wire.specs.Test.{if}
-use Rattle.wire.specs.Bytes.{over}
-use Rattle.groups.specs.Puts.{PutAt}
+use Rattle.wire.specs.Bytes.{AllBytes, over}
+use Rattle.shared_put_or_count.specs.Emits.{written, Fits, Emits}
 use Rattle.cells.proofs.Joined.{over-all}
 use Rattle.b3d_scene.specs.declared.Mode.the-variants.{Lenient}
 use Rattle.b3d_scene.specs.declared.Answer.{Answer}
@@ -16,9 +17,10 @@ use Rattle.b3d_slip.proofs.SlipOf.{refused-as, accepted-as}
 use Rattle.b3d_compare_list.specs.declared.Compared.{Compared}
 use Rattle.b3d_compare_list.specs.Changes.{twelve}
 use Rattle.b3d_compare_list.specs.Compare.{Comparison, refused, roomFor, compare, compared, outputAfter, compareAnswer, compareOutput}
+use Rattle.b3d_compare_list.proofs.Bounds.{list-small}
 use Rattle.b3d_compare_list.proofs.Theorem.{both, compares}
-use Rattle.b3d_compare_files.specs.Files.{Judged, filesBytes}
-use Rattle.b3d_compare_files.proofs.Judging.{files-are}
+use Rattle.b3d_compare.specs.Files.{Judged, filesBytes}
+use Rattle.b3d_compare.proofs.Judging.{files-are}
 
 -- ---- `list_into`
 
@@ -27,38 +29,59 @@ unfolding over
 over-none [] xs z = refl
 over-none (c ∷ l) xs z = absurd (omega arith)
 
-module _ (w xs : List ℕ) (n : ℕ) (e : n ≡ length w) where
+-- the list is short enough to be counted
+module _ (a b x y : List ℕ) (v : Judged a x) (w : Judged b y) (ha : AllBytes a) (hb : AllBytes b) where
+  files-small : length (filesBytes a b x y) < 4294967296
+  files-small = omega (arith, ap length (files-are a b x y v w), list-small a b (v .scene) (w .scene) ha hb (v .is) (w .is))
+
+  module _ (xs : List ℕ) where
+    pub dry-fits : Fits false (filesBytes a b x y) 0 xs
+    dry-fits = record { room = omega (arith, files-small); small = omega (arith, files-small) }
+
+    module _ (ys : List ℕ) (n : ℕ) (e : Emits false (filesBytes a b x y) xs 0 ys n) where
+      pub size-small : n < 4294967296
+      size-small = omega (arith, e .to, files-small)
+
+      pub wet-fits : n ≤ length ys → Fits true (filesBytes a b x y) 0 ys
+      wet-fits h = record { room = omega (arith, e .to); small = omega (arith, files-small) }
+
+-- n bytes w were counted, and the output xs is left as it was, as ys
+module _ (w xs ys : List ℕ) (n : ℕ) (e : Emits false w xs 0 ys n) where
+  kept : ys ≡ xs
+  unfolding written
+  kept = e .is
+
+  size-is : n ≡ length w
+  size-is = omega (arith, e .to)
+
   module _ (h : n ≡ 0) where
-    pub none-answer : record { number = 0; which = 0; place = 0; size = 0 } ≡ compared (roomFor (length xs) w)
+    pub none-answer : record { number = 0; place = 0; which = 0; size = 0 } ≡ compared (roomFor (length xs) w)
     unfolding roomFor compared if
-    none-answer = let z : length w ≡ 0 = omega arith in rw (le-leb (length w) (length xs) (omega arith), z)
+    none-answer = let z : length w ≡ 0 = omega (arith, size-is) in rw (le-leb (length w) (length xs) (omega arith), z)
 
-    pub none-kept : xs ≡ outputAfter (roomFor (length xs) w) xs
+    pub none-kept : ys ≡ outputAfter (roomFor (length xs) w) xs
     unfolding roomFor outputAfter if
-    none-kept = rw (le-leb (length w) (length xs) (omega arith)) (over-none w xs (omega arith))
+    none-kept = kept ∙ rw (le-leb (length w) (length xs) (omega (arith, size-is))) (over-none w xs (omega (arith, size-is)))
 
-  module _ (h : length xs < n) where
-    pub short-answer : record { number = 11; which = 0; place = n; size = 0 } ≡ compared (roomFor (length xs) w)
+  module _ (h : length ys < n) where
+    pub short-answer : record { number = 11; place = n; which = 0; size = 0 } ≡ compared (roomFor (length xs) w)
     unfolding roomFor compared if
-    short-answer = rw (lt-leb (length w) (length xs) (omega arith), e)
+    short-answer = rw (lt-leb (length w) (length xs) (omega (arith, size-is, e .long)), size-is)
 
-    pub short-kept : xs ≡ outputAfter (roomFor (length xs) w) xs
+    pub short-kept : ys ≡ outputAfter (roomFor (length xs) w) xs
     unfolding roomFor outputAfter if
-    short-kept = rw (lt-leb (length w) (length xs) (omega arith))
+    short-kept = kept ∙ rw (lt-leb (length w) (length xs) (omega (arith, size-is, e .long)))
 
-  module _ (h : n ≤ length xs) where
-    pub list-room : length w ≤ length xs
-    list-room = omega arith
-
-    pub list-answer : record { number = 0; which = 0; place = 0; size = n } ≡ compared (roomFor (length xs) w)
+  module _ (h : n ≤ length ys) where
+    pub list-answer : record { number = 0; place = 0; which = 0; size = n } ≡ compared (roomFor (length xs) w)
     unfolding roomFor compared if
-    list-answer = rw (le-leb (length w) (length xs) (omega arith), e)
+    list-answer = rw (le-leb (length w) (length xs) (omega (arith, size-is, e .long)), size-is)
 
-    pub list-left : (ys : List ℕ) (m : ℕ) → PutAt w xs 0 ys m → ys ≡ outputAfter (roomFor (length xs) w) xs
-    unfolding roomFor outputAfter if
-    list-left ys m p = rw (le-leb (length w) (length xs) (omega arith)) (p .is ∙ over-all xs w (omega arith))
+    pub list-left : (zs : List ℕ) (m : ℕ) → Emits true w ys 0 zs m → zs ≡ outputAfter (roomFor (length xs) w) xs
+    unfolding roomFor outputAfter if written
+    list-left zs m p = rw (le-leb (length w) (length xs) (omega (arith, size-is, e .long))) (p .is ∙ rw kept (over-all xs w (omega (arith, size-is, e .long))))
 
-pub ruleset list-laws = (none-answer, none-kept, short-answer, short-kept, list-room, list-answer, list-left)
+pub ruleset into-laws = (dry-fits, size-small, wet-fits, none-answer, none-kept, short-answer, short-kept, list-answer, list-left)
 
 -- ---- `compare`
 
@@ -81,7 +104,7 @@ module _ (a b out : List ℕ) where
       first-bad : compare a b (length out) ≡ refused (x .number) (x .place) 1
       first-bad = compares a b (length out) .first (x .number) (x .place) (refused-as a [] (judge Lenient a) refl x ex d .is)
 
-      pub first-refused : record { number = x .number; which = 1; place = x .place; size = 0 } ≡ compareAnswer a b out
+      pub first-refused : record { number = x .number; place = x .place; which = 1; size = 0 } ≡ compareAnswer a b out
       unfolding compared
       first-refused = answered (refused (x .number) (x .place) 1) first-bad _ refl
 
@@ -97,7 +120,7 @@ module _ (a b out : List ℕ) where
               let g = accepted-as a [] (judge Lenient a) refl x ex z in
               compares a b (length out) .second (g .scene) (y .number) (y .place) (g .is) (refused-as b [] (judge Lenient b) refl y ey d .is)
 
-          pub second-refused : record { number = y .number; which = 2; place = y .place; size = 0 } ≡ compareAnswer a b out
+          pub second-refused : record { number = y .number; place = y .place; which = 2; size = 0 } ≡ compareAnswer a b out
           unfolding compared
           second-refused = answered (refused (y .number) (y .place) 2) second-bad _ refl
 

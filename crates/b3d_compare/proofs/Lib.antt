@@ -1,2 +1,4 @@
--- A law for each way through the functions.
+-- The list of two accepted files, and a law for each way through the functions.
+pub mod Judging
+pub mod Filing
 pub mod Comparing

@@ -1,13 +1,11 @@
 -- The entry of a difference between files a and b.
-use Prim.Native.Nat.{ℕ, _+_}
+use Prim.Native.Nat.{ℕ}
 use mathlib.Core.List.{List, [], _++_}
-use lib.ListN.{length}
-use Rattle.groups.specs.Groups.{writeNumbers}
 use Rattle.b3d_compare_list.specs.declared.Difference.{Difference}
 use Rattle.b3d_compare_list.specs.declared.Difference.the-variants.{Wholes, Floats, Texts}
 use Rattle.b3d_compare_list.specs.Changes.{Change}
 use Rattle.b3d_compare_list.specs.Differences.{spanText, firstOf, secondOf}
-use Rattle.b3d_difference.specs.Spans.{Within, entryNumbers}
+use Rattle.b3d_difference.specs.Spans.{Within}
 
 -- spans lie in their files
 abbrev pub Lies : List ℕ → List ℕ → Difference → Type 0
@@ -24,11 +22,3 @@ unfoldable pub textsOf : List ℕ → List ℕ → Difference → List ℕ
 textsOf a b (Wholes x y) = []
 textsOf a b (Floats x y) = []
 textsOf a b (Texts x y) = spanText a x ++ spanText b y
-
-unfoldable pub textsSize : Difference → ℕ
-textsSize (Wholes x y) = 0
-textsSize (Floats x y) = 0
-textsSize (Texts x y) = x .length + y .length
-
-unfoldable pub entrySize : ℕ → ℕ → ℕ → Difference → ℕ
-entrySize k r w d = length (writeNumbers (entryNumbers k r w d) []) + textsSize d

@@ -8,3 +8,5 @@ pub mod WordLaws
 pub mod Walking
 pub mod Naming
 pub mod Cases
+pub mod CellWords
+pub mod Bounds

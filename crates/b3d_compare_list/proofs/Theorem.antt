@@ -20,6 +20,7 @@ use Rattle.b3d_compare_list.proofs.Exact.{listed-exactly}
 use Rattle.b3d_compare_list.proofs.Sizes.{some-byte}
 use Rattle.b3d_compare_list.proofs.Reading.{readable}
 use Rattle.b3d_compare_list.proofs.Naming.{names-told}
+use Rattle.b3d_compare_list.proofs.Bounds.{list-most}
 
 listed-inj : {x y : List ℕ} → listed x ≡ listed y → x ≡ y
 listed-inj e = cc
@@ -70,6 +71,7 @@ module _ (a b : List ℕ) (room : ℕ) where
         list = λ t u e f h. both t u e f ∙ room-yes room (listBytes (changes a b t u)) h;
         says = λ t u e f. listed-exactly a b t u;
         reads = λ t u e f. readable a b t u;
+        most = λ ha hb t u e f. list-most a b t u ha hb e f;
         first-names = names-told a;
         second-names = names-told b;
         same = λ t u e f g. both t u e f ∙ ap (λ (l : List Change). roomFor room (listBytes l)) (listed-exactly a b t u .nothing g) ∙ none;

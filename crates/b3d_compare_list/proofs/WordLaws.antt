@@ -4,7 +4,7 @@ use Prim.Native.Nat.{ℕ, zero, suc, _<_, _≤_}
 use native.Mathlib.Omega.{arith}
 use mathlib.Core.List.{List, [], _∷_}
 use lib.ListN.{length}
-use lib.Dec.{eqb, eqb→eq}
+use lib.Dec.{T, eqb, eqb→eq, leb, leb→le}
 use Rattle.wire.specs.Test.{if}
 use Rattle.layout.proofs.Lists.{All}
 use Rattle.layout.proofs.Outs.{if-case}
@@ -59,3 +59,11 @@ two-long (d ∷ e ∷ l) h i = omega arith
 pub two-words : (k : ℕ) → 0 < wordsOf k → 2 ≤ wordsOf k
 unfolding wordKinds if
 two-words k = two-long (wordKinds k) (kinds-by k Two ((λ e. tt), ((λ e. tt), ((λ e. tt), ((λ e. tt), ((λ e. tt), ((λ e. tt), ((λ e. tt), ((λ e. tt), ((λ e. tt), ((λ e. tt), ((λ e. tt), tt))))))))))) tt)
+
+-- no table is wider than that of the vertices
+abbrev Few : List WordKind → Type 0
+Few l = T (leb (length l) 42)
+
+pub few-words : (k : ℕ) → wordsOf k ≤ 42
+unfolding wordKinds if
+few-words k = leb→le (wordsOf k) 42 (kinds-by k Few ((λ e. tt), ((λ e. tt), ((λ e. tt), ((λ e. tt), ((λ e. tt), ((λ e. tt), ((λ e. tt), ((λ e. tt), ((λ e. tt), ((λ e. tt), ((λ e. tt), tt))))))))))) tt)

@@ -56,7 +56,7 @@ pub record Change : Type 0 where
 
 -- rows x and y of table k, of files a and b, are both row r
 module _ (k : ℕ) (a b : List ℕ) where
-  -- so many words, from w on
+  -- n words from w on
   unfoldable pub wordChanges : ℕ → List ℕ → List ℕ → ℕ → ℕ → List Change
   wordChanges r x y w zero = []
   wordChanges r x y w (suc n) =

@@ -1,5 +1,5 @@
--- What a comparison of two files answers, and what it leaves in the output, on every input. Both are read under the lenient mode: the first file's 1 to 10, then
--- the second's, then 11.
+-- What a comparison of two files answers, and what it leaves in the output, on every input. Both are read under the lenient mode: the first file's 1 to 10,
+-- then the second's, then 11.
 use Prim.Native.Nat.{ℕ}
 use mathlib.Core.List.{List}
 use lib.ListN.{length}

@@ -46,7 +46,7 @@ unfoldable pub takeNumber : ℕ → List ℕ → Option (ℕ × List ℕ)
 takeNumber v [] = none
 takeNumber v (b ∷ s) = if (ltb b 128) (some (v * 128 + b, s)) (takeNumber (v * 128 + (b - 128)) s)
 
--- so many bytes, and those behind them
+-- n bytes, and those behind them; none where there are fewer
 unfoldable pub takeText : ℕ → List ℕ → Option (List ℕ × List ℕ)
 takeText n s = if (leb n (length s)) (some (take n s, drop n s)) none
 
@@ -83,7 +83,7 @@ takeChange s = do
   w ← takeNumber 0 (r .1)
   takeCells (k .0) (r .0) (w .0) (kindAt (k .0) (w .0)) (w .1)
 
--- all entries, at most so many
+-- all entries, at most as many as the first number says
 unfoldable pub readIn : ℕ → List ℕ → Option (List Change)
 readIn zero [] = some []
 readIn zero (b ∷ s) = none

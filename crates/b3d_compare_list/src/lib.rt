@@ -22,12 +22,12 @@ pub enum Difference {
     Texts(Span, Span),
 }
 
-// What a comparison answers: refusal number, file (1 or 2; 0 for the output) and place, or 0, 0 and 0 with the size of the list. A list may be many times as
-// long as the files, so its size has 64 bits.
+// What a comparison answers: a refusal's number, its place and the file that it is of (1 or 2; 0 for the output), or 0, 0 and 0 with the size of the list. The
+// list of two accepted files is shorter than 2^32 bytes (`Compares.most`).
 #[repr(C)]
 pub struct Compared {
     pub number: u32,
+    pub place: u32,
     pub which: u32,
-    pub place: u64,
-    pub size: u64,
+    pub size: u32,
 }

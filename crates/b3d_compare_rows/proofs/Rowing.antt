@@ -1,6 +1,6 @@
--- A law for each way through the functions.
+-- What the entries of two rows are: words that are numbers, names, and both one after the other.
 use mathlib.Core.Path.{_≡_, refl, ap, sym, _∙_, subst}
-use Prim.Native.Nat.{ℕ, zero, suc, _+_, _-_, _*_, _<_, _≤_}
+use Prim.Native.Nat.{ℕ, zero, suc, _+_, _-_, _<_, _≤_}
 use native.Mathlib.Nat.{add-zero, zero-add, sub-zero}
 use native.Mathlib.Omega.{arith}
 use mathlib.Core.Bool.{Bool, true, false, not, _&&_}
@@ -24,23 +24,14 @@ use Rattle.b3d_compare_list.specs.Words.{wordKinds, wordsOf, kindAt}
 use Rattle.b3d_compare_list.specs.Changes.{number, text, sameCell, cellOf, cellAt, Change, wordChanges, rowChanges}
 use Rattle.b3d_compare_list.specs.List.{changeBytes, listBytes}
 use Rattle.b3d_compare_list.specs.Differences.{spanText, firstOf, secondOf, numbersOf}
-use Rattle.b3d_compare_list.proofs.Sizes.{list-length}
-use Rattle.b3d_compare_list.proofs.WordLaws.{kinds-by, three}
+use Rattle.b3d_compare_list.proofs.WordLaws.{few-words, kinds-by, three}
 use Rattle.b3d_difference.specs.Spans.{Within, SpanIs, Clean}
-use Rattle.b3d_compare_entries.specs.Entries.{Lies, changeOf, textsSize, entrySize}
-use Rattle.b3d_compare_entries.proofs.Entering.{entry-long, texts-few}
-use Rattle.b3d_compare_rows.specs.Rows.{wordEntry, Plain, RowSize, nameEntries, NamesAre}
+use Rattle.b3d_compare_entries.specs.Entries.{Lies, changeOf}
+use Rattle.b3d_compare_rows.specs.Rows.{wordEntry, Plain, nameEntries, NamesAre}
 use Rattle.b3d_compare_rows.specs.declared.Names.{Names}
 use Rattle.b3d_compare_rows.specs.declared.Names.the-variants.{Same, Differ}
 
 -- ---- how many words, and of which kind
-
-abbrev Few : List WordKind → Type 0
-Few l = T (leb (length l) 42)
-
-pub few-words : (k : ℕ) → wordsOf k ≤ 42
-unfolding wordKinds if
-few-words k = leb→le (wordsOf k) 42 (kinds-by k Few ((λ e. tt), ((λ e. tt), ((λ e. tt), ((λ e. tt), ((λ e. tt), ((λ e. tt), ((λ e. tt), ((λ e. tt), ((λ e. tt), ((λ e. tt), ((λ e. tt), tt))))))))))) tt)
 
 pub word-small : (k w : ℕ) → w < wordsOf k → w < 4294967296
 word-small k w h = omega (arith, few-words k)
@@ -147,10 +138,6 @@ module _ (f : Bool) (p q : ℕ) (d : Difference) (e : d ≡ numbersOf f p q) whe
   pub numbers-lie : (a b : List ℕ) → Lies a b d
   numbers-lie a b = rw e (numbers-by f p q (Lies a b) (λ x y. tt) tt)
 
-  pub numbers-no-text : textsSize d ≡ 0
-  unfolding textsSize
-  numbers-no-text = rw e (numbers-by f p q (λ c. textsSize c ≡ 0) (λ x y. refl) refl)
-
   pub numbers-change : p < 4294967296 → q < 4294967296 → (a b : List ℕ) (k r w : ℕ)
       → changeOf a b k r w d ≡ record { table = k; row = r; word = w; first = number p; second = number q }
   unfolding changeOf firstOf secondOf
@@ -159,7 +146,7 @@ module _ (f : Bool) (p q : ℕ) (d : Difference) (e : d ≡ numbersOf f p q) whe
       (numbers-by f p q (λ c. changeOf a b k r w c ≡ record { table = k; row = r; word = w; first = number p; second = number q })
       (λ x y. rw (bits-back p hp x, bits-back q hq y)) refl)
 
--- ---- `word_size`
+-- ---- the entry of a word
 
 abbrev pub numberChange : ℕ → ℕ → ℕ → ℕ → ℕ → Change
 numberChange k r w p q = record { table = k; row = r; word = w; first = number p; second = number q }
@@ -181,19 +168,9 @@ unfolding listBytes
 no-bytes = refl
 
 module _ (k r w p q : ℕ) where
-  pub word-same : p ≡ q → RowSize (wordEntry k r w p q) 25 0
-  word-same e = record { is = sym (ap (λ (l : List Change). length (listBytes l)) (entry-none k r w p q e) ∙ ap length no-bytes); few = omega arith }
-
   module _ (h : p ≡ q → ⊥) (hp : p < 4294967296) (hq : q < 4294967296) (f : Bool) (d : Difference) (e : d ≡ numbersOf f p q) where
     pub number-bytes : (a b : List ℕ) → listBytes (wordEntry k r w p q) ≡ changeBytes (changeOf a b k r w d) []
     number-bytes a b = ap listBytes (entry-some k r w p q h) ∙ one-bytes (numberChange k r w p q) ∙ ap (λ (c : Change). changeBytes c []) (sym (numbers-change f p q d e hp hq a b k r w))
-
-    pub word-differs : (n : ℕ) → n ≡ entrySize k r w d → n ≤ 25 + textsSize d → RowSize (wordEntry k r w p q) 25 n
-    word-differs n i l =
-        let z = numbers-no-text f p q d e in
-        record { is = i ∙ entry-long [] [] k r w d (numbers-lie f p q d e [] []) ∙ ap length (sym (number-bytes [] [])); few = omega arith }
-
-pub ruleset word-laws = (word-small, word-same, word-differs, numbers-clean)
 
 -- ---- words one after the other
 
@@ -231,39 +208,7 @@ module _ (k r : ℕ) (x y : List ℕ) where
   unfolding wordChanges
   plain-end w h = let e : wordsOf k - w ≡ 0 = omega arith in rw e
 
-  -- the words from w on are left
-  pub record SizesLeft (from size w : ℕ) : Type 0 where
-    pub plain : Plain k from
-    pub is : size + length (listBytes (plainLeft w)) ≡ length (listBytes (plainLeft from))
-    pub past : from ≤ w
-    pub before : w ≤ wordsOf k
-    pub few : size ≤ 25 * w
-
-  module _ (from : ℕ) (g : Plain k from) where
-    pub sizes-start : SizesLeft from 0 from
-    sizes-start = record { plain = g; is = omega arith; past = omega arith; before = g .start; few = omega arith }
-
-  module _ (from size w : ℕ) (g : SizesLeft from size w) (n : ℕ) (en : n ≡ wordsOf k) where
-    pub sizes-low : w < n → w < wordsOf k
-    sizes-low h = omega arith
-
-    pub sizes-next : w < n → (m : ℕ) → RowSize (wordEntry k r w (getD x w 0) (getD y w 0)) 25 m → SizesLeft from (size + m) (w + 1)
-    sizes-next h m s =
-        let i : w < wordsOf k = omega arith in
-        let z = ap (λ (l : List Change). length (listBytes l)) (plain-step from (g .plain) w (g .past) i) ∙ list-length (wordEntry k r w (getD x w 0) (getD y w 0)) (plainLeft (w + 1)) in
-        record { plain = g .plain; is = omega (arith, g .is, z, s .is); past = omega (arith, g .past); before = omega arith; few = omega (arith, g .few, s .few) }
-
-    pub sizes-sum : w < n → (m : ℕ) → RowSize (wordEntry k r w (getD x w 0) (getD y w 0)) 25 m → size + m < 18446744073709551616
-    sizes-sum h m s = omega (arith, g .few, s .few, few-words k)
-
-    pub sizes-done : n ≤ w → RowSize (wordChanges k [] [] r x y from (wordsOf k - from)) 1050 size
-    sizes-done h =
-        let z = ap (λ (l : List Change). length (listBytes l)) (plain-end w (omega arith)) in
-        record { is = omega (arith, g .is, z, ap length no-bytes); few = omega (arith, g .few, g .before, few-words k) }
-
-pub ruleset sizes-laws = (sizes-start, sizes-low, sizes-next, sizes-sum, sizes-done)
-
--- ---- `name_size`
+-- ---- names
 
 module _ (k : ℕ) (h : 0 < k) (i : k < 4) where
   kind-name : kindAt k 0 ≡ Name
@@ -315,9 +260,9 @@ module _ (a b x y : List ℕ) (s t : Span) (hs : SpanIs a (getD x 0 0) (getD x 1
     unfolding nameEntries
     names-same g = record { is = λ k r h i. no-name k h i a b x y r s t hs ht f e g; fine = tt }
 
-    pub names-differ : f ≡ false → s .length < 4294967296 → t .length < 4294967296 → NamesAre a b x y (Differ (Texts s t))
+    pub names-differ : f ≡ false → NamesAre a b x y (Differ (Texts s t))
     unfolding nameEntries
-    names-differ g ls lt = record { is = λ k r h i. a-name k h i a b x y r s t hs ht f e g; fine = (tt, (hs .lies, ht .lies), texts-few s t ls lt) }
+    names-differ g = record { is = λ k r h i. a-name k h i a b x y r s t hs ht f e g; fine = (tt, (hs .lies, ht .lies)) }
 
 pub ruleset names-laws = (first-lies, second-lies, names-same, names-differ)
 
@@ -332,9 +277,6 @@ module _ (k r : ℕ) (h : 0 < k) (i : k < 4) (a b x y : List ℕ) (n : Names) (g
     unfolding nameEntries
     differ-bytes = ap listBytes (g .is k r h i ∙ rw e) ∙ one-bytes (changeOf a b k r 0 d)
 
-  pub name-none : n ≡ Same → RowSize (wordChanges k a b r x y 0 2) 8589934615 0
-  name-none e = record { is = sym (ap length (same-bytes e)); few = omega arith }
-
 module _ (a b x y : List ℕ) (n : Names) (g : NamesAre a b x y n) (d : Difference) (e : n ≡ Differ d) where
   pub name-clean : Clean d
   name-clean = (rw e at (g .fine)) .0
@@ -342,16 +284,7 @@ module _ (a b x y : List ℕ) (n : Names) (g : NamesAre a b x y n) (d : Differen
   pub name-lies : Lies a b d
   name-lies = (rw e at (g .fine)) .1
 
-  name-few : textsSize d ≤ 8589934590
-  name-few = (rw e at (g .fine)) .2
-
-  pub name-size-is : (k r : ℕ) → 0 < k → k < 4 → (m : ℕ) → m ≡ entrySize k r 0 d → m ≤ 25 + textsSize d → RowSize (wordChanges k a b r x y 0 2) 8589934615 m
-  name-size-is k r h i m em fm =
-      record { is = em ∙ entry-long a b k r 0 d name-lies ∙ ap length (sym (differ-bytes k r h i a b x y n g d e)); few = omega (arith, name-few) }
-
-pub ruleset name-laws = (two-long, name-none, name-clean, name-size-is)
-
--- ---- `row_size`
+-- ---- a row
 
 module _ (k r : ℕ) (a b x y : List ℕ) where
   put-off : (c : Bool) (ch : Change) (l m : List Change) → if c (l ++ m) (ch ∷ (l ++ m)) ≡ if c l (ch ∷ l) ++ m
@@ -381,33 +314,3 @@ module _ (k r : ℕ) (a b x y : List ℕ) where
       let e : wordsOf k ≡ 2 + (wordsOf k - 2) = omega (arith, two-words k h i) in
       ap (wordChanges k a b r x y 0) e ∙ words-split 2 (wordsOf k - 2) 0
       ∙ ap (λ (l : List Change). wordChanges k a b r x y 0 2 ++ l) (plain-any k r x y 2 (plain-named k h i) a b (wordsOf k - 2) 2 (omega arith) (omega (arith, two-words k h i)))
-
-  row-size-of : (l : List Change) → rowChanges k a b r x y ≡ l → (m n : ℕ) → m ≤ 8589935665 → RowSize l m n → RowSize (rowChanges k a b r x y) 8589935665 n
-  row-size-of l e m n h s = record { is = s .is ∙ ap (λ (t : List Change). length (listBytes t)) (sym e); few = omega (arith, s .few) }
-
-  module _ (n : ℕ) (s : RowSize (wordChanges k [] [] r x y 0 (wordsOf k - 0)) 1050 n) where
-    pub row-size-zero : k ≡ 0 → RowSize (rowChanges k a b r x y) 8589935665 n
-    row-size-zero e = row-size-of _ (row-plain (plain-zero k e)) 1050 n (lit≤ tt) s
-
-    pub row-size-high : 4 ≤ k → RowSize (rowChanges k a b r x y) 8589935665 n
-    row-size-high h = row-size-of _ (row-plain (plain-high k h)) 1050 n (lit≤ tt) s
-
-  module _ (h : k ≡ 0 → ⊥) (i : k < 4) where
-    pub named-low : 0 < k
-    named-low = omega arith
-
-    pub named-plain : Plain k 2
-    named-plain = plain-named k (omega arith) i
-
-    module _ (m : ℕ) (s : RowSize (wordChanges k a b r x y 0 2) 8589934615 m) (n : ℕ) (t : RowSize (wordChanges k [] [] r x y 2 (wordsOf k - 2)) 1050 n) where
-      pub named-sum : m + n < 18446744073709551616
-      named-sum = omega (arith, s .few, t .few)
-
-      pub row-size-named : RowSize (rowChanges k a b r x y) 8589935665 (m + n)
-      row-size-named =
-          let l = wordChanges k a b r x y 0 2 in
-          let v = wordChanges k [] [] r x y 2 (wordsOf k - 2) in
-          let z = ap (λ (u : List Change). length (listBytes u)) (row-named (omega arith) i) ∙ list-length l v in
-          record { is = omega (arith, z, s .is, t .is); few = omega (arith, s .few, t .few) }
-
-pub ruleset row-laws = (plain-zero, plain-high, row-size-zero, row-size-high, named-low, named-plain, named-sum, row-size-named)

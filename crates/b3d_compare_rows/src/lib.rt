@@ -1,53 +1,81 @@
-// What differs between two rows of one table, row r of both files: how many bytes it takes in the list. The twelve numbers are the one row of table 0.
+// What differs between two rows of one table, row r of both files, as entries that are put into a lent output from a place on, or only counted. The twelve
+// numbers are the one row of table 0.
 ghost use mathlib.Core.Path.{_≡_};
 ghost use Prim.Native.Nat.{_-_, _<_, _≤_};
 ghost use mathlib.Core.List.{[]};
 ghost use lib.ListN.{length};
+ghost use Rattle.shared_put_or_count.specs.Emits.{Fits, Emits};
 ghost use Rattle.b3d_compare_list.specs.Words.{wordsOf};
 ghost use Rattle.b3d_compare_list.specs.Changes.{wordChanges, rowChanges};
-ghost use Rattle.b3d_compare_rows.specs.Rows.{wordEntry, Plain, NamesAre, RowSize};
+ghost use Rattle.b3d_compare_list.specs.List.{listBytes};
+ghost use Rattle.b3d_compare_rows.specs.Rows.{wordEntry, Plain, NamesAre};
 use b3d_compare_list::Difference;
 
 // How many words a row of each table has.
 const WORDS: [usize; 11] = [12, 9, 17, 21, 9, 42, 4, 3, 2, 4, 11];
 
 // How many words a row of table k has.
-pub fn words_of(k: usize) -> usize
+fn words_of(k: usize) -> usize
     requires { ⌜ k ≤ 10 ⌝ }
     ensures { λ n. ⌜ (n ≡ wordsOf k) × (n ≤ 42) ⌝ }
 {
     WORDS[k]
 }
 
-// How many bytes the entry of word w takes, a number p in the first file and q in the second.
-fn word_size(k: usize, r: u32, w: usize, p: u32, q: u32) -> usize
+// Puts or counts the entry of word w, a number p in the first file and q in the second, none where they are the same. Gives the place after it.
+fn put_word(
+    a: &[u8],
+    b: &[u8],
+    k: usize,
+    r: u32,
+    w: usize,
+    p: u32,
+    q: u32,
+    wet: bool,
+    out: &mut [u8],
+    at: usize,
+) -> usize
     requires { ⌜ k ≤ 10 ⌝ }
     requires { ⌜ w < wordsOf k ⌝ }
-    ensures { λ n. ⌜ RowSize (wordEntry k r w p q) 25 n ⌝ }
+    requires { ⌜ Fits wet (listBytes (wordEntry k r w p q)) at (now out) ⌝ }
+    ensures { λ n. ⌜ Emits wet (listBytes (wordEntry k r w p q)) (now (out .entry)) at (now (out .exit)) n ⌝ }
 {
     if p == q {
-        return 0;
+        return at;
     }
     let d = b3d_difference::numbers(k, w, p, q);
-    b3d_compare_entries::entry_size(k as u32, r, w as u32, d)
+    b3d_compare_entries::put_entry(a, b, k as u32, r, w as u32, d, wet, out, at)
 }
 
-// How many bytes the entries of the words from `from` on take, all of them numbers.
-fn plain_size(x: &[u32], y: &[u32], k: usize, r: u32, from: usize) -> usize
+// Puts or counts the entries of the words from `from` on, all of them numbers, of rows x and y. Gives the place after them.
+fn put_plain(
+    a: &[u8],
+    b: &[u8],
+    x: &[u32],
+    y: &[u32],
+    k: usize,
+    r: u32,
+    from: usize,
+    wet: bool,
+    out: &mut [u8],
+    at: usize,
+) -> usize
     requires { ⌜ k ≤ 10 ⌝ }
     requires { ⌜ wordsOf k ≤ length (now x) ⌝ }
     requires { ⌜ wordsOf k ≤ length (now y) ⌝ }
     requires { ⌜ Plain k from ⌝ }
-    ensures { λ n. ⌜ RowSize (wordChanges k [] [] r (now (x .entry)) (now (y .entry)) from (wordsOf k - from)) 1050 n ⌝ }
+    requires { ⌜ Fits wet (listBytes (wordChanges k [] [] r (now x) (now y) from (wordsOf k - from))) at (now out) ⌝ }
+    ensures { λ n. ⌜ Emits wet (listBytes (wordChanges k [] [] r (now (x .entry)) (now (y .entry)) from (wordsOf k - from))) (now (out .entry)) at
+        (now (out .exit)) n ⌝ }
 {
     let n = words_of(k);
-    let mut size: usize = 0;
+    let mut next = at;
     let mut w = from;
     while w < n {
-        size += word_size(k, r, w, x[w], y[w]);
+        next = put_word(a, b, k, r, w, x[w], y[w], wet, out, next);
         w += 1;
     }
-    size
+    next
 }
 
 // The names of two rows: the same text, or two.
@@ -56,8 +84,8 @@ pub enum Names {
     Differ(Difference),
 }
 
-// The names of two rows that begin with one.
-pub fn row_names(a: &[u8], b: &[u8], x: &[u32], y: &[u32]) -> Names
+// The names of rows x and y, each of which begins with the place and the length of one.
+fn row_names(a: &[u8], b: &[u8], x: &[u32], y: &[u32]) -> Names
     requires { ⌜ 2 ≤ length (now x) ⌝ }
     requires { ⌜ 2 ≤ length (now y) ⌝ }
     ensures { λ n. ⌜ NamesAre (now (a .entry)) (now (b .entry)) (now (x .entry)) (now (y .entry)) n ⌝ }
@@ -70,32 +98,73 @@ pub fn row_names(a: &[u8], b: &[u8], x: &[u32], y: &[u32]) -> Names
     Names::Differ(Difference::Texts(s, t))
 }
 
-// How many bytes the entry of a row's name takes.
-fn name_size(a: &[u8], b: &[u8], x: &[u32], y: &[u32], k: usize, r: u32) -> usize
+// Puts or counts the entry of the names of rows x and y, none where they are the same. Gives the place after it.
+fn put_name(
+    a: &[u8],
+    b: &[u8],
+    x: &[u32],
+    y: &[u32],
+    k: usize,
+    r: u32,
+    wet: bool,
+    out: &mut [u8],
+    at: usize,
+) -> usize
     requires { ⌜ (0 < k) × (k < 4) ⌝ }
     requires { ⌜ wordsOf k ≤ length (now x) ⌝ }
     requires { ⌜ wordsOf k ≤ length (now y) ⌝ }
-    ensures { λ n. ⌜ RowSize (wordChanges k (now (a .entry)) (now (b .entry)) r (now (x .entry)) (now (y .entry)) 0 2) 8589934615 n ⌝ }
+    requires { ⌜ Fits wet (listBytes (wordChanges k (now a) (now b) r (now x) (now y) 0 2)) at (now out) ⌝ }
+    ensures { λ n. ⌜ Emits wet (listBytes (wordChanges k (now (a .entry)) (now (b .entry)) r (now (x .entry)) (now (y .entry)) 0 2)) (now (out .entry)) at
+        (now (out .exit)) n ⌝ }
 {
     let n = row_names(a, b, x, y);
     match n {
-        Names::Same => 0,
-        Names::Differ(d) => b3d_compare_entries::entry_size(k as u32, r, 0, d),
+        Names::Same => at,
+        Names::Differ(d) => b3d_compare_entries::put_entry(a, b, k as u32, r, 0, d, wet, out, at),
     }
 }
 
-// How many bytes the entries of two rows take.
-pub fn row_size(a: &[u8], b: &[u8], x: &[u32], y: &[u32], k: usize, r: u32) -> usize
+// Puts or counts the entries of rows x and y of table k, row r of both files. Gives the place after them.
+pub fn put_row(
+    a: &[u8],
+    b: &[u8],
+    x: &[u32],
+    y: &[u32],
+    k: usize,
+    r: u32,
+    wet: bool,
+    out: &mut [u8],
+    at: usize,
+) -> usize
     requires { ⌜ k ≤ 10 ⌝ }
     requires { ⌜ wordsOf k ≤ length (now x) ⌝ }
     requires { ⌜ wordsOf k ≤ length (now y) ⌝ }
-    ensures { λ n. ⌜ RowSize (rowChanges k (now (a .entry)) (now (b .entry)) r (now (x .entry)) (now (y .entry))) 8589935665 n ⌝ }
+    requires { ⌜ Fits wet (listBytes (rowChanges k (now a) (now b) r (now x) (now y))) at (now out) ⌝ }
+    ensures { λ n. ⌜ Emits wet (listBytes (rowChanges k (now (a .entry)) (now (b .entry)) r (now (x .entry)) (now (y .entry)))) (now (out .entry)) at
+        (now (out .exit)) n ⌝ }
 {
     if k == 0 {
-        return plain_size(x, y, k, r, 0);
+        return put_plain(a, b, x, y, k, r, 0, wet, out, at);
     }
     if 4 <= k {
-        return plain_size(x, y, k, r, 0);
+        return put_plain(a, b, x, y, k, r, 0, wet, out, at);
     }
-    name_size(a, b, x, y, k, r) + plain_size(x, y, k, r, 2)
+    let next = put_name(a, b, x, y, k, r, wet, out, at);
+    put_plain(a, b, x, y, k, r, 2, wet, out, next)
+}
+
+// Puts or counts the entries of version, n_texs and the ten counts of both files, row 0 of table 0. Gives the place after them.
+pub fn put_twelve(
+    a: &[u8],
+    b: &[u8],
+    x: [u32; 12],
+    y: [u32; 12],
+    wet: bool,
+    out: &mut [u8],
+    at: usize,
+) -> usize
+    requires { ⌜ Fits wet (listBytes (rowChanges 0 (now a) (now b) 0 x y)) at (now out) ⌝ }
+    ensures { λ n. ⌜ Emits wet (listBytes (rowChanges 0 (now (a .entry)) (now (b .entry)) 0 x y)) (now (out .entry)) at (now (out .exit)) n ⌝ }
+{
+    put_row(a, b, &x, &y, 0, 0, wet, out, at)
 }

@@ -22,9 +22,9 @@ use Rattle.b3d_same_items.specs.SameItems.{RowsSame, SameItems, placePast}
 use Rattle.b3d_same_items.proofs.Passing.{above-four, rows-past, place-past}
 use Rattle.b3d_compare_list.specs.Changes.{Change, sameCell, wordChanges, rowChanges, tableChanges}
 use Rattle.b3d_compare_list.specs.List.{listBytes}
-use Rattle.b3d_compare_list.proofs.WordLaws.{widths}
-use Rattle.b3d_compare_rows.proofs.Rowing.{few-words, plain-high}
-use Rattle.b3d_compare_put.proofs.TableLaws.{come-step, come-end}
+use Rattle.b3d_compare_list.proofs.WordLaws.{widths, few-words}
+use Rattle.b3d_compare_rows.proofs.Rowing.{plain-high}
+use Rattle.b3d_compare_tables.proofs.TableLaws.{come-step, come-end}
 use Rattle.b3d_compare_tables.specs.Tables.{Comparable, bytesFrom, tableBytes, Onward}
 
 -- ---- widths

@@ -1,86 +1,81 @@
 -- A law for each way through the functions.
-use mathlib.Core.Path.{_≡_, ap, _∙_}
-use Prim.Native.Nat.{ℕ, _+_, _*_, _<_, _≤_}
+use mathlib.Core.Path.{_≡_, refl, ap, sym, _∙_}
+use Prim.Native.Nat.{ℕ, _+_, _≤_}
 use native.Mathlib.Omega.{arith}
-use mathlib.Core.List.{List}
-use lib.ListN.{length, length-append}
+use mathlib.Core.Bool.{Bool}
+use mathlib.Core.List.{List, [], _++_}
+use lib.ListN.{length}
+use Rattle.emit.proofs.Joining.{Both}
+use Rattle.shared_put_or_count.specs.Emits.{Fits, Emits}
+use Rattle.shared_put_or_count.proofs.Putting.{emits-none, fits-first, Left, left-none, left-done, left-next}
 use Rattle.b3d_next_node.specs.declared.Place.{Place}
 use Rattle.b3d_next_row.specs.NextRow.{PlaceAt, Starts, RowNext}
+use Rattle.b3d_same_items.specs.declared.Run.{Run}
+use Rattle.b3d_same_items.specs.SameItems.{SameItems, placePast}
 use Rattle.b3d_compare_list.specs.Changes.{rowChanges}
 use Rattle.b3d_compare_list.specs.List.{listBytes}
-use Rattle.b3d_compare_rows.specs.Rows.{RowSize}
-use Rattle.b3d_same_items.specs.declared.Run.{Run}
-use Rattle.b3d_same_items.specs.SameItems.{RowsSame, SameItems, placePast}
 use Rattle.b3d_compare_tables.specs.declared.Turn.{Turn}
-use Rattle.b3d_compare_tables.specs.Tables.{Comparable, bytesFrom, tableBytes, SizeTurn, TableSize}
-use Rattle.b3d_compare_tables.proofs.Places.{step-is, step-on, BothLeft, both-start, start-bytes, end-bytes, end-row, both-next, pass-is, pass-on}
+use Rattle.b3d_compare_tables.specs.Tables.{Comparable, bytesFrom, tableBytes, PutTurn}
+use Rattle.b3d_compare_tables.proofs.Places.{step-is, step-on, BothLeft, both-start, start-bytes, end-bytes, both-next, pass-is, pass-on}
 
--- ---- `size_turn`
+-- ---- `put_turn`
 
-pub turn-is : (k : ℕ) (lo : 1 ≤ k) (hi : k ≤ 10) (a b : List ℕ) (x y : Place) (p q : List ℕ) (hp : 42 ≤ length p) (hq : 42 ≤ length q) (p′ q′ : List ℕ) (first second : Place)
-    (na : RowNext k a x p p′ first) (nb : RowNext k b y q q′ second) (kk : ℕ) (ek : kk ≡ k) (r m : ℕ)
-    → RowSize (rowChanges kk a b r p′ q′) 8589935665 m → SizeTurn k r a b x y p q p′ q′ (record { first = first; second = second; rows = 1; size = m })
-turn-is k lo hi a b x y p q hp hq p′ q′ first second na nb kk ek r m s =
-    let e : m ≡ length (listBytes (rowChanges k a b r p′ q′)) = s .is ∙ ap (λ (j : ℕ). length (listBytes (rowChanges j a b r p′ q′))) ek in
-    let z = ap length (step-is k lo hi a b x y p q hp hq p′ q′ first second na nb r) ∙ length-append (listBytes (rowChanges k a b r p′ q′)) (bytesFrom k a b (r + 1) first second) in
-    record { on = step-on k lo hi a b x y p q hp hq p′ q′ first second na nb; is = omega (arith, z, e); few = s .few }
+module _ (k : ℕ) (lo : 1 ≤ k) (hi : k ≤ 10) (a b : List ℕ) (x y : Place) (p q : List ℕ) (hp : 42 ≤ length p) (hq : 42 ≤ length q) (p′ q′ : List ℕ) (first second : Place)
+    (na : RowNext k a x p p′ first) (nb : RowNext k b y q q′ second) (kk : ℕ) (ek : kk ≡ k) (r : ℕ) (wet : Bool) (xs : List ℕ) (at : ℕ) where
+  here-is : Both (bytesFrom k a b r x y) (listBytes (rowChanges kk a b r p′ q′)) (bytesFrom k a b (r + 1) first second)
+  here-is = record { is = step-is k lo hi a b x y p q hp hq p′ q′ first second na nb r ∙ ap (λ (j : ℕ). listBytes (rowChanges j a b r p′ q′) ++ bytesFrom k a b (r + 1) first second) (sym ek) }
 
--- ---- `size_rows`
+  pub turn-fits : Fits wet (bytesFrom k a b r x y) at xs → Fits wet (listBytes (rowChanges kk a b r p′ q′)) at xs
+  turn-fits f = fits-first here-is wet xs at f
 
-module _ (k : ℕ) (a b : List ℕ) (x y : Place) (t : Run) (s : SameItems k a b (x .spot .items) (y .spot .items) t) (h : t .count ≡ 0 → ⊥) where
-  run-same : RowsSame k a b (x .spot .items) (y .spot .items) t
-  run-same = s .is (omega arith)
+  pub turn-puts : (ys : List ℕ) (n : ℕ) → Emits wet (listBytes (rowChanges kk a b r p′ q′)) xs at ys n
+      → PutTurn k r a b x y p q p′ q′ wet xs at ys (record { first = first; second = second; rows = 1; next = n })
+  turn-puts ys n s = record { on = step-on k lo hi a b x y p q hp hq p′ q′ first second na nb; here = listBytes (rowChanges kk a b r p′ q′); is = here-is; put = s }
 
-  pub run-turn : (r : ℕ) → PlaceAt k a x → PlaceAt k b y → (p q : List ℕ) (first second : Place) → first ≡ placePast (t .bytes) x → second ≡ placePast (t .bytes) y
-      → SizeTurn k r a b x y p q p q (record { first = first; second = second; rows = t .count; size = 0 })
-  run-turn r ax by p q first second e f =
-      rw (e, f)
-      (record {
-        on = pass-on k a b x y t run-same (omega arith) ax by p q;
-        is = omega (arith, ap length (pass-is k a b x y t run-same r));
-        few = omega arith;
-      })
+-- ---- `put_rows`
 
--- ---- `table_size`
+pub run-turn : (k : ℕ) (a b : List ℕ) (x y : Place) (t : Run) → SameItems k a b (x .spot .items) (y .spot .items) t → (t .count ≡ 0 → ⊥)
+    → (r : ℕ) → PlaceAt k a x → PlaceAt k b y → (p q : List ℕ) (first second : Place) → first ≡ placePast (t .bytes) x → second ≡ placePast (t .bytes) y
+    → (wet : Bool) (xs : List ℕ) (at : ℕ) → PutTurn k r a b x y p q p q wet xs at xs (record { first = first; second = second; rows = t .count; next = at })
+run-turn k a b x y t s h r ax by p q first second e f wet xs at =
+    let v = s .is (omega arith) in
+    rw (e, f) (record { on = pass-on k a b x y t v (omega arith) ax by p q; here = []; is = record { is = pass-is k a b x y t v r }; put = emits-none wet [] xs at refl })
 
--- rows from r on are left
-pub record RowsLeft (k rows : ℕ) (a b p₀ q₀ p q : List ℕ) (x y : Place) (size r : ℕ) : Type 0 where
+-- ---- `put_table`
+
+-- rows from r on are left; so far the output is ys
+pub record PutLeft (k rows : ℕ) (a b p₀ q₀ p q : List ℕ) (x y : Place) (wet : Bool) (xs : List ℕ) (at : ℕ) (ys : List ℕ) (next r : ℕ) : Type 0 where
   pub both : BothLeft k rows a b p₀ q₀ p q x y r
-  pub is : size + length (bytesFrom k a b r x y) ≡ length (tableBytes k a b)
-  pub few : size ≤ 8589935665 * r
+  pub left : Left wet (tableBytes k a b) xs at ys next (bytesFrom k a b r x y)
 
-module _ (k rows : ℕ) (a b p₀ q₀ : List ℕ) where
-  pub left-start : Comparable k rows a → Comparable k rows b → rows ≤ 2097151 → 42 ≤ length p₀ → 42 ≤ length q₀ → (x y : Place) → Starts k a x → Starts k b y → RowsLeft k rows a b p₀ q₀ p₀ q₀ x y 0 0
-  left-start va vb m hp hq x y sa sb =
+module _ (k rows : ℕ) (a b p₀ q₀ : List ℕ) (wet : Bool) (xs : List ℕ) (at : ℕ) where
+  pub left-start : Comparable k rows a → Comparable k rows b → rows ≤ 2097151 → 42 ≤ length p₀ → 42 ≤ length q₀ → Fits wet (tableBytes k a b) at xs → (x y : Place) → Starts k a x → Starts k b y
+      → PutLeft k rows a b p₀ q₀ p₀ q₀ x y wet xs at xs at 0
+  left-start va vb m hp hq f x y sa sb =
       record {
         both = both-start k rows a b p₀ q₀ x y sa sb va vb m hp hq;
-        is = omega (arith, ap length (start-bytes k rows a b p₀ q₀ x y sa sb));
-        few = omega arith;
+        left = rw (start-bytes k rows a b p₀ q₀ x y sa sb) (left-none wet (tableBytes k a b) xs at f);
       }
 
-  module _ (p q : List ℕ) (x y : Place) (size r : ℕ) (g : RowsLeft k rows a b p₀ q₀ p q x y size r) where
+  module _ (p q : List ℕ) (x y : Place) (ys : List ℕ) (next r : ℕ) (g : PutLeft k rows a b p₀ q₀ p q x y wet xs at ys next r) where
     pub left-kept : length p ≡ length p₀
     left-kept = g .both .first-same
 
     pub left-kept-2 : length q ≡ length q₀
     left-kept-2 = g .both .second-same
 
-    pub left-done : rows ≤ r → TableSize k rows a b size
-    left-done h =
-        let z = ap length (end-bytes k rows a b p₀ q₀ p q x y r (g .both) h) in
-        let e : r ≡ rows = end-row k rows a b p₀ q₀ p q x y r (g .both) h in
-        record { is = omega (arith, g .is, z); few = rw e at (g .few) }
+    pub left-same : length ys ≡ length xs
+    left-same = g .left .put .long
 
-    module _ (h : r < rows) (p′ q′ : List ℕ) (t : Turn) (s : SizeTurn k r a b x y p q p′ q′ t) where
-      pub left-sum : size + t .size < 18446744073709551616
-      left-sum = omega (arith, g .few, s .few, g .both .most)
+    pub left-ends : rows ≤ r → Emits wet (tableBytes k a b) xs at ys next
+    left-ends h = left-done wet (tableBytes k a b) xs at ys next (bytesFrom k a b r x y) (g .left) (end-bytes k rows a b p₀ q₀ p q x y r (g .both) h)
 
-      pub left-next : RowsLeft k rows a b p₀ q₀ p′ q′ (t .first) (t .second) (size + t .size) (r + t .rows)
-      left-next =
-          record {
-            both = both-next k rows a b p₀ q₀ p q x y r (g .both) (t .first) (t .second) p′ q′ (t .rows) (s .on);
-            is = omega (arith, g .is, s .is);
-            few = omega (arith, g .few, s .few, s .on .some);
-          }
+    pub left-turns : (p′ q′ zs : List ℕ) (t : Turn) (s : PutTurn k r a b x y p q p′ q′ wet ys next zs t)
+        → PutLeft k rows a b p₀ q₀ p′ q′ (t .first) (t .second) wet xs at zs (t .next) (r + t .rows)
+    left-turns p′ q′ zs t s =
+        record {
+          both = both-next k rows a b p₀ q₀ p q x y r (g .both) (t .first) (t .second) p′ q′ (t .rows) (s .on);
+          left = left-next wet (tableBytes k a b) xs at ys next (bytesFrom k a b r x y) (g .left) (s .here) (bytesFrom k a b (r + t .rows) (t .first) (t .second)) (s .is) zs (t .next) (s .put);
+        }
 
-pub ruleset left-laws = (left-start, left-done, left-kept, left-kept-2)
+pub ruleset left-laws = (left-start, left-ends, left-kept, left-kept-2, left-same)

@@ -1,8 +1,11 @@
 -- Two tables row by row.
 use mathlib.Core.Path.{_≡_}
-use Prim.Native.Nat.{ℕ, _+_, _*_, _<_, _≤_}
+use Prim.Native.Nat.{ℕ, _+_, _<_, _≤_}
+use mathlib.Core.Bool.{Bool}
 use mathlib.Core.List.{List, []}
 use lib.ListN.{length}
+use Rattle.emit.proofs.Joining.{Both}
+use Rattle.shared_put_or_count.specs.Emits.{Emits}
 use Rattle.b3d_file_rows.specs.Flat.{flatAt}
 use Rattle.b3d_file_rows.specs.Rows.{fileRows}
 use Rattle.b3d_next_node.specs.NextNode.{Shallow}
@@ -12,13 +15,17 @@ use Rattle.b3d_compare_list.specs.Changes.{tableChanges}
 use Rattle.b3d_compare_list.specs.List.{listBytes}
 use Rattle.b3d_compare_tables.specs.declared.Turn.{Turn}
 
--- a file with so many rows in table k, of nodes that nest at most 16 deep
+-- a file whose table k has this number of rows, and whose nodes nest at most 16 deep
 pub record Comparable (k rows : ℕ) (s : List ℕ) : Type 0 where
+  -- the table is one of the ten
   pub low : 1 ≤ k
   pub high : k ≤ 10
+  -- the file has its header and its version, and places of four bytes
   pub long : 12 ≤ length s
   pub small : length s < 0x100000000
+  -- no node lies deeper
   pub deep : Shallow 0 [] (flatAt s 12)
+  -- the number of its rows
   pub count : length (fileRows k s) ≡ rows
 
 -- the entries of table k of two files
@@ -31,19 +38,25 @@ bytesFrom k a b r x y = listBytes (tableChanges k a b r (rowsFrom k a x) (rowsFr
 
 -- n rows of each were passed: places x and y became x′ and y′, the rows p and q, into which words may have been read, p′ and q′
 pub record Onward (k : ℕ) (a b : List ℕ) (x y x′ y′ : Place) (p q p′ q′ : List ℕ) (n : ℕ) : Type 0 where
+  -- at least one
   pub some : 1 ≤ n
+  -- both are places of their files
   pub first-at : PlaceAt k a x′
   pub second-at : PlaceAt k b y′
+  -- n rows fewer are to come
   pub first-on : length (rowsFrom k a x) ≡ n + length (rowsFrom k a x′)
   pub second-on : length (rowsFrom k b y) ≡ n + length (rowsFrom k b y′)
+  -- the rows to read into are as long as they were
   pub first-kept : length p′ ≡ length p
   pub second-kept : length q′ ≡ length q
 
-pub record SizeTurn (k r : ℕ) (a b : List ℕ) (x y : Place) (p q p′ q′ : List ℕ) (t : Turn) : Type 0 where
+-- the entries of some rows of both were put or counted from `at` on, and the places moved past these rows
+pub record PutTurn (k r : ℕ) (a b : List ℕ) (x y : Place) (p q p′ q′ : List ℕ) (wet : Bool) (xs : List ℕ) (at : ℕ) (ys : List ℕ) (t : Turn) : Type 0 where
+  -- the rows that were passed
   pub on : Onward k a b x y (t .first) (t .second) p q p′ q′ (t .rows)
-  pub is : length (bytesFrom k a b r x y) ≡ t .size + length (bytesFrom k a b (r + t .rows) (t .first) (t .second))
-  pub few : t .size ≤ 8589935665
-
-pub record TableSize (k rows : ℕ) (a b : List ℕ) (n : ℕ) : Type 0 where
-  pub is : n ≡ length (tableBytes k a b)
-  pub few : n ≤ 8589935665 * rows
+  -- their entries
+  pub here : List ℕ
+  -- these come first of what was to come
+  pub is : Both (bytesFrom k a b r x y) here (bytesFrom k a b (r + t .rows) (t .first) (t .second))
+  -- and were put, or counted
+  pub put : Emits wet here xs at ys (t .next)

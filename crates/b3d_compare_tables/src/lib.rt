@@ -1,20 +1,21 @@
-// What differs between two files in one table: how many bytes it takes in the list, row by row, with no table lent.
+// What differs between two files in one table, row by row with no table lent, as entries that are put into a lent output from a place on, or only counted.
 ghost use Prim.Native.Nat.{_<_, _≤_};
 ghost use lib.ListN.{length};
+ghost use Rattle.shared_put_or_count.specs.Emits.{Fits, Emits};
 ghost use Rattle.b3d_next_row.specs.NextRow.{rowsFrom, PlaceAt};
-ghost use Rattle.b3d_compare_tables.specs.Tables.{Comparable, SizeTurn, TableSize};
+ghost use Rattle.b3d_compare_tables.specs.Tables.{Comparable, bytesFrom, tableBytes, PutTurn};
 use b3d_next_node::Place;
 
-// The places behind some rows of both files, how many these are, and how many bytes their entries take.
+// Where a turn ends: the places behind some rows of both files, how many these are, and the place in the output behind their entries.
 pub struct Turn {
     pub first: Place,
     pub second: Place,
     pub rows: usize,
-    pub size: usize,
+    pub next: usize,
 }
 
-// The next row of both files, row r of table k; p and q are rows to read into.
-fn size_turn(
+// Puts or counts the entries of the next row of both files, row r of table k; p and q are rows to read into.
+fn put_turn(
     a: &[u8],
     b: &[u8],
     k: u32,
@@ -23,23 +24,30 @@ fn size_turn(
     y: Place,
     p: &mut [u32],
     q: &mut [u32],
+    wet: bool,
+    out: &mut [u8],
+    at: usize,
 ) -> Turn
-    requires { ⌜ (1 ≤ k) × (k ≤ 10) × PlaceAt k (now a) x × (0 < length (rowsFrom k (now a) x)) × (42 ≤ length (now p)) × PlaceAt k (now b) y × (0 < length (rowsFrom k (now b) y)) × (42 ≤ length (now q)) ⌝ }
-    ensures { λ t. ⌜ SizeTurn k r (now (a .entry)) (now (b .entry)) x y (now (p .entry)) (now (q .entry)) (now (p .exit)) (now (q .exit)) t ⌝ }
+    requires { ⌜ (1 ≤ k) × (k ≤ 10) × PlaceAt k (now a) x × (0 < length (rowsFrom k (now a) x)) × (42 ≤ length (now p))
+        × PlaceAt k (now b) y × (0 < length (rowsFrom k (now b) y)) × (42 ≤ length (now q))
+        × Fits wet (bytesFrom k (now a) (now b) r x y) at (now out) ⌝ }
+    ensures { λ t. ⌜ PutTurn k r (now (a .entry)) (now (b .entry)) x y (now (p .entry)) (now (q .entry)) (now (p .exit)) (now (q .exit))
+        wet (now (out .entry)) at (now (out .exit)) t ⌝ }
 {
     let first = b3d_next_row::next_row(a, k, x, p);
     let second = b3d_next_row::next_row(b, k, y, q);
-    let size = b3d_compare_rows::row_size(a, b, p, q, wire::size(k), r);
+    let next = b3d_compare_rows::put_row(a, b, p, q, wire::size(k), r, wet, out, at);
     Turn {
         first,
         second,
         rows: 1,
-        size,
+        next,
     }
 }
 
-// The next rows of both files: those of items that are the same, or one row, row r of table k; p and q are rows to read into.
-fn size_rows(
+// Passes over the next rows of both files whose items are the same, which have no entry; where the next items differ, or are no items, puts or counts the
+// entries of one row, row r of table k. p and q are rows to read into.
+fn put_rows(
     a: &[u8],
     b: &[u8],
     k: u32,
@@ -48,9 +56,15 @@ fn size_rows(
     y: Place,
     p: &mut [u32],
     q: &mut [u32],
+    wet: bool,
+    out: &mut [u8],
+    at: usize,
 ) -> Turn
-    requires { ⌜ (1 ≤ k) × (k ≤ 10) × PlaceAt k (now a) x × (0 < length (rowsFrom k (now a) x)) × (42 ≤ length (now p)) × PlaceAt k (now b) y × (0 < length (rowsFrom k (now b) y)) × (42 ≤ length (now q)) ⌝ }
-    ensures { λ t. ⌜ SizeTurn k r (now (a .entry)) (now (b .entry)) x y (now (p .entry)) (now (q .entry)) (now (p .exit)) (now (q .exit)) t ⌝ }
+    requires { ⌜ (1 ≤ k) × (k ≤ 10) × PlaceAt k (now a) x × (0 < length (rowsFrom k (now a) x)) × (42 ≤ length (now p))
+        × PlaceAt k (now b) y × (0 < length (rowsFrom k (now b) y)) × (42 ≤ length (now q))
+        × Fits wet (bytesFrom k (now a) (now b) r x y) at (now out) ⌝ }
+    ensures { λ t. ⌜ PutTurn k r (now (a .entry)) (now (b .entry)) x y (now (p .entry)) (now (q .entry)) (now (p .exit)) (now (q .exit))
+        wet (now (out .entry)) at (now (out .exit)) t ⌝ }
 {
     let s = x.spot;
     let t = y.spot;
@@ -58,7 +72,7 @@ fn size_rows(
     let j = t.items;
     let run = b3d_same_items::same_items(a, b, k, i, j);
     if run.count == 0 {
-        return size_turn(a, b, k, r, x, y, p, q);
+        return put_turn(a, b, k, r, x, y, p, q, wet, out, at);
     }
     let first = b3d_same_items::past(x, run.bytes);
     let second = b3d_same_items::past(y, run.bytes);
@@ -66,25 +80,37 @@ fn size_rows(
         first,
         second,
         rows: run.count,
-        size: 0,
+        next: at,
     }
 }
 
-// How many bytes the entries of table k take, of which both files have so many rows; p and q are rows to read into.
-pub fn table_size(a: &[u8], b: &[u8], k: u32, rows: u32, p: &mut [u32], q: &mut [u32]) -> usize
-    requires { ⌜ Comparable k rows (now a) × Comparable k rows (now b) × (rows ≤ 2097151) × (42 ≤ length (now p)) × (42 ≤ length (now q)) ⌝ }
-    ensures { λ n. ⌜ TableSize k rows (now (a .entry)) (now (b .entry)) n ⌝ }
+// Puts or counts the entries of table k, which has this number of rows in both files, 0 among them; p and q are rows to read into. Gives the place after
+// them.
+pub fn put_table(
+    a: &[u8],
+    b: &[u8],
+    k: u32,
+    rows: u32,
+    p: &mut [u32],
+    q: &mut [u32],
+    wet: bool,
+    out: &mut [u8],
+    at: usize,
+) -> usize
+    requires { ⌜ Comparable k rows (now a) × Comparable k rows (now b) × (rows ≤ 2097151) × (42 ≤ length (now p)) × (42 ≤ length (now q))
+        × Fits wet (tableBytes k (now a) (now b)) at (now out) ⌝ }
+    ensures { λ n. ⌜ Emits wet (tableBytes k (now (a .entry)) (now (b .entry))) (now (out .entry)) at (now (out .exit)) n ⌝ }
 {
     let mut x = b3d_next_row::start(a, k);
     let mut y = b3d_next_row::start(b, k);
-    let mut size: usize = 0;
+    let mut next = at;
     let mut r: u32 = 0;
     while r < rows {
-        let t = size_rows(a, b, k, r, x, y, p, q);
+        let t = put_rows(a, b, k, r, x, y, p, q, wet, out, next);
         x = t.first;
         y = t.second;
-        size += t.size;
+        next = t.next;
         r += t.rows as u32;
     }
-    size
+    next
 }

@@ -11,12 +11,16 @@ use Rattle.b3d_compare_list.specs.declared.Difference.{Difference}
 use Rattle.b3d_compare_list.specs.declared.Difference.the-variants.{Wholes, Floats, Texts}
 use Rattle.b3d_compare_list.specs.Differences.{spanText}
 
+-- the span x lies in the file s
 pub record Within (s : List ℕ) (x : Span) : Type 0 where
+  -- it ends where the file does, or before
   pub within : x .place + x .length ≤ length s
 
--- the span of the bytes that stand in s from a place on, so many of them as there are
+-- the span of the bytes that stand in s from a place on, at most `size` of them
 pub record SpanIs (s : List ℕ) (place size : ℕ) (x : Span) : Type 0 where
+  -- it lies in the file
   pub lies : Within s x
+  -- and its text is these bytes
   pub is : spanText s x ≡ take size (drop place s)
 
 -- table, row, word, and the two cells, or the lengths of the two texts

@@ -11,8 +11,9 @@ use Rattle.groups.specs.Groups.{groups, writeNumbers}
 use Rattle.groups.proofs.Fronts.{groups-append, numbers-append}
 use Rattle.b3d_mend.specs.Edits.{Edit, keep, mend, becomes, after}
 use Rattle.b3d_mend.specs.Report.{entries, entryBytes, reportBytes}
-use Rattle.b3d_mend_puts.specs.Emits.{shown, Fits, Emits}
-use Rattle.b3d_mend_puts.proofs.Putting.{emits-none, fits-first, fits-second, emits-both, fits-same, emits-same}
+use Rattle.shared_put_or_count.specs.Emits.{Fits, Emits}
+use Rattle.b3d_mend_puts.specs.Shown.{shown}
+use Rattle.shared_put_or_count.proofs.Putting.{emits-none, fits-first, fits-second, emits-both, fits-same, emits-same}
 
 -- ---- the numbers of an entry
 

@@ -5,15 +5,16 @@ ghost use lib.ListN.{length, take, drop};
 ghost use Rattle.wire.specs.Bytes.{bytes};
 ghost use Rattle.groups.specs.Groups.{writeNumbers};
 ghost use Rattle.b3d_mend.specs.Edits.{keep, mend};
-ghost use Rattle.b3d_mend_puts.specs.Emits.{Emits, Fits, shown};
+ghost use Rattle.shared_put_or_count.specs.Emits.{Emits, Fits};
+ghost use Rattle.b3d_mend_puts.specs.Shown.{shown};
 
 // Two numbers in groups.
 fn put_two(n: u32, m: u32, wet: bool, out: &mut [u8], at: usize) -> usize
     requires { ⌜ Fits wet (writeNumbers (n ∷ m ∷ []) []) at (now out) ⌝ }
     ensures { λ r. ⌜ Emits wet (writeNumbers (n ∷ m ∷ []) []) (now (out .entry)) at (now (out .exit)) r ⌝ }
 {
-    let next = b3d_mend_puts::put_grouped(n, wet, out, at);
-    b3d_mend_puts::put_grouped(m, wet, out, next)
+    let next = shared_put_or_count::put_grouped(n, wet, out, at);
+    shared_put_or_count::put_grouped(m, wet, out, next)
 }
 
 // The numbers of an entry: the place, which of the four, the byte counts before and after.
@@ -50,7 +51,7 @@ pub fn put_kept(
     if report {
         return at;
     }
-    b3d_mend_puts::put_copy(file, from, count, wet, out, at)
+    shared_put_or_count::put_copy(file, from, count, wet, out, at)
 }
 
 // Bytes that are taken out.
@@ -70,7 +71,7 @@ pub fn put_taken(
 {
     if report {
         let m = put_entry(from as u32, which, count as u32, 0, wet, out, at);
-        return b3d_mend_puts::put_copy(file, from, count, wet, out, m);
+        return shared_put_or_count::put_copy(file, from, count, wet, out, m);
     }
     at
 }
@@ -81,8 +82,8 @@ fn put_pair(file: &[u8], from: usize, value: u32, wet: bool, out: &mut [u8], at:
     requires { ⌜ Fits wet (take 4 (drop from (now file)) ++ bytes value []) at (now out) ⌝ }
     ensures { λ r. ⌜ Emits wet (take 4 (drop from (now (file .entry))) ++ bytes value []) (now (out .entry)) at (now (out .exit)) r ⌝ }
 {
-    let next = b3d_mend_puts::put_copy(file, from, 4, wet, out, at);
-    b3d_mend_puts::put_word(value, wet, out, next)
+    let next = shared_put_or_count::put_copy(file, from, 4, wet, out, at);
+    shared_put_or_count::put_word(value, wet, out, next)
 }
 
 // A number that is set to another.
@@ -104,5 +105,5 @@ pub fn put_set(
         let m = put_entry(from as u32, which, 4, 4, wet, out, at);
         return put_pair(file, from, value, wet, out, m);
     }
-    b3d_mend_puts::put_word(value, wet, out, at)
+    shared_put_or_count::put_word(value, wet, out, at)
 }

@@ -34,7 +34,7 @@ use Rattle.b3d_inside.proofs.TagTests.{ten, one-of}
 use Rattle.b3d_mend.specs.Edits.{keep}
 use Rattle.b3d_mend.specs.Pieces.{Pieces, chunksOf}
 use Rattle.b3d_mend.specs.Walks.{wordEdit, wordEdits}
-use Rattle.b3d_mend_puts.specs.Emits.{shown}
+use Rattle.b3d_mend_puts.specs.Shown.{shown}
 use Rattle.b3d_mend_puts.proofs.Shows.{shown-none}
 use Rattle.b3d_mend_put_items.proofs.Slices.{words-slice, left-first}
 use Rattle.b3d_mend_put_brushes.proofs.BrushPuts.{take-over}

@@ -11,7 +11,7 @@ use Rattle.layout.specs.Rules.{namesOrNone}
 use Rattle.b3d_scene.specs.declared.Tag.{Tag}
 use Rattle.b3d_mend.specs.Edits.{keep}
 use Rattle.b3d_mend.specs.Walks.{wordEdit}
-use Rattle.b3d_mend_puts.specs.Emits.{shown}
+use Rattle.b3d_mend_puts.specs.Shown.{shown}
 use Rattle.b3d_mend_walks.specs.Walk.{Walked, walked, nodeScope, meshScope, walkInside, walkLeaf, walkChunk}
 use Rattle.b3d_mend_walks.specs.declared.Scope.{Scope}
 use Rattle.b3d_mend_openings.specs.declared.Opening.{Opening}

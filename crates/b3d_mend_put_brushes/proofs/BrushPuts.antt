@@ -23,8 +23,9 @@ use Rattle.b3d_scene.specs.Rules.{brushRow, brushIds}
 use Rattle.b3d_mend.specs.Edits.{Edit, keep, was, becomes, after}
 use Rattle.b3d_mend.specs.Report.{entries, reportBytes}
 use Rattle.b3d_mend.specs.Walks.{wordEdit, wordEdits}
-use Rattle.b3d_mend_puts.specs.Emits.{shown, Fits, Emits}
-use Rattle.b3d_mend_puts.proofs.Putting.{fits-first, fits-second, emits-both}
+use Rattle.shared_put_or_count.specs.Emits.{Fits, Emits}
+use Rattle.b3d_mend_puts.specs.Shown.{shown}
+use Rattle.shared_put_or_count.proofs.Putting.{fits-first, fits-second, emits-both}
 use Rattle.b3d_mend_puts.proofs.Shows.{shown-none, shown-cons}
 use Rattle.b3d_mend_put_items.proofs.Slices.{words-left, left-first}
 use Rattle.b3d_mend_put_ids.specs.Ids.{idEdits}

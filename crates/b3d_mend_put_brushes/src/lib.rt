@@ -6,7 +6,8 @@ ghost use Rattle.wire.specs.Bytes.{AllBytes};
 ghost use Rattle.wire.specs.Cursors.{Inside};
 ghost use Rattle.b3d_chunks.specs.Chunks.{namedAt};
 ghost use Rattle.b3d_chunks.specs.declared.Named.the-variants.{Is};
-ghost use Rattle.b3d_mend_puts.specs.Emits.{Emits, Fits, shown};
+ghost use Rattle.shared_put_or_count.specs.Emits.{Emits, Fits};
+ghost use Rattle.b3d_mend_puts.specs.Shown.{shown};
 ghost use Rattle.b3d_mend_put_brushes.specs.Brushes.{BrushAt, brushEdits};
 use wire::Cursor;
 

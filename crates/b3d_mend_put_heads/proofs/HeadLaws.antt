@@ -11,8 +11,9 @@ use Rattle.wire.specs.Bytes.{bytes}
 use Rattle.emit.specs.Writing.{Wrote, head}
 use Rattle.b3d_scene.specs.declared.Tag.{Tag}
 use Rattle.b3d_scene.specs.Tags.{code}
-use Rattle.b3d_mend_puts.specs.Emits.{written, Fits, Emits}
-use Rattle.b3d_mend_puts.proofs.Putting.{sets-append, part-over}
+use Rattle.shared_put_or_count.specs.Emits.{written, Fits, Emits}
+use Rattle.cells.proofs.Storing.{sets-append}
+use Rattle.shared_put_or_count.proofs.Putting.{part-over}
 use Rattle.b3d_mend_walks.specs.Walk.{headed}
 use Rattle.b3d_mend_heads.specs.Heads.{bodyAt}
 use Rattle.b3d_mend_put_heads.specs.Heads.{headWet, headEnd, HeadRoom}

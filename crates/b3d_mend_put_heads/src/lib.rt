@@ -5,7 +5,7 @@ ghost use mathlib.Core.List.{[]};
 ghost use lib.ListN.{length};
 ghost use Rattle.b3d_scene.specs.Tags.{code};
 ghost use Rattle.emit.specs.Writing.{head};
-ghost use Rattle.b3d_mend_puts.specs.Emits.{written};
+ghost use Rattle.shared_put_or_count.specs.Emits.{written};
 ghost use Rattle.b3d_mend_put_heads.specs.Heads.{headWet, HeadRoom};
 use b3d_scene::Tag;
 

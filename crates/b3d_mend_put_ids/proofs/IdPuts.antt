@@ -14,8 +14,10 @@ use Rattle.layout.specs.Rules.{namesOrNone}
 use Rattle.emit.proofs.Joining.{Both}
 use Rattle.b3d_mend.specs.Edits.{Edit}
 use Rattle.b3d_mend.specs.Walks.{wordEdit, wordEdits}
-use Rattle.b3d_mend_puts.specs.Emits.{shown, Fits, Emits}
-use Rattle.b3d_mend_puts.proofs.Shows.{shown-none, shown-cons, Left, left-none, left-done, left-fits, left-next}
+use Rattle.shared_put_or_count.specs.Emits.{Fits, Emits}
+use Rattle.b3d_mend_puts.specs.Shown.{shown}
+use Rattle.shared_put_or_count.proofs.Putting.{Left, left-none, left-done, left-fits, left-next}
+use Rattle.b3d_mend_puts.proofs.Shows.{shown-none, shown-cons}
 use Rattle.b3d_mend_put_sets.proofs.SetPuts.{word-was}
 use Rattle.b3d_mend_put_ids.specs.Ids.{idEdits}
 

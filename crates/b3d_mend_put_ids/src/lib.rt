@@ -2,7 +2,8 @@
 ghost use Prim.Native.Nat.{_+_, _*_, _≤_, _<_};
 ghost use lib.ListN.{length};
 ghost use Rattle.wire.specs.Bytes.{AllBytes};
-ghost use Rattle.b3d_mend_puts.specs.Emits.{Emits, Fits, shown};
+ghost use Rattle.shared_put_or_count.specs.Emits.{Emits, Fits};
+ghost use Rattle.b3d_mend_puts.specs.Shown.{shown};
 ghost use Rattle.b3d_mend_put_ids.specs.Ids.{idEdits};
 
 // So many ids from a place on, of so many things or -1.

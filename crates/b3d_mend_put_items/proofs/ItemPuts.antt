@@ -22,9 +22,10 @@ use Rattle.b3d_mend.specs.Walks.{wordEdit, itemEdit, itemEdits}
 use Rattle.b3d_mend.proofs.WalkLaws.{edits-none, edits-cut, edits-step}
 use Rattle.b3d_mend_items.specs.Ones.{oneIf}
 use Rattle.b3d_mend_items.proofs.Keeping.{id-row-length}
-use Rattle.b3d_mend_puts.specs.Emits.{shown, Fits, Emits}
-use Rattle.b3d_mend_puts.proofs.Putting.{fits-same, emits-same}
-use Rattle.b3d_mend_puts.proofs.Shows.{shown-none, shown-cons, Left, left-none, left-done, left-fits, left-next}
+use Rattle.shared_put_or_count.specs.Emits.{Fits, Emits}
+use Rattle.b3d_mend_puts.specs.Shown.{shown}
+use Rattle.shared_put_or_count.proofs.Putting.{fits-same, emits-same, Left, left-none, left-done, left-fits, left-next}
+use Rattle.b3d_mend_puts.proofs.Shows.{shown-none, shown-cons}
 use Rattle.b3d_mend_put_items.proofs.Slices.{words-left, word-slice}
 
 -- ---- an id

@@ -8,7 +8,8 @@ ghost use Rattle.layout.specs.Parts.{wordsOf};
 ghost use Rattle.layout.specs.Rules.{namesOrNone};
 ghost use Rattle.id_check.specs.Ids.{idRow};
 ghost use Rattle.b3d_mend.specs.Walks.{wordEdit, itemEdit, itemEdits};
-ghost use Rattle.b3d_mend_puts.specs.Emits.{Emits, Fits, shown};
+ghost use Rattle.shared_put_or_count.specs.Emits.{Emits, Fits};
+ghost use Rattle.b3d_mend_puts.specs.Shown.{shown};
 use wire::Cursor;
 
 // The id at a place, of so many things or -1.

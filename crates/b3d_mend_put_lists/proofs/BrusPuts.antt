@@ -17,8 +17,9 @@ use Rattle.b3d_inside.specs.Places.{Body}
 use Rattle.b3d_inside.proofs.Heads.{body-inside, head-cut, head-numbered, head-over, head-within}
 use Rattle.b3d_mend.specs.Edits.{Edit, keep, was}
 use Rattle.b3d_mend.specs.Walks.{brusOf, brusEdits}
-use Rattle.b3d_mend_puts.specs.Emits.{shown, Fits, Emits}
-use Rattle.b3d_mend_puts.proofs.Putting.{emits-none, fits-first, fits-second, emits-both}
+use Rattle.shared_put_or_count.specs.Emits.{Fits, Emits}
+use Rattle.b3d_mend_puts.specs.Shown.{shown}
+use Rattle.shared_put_or_count.proofs.Putting.{emits-none, fits-first, fits-second, emits-both}
 use Rattle.b3d_mend_puts.proofs.Shows.{shown-none, shown-cons}
 use Rattle.b3d_mend_put_items.proofs.Slices.{word-slice}
 use Rattle.b3d_mend_put_lists.specs.Lists.{brushRules, brushesAt}

@@ -29,8 +29,10 @@ use Rattle.b3d_chunks.specs.declared.Named.the-variants as named
 use Rattle.b3d_chunks.proofs.Names.{named-cut, named-any, named-among}
 use Rattle.b3d_mend.specs.Edits.{Edit, keep, was, before}
 use Rattle.b3d_mend.specs.Walks.{wordEdit, wordEdits, brushOf, brushEditsIn}
-use Rattle.b3d_mend_puts.specs.Emits.{shown, Fits, Emits}
-use Rattle.b3d_mend_puts.proofs.Shows.{shown-none, shown-append, Left, left-none, left-done, left-fits, left-next}
+use Rattle.shared_put_or_count.specs.Emits.{Fits, Emits}
+use Rattle.b3d_mend_puts.specs.Shown.{shown}
+use Rattle.shared_put_or_count.proofs.Putting.{Left, left-none, left-done, left-fits, left-next}
+use Rattle.b3d_mend_puts.proofs.Shows.{shown-none, shown-append}
 use Rattle.b3d_mend_put_sets.proofs.SetPuts.{word-was}
 use Rattle.b3d_mend_put_brushes.specs.Brushes.{BrushAt, brushEdits}
 use Rattle.b3d_mend_put_lists.specs.Lists.{brushRules, brushesAt}

@@ -17,8 +17,9 @@ use Rattle.id_check.specs.Ids.{idRow}
 use Rattle.b3d_mend.specs.Edits.{Edit, keep, mend, was}
 use Rattle.b3d_mend.specs.Walks.{wordEdit, wordEdits, itemEdits, trisEdits, boneEdits}
 use Rattle.b3d_mend.proofs.WalkLaws.{edits-none}
-use Rattle.b3d_mend_puts.specs.Emits.{shown, Fits, Emits}
-use Rattle.b3d_mend_puts.proofs.Putting.{emits-none, fits-first, fits-second, emits-both}
+use Rattle.shared_put_or_count.specs.Emits.{Fits, Emits}
+use Rattle.b3d_mend_puts.specs.Shown.{shown}
+use Rattle.shared_put_or_count.proofs.Putting.{emits-none, fits-first, fits-second, emits-both}
 use Rattle.b3d_mend_puts.proofs.Shows.{shown-none, shown-cons}
 
 -- ---- BONE

@@ -4,7 +4,8 @@ ghost use lib.ListN.{length};
 ghost use Rattle.wire.specs.Bytes.{AllBytes};
 ghost use Rattle.wire.specs.Cursors.{Inside, left};
 ghost use Rattle.b3d_mend.specs.Walks.{trisEdits, boneEdits};
-ghost use Rattle.b3d_mend_puts.specs.Emits.{Emits, Fits, shown};
+ghost use Rattle.shared_put_or_count.specs.Emits.{Emits, Fits};
+ghost use Rattle.b3d_mend_puts.specs.Shown.{shown};
 use wire::Cursor;
 
 // The weights of a BONE, of so many vertices.

@@ -1,3 +1,2 @@
--- The laws of what is put.
-pub mod Putting
+-- The laws of what edits show.
 pub mod Shows

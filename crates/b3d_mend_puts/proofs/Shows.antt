@@ -11,8 +11,7 @@ use Rattle.groups.specs.Groups.{writeNumbers}
 use Rattle.groups.proofs.Fronts.{numbers-append}
 use Rattle.b3d_mend.specs.Edits.{Edit, keep, follow, mend, was, becomes, before, after}
 use Rattle.b3d_mend.specs.Report.{Entry, numbersOf, entries, entryBytes, reportBytes}
-use Rattle.b3d_mend_puts.specs.Emits.{shown, Fits, Emits}
-use Rattle.b3d_mend_puts.proofs.Putting.{emits-none, fits-first, fits-second, emits-both}
+use Rattle.b3d_mend_puts.specs.Shown.{shown}
 
 entry-append : (e : Entry) (r : List ℕ) → entryBytes e r ≡ entryBytes e [] ++ r
 unfolding entryBytes
@@ -46,35 +45,3 @@ shown-append report p (e ∷ x) y =
           ∙ sym (append-assoc (shown report p (e ∷ [])) (shown report (p + length (was e)) x) (shown report (p + length (was e) + length (before x)) y))
           ∙ ap₂ (λ (z : List ℕ) (k : ℕ). z ++ shown report k y) (sym (shown-cons report p e x .is)) n;
     }
-
--- ---- parts one after the other, up to a place
-
--- all of it was to be put from `at` on; what is left from m on is `rest`
-pub record Left (wet : Bool) (all xs : List ℕ) (at : ℕ) (ys : List ℕ) (m : ℕ) (rest : List ℕ) : Type 0 where
-  pub front : List ℕ
-  pub both : Both all front rest
-  pub put : Emits wet front xs at ys m
-  pub fits : Fits wet rest m ys
-
-pub left-none : (wet : Bool) (all xs : List ℕ) (at : ℕ) → Fits wet all at xs → Left wet all xs at xs at all
-left-none wet all xs at f = record { front = []; both = record { is = refl }; put = emits-none wet [] xs at refl; fits = f }
-
-module _ (wet : Bool) (all xs : List ℕ) (at : ℕ) (ys : List ℕ) (m : ℕ) (rest : List ℕ) (l : Left wet all xs at ys m rest) where
-  pub left-done : rest ≡ [] → Emits wet all xs at ys m
-  left-done e = emits-both (l .both) wet xs at ys m (l .put) ys m (emits-none wet rest ys m e)
-
-  module _ (a b : List ℕ) (two : Both rest a b) where
-    pub left-fits : Fits wet a m ys
-    left-fits = fits-first two wet ys m (l .fits)
-
-    pub left-next : (zs : List ℕ) (n : ℕ) → Emits wet a ys m zs n → Left wet all xs at zs n b
-    left-next zs n e = record {
-      front = l .front ++ a;
-      both = record { is = l .both .is ∙ ap (λ (z : List ℕ). l .front ++ z) (two .is) ∙ sym (append-assoc (l .front) a b) };
-      put = emits-both (record { is = refl }) wet xs at ys m (l .put) zs n e;
-      fits = fits-second two wet ys m zs n e (l .fits);
-    }
-
-    -- the last part
-    pub left-last : b ≡ [] → (zs : List ℕ) (n : ℕ) → Emits wet a ys m zs n → Emits wet all xs at zs n
-    left-last e zs n g = emits-both (l .both) wet xs at ys m (l .put) zs n (emits-both two wet ys m zs n g zs n (emits-none wet b zs n e))

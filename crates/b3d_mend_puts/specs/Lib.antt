@@ -1,2 +1,2 @@
--- What is put into an output.
-pub mod Emits
+-- What edits show.
+pub mod Shown

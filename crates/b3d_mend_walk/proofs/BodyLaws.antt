@@ -15,8 +15,9 @@ use Rattle.b3d_scene.specs.declared.Tag.{Tag}
 use Rattle.b3d_inside.specs.Places.{Body}
 use Rattle.b3d_mend.specs.Edits.{keep}
 use Rattle.b3d_mend.specs.Walks.{wordEdit}
-use Rattle.b3d_mend_puts.specs.Emits.{shown, Fits, Emits}
-use Rattle.b3d_mend_puts.proofs.Putting.{emits-none, fits-first, fits-second, emits-both}
+use Rattle.shared_put_or_count.specs.Emits.{Fits, Emits}
+use Rattle.b3d_mend_puts.specs.Shown.{shown}
+use Rattle.shared_put_or_count.proofs.Putting.{emits-none, fits-first, fits-second, emits-both}
 use Rattle.b3d_mend_walks.specs.Walk.{Walked, walked, nodeScope, meshScope, walkLeaf, walkChunk}
 use Rattle.b3d_mend_walks.specs.declared.Scope.{Scope}
 use Rattle.b3d_mend_walk_leaf.specs.Answers.{Walks}

@@ -7,7 +7,7 @@ use mathlib.Core.List.{List, []}
 use Rattle.emit.specs.Writing.{head}
 use Rattle.b3d_scene.specs.Tags.{code}
 use Rattle.b3d_scene.specs.declared.Tag.{Tag}
-use Rattle.b3d_mend_puts.specs.Emits.{written, Fits, Emits}
+use Rattle.shared_put_or_count.specs.Emits.{written, Fits, Emits}
 use Rattle.b3d_mend_walks.specs.Walk.{Walked, headed}
 use Rattle.b3d_mend_heads.specs.Heads.{bodyAt}
 use Rattle.b3d_mend_put_heads.specs.Heads.{headWet, HeadRoom}

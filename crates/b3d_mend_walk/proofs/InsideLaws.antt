@@ -28,8 +28,9 @@ use Rattle.b3d_mend.specs.Edits.{keep, spareOut, after}
 use Rattle.b3d_mend.specs.Pieces.{Pieces, none-left, spare, past, piece, pieces, chunksOf}
 use Rattle.b3d_mend.specs.Report.{entries, reportBytes}
 use Rattle.b3d_mend_reads.proofs.PieceSteps.{headAt, at-end, at-spare, at-past, at-piece}
-use Rattle.b3d_mend_puts.specs.Emits.{shown, Fits, Emits}
-use Rattle.b3d_mend_puts.proofs.Shows.{Left, left-none, left-done, left-fits, left-next, left-last}
+use Rattle.shared_put_or_count.specs.Emits.{Fits, Emits}
+use Rattle.b3d_mend_puts.specs.Shown.{shown}
+use Rattle.shared_put_or_count.proofs.Putting.{Left, left-none, left-done, left-fits, left-next, left-last}
 use Rattle.b3d_mend_walks.specs.Walk.{Walked, walked, nextScope, walkChunks, headed, shownPieces, walkInside, walkChunk}
 use Rattle.b3d_mend_walks.specs.declared.Scope.{Scope}
 use Rattle.b3d_mend_walk_leaf.specs.Answers.{Walks}

@@ -11,8 +11,9 @@ use Rattle.wire.specs.Cursors.{Inside, left}
 use Rattle.wire.specs.declared.Cursor.{Cursor}
 use Rattle.layout.specs.Rows.{mostBytes}
 use Rattle.b3d_mend.specs.Edits.{keep, mend}
-use Rattle.b3d_mend_puts.specs.Emits.{shown, Fits, Emits}
-use Rattle.b3d_mend_puts.proofs.Putting.{fits-same, emits-same}
+use Rattle.shared_put_or_count.specs.Emits.{Fits, Emits}
+use Rattle.b3d_mend_puts.specs.Shown.{shown}
+use Rattle.shared_put_or_count.proofs.Putting.{fits-same, emits-same}
 use Rattle.b3d_mend_walk_leaf.proofs.LeafLaws.{left-whole}
 use Rattle.b3d_mend_walk.specs.Steps.{cutShown}
 

@@ -8,7 +8,7 @@ use Rattle.wire.specs.Cursors.{left}
 use Rattle.wire.specs.declared.Cursor.{Cursor}
 use Rattle.b3d_scene.specs.declared.Tag.{Tag}
 use Rattle.b3d_mend.specs.Edits.{keep, spareOut}
-use Rattle.b3d_mend_puts.specs.Emits.{shown}
+use Rattle.b3d_mend_puts.specs.Shown.{shown}
 use Rattle.b3d_mend_walks.specs.Walk.{Walked, walked, headed}
 
 -- 1 to 7 bytes, or those of a chunk that passes the end

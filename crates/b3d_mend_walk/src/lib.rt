@@ -5,7 +5,7 @@ ghost use Rattle.wire.specs.Bytes.{AllBytes};
 ghost use Rattle.wire.specs.Cursors.{Inside, left};
 ghost use Rattle.layout.specs.Rows.{mostBytes};
 ghost use Rattle.b3d_inside.specs.Places.{Body};
-ghost use Rattle.b3d_mend_puts.specs.Emits.{Emits, Fits};
+ghost use Rattle.shared_put_or_count.specs.Emits.{Emits, Fits};
 ghost use Rattle.b3d_mend_walks.specs.Walk.{walkChunk};
 ghost use Rattle.b3d_mend_walk_leaf.specs.Answers.{Walks};
 ghost use Rattle.b3d_mend_openings.specs.Opens.{walkFrom};

@@ -18,8 +18,9 @@ use Rattle.b3d_scene.specs.Tags.{code}
 use Rattle.b3d_scene.specs.declared.Tag.the-variants.{BB3D}
 use Rattle.b3d_mend.specs.Edits.{Edit, keep, follow, mend, fileLength, becomes, after}
 use Rattle.b3d_mend.specs.Report.{entries, reportBytes}
-use Rattle.b3d_mend_puts.specs.Emits.{shown, Fits, Emits}
-use Rattle.b3d_mend_puts.proofs.Putting.{emits-none, fits-first, fits-second, emits-both, fits-same, emits-same}
+use Rattle.shared_put_or_count.specs.Emits.{Fits, Emits}
+use Rattle.b3d_mend_puts.specs.Shown.{shown}
+use Rattle.shared_put_or_count.proofs.Putting.{emits-none, fits-first, fits-second, emits-both, fits-same, emits-same}
 use Rattle.b3d_mend_put_items.proofs.Slices.{left-all, word-slice}
 use Rattle.b3d_mend_walks.specs.Walk.{walkInside, walkChunk, fileScope, walkBody, walkFile}
 use Rattle.b3d_mend_walk_leaf.specs.Answers.{Walks}

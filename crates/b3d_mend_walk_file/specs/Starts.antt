@@ -7,7 +7,7 @@ use Rattle.wire.specs.Bytes.{bytes}
 use Rattle.b3d_scene.specs.Tags.{code}
 use Rattle.b3d_scene.specs.declared.Tag.the-variants.{BB3D}
 use Rattle.b3d_mend.specs.Edits.{keep, fileLength}
-use Rattle.b3d_mend_puts.specs.Emits.{shown}
+use Rattle.b3d_mend_puts.specs.Shown.{shown}
 use Rattle.b3d_mend_walks.specs.Walk.{numberOf}
 
 -- the letters, the length, the version

@@ -4,7 +4,7 @@ ghost use Prim.Native.Nat.{_+_, _≤_, _<_};
 ghost use lib.ListN.{length};
 ghost use Rattle.layout.specs.Rows.{mostBytes};
 ghost use Rattle.wire.specs.Bytes.{bytes, AllBytes};
-ghost use Rattle.b3d_mend_puts.specs.Emits.{Emits, Fits};
+ghost use Rattle.shared_put_or_count.specs.Emits.{Emits, Fits};
 ghost use Rattle.b3d_mend_walks.specs.Walk.{walkFile};
 ghost use Rattle.b3d_mend_walk_file.specs.Starts.{startShown};
 use b3d_mend_walks::Scope;
@@ -30,9 +30,9 @@ fn put_three(a: u32, b: u32, c: u32, wet: bool, out: &mut [u8], at: usize) -> us
     requires { ⌜ Fits wet (bytes a (bytes b (bytes c []))) at (now out) ⌝ }
     ensures { λ r. ⌜ Emits wet (bytes a (bytes b (bytes c []))) (now (out .entry)) at (now (out .exit)) r ⌝ }
 {
-    let m = b3d_mend_puts::put_word(a, wet, out, at);
-    let n = b3d_mend_puts::put_word(b, wet, out, m);
-    b3d_mend_puts::put_word(c, wet, out, n)
+    let m = shared_put_or_count::put_word(a, wet, out, at);
+    let n = shared_put_or_count::put_word(b, wet, out, m);
+    shared_put_or_count::put_word(c, wet, out, n)
 }
 
 // The letters, the length and the version.

@@ -24,8 +24,9 @@ use Rattle.b3d_inside.proofs.TagTests.{ten, one-of}
 use Rattle.b3d_mend.specs.Edits.{keep}
 use Rattle.b3d_mend.specs.Trees.{texturesOf, verticesOf}
 use Rattle.b3d_mend.specs.Walks.{trisEdits, boneEdits, brusEdits}
-use Rattle.b3d_mend_puts.specs.Emits.{shown, Fits, Emits}
-use Rattle.b3d_mend_puts.proofs.Putting.{fits-same, emits-same}
+use Rattle.shared_put_or_count.specs.Emits.{Fits, Emits}
+use Rattle.b3d_mend_puts.specs.Shown.{shown}
+use Rattle.shared_put_or_count.proofs.Putting.{fits-same, emits-same}
 use Rattle.b3d_mend_put_items.proofs.Slices.{left-first}
 use Rattle.b3d_mend_reads.specs.Lax.{every}
 use Rattle.b3d_mend_walks.specs.Walk.{walkLeaf, brushCount}

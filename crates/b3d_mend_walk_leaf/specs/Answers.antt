@@ -4,7 +4,7 @@ use Prim.Native.Nat.{ℕ}
 use mathlib.Core.Bool.{Bool, false}
 use mathlib.Core.List.{List}
 use Rattle.b3d_scene.specs.declared.Tag.{Tag}
-use Rattle.b3d_mend_puts.specs.Emits.{Emits}
+use Rattle.shared_put_or_count.specs.Emits.{Emits}
 use Rattle.b3d_mend_walks.specs.Walk.{Walked, walkLeaf, fileScope}
 use Rattle.b3d_mend_walk_leaf.specs.declared.Walk.{Walk}
 

@@ -42,7 +42,7 @@ use Rattle.b3d_mend.proofs.NodeLaws.{bareForest, root-mend}
 use Rattle.b3d_mend.proofs.QuietStages.{row-left}
 use Rattle.b3d_mend.proofs.StageLaws.{one-stage}
 use Rattle.b3d_mend.proofs.WalkLaws.{brus-edits}
-use Rattle.b3d_mend_puts.specs.Emits.{shown}
+use Rattle.b3d_mend_puts.specs.Shown.{shown}
 use Rattle.b3d_mend_puts.proofs.Shows.{shown-append}
 use Rattle.b3d_mend_reads.specs.Lax.{every}
 use Rattle.b3d_mend_counts.proofs.Alike.{Alike}

@@ -32,7 +32,7 @@ use Rattle.b3d_mend.proofs.PartLaws.{row-good}
 use Rattle.b3d_mend.proofs.PieceLaws.{Fine, within, within-fine, order-kept}
 use Rattle.b3d_mend.proofs.StageLaws.{left-fine, one-stage, sets-stage}
 use Rattle.b3d_mend.proofs.StepLaws.{left-in}
-use Rattle.b3d_mend_puts.specs.Emits.{shown}
+use Rattle.b3d_mend_puts.specs.Shown.{shown}
 use Rattle.b3d_mend_puts.proofs.Shows.{shown-append}
 use Rattle.b3d_mend_walks.specs.Walk.{Walked, walked, nextScope, meshScope, Within, walkChunks, shownPieces, walkInside, walkLeaf, walkChunk}
 use Rattle.b3d_mend_walks.specs.declared.Scope.{Scope}

@@ -36,7 +36,7 @@ use Rattle.b3d_mend.proofs.LeafLaws.{named-exact}
 use Rattle.b3d_mend.proofs.NodeLaws.{named-joins, nodes-stage, node-mend}
 use Rattle.b3d_mend.proofs.StageLaws.{left-fine, kind-stage, moves-stage}
 use Rattle.b3d_mend.proofs.TreeLaws.{read-edits}
-use Rattle.b3d_mend_puts.specs.Emits.{shown}
+use Rattle.b3d_mend_puts.specs.Shown.{shown}
 use Rattle.b3d_mend_puts.proofs.Shows.{shown-cons}
 use Rattle.b3d_mend_walks.specs.Walk.{Walked, walked, nextScope, nodeScope, walkChunks, shownPieces, walkInside, walkLeaf, walkNode, walkChunk}
 use Rattle.b3d_mend_walks.specs.declared.Scope.{Scope}

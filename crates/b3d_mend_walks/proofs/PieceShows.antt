@@ -16,7 +16,7 @@ use Rattle.b3d_mend.specs.Edits.{Edit, keep, was, becomes, before, after, spare
 use Rattle.b3d_mend.specs.Pieces.{Pieces, none-left, spare, past, other, known, piece, piecesIn, pieces, chunksOf, wrapped, woven}
 use Rattle.b3d_mend.specs.Report.{entries, reportBytes}
 use Rattle.b3d_mend.proofs.PieceLaws.{Fill}
-use Rattle.b3d_mend_puts.specs.Emits.{shown}
+use Rattle.b3d_mend_puts.specs.Shown.{shown}
 use Rattle.b3d_mend_puts.proofs.Shows.{shown-none, shown-cons, shown-append}
 use Rattle.b3d_mend_walks.specs.Walk.{headed, shownPieces}
 

@@ -21,7 +21,7 @@ use Rattle.b3d_mend.specs.Edits.{keep, spareOut, fileLength}
 use Rattle.b3d_mend.specs.Pieces.{Pieces, none-left, spare, past, other, known, pieces, chunksOf}
 use Rattle.b3d_mend.specs.Trees.{verticesOf, texturesOf}
 use Rattle.b3d_mend.specs.Walks.{wordEdits, trisEdits, boneEdits, brusEdits}
-use Rattle.b3d_mend_puts.specs.Emits.{shown}
+use Rattle.b3d_mend_puts.specs.Shown.{shown}
 use Rattle.b3d_mend_reads.specs.Lax.{every}
 use Rattle.b3d_mend_walks.specs.declared.Scope.{Scope}
 

@@ -29,7 +29,8 @@ use Rattle.b3d_mend.proofs.Laws.{mends, is-first, room-yes}
 use Rattle.b3d_mender.specs.Mendable.{CanMend, HaveRoom, Sized}
 use Rattle.b3d_mender.specs.declared.Sizes.{Sizes}
 use Rattle.b3d_mend_judge.specs.Answers.{mendedVerdict, Placed}
-use Rattle.b3d_mend_puts.specs.Emits.{shown, written, Fits, Emits}
+use Rattle.shared_put_or_count.specs.Emits.{written, Fits, Emits}
+use Rattle.b3d_mend_puts.specs.Shown.{shown}
 use Rattle.b3d_mend_room.specs.BothSizes.{OfSizes}
 use Rattle.b3d_mend_room.proofs.BothAnswers.{fits-both, short-both}
 use Rattle.b3d_mend_walks.specs.Walk.{numberOf, walkBody, walkFile}

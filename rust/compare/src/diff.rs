@@ -8,7 +8,8 @@ const ENOUGH: usize = 4000;
 impl Compared {
     /// Compares two files with outputs of several sizes: empty; then, unless that is
     /// refused by another number than 11, shorter, one byte short, just enough and
-    /// longer. The list, or the refusal.
+    /// longer. The list, which has at most 53 bytes for each of the first file's and one
+    /// for each of the second's, or the refusal.
     pub fn pair(
         &mut self,
         first: &[u8],
@@ -29,6 +30,9 @@ impl Compared {
             };
         }
         let size = asked.place as usize;
+        if size > 53 * first.len() + second.len() {
+            return disagree(format!("both answer a list of {size} bytes"), second);
+        }
         for short in [rng.below(size), size - 1] {
             let (answer, _) = self.list(first, second, short)?;
             if answer != asked {
@@ -59,8 +63,8 @@ impl Compared {
         let answer = kelompuris::compare(first, second, proved.part());
         let answer = reference::Compared {
             number: answer.number,
-            which: answer.which,
             place: answer.place,
+            which: answer.which,
             size: answer.size,
         };
         let expected = reference::compare(first, second, plain.part());

@@ -7,9 +7,9 @@
 #[derive(Clone, Copy, Debug, Default, PartialEq, Eq)]
 pub struct Compared {
     pub number: u32,
+    pub place: u32,
     pub which: u32,
-    pub place: u64,
-    pub size: u64,
+    pub size: u32,
 }
 
 /// What mending is answered. The sizes, of the mended file and of the report, are 0

@@ -76,9 +76,9 @@ pub struct Written {
 #[derive(Clone, Copy, Debug, Default, PartialEq, Eq)]
 pub struct Compared {
     pub number: u32,
+    pub place: u32,
     pub which: u32,
-    pub place: u64,
-    pub size: u64,
+    pub size: u32,
 }
 
 /// What mending is answered. The sizes, of the mended file and of the report, are 0
@@ -197,8 +197,8 @@ pub fn slip_of(file: &[u8], out: &mut [u8]) -> Written {
 pub fn compare(first: &[u8], second: &[u8], out: &mut [u8]) -> Compared {
     let refused = |which, number, place: usize| Compared {
         number,
+        place: place as u32,
         which,
-        place: place as u64,
         size: 0,
     };
     let mut sides = Vec::new();
@@ -214,7 +214,7 @@ pub fn compare(first: &[u8], second: &[u8], out: &mut [u8]) -> Compared {
     }
     out[..list.len()].copy_from_slice(&list);
     Compared {
-        size: list.len() as u64,
+        size: list.len() as u32,
         ..Compared::default()
     }
 }

@@ -27,11 +27,11 @@ fn list(first: &[u8], second: &[u8]) -> Vec<u8> {
     exact
 }
 
-fn refused(number: u32, place: u64, which: u32) -> Compared {
+fn refused(number: u32, place: u32, which: u32) -> Compared {
     Compared {
         number,
-        which,
         place,
+        which,
         size: 0,
     }
 }

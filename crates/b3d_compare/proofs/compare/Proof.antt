@@ -9,10 +9,8 @@ compare-spec =
     tie.close
     (tie.spec
     (λ c κs. search needs)
-    (λ c. search needs)
     (λ c. search (compare-laws, needs))
     (λ c κs. search needs)
-    (λ c. search needs)
     (λ c. search (compare-laws, needs))
     (λ c κs. search needs)
     (λ c κs. search needs)

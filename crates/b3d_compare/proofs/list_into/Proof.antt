@@ -1,6 +1,6 @@
--- `list_into` measures the list and puts it where there is room.
+-- `list_into` counts the list, and puts it where there is room.
 use borrow.Author.Needs.{needs}
-use Rattle.b3d_compare.proofs.Comparing.{list-laws}
+use Rattle.b3d_compare.proofs.Comparing.{into-laws}
 use Rattle.b3d_compare.proofs.list_into.Statement.{statement}
 use Rattle.b3d_compare.proofs.list_into.Tie as tie
 
@@ -9,8 +9,14 @@ list-into-spec =
     tie.close
     (tie.spec
     (λ c κs. search needs)
-    (λ c. search (list-laws, needs))
-    (λ c. search (list-laws, needs))
     (λ c κs. search needs)
+    (λ c κs. (search needs, search needs, search (into-laws, needs)))
     (λ c. search needs)
-    (λ c. search (list-laws, needs)))
+    (λ c. search (into-laws, needs))
+    (λ c. search (into-laws, needs))
+    (λ c. search needs)
+    (λ c. search (into-laws, needs))
+    (λ c κs. (search needs, search needs, search (into-laws, needs)))
+    (λ c. search (into-laws, needs))
+    (λ c. search needs)
+    (λ c. search (into-laws, needs)))

@@ -1,6 +1,6 @@
--- `put_span` copies the span's bytes.
+-- `put_span` puts or counts the span's bytes.
 use borrow.Author.Needs.{needs}
-use Rattle.b3d_compare_entries.proofs.Entering.{span-put}
+use Rattle.b3d_compare_entries.proofs.Entering.{span-laws}
 use Rattle.b3d_compare_entries.proofs.put_span.Statement.{statement}
 use Rattle.b3d_compare_entries.proofs.put_span.Tie as tie
 
@@ -10,10 +10,6 @@ put-span-spec =
     (tie.spec
     (λ c κs. search needs)
     (λ c κs. search needs)
+    (λ c κs. (search (span-laws, needs), search (span-laws, needs)))
     (λ c. search needs)
-    (λ c. search needs)
-    (λ c. search needs)
-    (λ c κs. search (span-put, needs))
-    (λ c. search needs)
-    (λ c. search needs)
-    (λ c. search (span-put, needs)))
+    (λ c. search (span-laws, needs)))

@@ -1,2 +1,0 @@
--- Entries of two tables, row by row.
-pub mod Putting

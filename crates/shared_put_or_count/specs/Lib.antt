@@ -1,0 +1,2 @@
+-- What is put into an output, or only counted.
+pub mod Emits
