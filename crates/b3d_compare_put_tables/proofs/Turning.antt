@@ -7,10 +7,10 @@ use lib.ListN.{length, length-append}
 use lib.Seq.{sets}
 use Rattle.groups.specs.Puts.{PutAt}
 use Rattle.cells.proofs.Storing.{sets-append}
-use Rattle.b3d_next_node.specs.declared.Place.{Place}
-use Rattle.b3d_next_row.specs.NextRow.{PlaceAt, Starts, RowNext}
-use Rattle.b3d_same_items.specs.declared.Run.{Run}
-use Rattle.b3d_same_items.specs.SameItems.{SameItems, placePast}
+use Rattle.b3d_rows_nodes.specs.declared.RowCursor.{RowCursor}
+use Rattle.b3d_rows.specs.NextRow.{RowCursorAt, Starts, RowNext}
+use Rattle.b3d_rows_same.specs.declared.EqualItems.{EqualItems}
+use Rattle.b3d_rows_same.specs.SameItems.{SameItems, cursorPast}
 use Rattle.b3d_compare_list.specs.Changes.{rowChanges}
 use Rattle.b3d_compare_list.specs.List.{listBytes}
 use Rattle.b3d_compare_tables.specs.Tables.{Comparable, bytesFrom, tableBytes}
@@ -20,7 +20,7 @@ use Rattle.b3d_compare_put_tables.specs.Putting.{PutTurn}
 
 -- ---- `put_turn`
 
-module _ (k : ℕ) (lo : 1 ≤ k) (hi : k ≤ 10) (a b : List ℕ) (x y : Place) (p q : List ℕ) (hp : 42 ≤ length p) (hq : 42 ≤ length q) (p′ q′ : List ℕ) (first second : Place)
+module _ (k : ℕ) (lo : 1 ≤ k) (hi : k ≤ 10) (a b : List ℕ) (x y : RowCursor) (p q : List ℕ) (hp : 42 ≤ length p) (hq : 42 ≤ length q) (p′ q′ : List ℕ) (first second : RowCursor)
     (na : RowNext k a x p p′ first) (nb : RowNext k b y q q′ second) (kk : ℕ) (ek : kk ≡ k) (r : ℕ) where
   here-is : bytesFrom k a b r x y ≡ listBytes (rowChanges kk a b r p′ q′) ++ bytesFrom k a b (r + 1) first second
   here-is = step-is k lo hi a b x y p q hp hq p′ q′ first second na nb r ∙ ap (λ (j : ℕ). listBytes (rowChanges j a b r p′ q′) ++ bytesFrom k a b (r + 1) first second) (sym ek)
@@ -34,8 +34,8 @@ module _ (k : ℕ) (lo : 1 ≤ k) (hi : k ≤ 10) (a b : List ℕ) (x y : Place)
 
 -- ---- `put_rows`
 
-pub run-turn : (k : ℕ) (a b : List ℕ) (x y : Place) (t : Run) → SameItems k a b (x .spot .items) (y .spot .items) t → (t .count ≡ 0 → ⊥)
-    → (r : ℕ) → PlaceAt k a x → PlaceAt k b y → (p q : List ℕ) (first second : Place) → first ≡ placePast (t .bytes) x → second ≡ placePast (t .bytes) y
+pub run-turn : (k : ℕ) (a b : List ℕ) (x y : RowCursor) (t : EqualItems) → SameItems k a b (x .position .items) (y .position .items) t → (t .count ≡ 0 → ⊥)
+    → (r : ℕ) → RowCursorAt k a x → RowCursorAt k b y → (p q : List ℕ) (first second : RowCursor) → first ≡ cursorPast (t .bytes) x → second ≡ cursorPast (t .bytes) y
     → (xs : List ℕ) (at : ℕ) → PutTurn k r a b x y p q p q xs at xs (record { first = first; second = second; rows = t .count; next = at })
 run-turn k a b x y t s h r ax by p q first second e f xs at =
     let v = s .is (omega arith) in
@@ -44,7 +44,7 @@ run-turn k a b x y t s h r ax by p q first second e f xs at =
 -- ---- `put_table`
 
 -- rows from r on are left; so far the output is ys
-pub record PutLeft (k rows : ℕ) (a b p₀ q₀ p q : List ℕ) (x y : Place) (xs : List ℕ) (at : ℕ) (ys : List ℕ) (next r : ℕ) : Type 0 where
+pub record PutLeft (k rows : ℕ) (a b p₀ q₀ p q : List ℕ) (x y : RowCursor) (xs : List ℕ) (at : ℕ) (ys : List ℕ) (next r : ℕ) : Type 0 where
   pub both : BothLeft k rows a b p₀ q₀ p q x y r
   pub same : length ys ≡ length xs
   pub room : next + length (bytesFrom k a b r x y) ≤ length ys
@@ -52,7 +52,7 @@ pub record PutLeft (k rows : ℕ) (a b p₀ q₀ p q : List ℕ) (x y : Place) (
   pub is : sets ys next (bytesFrom k a b r x y) ≡ sets xs at (tableBytes k a b)
 
 module _ (k rows : ℕ) (a b p₀ q₀ xs : List ℕ) (at : ℕ) where
-  pub left-start : Comparable k rows a → Comparable k rows b → rows ≤ 2097151 → 42 ≤ length p₀ → 42 ≤ length q₀ → at + length (tableBytes k a b) ≤ length xs → (x y : Place) → Starts k a x → Starts k b y
+  pub left-start : Comparable k rows a → Comparable k rows b → rows ≤ 2097151 → 42 ≤ length p₀ → 42 ≤ length q₀ → at + length (tableBytes k a b) ≤ length xs → (x y : RowCursor) → Starts k a x → Starts k b y
       → PutLeft k rows a b p₀ q₀ p₀ q₀ x y xs at xs at 0
   left-start va vb m hp hq h x y sa sb =
       let e = start-bytes k rows a b p₀ q₀ x y sa sb in
@@ -64,7 +64,7 @@ module _ (k rows : ℕ) (a b p₀ q₀ xs : List ℕ) (at : ℕ) where
         is = ap (sets xs at) e;
       }
 
-  module _ (p q : List ℕ) (x y : Place) (ys : List ℕ) (next r : ℕ) (g : PutLeft k rows a b p₀ q₀ p q x y xs at ys next r) where
+  module _ (p q : List ℕ) (x y : RowCursor) (ys : List ℕ) (next r : ℕ) (g : PutLeft k rows a b p₀ q₀ p q x y xs at ys next r) where
     pub left-kept : length p ≡ length p₀
     left-kept = g .both .first-same
 
