@@ -16,7 +16,7 @@ use Rattle.b3d_scene.proofs.AnswerLaws.{judge-got}
 use Rattle.b3d_scene.proofs.Files.FileLaws.{size-bound}
 use Rattle.b3d_inside.proofs.Files.{parse-low}
 use Rattle.b3d_file_rows.proofs.Laws.{rows-law}
-use Rattle.b3d_next_node.proofs.Depth.{accepted-shallow}
+use Rattle.b3d_rows_nodes.proofs.DepthLaws.{accepted-shallow}
 use Rattle.b3d_compare_tables.specs.Tables.{Comparable}
 
 small : (s : List ℕ) (t : Scene) → parse Lenient s ≡ got t → length s < 0x100000000

@@ -11,15 +11,15 @@ use borrow.Author.Tests.{eq-eqb}
 use Rattle.layout.proofs.Lists.{All}
 use Rattle.b3d_scene.specs.Tables.{width, tables, nodeTables}
 use Rattle.b3d_file_rows.specs.Flat.{flatAt}
-use Rattle.b3d_next_node.specs.NextNode.{Shallow}
-use Rattle.b3d_next_node.specs.declared.Place.{Place}
-use Rattle.b3d_next_row.specs.NextRow.{rowsFrom, PlaceAt, Starts, RowNext}
+use Rattle.b3d_rows_nodes.specs.NextNode.{Shallow}
+use Rattle.b3d_rows_nodes.specs.declared.RowCursor.{RowCursor}
+use Rattle.b3d_rows.specs.NextRow.{rowsFrom, RowCursorAt, Starts, RowNext}
 use Rattle.b3d_compare_list.specs.Words.{wordsOf}
 use Rattle.wire.specs.Test.{if}
-use Rattle.b3d_same_items.specs.declared.Run.{Run}
-use Rattle.b3d_item_spots.specs.declared.Items.{Items}
-use Rattle.b3d_same_items.specs.SameItems.{RowsSame, SameItems, placePast}
-use Rattle.b3d_same_items.proofs.Passing.{above-four, rows-past, place-past}
+use Rattle.b3d_rows_same.specs.declared.EqualItems.{EqualItems}
+use Rattle.b3d_rows_open_items.specs.declared.OpenItems.{OpenItems}
+use Rattle.b3d_rows_same.specs.SameItems.{RowsSame, SameItems, cursorPast}
+use Rattle.b3d_rows_same.proofs.PastLaws.{above-four, rows-past, cursor-past}
 use Rattle.b3d_compare_list.specs.Changes.{Change, sameCell, wordChanges, rowChanges, tableChanges}
 use Rattle.b3d_compare_list.specs.List.{listBytes}
 use Rattle.b3d_compare_list.proofs.WordLaws.{widths, few-words}
@@ -46,10 +46,10 @@ width-is k h i = at-range (λ j. wordsOf j ≡ width j) 1 10 ten-widths k h (ome
 
 -- ---- a row of each
 
-next-long : (k : ℕ) (s : List ℕ) (x : Place) (p p′ : List ℕ) (y : Place) → RowNext k s x p p′ y → length p′ ≡ length p
+next-long : (k : ℕ) (s : List ℕ) (x : RowCursor) (p p′ : List ℕ) (y : RowCursor) → RowNext k s x p p′ y → length p′ ≡ length p
 next-long k s x p p′ y n = ap length (n .comes .stores) ∙ length-sets p 0 (n .comes .cells)
 
-module _ (k : ℕ) (lo : 1 ≤ k) (hi : k ≤ 10) (a b : List ℕ) (x y : Place) (p q : List ℕ) (hp : 42 ≤ length p) (hq : 42 ≤ length q) (p′ q′ : List ℕ) (x′ y′ : Place)
+module _ (k : ℕ) (lo : 1 ≤ k) (hi : k ≤ 10) (a b : List ℕ) (x y : RowCursor) (p q : List ℕ) (hp : 42 ≤ length p) (hq : 42 ≤ length q) (p′ q′ : List ℕ) (x′ y′ : RowCursor)
     (na : RowNext k a x p p′ x′) (nb : RowNext k b y q q′ y′) where
   -- entries of the two rows, then of those that follow
   pub step-is : (r : ℕ) → bytesFrom k a b r x y ≡ listBytes (rowChanges k a b r p′ q′) ++ bytesFrom k a b (r + 1) x′ y′
@@ -104,36 +104,36 @@ module _ (k : ℕ) (a b : List ℕ) (hk : 4 ≤ k) where
       let z : r + 1 + length l ≡ r + suc (length l) = omega arith in
       ap (λ (c : List Change). c ++ tableChanges k a b (r + 1) (l ++ xs) (l ++ ys)) (none-row r x) ∙ same-front l (r + 1) xs ys ∙ ap (λ (n : ℕ). tableChanges k a b n xs ys) z
 
-module _ (k : ℕ) (a b : List ℕ) (i j : Items) (t : Run) (s : SameItems k a b i j t) (h : t .count ≡ 0 → ⊥) where
+module _ (k : ℕ) (a b : List ℕ) (i j : OpenItems) (t : EqualItems) (s : SameItems k a b i j t) (h : t .count ≡ 0 → ⊥) where
   pub run-first : i .rest .at + t .bytes ≤ i .rest .end
   run-first = s .is (omega arith) .first-there
 
   pub run-second : j .rest .at + t .bytes ≤ j .rest .end
   run-second = s .is (omega arith) .second-there
 
-module _ (k : ℕ) (a b : List ℕ) (x y : Place) (t : Run) (v : RowsSame k a b (x .spot .items) (y .spot .items) t) where
-  first-past : rowsFrom k a x ≡ v .rows ++ rowsFrom k a (placePast (t .bytes) x)
+module _ (k : ℕ) (a b : List ℕ) (x y : RowCursor) (t : EqualItems) (v : RowsSame k a b (x .position .items) (y .position .items) t) where
+  first-past : rowsFrom k a x ≡ v .rows ++ rowsFrom k a (cursorPast (t .bytes) x)
   first-past = rows-past k a x (v .items) (t .bytes) (v .rows) (v .first)
 
-  second-past : rowsFrom k b y ≡ v .rows ++ rowsFrom k b (placePast (t .bytes) y)
+  second-past : rowsFrom k b y ≡ v .rows ++ rowsFrom k b (cursorPast (t .bytes) y)
   second-past = rows-past k b y (v .items) (t .bytes) (v .rows) (v .second)
 
-  pub pass-is : (r : ℕ) → bytesFrom k a b r x y ≡ bytesFrom k a b (r + t .count) (placePast (t .bytes) x) (placePast (t .bytes) y)
+  pub pass-is : (r : ℕ) → bytesFrom k a b r x y ≡ bytesFrom k a b (r + t .count) (cursorPast (t .bytes) x) (cursorPast (t .bytes) y)
   unfolding bytesFrom
   pass-is r =
       let h = above-four k (v .items) in
       ap₂ (λ (xs ys : List (List ℕ)). listBytes (tableChanges k a b r xs ys)) first-past second-past
-      ∙ ap listBytes (same-front k a b (omega arith) (v .rows) r (rowsFrom k a (placePast (t .bytes) x)) (rowsFrom k b (placePast (t .bytes) y)))
-      ∙ ap (λ (n : ℕ). listBytes (tableChanges k a b (r + n) (rowsFrom k a (placePast (t .bytes) x)) (rowsFrom k b (placePast (t .bytes) y)))) (v .long)
+      ∙ ap listBytes (same-front k a b (omega arith) (v .rows) r (rowsFrom k a (cursorPast (t .bytes) x)) (rowsFrom k b (cursorPast (t .bytes) y)))
+      ∙ ap (λ (n : ℕ). listBytes (tableChanges k a b (r + n) (rowsFrom k a (cursorPast (t .bytes) x)) (rowsFrom k b (cursorPast (t .bytes) y)))) (v .long)
 
-  pub pass-on : 0 < t .count → PlaceAt k a x → PlaceAt k b y → (p q : List ℕ) → Onward k a b x y (placePast (t .bytes) x) (placePast (t .bytes) y) p q p q (t .count)
+  pub pass-on : 0 < t .count → RowCursorAt k a x → RowCursorAt k b y → (p q : List ℕ) → Onward k a b x y (cursorPast (t .bytes) x) (cursorPast (t .bytes) y) p q p q (t .count)
   pass-on h ax by p q =
       record {
         some = omega arith;
-        first-at = place-past k a x (v .items) (t .bytes) ax (v .first-there);
-        second-at = place-past k b y (v .items) (t .bytes) by (v .second-there);
-        first-on = ap length first-past ∙ length-append (v .rows) (rowsFrom k a (placePast (t .bytes) x)) ∙ ap (λ (n : ℕ). n + length (rowsFrom k a (placePast (t .bytes) x))) (v .long);
-        second-on = ap length second-past ∙ length-append (v .rows) (rowsFrom k b (placePast (t .bytes) y)) ∙ ap (λ (n : ℕ). n + length (rowsFrom k b (placePast (t .bytes) y))) (v .long);
+        first-at = cursor-past k a x (v .items) (t .bytes) ax (v .first-there);
+        second-at = cursor-past k b y (v .items) (t .bytes) by (v .second-there);
+        first-on = ap length first-past ∙ length-append (v .rows) (rowsFrom k a (cursorPast (t .bytes) x)) ∙ ap (λ (n : ℕ). n + length (rowsFrom k a (cursorPast (t .bytes) x))) (v .long);
+        second-on = ap length second-past ∙ length-append (v .rows) (rowsFrom k b (cursorPast (t .bytes) y)) ∙ ap (λ (n : ℕ). n + length (rowsFrom k b (cursorPast (t .bytes) y))) (v .long);
         first-kept = refl;
         second-kept = refl;
       }
@@ -158,11 +158,11 @@ module _ (k rows : ℕ) (s : List ℕ) (v : Comparable k rows s) where
 
 pub ruleset file-laws = (file-low, file-high, file-long, file-small, file-deep)
 
-pub record BothLeft (k rows : ℕ) (a b p₀ q₀ p q : List ℕ) (x y : Place) (r : ℕ) : Type 0 where
+pub record BothLeft (k rows : ℕ) (a b p₀ q₀ p q : List ℕ) (x y : RowCursor) (r : ℕ) : Type 0 where
   pub low : 1 ≤ k
   pub high : k ≤ 10
-  pub first-at : PlaceAt k a x
-  pub second-at : PlaceAt k b y
+  pub first-at : RowCursorAt k a x
+  pub second-at : RowCursorAt k b y
   pub first-left : length (rowsFrom k a x) + r ≡ rows
   pub second-left : length (rowsFrom k b y) + r ≡ rows
   pub most : rows ≤ 2097151
@@ -172,7 +172,7 @@ pub record BothLeft (k rows : ℕ) (a b p₀ q₀ p q : List ℕ) (x y : Place) 
   pub second-same : length q ≡ length q₀
 
 module _ (k rows : ℕ) (a b p₀ q₀ : List ℕ) where
-  module _ (x y : Place) (sa : Starts k a x) (sb : Starts k b y) where
+  module _ (x y : RowCursor) (sa : Starts k a x) (sb : Starts k b y) where
     pub both-start : Comparable k rows a → Comparable k rows b → rows ≤ 2097151 → 42 ≤ length p₀ → 42 ≤ length q₀ → BothLeft k rows a b p₀ q₀ p₀ q₀ x y 0
     both-start va vb m hp hq =
         record {
@@ -193,7 +193,7 @@ module _ (k rows : ℕ) (a b p₀ q₀ : List ℕ) where
     unfolding bytesFrom tableBytes
     start-bytes = rw (sa .rows, sb .rows)
 
-  module _ (p q : List ℕ) (x y : Place) (r : ℕ) (g : BothLeft k rows a b p₀ q₀ p q x y r) where
+  module _ (p q : List ℕ) (x y : RowCursor) (r : ℕ) (g : BothLeft k rows a b p₀ q₀ p q x y r) where
     pub row-long : 42 ≤ length p
     row-long = omega (arith, g .first-long, g .first-same)
 
@@ -215,7 +215,7 @@ module _ (k rows : ℕ) (a b p₀ q₀ : List ℕ) where
       pub row-some-2 : 0 < length (rowsFrom k b y)
       row-some-2 = omega (arith, g .second-left)
 
-    module _ (x′ y′ : Place) (p′ q′ : List ℕ) (n : ℕ) (s : Onward k a b x y x′ y′ p q p′ q′ n) where
+    module _ (x′ y′ : RowCursor) (p′ q′ : List ℕ) (n : ℕ) (s : Onward k a b x y x′ y′ p q p′ q′ n) where
       pub rows-low : n < 4294967296
       rows-low = omega (arith, g .most, g .first-left, s .first-on)
 

@@ -8,10 +8,10 @@ use lib.ListN.{length}
 use Rattle.emit.proofs.Joining.{Both}
 use Rattle.shared_put_or_count.specs.Emits.{Fits, Emits}
 use Rattle.shared_put_or_count.proofs.Putting.{emits-none, fits-first, Left, left-none, left-done, left-next}
-use Rattle.b3d_next_node.specs.declared.Place.{Place}
-use Rattle.b3d_next_row.specs.NextRow.{PlaceAt, Starts, RowNext}
-use Rattle.b3d_same_items.specs.declared.Run.{Run}
-use Rattle.b3d_same_items.specs.SameItems.{SameItems, placePast}
+use Rattle.b3d_rows_nodes.specs.declared.RowCursor.{RowCursor}
+use Rattle.b3d_rows.specs.NextRow.{RowCursorAt, Starts, RowNext}
+use Rattle.b3d_rows_same.specs.declared.EqualItems.{EqualItems}
+use Rattle.b3d_rows_same.specs.SameItems.{SameItems, cursorPast}
 use Rattle.b3d_compare_list.specs.Changes.{rowChanges}
 use Rattle.b3d_compare_list.specs.List.{listBytes}
 use Rattle.b3d_compare_tables.specs.declared.Turn.{Turn}
@@ -20,7 +20,7 @@ use Rattle.b3d_compare_tables.proofs.Places.{step-is, step-on, BothLeft
 
 -- ---- `put_turn`
 
-module _ (k : ℕ) (lo : 1 ≤ k) (hi : k ≤ 10) (a b : List ℕ) (x y : Place) (p q : List ℕ) (hp : 42 ≤ length p) (hq : 42 ≤ length q) (p′ q′ : List ℕ) (first second : Place)
+module _ (k : ℕ) (lo : 1 ≤ k) (hi : k ≤ 10) (a b : List ℕ) (x y : RowCursor) (p q : List ℕ) (hp : 42 ≤ length p) (hq : 42 ≤ length q) (p′ q′ : List ℕ) (first second : RowCursor)
     (na : RowNext k a x p p′ first) (nb : RowNext k b y q q′ second) (kk : ℕ) (ek : kk ≡ k) (r : ℕ) (wet : Bool) (xs : List ℕ) (at : ℕ) where
   here-is : Both (bytesFrom k a b r x y) (listBytes (rowChanges kk a b r p′ q′)) (bytesFrom k a b (r + 1) first second)
   here-is = record { is = step-is k lo hi a b x y p q hp hq p′ q′ first second na nb r ∙ ap (λ (j : ℕ). listBytes (rowChanges j a b r p′ q′) ++ bytesFrom k a b (r + 1) first second) (sym ek) }
@@ -34,8 +34,8 @@ module _ (k : ℕ) (lo : 1 ≤ k) (hi : k ≤ 10) (a b : List ℕ) (x y : Place)
 
 -- ---- `put_rows`
 
-pub run-turn : (k : ℕ) (a b : List ℕ) (x y : Place) (t : Run) → SameItems k a b (x .spot .items) (y .spot .items) t → (t .count ≡ 0 → ⊥)
-    → (r : ℕ) → PlaceAt k a x → PlaceAt k b y → (p q : List ℕ) (first second : Place) → first ≡ placePast (t .bytes) x → second ≡ placePast (t .bytes) y
+pub run-turn : (k : ℕ) (a b : List ℕ) (x y : RowCursor) (t : EqualItems) → SameItems k a b (x .position .items) (y .position .items) t → (t .count ≡ 0 → ⊥)
+    → (r : ℕ) → RowCursorAt k a x → RowCursorAt k b y → (p q : List ℕ) (first second : RowCursor) → first ≡ cursorPast (t .bytes) x → second ≡ cursorPast (t .bytes) y
     → (wet : Bool) (xs : List ℕ) (at : ℕ) → PutTurn k r a b x y p q p q wet xs at xs (record { first = first; second = second; rows = t .count; next = at })
 run-turn k a b x y t s h r ax by p q first second e f wet xs at =
     let v = s .is (omega arith) in
@@ -44,12 +44,12 @@ run-turn k a b x y t s h r ax by p q first second e f wet xs at =
 -- ---- `put_table`
 
 -- rows from r on are left; so far the output is ys
-pub record PutLeft (k rows : ℕ) (a b p₀ q₀ p q : List ℕ) (x y : Place) (wet : Bool) (xs : List ℕ) (at : ℕ) (ys : List ℕ) (next r : ℕ) : Type 0 where
+pub record PutLeft (k rows : ℕ) (a b p₀ q₀ p q : List ℕ) (x y : RowCursor) (wet : Bool) (xs : List ℕ) (at : ℕ) (ys : List ℕ) (next r : ℕ) : Type 0 where
   pub both : BothLeft k rows a b p₀ q₀ p q x y r
   pub left : Left wet (tableBytes k a b) xs at ys next (bytesFrom k a b r x y)
 
 module _ (k rows : ℕ) (a b p₀ q₀ : List ℕ) (wet : Bool) (xs : List ℕ) (at : ℕ) where
-  pub left-start : Comparable k rows a → Comparable k rows b → rows ≤ 2097151 → 42 ≤ length p₀ → 42 ≤ length q₀ → Fits wet (tableBytes k a b) at xs → (x y : Place) → Starts k a x → Starts k b y
+  pub left-start : Comparable k rows a → Comparable k rows b → rows ≤ 2097151 → 42 ≤ length p₀ → 42 ≤ length q₀ → Fits wet (tableBytes k a b) at xs → (x y : RowCursor) → Starts k a x → Starts k b y
       → PutLeft k rows a b p₀ q₀ p₀ q₀ x y wet xs at xs at 0
   left-start va vb m hp hq f x y sa sb =
       record {
@@ -57,7 +57,7 @@ module _ (k rows : ℕ) (a b p₀ q₀ : List ℕ) (wet : Bool) (xs : List ℕ) 
         left = rw (start-bytes k rows a b p₀ q₀ x y sa sb) (left-none wet (tableBytes k a b) xs at f);
       }
 
-  module _ (p q : List ℕ) (x y : Place) (ys : List ℕ) (next r : ℕ) (g : PutLeft k rows a b p₀ q₀ p q x y wet xs at ys next r) where
+  module _ (p q : List ℕ) (x y : RowCursor) (ys : List ℕ) (next r : ℕ) (g : PutLeft k rows a b p₀ q₀ p q x y wet xs at ys next r) where
     pub left-kept : length p ≡ length p₀
     left-kept = g .both .first-same
 

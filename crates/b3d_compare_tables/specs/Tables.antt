@@ -8,9 +8,9 @@ use Rattle.emit.proofs.Joining.{Both}
 use Rattle.shared_put_or_count.specs.Emits.{Emits}
 use Rattle.b3d_file_rows.specs.Flat.{flatAt}
 use Rattle.b3d_file_rows.specs.Rows.{fileRows}
-use Rattle.b3d_next_node.specs.NextNode.{Shallow}
-use Rattle.b3d_next_node.specs.declared.Place.{Place}
-use Rattle.b3d_next_row.specs.NextRow.{rowsFrom, PlaceAt}
+use Rattle.b3d_rows_nodes.specs.NextNode.{Shallow}
+use Rattle.b3d_rows_nodes.specs.declared.RowCursor.{RowCursor}
+use Rattle.b3d_rows.specs.NextRow.{rowsFrom, RowCursorAt}
 use Rattle.b3d_compare_list.specs.Changes.{tableChanges}
 use Rattle.b3d_compare_list.specs.List.{listBytes}
 use Rattle.b3d_compare_tables.specs.declared.Turn.{Turn}
@@ -33,16 +33,16 @@ unfoldable pub tableBytes : ℕ → List ℕ → List ℕ → List ℕ
 tableBytes k a b = listBytes (tableChanges k a b 0 (fileRows k a) (fileRows k b))
 
 -- the entries of the rows from two places on, the first of them row r
-unfoldable pub bytesFrom : ℕ → List ℕ → List ℕ → ℕ → Place → Place → List ℕ
+unfoldable pub bytesFrom : ℕ → List ℕ → List ℕ → ℕ → RowCursor → RowCursor → List ℕ
 bytesFrom k a b r x y = listBytes (tableChanges k a b r (rowsFrom k a x) (rowsFrom k b y))
 
 -- n rows of each were passed: places x and y became x′ and y′, the rows p and q, into which words may have been read, p′ and q′
-pub record Onward (k : ℕ) (a b : List ℕ) (x y x′ y′ : Place) (p q p′ q′ : List ℕ) (n : ℕ) : Type 0 where
+pub record Onward (k : ℕ) (a b : List ℕ) (x y x′ y′ : RowCursor) (p q p′ q′ : List ℕ) (n : ℕ) : Type 0 where
   -- at least one
   pub some : 1 ≤ n
   -- both are places of their files
-  pub first-at : PlaceAt k a x′
-  pub second-at : PlaceAt k b y′
+  pub first-at : RowCursorAt k a x′
+  pub second-at : RowCursorAt k b y′
   -- n rows fewer are to come
   pub first-on : length (rowsFrom k a x) ≡ n + length (rowsFrom k a x′)
   pub second-on : length (rowsFrom k b y) ≡ n + length (rowsFrom k b y′)
@@ -51,7 +51,7 @@ pub record Onward (k : ℕ) (a b : List ℕ) (x y x′ y′ : Place) (p q p′ q
   pub second-kept : length q′ ≡ length q
 
 -- the entries of some rows of both were put or counted from `at` on, and the places moved past these rows
-pub record PutTurn (k r : ℕ) (a b : List ℕ) (x y : Place) (p q p′ q′ : List ℕ) (wet : Bool) (xs : List ℕ) (at : ℕ) (ys : List ℕ) (t : Turn) : Type 0 where
+pub record PutTurn (k r : ℕ) (a b : List ℕ) (x y : RowCursor) (p q p′ q′ : List ℕ) (wet : Bool) (xs : List ℕ) (at : ℕ) (ys : List ℕ) (t : Turn) : Type 0 where
   -- the rows that were passed
   pub on : Onward k a b x y (t .first) (t .second) p q p′ q′ (t .rows)
   -- their entries

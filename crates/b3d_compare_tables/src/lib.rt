@@ -2,14 +2,14 @@
 ghost use Prim.Native.Nat.{_<_, _≤_};
 ghost use lib.ListN.{length};
 ghost use Rattle.shared_put_or_count.specs.Emits.{Fits, Emits};
-ghost use Rattle.b3d_next_row.specs.NextRow.{rowsFrom, PlaceAt};
+ghost use Rattle.b3d_rows.specs.NextRow.{rowsFrom, RowCursorAt};
 ghost use Rattle.b3d_compare_tables.specs.Tables.{Comparable, bytesFrom, tableBytes, PutTurn};
-use b3d_next_node::Place;
+use b3d_rows_nodes::RowCursor;
 
 // Where a turn ends: the places behind some rows of both files, how many these are, and the place in the output behind their entries.
 pub struct Turn {
-    pub first: Place,
-    pub second: Place,
+    pub first: RowCursor,
+    pub second: RowCursor,
     pub rows: usize,
     pub next: usize,
 }
@@ -20,22 +20,22 @@ fn put_turn(
     b: &[u8],
     k: u32,
     r: u32,
-    x: Place,
-    y: Place,
+    x: RowCursor,
+    y: RowCursor,
     p: &mut [u32],
     q: &mut [u32],
     wet: bool,
     out: &mut [u8],
     at: usize,
 ) -> Turn
-    requires { ⌜ (1 ≤ k) × (k ≤ 10) × PlaceAt k (now a) x × (0 < length (rowsFrom k (now a) x)) × (42 ≤ length (now p))
-        × PlaceAt k (now b) y × (0 < length (rowsFrom k (now b) y)) × (42 ≤ length (now q))
+    requires { ⌜ (1 ≤ k) × (k ≤ 10) × RowCursorAt k (now a) x × (0 < length (rowsFrom k (now a) x)) × (42 ≤ length (now p))
+        × RowCursorAt k (now b) y × (0 < length (rowsFrom k (now b) y)) × (42 ≤ length (now q))
         × Fits wet (bytesFrom k (now a) (now b) r x y) at (now out) ⌝ }
     ensures { λ t. ⌜ PutTurn k r (now (a .entry)) (now (b .entry)) x y (now (p .entry)) (now (q .entry)) (now (p .exit)) (now (q .exit))
         wet (now (out .entry)) at (now (out .exit)) t ⌝ }
 {
-    let first = b3d_next_row::next_row(a, k, x, p);
-    let second = b3d_next_row::next_row(b, k, y, q);
+    let first = b3d_rows::next_row(a, k, x, p);
+    let second = b3d_rows::next_row(b, k, y, q);
     let next = b3d_compare_rows::put_row(a, b, p, q, wire::size(k), r, wet, out, at);
     Turn {
         first,
@@ -52,30 +52,30 @@ fn put_rows(
     b: &[u8],
     k: u32,
     r: u32,
-    x: Place,
-    y: Place,
+    x: RowCursor,
+    y: RowCursor,
     p: &mut [u32],
     q: &mut [u32],
     wet: bool,
     out: &mut [u8],
     at: usize,
 ) -> Turn
-    requires { ⌜ (1 ≤ k) × (k ≤ 10) × PlaceAt k (now a) x × (0 < length (rowsFrom k (now a) x)) × (42 ≤ length (now p))
-        × PlaceAt k (now b) y × (0 < length (rowsFrom k (now b) y)) × (42 ≤ length (now q))
+    requires { ⌜ (1 ≤ k) × (k ≤ 10) × RowCursorAt k (now a) x × (0 < length (rowsFrom k (now a) x)) × (42 ≤ length (now p))
+        × RowCursorAt k (now b) y × (0 < length (rowsFrom k (now b) y)) × (42 ≤ length (now q))
         × Fits wet (bytesFrom k (now a) (now b) r x y) at (now out) ⌝ }
     ensures { λ t. ⌜ PutTurn k r (now (a .entry)) (now (b .entry)) x y (now (p .entry)) (now (q .entry)) (now (p .exit)) (now (q .exit))
         wet (now (out .entry)) at (now (out .exit)) t ⌝ }
 {
-    let s = x.spot;
-    let t = y.spot;
+    let s = x.position;
+    let t = y.position;
     let i = s.items;
     let j = t.items;
-    let run = b3d_same_items::same_items(a, b, k, i, j);
+    let run = b3d_rows_same::same_items(a, b, k, i, j);
     if run.count == 0 {
         return put_turn(a, b, k, r, x, y, p, q, wet, out, at);
     }
-    let first = b3d_same_items::past(x, run.bytes);
-    let second = b3d_same_items::past(y, run.bytes);
+    let first = b3d_rows_same::past(x, run.bytes);
+    let second = b3d_rows_same::past(y, run.bytes);
     Turn {
         first,
         second,
@@ -101,8 +101,8 @@ pub fn put_table(
         × Fits wet (tableBytes k (now a) (now b)) at (now out) ⌝ }
     ensures { λ n. ⌜ Emits wet (tableBytes k (now (a .entry)) (now (b .entry))) (now (out .entry)) at (now (out .exit)) n ⌝ }
 {
-    let mut x = b3d_next_row::start(a, k);
-    let mut y = b3d_next_row::start(b, k);
+    let mut x = b3d_rows::start(a, k);
+    let mut y = b3d_rows::start(b, k);
     let mut next = at;
     let mut r: u32 = 0;
     while r < rows {

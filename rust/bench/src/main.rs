@@ -9,6 +9,7 @@
 //! last columns are ratios of medians.
 
 mod cal3d;
+mod compare;
 mod pieces;
 
 use kelompuris::{slices, Mode};
@@ -57,6 +58,7 @@ fn main() {
     colours();
     label_line();
     pieces::lines();
+    compare::lines();
     cal3d::lines();
 }
 

@@ -21,7 +21,7 @@ pub struct Pair {
 }
 
 /// Table from 1, or 0 for the twelve numbers; row and word from 0.
-type Position = (u32, u32, u32);
+type CellPosition = (u32, u32, u32);
 
 /// What stands in a cell.
 #[derive(Clone, Debug, PartialEq, Eq)]
@@ -154,7 +154,7 @@ fn numbers(sheet: &Sheet) -> [u32; 12] {
     numbers
 }
 
-fn cell(sheet: &Sheet, (table, row, word): Position) -> Cell {
+fn cell(sheet: &Sheet, (table, row, word): CellPosition) -> Cell {
     let (table, row) = (table as usize - 1, row as usize);
     match word == 0 && NAMED.contains(&table) {
         true => Cell::Name(sheet.name(table, row).expect("a name").to_vec()),
@@ -163,7 +163,7 @@ fn cell(sheet: &Sheet, (table, row, word): Position) -> Cell {
 }
 
 /// Adds an entry, unless the cells are the same.
-fn add(list: &mut Vec<u8>, (table, row, word): Position, old: Cell, new: Cell) {
+fn add(list: &mut Vec<u8>, (table, row, word): CellPosition, old: Cell, new: Cell) {
     if old == new {
         return;
     }
@@ -186,7 +186,7 @@ fn add(list: &mut Vec<u8>, (table, row, word): Position, old: Cell, new: Cell) {
 }
 
 /// Changes a cell that may have another value while all else stays; its position.
-fn change(sheet: &mut Sheet, rng: &mut Rng) -> Option<Position> {
+fn change(sheet: &mut Sheet, rng: &mut Rng) -> Option<CellPosition> {
     let table = rng.below(10);
     let row = rng.below((sheet.counts[table] as usize).max(1));
     if row >= sheet.counts[table] as usize {

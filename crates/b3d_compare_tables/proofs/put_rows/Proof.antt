@@ -1,5 +1,5 @@
 -- `put_rows` passes over items that are the same, else puts the entries of a row of each file.
-use Rattle.b3d_same_items.proofs.Passing.{items-in}
+use Rattle.b3d_rows_same.proofs.PastLaws.{items-in}
 use Rattle.b3d_compare_tables.proofs.Places.{run-first, run-second}
 use Rattle.b3d_compare_tables.proofs.Turning.{run-turn}
 use borrow.Author.Needs.{needs}

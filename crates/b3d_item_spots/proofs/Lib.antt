@@ -1,3 +1,0 @@
--- A law for each need of the functions, and what is left behind an item.
-pub mod Openings
-pub mod Steps

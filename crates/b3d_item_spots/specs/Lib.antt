@@ -1,2 +1,0 @@
--- The items of one chunk that are still to come.
-pub mod ItemSpots

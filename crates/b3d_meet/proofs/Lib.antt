@@ -1,2 +1,0 @@
--- The loop of `meet`.
-pub mod Meetings

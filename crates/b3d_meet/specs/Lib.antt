@@ -1,2 +1,0 @@
--- The next chunk of a tag in the flat run.
-pub mod Meeting

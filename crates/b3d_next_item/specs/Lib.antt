@@ -1,2 +1,0 @@
--- The next row of a table of items.
-pub mod NextItem

@@ -1,2 +1,0 @@
--- The next row of table 3.
-pub mod NextNode

@@ -1,3 +1,0 @@
--- A law for each need of the functions.
-pub mod Turns
-pub mod Starting

@@ -1,2 +1,0 @@
--- The next row of a table of texts.
-pub mod NextText

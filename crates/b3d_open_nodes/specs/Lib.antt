@@ -1,2 +1,0 @@
--- The nodes that are open at a place.
-pub mod OpenNodes

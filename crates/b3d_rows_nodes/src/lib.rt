@@ -1,0 +1,156 @@
+// The next row of table 3, the nodes, and the nodes that are open at a place of a file, by value: at most 16. A node that is entered finds its parent there.
+ghost use mathlib.Core.Path.{_≡_};
+ghost use Prim.Native.Nat.{_<_, _≤_};
+ghost use lib.ListN.{length};
+ghost use Rattle.b3d_rows_nodes.specs.NodeStack.{stackOf, openAt, topOf, OpenNodesAt, Closed, Enters};
+ghost use Rattle.b3d_rows_nodes.specs.NextNode.{nodesAhead, NodeFinds, NodePosition, NodeNext};
+use b3d_rows_positions::Position;
+use b3d_scene::Tag;
+use b3d_walk::Flat;
+use wire::Cursor;
+
+// The nodes that are open at a place: `depth` of them, the root first, with their ends and their row numbers. The cells from `depth` on say nothing.
+pub struct OpenNodes {
+    pub depth: usize,
+    pub ends: [usize; 16],
+    pub nodes: [u32; 16],
+}
+
+// Returns how many of the first `depth` nodes with these `ends` are open at the place `p`: those that ended there or before are taken off at the end.
+fn close(ends: [usize; 16], depth: usize, p: usize) -> usize
+    requires { ⌜ depth ≤ 16 ⌝ }
+    ensures { λ r. ⌜ Closed ends depth p r ⌝ }
+{
+    let mut d = depth;
+    while 0 < d {
+        let end = ends[d - 1];
+        if p < end {
+            return d;
+        }
+        d -= 1;
+    }
+    d
+}
+
+// Returns the row number of the last of the first `d` nodes, NONE where `d` is 0.
+fn top(nodes: [u32; 16], d: usize) -> u32
+    requires { ⌜ d ≤ 16 ⌝ }
+    ensures { λ r. ⌜ r ≡ topOf nodes d ⌝ }
+{
+    if d == 0 {
+        return 0xFFFFFFFF;
+    }
+    nodes[d - 1]
+}
+
+// An entered node's `parent`, and the open nodes with it.
+pub struct EnteredNode {
+    pub parent: u32,
+    pub path: OpenNodes,
+}
+
+// Enters a node with its header at `p`, its end at `end` and the row number `index`: returns its parent, NONE where no node is open at `p`, and the open nodes
+// with it.
+pub fn enter(path: OpenNodes, p: usize, end: usize, index: u32) -> EnteredNode
+    requires { ⌜ OpenNodesAt path × (length (openAt p (stackOf path)) < 16) ⌝ }
+    ensures { λ r. ⌜ Enters path p end index r ⌝ }
+{
+    let mut ends = path.ends;
+    let mut nodes = path.nodes;
+    let d = close(ends, path.depth, p);
+    let parent = top(nodes, d);
+    ends[d] = end;
+    nodes[d] = index;
+    EnteredNode {
+        parent,
+        path: OpenNodes {
+            depth: d + 1,
+            ends,
+            nodes,
+        },
+    }
+}
+
+// The next NODE: its header is at `at`, its own chunks begin at `next`, and `meshes` meshes and `weights` weights came before it. `End` where there is none.
+pub enum FoundNode {
+    Node {
+        at: usize,
+        body: Cursor,
+        next: usize,
+        meshes: usize,
+        weights: usize,
+    },
+    End,
+}
+
+// Returns the first NODE from the place `from` of the flat run on, before which `meshes` meshes and `weights` weights came.
+fn find_node(file: &[u8], from: usize, meshes: usize, weights: usize) -> FoundNode
+    requires { ⌜ (from ≤ length (now file)) × (length (now file) < 0x100000000) × (meshes ≤ from) × (weights ≤ from) ⌝ }
+    ensures { λ r. ⌜ NodeFinds (now (file .entry)) from meshes weights r ⌝ }
+{
+    let mut at = from;
+    let mut m = meshes;
+    let mut w = weights;
+    loop {
+        let Flat::Chunk(tag, p, body, next) = b3d_walk::flat_next(file, at) else {
+            return FoundNode::End;
+        };
+        if b3d_chunks::same(tag, Tag::NODE) {
+            return FoundNode::Node {
+                at: p,
+                body,
+                next,
+                meshes: m,
+                weights: w,
+            };
+        }
+        if b3d_chunks::same(tag, Tag::MESH) {
+            m += 1;
+        } else if b3d_chunks::same(tag, Tag::BONE) {
+            w += (body.end - body.at) / 8;
+        }
+        at = next;
+    }
+}
+
+// A cursor over the rows of a table: the position, and for table 3 the nodes that are open there, which the other tables do not look at.
+pub struct RowCursor {
+    pub position: Position,
+    pub path: OpenNodes,
+}
+
+// Writes the next row of table 3 into the start of `row` and returns the cursor behind it. The cells behind the row stay.
+pub fn next_node(file: &[u8], x: Position, path: OpenNodes, row: &mut [u32]) -> RowCursor
+    requires { ⌜ NodePosition (now file) x path × (0 < length (nodesAhead (now file) x path)) × (42 ≤ length (now row)) ⌝ }
+    ensures { λ r. ⌜ NodeNext (now (file .entry)) x path (now (row .entry)) (now (row .exit)) r ⌝ }
+{
+    let mut counts = x.counts;
+    let FoundNode::Node {
+        at: p,
+        body,
+        next,
+        meshes,
+        weights,
+    } = find_node(file, x.at, counts.meshes, counts.weights)
+    else {
+        return RowCursor { position: x, path };
+    };
+    let i = cells::cell(counts.nodes);
+    let e = enter(path, p, body.end, i);
+    b3d_fill_tree::put_node(file, p, body, next, e.parent, meshes, weights, 0, row);
+    counts.nodes = counts.nodes + 1;
+    counts.meshes = meshes;
+    counts.weights = weights;
+    let inner = x.inner;
+    let items = x.items;
+    let entered = e.path;
+    RowCursor {
+        position: Position {
+            at: next,
+            inner,
+            items,
+            counts,
+        },
+        path: entered,
+    }
+}

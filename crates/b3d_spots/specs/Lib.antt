@@ -1,2 +1,0 @@
--- Rows that are still to come from a spot.
-pub mod Spots
