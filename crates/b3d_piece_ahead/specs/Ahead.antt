@@ -26,5 +26,5 @@ pub record RoomIs (size left r : ℕ) : Type 0 where
   pub most : r ≤ left
   -- if there are any, BB3D's header is over
   pub body : (r ≡ 0 → ⊥) → 8 ≤ size
-  -- if there are any, they are at most one past the longest file
+  -- if there are any, with them the file is at most one byte longer than the longest file
   pub file : (r ≡ 0 → ⊥) → size + r ≤ 16777217

@@ -19,7 +19,7 @@ pub fn room(size: usize, left: usize) -> usize
     lower(left, 16777217 - size)
 }
 
-// Returns how many of at most `n` bytes from `at` on may be taken so that the last of them is before the last byte before `end`; 0 if `end` is not past `at`.
+// Returns how many of the `n` bytes from `at` on may be taken so that at least one byte before `end` is left; 0 if `end` is not past `at`.
 pub fn before(at: usize, end: usize, n: usize) -> usize
     ensures { λ r. ⌜ Before at end n r ⌝ }
 {
