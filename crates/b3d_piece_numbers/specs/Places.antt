@@ -72,9 +72,9 @@ pub record Sound (last : ℕ) (x : RowPlace) : Type 0 where
   pub three : x .j ≤ 3
   -- its index is at most its place
   pub index : x .i ≤ x .at
-  -- the bytes that came are worth what as many bytes can be
+  -- the value of the bytes that came is below `worth` of how many they are
   pub low : x .acc < worth (x .j)
-  -- they are worth less than a fourth byte
+  -- their value is below 16,777,216
   pub most : x .acc < 16777216
   -- the numbers kept are words
   pub words : Words (x .kept)
