@@ -9,13 +9,16 @@ use Rattle.b3d_label_walk.specs.declared.TrayLabel.{TrayLabel}
 
 -- ---- vertices
 
+-- how many vertices were found, as code holds it
 abbrev pub manyOf : Out ℕ → Many
 manyOf (got n) = many.Are n
 manyOf (bad n p) = many.Not
 
 -- ---- a label
 
--- r is the label of o, and its name lies among n bytes
+-- r is the label of o
 pub record Labels (o : Out Printed) (n : ℕ) (r : TrayLabel) : Type 0 where
+  -- it says what o says
   pub is : r ≡ labelled o
+  -- its name lies among n bytes
   pub within : r .«name_place» + r .«name_length» ≤ n

@@ -28,8 +28,11 @@ OpenFits f n = Bound (f .tag) (f .level) n × Words (f .kept)
 
 -- r is n where either is at most 16,777,217; r is at most m
 pub record Small (m n r : ℕ) : Type 0 where
+  -- if r is at most 16,777,217, it is n
   pub yes : r ≤ 16777217 → r ≡ n
+  -- if n is at most 16,777,217, r is n
   pub all : n ≤ 16777217 → r ≡ n
+  -- r is at most m
   pub most : r ≤ m
 
 -- a number of a row is as the machine leaves it after n bytes: it began at `at`, j of its bytes came, worth acc, and k are words
