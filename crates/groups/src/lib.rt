@@ -49,8 +49,8 @@ pub fn put_groups(n: u32, out: &mut [u8], at: usize) -> usize
     next + 1
 }
 
-// Reads the number at place `at` of `s`, which is at most `most`. Returns it and the place after it; or 13 at `at` if its bytes make it wrong, at the end of
-// `s` if it is cut.
+// Reads the number at place `at` of `s`, which is at most `most`. Returns it and the place after it; or 13 at `at` if its bytes make it wrong, at the first
+// byte that is missing if it is cut.
 pub fn read_number(s: &[u8], at: usize, most: u32) -> Grouped
     ensures { λ r. ⌜ r ≡ grouped (readNumber most at (drop at (now (s .entry)))) ⌝ }
 {
