@@ -18,7 +18,7 @@ manyOf (bad n p) = many.Not
 
 -- r is the label of o
 pub record Labels (o : Out Printed) (n : ℕ) (r : TrayLabel) : Type 0 where
-  -- it says what o says
+  -- r says what o says
   pub is : r ≡ labelled o
-  -- its name lies among n bytes
+  -- the name on r lies among n bytes
   pub within : r .«name_place» + r .«name_length» ≤ n

@@ -6,9 +6,9 @@ use lib.ListN.{getD}
 
 -- r of at most n bytes from `at` on
 pub record Before (at end n r : ℕ) : Type 0 where
-  -- they are at most n
+  -- r is at most n
   pub most : r ≤ n
-  -- if there are any, the place after them is before the end
+  -- if r is not 0, the place after these bytes is before the end
   pub inside : (r ≡ 0 → ⊥) → at + r < end
 
 -- r is the place up to which no byte of p from `from` on is zero
@@ -22,9 +22,9 @@ pub record UntilZero (p : List ℕ) (from last r : ℕ) : Type 0 where
 
 -- r of the next `left` bytes may be taken at once after `size` bytes
 pub record RoomIs (size left r : ℕ) : Type 0 where
-  -- they are at most `left`
+  -- r is at most `left`
   pub most : r ≤ left
-  -- if there are any, BB3D's header is over
+  -- if r is not 0, BB3D's header is over
   pub body : (r ≡ 0 → ⊥) → 8 ≤ size
-  -- if there are any, with them the file is at most one byte longer than the longest file
+  -- if r is not 0, with these bytes the file is at most one byte longer than the longest file
   pub file : (r ≡ 0 → ⊥) → size + r ≤ 16777217

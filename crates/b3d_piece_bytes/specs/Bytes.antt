@@ -15,7 +15,7 @@ gathers (suc (suc (suc j))) acc b = acc + 16777216 * b
 
 -- r is the value of j bytes of a number, worth acc, and one more, b
 pub record Adds (j acc b r : ℕ) : Type 0 where
-  -- it is what `gathers` gives
+  -- r is what `gathers` gives
   pub is : r ≡ gathers j acc b
   -- if the number is not complete, r is below what j + 1 bytes can be
   pub low : j < 3 → r < worth (j + 1)

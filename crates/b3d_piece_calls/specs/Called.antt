@@ -44,7 +44,7 @@ freshJudge = record { size = 0; worth = 0; letters = 0; length = 0; shut = false
 
 -- a state that a file may begin with, whatever stands in the row
 pub record Fresh (j : Judge) : Type 0 where
-  -- it stands for what the definitions begin with
+  -- the state stands for what the definitions begin with
   pub is : (rs : ℕ → Open) → heldOf j rs ≡ freshHeld
   -- the file is not closed
   pub shut : j .shut ≡ false

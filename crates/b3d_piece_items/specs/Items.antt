@@ -39,7 +39,7 @@ pub record WholeRows (a b n r : ℕ) : Type 0 where
   pub there : (r ≡ 0 → ⊥) → 4 * (r * n) + 4 * n ≤ b
   -- if there are any, a row has numbers
   pub some : (r ≡ 0 → ⊥) → 0 < n
-  -- they are no more than their numbers
+  -- the rows are no more than their numbers
   pub few : r ≤ r * n
 
 -- rows from x to r are passed over, whatever their bytes

@@ -25,7 +25,7 @@ fn ids(past: usize, names: usize) -> Judged
     }
 }
 
-// Returns that every number is judged and none is right, so that rows are left to the machine's own turns.
+// Returns that every number is judged and none is right: such rows are left to the machine's own turns.
 fn every() -> Judged
     ensures { λ r. ⌜ AnyRow r ⌝ }
 {

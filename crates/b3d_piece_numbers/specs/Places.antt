@@ -35,22 +35,22 @@ pub record JudgedIs (q : Judged) (fixed : Bool) (t : Tag) (k : Kept) (g : Totals
 
 -- the rows are items of numbers only
 pub record Plain (fixed : Bool) (t : Tag) : Type 0 where
-  -- they are no fixed data
+  -- the rows are no fixed data
   pub items : fixed ≡ false
-  -- they are no headers
+  -- the rows are no headers
   pub chunks : nests t ≡ false
-  -- they have no text
+  -- the rows have no text
   pub texts : textItems t ≡ false
 
 -- q says what the rules of a row of f ask
 pub record RulesAre (q : RowRules) (fixed : Bool) (g : Totals) (f : Open) : Type 0 where
-  -- how many numbers the row has
+  -- `long` is how many numbers the row has
   pub long : q .long ≡ length (rules fixed f g)
-  -- which of them may break their rule
+  -- `judged` says which of its numbers may break their rule
   pub judged : JudgedIs (q .judged) fixed (f .tag) (f .kept) g
-  -- if it says that another row may follow, the rows are items of numbers only
+  -- if `again` says that another row may follow, the rows are items of numbers only
   pub again : q .again ≡ true → Plain fixed (f .tag)
-  -- the end of f
+  -- `end` is the end of f
   pub end : q .end ≡ f .end
 
 -- if r is true, number i of a row keeps its rule with w
@@ -70,17 +70,17 @@ pub record Sound (last : ℕ) (x : RowPlace) : Type 0 where
   pub from : x .from ≤ last
   -- at most three bytes of the present number came
   pub three : x .j ≤ 3
-  -- its index is at most its place
+  -- the index of the present number is at most its place
   pub index : x .i ≤ x .at
   -- the value of the bytes that came is below `worth` of how many they are
   pub low : x .acc < worth (x .j)
-  -- their value is below 16,777,216
+  -- the value of the bytes that came is below 16,777,216
   pub most : x .acc < 16777216
   -- the numbers kept are words
   pub words : Words (x .kept)
   -- the items are no more than the place
   pub count : x .count ≤ x .at
-  -- all bytes up to `last` are at most one past the longest file
+  -- with all bytes up to `last` the file is at most one byte longer than the longest file
   pub place : x .at + x .j + (last - x .from) ≤ 16777217
 
 -- the bytes of the piece p from the place x to the place r were taken
@@ -124,7 +124,7 @@ pub record Goes (x : RowPlace) (w next : ℕ) (q : RowRules) (r : RowPlace) : Ty
   pub whole : r .j ≡ 0
   -- the next number is worth nothing yet
   pub none : r .acc ≡ 0
-  -- its index is at most its place
+  -- the index of the next number is at most its place
   pub index : r .i ≤ r .at
   -- the numbers kept are words
   pub words : Words (r .kept)

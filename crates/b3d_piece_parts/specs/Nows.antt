@@ -45,7 +45,7 @@ Calm (Over g) = Unit {0}
 pub record Ready (s at : ℕ) (g : Totals) (f : Open) : Type 0 where
   -- the rows counted and f's items leave room for s more
   pub few : sum g + f .count + s ≤ 16777217
-  -- no place is past the longest file and one byte
+  -- the place is at most one byte past the longest file
   pub place : at ≤ 16777217
   -- f's fixed data are words
   pub words : Words (f .kept)

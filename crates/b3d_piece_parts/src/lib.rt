@@ -13,7 +13,7 @@ pub enum Now {
     Live(usize, Part, Totals, Open),
     // A chunk is to be entered: the place of its body, the totals, the chunk, and the one around it, which goes to the row.
     Push(usize, Totals, Open, Open),
-    // A chunk ended at this place, with these totals: the last chunk of the row goes on, or ends too.
+    // A chunk ended at this place, with these totals: the last chunk of the row goes on, or ends too; if there is none, all was read.
     Pop(usize, Totals),
     // A refusal and its place.
     Fault(u32, usize),

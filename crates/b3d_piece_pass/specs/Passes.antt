@@ -34,7 +34,7 @@ LiveFine n (Over g) = Unit {0}
 pub record PassReady (t : Turn) (p : List ℕ) : Type 0 where
   -- the turn's end is the piece's
   pub end : t .end ≡ length p
-  -- its place is not past it
+  -- the turn's place is not past its end
   pub within : t .at ≤ t .end
   -- after BB3D's header, what is held is fine
   pub fine : 8 ≤ t .judge .size → LiveFine (t .judge .size) (t .judge .now)

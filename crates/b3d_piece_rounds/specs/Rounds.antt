@@ -52,9 +52,9 @@ pub record Testing (rs : ℕ → Open) (t : Round) : Type 0 where
   pub most : t .turn .judge .depth ≤ 18
   -- the chunks before `get` are nested as a file's may be
   pub deep : Deep (stackBy rs (t .get))
-  -- `load` is the rows that they may still add
+  -- `load` is the rows that the chunks before `get` may still add
   pub sum : load (stackBy rs (t .get)) ≡ t .load
-  -- these are no more than the longest file and one byte allow
+  -- `load` is at most 16,777,217
   pub few : t .load ≤ 16777217
 
 -- all records in use are tested, and it is decided: turns may follow (number 0), or state and row are not as calls leave them (15)
@@ -69,14 +69,16 @@ pub record Decided (n : ℕ) (rs : ℕ → Open) (t : Round) : Type 0 where
   pub unfit : (t .number ≡ 0 → ⊥) → CanRun (t .turn .judge) n rs → ⊥
   -- a refusal is 15
   pub number : (t .number ≡ 0 → ⊥) → t .number ≡ 15
-  -- its place is 0
+  -- the place is 0
   pub place : t .place ≡ 0
   -- after a refusal no round follows
   pub stop : (t .number ≡ 0 → ⊥) → t .go ≡ false
 
 -- the state of a round: records are being tested (`Testing`), or the decision is made (`Decided`)
 pub record Stands (n : ℕ) (rs : ℕ → Open) (t : Round) : Type 0 where
+  -- while records are being tested
   pub testing : t .testing ≡ true → Testing rs t
+  -- when they are not any more
   pub decided : t .testing ≡ false → Decided n rs t
 
 -- a call is refused with n at p before any round
@@ -92,7 +94,7 @@ pub record Refusing (n p : ℕ) (r : Round) : Type 0 where
 
 -- the promise of the first round r, for what the judge holds, j, a row of n records and a piece of this many bytes
 pub record FirstIs (j : Judge) (n bytes : ℕ) (r : Round) : Type 0 where
-  -- its turn is the first over the piece
+  -- the turn of r is the first over the piece
   pub begun : Begins j bytes (r .turn)
   -- fewer than 19 records: 11 with size 19
   pub short : n < 19 → Refusing 11 19 r
@@ -103,16 +105,16 @@ pub record FirstIs (j : Judge) (n bytes : ℕ) (r : Round) : Type 0 where
 
 -- what a test asks of its round
 pub record TestReady (t : Round) : Type 0 where
-  -- the load is no more than the longest file and one byte allow
+  -- `load` is at most 16,777,217
   pub few : t .load ≤ 16777217
   -- the record to test is one of the first 18
   pub get : t .get ≤ 17
 
 -- the promise of a round r that tests the record rec
 pub record TestIs (t : Round) (rec : OpenRecord) (r : Round) : Type 0 where
-  -- it is written at its own place
+  -- the record is written at the place where it was read
   pub place : r .put ≡ t .get
-  -- it is written back as it was
+  -- the record is written back as it was
   pub back : r .rec ≡ rec
   -- the turn stays
   pub turn : r .turn ≡ t .turn
@@ -157,16 +159,16 @@ pub record TurnedIs (t : Round) (rec : OpenRecord) (p : List ℕ) (r : Round) : 
 
 -- what a round asks
 pub record NextReady (t : Round) (rec : OpenRecord) (p : List ℕ) : Type 0 where
-  -- for a test
+  -- what a test asks, while records are being tested
   pub test : t .testing ≡ true → TestReady t
-  -- for a turn
+  -- what a turn asks, when they are not
   pub turn : t .testing ≡ false → TurnReady t rec p
 
 -- the promise of a round
 pub record NextIs (t : Round) (rec : OpenRecord) (p : List ℕ) (r : Round) : Type 0 where
-  -- of a test
+  -- the promise of a test, while records are being tested
   pub test : t .testing ≡ true → TestIs t rec r
-  -- of a turn
+  -- the promise of a turn, when they are not
   pub turn : t .testing ≡ false → TurnedIs t rec p r
 
 -- ---- after the last round
@@ -175,7 +177,7 @@ pub record NextIs (t : Round) (rec : OpenRecord) (p : List ℕ) (r : Round) : Ty
 pub record LastIs (t : Round) (s : PieceState) (r : PieceFed) : Type 0 where
   -- the number is the round's
   pub number : r .number ≡ t .number
-  -- on a refusal so is the place
+  -- on a refusal the place is the round's
   pub place : (t .number ≡ 0 → ⊥) → r .place ≡ t .place
   -- on 0 the place is 0, and the state is what the judge holds
   pub taken : t .number ≡ 0 → (r .place ≡ 0) × (r .state ≡ stateOf (t .turn .judge))

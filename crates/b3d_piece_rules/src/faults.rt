@@ -31,7 +31,7 @@ pub fn name(n: usize, w: usize) -> u32
     7
 }
 
-// Returns 0 if the id `w` is below `n` or is -1, else 7.
+// Returns 0 if the id `w` is below `n` or is -1 (0xFFFFFFFF), else 7.
 pub fn name_or_none(n: usize, w: usize) -> u32
     ensures { λ r. ⌜ r ≡ faultOf (namesOrNone n) w ⌝ }
 {
@@ -95,7 +95,7 @@ pub fn fixed_fault(tag: Tag, g: Totals, i: usize, w: usize) -> u32
     }
 }
 
-// Returns 0 if the bits `w` of a red, green, blue or alpha are a number from 0 to 1, else 6.
+// Returns 0 if the bits `w` of a red, green, blue or alpha are a number from 0 to 1, minus zero among them; else 6.
 pub fn colour(w: usize) -> u32
     requires { ⌜ IsWord w ⌝ }
     ensures { λ r. ⌜ r ≡ faultOf unit w ⌝ }

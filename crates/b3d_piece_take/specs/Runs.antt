@@ -20,7 +20,7 @@ pub record CanRun (j : Judge) (n : ℕ) (rs : ℕ → Open) : Type 0 where
 
 -- the promise of taking the piece s: r is held then, with a row of n records, `after`
 pub record RunIs (j : Judge) (rs : ℕ → Open) (s : List ℕ) (r : Judge) (n : ℕ) (after : ℕ → Open) : Type 0 where
-  -- it stands for what the definitions hold after these bytes
+  -- what is held stands for what the definitions hold after these bytes
   pub is : heldOf r after ≡ piece (heldOf j rs) s
   -- another piece may follow
   pub next : CanRun r n after

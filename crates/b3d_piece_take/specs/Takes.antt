@@ -62,7 +62,7 @@ pub record TakeReady (j : Judge) (rec : Open) : Type 0 where
   pub head : j .size < 8 → j .worth < headLow (j .size)
   -- a chunk that waits to be entered or left is ready for it
   pub wait : pends (j .now) ≡ true → ReadyNow (j .now) (j .depth) rec
-  -- after BB3D's header, and before the longest file's end, the machine is ready for a byte
+  -- after BB3D's header, unless the file is longer than the longest, the machine is ready for a byte
   pub byte : pends (j .now) ≡ false → 8 ≤ j .size → j .size ≤ 16777216 → ReadyNow (j .now) (j .depth) rec
 
 -- what a turn of the machine asks that takes `came` bytes
@@ -73,7 +73,7 @@ pub record BodyReady (j : Judge) (came : ℕ) : Type 0 where
   pub wait : pends (j .now) ≡ true → came ≡ 0
   -- otherwise it takes one, which is at most one past the longest file
   pub byte : pends (j .now) ≡ false → (came ≡ 1) × (j .size ≤ 16777216)
-  -- it takes at most one
+  -- a turn takes at most one byte
   pub one : came ≤ 1
 
 -- the rows rs before and rs′ after a turn, n records being in use before it

@@ -26,7 +26,7 @@ fineOr15 false go get = refusing 15 0
 pub record FineBy (j : Judge) (w : ℕ) (go : Bool) (get : ℕ) (x : Decision) : Type 0 where
   -- whether turns may follow
   pub fine : Bool
-  -- they may just where j and the row are as calls leave them
+  -- turns may follow just where j and the row are as calls leave them
   pub tests : StateTests j w fine
   -- x says so
   pub is : x ≡ fineOr15 fine go get
@@ -46,9 +46,9 @@ pub record FirstBy (j : Judge) (n : ℕ) (go : Bool) (get : ℕ) (x : Decision) 
 
 -- x is the decision after the test of record i, which is f, where those before it have the load w
 pub record TestBy (j : Judge) (w i : ℕ) (f : Open) (go : Bool) (get : ℕ) (x : Decision) : Type 0 where
-  -- the load of f, or a number above 16,777,217
+  -- the rows that f may still add, or a number above 16,777,217
   pub v : ℕ
-  -- it is above that if a file cannot have f open there
+  -- v is above 16,777,217 if these are too many or a file cannot have f open there
   pub weighs : Weighs (OpenFits f i) (f .count + extra (f .tag)) v
   -- too much: it is decided with a load that no row has
   pub over : 16777217 < w + v → FineBy j 16777218 go get x

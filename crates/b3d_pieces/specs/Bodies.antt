@@ -57,7 +57,7 @@ saying a own g = nodeWith g own (g .told) (boneVertices (bonesFrom (above g) a o
 
 -- ---- rows
 
--- the rules of the fixed data of a chunk of tag t, after its text if it has one
+-- the rules of the fixed data of a chunk of tag t, after its text if it has one: column two of 01's table of chunks
 abbrev pub fixedRow : Tag → Totals → List Rule
 fixedRow BB3D g = fileHead
 fixedRow TEXS g = []
@@ -70,7 +70,8 @@ fixedRow BONE g = []
 fixedRow KEYS g = keysHead
 fixedRow ANIM g = animRow
 
--- the rules of an item of a chunk of tag t with the fixed data k, after its text if it has one; in BB3D, NODE and MESH of a header inside it
+-- the rules of an item of a chunk of tag t with the fixed data k, after its text if it has one: column three of 01's table of chunks; in BB3D, NODE and MESH
+-- the rules of a header inside it
 abbrev pub innerRow : Tag → Kept → Totals → List Rule
 innerRow BB3D k g = header
 innerRow TEXS k g = textureRow

@@ -8,7 +8,7 @@ use Rattle.layout.specs.Out.{Out, got, bad, check, _>>=_}
 use Rattle.b3d_pieces.specs.Close.{Held, freshHeld, piece, closing, answerOf}
 use Rattle.b3d_scene.specs.declared.Answer.{Answer}
 
--- the records that a call must be lent: enough for a BB3D, 16 nodes, a MESH and a chunk of items
+-- the records that a call must be lent, 02's 19: enough for a BB3D, 16 nodes, a MESH and a chunk of items
 abbrev pub records : ℕ
 records = 19
 

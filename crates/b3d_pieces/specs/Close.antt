@@ -94,7 +94,7 @@ limited g = do
   _ ← eachOf 10 (λ (k : ℕ). leb (getD (countsOf g) (k - 1) 0) rowLimit) tables
   got g
 
--- what all bytes joined come to: check 1, then 2, then the machine's refusal, then 10; else the totals
+-- what all bytes joined come to, with 01's order of checks: 1, then 2, then the machine's refusal, then 10; else the totals
 unfoldable pub closing : Held → Out Totals
 closing h = do
   _ ← check (sizeFits (h .size)) 1 0

@@ -91,7 +91,8 @@ Off (Text fixed start) at n = at ≡ n
 Off (Row fixed start i j acc k) at n = (at + j ≡ n) × (j ≤ 3) × (i ≤ at) × (acc < worth j) × Words k
 Off (Skip until) at n = at ≡ n
 
--- the machine's invariant after n bytes: open chunks and totals fit (`Fits`), and the present part is right (`Off`); nothing of a refusal
+-- the machine's invariant after n bytes: inside chunks they and the totals fit (`Fits`), and the present part is right (`Off`); past BB3D no more rows were
+-- counted than bytes came; of a refusal nothing is asked
 abbrev pub Good : ℕ → State → Type 0
 Good n (live at m g f R) = Fits at g (f ∷ R) × Off m at n
 Good n (fault m p) = Unit {0}

@@ -16,7 +16,7 @@ pub record Carries (s : List ℕ) : Type 0 where
   pub first : (n p room : ℕ) → judge Lenient s ≡ bad n p → fileSlip s room ≡ bad n p
   -- an accepted file has a slip
   pub slip : (t : Scene) → judge Lenient s ≡ got t → List ℕ
-  -- it is the slip of the file's own numbers, which are never refused by 13
+  -- the slip is that of the file's own numbers, which are never refused by 13
   pub is : (t : Scene) (e : judge Lenient s ≡ got t) → slipFor (sceneNumbers t) ≡ got (slip t e)
   -- 11 is given exactly when the output is shorter
   pub then : (t : Scene) (e : judge Lenient s ≡ got t) (room : ℕ) → fileSlip s room ≡ roomFor room (slip t e)

@@ -40,23 +40,23 @@ childrenIn bs = length (childRows bs)
 pub record LaidAt (s : List ℕ) (bones : ℕ) (o : Out (Step Bone)) (c : Cursor) (numbers count : ℕ) (next : Cursor) : Type 0 where
   -- the bone
   pub bone : Bone
-  -- it is what was read, and `next` is the cursor after it
+  -- the bone is what was read, and `next` is the cursor after it
   pub is : o ≡ got (record { value = bone; place = next .at; left = left next s })
-  -- its first byte is at c
+  -- the bone's first byte is at c
   pub place : bone .place ≡ c .at
-  -- its name stands after its length, up to its numbers
+  -- the bone's name stands after its length, up to its numbers
   pub label : nameCells (bone .name) ≡ (c .at + 4) ∷ (numbers - (c .at + 4)) ∷ []
-  -- its 20 numbers
+  -- the bone's 20 numbers are the words at `numbers`
   pub words : bone .numbers ≡ wordsOf 20 (left (record { at = numbers; end = c .end }) s)
-  -- its parent is the word at byte 56 of its numbers
+  -- the bone's parent is the word at byte 56 of its numbers
   pub parent : parentOf bone ≡ wordAt s (numbers + 56)
-  -- it has `count` children
+  -- the bone has `count` children
   pub many : length (bone .children) ≡ count
-  -- they stand after its 80 bytes of numbers
+  -- the children stand after the 80 bytes of numbers
   pub kids : listOf bone ≡ wordsOf count (left (record { at = numbers + 80; end = c .end }) s)
-  -- each is one of the bones
+  -- each child is one of the bones
   pub named : All (λ (k : ℕ). k < bones) (listOf bone)
-  -- its numbers are after the length of its name
+  -- the numbers are after the length of the name
   pub behind : c .at + 4 ≤ numbers
   -- numbers and children are before `next`
   pub room : numbers + 80 + 4 * count ≤ next .at

@@ -16,7 +16,7 @@ use Rattle.cal3d_links.specs.declared.Told.the-variants as told
 pub record Good (s : List ℕ) (from : Cursor) (bones : ℕ) : Type 0 where
   -- the cursor lies in the file
   pub inside : Inside from (length s)
-  -- its end is the file's
+  -- the cursor's end is the file's
   pub last : from .end ≡ length s
   -- the file is not over the size limit
   pub small : length s ≤ 16777216

@@ -1,4 +1,4 @@
-// Checks that the child lists and the parents of a skeleton file tell the same trees (refusal 16), by walks over the file with local rows of numbers, in time
+// Checks that the child lists and the parents of a skeleton file tell the same trees (refusal 16). It walks over the file with local rows of numbers, in time
 // that grows with the file.
 ghost use mathlib.Core.Path.{_≡_};
 ghost use mathlib.Core.List.{[], map};
@@ -11,7 +11,7 @@ ghost use Rattle.cal3d_links.specs.Links.{Good, bonesAt, toldOf};
 use cal3d_bones::Laid;
 use wire::Cursor;
 
-// That lists and parents tell the same trees, or a refusal and its place.
+// Lists and parents tell the same trees; or a refusal and its place.
 pub enum Told {
     Same,
     Not(u32, u32),

@@ -44,9 +44,15 @@ pub record MeshFit (s : List ℕ) (l1 l2 l3 l4 l5 l6 : ℕ) : Type 0 where
 
 -- each of the tables t1 to t6 then has its rows, and after them what stood there: u1 to u6
 pub record MeshFilled (s t1 t2 t3 t4 t5 t6 u1 u2 u3 u4 u5 u6 : List ℕ) : Type 0 where
+  -- table 1
   pub rows1 : u1 ≡ stored t1 0 (fileWords 1 s)
+  -- table 2
   pub rows2 : u2 ≡ stored t2 0 (fileWords 2 s)
+  -- table 3
   pub rows3 : u3 ≡ stored t3 0 (fileWords 3 s)
+  -- table 4
   pub rows4 : u4 ≡ stored t4 0 (fileWords 4 s)
+  -- table 5
   pub rows5 : u5 ≡ stored t5 0 (fileWords 5 s)
+  -- table 6
   pub rows6 : u6 ≡ stored t6 0 (fileWords 6 s)

@@ -32,6 +32,6 @@ pub record Put (w xs ys : List ℕ) (size : ℕ) : Type 0 where
 unfoldable pub head : ℕ → ℕ → List ℕ → List ℕ
 head tag size front = bytes tag (bytes (length front + size) front)
 
--- a chunk with this tag and a body in two parts, of which the first is written together with the header
+-- a chunk with this tag, its body being `front`, which is written together with the header, and then `body`
 unfoldable pub chunk : ℕ → List ℕ → List ℕ → List ℕ
 chunk tag front body = head tag (length body) front ++ body

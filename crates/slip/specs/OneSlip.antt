@@ -21,20 +21,20 @@ pub record Wrong (rows : ℕ) (s : List ℕ) (p : ℕ) : Type 0 where
 pub record Cut (rows : ℕ) (s : List ℕ) (p : ℕ) : Type 0 where
   -- p is their end
   pub at : p ≡ length s
-  -- bytes that complete it
+  -- bytes that complete the slip
   pub rest : List ℕ
-  -- its numbers then
+  -- the numbers of the completed slip
   pub numbers : List ℕ
-  -- with these bytes it reads as these numbers
+  -- with `rest` after s the slip reads as `numbers`
   pub whole : readWithin rows (s ++ rest) ≡ got numbers
 
 -- number i is the first of ns that is out of its range
 pub record FirstOut (rows : ℕ) (ns : List ℕ) (i : ℕ) : Type 0 where
-  -- it is one of the twelve
+  -- i is one of the twelve positions
   pub one : i < 12
-  -- it is more than it may be
+  -- number i is more than it may be
   pub out : limitWithin rows i < getD ns i 0
-  -- those before it are not
+  -- the numbers before i are not more than they may be
   pub before : AtMost (take i (limitsWithin rows)) (take i ns)
 
 -- E1's promises about slips, where a table has at most `rows` rows

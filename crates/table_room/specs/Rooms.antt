@@ -1,4 +1,4 @@
--- Which of the lent tables is too short.
+-- The first of the lent tables that is too short.
 use Prim.Native.Nat.{ℕ, _-_, _*_}
 use mathlib.Core.List.{List, [], _∷_}
 use lib.ListN.{getD}
