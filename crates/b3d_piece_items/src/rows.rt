@@ -65,7 +65,7 @@ fn free_rows(x: RowPlace, q: RowRules, last: usize) -> RowPlace
     x
 }
 
-// Takes the rest of a number that was begun, if it stands before `last`. Returns `x` if none was begun.
+// Takes the rest of a number that was begun, as far as it stands before `last`. Returns `x` if none was begun.
 fn rest_of_number(x: RowPlace, q: RowRules, piece: &[u8], last: usize) -> RowPlace
     requires { ⌜ Sound last x × (last ≤ length (now piece)) ⌝ }
     ensures { λ r. ⌜ Took (now (piece .entry)) last q x r ⌝ }

@@ -22,22 +22,22 @@ use Rattle.b3d_piece_numbers.specs.declared.RowRules.{RowRules}
 
 -- ---- the row's rules
 
--- q says which numbers w, by their index i, may break their rule in a row of a chunk of tag t with the fixed data k and the totals g
+-- q says which numbers w, by their index i, can break their rule in a row of a chunk of tag t with the fixed data k and the totals g
 pub record JudgedIs (q : Judged) (fixed : Bool) (t : Tag) (k : Kept) (g : Totals) : Type 0 where
-  -- no number before the first
+  -- every number before index `first` keeps its rule
   pub below : (i w : ℕ) → i < q .first → 0 ≡ rowFault fixed t k g i w
-  -- no number from `past` on, as far as a file has room for them
+  -- every number from index `past` on keeps its rule, as far as a file has room for them
   pub above : (i w : ℕ) → q .past ≤ i → i ≤ 16777217 → 0 ≡ rowFault fixed t k g i w
-  -- if they are colours, no number between that passes as a colour
+  -- if they are colours, a number between that passes as a colour keeps its rule
   pub colours : q .colour ≡ true → (i w : ℕ) → q .first ≤ i → i < q .past → holds unit w ≡ true → 0 ≡ rowFault fixed t k g i w
-  -- if they are ids, no number between that is below `names`
+  -- if they are ids, a number between that is below `names` keeps its rule
   pub ids : q .colour ≡ false → (i w : ℕ) → q .first ≤ i → i < q .past → w < q .names → 0 ≡ rowFault fixed t k g i w
 
 -- the rows are items of numbers only
 pub record Plain (fixed : Bool) (t : Tag) : Type 0 where
-  -- the rows are no fixed data
+  -- the rows are not fixed data
   pub items : fixed ≡ false
-  -- the rows are no headers
+  -- the rows are not headers
   pub chunks : nests t ≡ false
   -- the rows have no text
   pub texts : textItems t ≡ false
@@ -122,7 +122,7 @@ pub record Goes (x : RowPlace) (w next : ℕ) (q : RowRules) (r : RowPlace) : Ty
   pub at : r .at ≡ x .at + 4
   -- no byte of the next number came
   pub whole : r .j ≡ 0
-  -- the next number is worth nothing yet
+  -- the value of the next number is 0 so far
   pub none : r .acc ≡ 0
   -- the index of the next number is at most its place
   pub index : r .i ≤ r .at

@@ -25,7 +25,7 @@ body n = enter false 8 nothing (fresh BB3D 0 (8 + n) levels 0) []
 
 -- how far a file has come: inside BB3D's header, or after it
 pub data Whole : Type 0 where
-  -- i bytes of BB3D's header came; the value so far of the number being read; the tag, 0 until it was read
+  -- inside BB3D's header: how many of its bytes came; the value so far of the number being read; the tag, 0 until it was read
   heading : ℕ → ℕ → ℕ → Whole
   -- BB3D's tag and length, and the machine's state in its body
   inside : ℕ → ℕ → State → Whole

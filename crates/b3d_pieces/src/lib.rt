@@ -35,7 +35,8 @@ pub const NONE_KEPT: Kept = Kept {
 };
 
 // An open chunk: `tag`; `head`, the place of its header; `end`, the place after its last byte; `turn` and `spent`, how far the nesting rule has come inside
-// it; `level`, how many levels of nodes are left below it; `kept`, its fixed data; `count`, how many items it had; `told`, for a NODE its bone limit, else 0.
+// it; `level`, how many levels of nodes are left below it; `kept`, the first three numbers of its fixed data; `count`, how many items it had; `told`, for a
+// NODE its bone limit, else 0.
 pub struct Open {
     pub tag: Tag,
     pub head: usize,

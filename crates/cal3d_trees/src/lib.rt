@@ -59,8 +59,7 @@ fn mark(parents: &[u32], marks: &mut [u32], b: usize)
     }
 }
 
-// Returns the lowest bone that is not right by its score and its parents; the number of bones if all are. `marks` has a mark for each bone, and comes back
-// with other marks.
+// Returns the lowest bone that is not right by its score and its parents; the number of bones if all are. `marks` has a mark for each bone and is changed.
 pub fn first_stray(parents: &[u32], scores: &[u32], marks: &mut [u32]) -> usize
     requires { ⌜ (length (now scores) ≡ length (now parents)) × Named (now parents) × Marked (now parents) (now marks) ⌝ }
     ensures { λ r. ⌜ r ≡ lowest (sound (now (parents .entry)) (now (scores .entry))) (length (now (parents .entry))) 0 ⌝ }
