@@ -9,7 +9,7 @@ use Rattle.b3d_label_walk.specs.declared.TrayLabel.{TrayLabel}
 
 -- ---- vertices
 
--- an answer in the paper's numbers: so many vertices; or 14, at place 0
+-- what an answer says in the paper's numbers: how many vertices; or 14, at place 0
 abbrev pub manySays : Many → Out ℕ
 manySays (many.Are n) = got n
 manySays many.Not = bad 14 0
@@ -21,7 +21,9 @@ onLabel (bad n p) = bad 14 0
 
 -- ---- a label
 
--- r is the label of o, and its name lies among n bytes
+-- r is the label of o
 pub record Labels (o : Out Printed) (n : ℕ) (r : TrayLabel) : Type 0 where
+  -- r says what o says
   pub is : r ≡ labelled o
+  -- the name on r lies among n bytes
   pub within : r .«name_place» + r .«name_length» ≤ n

@@ -1,4 +1,4 @@
-// The tray label: the name of a file's root and the vertices of its mesh, by a walk over headers that judges nothing else. Its cost is that of the
+// The tray label (E7): the name of a file's root and the vertices of its mesh, by a walk over headers that judges nothing else. Its cost is that of the
 // headers stepped over and of the name.
 ghost use mathlib.Core.Path.{_≡_};
 ghost use Prim.Native.Nat.{_+_, _≤_};
@@ -18,13 +18,13 @@ use wire::Cursor;
 use wire::Header;
 use wire::Number;
 
-// How many vertices there are; or the walk meets what makes the label 14.
+// How many vertices there are, or that the walk is refused.
 pub enum Many {
     Are(usize),
     Not,
 }
 
-// Counts the vertices of the VRTS of this body. `Not` where its head is cut or out of range, or its items do not fill it.
+// Returns how many vertices the VRTS with this `body` has; `Not` if its fixed data is cut or out of range, or its items do not fill it.
 fn vrts_vertices(s: &[u8], body: Cursor) -> Many
     requires { ⌜ Inside body (length (now s)) ⌝ }
     ensures { λ r. ⌜ manySays r ≡ onLabel (vrtsVertices (body .at) (left body (now (s .entry)))) ⌝ }
@@ -57,7 +57,7 @@ fn vrts_vertices(s: &[u8], body: Cursor) -> Many
     }
 }
 
-// Counts the vertices of the first VRTS in the MESH of this body. `Not` where its brush id is cut, or a VRTS is missing.
+// Returns how many vertices the first VRTS of the MESH with this `body` has; `Not` if there is none or the walk is refused.
 fn mesh_vertices(s: &[u8], body: Cursor) -> Many
     requires { ⌜ Inside body (length (now s)) ⌝ }
     ensures { λ r. ⌜ manySays r ≡ onLabel (meshVertices (body .at) (left body (now (s .entry)))) ⌝ }
@@ -71,7 +71,7 @@ fn mesh_vertices(s: &[u8], body: Cursor) -> Many
     }
 }
 
-// The vertices of a root whose chunks a cursor has left: those of its mesh, 0 without one.
+// Returns how many vertices the mesh of a root has, `from` standing after its fixed data; 0 if its first known chunk is no MESH.
 fn root_vertices(s: &[u8], from: Cursor) -> Many
     requires { ⌜ Inside from (length (now s)) ⌝ }
     ensures { λ r. ⌜ manySays r ≡ onLabel (rootVertices (split (from .at) (left from (now (s .entry))))) ⌝ }
@@ -88,6 +88,7 @@ fn root_vertices(s: &[u8], from: Cursor) -> Many
     }
 }
 
+// Returns the label of a refusal: 14 at place 0, an empty name and no vertex.
 fn refused() -> TrayLabel
     ensures { λ r. ⌜ r ≡ noLabel ⌝ }
 {
@@ -100,7 +101,7 @@ fn refused() -> TrayLabel
     }
 }
 
-// The label of a root.
+// Returns the label of the root with this `body`.
 fn root_label(s: &[u8], body: Cursor) -> TrayLabel
     requires { ⌜ Inside body (length (now s)) ⌝ }
     ensures { λ r. ⌜ Labels (rootIn (body .at) (left body (now (s .entry)))) (length (now (s .entry))) r ⌝ }
@@ -120,7 +121,7 @@ fn root_label(s: &[u8], body: Cursor) -> TrayLabel
     }
 }
 
-// The label of a BB3D.
+// Returns the label of the BB3D with this `body`: that of its first NODE, 14 if it has none.
 fn file_label(s: &[u8], body: Cursor) -> TrayLabel
     requires { ⌜ Inside body (length (now s)) ⌝ }
     ensures { λ r. ⌜ Labels (fileIn (body .at) (left body (now (s .entry)))) (length (now (s .entry))) r ⌝ }
@@ -134,7 +135,7 @@ fn file_label(s: &[u8], body: Cursor) -> TrayLabel
     }
 }
 
-// The label of a file. A name on it lies in the file.
+// Returns the label of `file`: the place and length of the root's name, which lies in the file, and the vertices; or 14.
 pub fn label(file: &[u8]) -> TrayLabel
     ensures { λ r. ⌜ r ≡ labelOf (now (file .entry)) ⌝ }
     ensures { λ r. ⌜ r .«name_place» + r .«name_length» ≤ length (now (file .entry)) ⌝ }
@@ -155,7 +156,7 @@ pub fn label(file: &[u8]) -> TrayLabel
     }
 }
 
-// The name on a file's label, as a part of the file; the empty part where it is refused.
+// Returns the name on the label of `file`, as a part of the file; the empty part if it is refused.
 pub fn label_name(file: &[u8]) -> &[u8]
     ensures { λ r. ⌜ now r ≡ nameOn (labelOf (now (file .entry))) (now (file .entry)) ⌝ }
 {

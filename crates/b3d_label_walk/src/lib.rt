@@ -1,6 +1,7 @@
-// What the tray label of a file says, by a walk over its headers, as a definition; that on accepted files it is what the tables say. No function.
+// The tray label (E7) as a definition: what a walk over a file's headers finds. The proofs show that on accepted files it is what the tables say. The crate
+// has no function.
 
-// What the label says: 0 and 0 with the name's place and length in the file and the vertices; or 14 and zeros.
+// The label: 0 and 0 with the name's place and length in the file and the vertices of the root's mesh; or 14 and zeros.
 #[repr(C)]
 pub struct TrayLabel {
     pub number: u32,

@@ -1,23 +1,24 @@
-// The lister: prints what 01 says of a file on standard input. `b3d_listing::list` has the promise; here are only input and output.
+// The lister as a program: it prints what 01 says of a file on standard input. `b3d_listing::list` has the promise; here are only input and output.
 ghost use mathlib.Core.Path.{_≡_};
 ghost use Prim.Native.Nat.{_+_};
 ghost use lib.ListN.{length};
 ghost use Rattle.b3d_listing_text.specs.Listing.{mostListed, mostPrinted};
 
-// Room for a byte more than the lister reads, so that a longer input is told from one of the limit.
+// Returns the buffer for the input: one byte more than the lister reads, so that a longer input is told from one of the limit.
 fn room_in() -> [u8; 65537]
     ensures { λ r. ⌜ mostListed + 1 ≡ length r ⌝ }
 {
     [0; 65537]
 }
 
-// Room for every listing.
+// Returns the buffer for the listing, with room for every listing.
 fn room_out() -> [u8; 65678]
     ensures { λ r. ⌜ mostPrinted ≡ length r ⌝ }
 {
     [0; 65678]
 }
 
+// Reads standard input and prints its listing.
 fn main() {
     let mut file = room_in();
     let n = io::read_full(0, &mut file);

@@ -1,12 +1,12 @@
-// How many of a piece's next bytes may be taken at once, by numbers alone: where the longest file leaves room, up to the last byte of a chunk, up to
-// a text's zero.
+// How many of a piece's next bytes the piece judge may take at once, by numbers alone: within the longest file, before a chunk's last byte, before a text's
+// zero.
 ghost use Prim.Native.Nat.{_≤_};
 ghost use lib.ListN.{length};
 ghost use Rattle.b3d_piece_ahead.specs.Ahead.{RoomIs, Before, UntilZero};
 use b3d_piece_numbers::numbers::lower;
 use b3d_piece_parts::between::less;
 
-// How many of so many bytes may be taken: none of BB3D's header, none past the longest file and one.
+// Returns how many of the next `left` bytes may be taken at once after `size` bytes: 0 inside BB3D's header, none beyond byte 16,777,217.
 pub fn room(size: usize, left: usize) -> usize
     ensures { λ r. ⌜ RoomIs size left r ⌝ }
 {
@@ -19,7 +19,7 @@ pub fn room(size: usize, left: usize) -> usize
     lower(left, 16777217 - size)
 }
 
-// At most n bytes from `at` on, up to the last byte before the end.
+// Returns how many of the `n` bytes from `at` on may be taken so that at least one byte before `end` is left; 0 if `end` is not past `at`.
 pub fn before(at: usize, end: usize, n: usize) -> usize
     ensures { λ r. ⌜ Before at end n r ⌝ }
 {
@@ -30,7 +30,7 @@ pub fn before(at: usize, end: usize, n: usize) -> usize
     lower(n, left - 1)
 }
 
-// The place of the first zero, or `last`.
+// Returns the place of the first zero of `piece` from `from` on, or `last` if there is none before it.
 pub fn until_zero(piece: &[u8], from: usize, last: usize) -> usize
     requires { ⌜ (from ≤ last) × (last ≤ length (now piece)) ⌝ }
     ensures { λ r. ⌜ UntilZero (now (piece .entry)) from last r ⌝ }

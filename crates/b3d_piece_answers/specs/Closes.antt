@@ -19,28 +19,34 @@ use Rattle.b3d_piece_take.specs.Takes.{heldOf}
 use Rattle.b3d_piece_answers.specs.declared.Closing.{Closing}
 use Rattle.b3d_piece_answers.specs.declared.Closing.the-variants.{Good, Bad}
 
+-- a result of the definitions as code holds it
 abbrev pub closingOf : Out Totals → Closing
 closingOf (got g) = Good g
 closingOf (bad n p) = Bad n p
 
--- the rows of table k
+-- how many rows of table k were counted
 abbrev pub rowsIn : Totals → ℕ → ℕ
 rowsIn g k = getD (countsOf g) (k - 1) 0
 
--- a number of the answer in 32 bits
+-- a number of the answer in 32 bits; a larger one is 0xFFFFFFFF
 unfoldable pub asWord : ℕ → ℕ
 asWord n = if (leb n 0xFFFFFFFF) n 0xFFFFFFFF
 
+-- the answer: on acceptance version, n_texs and the ten counts, on a refusal its number and place, all else 0
 abbrev pub answerBy : Closing → Answer
 answerBy (Good g) = record { number = 0; place = 0; version = g .version; «n_texs» = g .slots; counts = countsOf g }
 answerBy (Bad n p) = record { number = n; place = p; version = 0; «n_texs» = 0; counts = replicate 10 0 }
 
+-- the answer a with its numbers in 32 bits
 abbrev pub wordAnswer : Answer → Answer
 wordAnswer a = record { number = a .number; place = asWord (a .place); version = asWord (a .version); «n_texs» = asWord (a .«n_texs»); counts = map asWord (a .counts) }
 
+-- r is what the machine has come to, by what is held
 pub record EndIs (held : Now) (r : Closing) : Type 0 where
+  -- where no chunk waits to be entered or left, whatever stands in the row
   pub is : pends held ≡ false → (R : List Open) → r ≡ closingOf (ended (stateWith R held))
 
--- between two pieces, whatever stands in the row
+-- r is what all bytes joined come to by j
 pub record Closes (j : Judge) (r : Closing) : Type 0 where
+  -- between two pieces, whatever stands in the row
   pub is : pends (j .now) ≡ false → (rs : ℕ → Open) → r ≡ closingOf (closing (heldOf j rs))

@@ -1,4 +1,4 @@
-// What all bytes joined come to at the close of a file in pieces, and the answer for it: checks 1 and 2, then what the machine found, then 10.
+// The answer of the piece judge at the close: checks 1 and 2 over all bytes joined, then what the machine found, then 10.
 ghost use mathlib.Core.Path.{_≡_};
 ghost use mathlib.Core.Bool.{false};
 ghost use Rattle.b3d_limits.specs.Limits.{tallied};
@@ -12,7 +12,7 @@ use b3d_scene::Answer;
 use b3d_scene::letters;
 use b3d_tally::Tally;
 
-// The letters that a file begins with.
+// The tag BB3D, which a file begins with, as a number.
 const OPENING: usize = letters::BB3D as usize;
 
 // What all bytes joined come to: the totals, or a refusal and its place.
@@ -21,7 +21,7 @@ pub enum Closing {
     Bad(u32, usize),
 }
 
-// The rows that were counted.
+// Returns the rows that `g` counted as a tally, with 0 bytes of copy.
 fn counted(g: Totals) -> Tally
     ensures { λ r. ⌜ r ≡ tallied (rowsIn g) 0 ⌝ }
 {
@@ -41,7 +41,8 @@ fn counted(g: Totals) -> Tally
     }
 }
 
-// Where the machine has come to.
+// Returns what the machine has come to: the totals, or its refusal. Returns 15 at place 0 where a chunk waits to be entered or left, which is not between two
+// pieces.
 fn ended(held: Now) -> Closing
     ensures { λ r. ⌜ EndIs held r ⌝ }
 {
@@ -54,7 +55,7 @@ fn ended(held: Now) -> Closing
     }
 }
 
-// Checks 1 and 2, then the machine's own, then 10.
+// Returns what all bytes joined come to by `j`: check 1, then 2, then the machine's refusal, then 10; else the totals.
 pub fn joined(j: Judge) -> Closing
     requires { ⌜ pends (j .now) ≡ false ⌝ }
     ensures { λ r. ⌜ Closes j r ⌝ }
@@ -85,7 +86,7 @@ pub fn joined(j: Judge) -> Closing
     }
 }
 
-// A number of the answer in 32 bits; no call leads to a larger one.
+// Returns `n` in 32 bits, or 0xFFFFFFFF if it is larger; no call leads to a larger one.
 fn as_word(n: usize) -> u32
     ensures { λ r. ⌜ r ≡ asWord n ⌝ }
 {
@@ -95,6 +96,7 @@ fn as_word(n: usize) -> u32
     0xFFFF_FFFF
 }
 
+// Returns the answer of a refusal with `number` at `place`: version, n_texs and counts are 0.
 pub fn refused(number: u32, place: usize) -> Answer
     ensures { λ r. ⌜ r ≡ wordAnswer (answerBy (Bad number place)) ⌝ }
 {
@@ -108,6 +110,7 @@ pub fn refused(number: u32, place: usize) -> Answer
     }
 }
 
+// Returns the answer of an accepted file with the totals `g`.
 fn accepted(g: Totals) -> Answer
     ensures { λ r. ⌜ r ≡ wordAnswer (answerBy (Good g)) ⌝ }
 {
@@ -144,6 +147,7 @@ fn accepted(g: Totals) -> Answer
     }
 }
 
+// Returns the answer for what all bytes joined come to.
 pub fn answer_of(c: Closing) -> Answer
     ensures { λ r. ⌜ r ≡ wordAnswer (answerBy c) ⌝ }
 {

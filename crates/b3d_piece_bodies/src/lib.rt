@@ -1,4 +1,4 @@
-// A chunk's body begins, its fixed data ends, a chunk is passed over. By value, as in b3d_piece_parts.
+// A step of the piece judge where a chunk's body begins, its fixed data ends, or a chunk is passed over. By value, as in b3d_piece_parts.
 ghost use mathlib.Core.Path.{_≡_};
 ghost use Prim.Native.Nat.{_*_, _≤_};
 ghost use Rattle.b3d_pieces.specs.Bodies.{wrongFor};
@@ -18,6 +18,7 @@ use b3d_pieces::Part;
 use b3d_pieces::Totals;
 use b3d_scene::Tag;
 
+// Goes on at `at` with a text that began at `start`, or answers 5 at `start` if the chunk `f` ends here. `fixed` says that it is fixed data.
 pub fn text_from(fixed: bool, start: usize, at: usize, g: Totals, f: Open) -> Now
     ensures { λ r. ⌜ Gives 0 at g f r (textFrom fixed start at g f) ⌝ }
 {
@@ -27,6 +28,7 @@ pub fn text_from(fixed: bool, start: usize, at: usize, g: Totals, f: Open) -> No
     Now::Live(at, Part::Text(fixed, start), g, f)
 }
 
+// Passes over a chunk with an unknown tag up to `until`; where `at` has come there, the enclosing chunk `f` goes on or ends.
 pub fn skip_from(until: usize, at: usize, g: Totals, f: Open) -> Now
     requires { ⌜ Ready 0 at g f ⌝ }
     ensures { λ r. ⌜ Gives 0 at g f r (skipFrom until at g f) ⌝ }
@@ -37,6 +39,7 @@ pub fn skip_from(until: usize, at: usize, g: Totals, f: Open) -> Now
     Now::Live(at, Part::Skip(until), g, f)
 }
 
+// Keeps `k` as the fixed data of `f`, which ended at `at`; then the first item or header of `f` begins, or `f` ends.
 pub fn fixed_done(at: usize, k: Kept, g: Totals, f: Open) -> Now
     requires { ⌜ Ready 0 at g f × Words k ⌝ }
     ensures { λ r. ⌜ Gives 0 at g f r (fixedDone at k g f) ⌝ }
@@ -48,7 +51,8 @@ pub fn fixed_done(at: usize, k: Kept, g: Totals, f: Open) -> Now
     edge(at, x, y)
 }
 
-// So many bytes for a row of so many numbers are wrong.
+// Returns whether `left` bytes of a chunk of tag `tag` are wrong for `n` numbers of fixed data: for ANIM if they are not just these, else if they are too
+// few.
 pub fn wrong_for(tag: Tag, left: usize, n: usize) -> bool
     requires { ⌜ n ≤ 10 ⌝ }
     ensures { λ r. ⌜ r ≡ wrongFor tag left (4 * n) ⌝ }
@@ -60,6 +64,7 @@ pub fn wrong_for(tag: Tag, left: usize, n: usize) -> bool
     left < need
 }
 
+// Begins the numbers of the fixed data of `f` at `at`, or answers 5 there if the chunk's length is wrong for them. Where there are none, `f` goes on at once.
 pub fn fixed_row_from(at: usize, g: Totals, f: Open) -> Now
     requires { ⌜ Ready 0 at g f ⌝ }
     ensures { λ r. ⌜ Gives 0 at g f r (fixedRowFrom at g f) ⌝ }
@@ -77,13 +82,14 @@ pub fn fixed_row_from(at: usize, g: Totals, f: Open) -> Now
     Now::Live(at, Part::Row(true, at, 0, 0, 0, NONE_KEPT), g, f)
 }
 
-// The body begins with a text.
+// Returns whether the body of a chunk of tag `tag` begins with a text.
 pub fn texted(tag: Tag) -> bool
     ensures { λ r. ⌜ r ≡ textedOf tag ⌝ }
 {
     same(tag, Tag::NODE)
 }
 
+// Begins the body of `f` at `at`.
 pub fn enter(at: usize, g: Totals, f: Open) -> Now
     requires { ⌜ Ready 0 at g f ⌝ }
     ensures { λ r. ⌜ Gives 0 at g f r (enterOf (textedOf (f .tag)) at g f) ⌝ }

@@ -13,7 +13,7 @@ use b3d_pieces::Open;
 use b3d_pieces::Part;
 use b3d_pieces::Totals;
 
-// What j bytes of a number, worth acc, and one more are worth.
+// Returns the value of `j` bytes of a number, worth `acc`, and one more, `b`.
 pub fn gathered(j: usize, acc: usize, b: u8) -> usize
     requires { ⌜ (j ≤ 3) × (acc < worth j) × (acc < 16777216) ⌝ }
     ensures { λ r. ⌜ Adds j acc b r ⌝ }
@@ -31,6 +31,7 @@ pub fn gathered(j: usize, acc: usize, b: u8) -> usize
     acc + 16777216 * v
 }
 
+// Takes byte `b` of a text, at `at`: 0 ends the text.
 pub fn text_byte(fixed: bool, start: usize, b: u8, at: usize, g: Totals, f: Open) -> Now
     requires { ⌜ Ready 1 (at + 1) g f ⌝ }
     ensures { λ r. ⌜ Gives 1 (at + 1) g f r (textByte fixed start b at g f) ⌝ }
@@ -41,6 +42,7 @@ pub fn text_byte(fixed: bool, start: usize, b: u8, at: usize, g: Totals, f: Open
     text_from(fixed, start, at + 1, g, f)
 }
 
+// Takes byte `b` of the part `m`, which stands at `at` in `f`.
 pub fn byte_in(m: Part, b: u8, at: usize, g: Totals, f: Open) -> Now
     requires { ⌜ Off m at (cameOf m at) × Ready 1 (cameOf m at + 1) g f × (at ≤ 16777216) ⌝ }
     ensures { λ r. ⌜ Gives (spareOf m + 1) (cameOf m at + 1) g f r (byteIn m b at g f) ⌝ }

@@ -20,6 +20,7 @@ use b3d_pieces::Open;
 use b3d_pieces::Part;
 use b3d_pieces::Totals;
 
+// Returns `k` with number `i` set to `w`; from `i` 3 on nothing is kept.
 pub fn keep(i: usize, w: usize, k: Kept) -> Kept
     ensures { λ r. ⌜ r ≡ keepOf i w k ⌝ }
 {
@@ -39,6 +40,7 @@ pub fn keep(i: usize, w: usize, k: Kept) -> Kept
     x
 }
 
+// Ends a row of `f` that began at `start`: fixed data, a header inside `f`, or an item, which is counted.
 pub fn row_done(fixed: bool, start: usize, at: usize, k: Kept, g: Totals, f: Open) -> Now
     requires { ⌜ Ready 1 at g f × Words k ⌝ }
     ensures { λ r. ⌜ Gives 1 at g f r (rowDone fixed start at k g f) ⌝ }
@@ -57,6 +59,7 @@ pub fn row_done(fixed: bool, start: usize, at: usize, k: Kept, g: Totals, f: Ope
     edge(at, g, y)
 }
 
+// Begins number `i` of a row at `at`, or ends the row if it has no such number.
 pub fn row_from(fixed: bool, start: usize, i: usize, at: usize, k: Kept, g: Totals, f: Open) -> Now
     requires { ⌜ Ready 1 at g f × Words k × (i ≤ at) ⌝ }
     ensures { λ r. ⌜ Gives 1 at g f r (rowFrom fixed start i at k g f) ⌝ }
@@ -70,6 +73,7 @@ pub fn row_from(fixed: bool, start: usize, i: usize, at: usize, k: Kept, g: Tota
     Now::Live(at, Part::Row(fixed, start, i, 0, 0, k), g, f)
 }
 
+// Judges `w`, number `i` of a row, which began at `at`: answers its refusal there, or goes on with the row.
 pub fn word_done(
     fixed: bool,
     start: usize,
@@ -93,6 +97,7 @@ pub fn word_done(
     row_from(fixed, start, i + 1, at + 4, more, g, f)
 }
 
+// Begins the numbers of a row at `at`, after the zero of its text, or answers 5 at `start` if they run past the chunk.
 pub fn text_done(fixed: bool, start: usize, at: usize, g: Totals, f: Open) -> Now
     requires { ⌜ Ready 1 at g f ⌝ }
     ensures { λ r. ⌜ Gives 1 at g f r (textDone fixed start at g f) ⌝ }

@@ -13,7 +13,7 @@ use b3d_piece_run::run;
 use b3d_piece_take::Judge;
 use b3d_piece_take::taking::nothing;
 
-// Answers the state that a first call begins with.
+// Returns the state before the first piece of a file.
 pub fn start() -> Judge
     ensures { λ r. ⌜ r ≡ freshJudge ⌝ }
 {
@@ -29,7 +29,8 @@ pub fn start() -> Judge
     }
 }
 
-// The next bytes of the file.
+// Takes the next bytes of the file, `piece`; a piece of no bytes is taken too. Refuses with 11 and the size 19 if `row` has fewer than 19 records; then with
+// 15 at place 0 after the close, or if `state` and `row` are not as calls leave them. A refused call gives `state` back and changes no record.
 pub fn judge_piece(state: Judge, row: &mut [usize], piece: &[u8]) -> Fed
     ensures { λ r. ⌜ PieceIs words state (now (row .entry)) (now (piece .entry)) (r .number) (r .place) (r .judge) (now (row .exit)) ⌝ }
 {
@@ -62,7 +63,7 @@ pub fn judge_piece(state: Judge, row: &mut [usize], piece: &[u8]) -> Fed
     }
 }
 
-// No byte is left: what the reader says of all bytes joined.
+// Closes the file and answers what the reader, lent ample tables, says of all bytes joined. Refuses as `judge_piece` does, and then gives `state` back.
 pub fn judge_close(state: Judge, row: &[usize]) -> Closed
     ensures { λ r. ⌜ CloseIs words state (now (row .entry)) (r .answer) (r .judge) ⌝ }
 {

@@ -1,4 +1,4 @@
--- What the test at the entry asks. A row is known by the record at each place.
+-- What the test at the entry asks. A row is known by the open chunk at each place, rs.
 use mathlib.Core.Path.{_≡_}
 use Prim.Native.Nat.{ℕ, _≤_}
 use mathlib.Core.Bool.{Bool, false}
@@ -14,23 +14,29 @@ use Rattle.b3d_piece_take.specs.declared.Judge.{Judge}
 use Rattle.b3d_piece_take.specs.Runs.{CanRun}
 use Rattle.b3d_piece_loads.specs.Tests.{Tests, Weighs}
 
--- the first n chunks of a row
+-- r is the load of the first n chunks of the row rs, or above 16,777,217 if they are too much or cannot be open there
 abbrev pub RowFits : (ℕ → Open) → ℕ → ℕ → Type 0
 RowFits rs n r = Weighs (Deep (stackBy rs n)) (load (stackBy rs n)) r
 
+-- the invariant after `size` bytes, inside the chunk f with the first n chunks of the row rs around it
 abbrev pub LiveFits : ℕ → Part → Totals → Open → ℕ → ℕ → (ℕ → Open) → Type 0
 LiveFits at m g f size n rs = Fits at g (f ∷ stackBy rs n) × Off m at size
 
+-- the invariant of `now` after `size` bytes, with the first n chunks of the row rs; no chunk waits to be entered or left
 abbrev pub NowFits : Now → ℕ → ℕ → (ℕ → Open) → Type 0
 NowFits now size n rs = GoodNow size (stackBy rs n) now × (pends now ≡ false)
 
--- tests that are handed the load w of the first n chunks, whatever row they stand in
+-- b says whether the invariant holds inside f, given the load w of the n chunks around it
 pub record LiveTests (at : ℕ) (m : Part) (g : Totals) (f : Open) (size n w : ℕ) (b : Bool) : Type 0 where
+  -- whatever row they stand in
   pub is : (rs : ℕ → Open) → RowFits rs n w → Tests b (LiveFits at m g f size n rs)
 
+-- b says whether the invariant holds of `now`, given the load w of the row's n chunks
 pub record NowTests (now : Now) (size n w : ℕ) (b : Bool) : Type 0 where
+  -- whatever row they stand in
   pub is : (rs : ℕ → Open) → RowFits rs n w → Tests b (NowFits now size n rs)
 
--- a test of what is held that is handed the load w of the chunks in use, over any row of 19 records and more
+-- b says whether j is as calls leave it, given the load w of the chunks in use
 pub record StateTests (j : Judge) (w : ℕ) (b : Bool) : Type 0 where
+  -- over any row of 19 records and more
   pub is : (n : ℕ) (rs : ℕ → Open) → 19 ≤ n → RowFits rs (j .depth) w → Tests b (CanRun j n rs)

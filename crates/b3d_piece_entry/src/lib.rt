@@ -1,3 +1,3 @@
-// A test of what a caller hands in: it holds just where state and row keep what calls keep (`CanRun`), so that a piece may be taken.
+// The test of the state and the row that a caller hands to the piece judge: it holds just where they are as calls leave them (`CanRun`).
 pub mod loads;
 pub mod state;

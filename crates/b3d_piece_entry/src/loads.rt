@@ -1,4 +1,4 @@
-// What the chunks of a row of words will add to the totals; whether they can stand there.
+// What the chunks of a row of words may still add to the totals, and whether they can be open there.
 ghost use Prim.Native.Nat.{_≤_};
 ghost use lib.ListN.{length};
 ghost use Rattle.b3d_pieces.specs.Row.{openAt};
@@ -6,7 +6,8 @@ ghost use Rattle.b3d_piece_entry.specs.Entry.{RowFits};
 use b3d_piece_loads::loads::open_load;
 use b3d_piece_words::open_at;
 
-// What the first n chunks of a row will add, or 16,777,218.
+// Returns how many rows the first `n` chunks of `row` may still add. Returns 16,777,218 if they are more than 16,777,217, or if a file cannot have these
+// chunks open.
 pub fn row_load(row: &[usize], n: usize) -> usize
     requires { ⌜ (n ≤ 18) × (209 ≤ length (now row)) ⌝ }
     ensures { λ r. ⌜ RowFits (openAt (now (row .entry))) n r ⌝ }

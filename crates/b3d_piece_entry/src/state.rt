@@ -1,4 +1,4 @@
-// All that is held, the load of the row's chunks once known; and all that is held, with a row of words.
+// The test of what is held, given the load of the row's chunks; and the same test with a row of words.
 ghost use mathlib.Core.Path.{_≡_};
 ghost use Prim.Native.Nat.{_/_, _<_, _≤_};
 ghost use lib.ListN.{length};
@@ -19,7 +19,7 @@ use b3d_pieces::Open;
 use b3d_pieces::Part;
 use b3d_pieces::Totals;
 
-// The load is what the n chunks around will add.
+// Returns whether the invariant holds after `size` bytes at `at` in `f`, where `n` chunks stand around `f` and may still add `load` rows.
 pub fn live_fine(at: usize, m: Part, g: Totals, f: Open, size: usize, n: usize, load: usize) -> bool
     requires { ⌜ (size ≤ 16777217) × (load ≤ 16777218) ⌝ }
     ensures { λ r. ⌜ LiveTests at m g f size n load r ⌝ }
@@ -32,6 +32,8 @@ pub fn live_fine(at: usize, m: Part, g: Totals, f: Open, size: usize, n: usize, 
     false
 }
 
+// Returns whether the invariant holds of `held` after `size` bytes, and no chunk waits to be entered or left, where the row's `n` chunks may still add `load`
+// rows.
 pub fn now_fine(held: Now, size: usize, n: usize, load: usize) -> bool
     requires { ⌜ (size ≤ 16777217) × (load ≤ 16777218) ⌝ }
     ensures { λ r. ⌜ NowTests held size n load r ⌝ }
@@ -45,6 +47,7 @@ pub fn now_fine(held: Now, size: usize, n: usize, load: usize) -> bool
     }
 }
 
+// Returns the number that the value of the present number of BB3D's header is below, after `size` bytes.
 pub fn head_low(size: usize) -> usize
     requires { ⌜ size < 8 ⌝ }
     ensures { λ r. ⌜ r ≡ headLow size ⌝ }
@@ -55,7 +58,7 @@ pub fn head_low(size: usize) -> usize
     worth(size - 4)
 }
 
-// What is held, over any row whose chunks in use have this load.
+// Returns whether `j` is as calls leave it, over any row whose chunks in use may still add `load` rows.
 pub fn state_fine(j: Judge, load: usize) -> bool
     requires { ⌜ load ≤ 16777218 ⌝ }
     ensures { λ r. ⌜ StateTests j load r ⌝ }
@@ -79,6 +82,7 @@ pub fn state_fine(j: Judge, load: usize) -> bool
     now_fine(now, size, n, load)
 }
 
+// Returns whether `j` and `row` are as calls leave them.
 pub fn judge_fine(j: Judge, row: &[usize]) -> bool
     requires { ⌜ 209 ≤ length (now row) ⌝ }
     ensures { λ r. ⌜ Tests r (CanRun j (length (now (row .entry)) / 11) (openAt (now (row .entry)))) ⌝ }

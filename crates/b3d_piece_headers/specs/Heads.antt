@@ -12,10 +12,13 @@ use Rattle.b3d_pieces.specs.Good.{Deep, sum, load, Child}
 use Rattle.b3d_piece_parts.specs.declared.Now.{Now}
 use Rattle.b3d_piece_parts.specs.Nows.{stateWith, GoodNow}
 
--- as `Gives`, for a tag that the nesting rule lets stand here
+-- the promise of opening a chunk of tag t inside f, for every stack R of outer chunks
 pub record Opens (t : Tag) (head e at : ℕ) (g : Totals) (f : Open) (r : Now) : Type 0 where
+  -- r stands for the machine's state
   pub is : (R : List Open) → stateWith R r ≡ opened t head e at g f R
+  -- if the invariant holds before with one row to spare, and a chunk of tag t may be opened inside f, it holds after
   pub good : (R : List Open) → Deep (f ∷ R) → sum g + load (f ∷ R) + 1 ≤ at → Child t (f .level) (length R) → GoodNow at R r
 
+-- the machine's state for a chunk of known tag t inside f, by the nesting rule
 unfoldable pub standHere : Tag → ℕ → ℕ → ℕ → Totals → Open → List Open → State
 standHere t head e at g f R = stand (next (nesting (f .tag)) (nesting (f .tag)) (reachedBy f) t) t head e at g f R

@@ -1,4 +1,4 @@
-// A header was read: what it says is held to the nesting rule, and the chunk entered or passed over. By value, as in b3d_piece_parts.
+// A step of the piece judge where a header was read: the nesting rule decides, and the chunk is entered or passed over. By value, as in b3d_piece_parts.
 ghost use mathlib.Core.Path.{_≡_};
 ghost use Rattle.wire.specs.Bytes.{IsWord};
 ghost use Rattle.b3d_pieces.specs.Machine.{fresh as freshOf, headerDone};
@@ -18,7 +18,7 @@ use b3d_pieces::Totals;
 use b3d_scene::Tag;
 use b3d_turns::Permit;
 
-// A chunk that is opened: nothing of it was read.
+// Returns an open chunk of which nothing was read, with its header at `head`, `level` levels of nodes left and, as a NODE, the bone limit `told`.
 pub fn fresh(tag: Tag, head: usize, end: usize, level: usize, told: usize) -> Open
     ensures { λ r. ⌜ r ≡ freshOf tag head end level told ⌝ }
 {
@@ -35,7 +35,8 @@ pub fn fresh(tag: Tag, head: usize, end: usize, level: usize, told: usize) -> Op
     }
 }
 
-// A chunk inside f, which goes to the row.
+// Opens a chunk of tag `t` inside `f`, which goes to the row; its header is at `head`, its end at `e`, its body at `at`. Answers 9 at the header for a NODE
+// where no level is left.
 fn open_chunk(t: Tag, head: usize, e: usize, at: usize, g: Totals, f: Open) -> Now
     requires { ⌜ Ready 1 at g f ⌝ }
     ensures { λ r. ⌜ Opens t head e at g f r ⌝ }
@@ -54,7 +55,7 @@ fn open_chunk(t: Tag, head: usize, e: usize, at: usize, g: Totals, f: Open) -> N
     Now::Push(at, g, y, f)
 }
 
-// A known chunk inside f: it may stand there or not.
+// Opens a chunk of tag `t` inside `f` if the nesting rule has a place for it, else answers 4 at its header.
 fn stand_here(t: Tag, head: usize, e: usize, at: usize, g: Totals, f: Open) -> Now
     requires { ⌜ Ready 1 at g f ⌝ }
     ensures { λ r. ⌜ Gives 1 at g f r (standHere t head e at g f) ⌝ }
@@ -73,7 +74,7 @@ fn stand_here(t: Tag, head: usize, e: usize, at: usize, g: Totals, f: Open) -> N
     }
 }
 
-// A header was read.
+// Takes a header at `head` with `tag` and the length `n`: answers 3 there if the chunk runs past `f`, else opens it, or passes it over if its tag is unknown.
 pub fn header_done(head: usize, tag: usize, n: usize, at: usize, g: Totals, f: Open) -> Now
     requires { ⌜ Ready 1 at g f × IsWord tag × IsWord n ⌝ }
     ensures { λ r. ⌜ Gives 1 at g f r (headerDone head tag n at g f) ⌝ }

@@ -13,7 +13,7 @@ use b3d_pieces::Open;
 use b3d_pieces::Totals;
 use b3d_scene::Tag;
 
-// The first numbers are ids of so many things.
+// Returns that the first `past` numbers of a row are ids below `names`, and the others are not judged.
 fn ids(past: usize, names: usize) -> Judged
     ensures { λ r. ⌜ r ≡ idsOf past names ⌝ }
 {
@@ -25,14 +25,14 @@ fn ids(past: usize, names: usize) -> Judged
     }
 }
 
-// Rows that are left to the machine's own turns: every number is judged, and none is passed over.
+// Returns that every number is judged and none is right: such rows are left to the machine's own turns.
 fn every() -> Judged
     ensures { λ r. ⌜ AnyRow r ⌝ }
 {
     ids(4294967295, 0)
 }
 
-// Fixed data.
+// Returns which numbers of the fixed data of a chunk of tag `tag` are judged: none of NODE and ANIM; the others are left to the machine's own turns.
 fn fixed_judged(tag: Tag) -> Judged
     ensures { λ r. ⌜ FixedIs tag r ⌝ }
 {
@@ -43,7 +43,7 @@ fn fixed_judged(tag: Tag) -> Judged
     }
 }
 
-// An item, or the header of a chunk inside.
+// Returns which numbers of an item of a chunk of tag `tag` with the fixed data `k` are judged, or of a header inside it.
 fn inner_judged(tag: Tag, k: Kept, g: Totals) -> Judged
     ensures { λ r. ⌜ JudgedIs r inside tag k g ⌝ }
 {
@@ -64,7 +64,7 @@ fn inner_judged(tag: Tag, k: Kept, g: Totals) -> Judged
     }
 }
 
-// Rows of numbers, one after the other.
+// Returns whether the row is an item of numbers only, so that another such item may follow it.
 fn again(fixed: bool, tag: Tag) -> bool
     ensures { λ r. ⌜ AgainIs fixed tag r ⌝ }
 {
@@ -80,6 +80,7 @@ fn again(fixed: bool, tag: Tag) -> bool
     }
 }
 
+// Returns which numbers of a row are judged: of fixed data if `fixed` is set, else of an item or a header.
 fn judged(fixed: bool, tag: Tag, k: Kept, g: Totals) -> Judged
     ensures { λ r. ⌜ JudgedIs r fixed tag k g ⌝ }
 {
@@ -89,6 +90,7 @@ fn judged(fixed: bool, tag: Tag, k: Kept, g: Totals) -> Judged
     inner_judged(tag, k, g)
 }
 
+// Returns what the rules of a row of `f` ask: of its fixed data if `fixed` is set, else of an item or a header inside it.
 pub fn row_rules(fixed: bool, g: Totals, f: Open) -> RowRules
     requires { ⌜ Words (f .kept) ⌝ }
     ensures { λ r. ⌜ RulesAre r fixed g f ⌝ }

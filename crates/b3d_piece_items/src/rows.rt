@@ -12,7 +12,7 @@ use b3d_piece_numbers::numbers::numbers;
 use b3d_piece_parts::between::less;
 use b3d_pieces::NONE_KEPT;
 
-// As many rows of n numbers as stand in so many bytes, with one more in so many.
+// Returns how many rows of `n` numbers lie whole in `a` bytes and leave at least one more row in `b` bytes; 0 if `n` is 0.
 fn whole_rows(a: usize, b: usize, n: usize) -> usize
     ensures { λ r. ⌜ WholeRows a b n r ⌝ }
 {
@@ -26,7 +26,8 @@ fn whole_rows(a: usize, b: usize, n: usize) -> usize
     lower(a / 4 / n, there - 1)
 }
 
-// The rows that stand whole in the piece, with one more in the chunk after them, if no number of them is judged.
+// Passes over the rows that lie whole before `last` and leave one more row in the chunk, if no number of them is judged and `x` is at a row's beginning. Else
+// returns `x`.
 fn free_rows(x: RowPlace, q: RowRules, last: usize) -> RowPlace
     requires { ⌜ Sound last x ⌝ }
     ensures { λ r. ⌜ Skips last q x r ⌝ }
@@ -64,7 +65,7 @@ fn free_rows(x: RowPlace, q: RowRules, last: usize) -> RowPlace
     x
 }
 
-// The number that was begun, to its end.
+// Takes the rest of a number that was begun, as far as it stands before `last`. Returns `x` if none was begun.
 fn rest_of_number(x: RowPlace, q: RowRules, piece: &[u8], last: usize) -> RowPlace
     requires { ⌜ Sound last x × (last ≤ length (now piece)) ⌝ }
     ensures { λ r. ⌜ Took (now (piece .entry)) last q x r ⌝ }
@@ -76,7 +77,7 @@ fn rest_of_number(x: RowPlace, q: RowRules, piece: &[u8], last: usize) -> RowPla
     last_byte(y, q, piece, last)
 }
 
-// The item that was begun, to its end.
+// Takes the rest of an item that was begun, as far as it stands before `last`.
 fn rest_of_item(x: RowPlace, q: RowRules, piece: &[u8], last: usize) -> RowPlace
     requires { ⌜ Sound last x × (last ≤ length (now piece)) ⌝ }
     ensures { λ r. ⌜ Took (now (piece .entry)) last q x r ⌝ }
@@ -88,7 +89,7 @@ fn rest_of_item(x: RowPlace, q: RowRules, piece: &[u8], last: usize) -> RowPlace
     numbers(y, q, true, piece, last)
 }
 
-// A row of numbers and the rows after it, but a last number whose end is more than the end of an item.
+// Takes as much of a row and the rows after it as stands before `last`, up to a number that ends more than an item, or breaks its rule.
 pub fn rows(x: RowPlace, q: RowRules, piece: &[u8], last: usize) -> RowPlace
     requires { ⌜ Sound last x × (last ≤ length (now piece)) ⌝ }
     ensures { λ r. ⌜ Took (now (piece .entry)) last q x r ⌝ }

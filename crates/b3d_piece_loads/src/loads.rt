@@ -1,4 +1,4 @@
-// What an open chunk will add to the totals; whether it can stand there.
+// What an open chunk may still add to the totals, and whether it can be open there.
 ghost use mathlib.Core.Path.{_≡_};
 ghost use Prim.Native.Nat.{_+_, _≤_};
 ghost use Rattle.b3d_pieces.specs.Good.{Words, Bound, extra as extraOf};
@@ -7,6 +7,7 @@ use b3d_pieces::Kept;
 use b3d_pieces::Open;
 use b3d_scene::Tag;
 
+// Returns whether the numbers of `k` are words of four bytes.
 pub fn words_fine(k: Kept) -> bool
     ensures { λ r. ⌜ Tests r (Words k) ⌝ }
 {
@@ -19,6 +20,7 @@ pub fn words_fine(k: Kept) -> bool
     k.third <= 4294967295
 }
 
+// Returns whether `n` chunks around and `level` levels of nodes left are at most 16 together.
 pub fn node_bound(level: usize, n: usize) -> bool
     ensures { λ r. ⌜ Tests r (n + level ≤ 16) ⌝ }
 {
@@ -28,6 +30,7 @@ pub fn node_bound(level: usize, n: usize) -> bool
     level <= 16 - n
 }
 
+// Returns whether a chunk of tag `tag` with `level` levels of nodes left may have `n` chunks open around it.
 pub fn bound_fine(tag: Tag, level: usize, n: usize) -> bool
     ensures { λ r. ⌜ Tests r (Bound tag level n) ⌝ }
 {
@@ -45,7 +48,7 @@ pub fn bound_fine(tag: Tag, level: usize, n: usize) -> bool
     }
 }
 
-// The row that an open chunk takes when it is left, if it was not counted before.
+// Returns the rows allowed for an open chunk beside its items: 0 for BB3D, and for NODE, whose row is counted when it begins; else 1.
 pub fn extra(tag: Tag) -> usize
     ensures { λ r. ⌜ (r ≡ extraOf tag) × (r ≤ 1) ⌝ }
 {
@@ -63,7 +66,8 @@ pub fn extra(tag: Tag) -> usize
     }
 }
 
-// What an open chunk with n around it will add, or 16,777,218 where it is too much or the chunk can't stand there.
+// Returns how many rows the open chunk `f` may still add. Returns 16,777,218 if they are too many, or if a file cannot have it open with `n` chunks around
+// it.
 pub fn open_load(f: Open, n: usize) -> usize
     ensures { λ r. ⌜ Weighs (OpenFits f n) (f .count + extraOf (f .tag)) r ⌝ }
 {

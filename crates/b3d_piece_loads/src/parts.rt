@@ -1,4 +1,4 @@
-// The part that is being read, and the totals.
+// Tests of the part that is being read, and the sum of the totals.
 ghost use mathlib.Core.Path.{_≡_};
 ghost use Rattle.b3d_pieces.specs.Good.{Off, sum, worth as worthOf};
 ghost use Rattle.b3d_piece_loads.specs.Tests.{Tests, Small, RowOff};
@@ -7,6 +7,7 @@ use b3d_pieces::Kept;
 use b3d_pieces::Part;
 use b3d_pieces::Totals;
 
+// Returns `x`, or 16,777,218 if it is larger than 16,777,217.
 pub fn cap(x: usize) -> usize
     ensures { λ r. ⌜ Small 16777218 x r ⌝ }
 {
@@ -16,6 +17,7 @@ pub fn cap(x: usize) -> usize
     16777218
 }
 
+// Returns how many rows `g` counted; right if it is at most 16,777,217, else some number above that.
 pub fn sum_of(g: Totals) -> usize
     ensures { λ r. ⌜ Small 167772180 (sum g) r ⌝ }
 {
@@ -33,6 +35,7 @@ pub fn sum_of(g: Totals) -> usize
     a + b + c + d + e + f + h + i + k + l
 }
 
+// Returns the number that the value of `j` bytes of a number is below, `j` at most 3.
 pub fn worth(j: usize) -> usize
     ensures { λ r. ⌜ r ≡ worthOf j ⌝ }
 {
@@ -48,6 +51,7 @@ pub fn worth(j: usize) -> usize
     16777216
 }
 
+// Returns whether a number of a row is as the machine leaves it after `size` bytes: it began at `at`, `j` of its bytes came, worth `acc`.
 pub fn row_fine(i: usize, j: usize, acc: usize, k: Kept, at: usize, size: usize) -> bool
     ensures { λ r. ⌜ Tests r (RowOff i j acc k at size) ⌝ }
 {
@@ -69,6 +73,7 @@ pub fn row_fine(i: usize, j: usize, acc: usize, k: Kept, at: usize, size: usize)
     words_fine(k)
 }
 
+// Returns whether the part `m` at `at` is as the machine leaves it after `size` bytes.
 pub fn part_fine(m: Part, at: usize, size: usize) -> bool
     ensures { λ r. ⌜ Tests r (Off m at size) ⌝ }
 {

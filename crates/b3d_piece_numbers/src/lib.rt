@@ -1,11 +1,11 @@
-// Numbers of a row that are passed over at once, as long as the row goes on or another item of the same chunk begins. What stands afterwards is
-// what the machine comes to over these bytes, taken one by one. What the row's rules ask is a few numbers, found once.
+// Numbers of a row that the piece judge takes at once, as long as the row goes on or another item of the same chunk begins. What stands afterwards is what
+// the machine comes to over these bytes, taken one by one. What the row's rules ask is a few numbers, found once.
 pub mod numbers;
 
 use b3d_pieces::Kept;
 
-// A place in a row: the next byte of the piece; the place where the present number begins, and the row; which number it is, how many of its bytes
-// came, what they are worth; the first three numbers of the row; how many items the chunk had.
+// A place in a row: `from`, the next byte of the piece; `at`, the place where the present number begins, and `start`, where the row began; `i`, which number
+// it is, `j`, how many of its bytes came, `acc`, what they are worth; `kept`, the first three numbers of the row; `count`, how many items the chunk had.
 pub struct RowPlace {
     pub from: usize,
     pub at: usize,
@@ -17,7 +17,7 @@ pub struct RowPlace {
     pub count: usize,
 }
 
-// Which numbers of a row are judged: those from one index up to another. They are colours, or ids of so many things.
+// Which numbers of a row are judged: those from index `first` up to, not including, `past`. They are colours if `colour` is set, else ids below `names`.
 pub struct Judged {
     pub first: usize,
     pub past: usize,
@@ -25,7 +25,8 @@ pub struct Judged {
     pub names: usize,
 }
 
-// A row of a chunk: how many numbers it has and which are judged; whether another row follows at once; the chunk's end.
+// What the rules of a row ask: `long`, how many numbers it has; `judged`, which of them are judged; `again`, whether another such row may follow it; `end`,
+// the chunk's end.
 pub struct RowRules {
     pub long: usize,
     pub judged: Judged,

@@ -1,4 +1,5 @@
-// Numbers of a row that stand whole in the piece, and the bytes of one that does not.
+// Numbers of a row that stand whole in the piece, and the first bytes of one that does not. The places that these functions return are before the byte of
+// `piece` at `last`, or at it.
 ghost use mathlib.Core.Path.{_≡_};
 ghost use Prim.Native.Nat.{_+_, _-_, _<_, _≤_};
 ghost use lib.ListN.{length, getD};
@@ -15,7 +16,7 @@ use b3d_pieces::NONE_KEPT;
 use wire::number_at;
 use wire::size;
 
-// Number i keeps its rule with w.
+// Returns whether `w` as number `i` of a row keeps its rule. May return false where the rule is kept: then the machine judges it.
 fn keeps(q: Judged, i: usize, w: usize) -> bool
     requires { ⌜ IsWord w ⌝ }
     ensures { λ r. ⌜ KeepsIs q i w r ⌝ }
@@ -33,7 +34,8 @@ fn keeps(q: Judged, i: usize, w: usize) -> bool
     w < q.names
 }
 
-// Number i is w: the place after it, before the byte at `next`, if the row goes on or another item of the chunk begins there. Else the same place.
+// Returns the place after number `i` of `x`, which is `w`, before the byte at `next`, if it keeps its rule and the row goes on or another item of the chunk
+// begins there. Else returns `x`.
 fn after_number(x: RowPlace, w: usize, next: usize, q: RowRules) -> RowPlace
     requires { ⌜ NumberReady x w ⌝ }
     ensures { λ r. ⌜ NumberIs x w next q r ⌝ }
@@ -69,6 +71,7 @@ fn after_number(x: RowPlace, w: usize, next: usize, q: RowRules) -> RowPlace
     x
 }
 
+// Returns the byte of `piece` at `from`.
 fn byte_at(piece: &[u8], from: usize) -> usize
     requires { ⌜ from < length (now piece) ⌝ }
     ensures { λ r. ⌜ (r ≡ getD (now (piece .entry)) from 0) × (r < 256) ⌝ }
@@ -76,7 +79,7 @@ fn byte_at(piece: &[u8], from: usize) -> usize
     piece[from] as usize
 }
 
-// The next number, which stands whole in the piece.
+// Takes the next number, which stands whole in `piece`. Returns `x` if a number was begun or this one is left to the machine.
 fn number(x: RowPlace, q: RowRules, piece: &[u8], last: usize) -> RowPlace
     requires { ⌜ Sound last x × (last ≤ length (now piece)) × (4 ≤ last - x .from) ⌝ }
     ensures { λ r. ⌜ Took (now (piece .entry)) last q x r ⌝ }
@@ -89,7 +92,7 @@ fn number(x: RowPlace, q: RowRules, piece: &[u8], last: usize) -> RowPlace
     after_number(x, w, from + 4, q)
 }
 
-// The next numbers, as many as can be taken; up to the end of an item where `item` is set.
+// Takes the next numbers, as many as can be taken at once; up to the end of an item if `item` is set.
 pub fn numbers(x: RowPlace, q: RowRules, item: bool, piece: &[u8], last: usize) -> RowPlace
     requires { ⌜ Sound last x × (last ≤ length (now piece)) ⌝ }
     ensures { λ r. ⌜ Took (now (piece .entry)) last q x r ⌝ }
@@ -110,7 +113,7 @@ pub fn numbers(x: RowPlace, q: RowRules, item: bool, piece: &[u8], last: usize) 
     y
 }
 
-// The last byte of a number, if it stands in the piece.
+// Takes the last byte of a number of which three came, if it stands before `last` and the number is not left to the machine. Else returns `x`.
 pub fn last_byte(x: RowPlace, q: RowRules, piece: &[u8], last: usize) -> RowPlace
     requires { ⌜ Sound last x × (last ≤ length (now piece)) ⌝ }
     ensures { λ r. ⌜ Took (now (piece .entry)) last q x r ⌝ }
@@ -126,6 +129,7 @@ pub fn last_byte(x: RowPlace, q: RowRules, piece: &[u8], last: usize) -> RowPlac
     after_number(x, w, from + 1, q)
 }
 
+// Returns `a` or `b`, whichever is not greater.
 pub fn lower(a: usize, b: usize) -> usize
     ensures { λ r. ⌜ (r ≤ a) × (r ≤ b) ⌝ }
 {
@@ -135,7 +139,7 @@ pub fn lower(a: usize, b: usize) -> usize
     b
 }
 
-// The next bytes of a number, but its last.
+// Takes the next bytes of a number up to `last`, but not the number's last byte.
 pub fn gather(x: RowPlace, piece: &[u8], last: usize) -> RowPlace
     requires { ⌜ Sound last x × (last ≤ length (now piece)) ⌝ }
     ensures { λ r. ⌜ Gathered (now (piece .entry)) last x r ⌝ }

@@ -15,6 +15,7 @@ use b3d_pieces::Part;
 use b3d_pieces::Totals;
 use b3d_scene::Tag;
 
+// Returns `a - b`, or 0 if `b` is greater.
 pub fn less(a: usize, b: usize) -> usize
     ensures { λ r. ⌜ r ≡ a - b ⌝ }
 {
@@ -24,21 +25,21 @@ pub fn less(a: usize, b: usize) -> usize
     a - b
 }
 
-// Items begin with a text.
+// Returns whether the items of a chunk of tag `tag` begin with a text.
 pub fn text_items(tag: Tag) -> bool
     ensures { λ r. ⌜ r ≡ textItems tag ⌝ }
 {
     same(tag, Tag::TEXS) | same(tag, Tag::BRUS)
 }
 
-// Chunks stand inside.
+// Returns whether chunks stand inside a chunk of tag `tag`.
 pub fn nests(tag: Tag) -> bool
     ensures { λ r. ⌜ r ≡ nestsOf tag ⌝ }
 {
     same(tag, Tag::BB3D) | (same(tag, Tag::NODE) | same(tag, Tag::MESH))
 }
 
-// An item or a header begins.
+// Begins an item, or a header, at `at` in `f`: a text or a row of numbers. A row that runs past the chunk is refused at `at`: 3 for a header, 5 for an item.
 pub fn begin(at: usize, g: Totals, f: Open) -> Now
     requires { ⌜ Ready 0 at g f ⌝ }
     ensures { λ r. ⌜ Gives 0 at g f r (beginOf at g f) ⌝ }
@@ -60,7 +61,8 @@ pub fn begin(at: usize, g: Totals, f: Open) -> Now
     Now::Live(at, Part::Row(false, at, 0, 0, 0, NONE_KEPT), g, f)
 }
 
-// A part of the innermost chunk is over: it goes on, or is left.
+// Begins the next item or header at `at`, where a part of `f` ended; or closes `f` if it ends here, with 8 at its header if it lacks a chunk that must stand
+// in it.
 pub fn edge(at: usize, g: Totals, f: Open) -> Now
     requires { ⌜ Ready 0 at g f ⌝ }
     ensures { λ r. ⌜ Gives 0 at g f r (edgeHere at g f) ⌝ }

@@ -1,4 +1,4 @@
-// The nesting table asked of a record, whose turn is any number: past the last turn all numbers say the same.
+// The nesting table asked of a record, whose turn is any number: all numbers from 4 on count as 4, which is past the last turn.
 ghost use mathlib.Core.Path.{_≡_};
 ghost use Rattle.b3d_scene.specs.Nesting.{nesting, owed, end, next, reachedAt};
 ghost use Rattle.b3d_turns.specs.Turns.{permitOf};
@@ -9,6 +9,7 @@ use b3d_turns::Reached;
 use b3d_turns::may_stand;
 use b3d_turns::owes;
 
+// Returns how far the nesting rule has come by a record's `turn`, 4 at most, and `spent`.
 fn reached(turn: usize, spent: bool) -> Reached
     ensures { λ r. ⌜ r ≡ record { turn = lastTurn turn; spent = spent } ⌝ }
 {
@@ -19,7 +20,7 @@ fn reached(turn: usize, spent: bool) -> Reached
     Reached { turn: 4, spent }
 }
 
-// Does a chunk that ends lack one that must stand in it?
+// Returns whether a chunk of tag `tag` that ends after `turn` lacks a chunk that must stand in it.
 pub fn lacks(tag: Tag, turn: usize) -> bool
     ensures { λ r. ⌜ r ≡ owed (nesting tag) turn end ⌝ }
 {
@@ -27,7 +28,7 @@ pub fn lacks(tag: Tag, turn: usize) -> bool
     owes(tag, so_far)
 }
 
-// May a chunk stand inside one of this tag, after what was reached?
+// Returns whether a chunk of tag `inner` may stand inside one of tag `tag`, after `turn` and `spent`, and how far the nesting rule comes with it.
 pub fn stands(tag: Tag, turn: usize, spent: bool, inner: Tag) -> Permit
     ensures { λ r. ⌜ r ≡ permitOf (next (nesting tag) (nesting tag) (reachedAt turn spent) inner) ⌝ }
 {

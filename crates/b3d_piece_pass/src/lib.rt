@@ -1,3 +1,3 @@
-// Passing over bytes: as many of a piece's next bytes as change only what stands at the present place of the innermost chunk, and how many items it had,
-// are taken at once, with a few numbers in each loop. What is held afterwards is what the machine holds after these bytes, taken one by one.
+// Taking bytes of a piece at once: as many of the next bytes as change only the present place of the innermost chunk and the number of its items. What is
+// held afterwards is what the machine holds after these bytes, taken one by one.
 pub mod passing;

@@ -18,7 +18,7 @@ use b3d_pieces::Open;
 use b3d_pieces::Part;
 use b3d_pieces::Totals;
 
-// After n bytes.
+// Returns the turn `t` after `n` bytes, with `now` as what is held.
 fn moved(t: Turn, now: Now, n: usize) -> Turn
     requires { ⌜ (t .at + n ≤ t .end) × (t .judge .size + n ≤ 16777217) ⌝ }
     ensures { λ r. ⌜ r ≡ movedTo t now n ⌝ }
@@ -44,7 +44,7 @@ fn moved(t: Turn, now: Now, n: usize) -> Turn
     }
 }
 
-// A chunk that is passed over, but its last byte.
+// Takes at most `n` bytes of a chunk that is passed over up to `until`, but not its last byte.
 fn pass_skip(t: Turn, piece: &[u8], n: usize, at: usize, until: usize, g: Totals, f: Open) -> Turn
     requires { ⌜ PassFrom t (now piece) n at (aSkip until) g f ⌝ }
     ensures { λ r. ⌜ PassIs t (now (piece .entry)) r ⌝ }
@@ -54,7 +54,7 @@ fn pass_skip(t: Turn, piece: &[u8], n: usize, at: usize, until: usize, g: Totals
     moved(t, now, k)
 }
 
-// A text, up to its zero or to the last byte of its chunk.
+// Takes at most `n` bytes of a text that began at `start`, up to its zero or to the last byte of its chunk `f`.
 fn pass_text(
     t: Turn,
     piece: &[u8],
@@ -77,7 +77,7 @@ fn pass_text(
     moved(t, now, k)
 }
 
-// Rows of numbers.
+// Takes at most `n` bytes of rows of `f` from the place `x` on.
 fn pass_rows(t: Turn, piece: &[u8], n: usize, x: RowPlace, fixed: bool, g: Totals, f: Open) -> Turn
     requires { ⌜ PassFrom t (now piece) n (x .at) (aRow fixed (x .start) (x .i) (x .j) (x .acc) (x .kept)) g f × (x .from ≡ t .at) × (x .count ≡ f .count) ⌝ }
     ensures { λ r. ⌜ PassIs t (now (piece .entry)) r ⌝ }
@@ -92,6 +92,7 @@ fn pass_rows(t: Turn, piece: &[u8], n: usize, x: RowPlace, fixed: bool, g: Total
     moved(t, now, y.from - from)
 }
 
+// Takes at most `n` bytes of the part `m` at `at` in `f`.
 fn pass_live(t: Turn, piece: &[u8], n: usize, at: usize, m: Part, g: Totals, f: Open) -> Turn
     requires { ⌜ PassFrom t (now piece) n at m g f ⌝ }
     ensures { λ r. ⌜ PassIs t (now (piece .entry)) r ⌝ }
@@ -115,7 +116,7 @@ fn pass_live(t: Turn, piece: &[u8], n: usize, at: usize, m: Part, g: Totals, f: 
     }
 }
 
-// As many of the piece's next bytes as can be taken at once; after a refusal and after the end of BB3D they are only counted.
+// Takes as many of the next bytes of `piece` as can be taken at once; after a refusal and after the end of BB3D they are only counted.
 pub fn pass(t: Turn, piece: &[u8]) -> Turn
     requires { ⌜ PassReady t (now piece) ⌝ }
     ensures { λ r. ⌜ PassIs t (now (piece .entry)) r ⌝ }

@@ -8,6 +8,7 @@ use b3d_piece_answers::refused;
 use b3d_piece_state::PieceState;
 use b3d_piece_state::states::state_of;
 
+// Returns what the close answers after the records were tested, `state` being what was handed in: a refusal gives it back.
 pub fn closed(t: Round, state: PieceState) -> PieceClosed
     requires { ⌜ CloseReady t ⌝ }
     ensures { λ r. ⌜ ClosedIs t state r ⌝ }

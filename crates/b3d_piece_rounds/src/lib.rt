@@ -1,5 +1,6 @@
-// The judge of pieces by rounds, by value: whoever holds the row reads the record at `get` before a round, and writes `rec` at `put` after it. The
-// first rounds test the records in use one after the other and write each back as it was; the others are turns over the piece's bytes.
+// The piece judge as rounds, by value, so that a caller can hold the row in any form. Whoever holds the row reads the record at `get` before a round, and
+// writes `rec` at `put` after it. The first rounds test the records in use one after the other and write each back as it was; the others are turns over the
+// piece's bytes.
 pub mod closing;
 pub mod rounds;
 pub mod tests;
@@ -9,8 +10,9 @@ use b3d_piece_state::PieceState;
 use b3d_piece_take::Turn;
 use b3d_scene::Answer;
 
-// Whether another round follows; the record to read; the record to write, with its place; whether the row is being tested, and the load of the records
-// before the one to read; the refusal and its place, or 0 and 0; the turn.
+// A round: `go`, whether another follows; `get`, the place of the record to read; `put` and `rec`, the record to write and its place; `testing`, whether the
+// records are being tested, and `load`, the rows that those before `get` may still add; `number` and `place`, the refusal, or 0 and 0; `turn`, the turn over
+// the piece's bytes.
 pub struct Round {
     pub go: bool,
     pub get: usize,
@@ -23,7 +25,7 @@ pub struct Round {
     pub turn: Turn,
 }
 
-// What the close answers, and the state for the next call.
+// The close's answer, and the state for the next call.
 #[repr(C)]
 pub struct PieceClosed {
     pub answer: Answer,

@@ -12,7 +12,7 @@ use b3d_piece_state::records::record_of;
 use b3d_piece_state::states::state_of;
 use b3d_piece_take::steps::step;
 
-// A turn over the piece's bytes, after those that can be passed over.
+// Takes the bytes that can be taken at once, then makes a turn at the next byte, if one is left, with `rec` as the record read.
 pub fn turned(t: Round, rec: OpenRecord, bytes: &[u8]) -> Round
     requires { ⌜ TurnReady t rec (now bytes) ⌝ }
     ensures { λ r. ⌜ TurnedIs t rec (now (bytes .entry)) r ⌝ }
@@ -50,6 +50,7 @@ pub fn turned(t: Round, rec: OpenRecord, bytes: &[u8]) -> Round
     }
 }
 
+// Makes the next round with `rec` as the record read: a test of it, or a turn over the bytes of the piece.
 pub fn next(t: Round, rec: OpenRecord, bytes: &[u8]) -> Round
     requires { ⌜ NextReady t rec (now bytes) ⌝ }
     ensures { λ r. ⌜ NextIs t rec (now (bytes .entry)) r ⌝ }
@@ -60,7 +61,7 @@ pub fn next(t: Round, rec: OpenRecord, bytes: &[u8]) -> Round
     turned(t, rec, bytes)
 }
 
-// After the last round: the state that was handed in where the piece was refused.
+// Returns what a piece answers after the last round, `state` being what was handed in: a refusal gives it back.
 pub fn last(t: Round, state: PieceState) -> PieceFed
     ensures { λ r. ⌜ LastIs t state r ⌝ }
 {

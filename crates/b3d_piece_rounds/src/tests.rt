@@ -1,4 +1,4 @@
-// The rounds that test what a caller hands in.
+// The rounds that test the state and the row that a caller hands in.
 ghost use mathlib.Core.Path.{_≡_};
 ghost use Rattle.b3d_piece_state.specs.States.{judgeIn};
 ghost use Rattle.b3d_piece_rounds.specs.Rounds.{FirstIs, TestReady, TestIs};
@@ -14,7 +14,7 @@ use b3d_piece_tests::Decision;
 use b3d_piece_tests::first_decision;
 use b3d_piece_tests::test_decision;
 
-// What was decided, and the record to write.
+// Returns the round that `x` decides, with the record `rec` to write at `put`.
 fn made(x: Decision, put: usize, rec: OpenRecord, turn: Turn) -> Round
     ensures { λ r. ⌜ r ≡ record { go = x .go; get = x .get; put = put; rec = rec; testing = x .testing; load = x .load; number = x .number; place = x .place; turn = turn } ⌝ }
 {
@@ -31,7 +31,7 @@ fn made(x: Decision, put: usize, rec: OpenRecord, turn: Turn) -> Round
     }
 }
 
-// What is handed in, over so many records, with so many bytes.
+// Returns the first round for a piece of `bytes` bytes, with the state handed in and a row of `records` records.
 pub fn first(state: PieceState, records: usize, bytes: usize) -> Round
     ensures { λ r. ⌜ FirstIs (judgeIn state) records bytes r ⌝ }
 {
@@ -43,7 +43,7 @@ pub fn first(state: PieceState, records: usize, bytes: usize) -> Round
     made(x, 0, rec, t)
 }
 
-// The record at `get` is tested, and written back.
+// Tests the record `rec`, read at `get`, and writes it back as it was.
 pub fn test(t: Round, rec: OpenRecord) -> Round
     requires { ⌜ TestReady t ⌝ }
     ensures { λ r. ⌜ TestIs t rec r ⌝ }

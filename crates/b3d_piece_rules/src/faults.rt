@@ -11,6 +11,7 @@ use b3d_pieces::Kept;
 use b3d_pieces::Totals;
 use b3d_scene::Tag;
 
+// Returns 0 if `w` is at most `m`, else 6.
 pub fn up_to(m: usize, w: usize) -> u32
     ensures { λ r. ⌜ r ≡ faultOf (upTo m) w ⌝ }
 {
@@ -20,6 +21,7 @@ pub fn up_to(m: usize, w: usize) -> u32
     6
 }
 
+// Returns 0 if the id `w` is below `n`, else 7.
 pub fn name(n: usize, w: usize) -> u32
     ensures { λ r. ⌜ r ≡ faultOf (names n) w ⌝ }
 {
@@ -29,6 +31,7 @@ pub fn name(n: usize, w: usize) -> u32
     7
 }
 
+// Returns 0 if the id `w` is below `n` or is -1 (0xFFFFFFFF), else 7.
 pub fn name_or_none(n: usize, w: usize) -> u32
     ensures { λ r. ⌜ r ≡ faultOf (namesOrNone n) w ⌝ }
 {
@@ -41,7 +44,7 @@ pub fn name_or_none(n: usize, w: usize) -> u32
     7
 }
 
-// A row of one number of this range.
+// Returns the refusal of number `i`, which is `w`, of a row with one number that is at most `m`; else 0.
 pub fn head_fault(m: usize, i: usize, w: usize) -> u32
     ensures { λ r. ⌜ r ≡ faultIn (upTo m ∷ []) i w ⌝ }
 {
@@ -51,7 +54,7 @@ pub fn head_fault(m: usize, i: usize, w: usize) -> u32
     0
 }
 
-// A row of one brush id.
+// Returns the refusal of number `i`, which is `w`, of a row with one brush id, where there are `n` brushes; else 0.
 pub fn brush_fault(n: usize, i: usize, w: usize) -> u32
     ensures { λ r. ⌜ r ≡ faultIn (namesOrNone n ∷ []) i w ⌝ }
 {
@@ -61,7 +64,7 @@ pub fn brush_fault(n: usize, i: usize, w: usize) -> u32
     0
 }
 
-// Flags, sets, size of a set.
+// Returns the refusal of number `i`, which is `w`, of the fixed data of a VRTS: flags, sets, set size; else 0.
 pub fn vertices_fault(i: usize, w: usize) -> u32
     ensures { λ r. ⌜ r ≡ faultIn verticesHead i w ⌝ }
 {
@@ -77,6 +80,7 @@ pub fn vertices_fault(i: usize, w: usize) -> u32
     0
 }
 
+// Returns the refusal of number `i`, which is `w`, of the fixed data of a chunk of tag `tag`; else 0.
 pub fn fixed_fault(tag: Tag, g: Totals, i: usize, w: usize) -> u32
     ensures { λ r. ⌜ r ≡ fixedFault tag g i w ⌝ }
 {
@@ -91,7 +95,7 @@ pub fn fixed_fault(tag: Tag, g: Totals, i: usize, w: usize) -> u32
     }
 }
 
-// Red, green, blue or alpha.
+// Returns 0 if the bits `w` of a red, green, blue or alpha are a number from 0 to 1, minus zero among them; else 6.
 pub fn colour(w: usize) -> u32
     requires { ⌜ IsWord w ⌝ }
     ensures { λ r. ⌜ r ≡ faultOf unit w ⌝ }
@@ -103,7 +107,8 @@ pub fn colour(w: usize) -> u32
     6
 }
 
-// A brush: four colours, three other numbers, then so many texture ids.
+// Returns the refusal of number `i`, which is `w`, of a brush: four colours, three other numbers, then `slots` texture ids, where there are `n` textures;
+// else 0.
 pub fn slot_fault(slots: usize, n: usize, i: usize, w: usize) -> u32
     requires { ⌜ IsWord w ⌝ }
     ensures { λ r. ⌜ r ≡ slotFault slots n i w ⌝ }
@@ -120,7 +125,7 @@ pub fn slot_fault(slots: usize, n: usize, i: usize, w: usize) -> u32
     0
 }
 
-// A vertex with these flags: position and normal, four colours, the sets.
+// Returns the refusal of number `i`, which is `w`, of a vertex with these `flags`: position and normal, four colours, the sets; else 0.
 pub fn vertex_fault(flags: usize, i: usize, w: usize) -> u32
     requires { ⌜ IsWord w ⌝ }
     ensures { λ r. ⌜ VertexIs flags i w r ⌝ }
@@ -135,7 +140,7 @@ pub fn vertex_fault(flags: usize, i: usize, w: usize) -> u32
     0
 }
 
-// Ids from the first number on, so many of them.
+// Returns the refusal of number `i`, which is `w`, of a row whose first `count` numbers are ids below `n`; else 0.
 pub fn ids_fault(count: usize, n: usize, i: usize, w: usize) -> u32
     ensures { λ r. ⌜ IdsAre count n i w r ⌝ }
 {
@@ -145,7 +150,7 @@ pub fn ids_fault(count: usize, n: usize, i: usize, w: usize) -> u32
     0
 }
 
-// How many vertices the bones of the present node may name.
+// Returns how many vertices a BONE of the present node may name: 0 for the root, else the node's bone limit.
 pub fn bone_vertices(g: Totals) -> usize
     ensures { λ r. ⌜ r ≡ boneVertices (above g) ⌝ }
 {
@@ -156,6 +161,7 @@ pub fn bone_vertices(g: Totals) -> usize
     g.told
 }
 
+// Returns the refusal of number `i`, which is `w`, of an item of a chunk of tag `tag` with the fixed data `k`, or of a header inside it; else 0.
 pub fn inner_fault(tag: Tag, k: Kept, g: Totals, i: usize, w: usize) -> u32
     requires { ⌜ IsWord w ⌝ }
     ensures { λ r. ⌜ r ≡ innerFault tag k g i w ⌝ }
@@ -169,6 +175,7 @@ pub fn inner_fault(tag: Tag, k: Kept, g: Totals, i: usize, w: usize) -> u32
     }
 }
 
+// Returns the refusal of number `i`, which is `w`, of a row: of fixed data if `fixed` is set, else of an item or a header; else 0.
 pub fn row_fault(fixed: bool, tag: Tag, k: Kept, g: Totals, i: usize, w: usize) -> u32
     requires { ⌜ IsWord w ⌝ }
     ensures { λ r. ⌜ r ≡ rowFault fixed tag k g i w ⌝ }

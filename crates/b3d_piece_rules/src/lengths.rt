@@ -1,4 +1,4 @@
-// The numbers of a row, by the tag of their chunk: how many there are, and what each must be.
+// How many numbers a row has, by the tag of its chunk.
 ghost use mathlib.Core.Path.{_≡_};
 ghost use lib.ListN.{length};
 ghost use Rattle.b3d_scene.specs.Rules.{vertexWords};
@@ -8,7 +8,7 @@ use b3d_pieces::Kept;
 use b3d_pieces::Totals;
 use b3d_scene::Tag;
 
-// How many numbers the fixed data of a chunk has.
+// Returns how many numbers the fixed data of a chunk of tag `tag` has, after its text if it has one.
 pub fn fixed_len(tag: Tag, g: Totals) -> usize
     ensures { λ r. ⌜ r ≡ length (fixedRow tag g) ⌝ }
 {
@@ -26,6 +26,7 @@ pub fn fixed_len(tag: Tag, g: Totals) -> usize
     }
 }
 
+// Returns how many numbers a vertex has, by the flags, sets and set size in `k`.
 pub fn vertex_len(k: Kept) -> usize
     requires { ⌜ Words k ⌝ }
     ensures { λ r. ⌜ r ≡ vertexWords (k .first) (k .second) (k .third) ⌝ }
@@ -33,7 +34,7 @@ pub fn vertex_len(k: Kept) -> usize
     3 + k.first / 1 % 2 * 3 + k.first / 2 % 2 * 4 + k.second * k.third
 }
 
-// How many numbers an item has, or the header of a chunk inside.
+// Returns how many numbers an item of a chunk of tag `tag` with the fixed data `k` has, after its text if it has one; or a header inside it.
 pub fn inner_len(tag: Tag, k: Kept, g: Totals) -> usize
     requires { ⌜ Words k ⌝ }
     ensures { λ r. ⌜ r ≡ length (innerRow tag k g) ⌝ }
@@ -52,6 +53,7 @@ pub fn inner_len(tag: Tag, k: Kept, g: Totals) -> usize
     }
 }
 
+// Returns how many numbers a row has: of fixed data if `fixed` is set, else of an item or a header.
 pub fn row_len(fixed: bool, tag: Tag, k: Kept, g: Totals) -> usize
     requires { ⌜ Words k ⌝ }
     ensures { λ r. ⌜ r ≡ length (rulesOf fixed tag k g) ⌝ }

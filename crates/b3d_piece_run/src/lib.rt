@@ -1,4 +1,5 @@
-// The loop over a piece's bytes, with a row of plain words: a turn for each byte that is not passed over, and for each chunk that is entered or left.
+// The loop over the bytes of a piece, with a row of plain words. It makes a turn for each byte that is not taken at once with others, and for each chunk that
+// is entered or left.
 ghost use Prim.Native.Nat.{_/_};
 ghost use lib.ListN.{length};
 ghost use Rattle.b3d_pieces.specs.Row.{openAt};
@@ -10,7 +11,8 @@ use b3d_piece_take::steps::step;
 use b3d_piece_words::open_at;
 use b3d_piece_words::put_open;
 
-// The bytes of a piece.
+// Feeds all bytes of `piece` to the machine, with the chunks around the innermost in `row`, and returns what is held then. A piece of no bytes changes
+// nothing.
 pub fn run(j: Judge, row: &mut [usize], piece: &[u8]) -> Judge
     requires { ⌜ CanRun j (length (now row) / 11) (openAt (now row)) ⌝ }
     ensures { λ r. ⌜ RunIs j (openAt (now (row .entry))) (now (piece .entry)) r (length (now (row .exit)) / 11) (openAt (now (row .exit))) ⌝ }

@@ -1,12 +1,14 @@
--- An open chunk as a record of numbers, the same in the same order as its words in a row.
+-- An open chunk as a record of numbers, which are the words of its record in a row, in the same order.
 use Rattle.b3d_pieces.specs.declared.Open.{Open}
 use Rattle.b3d_scene.specs.Tags.{tagNumber}
 use Rattle.b3d_pieces.specs.Row.{flag, openOf}
 use Rattle.b3d_piece_state.specs.declared.OpenRecord.{OpenRecord}
 
+-- the open chunk that the record n stands for
 unfoldable pub openIn : OpenRecord → Open
 openIn n = openOf (n .tag) (n .head) (n .end) (n .turn) (n .spent) (n .level) (n .first) (n .second) (n .third) (n .count) (n .told)
 
+-- the record of the open chunk f
 unfoldable pub recordOf : Open → OpenRecord
 recordOf f = record {
   tag = tagNumber (f .tag);

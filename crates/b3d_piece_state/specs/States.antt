@@ -1,4 +1,4 @@
--- What is held between two calls as numbers. Every state says something to hold: an unknown kind that all was read, a flag is set where its number is 1.
+-- What is held between two calls as numbers. Every state stands for something: an unknown kind says that all was read, a flag is set where its number is 1.
 use Prim.Native.Nat.{ℕ}
 use lib.Dec.{eqb}
 use Rattle.wire.specs.Test.{if}
@@ -17,7 +17,7 @@ use Rattle.b3d_piece_state.specs.declared.OpenRecord.{OpenRecord}
 use Rattle.b3d_piece_state.specs.declared.PieceState.{PieceState}
 use Rattle.b3d_piece_state.specs.Records.{openIn, recordOf}
 
--- what stands at the present place
+-- what stands at the present place by the state s
 unfoldable pub nowBy : PieceState → Now
 nowBy s =
     if (eqb (s .kind) 0) (Live (s .at) (Text (eqb (s .fixed) 1) (s .start)) (s .totals) (openIn (s .inner)))
@@ -26,6 +26,7 @@ nowBy s =
     (if (eqb (s .kind) 3) (Fault (s .number) (s .at))
     (Over (s .totals)))))
 
+-- what the judge holds by the state s
 unfoldable pub judgeIn : PieceState → Judge
 judgeIn s = record {
   size = s .size;
@@ -37,7 +38,7 @@ judgeIn s = record {
   now = nowBy s;
 }
 
--- the judge's own numbers, its flag as one, and those that say what stands at the present place
+-- a state: the numbers of the judge j, its flag `shut` as a number, and the numbers that say what stands at the present place
 abbrev pub stateWith : Judge → ℕ → ℕ → ℕ → ℕ → ℕ → ℕ → ℕ → ℕ → ℕ → Kept → OpenRecord → Totals → PieceState
 stateWith j shut kind number at fixed start index came value kept inner g = record {
   kind = kind;
@@ -59,11 +60,12 @@ stateWith j shut kind number at fixed start index came value kept inner g = reco
   totals = g;
 }
 
--- no chunk is open
+-- the record that stands in a state while no chunk is open
 abbrev pub noRecord : OpenRecord
 noRecord = recordOf (fresh BB3D 0 0 0 0)
 
--- between two calls no chunk waits to be entered or left; one that does is said as if all was read
+-- the state of the judge j, its flag `shut` as a number, by what it holds. Between two calls no chunk waits to be entered or left; one that does is said as
+-- if all was read
 unfoldable pub stateBy : Judge → ℕ → Now → PieceState
 stateBy j shut (Live at (Text fixed start) g f) = stateWith j shut 0 0 at (flag fixed) start 0 0 0 noneKept (recordOf f) g
 stateBy j shut (Live at (Row fixed start index came value kept) g f) = stateWith j shut 1 0 at (flag fixed) start index came value kept (recordOf f) g
@@ -73,5 +75,6 @@ stateBy j shut (Pop at g) = stateWith j shut 4 0 0 0 0 0 0 0 noneKept noRecord g
 stateBy j shut (Fault n p) = stateWith j shut 3 n p 0 0 0 0 0 noneKept noRecord nothing
 stateBy j shut (Over g) = stateWith j shut 4 0 0 0 0 0 0 0 noneKept noRecord g
 
+-- the state of what the judge holds, j
 unfoldable pub stateOf : Judge → PieceState
 stateOf j = stateBy j (flag (j .shut)) (j .now)

@@ -1,12 +1,12 @@
-// What a caller keeps between two calls of the judge of pieces, as numbers only, so that C can hold it too: the state, and a record of the lent row;
-// and both ways between these and what the judge holds.
+// What a caller of the piece judge keeps between two calls, as numbers only, so that C can hold it too: the state, and a record of the lent row. Here are
+// these types, and the way to what the judge holds and back.
 pub mod records;
 pub mod states;
 
 use b3d_pieces::Kept;
 use b3d_pieces::Totals;
 
-// An open chunk as numbers (`b3d_pieces::Open`): its tag by its number, a flag as 0 or 1.
+// An open chunk as numbers (`b3d_pieces::Open`): its tag by its number, `spent` as 0 or 1, its fixed data as `first`, `second` and `third`.
 #[repr(C)]
 pub struct OpenRecord {
     pub tag: usize,

@@ -8,7 +8,7 @@ use b3d_pieces::Kept;
 use b3d_pieces::Open;
 use b3d_scene::Tag;
 
-// A tag by its number, the last for every other number.
+// Returns the tag with number `n`, ANIM for every `n` from 9 on.
 pub fn tag_by(n: usize) -> Tag
     ensures { λ r. ⌜ r ≡ tagBy n ⌝ }
 {
@@ -26,6 +26,7 @@ pub fn tag_by(n: usize) -> Tag
     }
 }
 
+// Returns the number of tag `t`, 0 to 9.
 pub fn tag_number(t: Tag) -> usize
     ensures { λ r. ⌜ r ≡ tagNumber t ⌝ }
 {
@@ -43,6 +44,7 @@ pub fn tag_number(t: Tag) -> usize
     }
 }
 
+// Returns 1 if `b` is true, else 0.
 pub fn flag_of(b: bool) -> usize
     ensures { λ r. ⌜ r ≡ flag b ⌝ }
 {
@@ -52,7 +54,7 @@ pub fn flag_of(b: bool) -> usize
     0
 }
 
-// The chunk that a record says.
+// Returns the open chunk that the record `n` stands for; every record stands for one.
 pub fn open_of(n: OpenRecord) -> Open
     ensures { λ r. ⌜ r ≡ openIn n ⌝ }
 {
@@ -75,7 +77,7 @@ pub fn open_of(n: OpenRecord) -> Open
     }
 }
 
-// The record of a chunk.
+// Returns the record of the open chunk `f`.
 pub fn record_of(f: Open) -> OpenRecord
     ensures { λ r. ⌜ r ≡ recordOf f ⌝ }
 {

@@ -1,4 +1,4 @@
-// What is held between two calls, as numbers, both ways.
+// What is held between two calls as numbers: from a state to what the judge holds, and back.
 ghost use mathlib.Core.Path.{_≡_};
 ghost use Rattle.b3d_piece_state.specs.States.{nowBy, judgeIn, stateOf};
 use crate::PieceState;
@@ -13,7 +13,7 @@ use b3d_pieces::NONE_KEPT;
 use b3d_pieces::Part;
 use b3d_scene::Tag;
 
-// What stands at the present place.
+// Returns what stands at the present place by the state `s`; for a kind of 4 or more, that all was read.
 fn now_by(s: PieceState) -> Now
     ensures { λ r. ⌜ r ≡ nowBy s ⌝ }
 {
@@ -38,7 +38,7 @@ fn now_by(s: PieceState) -> Now
     Now::Over(g)
 }
 
-// What the judge holds by a state.
+// Returns what the judge holds by the state `s`; every state stands for something.
 pub fn judge_of(s: PieceState) -> Judge
     ensures { λ r. ⌜ r ≡ judgeIn s ⌝ }
 {
@@ -54,7 +54,7 @@ pub fn judge_of(s: PieceState) -> Judge
     }
 }
 
-// The state of what the judge holds. A chunk that waits to be entered or left is said as if all was read: between two calls there is none.
+// Returns the state of what the judge holds, `j`. A chunk that waits to be entered or left is said as if all was read: between two calls there is none.
 pub fn state_of(j: Judge) -> PieceState
     ensures { λ r. ⌜ r ≡ stateOf j ⌝ }
 {

@@ -1,13 +1,13 @@
-// What is held between two pieces, and a turn of the loop over a piece's bytes: a byte of BB3D's header, or a turn of the machine. By value, one record of
-// the row read and one written, as in b3d_piece_turn.
+// What the piece judge holds between two pieces, and a turn of its loop: a byte of BB3D's header, or a turn of the machine. By value, one record of the row
+// read and one written, as in b3d_piece_turn.
 pub mod steps;
 pub mod taking;
 
 use b3d_piece_parts::Now;
 use b3d_pieces::Open;
 
-// How many bytes came; of BB3D's header the present number so far, the letters and the length; whether the file was closed; how many
-// chunks the row holds; the innermost chunk and what stands there.
+// What is held between two pieces: `size`, how many bytes came; of BB3D's header `worth`, the value so far of the number being read, `letters`, its tag, and
+// `length`; `shut`, whether the file was closed; `depth`, how many chunks the row holds; `now`, the innermost chunk and what stands there.
 pub struct Judge {
     pub size: usize,
     pub worth: usize,
@@ -18,14 +18,15 @@ pub struct Judge {
     pub now: Now,
 }
 
-// The same after a turn, and the record to write with its place.
+// What is held after a turn, and the record `rec` to write at `put`.
 pub struct Taken {
     pub judge: Judge,
     pub put: usize,
     pub rec: Open,
 }
 
-// The byte that is taken, or was while chunks are entered or left; the end of the piece; the record to read; the record to write.
+// A turn of the loop over a piece: what is held; `at`, the next byte to take, or the last taken while chunks are entered or left; `end`, the end of the
+// piece; `get`, the place of the record to read; `rec` and `put`, the record to write and its place.
 pub struct Turn {
     pub judge: Judge,
     pub at: usize,

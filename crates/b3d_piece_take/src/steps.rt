@@ -15,6 +15,7 @@ use b3d_piece_turn::turning::slot;
 use b3d_pieces::Open;
 use b3d_scene::Tag;
 
+// Returns the turn at the beginning of a piece of `bytes` bytes, with `j` held.
 pub fn begin(j: Judge, bytes: usize) -> Turn
     ensures { λ r. ⌜ Begins j bytes r ⌝ }
 {
@@ -31,7 +32,7 @@ pub fn begin(j: Judge, bytes: usize) -> Turn
     }
 }
 
-// The place of the next byte to take: this one while chunks are entered or left.
+// Returns the place of the next byte to take: `at` while chunks are entered or left, else the one after it.
 fn next_at(now: Now, at: usize) -> usize
     requires { ⌜ at < 18446744073709551615 ⌝ }
     ensures { λ r. ⌜ r ≡ nextAt (pends now) at ⌝ }
@@ -42,6 +43,7 @@ fn next_at(now: Now, at: usize) -> usize
     at + 1
 }
 
+// Makes a turn with the byte `b` at the turn's place and the record `rec` read.
 pub fn step(t: Turn, rec: Open, b: u8) -> Turn
     requires { ⌜ TakeReady (t .judge) rec × (t .at < t .end) ⌝ }
     ensures { λ r. ⌜ StepIs t rec b r ⌝ }

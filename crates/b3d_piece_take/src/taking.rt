@@ -19,7 +19,7 @@ use b3d_pieces::Totals;
 use b3d_scene::START;
 use b3d_scene::Tag;
 
-// A byte of BB3D's header, in its number.
+// Returns the value of the present number of BB3D's header after `size` bytes, worth `worth`, and one more, `b`.
 pub fn head_number(size: usize, worth: usize, b: u8) -> usize
     requires { ⌜ (size < 8) × (worth < headLow size) × (worth < 16777216) ⌝ }
     ensures { λ r. ⌜ (r ≡ headWorth size worth b) × (r < 4294967296) ⌝ }
@@ -30,7 +30,7 @@ pub fn head_number(size: usize, worth: usize, b: u8) -> usize
     gathered(size - 4, worth, b)
 }
 
-// Nothing counted.
+// Returns the totals before anything was counted.
 pub fn nothing() -> Totals
     ensures { λ r. ⌜ r ≡ nothingOf ⌝ }
 {
@@ -47,6 +47,7 @@ pub fn nothing() -> Totals
     }
 }
 
+// Takes byte `b` of BB3D's header; after the eighth the body of BB3D begins. The record `rec` goes back as it was.
 pub fn head_turn(j: Judge, rec: Open, b: u8) -> Taken
     requires { ⌜ TakeReady j rec × (j .size < 8) × (pends (j .now) ≡ false) ⌝ }
     ensures { λ r. ⌜ TakeIs j rec b r ⌝ }
@@ -81,7 +82,7 @@ pub fn head_turn(j: Judge, rec: Open, b: u8) -> Taken
     Taken { judge: x, put, rec }
 }
 
-// The machine's turn, that takes so many bytes.
+// Makes a turn of the machine with byte `b` and the record `rec` read, which takes `came` bytes: 0 while chunks are entered or left, else 1.
 pub fn body_turn(j: Judge, rec: Open, b: u8, came: usize) -> Taken
     requires { ⌜ TakeReady j rec × BodyReady j came ⌝ }
     ensures { λ r. ⌜ TakeIs j rec b r ⌝ }
@@ -107,6 +108,7 @@ pub fn body_turn(j: Judge, rec: Open, b: u8, came: usize) -> Taken
     }
 }
 
+// Makes a turn with byte `b` and the record `rec` read. Past the longest file nothing changes.
 pub fn take(j: Judge, rec: Open, b: u8) -> Taken
     requires { ⌜ TakeReady j rec ⌝ }
     ensures { λ r. ⌜ TakeIs j rec b r ⌝ }

@@ -1,5 +1,5 @@
-// What the rounds that test a caller's state and row decide, by numbers: 11, then 15, another record to test, or turns. The row is not at hand: a round
-// is handed the record that it tests.
+// What the rounds that test a caller's state and row decide: refusal 11, refusal 15, another record to test, or turns over the piece's bytes. The row is not
+// at hand: a round is handed the record that it tests.
 ghost use mathlib.Core.Path.{_≡_};
 ghost use Prim.Native.Nat.{_≤_};
 ghost use Rattle.b3d_piece_tests.specs.Decisions.{refusing, FineBy, FirstBy, TestBy};
@@ -8,7 +8,8 @@ use b3d_piece_loads::loads::open_load;
 use b3d_piece_take::Judge;
 use b3d_pieces::Open;
 
-// Whether another round follows; the record to read; whether it is to be tested, and the load of those before it; the refusal and its place, or 0 and 0.
+// A decision: `go`, whether another round follows; `get`, the place of the record to read; `testing`, whether it is to be tested, and `load`, the rows that
+// those before it may still add; `number` and `place`, the refusal, or 0 and 0.
 pub struct Decision {
     pub go: bool,
     pub get: usize,
@@ -18,6 +19,7 @@ pub struct Decision {
     pub place: u32,
 }
 
+// Returns the decision to refuse with `number` at `place`.
 fn refusal(number: u32, place: u32) -> Decision
     ensures { λ r. ⌜ r ≡ refusing number place ⌝ }
 {
@@ -31,7 +33,8 @@ fn refusal(number: u32, place: u32) -> Decision
     }
 }
 
-// The records in use were tested, and have this load: turns, of which the first reads the record at `get`, if there are bytes; or 15.
+// Returns the decision after all records in use were tested, which may still add `load` rows: 15 at place 0 if `j` is not as calls leave it; else turns, the
+// first reading the record at `get`, if `go` says that there are bytes.
 fn decided(j: Judge, load: usize, go: bool, get: usize) -> Decision
     requires { ⌜ load ≤ 16777218 ⌝ }
     ensures { λ r. ⌜ FineBy j load go get r ⌝ }
@@ -49,7 +52,8 @@ fn decided(j: Judge, load: usize, go: bool, get: usize) -> Decision
     refusal(15, 0)
 }
 
-// What is handed in, over so many records.
+// Returns the decision before any record is tested: 11 with size 19 if `records` is less; 15 after the close, or if more than 18 records are in use; else to
+// test record 0, if one is in use.
 pub fn first_decision(j: Judge, records: usize, go: bool, get: usize) -> Decision
     ensures { λ r. ⌜ FirstBy j records go get r ⌝ }
 {
@@ -76,7 +80,7 @@ pub fn first_decision(j: Judge, records: usize, go: bool, get: usize) -> Decisio
     }
 }
 
-// The record at place i is tested; those before it have this load.
+// Returns the decision after the test of record `i`, which is `f`, where the records before it may still add `load` rows.
 pub fn test_decision(j: Judge, load: usize, i: usize, f: Open, go: bool, get: usize) -> Decision
     requires { ⌜ (load ≤ 16777217) × (i ≤ 17) ⌝ }
     ensures { λ r. ⌜ TestBy j load i f go get r ⌝ }

@@ -1,4 +1,5 @@
-// What a chunk changes in the totals: BB3D's fixed data, a node that begins, a chunk that is left. The definitions are those of b3d_pieces.
+// What a chunk changes in the totals of the piece judge: BB3D's fixed data, a node that begins, a chunk that is left. The definitions are those of
+// b3d_pieces.
 ghost use mathlib.Core.Path.{_≡_};
 ghost use Prim.Native.Nat.{_+_, _≤_};
 ghost use Rattle.b3d_scene.specs.Rules.{boneVertices, bonesFrom};
@@ -10,7 +11,7 @@ use b3d_pieces::Totals;
 use b3d_scene::Counts;
 use b3d_scene::Tag;
 
-// With these rows of tables 3 to 10.
+// Returns `g` with these `rows` of tables 3 to 10.
 fn with_rows(g: Totals, rows: Counts) -> Totals
     ensures { λ r. ⌜ r ≡ rowsWith g rows ⌝ }
 {
@@ -19,7 +20,7 @@ fn with_rows(g: Totals, rows: Counts) -> Totals
     x
 }
 
-// With this version, n_texs, textures and brushes.
+// Returns `g` with this version, n_texs (`slots`), textures and brushes.
 fn with_file(g: Totals, version: usize, slots: usize, textures: usize, brushes: usize) -> Totals
     ensures { λ r. ⌜ r ≡ fileWith g version slots textures brushes ⌝ }
 {
@@ -31,7 +32,7 @@ fn with_file(g: Totals, version: usize, slots: usize, textures: usize, brushes: 
     x
 }
 
-// How many vertices the bones below the present node may name, if it has so many of its own, and an ANIM or none.
+// Returns the bone limit that the present node hands down: its `own` vertices if it is the root or has an ANIM (`anim`), else the limit that it got.
 fn bones_below(anim: bool, own: usize, g: Totals) -> usize
     ensures { λ r. ⌜ r ≡ boneVertices (bonesFrom (above g) anim own) ⌝ }
 {
@@ -45,7 +46,7 @@ fn bones_below(anim: bool, own: usize, g: Totals) -> usize
     g.told
 }
 
-// The present node has so many vertices, and an ANIM or none: what it says to those below.
+// Returns `g` where the present node has `own` vertices and, if `anim` is set, an ANIM: with the bone limit that it hands down.
 fn says(anim: bool, own: usize, g: Totals) -> Totals
     ensures { λ r. ⌜ r ≡ saying anim own g ⌝ }
 {
@@ -56,7 +57,7 @@ fn says(anim: bool, own: usize, g: Totals) -> Totals
     x
 }
 
-// BB3D's fixed data is its version.
+// Returns `g` after the fixed data `k` of a chunk of tag `tag`: BB3D's is the version.
 pub fn headed(tag: Tag, k: Kept, g: Totals) -> Totals
     ensures { λ r. ⌜ r ≡ headedOf tag k g ⌝ }
 {
@@ -66,7 +67,7 @@ pub fn headed(tag: Tag, k: Kept, g: Totals) -> Totals
     g
 }
 
-// A node begins.
+// Returns `g` where a node begins: one row more, and the bone limit that the node around it hands down.
 pub fn node_begins(g: Totals) -> Totals
     requires { ⌜ sum g + 1 ≤ 16777217 ⌝ }
     ensures { λ r. ⌜ r ≡ entered g ⌝ }
@@ -80,6 +81,7 @@ pub fn node_begins(g: Totals) -> Totals
     says(false, 0, x)
 }
 
+// Returns n_texs of a file with this number of brushes: `slots`, or 0 if there is none.
 fn slots_for(brushes: usize, slots: usize) -> usize
     ensures { λ r. ⌜ r ≡ slotsFor brushes slots ⌝ }
 {
@@ -89,7 +91,7 @@ fn slots_for(brushes: usize, slots: usize) -> usize
     slots
 }
 
-// The rows of tables 3 to 10 after a chunk with so many items.
+// Returns the rows of tables 3 to 10 after a chunk of tag `tag` with `c` items.
 fn rows_after(tag: Tag, c: usize, g: Totals) -> Counts
     requires { ⌜ sum g + c ≤ 16777217 ⌝ }
     ensures { λ r. ⌜ r ≡ rowsAfter tag c (g .rows) ⌝ }
@@ -122,7 +124,7 @@ fn rows_after(tag: Tag, c: usize, g: Totals) -> Counts
     n
 }
 
-// After a node the one around it says what that one was told.
+// Returns `g` after a NODE with the bone limit `told`: the node around it hands that limit down again.
 fn said_above(g: Totals, told: usize) -> Totals
     ensures { λ r. ⌜ r ≡ saidAbove g told ⌝ }
 {
@@ -131,7 +133,7 @@ fn said_above(g: Totals, told: usize) -> Totals
     x
 }
 
-// A chunk is left.
+// Returns the totals after a chunk of tag `tag` that had `c` items, the fixed data `k` and, as a NODE, the bone limit `told`.
 pub fn leave(tag: Tag, c: usize, k: Kept, told: usize, g: Totals) -> Totals
     requires { ⌜ sum g + c ≤ 16777217 ⌝ }
     ensures { λ r. ⌜ r ≡ closed tag c k told g ⌝ }

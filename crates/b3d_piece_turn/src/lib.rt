@@ -1,11 +1,11 @@
-// A turn of the machine, by value: it is lent the last record of the row, and says which record is to be written, so that any row serves. A turn
-// that finds a chunk to be entered or left takes no byte.
+// A turn of the piece judge's machine, by value: it is handed the last record of the row, and says which record is to be written, so that any row serves. A
+// turn that finds a chunk to be entered or left takes no byte.
 pub mod turning;
 
 use b3d_piece_parts::Now;
 use b3d_pieces::Open;
 
-// What is held after a turn, how many chunks the row holds, and the record to write with its place.
+// What is held after a turn: `now`; `depth`, how many chunks the row holds; `rec` and `put`, the record to write and its place.
 pub struct Turned {
     pub now: Now,
     pub depth: usize,

@@ -1,5 +1,4 @@
-// A turn: it is lent the outermost but one record by value, and says which record is to be written. A turn that finds a chunk to be
-// entered or left takes no byte.
+// A turn of the machine: it is handed the last record of the row, the chunk around the innermost, by value.
 ghost use mathlib.Core.Path.{_≡_};
 ghost use Prim.Native.Nat.{_≤_};
 ghost use Rattle.b3d_piece_turn.specs.Turns.{slotOf, pends, ReadyNow, TurnIs};
@@ -10,7 +9,7 @@ use b3d_piece_parts::Now;
 use b3d_piece_parts::between::edge;
 use b3d_pieces::Open;
 
-// The place of the last of so many records.
+// Returns the place of the last of `n` records, or 0 if there is none.
 pub fn slot(n: usize) -> usize
     ensures { λ r. ⌜ r ≡ slotOf n ⌝ }
 {
@@ -20,7 +19,7 @@ pub fn slot(n: usize) -> usize
     n - 1
 }
 
-// The next turn takes no byte.
+// Returns whether a chunk is to be entered or left, so that the next turn takes no byte.
 pub fn pending(now: Now) -> bool
     ensures { λ r. ⌜ r ≡ pends now ⌝ }
 {
@@ -33,6 +32,8 @@ pub fn pending(now: Now) -> bool
     }
 }
 
+// Makes a turn with byte `b`, where the row holds `n` chunks and `rec` is the last: enters or leaves a chunk if one waits, else takes the byte. A refusal and
+// the end of BB3D stay.
 pub fn turn(now: Now, n: usize, rec: Open, b: u8) -> Turned
     requires { ⌜ ReadyNow now n rec × (n ≤ 18) ⌝ }
     ensures { λ r. ⌜ TurnIs now n rec b r ⌝ }

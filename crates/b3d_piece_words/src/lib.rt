@@ -1,4 +1,4 @@
-// The row of open-chunk records as plain words, eleven to a record: a record is read, and written.
+// The row of open-chunk records as plain words, eleven to a record: reading and writing a record.
 ghost use mathlib.Core.Path.{_≡_};
 ghost use Prim.Native.Nat.{_+_, _*_, _≤_};
 ghost use lib.ListN.{length};
@@ -9,7 +9,7 @@ use b3d_piece_state::records::tag_number;
 use b3d_pieces::Kept;
 use b3d_pieces::Open;
 
-// The record at place `i`.
+// Returns the open chunk of record `i` of `row`.
 pub fn open_at(row: &[usize], i: usize) -> Open
     requires { ⌜ i * 11 + 11 ≤ length (now row) ⌝ }
     ensures { λ r. ⌜ r ≡ openAt (now (row .entry)) i ⌝ }
@@ -34,7 +34,7 @@ pub fn open_at(row: &[usize], i: usize) -> Open
     }
 }
 
-// Writes the record `f` at place `i`.
+// Writes the open chunk `f` as record `i` of `row`; the other records stay as they are.
 pub fn put_open(row: &mut [usize], i: usize, f: Open)
     requires { ⌜ i * 11 + 11 ≤ length (now row) ⌝ }
     ensures { λ _. ⌜ now (row .exit) ≡ putOpen (now (row .entry)) i f ⌝ }

@@ -19,11 +19,11 @@ use Rattle.b3d_pieces.specs.declared.Kept.{Kept}
 
 -- ---- totals, and bones
 
--- what the nodes above the present node say of bones; none: it is the root, the first node of a file
+-- the bone limit that the nodes above the present one give it; none for the root, the first node of a file
 unfoldable pub above : Totals → Option ℕ
 above g = if (eqb (g .rows .nodes) 1) none (some (g .told))
 
--- version, n_texs, textures, brushes
+-- the totals g with this version, n_texs (`slots`), textures and brushes
 abbrev pub fileWith : Totals → ℕ → ℕ → ℕ → ℕ → Totals
 fileWith g version slots textures brushes =
     record {
@@ -37,7 +37,7 @@ fileWith g version slots textures brushes =
       rows = g .rows;
     }
 
--- the vertices of the present node, what it was told and what it says to those below, rows
+-- the totals g with `own` vertices of the present node, its bone limit `told`, the limit `below` that it hands down, and these rows
 abbrev pub nodeWith : Totals → ℕ → ℕ → ℕ → Counts → Totals
 nodeWith g own told below rows =
     record {
@@ -51,13 +51,13 @@ nodeWith g own told below rows =
       rows = rows;
     }
 
--- the present node has so many vertices, and an ANIM or none: what it says to those below
+-- the totals g where the present node has `own` vertices and, if a is true, an ANIM: with the bone limit that it hands down
 abbrev pub saying : Bool → ℕ → Totals → Totals
 saying a own g = nodeWith g own (g .told) (boneVertices (bonesFrom (above g) a own)) (g .rows)
 
 -- ---- rows
 
--- the fixed data of a chunk, after its text if it has one
+-- the rules of the fixed data of a chunk of tag t, after its text if it has one: column two of 01's table of chunks
 abbrev pub fixedRow : Tag → Totals → List Rule
 fixedRow BB3D g = fileHead
 fixedRow TEXS g = []
@@ -70,7 +70,8 @@ fixedRow BONE g = []
 fixedRow KEYS g = keysHead
 fixedRow ANIM g = animRow
 
--- an item of a chunk with these fixed numbers, after its text if it has one; or the header of a chunk inside it
+-- the rules of an item of a chunk of tag t with the fixed data k, after its text if it has one: column three of 01's table of chunks; in BB3D, NODE and MESH
+-- the rules of a header inside it
 abbrev pub innerRow : Tag → Kept → Totals → List Rule
 innerRow BB3D k g = header
 innerRow TEXS k g = textureRow
@@ -83,45 +84,49 @@ innerRow BONE k g = weightRow (boneVertices (above g))
 innerRow KEYS k g = keyRow (k .first)
 innerRow ANIM k g = []
 
+-- the rules of a row of a chunk of tag t: of its fixed data (true), or of an item or a header inside it (false)
 abbrev pub rulesOf : Bool → Tag → Kept → Totals → List Rule
 rulesOf true t k g = fixedRow t g
 rulesOf false t k g = innerRow t k g
 
--- the rule of a number by its index
+-- the rule of the first number of a row; a number past the row's end has no rule
 abbrev pub first : List Rule → Rule
 first [] = any
 first (r ∷ rs) = r
 
+-- the rule of number i of the row rs; past the row's end any number is right
 unfoldable pub ruleAt : List Rule → ℕ → Rule
 ruleAt rs i = first (drop i rs)
 
--- chunks stand inside
+-- true if chunks stand inside a chunk of tag t
 abbrev pub nests : Tag → Bool
 nests t = is t BB3D || (is t NODE || is t MESH)
 
--- items begin with a text
+-- true if the items of a chunk of tag t begin with a text
 abbrev pub textItems : Tag → Bool
 textItems t = is t TEXS || is t BRUS
 
--- the refusal where a row inside a chunk of this tag is cut
+-- the refusal where a row runs past its chunk: 3 for a header (true), 5 for an item (false)
 abbrev pub cutRow : Bool → ℕ
 cutRow true = 3
 cutRow false = 5
 
--- so many bytes for fixed data of so many are wrong, where nothing follows it or where something may
+-- true if `left` bytes are wrong for fixed data of `need` bytes: where nothing may follow it (true) any other number is, else a smaller one
 abbrev pub wrongBytes : Bool → ℕ → ℕ → Bool
 wrongBytes true left need = not (eqb left need)
 wrongBytes false left need = ltb left need
 
--- an ANIM has nothing after its fixed data
+-- true if `left` bytes of a chunk of tag t are wrong for its `need` bytes of fixed data; an ANIM has nothing after it
 abbrev pub wrongFor : Tag → ℕ → ℕ → Bool
 wrongFor t left need = wrongBytes (is t ANIM) left need
 
 -- ---- numbers that are kept
 
+-- the numbers kept of a row of which nothing was read
 abbrev pub noneKept : Kept
 noneKept = record { first = 0; second = 0; third = 0 }
 
+-- the numbers k with number i set to w; past the first three nothing is kept
 abbrev pub keep : ℕ → ℕ → Kept → Kept
 keep zero w k = record { first = w; second = k .second; third = k .third }
 keep (suc zero) w k = record { first = k .first; second = w; third = k .third }
@@ -130,34 +135,37 @@ keep (suc (suc (suc i))) w k = k
 
 -- ---- what a chunk adds
 
+-- the totals g with the rows n of tables 3 to 10
 abbrev pub rowsWith : Totals → Counts → Totals
 rowsWith g n = nodeWith g (g .own) (g .told) (g .below) n
 
--- the version is known once BB3D's fixed data is
+-- the totals g with this version if the flag says that BB3D's fixed data was read, else g
 abbrev pub versioned : Bool → ℕ → Totals → Totals
 versioned true version g = fileWith g version (g .slots) (g .textures) (g .brushes)
 versioned false version g = g
 
+-- the totals g after the fixed data k of a chunk of tag t
 abbrev pub headed : Tag → Kept → Totals → Totals
 headed t k g = versioned (is t BB3D) (k .first) g
 
--- a node takes its row before anything inside it
+-- the rows n with one more node; a node takes its row before anything inside it
 abbrev pub oneNode : Counts → Counts
 oneNode n = record { nodes = n .nodes + 1; meshes = n .meshes; vertices = n .vertices; sets = n .sets; triangles = n .triangles; weights = n .weights; lists = n .lists; keys = n .keys }
 
--- one more node, which is told what the node around it says
+-- the totals g with one more node, whose bone limit is what the node around it hands down
 abbrev pub oneMore : Totals → Totals
 oneMore g = nodeWith g 0 (g .below) (g .below) (oneNode (g .rows))
 
--- a node begins, without vertices and ANIM yet
+-- the totals g where a node begins, without vertices and without an ANIM yet
 abbrev pub entered : Totals → Totals
 entered g = saying false 0 (oneMore g)
 
+-- n_texs of a file with this number of brushes: 0 if there is none
 abbrev pub slotsFor : ℕ → ℕ → ℕ
 slotsFor zero slots = 0
 slotsFor (suc n) slots = slots
 
--- the rows of tables 3 to 10 after a chunk with so many items
+-- the rows of tables 3 to 10 after a chunk of tag t with c items, n before it
 abbrev pub rowsAfter : Tag → ℕ → Counts → Counts
 rowsAfter BB3D c n = n
 rowsAfter TEXS c n = n
@@ -170,12 +178,12 @@ rowsAfter BONE c n = record { nodes = n .nodes; meshes = n .meshes; vertices = n
 rowsAfter KEYS c n = record { nodes = n .nodes; meshes = n .meshes; vertices = n .vertices; sets = n .sets; triangles = n .triangles; weights = n .weights; lists = n .lists + 1; keys = n .keys + c }
 rowsAfter ANIM c n = n
 
--- what the node around one that is left says is what that one was told
+-- the totals g after a NODE with the bone limit `told`: the node around it hands that limit down again
 abbrev pub saidAbove : Totals → ℕ → Totals
 saidAbove g told = nodeWith g (g .own) (g .told) told (g .rows)
 
--- a chunk is left that had so many items, these fixed numbers and, as a node, was told so many vertices: it adds its rows; a VRTS and an ANIM
--- may change what their node says to those below
+-- the totals after a chunk of tag t with c items, the fixed data k and, as a NODE, the bone limit `told`: its rows are added to g; a VRTS and an ANIM may
+-- change the bone limit that their node hands down
 abbrev pub closed : Tag → ℕ → Kept → ℕ → Totals → Totals
 closed BB3D c k told g = g
 closed TEXS c k told g = fileWith g (g .version) (g .slots) c (g .brushes)

@@ -1,4 +1,4 @@
-// The slip of a file: its version, its n_texs and its ten row counts, as the reader has them, in a lent output. No table is needed.
+// The slip of a file (E1): its version, n_texs and ten row counts, as the reader has them, in a lent output. No table is needed.
 ghost use mathlib.Core.Path.{_≡_};
 ghost use mathlib.Core.List.{_∷_};
 ghost use Rattle.b3d_slip.specs.FileSlips.{fileSlipAnswer, fileSlipOutput};
@@ -6,7 +6,7 @@ use b3d_scene::Answer;
 use b3d_scene::Mode;
 use b3d_scene::Written;
 
-// The twelve numbers of an answer.
+// Returns the twelve numbers of the answer `a`: version, n_texs, ten row counts.
 pub fn numbers_of(a: Answer) -> [u32; 12]
     ensures { λ r. ⌜ r ≡ a .version ∷ a .«n_texs» ∷ a .counts ⌝ }
 {
@@ -27,8 +27,8 @@ pub fn numbers_of(a: Answer) -> [u32; 12]
     ]
 }
 
-// Writes the slip of a file, judged in lenient mode, into the output, and says how long it is; what stood behind it stays. Where the file is refused
-// (1 to 10), or the output is too short (11, and the size of the slip), the output stays as it was.
+// Writes the slip of `file`, judged in lenient mode, into `out` and returns its size; the output past it stays as found. If the file is refused (1 to 10), or
+// the output is too short (11, and the size of the slip), the output stays as found.
 pub fn slip_of(file: &[u8], out: &mut [u8]) -> Written
     ensures { λ r. ⌜ r ≡ fileSlipAnswer (now (file .entry)) (now (out .entry)) ⌝ }
     ensures { λ _. ⌜ now (out .exit) ≡ fileSlipOutput (now (file .entry)) (now (out .entry)) ⌝ }

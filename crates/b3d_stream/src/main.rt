@@ -1,5 +1,5 @@
-// The judge of pieces as a program: standard input 200 bytes at a time, never held whole. It prints number and place; where the file is accepted, version and
-// n_texs, then the ten counts, as the lister does before the names. `b3d_piece_calls` has the promise; here are only input and output.
+// The piece judge as a program: it reads standard input 200 bytes at a time and never holds it whole. It prints number and place; where the file is accepted,
+// version and n_texs, then the ten counts, as the lister does before the names. `b3d_piece_calls` has the promise; here are only input and output.
 ghost use mathlib.Core.Path.{_≡_};
 ghost use lib.ListN.{length};
 use b3d_piece_calls::calls::judge_close;
@@ -8,11 +8,13 @@ use b3d_piece_calls::calls::start;
 use b3d_piece_take::Judge;
 use b3d_scene::Answer;
 
+// Prints the bytes `before`, then `n` in decimal.
 fn print(before: &[u8], n: u32) {
     io::write_all(1, before);
     io::print_decimal(1, n as u64);
 }
 
+// Prints the ten counts on a line.
 fn print_counts(c: [u32; 10]) {
     print(b"", c[0]);
     let mut i: usize = 1;
@@ -23,23 +25,24 @@ fn print_counts(c: [u32; 10]) {
     io::write_all(1, b"\n");
 }
 
-// So many pieces are more than the longest file has: past that the answer is 1 at 0, whatever comes.
+// More pieces of 200 bytes than the longest file has: past that many the answer is 1 at 0, whatever comes.
 const PIECES: usize = 83887;
 
-// 19 records.
+// Returns a row of 19 records of 11 words, all 0.
 fn records() -> [usize; 209]
     ensures { λ r. ⌜ 209 ≡ length r ⌝ }
 {
     [0; 209]
 }
 
+// Returns the buffer for a piece, 200 bytes.
 fn room() -> [u8; 200]
     ensures { λ r. ⌜ 200 ≡ length r ⌝ }
 {
     [0; 200]
 }
 
-// Standard input to its end: the state after its last piece.
+// Hands standard input to the judge, piece by piece, to its end or up to `PIECES` pieces. Returns the state after the last.
 fn stream(row: &mut [usize], piece: &mut [u8]) -> Judge {
     let mut state = start();
     let mut i: usize = 0;
@@ -56,6 +59,7 @@ fn stream(row: &mut [usize], piece: &mut [u8]) -> Judge {
     state
 }
 
+// Prints the answer: number and place and, if the file is accepted, version and n_texs, then the counts.
 fn say(a: Answer) {
     print(b"", a.number);
     print(b" ", a.place);
@@ -69,6 +73,7 @@ fn say(a: Answer) {
     }
 }
 
+// Judges standard input and prints the answer.
 fn main() {
     let mut row = records();
     let mut piece = room();

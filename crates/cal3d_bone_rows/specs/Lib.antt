@@ -1,2 +1,2 @@
--- A bone's row.
+-- The cells of a bone's row.
 pub mod Cells

@@ -1,4 +1,4 @@
-// The rows of good bones and of their children, from a skeleton file's bytes.
+// Fills the two tables of a skeleton, bones and children, from the bytes of a file that was judged.
 ghost use mathlib.Core.Path.{_≡_};
 ghost use Prim.Native.Nat.{_+_, _-_, _*_, _≤_};
 ghost use lib.ListN.{length};
@@ -14,7 +14,8 @@ ghost use Rattle.cal3d_bone_rows.specs.Cells.{boneCells};
 use cal3d_bones::Laid;
 use wire::Cursor;
 
-// A bone's row: the place and the length of its name, which ends where its numbers stand; those; and how many children came before.
+// Stores a bone's row in `out` from word `base` on: the place `name` and the length of its name, which ends where its numbers stand; the numbers; and
+// `before`, how many children came before.
 fn put_bone(s: &[u8], name: usize, numbers: Cursor, before: usize, base: usize, out: &mut [u32])
     requires { ⌜ Inside numbers (length (now s)) × (numbers .at + 80 ≤ numbers .end) × (name ≤ numbers .at) × (length (now s) ≤ 16777216) ⌝ }
     requires { ⌜ (before ≤ 16383) × (base + 23 ≤ length (now out)) ⌝ }
@@ -28,7 +29,7 @@ fn put_bone(s: &[u8], name: usize, numbers: Cursor, before: usize, base: usize, 
     cells::put_cells(out, base + 22, &last);
 }
 
-// The rows of good bones and of their children, over what stood in the tables.
+// Stores the rows of the `count` bones from `from` on, and of their children, in the lent tables; words past the last row stay as found.
 pub fn fill(s: &[u8], from: Cursor, count: usize, bones: &mut [u32], children: &mut [u32])
     requires { ⌜ Good (now s) from count × (23 * count ≤ length (now bones)) ⌝ }
     requires { ⌜ (childrenIn (bonesAt (now s) from count) ≤ length (now children)) × (childrenIn (bonesAt (now s) from count) ≤ 16383) ⌝ }

@@ -1,4 +1,4 @@
-// The bones of a skeleton file by cursor: one after the other against the rules, or one's parts for a walk that knows they are good.
+// The bones of a skeleton file by cursor: judged one after the other, or the parts of one bone for a walk that knows that they are good.
 ghost use mathlib.Core.Path.{_≡_};
 ghost use Prim.Native.Nat.{ℕ, _*_, _≤_};
 ghost use lib.ListN.{length};
@@ -11,7 +11,7 @@ use counted::Ran;
 use counted::Summed;
 use wire::Cursor;
 
-// A bone's numbers behind its name, and its children.
+// Judges a bone's numbers after its name, and its children. Returns how many children it has and the cursor after them, or a refusal.
 fn judge_links(s: &[u8], c: Cursor, bones: usize) -> Summed
     requires { ⌜ Inside c (length (now s)) ⌝ }
     ensures { λ r. ⌜ Sums linkCount (readLinks bones (c .at) (left c (now (s .entry)))) c 80 r ⌝ }
@@ -28,7 +28,7 @@ fn judge_links(s: &[u8], c: Cursor, bones: usize) -> Summed
     }
 }
 
-// One bone among so many.
+// Judges one bone of a skeleton with `bones` bones. Returns how many children it has and the cursor after it, or a refusal.
 fn judge_bone(s: &[u8], c: Cursor, bones: usize) -> Summed
     requires { ⌜ Inside c (length (now s)) ⌝ }
     ensures { λ r. ⌜ Sums childCount (readBone bones (c .at) (left c (now (s .entry)))) c 84 r ⌝ }
@@ -39,7 +39,8 @@ fn judge_bone(s: &[u8], c: Cursor, bones: usize) -> Summed
     }
 }
 
-// So many bones. Each takes 84 bytes or more, so that the walk ends with the bytes, whatever the number says.
+// Judges the `bones` bones of a skeleton. Returns how many children they have and the cursor after them, or the first refusal. Each takes 84 bytes or more,
+// so that the walk ends with the bytes, whatever the number says.
 pub fn judge_bones(s: &[u8], from: Cursor, bones: usize) -> Summed
     requires { ⌜ Inside from (length (now s)) ⌝ }
     ensures { λ r. ⌜ Sums childrenIn (times bones (readBone bones) (from .at) (left from (now (s .entry)))) from (bones * 84) r ⌝ }
@@ -62,13 +63,13 @@ pub fn judge_bones(s: &[u8], from: Cursor, bones: usize) -> Summed
     Summed::To(children, c)
 }
 
-// Where a bone's numbers stand, how many children come behind them, and the cursor after those; or no bone stands there.
+// The place of a bone's numbers, how many children follow them, and the cursor after those; or that no bone stands there.
 pub enum Laid {
     At(usize, usize, Cursor),
     Gone,
 }
 
-// The parts of one bone among so many: the step of every walk that fills.
+// Returns the parts of the bone at `c` of a skeleton with `bones` bones: the step of every walk that fills. Returns `Gone` if the bone is refused.
 pub fn lay_bone(s: &[u8], c: Cursor, bones: usize) -> Laid
     requires { ⌜ Inside c (length (now s)) ⌝ }
     ensures { λ r. ⌜ Lays (now (s .entry)) bones (readBone bones (c .at) (left c (now (s .entry)))) c r ⌝ }

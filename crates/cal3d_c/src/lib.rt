@@ -1,5 +1,5 @@
-// What terminals call for skeletons and meshes of cal3d, as C functions: rust/build-lib puts them into the one archive, include/kelompuris.h
-// declares them. A slice is a pointer and a number of elements. Each promises what the function that it calls does, for every input.
+// The C functions for cal3d skeletons and meshes, which terminals call. `rust/build-lib` puts them into the one archive, include/kelompuris.h declares them.
+// A slice is a pointer and a number of elements. Each promises what the function that it calls does, for every input.
 ghost use mathlib.Core.Path.{_≡_};
 ghost use Rattle.cal3d_scene.specs.Answers.{judgeSkeleton, skeletonAnswer, judgeMesh, meshAnswer};
 ghost use Rattle.cal3d_skeleton.specs.Skeletons.{ReadsSkeleton};
@@ -7,7 +7,7 @@ ghost use Rattle.cal3d_mesh.specs.Meshes.{ReadsMesh};
 use cal3d_scene::MeshAnswer;
 use cal3d_scene::SkeletonAnswer;
 
-// Judges a skeleton file without any table.
+// Judges a skeleton file without any table: answers 1 to 10 or 16, or 0 with the header's numbers and the counts.
 #[no_mangle]
 pub extern "C" fn kelompuris_csf_judge(file: &[u8]) -> SkeletonAnswer
     ensures { λ r. ⌜ r ≡ skeletonAnswer (judgeSkeleton (now (file .entry))) ⌝ }
@@ -15,7 +15,7 @@ pub extern "C" fn kelompuris_csf_judge(file: &[u8]) -> SkeletonAnswer
     cal3d_skeleton::judge(file)
 }
 
-// Reads a skeleton file into two lent tables.
+// Reads a skeleton file into two lent tables. Words past a table's last row stay as found; on a refusal both tables do.
 #[no_mangle]
 pub extern "C" fn kelompuris_csf_read(
     file: &[u8],
@@ -27,7 +27,7 @@ pub extern "C" fn kelompuris_csf_read(
     cal3d_skeleton::read_skeleton(file, bones, children)
 }
 
-// Judges a mesh file, whose bone ids are below a count, without any table.
+// Judges a mesh file, whose bone ids are below `bone_count`, without any table: answers 1 to 10, or 0 with the header's numbers and the counts.
 #[no_mangle]
 pub extern "C" fn kelompuris_cmf_judge(file: &[u8], bone_count: u32) -> MeshAnswer
     ensures { λ r. ⌜ r ≡ meshAnswer (judgeMesh «bone_count» (now (file .entry))) ⌝ }
@@ -35,7 +35,7 @@ pub extern "C" fn kelompuris_cmf_judge(file: &[u8], bone_count: u32) -> MeshAnsw
     cal3d_mesh_judge::judge(file, bone_count)
 }
 
-// Reads a mesh file, whose bone ids are below a count, into six lent tables.
+// Reads a mesh file, whose bone ids are below `bone_count`, into six lent tables. Words past a table's last row stay as found; on a refusal all tables do.
 #[no_mangle]
 pub extern "C" fn kelompuris_cmf_read(
     file: &[u8],

@@ -10,11 +10,11 @@ use Rattle.layout.specs.Rules.{Rule, any, exactly, count}
 use Rattle.cal3d_head.specs.declared.Opened.{Opened}
 use Rattle.cal3d_head.specs.declared.Opened.the-variants as opened
 
--- version; number of entries; so many numbers more
+-- the rules of a header after the magic: version; number of entries; `more` numbers
 abbrev pub headNumbers : ℕ → ℕ → List Rule
 headNumbers version more = exactly version ∷ count ∷ replicate more any
 
--- 1, 2, and the header's numbers
+-- the header's numbers of the file s: checks 1 and 2, then the numbers by their rules
 unfoldable pub readHead : ℕ → ℕ → ℕ → List ℕ → Out (Step (List ℕ))
 readHead magic version more s = do
   _ ← check (sizeFits (length s)) 1 0
@@ -22,7 +22,7 @@ readHead magic version more s = do
   _ ← check (eqb (number m 0) magic) 2 0
   row (headNumbers version more) (m .place) (m .left)
 
--- the number of entries, or the refusal
+-- what code answers for a header that was read: the number of entries, or the refusal
 abbrev pub openedOf : Out (Step (List ℕ)) → Opened
 openedOf (got h) = opened.To (number h 1)
 openedOf (bad n p) = opened.Not n p

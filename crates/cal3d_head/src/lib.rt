@@ -1,15 +1,15 @@
-// The head of a cal3d file, skeleton or mesh: its size, its magic, its version and the number of its entries.
+// The header of a cal3d file, skeleton or mesh: its size, its magic, its version and the number of its entries.
 ghost use mathlib.Core.Path.{_≡_};
 ghost use Prim.Native.Nat.{ℕ, _≤_};
 ghost use Rattle.cal3d_head.specs.Heads.{readHead, openedOf};
 
-// So many entries, or a refusal and its place.
+// The number of entries that the header says, or a refusal and its place.
 pub enum Opened {
     To(u32),
     Not(u32, u32),
 }
 
-// How many entries a file says it has, its header having so many numbers more behind its version and that count.
+// Checks size, `magic` and `version`, and returns the number of entries in the header, which has `more` numbers after it.
 pub fn entry_count(file: &[u8], magic: u32, version: u32, more: usize) -> Opened
     requires { ⌜ more ≤ 64 ⌝ }
     ensures { λ r. ⌜ r ≡ openedOf (readHead magic version more (now (file .entry))) ⌝ }

@@ -1,4 +1,4 @@
--- What is answered of a skeleton file up to 10.
+-- What a skeleton file comes to, as code holds it.
 use Prim.Native.Nat.{ℕ}
 use mathlib.Core.List.{List}
 use lib.ListN.{getD}
@@ -8,6 +8,7 @@ use Rattle.cal3d_bones.specs.Bones.{childrenIn}
 use Rattle.cal3d_limits.specs.declared.Verdict.{Verdict}
 use Rattle.cal3d_limits.specs.declared.Verdict.the-variants as verdict
 
+-- the summary of the skeleton t, or the refusal
 unfoldable pub verdictOf : Out Skeleton → Verdict
 verdictOf (got t) =
     verdict.Good (record { bones = getD (t .head) 1 0; red = getD (t .head) 2 0; green = getD (t .head) 3 0; blue = getD (t .head) 4 0; children = childrenIn (t .bones) })

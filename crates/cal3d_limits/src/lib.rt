@@ -1,5 +1,5 @@
-// A skeleton file up to the row limits, in one walk and without any table: a refusal (1 to 10) with its place, or the header's numbers and how
-// many children there are. Whether its lists and parents tell the same trees is not asked here.
+// Judges a skeleton file up to the row limits, in one walk and without any table: refusals 1 to 10. Whether its lists and parents tell the same trees is not
+// asked here.
 ghost use mathlib.Core.Path.{_≡_};
 ghost use Rattle.cal3d_scene.specs.Answers.{limitedSkeleton};
 ghost use Rattle.cal3d_limits.specs.Verdicts.{verdictOf};
@@ -7,7 +7,7 @@ use cal3d_head::Opened;
 use counted::Summed;
 use wire::Cursor;
 
-// The header's numbers behind the version, and how many children there are.
+// The header's numbers after the version, and how many children the bones have.
 pub struct Summary {
     pub bones: u32,
     pub red: u32,
@@ -16,11 +16,13 @@ pub struct Summary {
     pub children: usize,
 }
 
+// What a skeleton file comes to: the summary, or a refusal and its place.
 pub enum Verdict {
     Good(Summary),
     Bad(u32, u32),
 }
 
+// Judges `file` up to the row limits: returns its summary, or the first of its refusals 1 to 10.
 pub fn limited(file: &[u8]) -> Verdict
     ensures { λ r. ⌜ r ≡ verdictOf (limitedSkeleton (now (file .entry))) ⌝ }
 {

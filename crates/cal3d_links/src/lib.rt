@@ -1,5 +1,5 @@
-// Whether the child lists and the parents of a skeleton file tell the same trees (refusal 16): walks over the file with local rows of numbers,
-// in time that grows with the file.
+// Checks that the child lists and the parents of a skeleton file tell the same trees (refusal 16). It walks over the file with local rows of numbers, in time
+// that grows with the file.
 ghost use mathlib.Core.Path.{_≡_};
 ghost use mathlib.Core.List.{[], map};
 ghost use Prim.Native.Nat.{ℕ, _<_, _≤_};
@@ -11,13 +11,13 @@ ghost use Rattle.cal3d_links.specs.Links.{Good, bonesAt, toldOf};
 use cal3d_bones::Laid;
 use wire::Cursor;
 
-// Lists and parents tell the same trees, or a refusal and its place.
+// Lists and parents tell the same trees; or a refusal and its place.
 pub enum Told {
     Same,
     Not(u32, u32),
 }
 
-// The parents of the bones.
+// Stores the parents of the `bones` bones from `from` on in `out`.
 fn gather(s: &[u8], from: Cursor, bones: usize, out: &mut [u32])
     requires { ⌜ Good (now s) from bones × (length (now out) ≡ bones) ⌝ }
     ensures { λ _. ⌜ now (out .exit) ≡ map parentOf (bonesAt (now (s .entry)) from bones) ⌝ }
@@ -34,7 +34,7 @@ fn gather(s: &[u8], from: Cursor, bones: usize, out: &mut [u32])
     }
 }
 
-// The scores that the lists of the bones give.
+// Adds to `scores` what the lists of the `bones` bones from `from` on give.
 fn tell(s: &[u8], from: Cursor, bones: usize, parents: &[u32], scores: &mut [u32])
     requires { ⌜ Good (now s) from bones × (length (now parents) ≡ bones) × (length (now scores) ≡ bones) × Zeros (now scores) ⌝ }
     ensures { λ _. ⌜ Scored (now (parents .entry)) (map listOf (bonesAt (now (s .entry)) from bones)) [] (now (scores .exit)) ⌝ }
@@ -53,7 +53,7 @@ fn tell(s: &[u8], from: Cursor, bones: usize, parents: &[u32], scores: &mut [u32
     }
 }
 
-// The first byte of a bone.
+// Returns the place of the first byte of bone `which` of the `bones` bones from `from` on.
 fn bone_at(s: &[u8], from: Cursor, bones: usize, which: usize) -> usize
     requires { ⌜ Good (now s) from bones × (which < bones) ⌝ }
     ensures { λ r. ⌜ (r ≡ placeAt (bonesAt (now (s .entry)) from bones) which) × (r ≤ length (now (s .entry))) ⌝ }
@@ -70,7 +70,8 @@ fn bone_at(s: &[u8], from: Cursor, bones: usize, which: usize) -> usize
     c.at
 }
 
-// The same trees or not, with lent rows for parents and scores.
+// Checks that lists and parents of the `bones` bones from `from` on tell the same trees, with lent rows for parents and scores, the scores being 0. Returns
+// 16 at the first byte of the lowest bone that is not right.
 fn same_trees_by(
     s: &[u8],
     from: Cursor,
@@ -90,7 +91,7 @@ fn same_trees_by(
     Told::Same
 }
 
-// The same with rows of its own.
+// Checks that lists and parents of the `bones` bones from `from` on tell the same trees. Returns 16 at the first byte of the lowest bone that is not right.
 pub fn same_trees(s: &[u8], from: Cursor, bones: usize) -> Told
     requires { ⌜ Good (now s) from bones ⌝ }
     ensures { λ r. ⌜ r ≡ toldOf (trees (bonesAt (now (s .entry)) from bones)) ⌝ }

@@ -1,9 +1,9 @@
-// The reader of mesh files: six tables into lent slices, with the answer that 02 gives to every file, number of bones and tables of every length.
+// The reader of mesh files: six tables into lent slices, with 02's answer to every file, number of bones and tables of every length.
 ghost use Rattle.cal3d_mesh.specs.Meshes.{ReadsMesh};
 use cal3d_scene::MeshAnswer;
 
-// Reads a mesh file, whose bone ids are below a number, into six lent tables: their rows are stored, and what stood behind them stays. Where the
-// file is refused, or a table is too short, each table stays as it was.
+// Reads a mesh file, whose bone ids are below `bone_count`, into six lent tables; words past a table's last row stay as found. If the file is refused (1 to
+// 10), or a table is too short (11, the lowest), each table stays as found.
 pub fn read_mesh(
     file: &[u8],
     bone_count: u32,

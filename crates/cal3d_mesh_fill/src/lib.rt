@@ -1,4 +1,5 @@
-// The six tables of a mesh, filled in one walk from the file's bytes. Where things stand is told by the numbers in the file; no rule is looked at.
+// Fills the six tables of a mesh in one walk over the bytes of a file that was judged. Where entries stand is told by the numbers in the file; no rule is
+// looked at.
 ghost use mathlib.Core.Path.{_≡_};
 ghost use mathlib.Core.List.{[], _∷_};
 ghost use Prim.Native.Nat.{_+_, _*_, _<_, _≤_};
@@ -11,7 +12,7 @@ ghost use Rattle.cal3d_mesh_fill.specs.Fills.{PlaceFit, MeshFit, MeshFil
 use cal3d_mesh_rows::Shape;
 use cal3d_vertex_rows::Marks;
 
-// A place in the file, and how many rows of the tables 2 to 6 stand before it.
+// A place in the file, and how many rows of tables 2 to 6 come before it.
 pub struct Place {
     pub at: usize,
     pub vertices: usize,
@@ -21,7 +22,7 @@ pub struct Place {
     pub faces: usize,
 }
 
-// The counts of the submesh at a place.
+// Returns the counts of the submesh at place `at`.
 fn shape_at(s: &[u8], at: usize) -> Shape
     requires { ⌜ at + 24 ≤ length (now s) ⌝ }
     ensures { λ r. ⌜ r ≡ shapeAt (now (s .entry)) at ⌝ }
@@ -34,7 +35,7 @@ fn shape_at(s: &[u8], at: usize) -> Shape
     }
 }
 
-// The row of the submesh at a place.
+// Stores the row of the submesh at the place `m` in `out` from word `base` on.
 fn put_submesh(s: &[u8], m: Place, base: usize, out: &mut [u32])
     requires { ⌜ (m .at + 24 ≤ length (now s)) × (length (now s) < 0x100000000) × PlaceFit m × (base + 9 ≤ length (now out)) ⌝ }
     ensures { λ _. ⌜ now (out .exit) ≡ stored (now (out .entry)) base (joined (submeshRows (m .vertices) (m .springs) (m .faces) (submeshAt (now (s .entry)) (m .at) ∷ []))) ⌝ }
@@ -44,7 +45,7 @@ fn put_submesh(s: &[u8], m: Place, base: usize, out: &mut [u32])
     cells::put_cells(out, base + 6, &rest);
 }
 
-// The place behind a submesh of this shape, whose vertices end at these marks.
+// Returns the place after a submesh of the shape `x` at `m`, whose vertices end at `v`.
 fn pass_submesh(m: Place, x: Shape, v: Marks) -> Place
     requires { ⌜ (v .at + 16 * x .springs + 12 * x .faces < 0x100000000) × (m .vertices + x .vertices ≤ v .at) × (m .springs ≤ v .at) × (m .faces ≤ v .at) ⌝ }
     ensures { λ r. ⌜ r ≡ record { at = v .at + 16 * x .springs + 12 * x .faces; vertices = m .vertices + x .vertices; maps = v .maps; influences = v .influences; springs = m .springs + x .springs; faces = m .faces + x .faces } ⌝ }
@@ -59,7 +60,7 @@ fn pass_submesh(m: Place, x: Shape, v: Marks) -> Place
     }
 }
 
-// The six tables of a mesh that stands whole in the file.
+// Stores the rows of a mesh that stands whole in the file `s` in six lent tables; words past a table's last row stay as found.
 pub fn fill_mesh(
     s: &[u8],
     submeshes: &mut [u32],

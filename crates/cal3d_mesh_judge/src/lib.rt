@@ -1,4 +1,4 @@
-// The judge of mesh files: the answer that 02 gives to every file, without any table.
+// The judge of mesh files: 02's answer to every file, without any table.
 ghost use mathlib.Core.Path.{_≡_};
 ghost use Prim.Native.Nat.{ℕ};
 ghost use Rattle.layout.specs.Out.{bad};
@@ -12,7 +12,7 @@ use cal3d_submesh_lists::Contained;
 use cal3d_submesh_lists::Contents;
 use wire::Cursor;
 
-// The answer for a refusal.
+// Returns the answer of a refusal with `number` at `place`.
 pub fn refused(number: u32, place: u32) -> MeshAnswer
     ensures { λ r. ⌜ r ≡ meshAnswer (bad number place) ⌝ }
 {
@@ -24,7 +24,7 @@ pub fn refused(number: u32, place: u32) -> MeshAnswer
     }
 }
 
-// The answer for a file that is accepted.
+// Returns the answer of an accepted file with this number of submeshes, whose other rows are `t`.
 fn accepted(submeshes: u32, t: Contents) -> MeshAnswer
     requires { ⌜ Within t 16383 ⌝ }
     ensures { λ r. ⌜ r ≡ acceptedAs submeshes t ⌝ }
@@ -44,7 +44,7 @@ fn accepted(submeshes: u32, t: Contents) -> MeshAnswer
     }
 }
 
-// The lowest table with more rows than a table may have; 0 where there is none.
+// Returns the lowest table with more rows than a table may have; 0 if there is none.
 fn first_over(submeshes: u32, t: Contents) -> u32
     ensures { λ r. ⌜ r ≡ firstOver 1 (rowCounts submeshes t) ⌝ }
 {
@@ -69,7 +69,7 @@ fn first_over(submeshes: u32, t: Contents) -> u32
     0
 }
 
-// The answer for a file of so many entries: 10, or accepted.
+// Returns the answer of a file by its row counts: 10 at the lowest table with too many rows, else accepted.
 fn limited(submeshes: u32, t: Contents) -> MeshAnswer
     ensures { λ r. ⌜ r ≡ limitedAs submeshes t ⌝ }
 {
@@ -80,7 +80,7 @@ fn limited(submeshes: u32, t: Contents) -> MeshAnswer
     accepted(submeshes, t)
 }
 
-// Returns how many bones ids can name where the caller counts `bone_count`: at most 2147483648, since a negative id names none.
+// Returns how many bones ids can name, of `bone_count` that the caller counts: a negative id names none.
 fn named_bones(bone_count: u32) -> usize
     ensures { λ r. ⌜ r ≡ namedBones «bone_count» ⌝ }
 {
@@ -90,7 +90,7 @@ fn named_bones(bone_count: u32) -> usize
     wire::size(bone_count)
 }
 
-// Answers what `file` is without any table: bone ids are below `bone_count` and not negative.
+// Judges `file` without any table, bone ids being below `bone_count` and not negative: answers 1 to 10, or 0 with the header's numbers and the counts.
 pub fn judge(file: &[u8], bone_count: u32) -> MeshAnswer
     ensures { λ r. ⌜ r ≡ meshAnswer (judgeMesh «bone_count» (now (file .entry))) ⌝ }
 {

@@ -6,6 +6,7 @@ use Rattle.table_room.specs.Rooms.{numberOf}
 use Rattle.cal3d_scene.specs.Answers.{judgeMesh, readMesh, meshAnswer}
 use Rattle.cal3d_scene.specs.declared.MeshAnswer.{MeshAnswer}
 
--- where one is the judge's answer to a file, the other is the reader's with tables of these lengths
+-- r is the reader's answer with tables of these lengths, if `judged` is the judge's
 pub record WithRoom (judged : MeshAnswer) (rooms : List ℕ) (r : MeshAnswer) : Type 0 where
+  -- for every file and number of bones
   pub answer : (bones : ℕ) (s : List ℕ) → judged ≡ meshAnswer (judgeMesh bones s) → r ≡ meshAnswer (readMesh (numberOf rooms) bones s)

@@ -1,4 +1,4 @@
-// Which of a mesh's six lent tables is too short: from the judge's answer to the reader's, by numbers alone.
+// Finds which of a mesh's six lent tables is too short (refusal 11): from the judge's answer to the reader's, by numbers alone.
 ghost use mathlib.Core.Path.{_≡_};
 ghost use mathlib.Core.List.{[], _∷_};
 ghost use Prim.Native.Nat.{_≤_};
@@ -7,7 +7,7 @@ ghost use Rattle.cal3d_scene.specs.Tables.{meshTables, meshWidth};
 ghost use Rattle.cal3d_mesh_room.specs.Rooms.{WithRoom};
 use cal3d_scene::MeshAnswer;
 
-// The first of six tables, of these lengths, that is too short for its rows, by its number; 0 where there is none.
+// Returns the first of six tables, of `l1` to `l6` words, that is too short for its rows, by its number; 0 if there is none.
 fn first_short(
     counts: [u32; 6],
     l1: usize,
@@ -27,7 +27,7 @@ fn first_short(
     table_room::short_or(1, 9, wire::size(counts[0]), l1, from2)
 }
 
-// The reader's answer with tables of these lengths, where the judge's is `judged`.
+// Returns the reader's answer with tables of `l1` to `l6` words, where the judge's is `judged`.
 pub fn with_room(
     judged: MeshAnswer,
     l1: usize,

@@ -25,19 +25,19 @@ pub record Submesh : Type 0 where
   pub springs : List (List ℕ)
   pub faces : List (List ℕ)
 
--- the header's 2 numbers, and the submeshes
+-- a mesh: the header's 2 numbers, and the submeshes
 pub record Mesh : Type 0 where
   pub head : List ℕ
   pub submeshes : List Submesh
 
--- a vertex's cloth weight: stored only where the submesh has springs
+-- a vertex's cloth weight at p: stored only if the submesh has springs, else 0
 unfoldable pub readCloth : ℕ → ℕ → List ℕ → Out (Step ℕ)
 readCloth zero p s = got (record { value = 0; place = p; left = s })
 readCloth (suc springs) p s = do
   w ← row clothNumbers p s
   got (record { value = number w 0; place = w .place; left = w .left })
 
--- a vertex of a submesh with so many vertices, springs and maps
+-- the vertex at p of a submesh with these numbers of vertices, springs and maps, bone ids being below `bones`
 unfoldable pub readVertex : ℕ → ℕ → ℕ → ℕ → ℕ → List ℕ → Out (Step Vertex)
 readVertex bones vertices springs maps p s = do
   x ← row (vertexNumbers vertices) p s
@@ -47,6 +47,7 @@ readVertex bones vertices springs maps p s = do
   w ← readCloth springs (i .place) (i .left)
   got (record { value = record { numbers = x .value; maps = m .value; influences = i .value; cloth = w .value }; place = w .place; left = w .left })
 
+-- the submesh at p, bone ids being below `bones`: its numbers, its vertices, its springs, its faces
 unfoldable pub readSubmesh : ℕ → ℕ → List ℕ → Out (Step Submesh)
 readSubmesh bones p s = do
   x ← row submeshNumbers p s
@@ -55,7 +56,7 @@ readSubmesh bones p s = do
   f ← times (number x 2) (row (faceNumbers (number x 1))) (g .place) (g .left)
   got (record { value = record { numbers = x .value; vertices = v .value; springs = g .value; faces = f .value }; place = f .place; left = f .left })
 
--- behind the magic: the header's numbers, so many submeshes, and nothing more
+-- the mesh after the magic: the header's numbers, as many submeshes as they say, and nothing more
 unfoldable pub meshFrom : ℕ → ℕ → List ℕ → Out Mesh
 meshFrom bones p s = do
   h ← row meshHead p s
@@ -63,6 +64,7 @@ meshFrom bones p s = do
   _ ← atEnd (l .place) (l .left)
   got (record { head = h .value; submeshes = l .value })
 
+-- the mesh of the file s, or the first of its refusals 1 to 7; `bones` is the count that the caller gives
 unfoldable pub mesh : ℕ → List ℕ → Out Mesh
 mesh bones s = do
   _ ← check (sizeFits (length s)) 1 0

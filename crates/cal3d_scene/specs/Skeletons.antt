@@ -17,20 +17,20 @@ pub record Bone : Type 0 where
   pub numbers : List ℕ
   pub children : List (List ℕ)
 
--- the header's 5 numbers, and the bones
+-- a skeleton: the header's 5 numbers, and the bones
 pub record Skeleton : Type 0 where
   pub head : List ℕ
   pub bones : List Bone
 
--- the bone that this one says is its parent; NONE: it has none
+-- the bone that b says is its parent; NONE if it has none
 unfoldable pub parentOf : Bone → ℕ
 parentOf b = getD (b .numbers) parentAt 0
 
--- the bones that this one lists
+-- the bones that b lists as its children
 unfoldable pub listOf : Bone → List ℕ
 listOf b = joined (b .children)
 
--- a bone among so many: its name, its numbers, its children
+-- the bone at p of a skeleton with this number of bones: its name, its numbers, its children
 unfoldable pub readBone : ℕ → ℕ → List ℕ → Out (Step Bone)
 readBone bones p s = do
   n ← sized p s
@@ -38,7 +38,7 @@ readBone bones p s = do
   l ← times (number x childrenAt) (row (childNumbers bones)) (x .place) (x .left)
   got (record { value = record { place = p; name = n .value; numbers = x .value; children = l .value }; place = l .place; left = l .left })
 
--- behind the magic: the header's numbers, so many bones, and nothing more
+-- the skeleton after the magic: the header's numbers, as many bones as they say, and nothing more
 unfoldable pub skeletonFrom : ℕ → List ℕ → Out Skeleton
 skeletonFrom p s = do
   h ← row skeletonHead p s
@@ -46,6 +46,7 @@ skeletonFrom p s = do
   _ ← atEnd (l .place) (l .left)
   got (record { head = h .value; bones = l .value })
 
+-- the skeleton of the file s, or the first of its refusals 1 to 7
 unfoldable pub skeleton : List ℕ → Out Skeleton
 skeleton s = do
   _ ← check (sizeFits (length s)) 1 0

@@ -1,11 +1,11 @@
-// How often each bone is listed, and by whom, as a score: one for an entry of its parent, two for another.
+// How often each bone is listed, and by whom, as a score: one for an entry of its parent, two for any other.
 ghost use mathlib.Core.Path.{_≡_};
 ghost use Prim.Native.Nat.{_+_, _*_, _<_, _≤_};
 ghost use lib.ListN.{length, drop, getD, set};
 ghost use Rattle.layout.specs.Parts.{wordsOf};
 ghost use Rattle.cal3d_trees.specs.Scores.{weight, noted, Low, Listed};
 
-// A bone q lists bone c: one where it is c's parent, else two. A bone that its parent alone lists, and once, has one in the end.
+// Adds to the score of bone `c` that bone `q` lists it: 1 if `q` is its parent, else 2. A bone that its parent alone lists, and once, has 1 in the end.
 pub fn note(parents: &[u32], scores: &mut [u32], q: u32, c: usize)
     requires { ⌜ (c < length (now parents)) × (c < length (now scores)) × (getD (now scores) c 0 < 4294967294) ⌝ }
     ensures { λ _. ⌜ now (scores .exit) ≡ set (now (scores .entry)) c (getD (now (scores .entry)) c 0 + weight q (getD (now (parents .entry)) c 0)) ⌝ }
@@ -17,7 +17,7 @@ pub fn note(parents: &[u32], scores: &mut [u32], q: u32, c: usize)
     scores[c] = scores[c] + 2;
 }
 
-// Bone q lists the so many bones that stand at a place of the file; no score is above twice the entries before them.
+// Adds to the scores that bone `q` lists the `count` bones at place `at` of the file. `entries` is how many were listed before: no score is above twice that.
 pub fn note_list(
     s: &[u8],
     at: usize,

@@ -1,4 +1,4 @@
-// The reader of skeleton files: bones and children into lent tables, with the answer that 02 gives to every file and to tables of every length.
+// The reader of skeleton files: bones and children into lent tables, with 02's answer to every file and to tables of every length.
 ghost use mathlib.Core.Path.{_≡_};
 ghost use Prim.Native.Nat.{_≤_};
 ghost use Rattle.layout.specs.Out.{bad};
@@ -11,7 +11,7 @@ use cal3d_links::Told;
 use cal3d_scene::SkeletonAnswer;
 use wire::Cursor;
 
-// The answer for a refusal.
+// Returns the answer of a refusal with `number` at `place`.
 fn refused(number: u32, place: u32) -> SkeletonAnswer
     ensures { λ r. ⌜ r ≡ skeletonAnswer (bad number place) ⌝ }
 {
@@ -23,7 +23,7 @@ fn refused(number: u32, place: u32) -> SkeletonAnswer
     }
 }
 
-// The answer for a file that is accepted.
+// Returns the answer of an accepted file with the summary `x`.
 fn accepted(x: Summary) -> SkeletonAnswer
     requires { ⌜ x .children ≤ 16383 ⌝ }
     ensures { λ r. ⌜ r ≡ acceptedAs x ⌝ }
@@ -36,7 +36,7 @@ fn accepted(x: Summary) -> SkeletonAnswer
     }
 }
 
-// What a file says, 16 too.
+// Judges `file`: returns its summary, or the first of its refusals 1 to 10, then 16.
 fn judged(file: &[u8]) -> Verdict
     ensures { λ r. ⌜ r ≡ verdictOf (judgeSkeleton (now (file .entry))) ⌝ }
 {
@@ -53,7 +53,7 @@ fn judged(file: &[u8]) -> Verdict
     }
 }
 
-// The answer for a file without any table.
+// Judges `file` without any table: answers 1 to 10 or 16, or 0 with the header's numbers and the counts.
 pub fn judge(file: &[u8]) -> SkeletonAnswer
     ensures { λ r. ⌜ r ≡ skeletonAnswer (judgeSkeleton (now (file .entry))) ⌝ }
 {
@@ -63,8 +63,8 @@ pub fn judge(file: &[u8]) -> SkeletonAnswer
     }
 }
 
-// Reads a skeleton file into two lent tables: their rows are stored, and what stood behind them stays. Where the file is refused, or a table
-// is too short, each table stays as it was.
+// Reads a skeleton file into two lent tables; words past a table's last row stay as found. If the file is refused (1 to 10, 16), or a table is too short (11,
+// the lowest), each table stays as found.
 pub fn read_skeleton(file: &[u8], bones: &mut [u32], children: &mut [u32]) -> SkeletonAnswer
     ensures { λ r. ⌜ ReadsSkeleton (now (file .entry)) (now (bones .entry)) (now (children .entry)) (now (bones .exit)) (now (children .exit)) r ⌝ }
 {

@@ -1,4 +1,4 @@
-// The lists of a submesh by cursor, against the rules: its vertices, its springs, its faces; and how many entries they hold.
+// The lists of a submesh by cursor, judged by the rules: its vertices, its springs, its faces; and how many entries they hold.
 ghost use lib.ListN.{length};
 ghost use Rattle.wire.specs.Cursors.{Inside, left};
 ghost use Rattle.cal3d_submesh_lists.specs.Contents.{Contains, contentsOf, readLists};
@@ -7,7 +7,7 @@ use counted::Ran;
 use counted::Summed;
 use wire::Cursor;
 
-// How many vertices, maps, influences, springs and faces.
+// How many vertices, maps, influences, springs and faces there are.
 pub struct Contents {
     pub vertices: usize,
     pub maps: usize,
@@ -16,13 +16,14 @@ pub struct Contents {
     pub faces: usize,
 }
 
-// What was read contains so many entries, and the cursor after it; or a refusal and its place.
+// How many entries of each kind were read, and the cursor after them; or a refusal and its place.
 pub enum Contained {
     To(Contents, Cursor),
     Not(u32, usize),
 }
 
-// The lists of a submesh: its vertices, its springs, its faces.
+// Judges the lists of a submesh with the sizes `n` and `faces` faces, bone ids being below `bones`. Returns how many entries they hold and the cursor after
+// them, or a refusal.
 pub fn judge_lists(s: &[u8], c: Cursor, bones: usize, n: Sizes, faces: usize) -> Contained
     requires { ⌜ Inside c (length (now s)) ⌝ }
     ensures { λ r. ⌜ Contains contentsOf (readLists bones (n .vertices) (n .springs) (n .maps) faces (c .at) (left c (now (s .entry)))) c 0 r ⌝ }

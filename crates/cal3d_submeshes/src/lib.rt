@@ -1,4 +1,4 @@
-// The submeshes of a mesh file by cursor, one after the other against the rules, and how many entries they hold in all.
+// The submeshes of a mesh file by cursor, judged one after the other, and how many entries they hold in all.
 ghost use mathlib.Core.Path.{_≡_};
 ghost use lib.ListN.{length};
 ghost use Rattle.wire.specs.Cursors.{Inside, left};
@@ -14,7 +14,8 @@ use cal3d_vertices::Sizes;
 use counted::Ran;
 use wire::Cursor;
 
-// A submesh's numbers: five counts behind the first.
+// Judges a submesh's six numbers, of which all but the first are counts. Returns the cursor after them; 5 at the first if they are cut, or 6 at a negative
+// count.
 fn pass_counts(s: &[u8], c: Cursor) -> Ran
     requires { ⌜ Inside c (length (now s)) ⌝ }
     ensures { λ r. ⌜ Runs (row submeshNumbers (c .at) (left c (now (s .entry)))) c 24 r ⌝ }
@@ -31,7 +32,7 @@ fn pass_counts(s: &[u8], c: Cursor) -> Ran
     Ran::To(Cursor { at: at + 24, end })
 }
 
-// One submesh.
+// Judges one submesh, bone ids being below `bones`. Returns how many entries it holds and the cursor after it, or a refusal.
 fn judge_submesh(s: &[u8], c: Cursor, bones: usize) -> Contained
     requires { ⌜ Inside c (length (now s)) ⌝ }
     ensures { λ r. ⌜ Contains contentsOf (readSubmesh bones (c .at) (left c (now (s .entry)))) c 24 r ⌝ }
@@ -51,7 +52,7 @@ fn judge_submesh(s: &[u8], c: Cursor, bones: usize) -> Contained
     }
 }
 
-// Both together.
+// Returns the sum of `a` and `b`, count by count.
 fn plus(a: Contents, b: Contents) -> Contents
     requires { ⌜ Within (both a b) 18446744073709551615 ⌝ }
     ensures { λ r. ⌜ r ≡ both a b ⌝ }
@@ -65,7 +66,8 @@ fn plus(a: Contents, b: Contents) -> Contents
     }
 }
 
-// So many submeshes. Each takes 24 bytes or more, so that the walk ends with the bytes, whatever the number says.
+// Judges the given number of submeshes, bone ids being below `bones`. Returns how many entries they hold and the cursor after them, or the first refusal.
+// Each takes 24 bytes or more, so that the walk ends with the bytes, whatever the number says.
 pub fn judge_submeshes(s: &[u8], from: Cursor, bones: usize, submeshes: usize) -> Contained
     requires { ⌜ Inside from (length (now s)) ⌝ }
     ensures { λ r. ⌜ Contains contentsIn (times submeshes (readSubmesh bones) (from .at) (left from (now (s .entry)))) from 0 r ⌝ }

@@ -1,12 +1,12 @@
-// Whether child lists and parents tell the same trees, by scores that the lists give: one pass over the bones, with a lent row of marks, so that no walk
-// is made twice over bones that are known to stand right.
+// Finds the first bone where child lists and parents do not tell the same trees, by the scores that the lists give. One pass over the bones, with a lent row
+// of marks, so that no walk is made twice over bones that are known to be right.
 ghost use mathlib.Core.Path.{_≡_};
 ghost use Prim.Native.Nat.{_<_, _≤_};
 ghost use lib.ListN.{length};
 ghost use Rattle.cal3d_scene.specs.Trees.{ends};
 ghost use Rattle.cal3d_trees.specs.Scores.{wanted, sound, lowest, Named, Marked, Kept, Zeros};
 
-// The score that a bone with this parent has where it stands right.
+// Returns the score that a bone with this `parent` has if it is right: 1, or 0 without a parent.
 fn wanted(parent: u32) -> u32
     ensures { λ r. ⌜ r ≡ wanted parent ⌝ }
 {
@@ -16,7 +16,7 @@ fn wanted(parent: u32) -> u32
     1
 }
 
-// Whether a bone's parents end. Up to a marked bone or to one without parent, no further than there are bones.
+// Returns whether the parents of bone `b` end. Goes up to a marked bone or to one without parent, no further than there are bones.
 fn climbs(parents: &[u32], marks: &[u32], b: usize) -> bool
     requires { ⌜ (b < length (now parents)) × Named (now parents) × Marked (now parents) (now marks) ⌝ }
     ensures { λ r. ⌜ r ≡ ends (now (parents .entry)) (length (now (parents .entry))) b ⌝ }
@@ -37,7 +37,7 @@ fn climbs(parents: &[u32], marks: &[u32], b: usize) -> bool
     false
 }
 
-// Marks a bone whose parents end, and them, up to one that is marked.
+// Marks bone `b`, whose parents end, and its parents, up to one that is marked.
 fn mark(parents: &[u32], marks: &mut [u32], b: usize)
     requires { ⌜ (b < length (now parents)) × Named (now parents) × Marked (now parents) (now marks) ⌝ }
     requires { ⌜ Kept (now parents) b ⌝ }
@@ -59,7 +59,7 @@ fn mark(parents: &[u32], marks: &mut [u32], b: usize)
     }
 }
 
-// The lowest bone that does not stand right; where all do, their number.
+// Returns the lowest bone that is not right by its score and its parents; the number of bones if all are. `marks` has a mark for each bone and is changed.
 pub fn first_stray(parents: &[u32], scores: &[u32], marks: &mut [u32]) -> usize
     requires { ⌜ (length (now scores) ≡ length (now parents)) × Named (now parents) × Marked (now parents) (now marks) ⌝ }
     ensures { λ r. ⌜ r ≡ lowest (sound (now (parents .entry)) (now (scores .entry))) (length (now (parents .entry))) 0 ⌝ }
@@ -78,14 +78,14 @@ pub fn first_stray(parents: &[u32], scores: &[u32], marks: &mut [u32]) -> usize
     b
 }
 
-// As many zeros as a skeleton may have bones.
+// Returns as many zeros as a skeleton may have bones.
 pub fn zeros() -> [u32; 16383]
     ensures { λ r. ⌜ (length r ≡ 16383) × Zeros r ⌝ }
 {
     [0; 16383]
 }
 
-// The same with marks of its own.
+// Returns the lowest bone that is not right by its score and its parents; the number of bones if all are.
 pub fn stray(parents: &[u32], scores: &[u32]) -> usize
     requires { ⌜ (length (now scores) ≡ length (now parents)) × Named (now parents) × (length (now parents) ≤ 16383) ⌝ }
     ensures { λ r. ⌜ r ≡ lowest (sound (now (parents .entry)) (now (scores .entry))) (length (now (parents .entry))) 0 ⌝ }

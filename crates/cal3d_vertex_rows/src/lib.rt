@@ -1,5 +1,5 @@
-// The rows of a mesh's vertices, with their maps and influences, from the file's bytes into lent tables. Where things stand is told by the
-// numbers in the file; no rule is looked at.
+// Stores the rows of a mesh's vertices, with their maps and influences, in lent tables from the bytes of a file that was judged. Where entries stand is told
+// by the numbers in the file; no rule is looked at.
 ghost use mathlib.Core.Path.{_≡_};
 ghost use mathlib.Core.List.{[], _∷_};
 ghost use Prim.Native.Nat.{_+_, _*_, _<_, _≤_};
@@ -13,14 +13,14 @@ ghost use Rattle.cal3d_vertex_rows.specs.Vertices.{VerticesFit, Vertices
 use cal3d_mesh_rows::Shape;
 use wire::Cursor;
 
-// A place in the file, and how many maps and influences stand before it.
+// A place in the file, and how many maps and influences come before it.
 pub struct Marks {
     pub at: usize,
     pub maps: usize,
     pub influences: usize,
 }
 
-// So many words of the file from a place on, to word `base` of a table and those behind it.
+// Stores the `n` words of the file `s` at place `at` in `out` from word `base` on.
 pub fn put_words(s: &[u8], at: usize, n: usize, base: usize, out: &mut [u32])
     requires { ⌜ (at + 4 * n ≤ length (now s)) × (base + n ≤ length (now out)) ⌝ }
     ensures { λ _. ⌜ now (out .exit) ≡ stored (now (out .entry)) base (wordsAt n (now (s .entry)) at) ⌝ }
@@ -29,7 +29,7 @@ pub fn put_words(s: &[u8], at: usize, n: usize, base: usize, out: &mut [u32])
     cells::copy_words(s, Cursor { at, end }, n, base, out);
 }
 
-// So many rows of so many words as they stand in the file, to row `first` of a table and those behind it.
+// Stores `n` rows of `width` words, as they stand at place `at` of the file `s`, in `out` from row `first` on.
 pub fn put_rows(s: &[u8], at: usize, n: usize, width: usize, first: usize, out: &mut [u32])
     requires { ⌜ (at + 4 * (width * n) ≤ length (now s)) × (width * first + width * n ≤ length (now out)) ⌝ }
     ensures { λ _. ⌜ now (out .exit) ≡ stored (now (out .entry)) (width * first) (joined (wordRows width (now (s .entry)) n at)) ⌝ }
@@ -37,7 +37,7 @@ pub fn put_rows(s: &[u8], at: usize, n: usize, width: usize, first: usize, out: 
     put_words(s, at, width * n, width * first, out);
 }
 
-// A vertex's cloth weight, or 0 where there are no springs.
+// Returns a vertex's cloth weight, at place `at`; 0 if the submesh has no springs.
 fn cloth_weight(s: &[u8], springs: usize, at: usize) -> u32
     requires { ⌜ at + clothBytes springs ≤ length (now s) ⌝ }
     ensures { λ r. ⌜ r ≡ clothAt (now (s .entry)) springs at ⌝ }
@@ -48,7 +48,7 @@ fn cloth_weight(s: &[u8], springs: usize, at: usize) -> u32
     wire::number_at(s, at)
 }
 
-// How many bytes it takes.
+// Returns how many bytes a vertex's cloth weight has: 0 if the submesh has no springs, else 4.
 fn cloth_bytes(springs: usize) -> usize
     ensures { λ r. ⌜ r ≡ clothBytes springs ⌝ }
 {
@@ -58,7 +58,7 @@ fn cloth_bytes(springs: usize) -> usize
     4
 }
 
-// The row of the vertex at a place, which has so many influences.
+// Stores the row of the vertex at the marks `m`, which has `n` influences, in `out` from word `base` on.
 fn put_vertex(s: &[u8], springs: usize, maps: usize, m: Marks, n: u32, base: usize, out: &mut [u32])
     requires { ⌜ (clothPlace (now s) maps (m .at) + clothBytes springs ≤ length (now s)) × (length (now s) < 0x100000000) × (m .maps ≤ m .at) × (m .influences ≤ m .at) ⌝ }
     requires { ⌜ (n ≡ influencesOf (now s) maps (m .at)) × (base + 12 ≤ length (now out)) ⌝ }
@@ -71,7 +71,7 @@ fn put_vertex(s: &[u8], springs: usize, maps: usize, m: Marks, n: u32, base: usi
     cells::put_cells(out, base + 8, &rest);
 }
 
-// The marks behind it.
+// Returns the marks after the vertex at the marks `m`, which has `n` influences.
 fn pass_vertex(springs: usize, maps: usize, m: Marks, n: usize) -> Marks
     requires { ⌜ (m .at + 32 + 8 * maps + 4 + 8 * n + clothBytes springs < 0x100000000) × (m .maps ≤ m .at) × (m .influences ≤ m .at) ⌝ }
     ensures { λ r. ⌜ r ≡ record { at = m .at + 32 + 8 * maps + 4 + 8 * n + clothBytes springs; maps = m .maps + maps; influences = m .influences + n } ⌝ }
@@ -83,8 +83,8 @@ fn pass_vertex(springs: usize, maps: usize, m: Marks, n: usize) -> Marks
     }
 }
 
-// The vertices of a submesh from a place on: their rows from row `first` on, their maps and influences behind those that stand before; and the
-// place behind them.
+// Stores the vertices of a submesh of the shape `x` at the marks `from`: their rows from row `first` on, their maps and influences after those that come
+// before. Returns the marks after them.
 pub fn put_vertices(
     s: &[u8],
     x: Shape,

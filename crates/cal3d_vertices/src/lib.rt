@@ -1,4 +1,4 @@
-// The vertices of a submesh by cursor, one after the other against the rules, and how many influences they have.
+// The vertices of a submesh by cursor, judged one after the other, and how many influences they have.
 ghost use mathlib.Core.Path.{_≡_};
 ghost use Prim.Native.Nat.{ℕ, _+_, _*_, _≤_};
 ghost use lib.ListN.{length};
@@ -13,14 +13,14 @@ use counted::Summed;
 use wire::Cursor;
 use wire::Number;
 
-// How many vertices a submesh has, how many springs, and how many maps each vertex.
+// How many vertices and springs a submesh has, and how many maps each vertex.
 pub struct Sizes {
     pub vertices: usize,
     pub springs: usize,
     pub maps: usize,
 }
 
-// A vertex's numbers, and so many maps.
+// Judges a vertex's numbers and its `maps` maps, in a submesh with this number of vertices. Returns the cursor after them, or a refusal.
 fn pass_mapped(s: &[u8], c: Cursor, vertices: usize, maps: usize) -> Ran
     requires { ⌜ Inside c (length (now s)) ⌝ }
     ensures { λ r. ⌜ Runs (readMapped vertices maps (c .at) (left c (now (s .entry)))) c (32 + maps * 8) r ⌝ }
@@ -31,7 +31,7 @@ fn pass_mapped(s: &[u8], c: Cursor, vertices: usize, maps: usize) -> Ran
     }
 }
 
-// Influences behind their number.
+// Judges a vertex's influences after their number, bone ids being below `bones`. Returns how many there are and the cursor after them, or a refusal.
 fn judge_influences(s: &[u8], c: Cursor, bones: usize) -> Summed
     requires { ⌜ Inside c (length (now s)) ⌝ }
     ensures { λ r. ⌜ Sums rowCount (readInfluences bones (c .at) (left c (now (s .entry)))) c 4 r ⌝ }
@@ -51,7 +51,7 @@ fn judge_influences(s: &[u8], c: Cursor, bones: usize) -> Summed
     }
 }
 
-// The cloth weight, which stands only where the submesh has springs.
+// Passes the cloth weight of a vertex, which stands only if the submesh has springs. Returns the cursor after it, or 5 if it is cut.
 fn pass_cloth(s: &[u8], c: Cursor, springs: usize) -> Ran
     requires { ⌜ Inside c (length (now s)) ⌝ }
     ensures { λ r. ⌜ Runs (readCloth springs (c .at) (left c (now (s .entry)))) c 0 r ⌝ }
@@ -69,7 +69,7 @@ fn pass_cloth(s: &[u8], c: Cursor, springs: usize) -> Ran
     Ran::To(c)
 }
 
-// One vertex of a submesh of these sizes.
+// Judges one vertex of a submesh of the sizes `n`, bone ids being below `bones`. Returns how many influences it has and the cursor after it, or a refusal.
 fn judge_vertex(s: &[u8], c: Cursor, bones: usize, n: Sizes) -> Summed
     requires { ⌜ Inside c (length (now s)) ⌝ }
     ensures { λ r. ⌜ Sums influenceCount (readVertex bones (n .vertices) (n .springs) (n .maps) (c .at) (left c (now (s .entry)))) c (36 + n .maps * 8) r ⌝ }
@@ -86,7 +86,8 @@ fn judge_vertex(s: &[u8], c: Cursor, bones: usize, n: Sizes) -> Summed
     }
 }
 
-// The vertices of a submesh. Each takes 36 bytes or more, so that the walk ends with the bytes, whatever the number says.
+// Judges the vertices of a submesh of the sizes `n`, bone ids being below `bones`. Returns how many influences they have and the cursor after them, or the
+// first refusal. Each takes 36 bytes or more, so that the walk ends with the bytes, whatever the number says.
 pub fn judge_vertices(s: &[u8], from: Cursor, bones: usize, n: Sizes) -> Summed
     requires { ⌜ Inside from (length (now s)) ⌝ }
     ensures { λ r. ⌜ Sums influencesIn (times (n .vertices) (readVertex bones (n .vertices) (n .springs) (n .maps)) (from .at) (left from (now (s .entry)))) from (n .vertices * (36 + n .maps * 8)) r ⌝ }

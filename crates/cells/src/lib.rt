@@ -1,4 +1,5 @@
-// Words written into a lent table, whatever the format: cells at hand, one value again and again, words of the file as they stand.
+// Storing words in a lent table, for any format: given cells, one value again and again, words of the file as they stand. The other words of the table stay
+// as found.
 ghost use mathlib.Core.Path.{_≡_};
 ghost use Prim.Native.Nat.{ℕ, _+_, _*_, _<_, _≤_};
 ghost use lib.ListN.{length, replicate};
@@ -8,7 +9,7 @@ ghost use Rattle.layout.specs.Parts.{wordsOf};
 ghost use Rattle.cells.specs.Words.{wordsAt};
 use wire::Cursor;
 
-// A number as a cell.
+// Returns `n` as a cell of a table.
 pub fn cell(n: usize) -> u32
     requires { ⌜ n < 0x100000000 ⌝ }
     ensures { λ r. ⌜ r ≡ n ⌝ }
@@ -16,7 +17,7 @@ pub fn cell(n: usize) -> u32
     n as u32
 }
 
-// Cells that are at hand, from word `base` of the table on.
+// Stores `cells` in `out` from word `base` on; no cell changes nothing.
 pub fn put_cells(out: &mut [u32], base: usize, cells: &[u32])
     requires { ⌜ base + length (now cells) ≤ length (now out) ⌝ }
     ensures { λ _. ⌜ now (out .exit) ≡ stored (now (out .entry)) base (now (cells .entry)) ⌝ }
@@ -29,7 +30,7 @@ pub fn put_cells(out: &mut [u32], base: usize, cells: &[u32])
     }
 }
 
-// So many cells of one value, from word `base` of the table on.
+// Stores the value `v` in `n` words of `out` from word `base` on.
 pub fn put_same(v: u32, n: usize, base: usize, out: &mut [u32])
     requires { ⌜ base + n ≤ length (now out) ⌝ }
     ensures { λ _. ⌜ now (out .exit) ≡ stored (now (out .entry)) base (replicate n v) ⌝ }
@@ -42,7 +43,7 @@ pub fn put_same(v: u32, n: usize, base: usize, out: &mut [u32])
     }
 }
 
-// So many words from a place of the file on, from word `base` of the table on.
+// Stores the `n` words of `file` at place `at` in `out` from word `base` on.
 pub fn copy_run(file: &[u8], at: usize, n: usize, base: usize, out: &mut [u32])
     requires { ⌜ (at + 4 * n ≤ length (now file)) × (base + n ≤ length (now out)) ⌝ }
     ensures { λ _. ⌜ now (out .exit) ≡ stored (now (out .entry)) base (wordsAt n (now (file .entry)) at) ⌝ }
@@ -55,7 +56,7 @@ pub fn copy_run(file: &[u8], at: usize, n: usize, base: usize, out: &mut [u32])
     }
 }
 
-// So many words of the file that a cursor has left, from word `base` of the table on.
+// Stores the first `n` words of `file` that the cursor `c` has left in `out` from word `base` on.
 pub fn copy_words(file: &[u8], c: Cursor, n: usize, base: usize, out: &mut [u32])
     requires { ⌜ Inside c (length (now file)) × (c .at + 4 * n ≤ c .end) × (base + n ≤ length (now out)) ⌝ }
     ensures { λ _. ⌜ now (out .exit) ≡ stored (now (out .entry)) base (wordsOf n (left c (now (file .entry)))) ⌝ }

@@ -1,5 +1,5 @@
-// Numbers in groups of seven bits: the highest group first, the top bit set on all but the last byte, in the shortest form. How many groups a number
-// takes, writing them into a lent output, and reading a number that may be so much at most. No file format is known here.
+// Numbers in groups of seven bits (E1): the highest group first, the top bit set on all but the last byte, in the shortest form. How many groups a number
+// takes, writing them into a lent output, and reading a number with a given upper bound. No file format is known here.
 ghost use mathlib.Core.Path.{_≡_};
 ghost use Prim.Native.Nat.{_+_, _≤_};
 ghost use mathlib.Core.List.{[]};
@@ -13,7 +13,7 @@ pub enum Grouped {
     Not(u32, usize),
 }
 
-// How many groups a number takes: no more than five.
+// Returns how many groups `n` takes: 1 to 5.
 pub fn groups_of(n: u32) -> usize
     ensures { λ r. ⌜ (r ≡ groupsOf n) × (r ≤ 5) ⌝ }
 {
@@ -26,7 +26,7 @@ pub fn groups_of(n: u32) -> usize
     count
 }
 
-// The groups before the last, which make the number w, from a place of the output on. Gives the place after them.
+// Writes the groups before the last, which make the number `w`, into `out` from `at` on; none if `w` is 0. Returns the place after them.
 fn put_front(w: u32, out: &mut [u8], at: usize) -> usize
     requires { ⌜ at + length (front w []) ≤ length (now out) ⌝ }
     ensures { λ r. ⌜ PutAt (front w []) (now (out .entry)) at (now (out .exit)) r ⌝ }
@@ -39,7 +39,7 @@ fn put_front(w: u32, out: &mut [u8], at: usize) -> usize
     next + 1
 }
 
-// A number in its groups, from a place of the output on. Gives the place after them.
+// Writes `n` in its groups into `out` from `at` on, and returns the place after them. The other bytes of `out` stay as found.
 pub fn put_groups(n: u32, out: &mut [u8], at: usize) -> usize
     requires { ⌜ at + groupsOf n ≤ length (now out) ⌝ }
     ensures { λ r. ⌜ PutAt (groups n []) (now (out .entry)) at (now (out .exit)) r ⌝ }
@@ -49,7 +49,8 @@ pub fn put_groups(n: u32, out: &mut [u8], at: usize) -> usize
     next + 1
 }
 
-// The number that stands at a place in its groups and may be `most`.
+// Reads the number at place `at` of `s`, which is at most `most`. Returns it and the place after it; or 13 at `at` if its bytes make it wrong, at the first
+// byte that is missing if it is cut.
 pub fn read_number(s: &[u8], at: usize, most: u32) -> Grouped
     ensures { λ r. ⌜ r ≡ grouped (readNumber most at (drop at (now (s .entry)))) ⌝ }
 {

@@ -1,4 +1,4 @@
-// The one check of ids, which may be absent or not: one id, and the first of several that names nothing.
+// The one check of ids, with or without leave to be absent: of one id, and of several in a row.
 ghost use mathlib.Core.Path.{_≡_};
 ghost use Prim.Native.Nat.{_+_, _*_, _≤_};
 ghost use lib.ListN.{length};
@@ -8,7 +8,7 @@ ghost use Rattle.layout.specs.Rules.{holds};
 ghost use Rattle.id_check.specs.Ids.{idRule, firstBad};
 use wire::Cursor;
 
-// An id names one of so many things, from 0 on; where it may be absent, -1 holds too.
+// Returns whether `id` names one of `limit` entries, which count from 0; -1 too if `absent` is set.
 pub fn id_named(id: u32, limit: usize, absent: bool) -> bool
     ensures { λ r. ⌜ r ≡ holds (idRule absent limit) id ⌝ }
 {
@@ -21,7 +21,8 @@ pub fn id_named(id: u32, limit: usize, absent: bool) -> bool
     false
 }
 
-// How many of the first n words are ids of so many things before one that is not; -1 is one where an id may be absent.
+// Returns how many of the first `n` words that `c` has left are right ids before the first that is not: they are below `limit`, or -1 if `absent` is set.
+// Returns `n` if all are.
 pub fn first_bad(s: &[u8], c: Cursor, n: usize, limit: usize, absent: bool) -> usize
     requires { ⌜ Inside c (length (now s)) × (c .at + 4 * n ≤ c .end) × (n ≤ 64) ⌝ }
     ensures { λ r. ⌜ (r ≡ firstBad (idRule absent limit) (wordsOf n (left c (now (s .entry))))) × (r ≤ n) ⌝ }

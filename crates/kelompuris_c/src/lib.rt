@@ -1,5 +1,5 @@
-// What terminals call, as C functions: those that read. `rust/build-lib` makes the archive, include/kelompuris.h declares them. A slice is a pointer
-// and a number of elements. Each promises what the function that it calls does, for every input.
+// The C functions that read, which terminals call: judge and read a B3D file, read a slip, read a tray label. `rust/build-lib` makes the archive,
+// include/kelompuris.h declares them. A slice is a pointer and a number of elements. Each promises what the function that it calls does, for every input.
 ghost use mathlib.Core.Path.{_≡_};
 ghost use mathlib.Core.List.{[], _∷_};
 ghost use Prim.Native.Nat.{_+_, _≤_};
@@ -13,7 +13,7 @@ use b3d_label_walk::TrayLabel;
 use b3d_scene::Answer;
 use slip::Slip;
 
-// Judges a file in a mode without any table: 1 to 10, or 0 with version, n_texs and counts.
+// Judges `file` in the mode with the number `mode`, without any table: answers 1 to 10, or 0 with version, n_texs and counts.
 #[no_mangle]
 pub extern "C" fn kelompuris_b3d_judge(mode: u32, file: &[u8]) -> Answer
     ensures { λ r. ⌜ r ≡ answer (judge (modeOf mode) (now (file .entry))) ⌝ }
@@ -22,7 +22,7 @@ pub extern "C" fn kelompuris_b3d_judge(mode: u32, file: &[u8]) -> Answer
     b3d_answers::judge(m, file)
 }
 
-// Reads a file in a mode into ten lent tables.
+// Reads `file` in the mode with the number `mode` into ten lent tables. Words past a table's last row stay as found; on a refusal all tables do.
 #[no_mangle]
 pub extern "C" fn kelompuris_b3d_read(
     mode: u32,
@@ -48,7 +48,7 @@ pub extern "C" fn kelompuris_b3d_read(
     b3d_read::read(m, file, t1, t2, t3, t4, t5, t6, t7, t8, t9, t10)
 }
 
-// Reads a slip.
+// Reads a slip: answers its twelve numbers, or 13 and its place.
 #[no_mangle]
 pub extern "C" fn kelompuris_slip_read(slip: &[u8]) -> Slip
     ensures { λ r. ⌜ r ≡ readSlipAnswer (now (slip .entry)) ⌝ }
@@ -56,7 +56,7 @@ pub extern "C" fn kelompuris_slip_read(slip: &[u8]) -> Slip
     slip::read_slip(slip)
 }
 
-// The name of a file's root and the vertices of its mesh, without judging the file. The name lies in the file.
+// Answers the place and length of the root's name, which lies in `file`, and the vertices of its mesh, without judging the file; or 14.
 #[no_mangle]
 pub extern "C" fn kelompuris_b3d_label(file: &[u8]) -> TrayLabel
     ensures { λ r. ⌜ r ≡ labelOf (now (file .entry)) ⌝ }

@@ -5,6 +5,6 @@ use Rattle.wire.specs.Test.{if}
 use Rattle.b3d_scene.specs.declared.Mode.{Mode}
 use Rattle.b3d_scene.specs.declared.Mode.the-variants.{Strict, Lenient}
 
--- KELOMPURIS_LENIENT is 1; any other number means strict
+-- the mode with the number n: KELOMPURIS_LENIENT is 1; any other number means strict
 unfoldable pub modeOf : ℕ → Mode
 modeOf n = if (eqb n 1) Lenient Strict

@@ -1,9 +1,9 @@
-// The mode that a number names, as C gives it.
+// The mode that a C caller names by a number: strict or lenient (E8).
 ghost use mathlib.Core.Path.{_≡_};
 ghost use Rattle.kelompuris_mode.specs.Modes.{modeOf};
 use b3d_scene::Mode;
 
-// 1 the lenient one, any other number the strict one.
+// Returns the lenient mode if `n` is 1, else the strict one.
 pub fn mode_of(n: u32) -> Mode
     ensures { λ r. ⌜ r ≡ modeOf n ⌝ }
 {

@@ -1,5 +1,6 @@
-// What terminals call, as C functions: those that write into a lent output. `rust/build-lib` puts them beside those of kelompuris_c into the one archive,
-// include/kelompuris.h declares them. Each promises what the function that it calls does, for every input.
+// The C functions that write into a lent output, which terminals call: write a B3D file, its copy without names, a slip. `rust/build-lib` puts them beside
+// those of kelompuris_c into the one archive, include/kelompuris.h declares them. Each promises what the function that it calls does, for every input. The
+// output past the size written stays as found; on a refusal all of it does.
 ghost use mathlib.Core.Path.{_≡_};
 ghost use Rattle.b3d_scene.specs.Answers.{clearAnswer, clearOutput};
 ghost use Rattle.b3d_check.specs.Lent.{lentOf};
@@ -9,7 +10,8 @@ ghost use Rattle.b3d_slip.specs.FileSlips.{fileSlipAnswer, fileSlipOutput};
 ghost use Rattle.kelompuris_mode.specs.Modes.{modeOf};
 use b3d_scene::Written;
 
-// Writes the shortest file that has the lent tables, in a mode.
+// Writes the shortest file that has the lent tables, with this version, n_texs and the names that `names` holds, in the mode with the number `mode`. Answers
+// 12, then 11.
 #[no_mangle]
 pub extern "C" fn kelompuris_b3d_write(
     mode: u32,
@@ -53,7 +55,7 @@ pub extern "C" fn kelompuris_b3d_write(
     )
 }
 
-// Writes the copy without names of a file.
+// Writes the copy of `file` without names into `out`. Answers 1 to 10 of the file, in lenient mode, then 11.
 #[no_mangle]
 pub extern "C" fn kelompuris_b3d_clear(file: &[u8], out: &mut [u8]) -> Written
     ensures { λ r. ⌜ r ≡ clearAnswer (now (file .entry)) (now (out .entry)) ⌝ }
@@ -62,7 +64,7 @@ pub extern "C" fn kelompuris_b3d_clear(file: &[u8], out: &mut [u8]) -> Written
     b3d_clear::clear(file, out)
 }
 
-// Writes the slip of twelve numbers.
+// Writes the slip of the twelve `numbers` into `out`. Answers 13, then 11.
 #[no_mangle]
 pub extern "C" fn kelompuris_slip_write(numbers: &[u32; 12], out: &mut [u8]) -> Written
     ensures { λ r. ⌜ r ≡ writeSlipAnswer (now (numbers .entry)) (now (out .entry)) ⌝ }
@@ -71,7 +73,7 @@ pub extern "C" fn kelompuris_slip_write(numbers: &[u32; 12], out: &mut [u8]) -> 
     slip::write_slip(*numbers, out)
 }
 
-// Writes the slip of a file.
+// Writes the slip of `file`, judged in lenient mode, into `out`. Answers 1 to 10 of the file, then 11.
 #[no_mangle]
 pub extern "C" fn kelompuris_b3d_slip(file: &[u8], out: &mut [u8]) -> Written
     ensures { λ r. ⌜ r ≡ fileSlipAnswer (now (file .entry)) (now (out .entry)) ⌝ }

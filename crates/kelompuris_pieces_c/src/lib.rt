@@ -1,6 +1,6 @@
-// What terminals call to hand a file over in pieces, as C functions: the judge of pieces over a lent row of records. `rust/build-lib` puts them into the
-// one archive, include/kelompuris.h declares them. `kelompuris_b3d_pieces_piece` and `_close` are proved by walks of their code by hand; all that they
-// call is covered (`b3d_piece_rounds`). They ask nothing of the caller: with any state and any row they end.
+// The piece judge (E6) as C functions, which terminals call to hand a file over in pieces, with a lent row of records. `rust/build-lib` puts them into the
+// one archive, include/kelompuris.h declares them. `kelompuris_b3d_pieces_piece` and `_close` are proved by walks of their code by hand; all that they call
+// is covered (`b3d_piece_rounds`). They ask nothing of the caller: with any state and any row they end.
 ghost use mathlib.Core.Path.{_≡_};
 ghost use Rattle.b3d_piece_calls.specs.Called.{freshJudge, PieceIs, CloseIs};
 ghost use Rattle.b3d_piece_rounds.specs.Rounds.{numbers};
@@ -17,7 +17,7 @@ use b3d_piece_state::PieceFed;
 use b3d_piece_state::PieceState;
 use b3d_piece_state::states::state_of;
 
-// Answers the state that a first call begins with.
+// Returns the state before the first piece of a file.
 #[no_mangle]
 pub extern "C" fn kelompuris_b3d_pieces_start() -> PieceState
     ensures { λ r. ⌜ r ≡ stateOf freshJudge ⌝ }
@@ -26,7 +26,8 @@ pub extern "C" fn kelompuris_b3d_pieces_start() -> PieceState
     state_of(j)
 }
 
-// The next bytes of the file. A refused call gives back the state that it was handed, and changes no record.
+// Takes the next `bytes` of the file. Refuses with 11 and the size 19 if `row` has fewer than 19 records; then with 15 at place 0 after the close, or if
+// `state` and `row` are not as calls leave them. A refused call gives `state` back and changes no record.
 #[no_mangle]
 pub extern "C" fn kelompuris_b3d_pieces_piece(
     state: PieceState,
@@ -43,7 +44,7 @@ pub extern "C" fn kelompuris_b3d_pieces_piece(
     last(t, state)
 }
 
-// No byte is left: what the reader says of all bytes joined. A refused call gives back the state that it was handed.
+// Closes the file and answers what the reader, lent ample tables, says of all bytes joined. Refuses as a piece does, and then gives `state` back.
 #[no_mangle]
 pub extern "C" fn kelompuris_b3d_pieces_close(state: PieceState, row: &[OpenRecord]) -> PieceClosed
     ensures { λ r. ⌜ CloseIs numbers state (now (row .entry)) (r .answer) (r .state) ⌝ }

@@ -8,10 +8,11 @@ use Rattle.layout.specs.Out.{got, bad}
 use Rattle.groups.specs.Groups.{AtMost}
 use Rattle.slip.specs.Slips.{limitsWithin, slipWithin, readWithin}
 
+-- E12's promises about slips of the older limit
 pub record Raised (low high : ℕ) : Type 0 where
   -- every older slip keeps its bytes
   pub bytes : (ns b : List ℕ) → length ns ≡ 12 → slipWithin low ns ≡ got b → slipWithin high ns ≡ got b
-  -- and its reading; so the older reader never gives other numbers than those that the slip says
+  -- every older slip keeps its reading; so the older reader never gives other numbers than those that the slip says
   pub reading : (s ns : List ℕ) → AllBytes s → readWithin low s ≡ got ns → readWithin high s ≡ got ns
   -- meeting a number that is out of the older ranges, the older reader refuses 13
   pub refused : (ns b : List ℕ) → length ns ≡ 12 → slipWithin high ns ≡ got b → (AtMost (limitsWithin low) ns → ⊥) → (p : ℕ) × (readWithin low b ≡ bad 13 p)

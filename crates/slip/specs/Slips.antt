@@ -12,68 +12,76 @@ use Rattle.b3d_scene.specs.Answers.{roomFor, written, outputAfter}
 use Rattle.b3d_scene.specs.declared.Written.{Written}
 use Rattle.slip.specs.declared.Slip.{Slip}
 
--- the most that each number may be where a table has so many rows at most, as 01 has it, and so the most groups that it may take
+-- the most that each of the twelve numbers may be, by 01, where a table has at most `rows` rows; with it goes the most groups that it may take
 unfoldable pub limitsWithin : ℕ → List ℕ
 limitsWithin rows = 99 ∷ 8 ∷ replicate 10 rows
 
--- the same by position
+-- the most that number i may be, where a table has at most `rows` rows
 abbrev pub limitWithin : ℕ → ℕ → ℕ
 limitWithin rows i = getD (limitsWithin rows) i rows
 
--- those of today's row limit
+-- the most that each of the twelve numbers may be with today's row limit
 abbrev pub limits : List ℕ
 limits = limitsWithin rowLimit
 
+-- the most that number i may be with today's row limit
 abbrev pub limitAt : ℕ → ℕ
 limitAt i = limitWithin rowLimit i
 
 -- ---- writing
 
--- the position of the first number that is more than it may be; how many there are where none is
+-- the position of the first number that is more than its limit; the length of the shorter list if none is
 unfoldable pub firstOver : List ℕ → List ℕ → ℕ
 firstOver (m ∷ ms) (n ∷ ns) = if (ltb m n) 0 (suc (firstOver ms ns))
 firstOver [] ns = 0
 firstOver (m ∷ ms) [] = 0
 
--- the slip of twelve numbers, where a table has so many rows at most; 13 at the position of the first that is out of its range
+-- the slip of the numbers ns, where a table has at most `rows` rows; 13 at the position of the first that is out of its range
 unfoldable pub slipWithin : ℕ → List ℕ → Out (List ℕ)
 slipWithin rows ns = do
   _ ← check (leb 12 (firstOver (limitsWithin rows) ns)) 13 (firstOver (limitsWithin rows) ns)
   got (writeNumbers ns [])
 
--- the same into an output of so many bytes
+-- the slip of the numbers ns for an output of `room` bytes, where a table has at most `rows` rows: 13, then 11
 unfoldable pub writeWithin : ℕ → List ℕ → ℕ → Out (List ℕ)
 writeWithin rows ns room = do
   b ← slipWithin rows ns
   roomFor room b
 
+-- the slip of the numbers ns with today's row limit
 abbrev pub slipFor : List ℕ → Out (List ℕ)
 slipFor ns = slipWithin rowLimit ns
 
+-- the slip of the numbers ns for an output of `room` bytes with today's row limit
 abbrev pub writeSlip : List ℕ → ℕ → Out (List ℕ)
 writeSlip ns room = writeWithin rowLimit ns room
 
+-- what the slip writer answers for the numbers ns, lent the output `out`
 unfoldable pub writeSlipAnswer : List ℕ → List ℕ → Written
 writeSlipAnswer ns out = written (writeSlip ns (length out))
 
+-- what the slip writer leaves in the output `out`
 unfoldable pub writeSlipOutput : List ℕ → List ℕ → List ℕ
 writeSlipOutput ns out = outputAfter (writeSlip ns (length out)) out
 
 -- ---- reading
 
--- the twelve numbers of a slip, where a table has so many rows at most; after them 13 at the first spare byte
+-- the twelve numbers of the slip s, where a table has at most `rows` rows; after them 13 at the first spare byte
 unfoldable pub readWithin : ℕ → List ℕ → Out (List ℕ)
 readWithin rows s = do
   x ← readNumbers (limitsWithin rows) 0 s
   _ ← check (leb (length (x .left)) 0) 13 (x .place)
   got (x .value)
 
+-- the twelve numbers of the slip s with today's row limit
 abbrev pub readSlip : List ℕ → Out (List ℕ)
 readSlip s = readWithin rowLimit s
 
+-- the reader's answer by what was read: the numbers, or a refusal and twelve zeros
 unfoldable pub slipOf : Out (List ℕ) → Slip
 slipOf (got ns) = record { number = 0; place = 0; numbers = ns }
 slipOf (bad n p) = record { number = n; place = p; numbers = replicate 12 0 }
 
+-- what the slip reader answers for the slip s
 unfoldable pub readSlipAnswer : List ℕ → Slip
 readSlipAnswer s = slipOf (readSlip s)

@@ -1,5 +1,4 @@
-// Slips: version, n_texs and the ten row counts of a scene as twelve numbers in groups, for the terminals that keep one beside each scene. A writer from
-// numbers to a lent output, and a reader.
+// Slips (E1): version, n_texs and the ten row counts of a scene as twelve numbers in groups. A writer from numbers to a lent output, and a reader.
 ghost use mathlib.Core.Path.{_≡_};
 ghost use mathlib.Core.List.{[]};
 ghost use Prim.Native.Nat.{_≤_};
@@ -11,7 +10,7 @@ ghost use Rattle.slip.specs.Slips.{limits, limitAt, firstOver, slipOf, w
 use b3d_scene::Written;
 use groups::Grouped;
 
-// What the reader of slips answers: refusal number and place, or 0 and 0 with the twelve numbers.
+// The answer of the slip reader: refusal number and place, or 0 and 0 with the twelve numbers.
 #[repr(C)]
 pub struct Slip {
     pub number: u32,
@@ -19,7 +18,7 @@ pub struct Slip {
     pub numbers: [u32; 12],
 }
 
-// The most that number i of a slip may be.
+// Returns the most that number `i` of a slip may be: 99, 8, then the row limit.
 fn most(i: usize) -> u32
     ensures { λ r. ⌜ r ≡ limitAt i ⌝ }
 {
@@ -32,7 +31,7 @@ fn most(i: usize) -> u32
     b3d_scene::ROW_LIMIT as u32
 }
 
-// The position of the first number that is more than it may be; 12 where none is.
+// Returns the position of the first number that is more than it may be; 12 if none is.
 fn first_over(numbers: [u32; 12]) -> usize
     ensures { λ r. ⌜ r ≡ firstOver limits numbers ⌝ }
 {
@@ -46,7 +45,7 @@ fn first_over(numbers: [u32; 12]) -> usize
     12
 }
 
-// How many bytes the numbers take.
+// Returns how many bytes the slip of `numbers` has.
 fn slip_size(numbers: [u32; 12]) -> usize
     ensures { λ r. ⌜ (r ≡ length (writeNumbers numbers [])) × (r ≤ 60) ⌝ }
 {
@@ -59,7 +58,7 @@ fn slip_size(numbers: [u32; 12]) -> usize
     size
 }
 
-// The numbers in their groups, over the front of the output.
+// Writes `numbers` in their groups over the front of `out`.
 fn put_slip(numbers: [u32; 12], out: &mut [u8])
     requires { ⌜ length (writeNumbers numbers []) ≤ length (now out) ⌝ }
     ensures { λ _. ⌜ now (out .exit) ≡ over (writeNumbers numbers []) (now (out .entry)) ⌝ }
@@ -72,8 +71,8 @@ fn put_slip(numbers: [u32; 12], out: &mut [u8])
     }
 }
 
-// Writes the slip of twelve numbers into the output, and says how long it is; what stood behind it stays. Where a number is out of its range (13, and its
-// position), or the output is too short (11, and the size of the slip), the output stays as it was.
+// Writes the slip of `numbers` into `out` and returns its size; the output past it stays as found. Returns 13 and its position if a number is out of its
+// range, then 11 and the size of the slip if `out` is too short: the output stays as found.
 pub fn write_slip(numbers: [u32; 12], out: &mut [u8]) -> Written
     ensures { λ r. ⌜ r ≡ writeSlipAnswer numbers (now (out .entry)) ⌝ }
     ensures { λ _. ⌜ now (out .exit) ≡ writeSlipOutput numbers (now (out .entry)) ⌝ }
@@ -102,7 +101,7 @@ pub fn write_slip(numbers: [u32; 12], out: &mut [u8]) -> Written
     }
 }
 
-// A slip that is refused.
+// Returns the answer of a slip that is refused with 13 at `place`.
 fn refused(place: usize) -> Slip
     requires { ⌜ place ≤ 60 ⌝ }
     ensures { λ r. ⌜ r ≡ slipOf (bad 13 place) ⌝ }
@@ -114,7 +113,7 @@ fn refused(place: usize) -> Slip
     }
 }
 
-// Reads a slip: its twelve numbers, or 13 and its place.
+// Reads a slip: returns its twelve numbers, or 13 and its place, for the empty slice at 0.
 pub fn read_slip(slip: &[u8]) -> Slip
     ensures { λ r. ⌜ r ≡ readSlipAnswer (now (slip .entry)) ⌝ }
 {

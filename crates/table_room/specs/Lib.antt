@@ -1,2 +1,2 @@
--- Which of the lent tables is too short.
+-- The first of the lent tables that is too short.
 pub mod Rooms
