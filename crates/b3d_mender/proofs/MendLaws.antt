@@ -32,8 +32,8 @@ use Rattle.b3d_mend_judge.specs.Answers.{mendedVerdict, Placed}
 use Rattle.b3d_mend_puts.specs.Emits.{shown, written, Fits, Emits}
 use Rattle.b3d_mend_room.specs.BothSizes.{OfSizes}
 use Rattle.b3d_mend_room.proofs.BothAnswers.{fits-both, short-both}
-use Rattle.b3d_mend_walks.specs.Walk.{numberOf, walkBody, walkFile}
-use Rattle.b3d_mend_walks.proofs.FileShows.{file-walk}
+use Rattle.b3d_mend_write_scopes.specs.Shown.{numberOf, walkBody, walkFile}
+use Rattle.b3d_mend_write_scopes.proofs.FileShows.{file-walk}
 
 -- ---- what the judge says
 

@@ -4,7 +4,7 @@ ghost use Rattle.b3d_mend.specs.Answers.{mendAnswer, mendOutput, mendReport};
 ghost use Rattle.b3d_mender.specs.Mendable.{CanMend, HaveRoom, Sized};
 use b3d_judge_body::Verdict;
 use b3d_mend::WrittenBoth;
-use b3d_mend_walk_file::walk_file;
+use b3d_mend_write_file::walk_file;
 
 // How long the mended file and the report are.
 pub struct Sizes {

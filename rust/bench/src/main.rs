@@ -9,6 +9,7 @@
 //! last columns are ratios of medians.
 
 mod cal3d;
+mod mend;
 mod pieces;
 
 use kelompuris::{slices, Mode};
@@ -35,6 +36,9 @@ const TIME: Duration = Duration::from_millis(150);
 const LEAST_RUNS: usize = 11;
 
 fn main() {
+    if std::env::args().nth(1).as_deref() == Some("mend") {
+        return mend::lines();
+    }
     println!(
         "{:<10} {:>6} {:>9} | {:>7} {:>7} {:>7} {:>7} {:>8} {:>7} | {:>10} {:>9}",
         "table",
@@ -57,6 +61,7 @@ fn main() {
     colours();
     label_line();
     pieces::lines();
+    mend::lines();
     cal3d::lines();
 }
 

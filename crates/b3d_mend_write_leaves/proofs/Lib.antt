@@ -1,0 +1,6 @@
+-- The laws of its functions.
+-- The laws of its functions.
+-- The laws of openings.
+pub mod CountLaws
+pub mod LeafLaws
+pub mod OpenLaws

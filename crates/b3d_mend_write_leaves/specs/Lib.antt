@@ -1,0 +1,4 @@
+-- What a walk answers.
+-- Where the chunks inside a chunk begin.
+pub mod Answers
+pub mod Opens
