@@ -1,4 +1,3 @@
-// Judges all that follows the header of a file as it is mended: its version and its chunks, which end where the file does.
 // The judge of the mender: one walk over a file, which answers the first fault of a kind that is not mended, or version, n_texs and the row counts of
 // the mended file. Nothing is written.
 ghost use Prim.Native.Nat.{_≤_};
@@ -18,11 +17,10 @@ use b3d_judge_body::Verdict;
 use b3d_judge_file::Phase;
 use b3d_judge_lists::Slotted;
 use b3d_scene::letters;
-use b3d_tally::Tally;
 use wire::Cursor;
 use wire::Number;
 
-// TEXS, BRUS and NODE.
+// Judges TEXS, BRUS and NODE, from the first chunk of a file on.
 fn lax_chunks(s: &[u8], version: u32, from: Cursor) -> Verdict
     requires { ⌜ Among 0 from (length (now s)) × (from .at ≡ 12) ⌝ }
     ensures { λ r. ⌜ Walks (laxChunks version (restIn (now (s .entry)) BB3D 0 start from)) (from .end) r ⌝ }
@@ -40,7 +38,7 @@ fn lax_chunks(s: &[u8], version: u32, from: Cursor) -> Verdict
     }
 }
 
-// All that follows the header of a file.
+// Judges all that follows the header of a file: its version, then its chunks without spare bytes.
 pub fn lax_body(s: &[u8]) -> Verdict
     requires { ⌜ (8 ≤ length (now s)) × (length (now s) ≤ mostBytes) ⌝ }
     ensures { λ r. ⌜ Walks (laxBody 8 (drop 8 (now (s .entry)))) (length (now (s .entry))) r ⌝ }
@@ -61,7 +59,7 @@ pub fn lax_body(s: &[u8]) -> Verdict
     }
 }
 
-// What a file says as it is mended; BB3D ends where the file does, whatever its length says.
+// Returns what a file says as it is mended, or the first fault that is not mended. BB3D ends where the file does, whatever its length says.
 pub fn judge_mended(file: &[u8]) -> Verdict
     ensures { λ r. ⌜ r ≡ mendedVerdict (mendJudged (now (file .entry))) ⌝ }
     ensures { λ r. ⌜ Placed r ⌝ }

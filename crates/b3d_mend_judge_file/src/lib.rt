@@ -36,10 +36,11 @@ const ROOT_READ: Reached = Reached {
 // More things than an id can be: every id names one.
 const EVERY: usize = 4294967296;
 
-// The nodes, if NODE comes first.
+// Judges the root with the nodes below it, if NODE comes first.
 fn lax_root(s: &[u8], from: Cursor) -> Phase
     requires { ⌜ Among 0 from (length (now s)) ⌝ }
-    ensures { λ r. ⌜ Phases forestTally (readOne NODE leaf laxRoot (restIn (now (s .entry)) BB3D 0 (reachedAt 2 true) from)) (restIn (now (s .entry)) BB3D 0 (reachedAt 3 true)) from r ⌝ }
+    ensures { λ r. ⌜ Phases forestTally (readOne NODE leaf laxRoot (restIn (now (s .entry)) BB3D 0 (reachedAt 2 true) from))
+        (restIn (now (s .entry)) BB3D 0 (reachedAt 3 true)) from r ⌝ }
 {
     let found = b3d_chunks::next_chunk(s, from);
     match b3d_enclosed::next_inside(s, from, found, Tag::BB3D, 0, BRUS_READ) {
@@ -54,7 +55,7 @@ fn lax_root(s: &[u8], from: Cursor) -> Phase
     }
 }
 
-// The nodes, if NODE comes first, and nothing known after it.
+// Judges the root, if NODE comes first; nothing known may follow it.
 fn lax_last(s: &[u8], from: Cursor) -> Judged
     requires { ⌜ Among 0 from (length (now s)) ⌝ }
     ensures { λ r. ⌜ Judges forestTally (laxLast (restIn (now (s .entry)) BB3D 0 (reachedAt 2 true) from)) (from .at) (from .end) r ⌝ }
@@ -73,7 +74,7 @@ fn lax_last(s: &[u8], from: Cursor) -> Judged
     }
 }
 
-// BRUS, whatever its texture ids, and NODE.
+// Judges BRUS, whatever its texture ids, and NODE.
 pub fn lax_rest(s: &[u8], from: Cursor) -> Slotted
     requires { ⌜ Among 0 from (length (now s)) ⌝ }
     ensures { λ r. ⌜ Rests (laxRest (restIn (now (s .entry)) BB3D 0 (reachedAt 1 true) from)) (from .at) (from .end) r ⌝ }

@@ -1,6 +1,5 @@
 -- Two readings side by side: both are refused alike, or both give what a relation ties together.
-use mathlib.Core.Path.{_≡_, refl, sym, ap, _∙_}
-use Prim.Native.Nat.{ℕ}
+use mathlib.Core.Path.{_≡_, refl}
 use mathlib.Core.Bool.{Bool, true, false}
 use Rattle.wire.specs.Test.{if}
 use Rattle.layout.specs.Out.{Out, got, bad, _>>=_}

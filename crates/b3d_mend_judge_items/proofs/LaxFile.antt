@@ -1,11 +1,11 @@
 -- Brushes and the whole file: the mending read beside what is counted of it.
-use mathlib.Core.Path.{_≡_, refl, sym, ap, ap₂, subst, _∙_}
-use Prim.Native.Nat.{ℕ, zero, suc, _+_, _<_}
+use mathlib.Core.Path.{_≡_, refl, sym, ap, ap₂, subst}
+use Prim.Native.Nat.{ℕ, zero, suc, _+_}
 use native.Mathlib.Omega.{arith}
 use mathlib.Core.Bool.{Bool, true, false, _||_}
 use mathlib.Core.Option.{Option, none, some}
 use mathlib.Core.List.{List, [], _∷_, _++_}
-use lib.ListN.{length, take, drop, replicate, length-append, length-replicate}
+use lib.ListN.{length, replicate, length-append, length-replicate}
 use lib.Dec.{ltb, eqb}
 use borrow.Author.Tests.{lt-ltb}
 use Rattle.wire.specs.Bytes.{bytes, AllBytes, IsWord}
@@ -14,8 +14,8 @@ use Rattle.layout.specs.Chunks.{done, stop, chunk, ended}
 use Rattle.layout.specs.Lists.{All}
 use Rattle.layout.specs.Out.{Out, got, bad, check, _>>=_}
 use Rattle.layout.specs.Parts.{Name, Step, text, words, row, judged, number, named, itemsIn, items}
-use Rattle.layout.specs.Rules.{Rule, any, upTo, exactly, names, namesOrNone, unit, NONE, holds, refusal}
-use Rattle.layout.proofs.Outs.{by-got, got-inj}
+use Rattle.layout.specs.Rules.{Rule, any, upTo, exactly, names, namesOrNone, unit, NONE, holds}
+use Rattle.layout.proofs.Outs.{by-got}
 use Rattle.layout.proofs.StepLaws.{judged-got}
 use Rattle.b3d_scene.specs.declared.Mode.the-variants.{Lenient}
 use Rattle.b3d_scene.specs.declared.Tag.{Tag}
@@ -28,13 +28,13 @@ use Rattle.b3d_scene.specs.Tags.{is, Chunks, Found}
 use Rattle.b3d_tally.specs.Tally.{plus, bytesTally, texsTally, brusOf, brusTally, forestTally, sceneTally}
 use Rattle.b3d_tally.specs.declared.Tally.{Tally}
 use Rattle.b3d_mend.specs.Edits.{Edit, keep}
-use Rattle.b3d_mend.specs.Mend.{Mended, mendWords, withName, mendNamed, gathered, mendItems, oneBrush, mendBrush, mendBrushes, asRead, Taken, found, mendOne, mendRoot, sceneOf, mendBody}
-use Rattle.b3d_mend.specs.Pieces.{Pieces, none-left, spare, past, other, known, pieces, chunksOf, woven}
+use Rattle.b3d_mend.specs.Mend.{Mended, mendNamed, gathered, mendItems, oneBrush, mendBrush, mendBrushes, asRead, Taken, found, mendOne, mendRoot, sceneOf, mendBody}
+use Rattle.b3d_mend.specs.Pieces.{Pieces, none-left, spare, past, other, known, pieces, chunksOf}
 use Rattle.b3d_mend.proofs.PartLaws.{words-read, text-read}
 use Rattle.b3d_mend.proofs.PieceLaws.{Whole, pieces-whole}
 use Rattle.b3d_mend_judge_items.specs.Lax.{every, laxInside, laxRoot, laxBody}
 use Rattle.b3d_mend_judge_items.proofs.Alike.{Alike, alike-bind, alike-after, alike-if}
-use Rattle.b3d_mend_judge_items.proofs.LaxParts.{Mild, mild-words, SameStep, read-alike}
+use Rattle.b3d_mend_judge_items.proofs.LaxParts.{Mild, mild-words, read-alike}
 use Rattle.b3d_mend_judge_items.proofs.LaxNodes.{root-alike}
 
 -- ---- rules that every number keeps

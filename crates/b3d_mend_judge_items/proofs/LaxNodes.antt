@@ -1,19 +1,17 @@
 -- Nodes: the mending read beside what is counted of it.
-use mathlib.Core.Path.{_≡_, refl, sym, ap, ap₂, subst, _∙_}
+use mathlib.Core.Path.{_≡_, refl, sym, ap, ap₂, subst}
 use Prim.Native.Nat.{ℕ, zero, suc, _+_}
-use mathlib.Core.Bool.{Bool, true, false}
 use mathlib.Core.Option.{Option, none}
-use mathlib.Core.List.{List, [], _∷_, _++_}
-use lib.ListN.{length}
+use mathlib.Core.List.{List, _∷_}
 use Rattle.wire.specs.Test.{if}
 use Rattle.layout.specs.Chunks.{done, stop, chunk}
 use Rattle.layout.specs.Out.{Out, got, bad, _>>=_}
-use Rattle.layout.specs.Parts.{Name, Step, named}
+use Rattle.layout.specs.Parts.{Name, named}
 use Rattle.b3d_scene.specs.declared.Tag.the-variants.{NODE, MESH, BONE, KEYS, ANIM}
 use Rattle.b3d_scene.specs.Nesting.{start, order}
 use Rattle.b3d_scene.specs.Parse.{Moves, Inner, readKeys, readAnim, readMoves, withKeys, readNodes, readBelow}
 use Rattle.b3d_scene.specs.Rules.{nodeRow, boneVertices, ownVertices, animated, bonesFrom, bonesBelow, levels}
-use Rattle.b3d_scene.specs.Scene.{Mesh, Kind, pivot, mesh, bone, Keys, Anim, still, anim, Data, Forest, leaf, node}
+use Rattle.b3d_scene.specs.Scene.{Kind, mesh, bone, Keys, Anim, still, anim, Forest, node}
 use Rattle.b3d_scene.specs.Tags.{is, Chunks, Found}
 use Rattle.b3d_tally.specs.Tally.{noTally, plus, headTally, kindTally, boneTally, listsTally, animTally, dataTally, forestTally, innerTally}
 use Rattle.b3d_tally.specs.declared.Tally.{Tally}

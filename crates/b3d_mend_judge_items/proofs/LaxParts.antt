@@ -1,15 +1,14 @@
 -- Items, TRIS, BONE and MESH: the mending read beside what is counted of it.
-use mathlib.Core.Path.{_≡_, refl, sym, ap, ap₂, subst, _∙_}
+use mathlib.Core.Path.{_≡_, refl, sym, ap, ap₂, _∙_}
 use Prim.Native.Nat.{ℕ, zero, suc, _+_}
-use native.Mathlib.Omega.{arith}
 use mathlib.Core.Bool.{Bool, true, false}
 use mathlib.Core.List.{List, [], _∷_, _++_}
-use lib.ListN.{length, getD, replicate, length-replicate}
+use lib.ListN.{length, replicate, length-replicate}
 use Rattle.wire.specs.Bytes.{bytes}
 use Rattle.wire.specs.Test.{if}
 use Rattle.layout.specs.Chunks.{done, stop, chunk}
 use Rattle.layout.specs.Out.{Out, got, bad, _>>=_}
-use Rattle.layout.specs.Parts.{Step, words, row, judged, number, itemsIn, items}
+use Rattle.layout.specs.Parts.{Step, words, row, judged, itemsIn, items}
 use Rattle.layout.specs.Lists.{All}
 use Rattle.layout.specs.Rules.{Rule, any, upTo, exactly, names, namesOrNone, unit, NONE, holds}
 use Rattle.layout.proofs.StepLaws.{judged-any}
@@ -27,7 +26,7 @@ use Rattle.b3d_mend.specs.Edits.{Edit, keep, idSet}
 use Rattle.b3d_mend.specs.Mend.{Mended, mendWord, andWords, mendWords, mendRow, allHold, stays, mendItem, gathered, mendItems, asRead, mendTriangles, mendBone, Taken, found, mendOne, mendSets, meshOf, mendMesh}
 use Rattle.b3d_mend.specs.Pieces.{pieces, chunksOf}
 use Rattle.b3d_mend_judge_items.specs.Lax.{kept, laxItems, laxTriangles, laxBone, laxInside, laxSets, laxMesh}
-use Rattle.b3d_mend_judge_items.proofs.Alike.{Alike, alike-bind, alike-more, alike-same, alike-if}
+use Rattle.b3d_mend_judge_items.proofs.Alike.{Alike, alike-bind, alike-if}
 
 -- ---- items
 

@@ -1,24 +1,23 @@
 -- The pieces of a stretch of bytes, one at a time: by the list, and at a cursor by what its header says.
 use Prim.Native.Nat.{ℕ, zero, suc, _+_, _-_, _≤_, _<_}
 use native.Mathlib.Omega.{arith}
-use mathlib.Core.Path.{_≡_, refl, sym, ap, ap₂, _∙_}
+use mathlib.Core.Path.{_≡_, refl, ap, _∙_}
 use mathlib.Core.Option.{Option, none, some}
 use mathlib.Core.List.{List, [], _∷_}
 use lib.ListN.{length, take, drop, getD, length-drop}
 use lib.Dec.{T, leb, leb→le, le→leb, not-T}
 use Rattle.wire.specs.Bytes.{word, wordAt}
 use Rattle.wire.specs.Test.{if}
-use Rattle.wire.specs.Cursors.{Inside, left, headerAt}
+use Rattle.wire.specs.Cursors.{Inside, left}
 use Rattle.wire.specs.declared.Cursor.{Cursor}
 use Rattle.wire.specs.declared.Header.the-variants as header
 use Rattle.wire.proofs.Left.{span, left-length, left-nil, left-four, left-drop, left-take}
-use Rattle.wire.proofs.Found.{Framed, framed, header-end}
 use Rattle.layout.specs.Chunks.{stop, keep}
 use Rattle.layout.proofs.ChunkLaws.{split-step, split-past}
 use Rattle.layout.proofs.Outs.{if-yes, if-no}
 use Rattle.b3d_scene.specs.declared.Tag.{Tag}
-use Rattle.b3d_scene.specs.Tags.{tagOf, split, Chunks}
-use Rattle.b3d_mend.specs.Pieces.{Pieces, none-left, spare, past, other, known, piece, piecesIn, pieces, chunksOf}
+use Rattle.b3d_scene.specs.Tags.{tagOf, split}
+use Rattle.b3d_mend.specs.Pieces.{Pieces, none-left, spare, past, piece, piecesIn, pieces, chunksOf}
 
 -- ---- by the list
 

@@ -3,18 +3,18 @@ use Prim.Native.Nat.{ℕ, _+_, _-_, _≤_, _<_}
 use native.Mathlib.Omega.{arith}
 use native.Mathlib.Nat.{le-refl}
 use mathlib.Core.Logic.{⊎-elim}
-use mathlib.Core.Path.{_≡_, refl, sym, ap, ap₂, subst, _∙_}
-use mathlib.Core.List.{List, []}
+use mathlib.Core.Path.{_≡_, refl, sym, ap, _∙_}
+use mathlib.Core.List.{List}
 use lib.ListN.{length}
 use Rattle.wire.specs.Bytes.{wordAt}
 use Rattle.wire.specs.Cursors.{Inside, left, headerAt}
 use Rattle.wire.specs.declared.Cursor.{Cursor}
 use Rattle.wire.specs.declared.Header.{Header}
 use Rattle.wire.specs.declared.Header.the-variants as header
-use Rattle.wire.proofs.Left.{span, left-length, left-nil}
+use Rattle.wire.proofs.Left.{span, left-nil}
 use Rattle.wire.proofs.Found.{Framed, framed, header-end, header-cut}
-use Rattle.layout.specs.Chunks.{done, stop, keep}
-use Rattle.layout.proofs.ChunkLaws.{split-none, split-past, split-short}
+use Rattle.layout.specs.Chunks.{done, keep}
+use Rattle.layout.proofs.ChunkLaws.{split-none}
 use Rattle.b3d_scene.specs.Tags.{tagOf, split, Chunks}
 use Rattle.b3d_mend.specs.Pieces.{Pieces, pieces, chunksOf}
 use Rattle.b3d_mend_judge_items.proofs.PieceSteps.{piece-chunks, at-end, at-spare, at-past, at-piece, at-split, split-cut}

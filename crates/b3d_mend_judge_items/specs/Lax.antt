@@ -1,17 +1,16 @@
 -- The mending read as far as rows are counted: it goes as `parse` does in the lenient mode, but ids are not looked at, except that a triangle or a
 -- weight with a bad vertex id is left out, and so are 1 to 7 spare bytes at the end of BB3D, NODE and MESH.
 use Prim.Native.Nat.{ℕ, zero, suc, _+_}
-use mathlib.Core.Bool.{Bool}
 use mathlib.Core.Option.{Option, none}
 use mathlib.Core.List.{List, [], _∷_}
 use lib.ListN.{length, replicate}
 use Rattle.wire.specs.Test.{if}
 use Rattle.layout.specs.Chunks.{done, stop, chunk, ended}
 use Rattle.layout.specs.Out.{Out, got, bad, _>>=_}
-use Rattle.layout.specs.Parts.{Name, Step, row, number, named, items}
+use Rattle.layout.specs.Parts.{row, number, named, items}
 use Rattle.layout.specs.Rules.{Rule, any}
 use Rattle.b3d_scene.specs.Nesting.{start, order}
-use Rattle.b3d_scene.specs.Parse.{readOne, readTextures, readBrushes, Vertices, noVertices, readVertices, Moves, Inner, readMoves, readNodes, readBelow, slotsOf}
+use Rattle.b3d_scene.specs.Parse.{readOne, readTextures, readBrushes, noVertices, readVertices, Inner, readMoves, readBelow, slotsOf}
 use Rattle.b3d_scene.specs.Rules.{nodeRow, triangleRow, weightRow, boneVertices, levels, fileHead}
 use Rattle.b3d_scene.specs.Scene.{TriangleSet, Mesh, Kind, pivot, mesh, bone, still, Forest, leaf, node, Scene}
 use Rattle.b3d_scene.specs.Tags.{is, Chunks, Found}
@@ -27,7 +26,7 @@ every = 4294967296
 
 -- ---- items
 
--- those whose words keep their rules
+-- the items whose words keep their rules
 unfoldable pub kept : List Rule → List (List ℕ) → List (List ℕ)
 kept rs [] = []
 kept rs (ws ∷ l) = if (allHold rs ws) (ws ∷ kept rs l) (kept rs l)
@@ -80,7 +79,7 @@ laxKind vertices (chunk t p b r) =
     let other = if (is t BONE) w (got (record { value = pivot; rest = chunk t p b r })) in
     if (is t MESH) m other
 
--- a NODE with so many levels left; `above`: what the nodes above say of bones
+-- a NODE, with the levels of nodes that are left; `above`: what the nodes above say of bones
 unfoldable pub laxNode : ℕ → Option ℕ → ℕ → List ℕ → Out Inner
 laxNode zero above p b = bad 9 p
 laxNode (suc l) above p b = do

@@ -1,8 +1,5 @@
-// What the mending read makes of a file as far as its rows are counted: definitions, and the law that the mending read has the same refusals and
-// the same counts. No function: the code that judges stands in the crates above.
-// Laws: the mending read has the refusals and the row counts of what is counted of it (b3d_mend_reads). No function.
-// Spare bytes at the end of the chunks inside a chunk: the cursor over those chunks without them.
-// Items of a chunk as the mending read counts them: those with an id that names nothing are left out.
+// The mending read as far as rows are counted (`specs/Lax`), with the laws that it has the refusals and the rows of the mending read; and what the
+// judge of the mender leaves out: items with an id that names nothing, and spare bytes after the last chunk.
 ghost use lib.ListN.{length};
 ghost use Rattle.wire.specs.Cursors.{Inside, left};
 ghost use Rattle.b3d_mend_judge_items.specs.Trimmed.{Trimmed};
@@ -23,7 +20,7 @@ use wire::Cursor;
 use wire::Header;
 use wire::Number;
 
-// The cursor without the 1 to 7 bytes after the last chunk.
+// Returns `from` without the 1 to 7 bytes after its last chunk; `from` itself where there are none, or where a chunk's length passes its end.
 pub fn trimmed(s: &[u8], from: Cursor) -> Cursor
     requires { ⌜ Inside from (length (now s)) ⌝ }
     ensures { λ r. ⌜ Trimmed (now (s .entry)) from r ⌝ }
@@ -51,7 +48,7 @@ pub fn trimmed(s: &[u8], from: Cursor) -> Cursor
     }
 }
 
-// 1 for an item whose ids all name one of so many things, else 0.
+// Returns 1 if the first `ids` of the `words` words at `c` are all below `limit`, else 0.
 pub fn kept_one(s: &[u8], c: Cursor, words: usize, ids: usize, limit: usize) -> usize
     requires { ⌜ Inside c (length (now s)) × (c .at + 4 * words ≤ c .end) × (words ≤ 64) × (ids ≤ words) ⌝ }
     ensures { λ r. ⌜ (r ≡ oneIf (allHold (idRow ids (words - ids) limit) (wordsOf words (left c (now (s .entry)))))) × (r ≤ 1) ⌝ }
@@ -63,7 +60,7 @@ pub fn kept_one(s: &[u8], c: Cursor, words: usize, ids: usize, limit: usize) -> 
     1
 }
 
-// How many items of so many words, the first of them ids of so many things, name things by all of them; 5 at a cut item.
+// Counts the items of `words` words that `from` has left and that stay: the first `ids` words of each are below `limit`. Answers 5 at an item that is cut.
 pub fn kept_items(s: &[u8], from: Cursor, words: usize, ids: usize, limit: usize) -> Counted
     requires { ⌜ Inside from (length (now s)) × (0 < words) × (words ≤ 64) × (ids ≤ words) ⌝ }
     ensures { λ r. ⌜ (r ≡ counted (laxItems (idRow ids (words - ids) limit) (from .at) (left from (now (s .entry))))) × CountedIn from words r ⌝ }
@@ -83,7 +80,7 @@ pub fn kept_items(s: &[u8], from: Cursor, words: usize, ids: usize, limit: usize
     Counted::Is(count)
 }
 
-// The weights of a BONE that may name so many vertices, without those that name none.
+// Judges the BONE whose header is at `at`: its weights that name one of `vertices` vertices are counted.
 pub fn lax_bone(s: &[u8], at: usize, body: Cursor, vertices: usize) -> Judged
     requires { ⌜ Body at body (length (now s)) ⌝ }
     ensures { λ r. ⌜ Judges boneTally (laxBone vertices at (left body (now (s .entry)))) at (body .end) r ⌝ }
@@ -94,7 +91,7 @@ pub fn lax_bone(s: &[u8], at: usize, body: Cursor, vertices: usize) -> Judged
     }
 }
 
-// A TRIS of a mesh with so many vertices, without the triangles that name others.
+// Judges the TRIS whose header is at `at`, whatever its brush: its triangles that name only the `vertices` vertices of the mesh are counted.
 pub fn lax_triangles(s: &[u8], at: usize, body: Cursor, vertices: usize) -> Judged
     requires { ⌜ Body at body (length (now s)) ⌝ }
     ensures { λ r. ⌜ Judges setTally (laxTriangles vertices at (left body (now (s .entry)))) at (body .end) r ⌝ }

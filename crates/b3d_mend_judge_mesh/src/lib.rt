@@ -20,7 +20,6 @@ use b3d_judge_mesh::Meshed;
 use b3d_scene::Mode;
 use b3d_scene::Tag;
 use b3d_tally::Judged;
-use b3d_tally::Tally;
 use b3d_turns::Reached;
 use wire::Cursor;
 use wire::Number;
@@ -31,7 +30,7 @@ const VRTS_READ: Reached = Reached {
     spent: true,
 };
 
-// The TRIS chunks of a mesh whose header is at `at`, with so many vertices: one or more.
+// Judges the TRIS chunks of a mesh of `vertices` vertices whose header is at `at`: one or more.
 fn lax_sets(s: &[u8], at: usize, from: Cursor, vertices: usize) -> Judged
     requires { ⌜ Among at from (length (now s)) ⌝ }
     ensures { λ r. ⌜ Judges setsTally (laxSets vertices (restIn (now (s .entry)) MESH at (reachedAt 1 true) from)) (from .at) (from .end) r ⌝ }
@@ -68,10 +67,11 @@ fn lax_sets(s: &[u8], at: usize, from: Cursor, vertices: usize) -> Judged
     }
 }
 
-// A VRTS whose header is at p, and the TRIS after it, of a mesh whose header is at `at`.
+// Judges a VRTS whose header is at `p`, and the TRIS chunks from `next` on, of a mesh whose header is at `at`.
 fn lax_shape(s: &[u8], at: usize, p: usize, body: Cursor, next: Cursor) -> Meshed
     requires { ⌜ Body p body (length (now s)) × Among at next (length (now s)) × (at + 12 ≤ p) × (body .end ≡ next .at) ⌝ }
-    ensures { λ r. ⌜ Meshes (laxAfter 0 (readVertices Lenient p (left body (now (s .entry)))) (restIn (now (s .entry)) MESH at (reachedAt 1 true) next)) at (next .end) r ⌝ }
+    ensures { λ r. ⌜ Meshes (laxAfter 0 (readVertices Lenient p (left body (now (s .entry))))
+        (restIn (now (s .entry)) MESH at (reachedAt 1 true) next)) at (next .end) r ⌝ }
 {
     match b3d_bodies::judge_vertices(s, p, body, Mode::Lenient) {
         Shaped::Not(e, q) => Meshed::Not(e, q),
@@ -82,7 +82,7 @@ fn lax_shape(s: &[u8], at: usize, p: usize, body: Cursor, next: Cursor) -> Meshe
     }
 }
 
-// The VRTS of a mesh and its TRIS, from the first chunk on.
+// Judges the VRTS and the TRIS chunks of a mesh whose header is at `at`, from its first chunk on.
 fn lax_inside(s: &[u8], at: usize, from: Cursor) -> Meshed
     requires { ⌜ Among at from (length (now s)) × (at + 12 ≤ from .at) ⌝ }
     ensures { λ r. ⌜ Meshes (laxWithin 0 (restIn (now (s .entry)) MESH at start from)) at (from .end) r ⌝ }
@@ -101,7 +101,7 @@ fn lax_inside(s: &[u8], at: usize, from: Cursor) -> Meshed
     }
 }
 
-// A MESH: its brush id, whatever it is, then the chunks inside it.
+// Judges the MESH whose header is at `at`: its brush id, whatever it is, then the chunks inside it without spare bytes.
 pub fn lax_mesh(s: &[u8], at: usize, body: Cursor) -> Meshed
     requires { ⌜ Body at body (length (now s)) ⌝ }
     ensures { λ r. ⌜ Meshes (laxMesh at (left body (now (s .entry)))) at (body .end) r ⌝ }

@@ -19,10 +19,9 @@ use b3d_judge_node::Kinded;
 use b3d_judge_node::Owned;
 use b3d_scene::Tag;
 use b3d_tally::Judged;
-use b3d_tally::Tally;
 use wire::Cursor;
 
-// A MESH or a BONE, if it comes first.
+// Judges a MESH or a BONE, if one comes first in a NODE whose header is at `at`; weights may name `bones` vertices.
 fn lax_kind(s: &[u8], at: usize, from: Cursor, bones: usize) -> Kinded
     requires { ⌜ Among at from (length (now s)) ⌝ }
     ensures { λ r. ⌜ Kinds (laxKind bones (restIn (now (s .entry)) NODE at start from)) (restIn (now (s .entry)) NODE at (reachedAt 2 false)) from r ⌝ }
@@ -51,10 +50,11 @@ fn lax_kind(s: &[u8], at: usize, from: Cursor, bones: usize) -> Kinded
     }
 }
 
-// The chunks inside a NODE up to the nodes below it.
+// Judges the chunks of a NODE whose header is at `at` up to the nodes below it.
 fn lax_parts(s: &[u8], at: usize, from: Cursor, above: Above) -> Owned
     requires { ⌜ Among at from (length (now s)) × (at + 49 ≤ from .at) ⌝ }
-    ensures { λ r. ⌜ Parted (aboveOf above) (laxParts (boneVertices (aboveOf above)) (restIn (now (s .entry)) NODE at start from)) (restIn (now (s .entry)) NODE at (reachedAt 3 false)) at from r ⌝ }
+    ensures { λ r. ⌜ Parted (aboveOf above) (laxParts (boneVertices (aboveOf above)) (restIn (now (s .entry)) NODE at start from))
+        (restIn (now (s .entry)) NODE at (reachedAt 3 false)) at from r ⌝ }
 {
     match lax_kind(s, at, from, b3d_judge_node::bone_vertices(above)) {
         Kinded::Not(e, q) => Owned::Not(e, q),
@@ -69,10 +69,11 @@ fn lax_parts(s: &[u8], at: usize, from: Cursor, above: Above) -> Owned
     }
 }
 
-// A NODE whose header is at `at`, without the nodes below it.
+// Judges a NODE whose header is at `at`, without spare bytes and without the nodes below it.
 pub fn lax_own(s: &[u8], at: usize, body: Cursor, above: Above) -> Owned
     requires { ⌜ Body at body (length (now s)) ⌝ }
-    ensures { λ r. ⌜ Owns (aboveOf above) (laxOwn (aboveOf above) at (left body (now (s .entry)))) (restIn (now (s .entry)) NODE at (reachedAt 3 false)) at (body .end) r ⌝ }
+    ensures { λ r. ⌜ Owns (aboveOf above) (laxOwn (aboveOf above) at (left body (now (s .entry))))
+        (restIn (now (s .entry)) NODE at (reachedAt 3 false)) at (body .end) r ⌝ }
 {
     match b3d_chunks::named_row(s, body, 10) {
         Named::Cut => Owned::Not(5, body.at),

@@ -24,7 +24,7 @@ const MOVES_READ: Reached = Reached {
     spent: false,
 };
 
-// A NODE whose header is at `at`, with so many levels left.
+// Judges a NODE whose header is at `at`, with the nodes below it; 9 where no level is left.
 pub fn lax_node(s: &[u8], at: usize, body: Cursor, levels: u32, above: Above) -> Judged
     requires { ⌜ Body at body (length (now s)) ⌝ }
     ensures { λ r. ⌜ Judges innerTally (laxNode levels (aboveOf above) at (left body (now (s .entry)))) at (body .end) r ⌝ }
@@ -41,10 +41,11 @@ pub fn lax_node(s: &[u8], at: usize, body: Cursor, levels: u32, above: Above) ->
     }
 }
 
-// The nodes inside a node whose header is at `at`, with so many levels left.
+// Judges the nodes from `from` on inside a node whose header is at `at`, with `levels` levels left for each.
 fn lax_nodes(s: &[u8], at: usize, from: Cursor, levels: u32, above: Above) -> Judged
     requires { ⌜ Among at from (length (now s)) ⌝ }
-    ensures { λ r. ⌜ Judges forestTally (readNodes (laxNode levels (aboveOf above)) (restIn (now (s .entry)) NODE at (reachedAt 3 false) from)) (from .at) (from .end) r ⌝ }
+    ensures { λ r. ⌜ Judges forestTally (readNodes (laxNode levels (aboveOf above)) (restIn (now (s .entry)) NODE at (reachedAt 3 false) from))
+        (from .at) (from .end) r ⌝ }
 {
     let mut c = from;
     let mut q = MOVES_READ;

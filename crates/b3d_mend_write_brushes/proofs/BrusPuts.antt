@@ -1,27 +1,26 @@
 -- What is put of a BRUS.
-use mathlib.Core.Path.{_≡_, refl, sym, ap, ap₂, _∙_}
+use mathlib.Core.Path.{_≡_, ap, _∙_}
 use Prim.Native.Nat.{ℕ, _+_, _<_, _≤_}
 use native.Mathlib.Omega.{arith}
 use mathlib.Core.Bool.{Bool}
 use mathlib.Core.List.{List, [], _∷_, _++_}
 use lib.ListN.{length, take, drop, length-take, length-drop}
-use Rattle.wire.specs.Bytes.{bytes, wordAt, AllBytes}
+use Rattle.wire.specs.Bytes.{bytes, AllBytes}
 use Rattle.wire.specs.Cursors.{Inside, left, numberAt}
 use Rattle.wire.specs.declared.Cursor.{Cursor}
 use Rattle.wire.specs.declared.Number.{Number}
 use Rattle.wire.specs.declared.Number.the-variants as number
 use Rattle.layout.specs.Rules.{upTo}
-use Rattle.layout.specs.Rows.{mostBytes}
 use Rattle.emit.proofs.Joining.{Both}
 use Rattle.b3d_inside.specs.Places.{Body}
 use Rattle.b3d_inside.proofs.Heads.{body-inside, head-cut, head-numbered, head-over, head-within}
-use Rattle.b3d_mend.specs.Edits.{Edit, keep, was}
+use Rattle.b3d_mend.specs.Edits.{keep, was}
 use Rattle.b3d_mend.specs.Walks.{brusOf, brusEdits}
 use Rattle.b3d_mend_puts.specs.Emits.{shown, Fits, Emits}
 use Rattle.b3d_mend_puts.proofs.Putting.{emits-none, fits-first, fits-second, emits-both}
 use Rattle.b3d_mend_puts.proofs.Shows.{shown-none, shown-cons}
-use Rattle.b3d_mend_write_items.proofs.Slices.{word-slice}
-use Rattle.b3d_mend_write_brushes.specs.Lists.{brushRules, brushesAt}
+use Rattle.b3d_mend_write_edits.proofs.Slices.{word-slice}
+use Rattle.b3d_mend_write_brushes.specs.Lists.{brushesAt}
 
 module _ (s : List ℕ) (p : ℕ) (b : Cursor) (body : Body p b (length s)) (h : AllBytes s) (textures : ℕ) (r : Number) (e : r ≡ numberAt s b) (report wet : Bool) (xs : List ℕ) (at : ℕ) where
   abbrev All : List ℕ

@@ -1,19 +1,18 @@
 -- What is put of a brush: what stays up to its ids, then those.
-use mathlib.Core.Path.{_≡_, refl, sym, ap, ap₂, subst, _∙_}
+use mathlib.Core.Path.{_≡_, refl, sym, ap, ap₂, _∙_}
 use Prim.Native.Nat.{ℕ, zero, suc, _+_, _-_, _*_, _<_, _≤_}
 use native.Mathlib.Nat.{suc-add}
 use native.Mathlib.Omega.{arith}
 use mathlib.Core.Bool.{Bool, true, false}
 use mathlib.Core.List.{List, [], _∷_, _++_, append-assoc, append-nil}
 use lib.ListN.{length, take, drop, replicate, length-append, length-take, length-drop}
-use lib.Seq.{take-at, drop-at, take-all, drop-drop}
 use Rattle.wire.specs.Bytes.{bytes, word, AllBytes}
 use Rattle.wire.specs.Test.{if}
 use Rattle.wire.specs.Cursors.{Inside, left}
 use Rattle.wire.specs.declared.Cursor.{Cursor}
-use Rattle.wire.proofs.Left.{span, left-take, left-drop, left-length, left-split}
+use Rattle.wire.proofs.Left.{span, left-drop, left-length}
 use Rattle.layout.specs.Parts.{wordsOf}
-use Rattle.layout.specs.Rules.{Rule, any, namesOrNone}
+use Rattle.layout.specs.Rules.{Rule, any}
 use Rattle.layout.specs.Write.{writeWords, writeText}
 use Rattle.layout.proofs.StepLaws.{words-add, length-words-of}
 use Rattle.emit.proofs.Joining.{Both}
@@ -25,8 +24,8 @@ use Rattle.b3d_mend.specs.Report.{entries, reportBytes}
 use Rattle.b3d_mend.specs.Walks.{wordEdit, wordEdits}
 use Rattle.b3d_mend_puts.specs.Emits.{shown, Fits, Emits}
 use Rattle.b3d_mend_puts.proofs.Putting.{fits-first, fits-second, emits-both}
-use Rattle.b3d_mend_puts.proofs.Shows.{shown-none, shown-cons}
-use Rattle.b3d_mend_write_items.proofs.Slices.{words-left, left-first}
+use Rattle.b3d_mend_puts.proofs.Shows.{shown-cons}
+use Rattle.b3d_mend_write_edits.proofs.Slices.{words-left, left-first}
 use Rattle.b3d_mend_write_brushes.specs.Ids.{idEdits}
 use Rattle.b3d_mend_write_brushes.specs.Brushes.{BrushAt, brushEdits}
 

@@ -1,13 +1,13 @@
 -- What is put of ids one after the other.
-use mathlib.Core.Path.{_≡_, refl, sym, ap, ap₂, subst, _∙_}
-use Prim.Native.Nat.{ℕ, zero, suc, _+_, _-_, _*_, _<_, _≤_}
+use mathlib.Core.Path.{_≡_, refl, sym, ap, subst, _∙_}
+use Prim.Native.Nat.{ℕ, suc, _+_, _-_, _*_, _<_, _≤_}
 use native.Mathlib.Omega.{arith}
 use mathlib.Core.Bool.{Bool}
 use mathlib.Core.List.{List, [], _∷_, _++_}
 use lib.ListN.{length, drop, replicate}
 use lib.Seq.{take-all}
 use Rattle.wire.specs.Bytes.{wordAt}
-use Rattle.wire.specs.Cursors.{Inside, left}
+use Rattle.wire.specs.Cursors.{left}
 use Rattle.wire.proofs.Left.{span, left-four}
 use Rattle.layout.specs.Parts.{wordsOf}
 use Rattle.layout.specs.Rules.{namesOrNone}

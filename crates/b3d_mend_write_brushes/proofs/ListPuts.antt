@@ -1,12 +1,11 @@
 -- What is put of brushes one after the other.
-use mathlib.Core.Path.{_≡_, refl, sym, ap, ap₂, subst, _∙_}
+use mathlib.Core.Path.{_≡_, refl, sym, ap, subst, _∙_}
 use Prim.Native.Nat.{ℕ, zero, suc, _+_, _-_, _*_, _<_, _≤_}
 use native.Mathlib.Omega.{arith}
 use mathlib.Core.Bool.{Bool, true, false}
 use mathlib.Core.List.{List, [], _∷_, _++_}
 use lib.ListN.{length, take, replicate, length-append, length-replicate}
 use lib.Dec.{ltb}
-use Rattle.wire.specs.Bytes.{AllBytes}
 use Rattle.wire.specs.Test.{if}
 use Rattle.wire.specs.Cursors.{Inside, left, textAt}
 use Rattle.wire.specs.declared.Cursor.{Cursor}
@@ -21,8 +20,6 @@ use Rattle.layout.specs.Write.{writeText}
 use Rattle.layout.proofs.StepLaws.{named-shrinks, length-words-of}
 use Rattle.emit.proofs.Joining.{Both}
 use Rattle.emit.proofs.Appends.{text-zero}
-use Rattle.b3d_scene.specs.declared.Mode.the-variants.{Lenient}
-use Rattle.b3d_scene.specs.Rules.{brushRow, brushIds}
 use Rattle.b3d_chunks.specs.Chunks.{namedBy, namedAt, NamedIn}
 use Rattle.b3d_chunks.specs.declared.Named.{Named}
 use Rattle.b3d_chunks.specs.declared.Named.the-variants as named

@@ -1,4 +1,4 @@
--- A brush in a file: a name that ends at the words, seven words, so many texture ids.
+-- A brush in a file: a name that ends at the words, seven words, then its texture ids.
 use mathlib.Core.Path.{_≡_}
 use Prim.Native.Nat.{ℕ, _+_, _-_, _*_, _<_, _≤_}
 use mathlib.Core.List.{List, [], _∷_, _++_}

@@ -1,4 +1,4 @@
--- What becomes of so many ids from a place of the file on, each of so many things or -1.
+-- What becomes of ids one after the other, each -1 or below a limit.
 use Prim.Native.Nat.{ℕ}
 use mathlib.Core.List.{List}
 use lib.ListN.{drop, replicate}

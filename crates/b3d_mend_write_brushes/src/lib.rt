@@ -1,14 +1,10 @@
-// Ids one after the other as they are mended, put into the output or only counted.
-// Brushes as they are mended, put into the output or only counted: their texture ids that name nothing are set to -1.
-// The brushes of a BRUS as they are mended, put into the output or only counted.
+// The brushes of a BRUS as they are mended, put into the output or only counted: texture ids that name nothing are set to -1.
 ghost use Prim.Native.Nat.{_+_, _*_, _≤_, _<_};
 ghost use lib.ListN.{length};
 ghost use Rattle.wire.specs.Bytes.{AllBytes};
 ghost use Rattle.b3d_mend_puts.specs.Emits.{Emits, Fits, shown};
 ghost use Rattle.b3d_mend_write_brushes.specs.Ids.{idEdits};
-ghost use mathlib.Core.Path.{_≡_};
 ghost use Rattle.wire.specs.Cursors.{Inside, left};
-ghost use Rattle.b3d_chunks.specs.Chunks.{namedAt};
 ghost use Rattle.b3d_chunks.specs.declared.Named.the-variants.{Is};
 ghost use Rattle.b3d_mend_write_brushes.specs.Brushes.{BrushAt, brushEdits};
 ghost use Rattle.b3d_inside.specs.Places.{Body};
@@ -18,7 +14,7 @@ use b3d_chunks::Named;
 use wire::Cursor;
 use wire::Number;
 
-// So many ids from a place on, of so many things or -1.
+// Puts `n` ids of the file from `from` on, each set to -1 where it is neither -1 nor below `limit`.
 pub fn put_ids(
     file: &[u8],
     from: usize,
@@ -42,7 +38,7 @@ pub fn put_ids(
     at
 }
 
-// A brush at a cursor: its name of so many bytes and its words, of which those at `row` end with so many texture ids.
+// Puts the brush at `c`: its name and its seven words, which begin at `row`, as they stand, then its `slots` texture ids.
 pub fn put_brush(
     file: &[u8],
     c: Cursor,
@@ -65,7 +61,7 @@ pub fn put_brush(
     put_ids(file, ids, slots, textures, report, wet, out, next)
 }
 
-// Brushes of so many slots to the end, beside so many textures.
+// Puts the brushes of `slots` texture ids that `from` has left, up to the first that is cut.
 pub fn put_brushes(
     file: &[u8],
     from: Cursor,
@@ -97,7 +93,7 @@ pub fn put_brushes(
     at
 }
 
-// A BRUS whose header is at p: its slots, then its brushes.
+// Puts the body of a BRUS whose header is at `p`: its n_texs, then its brushes. Nothing where n_texs is cut or above 8.
 pub fn put_brus(
     file: &[u8],
     p: usize,

@@ -21,9 +21,9 @@ use Rattle.b3d_mend_write_scopes.specs.Shown.{Walked, walked, nodeScope, meshSc
 use Rattle.b3d_mend_write_scopes.specs.declared.Scope.{Scope}
 use Rattle.b3d_mend_write_leaves.specs.Answers.{Walks}
 use Rattle.b3d_mend_write_leaves.specs.declared.Walk.{Walk}
-use Rattle.b3d_mend_write_leaves.specs.Opens.{nodeFront, meshFront, walkFrom, OpensAs, Opens, Opened}
-use Rattle.b3d_mend_write_leaves.specs.declared.Opening.{Opening}
-use Rattle.b3d_mend_write_leaves.specs.declared.Opening.the-variants as opening
+use Rattle.b3d_mend_write_scopes.specs.Opens.{nodeFront, meshFront, walkFrom, OpensAs, Opens, Opened}
+use Rattle.b3d_mend_write_scopes.specs.declared.Opening.{Opening}
+use Rattle.b3d_mend_write_scopes.specs.declared.Opening.the-variants as opening
 
 pub body-inside : (s : List ℕ) (p : ℕ) (b : Cursor) → Body p b (length s) → Inside b (length s)
 body-inside s p b h = record { before = h .room; within = h .within }

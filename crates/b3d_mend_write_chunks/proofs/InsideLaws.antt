@@ -34,9 +34,10 @@ use Rattle.b3d_mend_write_scopes.specs.Shown.{Walked, walked, nextScope, walkCh
 use Rattle.b3d_mend_write_scopes.specs.declared.Scope.{Scope}
 use Rattle.b3d_mend_write_leaves.specs.Answers.{Walks}
 use Rattle.b3d_mend_write_leaves.specs.declared.Walk.{Walk}
-use Rattle.b3d_mend_write_leaves.proofs.LeafLaws.{left-whole}
-use Rattle.b3d_mend_write_leaves.specs.Opens.{walkFrom}
-use Rattle.b3d_mend_write_chunks.specs.Steps.{cutShown, withHeader}
+use Rattle.b3d_mend_write_edits.proofs.RestLaws.{left-whole}
+use Rattle.b3d_mend_write_scopes.specs.Opens.{walkFrom}
+use Rattle.b3d_mend_write_edits.specs.Rests.{cutShown}
+use Rattle.b3d_mend_write_chunks.specs.Steps.{withHeader}
 
 -- ---- by the pieces
 

@@ -1,5 +1,4 @@
 -- The laws of its functions.
-pub mod RestLaws
 pub mod BodyLaws
 pub mod ChunkLaws
 pub mod InsideLaws

@@ -1,19 +1,7 @@
--- What steps of a walk show: bytes where no chunk is, a chunk with its header.
-use Prim.Native.Nat.{ℕ, _-_}
+-- What a chunk with its header shows.
 use mathlib.Core.Bool.{Bool}
-use mathlib.Core.List.{List, [], _∷_}
-use lib.Dec.{ltb}
-use Rattle.wire.specs.Test.{if}
-use Rattle.wire.specs.Cursors.{left}
-use Rattle.wire.specs.declared.Cursor.{Cursor}
 use Rattle.b3d_scene.specs.declared.Tag.{Tag}
-use Rattle.b3d_mend.specs.Edits.{keep, spareOut}
-use Rattle.b3d_mend_puts.specs.Emits.{shown}
 use Rattle.b3d_mend_write_scopes.specs.Shown.{Walked, walked, headed}
-
--- 1 to 7 bytes, or those of a chunk that passes the end
-unfoldable pub cutShown : Bool → List ℕ → Cursor → List ℕ
-cutShown report s c = if (ltb (c .end - c .at) 8) (shown report (c .at) (spareOut (left c s) ∷ [])) (shown report (c .at) (keep (left c s) ∷ []))
 
 unfoldable pub withHeader : Bool → Tag → Walked → Walked
 withHeader report t w = walked (headed report t (w .bytes)) (w .count)

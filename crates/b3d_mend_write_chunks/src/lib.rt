@@ -5,34 +5,20 @@ ghost use Rattle.wire.specs.Bytes.{AllBytes};
 ghost use Rattle.wire.specs.Cursors.{Inside, left};
 ghost use Rattle.layout.specs.Rows.{mostBytes};
 ghost use Rattle.b3d_inside.specs.Places.{Body};
-ghost use Rattle.b3d_mend_puts.specs.Emits.{Emits, Fits};
+ghost use Rattle.b3d_mend_puts.specs.Emits.{Fits};
 ghost use Rattle.b3d_mend_write_scopes.specs.Shown.{walkChunk};
 ghost use Rattle.b3d_mend_write_leaves.specs.Answers.{Walks};
-ghost use Rattle.b3d_mend_write_leaves.specs.Opens.{walkFrom};
-ghost use Rattle.b3d_mend_write_chunks.specs.Steps.{cutShown, withHeader};
+ghost use Rattle.b3d_mend_write_scopes.specs.Opens.{walkFrom};
+ghost use Rattle.b3d_mend_write_chunks.specs.Steps.{withHeader};
 use b3d_chunks::Tagged;
-use b3d_mend_write_leaves::Opening;
 use b3d_mend_write_leaves::Walk;
+use b3d_mend_write_scopes::Opening;
 use b3d_mend_write_scopes::Scope;
 use b3d_scene::Tag;
 use wire::Cursor;
 use wire::Header;
 
-// What is left where no chunk is: spare bytes are taken out, bytes of a chunk that passes the end stay.
-fn put_rest(file: &[u8], c: Cursor, report: bool, wet: bool, out: &mut [u8], at: usize) -> usize
-    requires { ⌜ Inside c (length (now file)) × (length (now file) ≤ mostBytes) ⌝ }
-    requires { ⌜ Fits wet (cutShown report (now file) c) at (now out) ⌝ }
-    ensures { λ r. ⌜ Emits wet (cutShown report (now (file .entry)) c) (now (out .entry)) at (now (out .exit)) r ⌝ }
-{
-    let from = c.at;
-    let end = c.end;
-    if end - from < 8 {
-        return b3d_mend_write_edits::put_taken(file, from, end - from, 4, report, wet, out, at);
-    }
-    b3d_mend_write_leaves::put_whole(file, c, report, wet, out, at)
-}
-
-// The body of a chunk of this tag, whose header is at p, with so many levels left.
+// Puts the body of a chunk of this tag whose header is at `p`; chunks inside it are looked into while `levels` is not 0.
 fn walk_body(
     file: &[u8],
     levels: u32,
@@ -50,7 +36,7 @@ fn walk_body(
     ensures { λ r. ⌜ Walks wet (walkChunk report levels scope tag p (left body (now (file .entry)))) (now (out .entry)) at (now (out .exit)) r ⌝ }
 {
     let first = body.at;
-    match b3d_mend_write_leaves::find_chunks(file, levels, tag, body) {
+    match b3d_mend_write_scopes::find_chunks(file, levels, tag, body) {
         Opening::Flat => {
             b3d_mend_write_leaves::walk_leaf(file, tag, p, body, scope, report, wet, out, at)
         }
@@ -70,7 +56,7 @@ fn walk_body(
     }
 }
 
-// A chunk of this tag, whose header is at p, with so many levels left: its body, then its header before it.
+// Puts a chunk of this tag whose header is at `p`: its body, then its header before it.
 fn walk_chunk(
     file: &[u8],
     levels: u32,
@@ -85,7 +71,8 @@ fn walk_chunk(
 ) -> Walk
     requires { ⌜ Body p body (length (now file)) × AllBytes (now file) ⌝ }
     requires { ⌜ Fits wet (withHeader report tag (walkChunk report levels scope tag p (left body (now file))) .bytes) at (now out) ⌝ }
-    ensures { λ r. ⌜ Walks wet (withHeader report tag (walkChunk report levels scope tag p (left body (now (file .entry))))) (now (out .entry)) at (now (out .exit)) r ⌝ }
+    ensures { λ r. ⌜ Walks wet (withHeader report tag (walkChunk report levels scope tag p (left body (now (file .entry))))) (now (out .entry)) at
+        (now (out .exit)) r ⌝ }
 {
     let from = b3d_mend_write_scopes::body_at(report, at);
     let w = walk_body(file, levels, tag, p, body, scope, report, wet, out, from);
@@ -94,7 +81,7 @@ fn walk_chunk(
     w
 }
 
-// The chunks from a cursor on, each with so many levels left.
+// Puts the chunks from `from` on, each with `levels` levels left: known ones as they are mended, others as they stand, and no spare bytes.
 pub fn walk_inside(
     file: &[u8],
     levels: u32,
@@ -119,7 +106,7 @@ pub fn walk_inside(
                 return Walk { at, count: k.own };
             }
             Header::Cut => {
-                let n = put_rest(file, c, report, wet, out, at);
+                let n = b3d_mend_write_edits::put_rest(file, c, report, wet, out, at);
                 return Walk {
                     at: n,
                     count: k.own,

@@ -1,6 +1,6 @@
 -- What one edit shows, by its parts, and what each function puts of it.
-use mathlib.Core.Path.{_≡_, refl, sym, ap, ap₂, _∙_}
-use Prim.Native.Nat.{ℕ, _+_, _<_, _≤_}
+use mathlib.Core.Path.{_≡_, refl, ap, ap₂, _∙_}
+use Prim.Native.Nat.{ℕ, _+_, _≤_}
 use native.Mathlib.Omega.{arith}
 use mathlib.Core.Bool.{Bool, true, false}
 use mathlib.Core.List.{List, [], _∷_, _++_, append-nil}
@@ -9,7 +9,7 @@ use Rattle.wire.specs.Bytes.{bytes}
 use Rattle.emit.proofs.Joining.{Both}
 use Rattle.groups.specs.Groups.{groups, writeNumbers}
 use Rattle.groups.proofs.Fronts.{groups-append, numbers-append}
-use Rattle.b3d_mend.specs.Edits.{Edit, keep, mend, becomes, after}
+use Rattle.b3d_mend.specs.Edits.{keep, mend, becomes, after}
 use Rattle.b3d_mend.specs.Report.{entries, entryBytes, reportBytes}
 use Rattle.b3d_mend_puts.specs.Emits.{shown, Fits, Emits}
 use Rattle.b3d_mend_puts.proofs.Putting.{emits-none, fits-first, fits-second, emits-both, fits-same, emits-same}

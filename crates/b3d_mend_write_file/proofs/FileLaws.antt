@@ -20,11 +20,11 @@ use Rattle.b3d_mend.specs.Edits.{Edit, keep, follow, mend, fileLength, becomes,
 use Rattle.b3d_mend.specs.Report.{entries, reportBytes}
 use Rattle.b3d_mend_puts.specs.Emits.{shown, Fits, Emits}
 use Rattle.b3d_mend_puts.proofs.Putting.{emits-none, fits-first, fits-second, emits-both, fits-same, emits-same}
-use Rattle.b3d_mend_write_items.proofs.Slices.{left-all, word-slice}
+use Rattle.b3d_mend_write_edits.proofs.Slices.{left-all, word-slice}
 use Rattle.b3d_mend_write_scopes.specs.Shown.{walkInside, walkChunk, fileScope, walkBody, walkFile}
 use Rattle.b3d_mend_write_leaves.specs.Answers.{Walks}
 use Rattle.b3d_mend_write_leaves.specs.declared.Walk.{Walk}
-use Rattle.b3d_mend_write_leaves.specs.Opens.{walkFrom}
+use Rattle.b3d_mend_write_scopes.specs.Opens.{walkFrom}
 use Rattle.b3d_mend_write_file.specs.Starts.{startShown}
 
 -- ---- three numbers

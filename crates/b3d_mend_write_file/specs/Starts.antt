@@ -12,4 +12,5 @@ use Rattle.b3d_mend_write_scopes.specs.Shown.{numberOf}
 
 -- the letters, the length, the version
 unfoldable pub startShown : Bool → ℕ → List ℕ → List ℕ
-startShown report size s = shown report 0 (keep (bytes (code BB3D) []) ∷ fileLength (numberOf 1 s) (length (drop 8 s)) (4 + size) ∷ keep (bytes (numberOf 2 s) []) ∷ [])
+startShown report size s =
+    shown report 0 (keep (bytes (code BB3D) []) ∷ fileLength (numberOf 1 s) (length (drop 8 s)) (4 + size) ∷ keep (bytes (numberOf 2 s) []) ∷ [])

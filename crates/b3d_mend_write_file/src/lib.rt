@@ -25,7 +25,7 @@ const FILE_SCOPE: Scope = Scope {
 // BB3D, 16 levels of NODE, MESH.
 const LEVELS: u32 = 17;
 
-// Three numbers.
+// Puts three numbers.
 fn put_three(a: u32, b: u32, c: u32, wet: bool, out: &mut [u8], at: usize) -> usize
     requires { ⌜ Fits wet (bytes a (bytes b (bytes c []))) at (now out) ⌝ }
     ensures { λ r. ⌜ Emits wet (bytes a (bytes b (bytes c []))) (now (out .entry)) at (now (out .exit)) r ⌝ }
@@ -35,7 +35,7 @@ fn put_three(a: u32, b: u32, c: u32, wet: bool, out: &mut [u8], at: usize) -> us
     b3d_mend_puts::put_word(c, wet, out, n)
 }
 
-// The letters, the length and the version.
+// Puts the letters, the length and the version of a file whose mended chunks have `size` bytes; in the report the length's entry, if it was wrong.
 fn put_start(file: &[u8], size: usize, report: bool, wet: bool, out: &mut [u8], at: usize) -> usize
     requires { ⌜ (12 ≤ length (now file)) × (length (now file) ≤ mostBytes) × AllBytes (now file) ⌝ }
     requires { ⌜ size + 4 < 4294967296 ⌝ }
@@ -54,7 +54,7 @@ fn put_start(file: &[u8], size: usize, report: bool, wet: bool, out: &mut [u8], 
     put_three(letters::BB3D, long, version, wet, out, at)
 }
 
-// The mended file, whose chunks have so many bytes, or the report.
+// Puts the mended file, whose chunks have `size` bytes, or its report, and returns the place after it.
 pub fn walk_file(
     file: &[u8],
     size: usize,

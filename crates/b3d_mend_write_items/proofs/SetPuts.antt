@@ -14,7 +14,7 @@ use Rattle.layout.specs.Parts.{wordsOf}
 use Rattle.layout.specs.Rules.{Rule, namesOrNone, NONE, holds}
 use Rattle.emit.proofs.Joining.{Both}
 use Rattle.id_check.specs.Ids.{idRow}
-use Rattle.b3d_mend.specs.Edits.{Edit, keep, mend, was}
+use Rattle.b3d_mend.specs.Edits.{keep, mend, was}
 use Rattle.b3d_mend.specs.Walks.{wordEdit, wordEdits, itemEdits, trisEdits, boneEdits}
 use Rattle.b3d_mend.proofs.WalkLaws.{edits-none}
 use Rattle.b3d_mend_puts.specs.Emits.{shown, Fits, Emits}

@@ -1,18 +1,18 @@
-// Ids and items as they are mended, put into the output or only counted: an id that names nothing is set to -1, an item with one is taken out.
-// The bodies of TRIS and BONE as they are mended, put into the output or only counted.
+// Ids, items and the bodies of TRIS and BONE as they are mended, put into the output or only counted: an id that names nothing is set to -1, an item
+// with one is taken out.
 ghost use Prim.Native.Nat.{_+_, _-_, _*_, _≤_, _<_};
 ghost use mathlib.Core.List.{[], _∷_};
 ghost use lib.ListN.{length};
 ghost use Rattle.wire.specs.Bytes.{wordAt, AllBytes};
 ghost use Rattle.wire.specs.Cursors.{Inside, left};
-ghost use Rattle.layout.specs.Parts.{wordsOf};
 ghost use Rattle.layout.specs.Rules.{namesOrNone};
 ghost use Rattle.id_check.specs.Ids.{idRow};
-ghost use Rattle.b3d_mend.specs.Walks.{wordEdit, itemEdit, itemEdits, trisEdits, boneEdits};
+ghost use Rattle.b3d_mend.specs.Walks.{wordEdit, itemEdits, trisEdits, boneEdits};
 ghost use Rattle.b3d_mend_puts.specs.Emits.{Emits, Fits, shown};
+ghost use Rattle.b3d_mend_write_items.specs.Runs.{AllStay};
 use wire::Cursor;
 
-// The id at a place, of so many things or -1.
+// Puts the id of the file at `from`, set to -1 where it is neither -1 nor below `limit`.
 pub fn put_id(
     file: &[u8],
     from: usize,
@@ -24,7 +24,8 @@ pub fn put_id(
 ) -> usize
     requires { ⌜ (from + 4 ≤ length (now file)) × (length (now file) < 4294967296) × AllBytes (now file) ⌝ }
     requires { ⌜ Fits wet (shown report from (wordEdit (namesOrNone limit) (wordAt (now file) from) ∷ [])) at (now out) ⌝ }
-    ensures { λ r. ⌜ Emits wet (shown report from (wordEdit (namesOrNone limit) (wordAt (now (file .entry)) from) ∷ [])) (now (out .entry)) at (now (out .exit)) r ⌝ }
+    ensures { λ r. ⌜ Emits wet (shown report from (wordEdit (namesOrNone limit) (wordAt (now (file .entry)) from) ∷ [])) (now (out .entry)) at
+        (now (out .exit)) r ⌝ }
 {
     let id = wire::number_at(file, from);
     if id_check::id_named(id, limit, true) {
@@ -33,32 +34,29 @@ pub fn put_id(
     b3d_mend_write_edits::put_set(file, from, 2, 0xFFFFFFFF, report, wet, out, at)
 }
 
-// An item of so many words, the first of them ids of so many things.
-fn put_item(
-    file: &[u8],
-    c: Cursor,
-    words: usize,
-    ids: usize,
-    limit: usize,
-    report: bool,
-    wet: bool,
-    out: &mut [u8],
-    at: usize,
-) -> usize
-    requires { ⌜ Inside c (length (now file)) × (c .at + 4 * words ≤ c .end) × (words ≤ 64) × (ids ≤ words) ⌝ }
-    requires { ⌜ (length (now file) < 4294967296) × AllBytes (now file) ⌝ }
-    requires { ⌜ Fits wet (shown report (c .at) (itemEdit (idRow ids (words - ids) limit) (wordsOf words (left c (now file))) ∷ [])) at (now out) ⌝ }
-    ensures { λ r. ⌜ Emits wet (shown report (c .at) (itemEdit (idRow ids (words - ids) limit) (wordsOf words (left c (now (file .entry)))) ∷ [])) (now (out .entry)) at (now (out .exit)) r ⌝ }
+// Returns how many bytes of the items that `c` has left stay, from its start up to the first item that does not or is cut: items of `words` words, the
+// first `ids` of them ids below `limit`. 0 where the first item does not stay.
+fn kept_bytes(file: &[u8], c: Cursor, words: usize, ids: usize, limit: usize) -> usize
+    requires { ⌜ Inside c (length (now file)) × (0 < words) × (words ≤ 64) × (ids ≤ words) × AllBytes (now file) ⌝ }
+    ensures { λ r. ⌜ AllStay (now (file .entry)) words ids limit c r ⌝ }
 {
     let from = c.at;
-    let one = b3d_mend_judge_items::kept_one(file, c, words, ids, limit);
-    if one == 0 {
-        return b3d_mend_write_edits::put_taken(file, from, 4 * words, 3, report, wet, out, at);
+    let end = c.end;
+    let size = 4 * words;
+    let mut n: usize = 0;
+    while size <= end - from - n {
+        let item = Cursor { at: from + n, end };
+        let one = b3d_mend_judge_items::kept_one(file, item, words, ids, limit);
+        if one == 0 {
+            return n;
+        }
+        n += size;
     }
-    b3d_mend_write_edits::put_kept(file, from, 4 * words, report, wet, out, at)
+    n
 }
 
-// Such items to the end.
+// Puts the items that `from` has left up to the first that is cut: items of `words` words, the first `ids` of them ids below `limit`. Those that stay
+// one after the other are put at once; an item with an id that names nothing is taken out.
 pub fn put_items(
     file: &[u8],
     from: Cursor,
@@ -73,33 +71,26 @@ pub fn put_items(
     requires { ⌜ Inside from (length (now file)) × (0 < words) × (words ≤ 64) × (ids ≤ words) ⌝ }
     requires { ⌜ (length (now file) < 4294967296) × AllBytes (now file) ⌝ }
     requires { ⌜ Fits wet (shown report (from .at) (itemEdits (idRow ids (words - ids) limit) (left from (now file)))) start (now out) ⌝ }
-    ensures { λ r. ⌜ Emits wet (shown report (from .at) (itemEdits (idRow ids (words - ids) limit) (left from (now (file .entry))))) (now (out .entry)) start (now (out .exit)) r ⌝ }
+    ensures { λ r. ⌜ Emits wet (shown report (from .at) (itemEdits (idRow ids (words - ids) limit) (left from (now (file .entry)))))
+        (now (out .entry)) start (now (out .exit)) r ⌝ }
 {
     let end = from.end;
     let size = 4 * words;
     let mut p = from.at;
     let mut at = start;
-    while p < end {
+    loop {
+        let kept = kept_bytes(file, Cursor { at: p, end }, words, ids, limit);
+        at = b3d_mend_write_edits::put_kept(file, p, kept, report, wet, out, at);
+        p += kept;
         if end - p < size {
             return at;
         }
-        at = put_item(
-            file,
-            Cursor { at: p, end },
-            words,
-            ids,
-            limit,
-            report,
-            wet,
-            out,
-            at,
-        );
+        at = b3d_mend_write_edits::put_taken(file, p, size, 3, report, wet, out, at);
         p += size;
     }
-    at
 }
 
-// The weights of a BONE, of so many vertices.
+// Puts the body of a BONE without the weights that name none of `vertices` vertices.
 pub fn put_bone(
     file: &[u8],
     body: Cursor,
@@ -116,7 +107,8 @@ pub fn put_bone(
     put_items(file, body, 2, 1, vertices, report, wet, out, at)
 }
 
-// A TRIS: its brush, of so many, and its triangles, of so many vertices.
+// Puts the body of a TRIS: its brush id, set to -1 where it names none of `brushes` brushes, and its triangles without those that name none of
+// `vertices` vertices. Nothing where the brush id is cut.
 pub fn put_tris(
     file: &[u8],
     body: Cursor,
@@ -129,7 +121,8 @@ pub fn put_tris(
 ) -> usize
     requires { ⌜ Inside body (length (now file)) × (length (now file) < 4294967296) × AllBytes (now file) ⌝ }
     requires { ⌜ Fits wet (shown report (body .at) (trisEdits brushes vertices (left body (now file)))) at (now out) ⌝ }
-    ensures { λ r. ⌜ Emits wet (shown report (body .at) (trisEdits brushes vertices (left body (now (file .entry))))) (now (out .entry)) at (now (out .exit)) r ⌝ }
+    ensures { λ r. ⌜ Emits wet (shown report (body .at) (trisEdits brushes vertices (left body (now (file .entry))))) (now (out .entry)) at
+        (now (out .exit)) r ⌝ }
 {
     let from = body.at;
     let end = body.end;

@@ -1,18 +1,16 @@
 -- A law for each way through the functions of a chunk that holds no chunks.
 use mathlib.Core.Path.{_≡_, refl, sym, ap, _∙_}
-use Prim.Native.Nat.{ℕ, _+_, _-_, _<_, _≤_}
+use Prim.Native.Nat.{ℕ, _+_, _-_, _<_}
 use native.Mathlib.Omega.{arith}
 use mathlib.Core.Bool.{Bool, not, _&&_, _||_}
 use mathlib.Core.List.{List, [], _∷_}
-use lib.ListN.{length, take, drop}
-use lib.Seq.{take-all}
+use lib.ListN.{length}
 use lib.Dec.{T}
 use mir.Val.{hasKey}
 use types.Run.{OneOf}
 use denote.Enum.Declared.{tagOf}
 use Rattle.wire.specs.Cursors.{Inside, left}
 use Rattle.wire.specs.declared.Cursor.{Cursor}
-use Rattle.wire.proofs.Left.{left-length}
 use Rattle.b3d_scene.specs.declared.Mode.the-variants.{Lenient}
 use Rattle.b3d_scene.specs.Parse.{readTextures, readBrushes, readVertices}
 use Rattle.b3d_scene.specs.Tags.{is}
@@ -26,35 +24,10 @@ use Rattle.b3d_mend.specs.Trees.{texturesOf, verticesOf}
 use Rattle.b3d_mend.specs.Walks.{trisEdits, boneEdits, brusEdits}
 use Rattle.b3d_mend_puts.specs.Emits.{shown, Fits, Emits}
 use Rattle.b3d_mend_puts.proofs.Putting.{fits-same, emits-same}
-use Rattle.b3d_mend_write_items.proofs.Slices.{left-first}
 use Rattle.b3d_mend_judge_items.specs.Lax.{every}
 use Rattle.b3d_mend_write_scopes.specs.Shown.{walkLeaf, brushCount}
 use Rattle.b3d_mend_write_scopes.specs.declared.Scope.{Scope}
 use Rattle.b3d_mend_write_leaves.specs.Answers.{leafCount, Walks}
-
--- ---- all that a cursor has left
-
-module _ (s : List ℕ) (c : Cursor) (i : Inside c (length s)) where
-  pub whole-inside : c .at + (c .end - c .at) ≤ length s
-  whole-inside = omega (arith, i .before, i .within)
-
-  pub whole-order : c .at ≤ c .end
-  whole-order = i .before
-
-  pub left-whole : left c s ≡ take (c .end - c .at) (drop (c .at) s)
-  left-whole = sym (take-all (c .end - c .at) (left c s) (omega (arith, left-length s c i))) ∙ left-first s c (c .end - c .at) i (omega (arith, i .before))
-
-  module _ (report wet : Bool) (xs : List ℕ) (at : ℕ) where
-    same : shown report (c .at) (keep (left c s) ∷ []) ≡ shown report (c .at) (keep (take (c .end - c .at) (drop (c .at) s)) ∷ [])
-    same = ap (λ (l : List ℕ). shown report (c .at) (keep l ∷ [])) left-whole
-
-    pub whole-fits : Fits wet (shown report (c .at) (keep (left c s) ∷ [])) at xs → Fits wet (shown report (c .at) (keep (take (c .end - c .at) (drop (c .at) s)) ∷ [])) at xs
-    whole-fits f = fits-same same wet xs at f
-
-    pub whole-done : (ys : List ℕ) (n : ℕ) → Emits wet (shown report (c .at) (keep (take (c .end - c .at) (drop (c .at) s)) ∷ [])) xs at ys n → Emits wet (shown report (c .at) (keep (left c s) ∷ [])) xs at ys n
-    whole-done ys n e = emits-same same wet xs at ys n e
-
-pub ruleset whole-laws = (whole-inside, whole-order, whole-fits, whole-done)
 
 -- ---- what a chunk shows
 

@@ -3,4 +3,3 @@
 -- The laws of openings.
 pub mod CountLaws
 pub mod LeafLaws
-pub mod OpenLaws

@@ -12,7 +12,7 @@ use Rattle.wire.specs.Bytes.{bytes, AllBytes}
 use Rattle.wire.proofs.Words.{drop-bytes}
 use Rattle.wire.specs.Test.{if}
 use Rattle.layout.specs.Chunks.{done, stop, chunk}
-use Rattle.layout.specs.Out.{Out, got, bad, _>>=_}
+use Rattle.layout.specs.Out.{Out, got, bad}
 use Rattle.layout.specs.Parts.{Step, words, wordsOf, row, number}
 use Rattle.layout.specs.Rows.{sizeFits, mostBytes}
 use Rattle.layout.proofs.ChunkLaws.{ended-fine}

@@ -7,3 +7,4 @@ pub mod NodeShows
 pub mod FileShows
 pub mod Scopes
 pub mod HeadLaws
+pub mod OpenLaws

@@ -7,7 +7,7 @@ use mathlib.Core.List.{List, [], _∷_, _++_}
 use lib.ListN.{length, drop, length-append, length-drop}
 use Rattle.wire.specs.Test.{if}
 use Rattle.layout.specs.Chunks.{done, stop, chunk}
-use Rattle.layout.specs.Out.{Out, got, _>>=_}
+use Rattle.layout.specs.Out.{Out, got}
 use Rattle.layout.specs.Parts.{Step, words, wordsOf}
 use Rattle.layout.proofs.StepLaws.{words-enough}
 use Rattle.layout.proofs.Outs.{by-got, bad-got, got-inj}

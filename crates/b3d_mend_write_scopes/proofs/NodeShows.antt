@@ -8,7 +8,7 @@ use native.Mathlib.Omega.{arith}
 use lib.ListN.{length, length-append}
 use Rattle.wire.specs.Test.{if}
 use Rattle.layout.specs.Chunks.{done, stop, chunk}
-use Rattle.layout.specs.Out.{Out, got, _>>=_}
+use Rattle.layout.specs.Out.{Out, got}
 use Rattle.layout.specs.Parts.{Name, Step, text, words, named}
 use Rattle.layout.specs.Rules.{Rule}
 use Rattle.layout.specs.Write.{writeWords, writeText}

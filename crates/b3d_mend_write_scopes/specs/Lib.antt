@@ -4,3 +4,4 @@
 pub mod Shown
 pub mod Heads
 pub mod HeadRooms
+pub mod Opens

@@ -41,7 +41,8 @@ nextScope c BB3D n = c
 nextScope c TEXS n = record { textures = n; brushes = c .brushes; top = c .top; root = c .root; bones = c .bones; own = c .own; told = c .told }
 nextScope c BRUS n = record { textures = c .textures; brushes = n; top = c .top; root = c .root; bones = c .bones; own = c .own; told = c .told }
 nextScope c NODE n = c
-nextScope c MESH n = record { textures = c .textures; brushes = c .brushes; top = c .top; root = c .root; bones = c .bones; own = n; told = if (c .root) n (c .told) }
+nextScope c MESH n =
+    record { textures = c .textures; brushes = c .brushes; top = c .top; root = c .root; bones = c .bones; own = n; told = if (c .root) n (c .told) }
 nextScope c VRTS n = record { textures = c .textures; brushes = c .brushes; top = c .top; root = c .root; bones = c .bones; own = n; told = c .told }
 nextScope c TRIS n = c
 nextScope c BONE n = c
@@ -109,10 +110,12 @@ walkLeaf report c ANIM p b = walked (shown report (p + 8) (keep b ∷ [])) 0
 
 -- a NODE by its text and words, then the chunks inside
 unfoldable pub walkNode : Bool → (Scope → Tag → ℕ → List ℕ → Walked) → Scope → ℕ → List ℕ → Out (Step (Name × List ℕ)) → List ℕ
-walkNode report one c p b (got h) = shown report p (keep (writeText (h .value .0 .bytes) (writeWords (h .value .1) [])) ∷ []) ++ walkInside report one (nodeScope c) (h .place) (h .left) .bytes
+walkNode report one c p b (got h) =
+    shown report p (keep (writeText (h .value .0 .bytes) (writeWords (h .value .1) [])) ∷ [])
+    ++ walkInside report one (nodeScope c) (h .place) (h .left) .bytes
 walkNode report one c p b (bad n q) = shown report p (keep b ∷ [])
 
--- a chunk with its header at p, with so many levels left
+-- a chunk with its header at p, with the levels of chunks that are left
 unfoldable pub walkChunk : Bool → ℕ → Scope → Tag → ℕ → List ℕ → Walked
 walkChunk report zero c t p b = walkLeaf report c t p b
 walkChunk report (suc l) c NODE p b = walked (walkNode report (walkChunk report l) c (p + 8) b (named nodeRow (p + 8) b)) 0
@@ -148,4 +151,5 @@ walkBody report s = walkInside report (walkChunk report walkLevels) fileScope 12
 -- the letters, the length, the version, the chunks; `size` is that of the mended file's chunks
 unfoldable pub walkFile : Bool → ℕ → List ℕ → List ℕ
 walkFile report size s =
-    shown report 0 (keep (bytes (code BB3D) []) ∷ fileLength (numberOf 1 s) (length (drop 8 s)) (4 + size) ∷ keep (bytes (numberOf 2 s) []) ∷ []) ++ walkBody report s
+    shown report 0 (keep (bytes (code BB3D) []) ∷ fileLength (numberOf 1 s) (length (drop 8 s)) (4 + size) ∷ keep (bytes (numberOf 2 s) []) ∷ [])
+    ++ walkBody report s

@@ -16,10 +16,10 @@ use Rattle.b3d_mend_write_scopes.proofs.body_at.Reads as body-at-reads
 use Rattle.b3d_mend_write_scopes.proofs.mesh_scope.Reads as mesh-scope-reads
 use Rattle.b3d_mend_write_scopes.proofs.next_scope.Reads as next-scope-reads
 use Rattle.b3d_mend_write_scopes.proofs.node_scope.Reads as node-scope-reads
-use Rattle.b3d_mend_write_leaves.proofs.find_chunks.Reads as find-chunks-reads
+use Rattle.b3d_mend_write_scopes.proofs.find_chunks.Reads as find-chunks-reads
 use Rattle.b3d_mend_write_scopes.proofs.put_head.Reads as put-head-reads
 use Rattle.b3d_mend_write_items.proofs.put_id.Reads as put-id-reads
-use Rattle.b3d_mend_write_chunks.proofs.put_rest.Reads as put-rest-reads
+use Rattle.b3d_mend_write_edits.proofs.put_rest.Reads as put-rest-reads
 use Rattle.b3d_mend_write_leaves.proofs.walk_leaf.Reads as walk-leaf-reads
 use Rattle.wire.proofs.Cursor.header.Reads as header-reads
 use Rattle.b3d_mend_write_chunks.proofs.+walk_body+walk_chunk+walk_inside.{statement}

@@ -1,8 +1,7 @@
 -- `put_items` puts or counts items to the end. The loop has put those before a place; its measure is what is left.
 use Prim.Native.Nat.{_-_}
-use Rattle.wire.specs.Cursors.{left}
 use Rattle.wire.proofs.Left.{span}
-use Rattle.b3d_mend_write_items.proofs.ItemPuts.{Items, items-laws, items-inside, items-whole, items-fits}
+use Rattle.b3d_mend_write_items.proofs.ItemPuts.{Items, items-laws, out-fits, out-next}
 use borrow.Author.Needs.{needs}
 use Rattle.b3d_mend_write_items.proofs.put_items.Statement.{statement}
 use Rattle.b3d_mend_write_items.proofs.put_items.Tie as tie
@@ -14,7 +13,6 @@ abbrev μ-loop : tie.MeasureT-loop
 μ-loop file words ids limit report wet out₀ start end size p₀ at₀ out p at = end - p
 
 pub put-items-spec : {M : Type 1} → statement M
-unfolding left
 put-items-spec =
     tie.close
     (tie.spec
@@ -22,15 +20,18 @@ put-items-spec =
     μ-loop
     (λ c. search (items-laws, needs))
     (λ c. search (items-laws, needs))
-    (λ c. search (items-laws, needs))
-    (λ c. search (items-laws, needs))
-    (λ c. search (items-laws, needs))
-    (λ c κs.
-    let pre = c .before .before .before .before .before .before .pre in
-    let inv = c .before .before .before .loop .inv in
-    (search (items-inside, items-whole, needs), (search needs, items-fits _ _ _ _ _ _ _ _ _ _ _ _ inv (search needs) (search needs) (search needs) (search needs) (search needs))))
+    (λ c κs. search (items-laws, needs))
+    (λ c κs. search (items-laws, needs))
     (λ c. search (items-laws, needs))
     (λ c. search (items-laws, needs))
     (λ c. search (items-laws, needs))
     (λ c. search (items-laws, needs))
-    (λ c. search (items-laws, needs)))
+    (λ c κs. (search (items-laws, needs), search (out-fits, needs)))
+    (λ c. search (items-laws, needs))
+    (λ c. search (items-laws, needs))
+    (λ c.
+    let taken = c .before .before in
+    let put = taken .before .before .before .before .before in
+    let kept = put .before .before in
+    let start = kept .before .before .before .before in
+    out-next _ _ _ _ _ _ _ _ _ _ _ _ (kept .before .loop .inv) _ (kept .kept-bytes .ensures) _ _ (put .put-kept .ensures) (search needs) (search needs) (search needs) (start .pre .1 .0 .1) _ _ (taken .put-taken .ensures)))
