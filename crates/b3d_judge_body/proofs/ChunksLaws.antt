@@ -28,7 +28,8 @@ use Rattle.b3d_judge_file.specs.declared.Phase.{Phase}
 use Rattle.b3d_judge_file.specs.declared.Phase.the-variants as phase
 use Rattle.b3d_judge_body.specs.declared.Verdict.{Verdict}
 use Rattle.b3d_judge_body.specs.declared.Verdict.the-variants as verdict
-use Rattle.b3d_judge_file.proofs.Answered.{tallied-bad, GaveFound, tallied-good, phases-at, texs-count, rested-bad, rested-good}
+use Rattle.b3d_judge_lists.proofs.TallyCounts.{texs-count}
+use Rattle.b3d_judge_file.proofs.Answered.{tallied-bad, GaveFound, tallied-good, phases-at, rested-bad, rested-good}
 
 -- ---- the ways of `file_rows`
 

@@ -35,22 +35,6 @@ tallied-good f (bad n p) t rest h = let z : _≡_ {A = ℕ} 0 1 = cc in absurd (
 pub phases-at : {A : Type 0} (f : A → Tally) (o : Out (Found A)) (rest : Cursor → Chunks) (from : Cursor) (k : Phase) → Phases f o rest from k → {x : Phase} → k ≡ x → phased rest x ≡ tallied f o
 phases-at f o rest from k h z = subst (λ (x : Phase). phased rest x ≡ tallied f o) z (h .is)
 
-pub texs-count : (l : List Texture) → (texsTally l) .textures ≡ length l
-unfolding texsTally texsOf noTally
-texs-count l = go (length l)
-  where
-    go : (n : ℕ) → (texsOf n) .textures ≡ n
-    go zero = refl
-    go (suc n) = refl
-
-pub brus-count : (slots : ℕ) (l : List Brush) → (brusTally slots l) .brushes ≡ length l
-unfolding brusTally brusOf noTally
-brus-count slots l = go (length l)
-  where
-    go : (n : ℕ) → (brusOf slots n) .brushes ≡ n
-    go zero = refl
-    go (suc n) = refl
-
 pub brushes-at : (o : Out (Found (ℕ × List Brush))) (rest : Cursor → Chunks) (from : Cursor) (k : Brushed) → Brushes o rest from k → {x : Brushed} → k ≡ x → brushedBy rest x ≡ brushes o
 brushes-at o rest from k h z = subst (λ (x : Brushed). brushedBy rest x ≡ brushes o) z (h .is)
 

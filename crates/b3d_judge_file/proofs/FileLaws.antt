@@ -17,7 +17,7 @@ use Rattle.b3d_scene.specs.declared.Mode.{Mode}
 use Rattle.b3d_scene.specs.declared.Tag.{Tag}
 use Rattle.b3d_scene.specs.declared.Tag.the-variants.{BB3D, TEXS, BRUS, NODE}
 use Rattle.b3d_scene.specs.Tags.{is}
-use Rattle.b3d_scene.specs.Scene.{Brush, leaf, node}
+use Rattle.b3d_scene.specs.Scene.{Brush, Forest, leaf, node}
 use Rattle.b3d_scene.specs.Nesting.{nesting, Reached, start, next as nextTurn, reachedAt}
 use Rattle.b3d_scene.specs.Parse.{Inner, readOne, readTextures, readBrushes, readNode, readRoot, slotsOf}
 use Rattle.b3d_scene.proofs.Tag.{the-type}
@@ -161,7 +161,7 @@ unfolding forestTally
 none-root = refl
 
 -- one root, and nothing beside it
-root-judges : (o : Out Inner) (from to : ℕ) (j : Judged) → Judges innerTally o from to j → Judges forestTally (o >>= λ y. got (node (y .self) (y .below) leaf)) from to j
+pub root-judges : (o : Out Inner) (from to : ℕ) (j : Judged) → Judges innerTally o from to j → Judges forestTally (o >>= λ y. got (node (y .self) (y .below) leaf)) from to j
 unfolding forestTally innerTally
 root-judges (bad n p) from to j h = record { is = h .is; within = h .within }
 root-judges (got i) from to j h = record { is = h .is ∙ ap judge.Good (sym (plus-none (plus (dataTally (i .self)) (forestTally (i .below))))); within = h .within }
@@ -172,32 +172,42 @@ unfolding nextTurn if
 root-turn y t =
     by-tag (λ t. nextTurn (nesting BB3D) (nesting BB3D) (reachedAt 2 true) t ≡ some y → t ≡ NODE) (never, never, never, (λ h. refl), never, never, never, never, never, never) t
 
-module _ (mode : Mode) (s : List ℕ) (from : Cursor) (g : Among 0 from (length s)) (r : Enclosed) (x : EnclosedIs s BB3D 0 (record { turn = 2; spent = true }) from r) (count : ℕ) where
-  abbrev Root : Phase → Type 0
-  Root y = Phases forestTally (readOne NODE leaf (readRoot mode count) (restIn s BB3D 0 (reachedAt 2 true) from)) (restIn s BB3D 0 (reachedAt 3 true)) from y
+-- a root that is read in any way
+module _ (root : ℕ → List ℕ → Out Forest) (s : List ℕ) (from : Cursor) (g : Among 0 from (length s)) (r : Enclosed) (x : EnclosedIs s BB3D 0 (record { turn = 2; spent = true }) from r) where
+  abbrev pub Root : Phase → Type 0
+  Root y = Phases forestTally (readOne NODE leaf root (restIn s BB3D 0 (reachedAt 2 true) from)) (restIn s BB3D 0 (reachedAt 3 true)) from y
 
   pub root-end : r ≡ enclosed.End → (m : Tally) → m ≡ noTally → Root (phase.To m from)
-  root-end = phase-end s from g (record { turn = 2; spent = true }) r x NODE leaf (readRoot mode count) (reachedAt 3 true) forestTally none-root
+  root-end = phase-end s from g (record { turn = 2; spent = true }) r x NODE leaf root (reachedAt 3 true) forestTally none-root
 
   pub root-stop : (e p : ℕ) → r ≡ enclosed.Not e p → Root (phase.Not e p)
-  root-stop = phase-stop s from g (record { turn = 2; spent = true }) r x NODE leaf (readRoot mode count) (reachedAt 3 true) forestTally none-root
+  root-stop = phase-stop s from g (record { turn = 2; spent = true }) r x NODE leaf root (reachedAt 3 true) forestTally none-root
 
-  module _ (t : Tag) (p : ℕ) (b n : Cursor) (v : State) (w : r ≡ enclosed.Chunk t p b n v) (j : Judged) (hj : Judges innerTally (readNode mode 16 count none p (left b s)) p (b .end) j) where
-    root-read : readOne NODE leaf (readRoot mode count) (restIn s BB3D 0 (reachedAt 2 true) from) ≡ (readRoot mode count p (left b s) >>= λ y. got (record { value = y; rest = restIn s BB3D 0 (reachedAt 3 true) n }))
+  module _ (t : Tag) (p : ℕ) (b n : Cursor) (v : State) (w : r ≡ enclosed.Chunk t p b n v) (j : Judged) (hj : Judges forestTally (root p (left b s)) p (b .end) j) where
+    root-read : readOne NODE leaf root (restIn s BB3D 0 (reachedAt 2 true) from) ≡ (root p (left b s) >>= λ y. got (record { value = y; rest = restIn s BB3D 0 (reachedAt 3 true) n }))
     unfolding nextTurn if
     root-read =
-        one-read s from (next.Chunk t p b n) (found s from g (record { turn = 2; spent = true }) r x t p b n v w) NODE leaf (readRoot mode count) (reachedAt 2 true) (reachedAt 3 true) t p b n refl
+        one-read s from (next.Chunk t p b n) (found s from g (record { turn = 2; spent = true }) r x t p b n v w) NODE leaf root (reachedAt 2 true) (reachedAt 3 true) t p b n refl
         (root-turn (reachedOf v) t (step-turn s BB3D 0 (record { turn = 2; spent = true }) from r x t p b n v w)) refl tt
 
-    root-is : Judges forestTally (readRoot mode count p (left b s)) p (b .end) j
-    unfolding readRoot
-    root-is = root-judges (readNode mode 16 count none p (left b s)) p (b .end) j hj
+    pub any-root-bad : (i q : ℕ) → j ≡ judge.Bad i q → Root (phase.Not i q)
+    any-root-bad = phase-bad s from g (record { turn = 2; spent = true }) r x NODE leaf root (reachedAt 3 true) forestTally none-root t p b n v w root-read j hj
 
-    pub root-bad : (i q : ℕ) → j ≡ judge.Bad i q → Root (phase.Not i q)
-    root-bad = phase-bad s from g (record { turn = 2; spent = true }) r x NODE leaf (readRoot mode count) (reachedAt 3 true) forestTally none-root t p b n v w root-read j root-is
+    pub any-root-good : (m : Tally) → j ≡ judge.Good m → Root (phase.To m n)
+    any-root-good = phase-good s from g (record { turn = 2; spent = true }) r x NODE leaf root (reachedAt 3 true) forestTally none-root t p b n v w root-read j hj
 
-    pub root-good : (m : Tally) → j ≡ judge.Good m → Root (phase.To m n)
-    root-good = phase-good s from g (record { turn = 2; spent = true }) r x NODE leaf (readRoot mode count) (reachedAt 3 true) forestTally none-root t p b n v w root-read j root-is
+-- the reader's
+module _ (mode : Mode) (s : List ℕ) (from : Cursor) (g : Among 0 from (length s)) (r : Enclosed) (x : EnclosedIs s BB3D 0 (record { turn = 2; spent = true }) from r) (count : ℕ)
+    (t : Tag) (p : ℕ) (b n : Cursor) (v : State) (w : r ≡ enclosed.Chunk t p b n v) (j : Judged) (hj : Judges innerTally (readNode mode 16 count none p (left b s)) p (b .end) j) where
+  root-is : Judges forestTally (readRoot mode count p (left b s)) p (b .end) j
+  unfolding readRoot
+  root-is = root-judges (readNode mode 16 count none p (left b s)) p (b .end) j hj
+
+  pub root-bad : (i q : ℕ) → j ≡ judge.Bad i q → Root (readRoot mode count) s from g r x (phase.Not i q)
+  root-bad = any-root-bad (readRoot mode count) s from g r x t p b n v w j root-is
+
+  pub root-good : (m : Tally) → j ≡ judge.Good m → Root (readRoot mode count) s from g r x (phase.To m n)
+  root-good = any-root-good (readRoot mode count) s from g r x t p b n v w j root-is
 
 pub ruleset root-laws = (among-inside, among-head, file-body, root-end, root-stop, root-bad, root-good)
 

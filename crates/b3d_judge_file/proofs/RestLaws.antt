@@ -39,7 +39,8 @@ use Rattle.b3d_judge_file.specs.declared.Phase.the-variants as phase
 use Rattle.b3d_judge_file.specs.declared.Brushed.{Brushed}
 use Rattle.b3d_judge_file.specs.declared.Brushed.the-variants as brushed
 use Rattle.b3d_tally.proofs.Answered.{GaveBeside, beside-bad, beside-good, judged-bad, judged-good}
-use Rattle.b3d_judge_file.proofs.Answered.{tallied-bad, GaveFound, tallied-good, phases-at, brus-count, brushes-at}
+use Rattle.b3d_judge_lists.proofs.TallyCounts.{brus-count}
+use Rattle.b3d_judge_file.proofs.Answered.{tallied-bad, GaveFound, tallied-good, phases-at, brushes-at}
 use Rattle.b3d_enclosed.proofs.Rests.{rest-stop, rest-end}
 use Rattle.b3d_inside.proofs.TagTests.{never}
 

@@ -1,3 +1,4 @@
 -- The laws of the judges of TEXS and BRUS.
 pub mod Textures
 pub mod Slots
+pub mod TallyCounts

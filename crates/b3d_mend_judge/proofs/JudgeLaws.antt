@@ -31,10 +31,10 @@ use Rattle.b3d_limits.proofs.Limits.{over-none, over-some}
 use Rattle.b3d_mend.specs.Edits.{keep, after, fileLength}
 use Rattle.b3d_mend.specs.Mend.{Mended, mendBody, mendFile}
 use Rattle.b3d_mend.specs.Report.{mendJudged}
-use Rattle.b3d_mend_reads.specs.Lax.{laxBody}
-use Rattle.b3d_mend_counts.proofs.Alike.{Alike}
-use Rattle.b3d_mend_counts.proofs.LaxFile.{SameScene, body-alike}
-use Rattle.b3d_mend_counts.proofs.Counts.{counts-are}
+use Rattle.b3d_mend_judge_items.specs.Lax.{laxBody}
+use Rattle.b3d_mend_judge_items.proofs.Alike.{Alike}
+use Rattle.b3d_mend_judge_items.proofs.LaxFile.{SameScene, body-alike}
+use Rattle.b3d_mend_judge_items.proofs.Counts.{counts-are}
 use Rattle.b3d_mend_judge.specs.Answers.{mendedVerdict, Placed}
 
 -- the answer of the walk is that of the mending read

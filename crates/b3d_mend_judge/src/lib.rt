@@ -1,12 +1,65 @@
 // The judge of the mender: one walk over a file, which answers the first fault of a kind that is not mended, or version, n_texs and the row counts of
 // the mended file. Nothing is written.
+ghost use Prim.Native.Nat.{_≤_};
 ghost use mathlib.Core.Path.{_≡_};
+ghost use lib.ListN.{length, drop};
+ghost use Rattle.b3d_scene.specs.declared.Tag.the-variants.{BB3D};
+ghost use Rattle.b3d_scene.specs.Nesting.{start};
+ghost use Rattle.b3d_inside.specs.Places.{restIn, Among};
+ghost use Rattle.b3d_judge_body.specs.Bodies.{Walks};
+ghost use Rattle.layout.specs.Rows.{mostBytes};
+ghost use Rattle.b3d_mend_judge_items.specs.Lax.{laxBody};
+ghost use Rattle.b3d_mend_judge.specs.Bodies.{laxChunks};
 ghost use Rattle.b3d_mend.specs.Report.{mendJudged};
 ghost use Rattle.b3d_mend_judge.specs.Answers.{mendedVerdict, Placed};
+use b3d_judge_body::Summary;
 use b3d_judge_body::Verdict;
+use b3d_judge_file::Phase;
+use b3d_judge_lists::Slotted;
 use b3d_scene::letters;
+use wire::Cursor;
+use wire::Number;
 
-// What a file says as it is mended; BB3D ends where the file does, whatever its length says.
+// Judges TEXS, BRUS and NODE, from the first chunk of a file on.
+fn lax_chunks(s: &[u8], version: u32, from: Cursor) -> Verdict
+    requires { ⌜ Among 0 from (length (now s)) × (from .at ≡ 12) ⌝ }
+    ensures { λ r. ⌜ Walks (laxChunks version (restIn (now (s .entry)) BB3D 0 start from)) (from .end) r ⌝ }
+{
+    match b3d_judge_file::judge_texs(s, from) {
+        Phase::Not(e, p) => Verdict::Bad(e, p),
+        Phase::To(t, c) => match b3d_mend_judge_file::lax_rest(s, c) {
+            Slotted::Not(e, p) => Verdict::Bad(e, p),
+            Slotted::Is(slots, r) => Verdict::Good(Summary {
+                version,
+                n_texs: slots,
+                tally: b3d_judge_body::file_rows(t, r),
+            }),
+        },
+    }
+}
+
+// Judges all that follows the header of a file: its version, then its chunks without spare bytes.
+pub fn lax_body(s: &[u8]) -> Verdict
+    requires { ⌜ (8 ≤ length (now s)) × (length (now s) ≤ mostBytes) ⌝ }
+    ensures { λ r. ⌜ Walks (laxBody 8 (drop 8 (now (s .entry)))) (length (now (s .entry))) r ⌝ }
+{
+    let behind = Cursor {
+        at: 8,
+        end: s.len(),
+    };
+    match behind.number(s) {
+        Number::Cut => Verdict::Bad(5, 8),
+        Number::Is(version, c) => {
+            if 99 < version {
+                return Verdict::Bad(6, 8);
+            }
+            let d = b3d_mend_judge_items::trimmed(s, c);
+            lax_chunks(s, version, d)
+        }
+    }
+}
+
+// Returns what a file says as it is mended, or the first fault that is not mended. BB3D ends where the file does, whatever its length says.
 pub fn judge_mended(file: &[u8]) -> Verdict
     ensures { λ r. ⌜ r ≡ mendedVerdict (mendJudged (now (file .entry))) ⌝ }
     ensures { λ r. ⌜ Placed r ⌝ }
@@ -22,7 +75,7 @@ pub fn judge_mended(file: &[u8]) -> Verdict
         return Verdict::Bad(2, 0);
     }
     b3d_judge::are_bytes(file);
-    match b3d_mend_body::lax_body(file) {
+    match lax_body(file) {
         Verdict::Bad(e, p) => Verdict::Bad(e, p),
         Verdict::Good(x) => {
             let over = b3d_limits::over_limit(x.tally);

@@ -1,2 +1,2 @@
--- Files that can be mended.
-pub mod Mendable
+-- An accepted file.
+pub mod Accepted

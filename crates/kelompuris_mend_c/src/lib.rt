@@ -4,7 +4,7 @@ ghost use mathlib.Core.Path.{_≡_};
 ghost use Rattle.b3d_mend.specs.Answers.{mendAnswer, mendOutput, mendReport};
 use b3d_mend::WrittenBoth;
 
-// Writes the mended file and the report of what was mended.
+// Writes the mended file into `out` and the report of what was mended into `report`; the answer and both outputs are those of `b3d_mender::mend`.
 #[no_mangle]
 pub extern "C" fn kelompuris_b3d_mend(file: &[u8], out: &mut [u8], report: &mut [u8]) -> WrittenBoth
     ensures { λ r. ⌜ r ≡ mendAnswer (now (file .entry)) (now (out .entry)) (now (report .entry)) ⌝ }

@@ -10,6 +10,7 @@
 
 mod cal3d;
 mod compare;
+mod mend;
 mod pieces;
 
 use kelompuris::{slices, Mode};
@@ -36,6 +37,9 @@ const TIME: Duration = Duration::from_millis(150);
 const LEAST_RUNS: usize = 11;
 
 fn main() {
+    if std::env::args().nth(1).as_deref() == Some("mend") {
+        return mend::lines();
+    }
     println!(
         "{:<10} {:>6} {:>9} | {:>7} {:>7} {:>7} {:>7} {:>8} {:>7} | {:>10} {:>9}",
         "table",
@@ -59,6 +63,7 @@ fn main() {
     label_line();
     pieces::lines();
     compare::lines();
+    mend::lines();
     cal3d::lines();
 }
 

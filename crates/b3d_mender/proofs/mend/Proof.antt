@@ -1,5 +1,5 @@
--- `mend` judges the file, and writes where it can be mended.
-use Rattle.b3d_mender.proofs.MendLaws.{mend-laws}
+-- `mend` copies a file that the reader accepts, and mends any other.
+use Rattle.b3d_mender.proofs.MendLaws.{is-accepted}
 use borrow.Author.Needs.{needs}
 use Rattle.b3d_mender.proofs.mend.Statement.{statement}
 use Rattle.b3d_mender.proofs.mend.Tie as tie
@@ -10,11 +10,13 @@ mend-spec =
     (tie.spec
     (λ c κs. search needs)
     (λ c. search needs)
-    (λ c κs. search (mend-laws, needs))
+    (λ c κs. search needs)
+    (λ c κs. search (is-accepted, needs))
     (λ c. search needs)
     (λ c κs. search needs)
-    (λ c κs. search (mend-laws, needs))
-    (λ c. search (mend-laws, needs))
     (λ c. search needs)
     (λ c. search needs)
-    (λ c. search (mend-laws, needs)))
+    (λ c. search needs)
+    (λ c. search needs)
+    (λ c. search needs)
+    (λ c. search needs))

@@ -1,3 +1,0 @@
--- The laws of its ways.
-pub mod ChunksLaws
-pub mod BodyLaws

@@ -1,2 +1,0 @@
--- The chunks of a file.
-pub mod Bodies

@@ -1,2 +1,0 @@
--- The laws of one edit.
-pub mod Showing

@@ -1,2 +1,0 @@
--- Where a chunk's body goes.
-pub mod Heads

@@ -1,2 +1,0 @@
--- One item, counted.
-pub mod Ones

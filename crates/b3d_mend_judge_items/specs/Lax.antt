@@ -1,0 +1,108 @@
+-- The mending read as far as rows are counted: it goes as `parse` does in the lenient mode, but ids are not looked at, except that a triangle or a
+-- weight with a bad vertex id is left out, and so are 1 to 7 spare bytes at the end of BB3D, NODE and MESH.
+use Prim.Native.Nat.{ℕ, zero, suc, _+_}
+use mathlib.Core.Option.{Option, none}
+use mathlib.Core.List.{List, [], _∷_}
+use lib.ListN.{length, replicate}
+use Rattle.wire.specs.Test.{if}
+use Rattle.layout.specs.Chunks.{done, stop, chunk, ended}
+use Rattle.layout.specs.Out.{Out, got, bad, _>>=_}
+use Rattle.layout.specs.Parts.{row, number, named, items}
+use Rattle.layout.specs.Rules.{Rule, any}
+use Rattle.b3d_scene.specs.Nesting.{start, order}
+use Rattle.b3d_scene.specs.Parse.{readOne, readTextures, readBrushes, noVertices, readVertices, Inner, readMoves, readBelow, slotsOf}
+use Rattle.b3d_scene.specs.Rules.{nodeRow, triangleRow, weightRow, boneVertices, levels, fileHead}
+use Rattle.b3d_scene.specs.Scene.{TriangleSet, Mesh, Kind, pivot, mesh, bone, still, Forest, leaf, node, Scene}
+use Rattle.b3d_scene.specs.Tags.{is, Chunks, Found}
+use Rattle.b3d_scene.specs.declared.Mode.the-variants.{Lenient}
+use Rattle.b3d_scene.specs.declared.Tag.{Tag}
+use Rattle.b3d_scene.specs.declared.Tag.the-variants.{BB3D, TEXS, BRUS, NODE, MESH, VRTS, BONE}
+use Rattle.b3d_mend.specs.Mend.{allHold}
+use Rattle.b3d_mend.specs.Pieces.{pieces, chunksOf}
+
+-- more things than an id can be: every id names one
+abbrev pub every : ℕ
+every = 4294967296
+
+-- ---- items
+
+-- the items whose words keep their rules
+unfoldable pub kept : List Rule → List (List ℕ) → List (List ℕ)
+kept rs [] = []
+kept rs (ws ∷ l) = if (allHold rs ws) (ws ∷ kept rs l) (kept rs l)
+
+unfoldable pub laxItems : List Rule → ℕ → List ℕ → Out (List (List ℕ))
+laxItems rs p s = do
+  l ← items (row (replicate (length rs) any)) p s
+  got (kept rs l)
+
+unfoldable pub laxTriangles : ℕ → ℕ → List ℕ → Out TriangleSet
+laxTriangles vertices p b = do
+  h ← row (any ∷ []) (p + 8) b
+  l ← laxItems (triangleRow vertices) (h .place) (h .left)
+  got (record { brush = number h 0; triangles = l })
+
+unfoldable pub laxBone : ℕ → ℕ → List ℕ → Out (List (List ℕ))
+laxBone vertices p b = laxItems (weightRow vertices) (p + 8) b
+
+-- ---- meshes
+
+-- the chunks inside a chunk of tag k whose header is at `head`, from place p on, without spare bytes
+unfoldable pub laxInside : Tag → ℕ → ℕ → List ℕ → Chunks
+laxInside k head p s = order k head start (chunksOf (pieces p s))
+
+-- TRIS chunks to the end
+unfoldable pub laxSets : ℕ → Chunks → Out (List TriangleSet)
+laxSets vertices done = got []
+laxSets vertices (stop n p) = bad n p
+laxSets vertices (chunk t p b r) = do
+  x ← laxTriangles vertices p b
+  l ← laxSets vertices r
+  got (x ∷ l)
+
+unfoldable pub laxMesh : ℕ → List ℕ → Out Mesh
+laxMesh p b = do
+  h ← row (any ∷ []) (p + 8) b
+  v ← readOne VRTS noVertices (readVertices Lenient) (laxInside MESH p (h .place) (h .left))
+  l ← laxSets (length (v .value .items)) (v .rest)
+  got (record { brush = number h 0; flags = v .value .flags; sets = v .value .sets; size = v .value .size; vertices = v .value .items; triangleSets = l })
+
+-- ---- nodes
+
+-- a MESH or a BONE, if it comes first
+unfoldable pub laxKind : ℕ → Chunks → Out (Found Kind)
+laxKind vertices done = got (record { value = pivot; rest = done })
+laxKind vertices (stop n p) = bad n p
+laxKind vertices (chunk t p b r) =
+    let m : Out (Found Kind) = laxMesh p b >>= λ x. got (record { value = mesh x; rest = r }) in
+    let w : Out (Found Kind) = laxBone vertices p b >>= λ x. got (record { value = bone x; rest = r }) in
+    let other = if (is t BONE) w (got (record { value = pivot; rest = chunk t p b r })) in
+    if (is t MESH) m other
+
+-- a NODE, with the levels of nodes that are left; `above`: what the nodes above say of bones
+unfoldable pub laxNode : ℕ → Option ℕ → ℕ → List ℕ → Out Inner
+laxNode zero above p b = bad 9 p
+laxNode (suc l) above p b = do
+  h ← named nodeRow (p + 8) b
+  k ← laxKind (boneVertices above) (laxInside NODE p (h .place) (h .left))
+  m ← readMoves still (k .rest)
+  readBelow (laxNode l) above
+      (record { name = h .value .0; words = h .value .1; kind = k .value; keys = m .value .keys; anim = m .value .anim })
+      (m .rest)
+
+unfoldable pub laxRoot : ℕ → List ℕ → Out Forest
+laxRoot p b = do
+  x ← laxNode levels none p b
+  got (node (x .self) (x .below) leaf)
+
+-- ---- the file
+
+-- a BB3D's body, at place p
+unfoldable pub laxBody : ℕ → List ℕ → Out Scene
+laxBody p b = do
+  h ← row fileHead p b
+  t ← readOne TEXS [] readTextures (laxInside BB3D 0 (h .place) (h .left))
+  u ← readOne BRUS (0, []) (readBrushes Lenient every) (t .rest)
+  n ← readOne NODE leaf laxRoot (u .rest)
+  ended (n .rest)
+      (record { version = number h 0; textures = t .value; slots = slotsOf (u .value .0) (u .value .1); brushes = u .value .1; nodes = n .value })

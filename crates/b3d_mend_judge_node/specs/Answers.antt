@@ -1,0 +1,53 @@
+-- A node as it is mended, without the nodes below it, and what is answered of it.
+use mathlib.Core.Path.{_≡_}
+use Prim.Native.Nat.{ℕ, _≤_, _+_, _-_}
+use mathlib.Core.Option.{Option}
+use mathlib.Core.List.{List}
+use Rattle.wire.specs.declared.Cursor.{Cursor}
+use Rattle.layout.specs.Out.{Out, got, _>>=_}
+use Rattle.layout.specs.Parts.{named}
+use Rattle.b3d_scene.specs.declared.Tag.the-variants.{NODE}
+use Rattle.b3d_scene.specs.Tags.{Chunks, Found}
+use Rattle.b3d_scene.specs.Scene.{Kind, still, Data}
+use Rattle.b3d_scene.specs.Rules.{nodeRow, boneVertices}
+use Rattle.b3d_scene.specs.Parse.{Moves, readMoves}
+use Rattle.b3d_tally.specs.Tally.{Within}
+use Rattle.b3d_tally.specs.declared.Tally.{Tally}
+use Rattle.b3d_judge_node.specs.Answers.{owned, ownedBy}
+use Rattle.b3d_judge_node.specs.declared.Owned.{Owned}
+use Rattle.b3d_judge_node.specs.declared.Owned.the-variants as own
+use Rattle.b3d_mend_judge_items.specs.Lax.{laxInside, laxKind}
+
+-- the chunks inside a NODE up to the nodes below it: its kind, its KEYS and ANIM, and the chunks that are left
+unfoldable pub laxParts : ℕ → Chunks → Out (Found (Kind × Moves))
+laxParts bones cs = do
+  k ← laxKind bones cs
+  m ← readMoves still (k .rest)
+  got (record { value = (k .value, m .value); rest = m .rest })
+
+-- a NODE without the nodes below it: its data, and the chunks that are left
+unfoldable pub laxOwn : Option ℕ → ℕ → List ℕ → Out (Found Data)
+laxOwn above p b = do
+  h ← named nodeRow (p + 8) b
+  k ← laxKind (boneVertices above) (laxInside NODE p (h .place) (h .left))
+  m ← readMoves still (k .rest)
+  got
+      (record {
+        value = record { name = h .value .0; words = h .value .1; kind = k .value; keys = m .value .keys; anim = m .value .anim };
+        rest = m .rest;
+      })
+
+-- a cursor behind a header at `at`, which ends no later than `end`, with a tally of no more bytes than lie between
+pub record Ahead (at end : ℕ) (c : Cursor) (t : Tally) : Type 0 where
+  pub head : at + 8 ≤ c .at
+  pub room : c .at ≤ c .end
+  pub before : c .end ≤ end
+  pub within : Within t (c .at - at)
+
+abbrev pub OwnedIn : ℕ → ℕ → Owned → Type 0
+OwnedIn at end (own.To a t c) = Ahead at end c t
+OwnedIn at end (own.Not n p) = p ≤ end
+
+pub record Owns (a : Option ℕ) (o : Out (Found Data)) (rest : Cursor → Chunks) (at end : ℕ) (r : Owned) : Type 0 where
+  pub is : ownedBy rest r ≡ owned a o
+  pub within : OwnedIn at end r

@@ -1,0 +1,80 @@
+// Judges a NODE as it is mended, with the nodes below it, a node and its list of children calling each other: at most 16 levels.
+ghost use mathlib.Core.Bool.{false};
+ghost use lib.ListN.{length};
+ghost use Rattle.wire.specs.Cursors.{left};
+ghost use Rattle.b3d_scene.specs.declared.Tag.the-variants.{NODE};
+ghost use Rattle.b3d_scene.specs.Parse.{readNodes};
+ghost use Rattle.b3d_tally.specs.Tally.{forestTally, innerTally};
+ghost use Rattle.b3d_scene.specs.Nesting.{reachedAt};
+ghost use Rattle.b3d_inside.specs.Places.{Body, restIn, Among};
+ghost use Rattle.b3d_tally.specs.Answers.{Judges};
+ghost use Rattle.b3d_judge_node.specs.Answers.{aboveOf};
+ghost use Rattle.b3d_mend_judge_items.specs.Lax.{laxNode};
+use b3d_enclosed::Enclosed;
+use b3d_judge_node::Above;
+use b3d_judge_node::Owned;
+use b3d_scene::Tag;
+use b3d_tally::Judged;
+use b3d_turns::Reached;
+use wire::Cursor;
+
+// How far the chunks of a node have come after its KEYS and ANIM.
+const MOVES_READ: Reached = Reached {
+    turn: 3,
+    spent: false,
+};
+
+// Judges a NODE whose header is at `at`, with the nodes below it; 9 where no level is left.
+pub fn lax_node(s: &[u8], at: usize, body: Cursor, levels: u32, above: Above) -> Judged
+    requires { ⌜ Body at body (length (now s)) ⌝ }
+    ensures { λ r. ⌜ Judges innerTally (laxNode levels (aboveOf above) at (left body (now (s .entry)))) at (body .end) r ⌝ }
+{
+    if levels == 0 {
+        return Judged::Bad(9, at);
+    }
+    match b3d_mend_judge_node::lax_own(s, at, body, above) {
+        Owned::Not(e, p) => Judged::Bad(e, p),
+        Owned::To(below, t, c) => match lax_nodes(s, at, c, levels - 1, below) {
+            Judged::Bad(e, p) => Judged::Bad(e, p),
+            Judged::Good(f) => Judged::Good(b3d_tally::plus(t, f)),
+        },
+    }
+}
+
+// Judges the nodes from `from` on inside a node whose header is at `at`, with `levels` levels left for each.
+fn lax_nodes(s: &[u8], at: usize, from: Cursor, levels: u32, above: Above) -> Judged
+    requires { ⌜ Among at from (length (now s)) ⌝ }
+    ensures { λ r. ⌜ Judges forestTally (readNodes (laxNode levels (aboveOf above)) (restIn (now (s .entry)) NODE at (reachedAt 3 false) from))
+        (from .at) (from .end) r ⌝ }
+{
+    let mut c = from;
+    let mut q = MOVES_READ;
+    let mut m = b3d_tally::none();
+    loop {
+        let found = b3d_chunks::next_chunk(s, c);
+        match b3d_enclosed::next_inside(s, c, found, Tag::NODE, at, q) {
+            Enclosed::End => {
+                return Judged::Good(m);
+            }
+            Enclosed::Not(e, p) => {
+                return Judged::Bad(e, p);
+            }
+            Enclosed::Chunk {
+                at: p,
+                body,
+                next,
+                reached,
+                ..
+            } => match lax_node(s, p, body, levels, above) {
+                Judged::Bad(e, i) => {
+                    return Judged::Bad(e, i);
+                }
+                Judged::Good(t) => {
+                    m = b3d_tally::plus(m, t);
+                    q = reached;
+                    c = next;
+                }
+            },
+        }
+    }
+}

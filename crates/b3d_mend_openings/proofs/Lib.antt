@@ -1,2 +1,0 @@
--- The laws of openings.
-pub mod OpenLaws

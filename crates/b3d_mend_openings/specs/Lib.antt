@@ -1,2 +1,0 @@
--- Where the chunks inside a chunk begin.
-pub mod Opens

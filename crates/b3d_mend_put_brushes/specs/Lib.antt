@@ -1,2 +1,0 @@
--- Brushes.
-pub mod Brushes

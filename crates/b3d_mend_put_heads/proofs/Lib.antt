@@ -1,2 +1,0 @@
--- The laws of headers.
-pub mod HeadLaws

@@ -1,2 +1,0 @@
--- Headers.
-pub mod Heads

@@ -1,2 +1,0 @@
--- Ids one after the other.
-pub mod Ids

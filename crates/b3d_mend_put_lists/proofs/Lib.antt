@@ -1,3 +1,0 @@
--- The laws of its loop.
-pub mod ListPuts
-pub mod BrusPuts

@@ -1,2 +1,0 @@
--- Brushes to the end.
-pub mod Lists

@@ -1,2 +1,0 @@
--- The mending read without what becomes of the bytes.
-pub mod Lax

@@ -1,2 +1,0 @@
--- The laws of its ways.
-pub mod BothAnswers

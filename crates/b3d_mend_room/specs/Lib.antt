@@ -1,2 +1,0 @@
--- Answers for bytes of two sizes.
-pub mod BothSizes

@@ -1,2 +1,0 @@
--- A cursor without spare bytes.
-pub mod Trimmed

@@ -1,2 +1,0 @@
--- What a walk answers.
-pub mod Answers

@@ -1,2 +1,0 @@
--- What a walk over a file shows of its mending.
-pub mod Walk

@@ -1,0 +1,4 @@
+-- The laws of its functions.
+pub mod BodyLaws
+pub mod ChunkLaws
+pub mod InsideLaws

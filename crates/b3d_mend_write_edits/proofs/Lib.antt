@@ -1,0 +1,4 @@
+-- The laws of one edit.
+pub mod Showing
+pub mod Slices
+pub mod RestLaws

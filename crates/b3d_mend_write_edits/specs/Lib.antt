@@ -1,0 +1,2 @@
+-- What is left where no chunk is.
+pub mod Rests

@@ -1,0 +1,2 @@
+-- Items that stay, one after the other.
+pub mod Runs

@@ -1,0 +1,15 @@
+-- `textures_in` counts what the definition counts.
+use Rattle.b3d_mend_write_leaves.proofs.CountLaws.{count-laws}
+use borrow.Author.Needs.{needs}
+use Rattle.b3d_mend_write_leaves.proofs.textures_in.Statement.{statement}
+use Rattle.b3d_mend_write_leaves.proofs.textures_in.Tie as tie
+
+pub textures-in-spec : {M : Type 1} → statement M
+textures-in-spec =
+    tie.close
+    (tie.spec
+    (λ c κs. search (count-laws, needs))
+    (λ c. search (count-laws, needs))
+    (λ c. search (count-laws, needs))
+    (λ c. search (count-laws, needs))
+    (λ c. search (count-laws, needs)))
