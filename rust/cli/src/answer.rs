@@ -1,6 +1,7 @@
 //! Answers in plain words, and why a command stops.
 
 use crate::columns::{cal3d, Table, TABLES};
+use crate::run::is_standard;
 use kelompuris::{Answer, Written};
 use std::fmt::Display;
 use std::os::unix::ffi::OsStrExt;
@@ -72,9 +73,12 @@ impl Stop {
     }
 }
 
-/// A line about a file.
+/// A line about a file, or about standard input.
 pub fn about(path: &Path, what: impl Display) -> String {
-    format!("{}: {what}", printable(path))
+    match is_standard(path) {
+        true => format!("standard input: {what}"),
+        false => format!("{}: {what}", printable(path)),
+    }
 }
 
 /// A path on one line: bytes that steer a screen and those of no text as \\xNN.

@@ -3,8 +3,9 @@
 use crate::answer::{accepted, refusal, Format, Stop, MESH, SKELETON};
 use crate::columns::cal3d::{CHILDREN, FIRST_CHILD, MESH_HEAD, PARENT, SKELETON_HEAD};
 use crate::columns::Table;
-use crate::commands::{add_line, add_numbers, check_each, put_tables, shown};
-use crate::scene::{load, name};
+use crate::commands::{check_each, put_tables, shown};
+use crate::run::Run;
+use crate::scene::name;
 use crate::text;
 use crate::words::Words;
 use kelompuris::cal3d::{judge_mesh, judge_skeleton, read_mesh, read_skeleton, Answer};
@@ -90,7 +91,7 @@ const MOST_BONES: u32 = 16_383;
 /// How many bones a mesh may name: the number behind `--bones`, or the bones of
 /// the accepted skeleton behind `--skeleton`; without either as many as a
 /// skeleton can have.
-pub fn bones(words: &Words) -> Result<u32, Stop> {
+pub fn bones(words: &Words, run: &mut Run) -> Result<u32, Stop> {
     match (words.value("--bones")?, words.value("--skeleton")?) {
         (None, None) => Ok(MOST_BONES),
         (Some(count), None) => {
@@ -99,7 +100,7 @@ pub fn bones(words: &Words) -> Result<u32, Stop> {
         }
         (None, Some(path)) => {
             let (kind, path) = (Kind::Skeleton, Path::new(path));
-            let told = kind.judge(&load(path)?);
+            let told = kind.judge(&run.load(path)?);
             match told.number {
                 0 => Ok(told.counts[0]),
                 number => Err(Stop::refused(kind.format(), path, number, told.place)),
@@ -110,8 +111,8 @@ pub fn bones(words: &Words) -> Result<u32, Stop> {
 }
 
 /// A line for each file: its answer in words.
-pub fn check(kind: Kind, paths: &[&Path], out: &mut Vec<u8>) -> Result<(), Stop> {
-    check_each(paths, out, |file| {
+pub fn check(kind: Kind, paths: &[&Path], run: &mut Run) -> Result<(), Stop> {
+    check_each(paths, run, |file| {
         let told = kind.judge(file);
         let words = match told.number {
             0 => accepted(kind.format(), told.head[0], None, &told.counts),
@@ -123,27 +124,27 @@ pub fn check(kind: Kind, paths: &[&Path], out: &mut Vec<u8>) -> Result<(), Stop>
 
 /// Number and place; if accepted the header's numbers, the row counts, and what
 /// the file holds.
-pub fn list(kind: Kind, path: &Path, out: &mut Vec<u8>) -> Result<(), Stop> {
-    let file = load(path)?;
+pub fn list(kind: Kind, path: &Path, run: &mut Run) -> Result<(), Stop> {
+    let file = run.load(path)?;
     let told = kind.judge(&file);
-    add_numbers(out, &[told.number, told.place]);
+    run.numbers(&[told.number, told.place]);
     let tables = kind.tables(path, &file, &told)?;
-    add_line(out, text::cells(kind.head(), &told.head, &[]).join(" "));
-    add_numbers(out, &told.counts);
+    run.line(text::cells(kind.head(), &told.head, &[]).join(" "));
+    run.numbers(&told.counts);
     match kind {
-        Kind::Skeleton => list_bones(&file, &tables, out),
-        Kind::Mesh { .. } => list_submeshes(&tables[0], out),
+        Kind::Skeleton => list_bones(&file, &tables, run),
+        Kind::Mesh { .. } => list_submeshes(&tables[0], run),
     }
     Ok(())
 }
 
 /// The tables of a file as a folder of texts.
-pub fn tables(kind: Kind, path: &Path, folder: &Path) -> Result<(), Stop> {
-    let file = load(path)?;
+pub fn tables(kind: Kind, path: &Path, folder: &Path, run: &mut Run) -> Result<(), Stop> {
+    let file = run.load(path)?;
     let told = kind.judge(&file);
     let tables = kind.tables(path, &file, &told)?;
     let each = kind.format().tables.iter().zip(&tables);
-    put_tables(folder, (kind.head(), &told.head), each, &file)
+    put_tables(folder, (kind.head(), &told.head), each, &file, run)
 }
 
 /// A bone more than so many levels below a root is listed at that level, with
@@ -158,7 +159,7 @@ fn without_zero(name: &[u8]) -> &[u8] {
 
 /// The bones as trees, a parent before its children, these in the order of its
 /// list, two spaces further in.
-fn list_bones(file: &[u8], tables: &[Vec<u32>], out: &mut Vec<u8>) {
+fn list_bones(file: &[u8], tables: &[Vec<u32>], run: &mut Run) {
     let bones: Vec<&[u32]> = tables[0].chunks(SKELETON.tables[0].words()).collect();
     let no_parent = |bone: &u32| bones[*bone as usize][PARENT] == u32::MAX;
     let mut left: Vec<(usize, u32)> = (0..bones.len() as u32)
@@ -173,7 +174,7 @@ fn list_bones(file: &[u8], tables: &[Vec<u32>], out: &mut Vec<u8>) {
             0..=DEEPEST => format!("{:1$}{name}", "", 2 * level),
             _ => format!("{:1$}{level}: {name}", "", 2 * DEEPEST),
         };
-        add_line(out, line);
+        run.line(line);
         let (first, count) = (bone[FIRST_CHILD] as usize, bone[CHILDREN] as usize);
         let list = &tables[1][first..first + count];
         left.extend(list.iter().rev().map(|&child| (level + 1, child)));
@@ -181,13 +182,13 @@ fn list_bones(file: &[u8], tables: &[Vec<u32>], out: &mut Vec<u8>) {
 }
 
 /// A line for each submesh: its numbers, each with its column's name.
-fn list_submeshes(rows: &[u32], out: &mut Vec<u8>) {
+fn list_submeshes(rows: &[u32], run: &mut Run) {
     let table = &MESH.tables[0];
     let header = table.header();
     for row in rows.chunks(table.words()) {
         let cells = text::cells(table, row, &[]);
         let named = header.split('\t').zip(cells).take(6);
         let parts: Vec<String> = named.map(|(name, cell)| format!("{name} {cell}")).collect();
-        add_line(out, parts.join(", "));
+        run.line(parts.join(", "));
     }
 }

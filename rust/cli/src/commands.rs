@@ -1,25 +1,25 @@
-//! The commands, those on scenes in a mode but for `clear`, `slip`, `label` and `stream`. What goes to standard output is added to `out`, by those
-//! that print; the others say nothing unless they stop.
+//! The commands, those on scenes in a mode but for `clear`, `slip`, `label` and `stream`. Those that print add lines to the run; the others say nothing unless
+//! they stop.
 
 use crate::answer::{about, in_words, Stop, SCENE};
 use crate::columns::{Table, HEAD, NODES, TABLES};
 use crate::json;
-use crate::output::{put_file, put_folder};
-use crate::scene::{self, load, name, Scene};
+use crate::run::{is_standard, Run, LARGEST};
+use crate::scene::{self, name, Scene};
 use crate::text;
 use kelompuris::pieces::Pieces;
 use kelompuris::{judge, read_slip, Answer, Mode};
-use std::fs::{self, File};
+use std::fs;
 use std::io::{self, ErrorKind, Read};
 use std::path::{Path, PathBuf};
 
 /// A line for each file: its answer in words, or in JSON. Of a folder each scene in
 /// it and below it is taken.
-pub fn check(mode: Mode, paths: &[&Path], json: bool, out: &mut Vec<u8>) -> Result<(), Stop> {
+pub fn check(mode: Mode, paths: &[&Path], json: bool, run: &mut Run) -> Result<(), Stop> {
     let mut files = Vec::new();
     for path in paths {
         let before = files.len();
-        match path.is_dir() {
+        match !is_standard(path) && path.is_dir() {
             true => scenes_below(path, &mut files).map_err(|error| Stop::failed(path, error))?,
             false => files.push(path.to_path_buf()),
         }
@@ -29,14 +29,14 @@ pub fn check(mode: Mode, paths: &[&Path], json: bool, out: &mut Vec<u8>) -> Resu
     }
     let files: Vec<&Path> = files.iter().map(PathBuf::as_path).collect();
     if !json {
-        return check_each(&files, out, |file| {
+        return check_each(&files, run, |file| {
             let answer = judge(mode, file);
             (answer.number, in_words(&answer))
         });
     }
     let (mut refused, mut failed) = (0, 0);
     for path in &files {
-        let line = match load(path) {
+        let line = match run.load(path) {
             Ok(file) => {
                 let answer = judge(mode, &file);
                 refused += usize::from(answer.number != 0);
@@ -47,7 +47,7 @@ pub fn check(mode: Mode, paths: &[&Path], json: bool, out: &mut Vec<u8>) -> Resu
                 json::failure(path, &why)
             }
         };
-        add_line(out, line);
+        run.line(line);
     }
     verdict(files.len(), refused, failed)
 }
@@ -73,12 +73,12 @@ fn scenes_below(folder: &Path, files: &mut Vec<PathBuf>) -> io::Result<()> {
 /// The same for files of any kind, whose judge gives number and words.
 pub fn check_each(
     paths: &[&Path],
-    out: &mut Vec<u8>,
+    run: &mut Run,
     judge: impl Fn(&[u8]) -> (u32, String),
 ) -> Result<(), Stop> {
     let (mut refused, mut failed) = (0, 0);
     for path in paths {
-        let line = match load(path) {
+        let line = match run.load(path) {
             Ok(file) => {
                 let (number, words) = judge(&file);
                 refused += usize::from(number != 0);
@@ -89,7 +89,7 @@ pub fn check_each(
                 line
             }
         };
-        add_line(out, line);
+        run.line(line);
     }
     verdict(paths.len(), refused, failed)
 }
@@ -104,15 +104,15 @@ fn verdict(of: usize, refused: usize, failed: usize) -> Result<(), Stop> {
 }
 
 /// Number and place; if accepted version and n_texs, ten counts, node names.
-pub fn list(mode: Mode, path: &Path, out: &mut Vec<u8>) -> Result<(), Stop> {
-    let file = load(path)?;
+pub fn list(mode: Mode, path: &Path, run: &mut Run) -> Result<(), Stop> {
+    let file = run.load(path)?;
     let answer = judge(mode, &file);
-    add_numbers(out, &[answer.number, answer.place]);
+    run.numbers(&[answer.number, answer.place]);
     let scene = accepted(mode, path, file, &answer)?;
-    add_numbers(out, &[answer.version, answer.n_texs]);
-    add_numbers(out, &answer.counts);
+    run.numbers(&[answer.version, answer.n_texs]);
+    run.numbers(&answer.counts);
     for node in scene.tables[NODES].chunks(TABLES[NODES].words()) {
-        add_line(out, shown(name(&scene.names, node)));
+        run.line(shown(name(&scene.names, node)));
     }
     Ok(())
 }
@@ -123,9 +123,9 @@ pub const LARGEST_PIECE: usize = 65_536;
 
 /// The same without names for a file that comes by an input, so many bytes at a
 /// time. It is never held; behind the largest file nothing is read.
-pub fn stream(most: usize, input: &mut impl Read, out: &mut Vec<u8>) -> Result<(), Stop> {
+pub fn stream(most: usize, input: &mut impl Read, run: &mut Run) -> Result<(), Stop> {
     let path = Path::new("standard input");
-    let mut input = input.take(scene::LARGEST + 1);
+    let mut input = input.take(LARGEST + 1);
     let mut bytes = vec![0; most];
     let mut pieces = Pieces::default();
     loop {
@@ -137,36 +137,36 @@ pub fn stream(most: usize, input: &mut impl Read, out: &mut Vec<u8>) -> Result<(
         }
     }
     let answer = pieces.close();
-    add_numbers(out, &[answer.number, answer.place]);
+    run.numbers(&[answer.number, answer.place]);
     if answer.number != 0 {
         return Err(Stop::refused(&SCENE, path, answer.number, answer.place));
     }
-    add_numbers(out, &[answer.version, answer.n_texs]);
-    add_numbers(out, &answer.counts);
+    run.numbers(&[answer.version, answer.n_texs]);
+    run.numbers(&answer.counts);
     Ok(())
 }
 
 /// Number and place; if found the root's name and the vertices of its mesh. No
 /// size limit holds here; what stands behind BB3D is not read.
-pub fn label(path: &Path, out: &mut Vec<u8>) -> Result<(), Stop> {
-    let file = first_chunk(path).map_err(|error| Stop::failed(path, error))?;
+pub fn label(path: &Path, run: &mut Run) -> Result<(), Stop> {
+    let file = first_chunk(run.open(path)?).map_err(|error| Stop::failed(path, error))?;
     let label = kelompuris::label(&file);
-    add_numbers(out, &[label.number, label.place]);
+    run.numbers(&[label.number, label.place]);
     if label.number != 0 {
         return Err(Stop::refused(&SCENE, path, label.number, label.place));
     }
-    add_line(out, shown(kelompuris::label_name(&file)));
-    add_line(out, label.vertices.to_string());
+    run.line(shown(kelompuris::label_name(&file)));
+    run.line(label.vertices.to_string());
     Ok(())
 }
 
 /// The answer in words, and of a refusal where it stands.
-pub fn explain(mode: Mode, path: &Path, out: &mut Vec<u8>) -> Result<(), Stop> {
-    let file = load(path)?;
+pub fn explain(mode: Mode, path: &Path, run: &mut Run) -> Result<(), Stop> {
+    let file = run.load(path)?;
     let answer = judge(mode, &file);
-    add_line(out, in_words(&answer));
+    run.line(in_words(&answer));
     for line in crate::explain::lines(&file, answer.number, answer.place) {
-        add_line(out, line);
+        run.line(line);
     }
     match answer.number {
         0 => Ok(()),
@@ -176,8 +176,7 @@ pub fn explain(mode: Mode, path: &Path, out: &mut Vec<u8>) -> Result<(), Stop> {
 
 /// The first chunk of a file as far as it is there; of a file that does not begin
 /// with BB3D its first eight bytes, which have no label either.
-fn first_chunk(path: &Path) -> io::Result<Vec<u8>> {
-    let mut file = File::open(path)?;
+fn first_chunk(mut file: impl Read) -> io::Result<Vec<u8>> {
     let mut bytes = Vec::new();
     file.by_ref().take(8).read_to_end(&mut bytes)?;
     if let [b'B', b'B', b'3', b'D', length @ ..] = &bytes[..] {
@@ -188,22 +187,22 @@ fn first_chunk(path: &Path) -> io::Result<Vec<u8>> {
 }
 
 /// The nodes of a file as a tree, its textures and its brushes.
-pub fn tree(mode: Mode, path: &Path, out: &mut Vec<u8>) -> Result<(), Stop> {
-    let file = load(path)?;
+pub fn tree(mode: Mode, path: &Path, run: &mut Run) -> Result<(), Stop> {
+    let file = run.load(path)?;
     let answer = judge(mode, &file);
     let scene = accepted(mode, path, file, &answer)?;
-    crate::tree::print(&scene, out);
+    crate::tree::print(&scene, run);
     Ok(())
 }
 
 /// The tables of a file as a folder of texts.
-pub fn tables(mode: Mode, path: &Path, folder: &Path) -> Result<(), Stop> {
-    let file = load(path)?;
+pub fn tables(mode: Mode, path: &Path, folder: &Path, run: &mut Run) -> Result<(), Stop> {
+    let file = run.load(path)?;
     let answer = judge(mode, &file);
     let scene = accepted(mode, path, file, &answer)?;
     let each = TABLES.iter().zip(&scene.tables);
     let head = [scene.version, scene.n_texs];
-    put_tables(folder, (&HEAD, &head), each, &scene.names)
+    put_tables(folder, (&HEAD, &head), each, &scene.names, run)
 }
 
 /// A head of one row and tables as a folder of texts.
@@ -212,20 +211,27 @@ pub fn put_tables<'a>(
     head: (&Table, &[u32]),
     tables: impl Iterator<Item = (&'a Table, &'a Vec<u32>)>,
     names: &[u8],
+    run: &mut Run,
 ) -> Result<(), Stop> {
     let as_text =
         |table: &Table, words: &[u32]| (table.file_name(), text::print(table, words, names));
     let mut files = vec![as_text(head.0, head.1)];
     files.extend(tables.map(|(table, words)| as_text(table, words)));
-    put_folder(folder, &files)
+    run.put_folder(folder, &files)
 }
 
 /// A file from such a folder.
-pub fn build(mode: Mode, folder: &Path, target: &Path, force: bool) -> Result<(), Stop> {
+pub fn build(
+    mode: Mode,
+    folder: &Path,
+    target: &Path,
+    force: bool,
+    run: &mut Run,
+) -> Result<(), Stop> {
     let mut names = Vec::new();
     let mut read = |table: &Table| {
         let path = folder.join(table.file_name());
-        let text = fs::read(&path).map_err(|error| Stop::failed(&path, error))?;
+        let text = run.load_text(&path)?;
         text::parse(table, &text, &mut names).map_err(|why| Stop::failed(&path, why))
     };
     let [version, n_texs] = read(&HEAD)?[..] else {
@@ -244,34 +250,34 @@ pub fn build(mode: Mode, folder: &Path, target: &Path, force: bool) -> Result<()
     };
     let bytes = scene.write(mode);
     let bytes = bytes.map_err(|written| Stop::not_written(folder, written))?;
-    put_file(target, &bytes, force)
+    run.put_file(target, &bytes, force)
 }
 
 /// The copy of a file without names.
-pub fn clear(path: &Path, target: &Path, force: bool) -> Result<(), Stop> {
-    let file = load(path)?;
+pub fn clear(path: &Path, target: &Path, force: bool, run: &mut Run) -> Result<(), Stop> {
+    let file = run.load(path)?;
     let bytes = scene::clear(&file);
     let bytes = bytes.map_err(|written| Stop::not_written(path, written))?;
-    put_file(target, &bytes, force)
+    run.put_file(target, &bytes, force)
 }
 
 /// The slip of a file.
-pub fn slip(path: &Path, target: &Path, force: bool) -> Result<(), Stop> {
-    let file = load(path)?;
+pub fn slip(path: &Path, target: &Path, force: bool, run: &mut Run) -> Result<(), Stop> {
+    let file = run.load(path)?;
     let bytes = scene::slip_of(&file);
     let bytes = bytes.map_err(|written| Stop::not_written(path, written))?;
-    put_file(target, &bytes, force)
+    run.put_file(target, &bytes, force)
 }
 
 /// Number and place of a slip; if accepted version and n_texs, ten counts.
-pub fn show_slip(path: &Path, out: &mut Vec<u8>) -> Result<(), Stop> {
-    let slip = read_slip(&load(path)?);
-    add_numbers(out, &[slip.number, slip.place]);
+pub fn show_slip(path: &Path, run: &mut Run) -> Result<(), Stop> {
+    let slip = read_slip(&run.load(path)?);
+    run.numbers(&[slip.number, slip.place]);
     if slip.number != 0 {
         return Err(Stop::refused(&SCENE, path, slip.number, slip.place));
     }
-    add_numbers(out, &slip.numbers[..2]);
-    add_numbers(out, &slip.numbers[2..]);
+    run.numbers(&slip.numbers[..2]);
+    run.numbers(&slip.numbers[2..]);
     Ok(())
 }
 
@@ -299,14 +305,4 @@ pub fn plain(name: &[u8]) -> String {
         _ => '?',
     };
     name.iter().map(plain).collect()
-}
-
-pub fn add_numbers(out: &mut Vec<u8>, numbers: &[u32]) {
-    let texts: Vec<String> = numbers.iter().map(u32::to_string).collect();
-    add_line(out, texts.join(" "));
-}
-
-pub fn add_line(out: &mut Vec<u8>, line: String) {
-    out.extend_from_slice(line.as_bytes());
-    out.push(b'\n');
 }

@@ -2,11 +2,11 @@
 
 use crate::answer::{about, refusal, Stop, SCENE, SHORT};
 use crate::columns::{Kind, HEAD, TABLES};
-use crate::commands::{add_line, plain};
+use crate::commands::plain;
 use crate::groups::Bytes;
 use crate::json;
-use crate::output::{keep, put_file};
-use crate::scene::{load, word};
+use crate::run::Run;
+use crate::scene::word;
 use kelompuris::Compared;
 use std::path::Path;
 
@@ -121,19 +121,17 @@ pub fn diff(
     raw: Option<&Path>,
     json: bool,
     force: bool,
-    out: &mut Vec<u8>,
+    run: &mut Run,
 ) -> Result<(), Stop> {
-    let [old, new] = [load(paths[0])?, load(paths[1])?];
+    let [old, new] = [run.load(paths[0])?, run.load(paths[1])?];
     let list = list(&old, &new).map_err(|answer| {
         let path = paths[usize::from(answer.which == 2)];
         let place = word(answer.place as usize);
         Stop::Failed(about(path, refusal(&SCENE, answer.number, place)))
     })?;
     if let Some(raw) = raw {
-        for path in paths {
-            keep(path, raw)?;
-        }
-        put_file(raw, &list, force)?;
+        run.keep_inputs(raw)?;
+        run.put_file(raw, &list, force)?;
     }
     let mut left = Bytes(&list);
     let (mut count, mut numbers) = (0, false);
@@ -141,13 +139,10 @@ pub fn diff(
         let difference = Difference::take(&mut left);
         count += 1;
         numbers = difference.table == 0;
-        add_line(
-            out,
-            match json {
-                true => difference.as_json(),
-                false => difference.in_words(),
-            },
-        );
+        run.line(match json {
+            true => difference.as_json(),
+            false => difference.in_words(),
+        });
     }
     let told = match (count, numbers) {
         (0, _) => return Ok(()),

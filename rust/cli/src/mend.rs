@@ -1,11 +1,10 @@
 //! A scene mended, and what was mended in a planner's words.
 
 use crate::answer::{about, refusal, Stop, SCENE, SHORT};
-use crate::commands::add_line;
 use crate::explain::brushes;
 use crate::groups::Bytes;
-use crate::output::{keep, put_files};
-use crate::scene::load;
+use crate::output::keep;
+use crate::run::Run;
 use kelompuris::Mended;
 use std::path::Path;
 
@@ -57,28 +56,28 @@ pub fn mend(
     target: &Path,
     report_target: Option<&Path>,
     force: bool,
-    out: &mut Vec<u8>,
+    run: &mut Run,
 ) -> Result<(), Stop> {
-    let file = load(path)?;
+    let file = run.load(path)?;
     let (mended, report) = mended(&file).map_err(|answer| {
         Stop::Failed(about(path, refusal(&SCENE, answer.number, answer.place)))
     })?;
-    let mut files = vec![(target, &mended[..])];
+    run.keep_inputs(target)?;
     if let Some(report_target) = report_target {
         keep(target, report_target)?;
-        files.push((report_target, &report));
+        run.keep_inputs(report_target)?;
     }
-    for (each, _) in &files {
-        keep(path, each)?;
+    run.put_file(target, &mended, force)?;
+    if let Some(report_target) = report_target {
+        run.put_file(report_target, &report, force)?;
     }
-    put_files(&files, force)?;
     let textures = brushes(&file);
     let mut count = 0;
     let mut left = Bytes(&report);
     while !left.0.is_empty() {
         let mend = Mend::take(&mut left);
         let texture = textures.contains(&(mend.place as usize));
-        add_line(out, mend.in_words(texture));
+        run.line(mend.in_words(texture));
         count += 1;
     }
     match count {

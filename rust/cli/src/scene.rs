@@ -1,14 +1,8 @@
 //! A scene: what the proved reader gives and the proved writer takes.
 
-use crate::answer::{Stop, SHORT};
+use crate::answer::SHORT;
 use crate::columns::TABLES;
 use kelompuris::{Answer, Mode, Written};
-use std::fs::File;
-use std::io::{self, Read};
-use std::path::Path;
-
-/// The largest file of the format.
-pub const LARGEST: u64 = 16_777_216;
 
 /// Ten tables with version, n_texs and the bytes that hold the names.
 pub struct Scene {
@@ -80,17 +74,4 @@ pub fn word(size: usize) -> u32 {
 pub fn name<'a>(names: &'a [u8], words: &[u32]) -> &'a [u8] {
     let place = words[0] as usize;
     &names[place..place + words[1] as usize]
-}
-
-/// The bytes of a file. Of one past the limit just one byte more than that is
-/// read: enough for its refusal.
-pub fn load(path: &Path) -> Result<Vec<u8>, Stop> {
-    let load = || -> io::Result<Vec<u8>> {
-        let mut bytes = Vec::new();
-        File::open(path)?
-            .take(LARGEST + 1)
-            .read_to_end(&mut bytes)?;
-        Ok(bytes)
-    };
-    load().map_err(|error| Stop::failed(path, error))
 }

@@ -1,7 +1,8 @@
 //! A scene for the eye: what it holds, in words.
 
 use crate::columns::TABLES;
-use crate::commands::{add_line, shown};
+use crate::commands::shown;
+use crate::run::Run;
 use crate::scene::{name, Scene};
 
 /// Tables by their place among the ten, and words of their rows.
@@ -20,7 +21,7 @@ const FPS: usize = 19;
 
 /// The nodes as a tree, a node two spaces further in than its parent; then the
 /// names of textures and brushes.
-pub fn print(scene: &Scene, out: &mut Vec<u8>) {
+pub fn print(scene: &Scene, run: &mut Run) {
     let rows = |table: usize| scene.tables[table].chunks(TABLES[table].words());
     let nodes: Vec<&[u32]> = rows(NODES).collect();
     let meshes: Vec<&[u32]> = rows(MESHES).collect();
@@ -62,20 +63,13 @@ pub fn print(scene: &Scene, out: &mut Vec<u8>) {
             true => String::new(),
             false => format!(": {}", parts.join(", ")),
         };
-        add_line(
-            out,
-            format!(
-                "{:1$}{2}{words}",
-                "",
-                2 * level,
-                shown(name(&scene.names, node))
-            ),
-        );
+        let name = shown(name(&scene.names, node));
+        run.line(format!("{:1$}{name}{words}", "", 2 * level));
     }
     for table in [TEXTURES, BRUSHES] {
         for row in rows(table) {
             let name = shown(name(&scene.names, row));
-            add_line(out, format!("{} {name}", TABLES[table].one));
+            run.line(format!("{} {name}", TABLES[table].one));
         }
     }
 }
