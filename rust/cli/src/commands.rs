@@ -1,14 +1,13 @@
 //! The commands, those on scenes in a mode but for `clear`, `slip`, `label` and `stream`. Those that print add lines to the run; the others say nothing unless
 //! they stop.
 
-use crate::answer::{about, in_words, Stop, SCENE};
-use crate::columns::{Table, HEAD, NODES, TABLES};
+use crate::answer::{about, in_words, Stop};
 use crate::json;
 use crate::run::{is_standard, Run, LARGEST};
-use crate::scene::{self, name, Scene};
 use crate::text;
+use kelompuris::columns::{Table, HEAD, TABLES};
 use kelompuris::pieces::Pieces;
-use kelompuris::{judge, read_slip, Answer, Mode};
+use kelompuris::{Answer, Mode, Scene, Tables};
 use std::fs;
 use std::io::{self, ErrorKind, Read};
 use std::path::{Path, PathBuf};
@@ -30,16 +29,16 @@ pub fn check(mode: Mode, paths: &[&Path], json: bool, run: &mut Run) -> Result<(
     let files: Vec<&Path> = files.iter().map(PathBuf::as_path).collect();
     if !json {
         return check_each(&files, run, |file| {
-            let answer = judge(mode, file);
-            (answer.number, in_words(&answer))
+            let answer = kelompuris::check(mode, file);
+            (answer.is_ok(), in_words(&answer))
         });
     }
     let (mut refused, mut failed) = (0, 0);
     for path in &files {
         let line = match run.load(path) {
             Ok(file) => {
-                let answer = judge(mode, &file);
-                refused += usize::from(answer.number != 0);
+                let answer = kelompuris::check(mode, &file);
+                refused += usize::from(answer.is_err());
                 json::answer(path, &answer)
             }
             Err(Stop::Failed(why) | Stop::Refused(why) | Stop::Found(why)) => {
@@ -70,18 +69,18 @@ fn scenes_below(folder: &Path, files: &mut Vec<PathBuf>) -> io::Result<()> {
     Ok(())
 }
 
-/// The same for files of any kind, whose judge gives number and words.
+/// The same for files of any kind, whose judge says whether they are accepted, and words.
 pub fn check_each(
     paths: &[&Path],
     run: &mut Run,
-    judge: impl Fn(&[u8]) -> (u32, String),
+    judge: impl Fn(&[u8]) -> (bool, String),
 ) -> Result<(), Stop> {
     let (mut refused, mut failed) = (0, 0);
     for path in paths {
         let line = match run.load(path) {
             Ok(file) => {
-                let (number, words) = judge(&file);
-                refused += usize::from(number != 0);
+                let (is_accepted, words) = judge(&file);
+                refused += usize::from(!is_accepted);
                 about(path, words)
             }
             Err(Stop::Failed(line) | Stop::Refused(line) | Stop::Found(line)) => {
@@ -106,15 +105,22 @@ fn verdict(of: usize, refused: usize, failed: usize) -> Result<(), Stop> {
 /// Number and place; if accepted version and n_texs, ten counts, node names.
 pub fn list(mode: Mode, path: &Path, run: &mut Run) -> Result<(), Stop> {
     let file = run.load(path)?;
-    let answer = judge(mode, &file);
-    run.numbers(&[answer.number, answer.place]);
-    let scene = accepted(mode, path, file, &answer)?;
-    run.numbers(&[answer.version, answer.n_texs]);
-    run.numbers(&answer.counts);
-    for node in scene.tables[NODES].chunks(TABLES[NODES].words()) {
-        run.line(shown(name(&scene.names, node)));
+    let held = kelompuris::judge(mode, &file);
+    add_answer(&held, run);
+    let scene = Scene::read(mode, &file).map_err(|refusal| Stop::refused(path, refusal))?;
+    for node in scene.nodes() {
+        run.line(shown(node.name()));
     }
     Ok(())
+}
+
+/// Number and place; if accepted version and n_texs, ten counts.
+fn add_answer(answer: &Answer, run: &mut Run) {
+    run.numbers(&[answer.number, answer.place]);
+    if answer.number == 0 {
+        run.numbers(&[answer.version, answer.n_texs]);
+        run.numbers(&answer.counts);
+    }
 }
 
 /// How many bytes `stream` takes at a time, and the most that it can be told to.
@@ -137,12 +143,9 @@ pub fn stream(most: usize, input: &mut impl Read, run: &mut Run) -> Result<(), S
         }
     }
     let answer = pieces.close();
-    run.numbers(&[answer.number, answer.place]);
-    if answer.number != 0 {
-        return Err(Stop::refused(&SCENE, path, answer.number, answer.place));
-    }
-    run.numbers(&[answer.version, answer.n_texs]);
-    run.numbers(&answer.counts);
+    add_answer(&answer, run);
+    let held = answer.result();
+    held.map_err(|refusal| Stop::refused(path, refusal))?;
     Ok(())
 }
 
@@ -150,12 +153,12 @@ pub fn stream(most: usize, input: &mut impl Read, run: &mut Run) -> Result<(), S
 /// size limit holds here; what stands behind BB3D is not read.
 pub fn label(path: &Path, run: &mut Run) -> Result<(), Stop> {
     let file = first_chunk(run.open(path)?).map_err(|error| Stop::failed(path, error))?;
-    let label = kelompuris::label(&file);
-    run.numbers(&[label.number, label.place]);
-    if label.number != 0 {
-        return Err(Stop::refused(&SCENE, path, label.number, label.place));
-    }
-    run.line(shown(kelompuris::label_name(&file)));
+    let label = kelompuris::label_of(&file).map_err(|refusal| {
+        run.numbers(&[refusal.number(), refusal.place()]);
+        Stop::refused(path, refusal)
+    })?;
+    run.numbers(&[0, 0]);
+    run.line(shown(label.name));
     run.line(label.vertices.to_string());
     Ok(())
 }
@@ -163,15 +166,15 @@ pub fn label(path: &Path, run: &mut Run) -> Result<(), Stop> {
 /// The answer in words, and of a refusal where it stands.
 pub fn explain(mode: Mode, path: &Path, run: &mut Run) -> Result<(), Stop> {
     let file = run.load(path)?;
-    let answer = judge(mode, &file);
+    let answer = kelompuris::check(mode, &file);
     run.line(in_words(&answer));
-    for line in crate::explain::lines(&file, answer.number, answer.place) {
+    let Err(refusal) = answer else {
+        return Ok(());
+    };
+    for line in crate::explain::lines(&file, refusal.number(), refusal.place()) {
         run.line(line);
     }
-    match answer.number {
-        0 => Ok(()),
-        number => Err(Stop::refused(&SCENE, path, number, answer.place)),
-    }
+    Err(Stop::refused(path, refusal))
 }
 
 /// The first chunk of a file as far as it is there; of a file that does not begin
@@ -189,8 +192,7 @@ fn first_chunk(mut file: impl Read) -> io::Result<Vec<u8>> {
 /// The nodes of a file as a tree, its textures and its brushes.
 pub fn tree(mode: Mode, path: &Path, run: &mut Run) -> Result<(), Stop> {
     let file = run.load(path)?;
-    let answer = judge(mode, &file);
-    let scene = accepted(mode, path, file, &answer)?;
+    let scene = Scene::read(mode, &file).map_err(|refusal| Stop::refused(path, refusal))?;
     crate::tree::print(&scene, run);
     Ok(())
 }
@@ -198,11 +200,11 @@ pub fn tree(mode: Mode, path: &Path, run: &mut Run) -> Result<(), Stop> {
 /// The tables of a file as a folder of texts.
 pub fn tables(mode: Mode, path: &Path, folder: &Path, run: &mut Run) -> Result<(), Stop> {
     let file = run.load(path)?;
-    let answer = judge(mode, &file);
-    let scene = accepted(mode, path, file, &answer)?;
-    let each = TABLES.iter().zip(&scene.tables);
-    let head = [scene.version, scene.n_texs];
-    put_tables(folder, (&HEAD, &head), each, &scene.names, run)
+    let scene = Scene::read(mode, &file).map_err(|refusal| Stop::refused(path, refusal))?;
+    let tables = scene.tables();
+    let each = TABLES.iter().zip(&tables.words);
+    let head = [tables.version, tables.n_texs];
+    put_tables(folder, (&HEAD, &head), each, &file, run)
 }
 
 /// A head of one row and tables as a folder of texts.
@@ -238,56 +240,44 @@ pub fn build(
         let path = folder.join(HEAD.file_name());
         return Err(Stop::failed(&path, "not just one row"));
     };
-    let mut tables = <[Vec<u32>; 10]>::default();
-    for (words, table) in tables.iter_mut().zip(&TABLES) {
+    let mut words = <[Vec<u32>; 10]>::default();
+    for (words, table) in words.iter_mut().zip(&TABLES) {
         *words = read(table)?;
     }
-    let scene = Scene {
+    let tables = Tables {
         version,
         n_texs,
-        tables,
-        names,
+        words,
     };
-    let bytes = scene.write(mode);
-    let bytes = bytes.map_err(|written| Stop::not_written(folder, written))?;
+    let bytes = tables.write(mode, &names);
+    let bytes = bytes.map_err(|refusal| Stop::refused(folder, refusal))?;
     run.put_file(target, &bytes, force)
 }
 
 /// The copy of a file without names.
 pub fn clear(path: &Path, target: &Path, force: bool, run: &mut Run) -> Result<(), Stop> {
-    let file = run.load(path)?;
-    let bytes = scene::clear(&file);
-    let bytes = bytes.map_err(|written| Stop::not_written(path, written))?;
-    run.put_file(target, &bytes, force)
+    let copy = kelompuris::clear_to_vec(&run.load(path)?);
+    let copy = copy.map_err(|refusal| Stop::refused(path, refusal))?;
+    run.put_file(target, &copy, force)
 }
 
 /// The slip of a file.
 pub fn slip(path: &Path, target: &Path, force: bool, run: &mut Run) -> Result<(), Stop> {
-    let file = run.load(path)?;
-    let bytes = scene::slip_of(&file);
-    let bytes = bytes.map_err(|written| Stop::not_written(path, written))?;
-    run.put_file(target, &bytes, force)
+    let slip = kelompuris::slip_to_vec(&run.load(path)?);
+    let slip = slip.map_err(|refusal| Stop::refused(path, refusal))?;
+    run.put_file(target, &slip, force)
 }
 
 /// Number and place of a slip; if accepted version and n_texs, ten counts.
 pub fn show_slip(path: &Path, run: &mut Run) -> Result<(), Stop> {
-    let slip = read_slip(&run.load(path)?);
+    let slip = kelompuris::read_slip(&run.load(path)?);
     run.numbers(&[slip.number, slip.place]);
-    if slip.number != 0 {
-        return Err(Stop::refused(&SCENE, path, slip.number, slip.place));
-    }
+    let slip = slip
+        .result()
+        .map_err(|refusal| Stop::refused(path, refusal))?;
     run.numbers(&slip.numbers[..2]);
     run.numbers(&slip.numbers[2..]);
     Ok(())
-}
-
-/// The scene of a file, unless it is refused.
-fn accepted(mode: Mode, path: &Path, file: Vec<u8>, answer: &Answer) -> Result<Scene, Stop> {
-    let scene = match answer.number {
-        0 => Scene::read(mode, file, answer),
-        _ => Err(*answer),
-    };
-    scene.map_err(|answer| Stop::refused(&SCENE, path, answer.number, answer.place))
 }
 
 /// `unnamed` if empty, bytes outside 32 to 126 as `?`.

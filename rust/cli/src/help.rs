@@ -43,7 +43,7 @@ pub fn help() -> String {
                 true => String::new(),
                 false => format!("  {number} {meaning}"),
             };
-            let width = [20, 21, 0][number];
+            let width = [21, 21, 0][number];
             text += &format!("{cell:width$}");
         }
         text.push('\n');

@@ -1,8 +1,7 @@
 //! Tables as text: a header line, then a line for each row, with a tab between
 //! cells. What is printed is read back to the same words and names.
 
-use crate::columns::{Kind, Table};
-use crate::scene::{name, word};
+use kelompuris::columns::{Kind, Table};
 
 /// The table as text; `names` holds the bytes of the names.
 pub fn print(table: &Table, words: &[u32], names: &[u8]) -> String {
@@ -97,6 +96,18 @@ fn parse_cell(kind: Kind, cell: &[u8], names: &mut Vec<u8>) -> Option<[u32; 2]> 
     }
 }
 
+/// A size as a word. One that is no word is far past every limit, and so is
+/// the highest word.
+fn word(size: usize) -> u32 {
+    u32::try_from(size).unwrap_or(u32::MAX)
+}
+
+/// The bytes of a name place and name length.
+fn name<'a>(names: &'a [u8], words: &[u32]) -> &'a [u8] {
+    let place = words[0] as usize;
+    &names[place..place + words[1] as usize]
+}
+
 /// Bytes outside 33 to 126 and the backslash as \xNN.
 fn escape(name: &[u8]) -> String {
     let mut text = String::new();
@@ -138,7 +149,7 @@ fn hex(digits: &[u8]) -> Option<u32> {
 #[cfg(test)]
 mod tests {
     use super::{escape, parse, print, unescape};
-    use crate::columns::TABLES;
+    use kelompuris::columns::TABLES;
 
     #[test]
     fn every_byte_of_a_name_comes_back() {

@@ -54,7 +54,7 @@ pub static COMMANDS: [Command; 16] = [
         short: "what each file holds, or why it is refused",
         about: "one line for each file: accepted and what it holds, or the refusal's number, its place and what that means. Of a folder it takes each \
                 .b3d in it and below it. With --json a line is a JSON object",
-        status: ["all accepted", "some refused", "some unreadable, or trouble"],
+        status: ["all accepted", "some refused", "some unreadable"],
     },
     Command {
         name: "list",
@@ -148,7 +148,7 @@ pub static COMMANDS: [Command; 16] = [
         about: "what differs between two files, a line for each cell, or with --json a JSON object: its table and row, counted from 0, what it means and both \
                 values. If version, n_texs or the numbers of rows differ, only these are told. With --raw the list is written to OUT too, in groups of \
                 seven bits",
-        status: ["nothing differs", "something differs", "a file is refused, or trouble"],
+        status: ["nothing differs", "something differs", "refused, or trouble"],
     },
     Command {
         name: "mend",
