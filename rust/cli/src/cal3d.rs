@@ -136,7 +136,8 @@ pub fn tables(kind: Kind, path: &Path, folder: &Path, run: &mut Run) -> Result<(
         .read(&file)
         .map_err(|refusal| Stop::refused(path, refusal))?;
     let each = kind.subject().tables().iter().zip(opened.words());
-    put_tables(folder, (kind.head(), opened.head()), each, &file, run)
+    let head = text::print(kind.head(), opened.head(), &[]);
+    put_tables(folder, (kind.head(), head), each, &file, run)
 }
 
 /// A bone more than so many levels below a root is listed at that level, with

@@ -202,23 +202,22 @@ pub fn tables(mode: Mode, path: &Path, folder: &Path, run: &mut Run) -> Result<(
     let file = run.load(path)?;
     let scene = Scene::read(mode, &file).map_err(|refusal| Stop::refused(path, refusal))?;
     let tables = scene.tables();
+    let head = text::print_head([tables.version, tables.n_texs]);
     let each = TABLES.iter().zip(&tables.words);
-    let head = [tables.version, tables.n_texs];
-    put_tables(folder, (&HEAD, &head), each, &file, run)
+    put_tables(folder, (&HEAD, head), each, &file, run)
 }
 
-/// A head of one row and tables as a folder of texts.
+/// The text of a head of one row and tables as a folder of texts.
 pub fn put_tables<'a>(
     folder: &Path,
-    head: (&Table, &[u32]),
+    head: (&Table, String),
     tables: impl Iterator<Item = (&'a Table, &'a Vec<u32>)>,
     names: &[u8],
     run: &mut Run,
 ) -> Result<(), Stop> {
-    let as_text =
-        |table: &Table, words: &[u32]| (table.file_name(), text::print(table, words, names));
-    let mut files = vec![as_text(head.0, head.1)];
-    files.extend(tables.map(|(table, words)| as_text(table, words)));
+    let as_text = |table: &Table, words: &[u32]| text::print(table, words, names);
+    let mut files = vec![(head.0.file_name(), head.1)];
+    files.extend(tables.map(|(table, words)| (table.file_name(), as_text(table, words))));
     run.put_folder(folder, &files)
 }
 
@@ -231,14 +230,13 @@ pub fn build(
     run: &mut Run,
 ) -> Result<(), Stop> {
     let mut names = Vec::new();
+    let path = folder.join(HEAD.file_name());
+    let head = text::parse_head(&run.load_text(&path)?);
+    let ([version, n_texs], floats) = head.map_err(|why| Stop::failed(&path, why))?;
     let mut read = |table: &Table| {
         let path = folder.join(table.file_name());
         let text = run.load_text(&path)?;
-        text::parse(table, &text, &mut names).map_err(|why| Stop::failed(&path, why))
-    };
-    let [version, n_texs] = read(&HEAD)?[..] else {
-        let path = folder.join(HEAD.file_name());
-        return Err(Stop::failed(&path, "not just one row"));
+        text::parse(table, &text, floats, &mut names).map_err(|why| Stop::failed(&path, why))
     };
     let mut words = <[Vec<u32>; 10]>::default();
     for (words, table) in words.iter_mut().zip(&TABLES) {

@@ -4,6 +4,7 @@ use crate::answer::{about, Stop};
 use crate::commands::plain;
 use crate::json;
 use crate::run::Run;
+use crate::text::decimal;
 use kelompuris::columns::{HEAD, TABLES};
 use kelompuris::{compare_to_vec, Cells, Difference};
 use std::path::Path;
@@ -18,7 +19,7 @@ impl Told<'_> {
     fn in_words(&self) -> String {
         let [old, new] = match self.difference.cells {
             Cells::Whole(old, new) => [old, new].map(|value| self.whole(value)),
-            Cells::Float(old, new) => [old, new].map(float),
+            Cells::Float(old, new) => [old, new].map(decimal),
             Cells::Name(old, new) => [old, new].map(|name| format!("\"{}\"", plain(name))),
         };
         format!("{}: {old} -> {new}", self.what)
@@ -28,8 +29,8 @@ impl Told<'_> {
         let values = match self.difference.cells {
             Cells::Whole(old, new) => [old, new].map(|value| (value as i32).to_string()),
             Cells::Float(old, new) => [old, new].map(|value| match value.is_finite() {
-                true => float(value),
-                false => json::text(&float(value)),
+                true => decimal(value),
+                false => json::text(&decimal(value)),
             }),
             Cells::Name(old, new) => [old, new].map(|name| json::text(&plain(name))),
         };
@@ -73,14 +74,6 @@ fn meaning(difference: &Difference) -> String {
     let table = &TABLES[table];
     let (_, column) = table.column(word).expect("a word of the table");
     format!("{} row {row}, {column}", table.many)
-}
-
-/// A float; of what is no number its bits too, for there are many.
-fn float(value: f32) -> String {
-    match value.is_nan() {
-        true => format!("NaN ({:08x})", value.to_bits()),
-        false => format!("{value:?}"),
-    }
 }
 
 /// What differs between two files, a line for each cell.

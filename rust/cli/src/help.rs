@@ -6,8 +6,9 @@ use crate::words::{usage, COMMANDS};
 const NOTES: [&str; 4] = [
     "A red, green, blue or alpha that is not a number or lies outside 0 to 1 is refused; with --lenient any is taken. `clear`, `slip`, `diff` and `mend` take any.",
     "FILE may be -, which is standard input; OUT may be -, which is standard output: lines that are told then go to standard error. A file of that name is ./-.",
-    "In the texts of `tables` the first line has the column names, and a tab stands between cells. Whole numbers are signed decimals, so NONE is -1. A float is its \
-     32-bit word as 8 hex digits (3f800000 is 1.0), so it comes back exactly. In a name the backslash and bytes outside 33 to 126 are \\xNN, so a space is \\x20.",
+    "In the texts of `tables` the first line has the column names, and a tab stands between cells. Whole numbers are signed decimals, so NONE is -1. A float is the \
+     shortest decimal that reads back as the same float: 0.5, -0, 1e30, inf; what is not a number has its bits, nan:7fc00001. In a name the backslash and bytes \
+     outside 33 to 126 are \\xNN, so a space is \\x20. `build` also takes texts of version 0.1.0, where a float is 8 hex digits.",
     "A file that stands at OUT is replaced only with --force. What is written has the mode of what was read, less the umask. A command that is refused or fails \
      writes no file, and one that is stopped leaves none. Options may stand anywhere; behind -- nothing is one.",
 ];
@@ -43,7 +44,7 @@ pub fn help() -> String {
                 true => String::new(),
                 false => format!("  {number} {meaning}"),
             };
-            let width = [21, 21, 0][number];
+            let width = [19, 16, 0][number];
             text += &format!("{cell:width$}");
         }
         text.push('\n');

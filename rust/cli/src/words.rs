@@ -108,7 +108,7 @@ pub static COMMANDS: [Command; 16] = [
         plain: Plain::Files,
         usage: &["[--lenient] FILE DIR"],
         short: "the ten tables as texts",
-        about: "the ten tables of a file and scene.tsv (version, n_texs) as texts in DIR, which must be new or empty",
+        about: "the ten tables of a file and scene.tsv (version, n_texs, how floats are written) as texts in DIR, which must be new or empty",
         status: ["written", "refused", TROUBLE],
     },
     Command {
@@ -137,7 +137,7 @@ pub static COMMANDS: [Command; 16] = [
         short: "twelve numbers of a scene in 12 to 32 bytes",
         about: "the slip of a file: version, n_texs and the ten row counts in 12 to 32 bytes; with --show, number and place of a slip, and if it is accepted \
                 its numbers, as `list` prints them",
-        status: ["written, accepted", "refused", TROUBLE],
+        status: ["written, shown", "refused", TROUBLE],
     },
     Command {
         name: "diff",
@@ -148,7 +148,7 @@ pub static COMMANDS: [Command; 16] = [
         about: "what differs between two files, a line for each cell, or with --json a JSON object: its table and row, counted from 0, what it means and both \
                 values. If version, n_texs or the numbers of rows differ, only these are told. With --raw the list is written to OUT too, in groups of \
                 seven bits",
-        status: ["nothing differs", "something differs", "refused, or trouble"],
+        status: ["the same", "differs", "refused, or trouble"],
     },
     Command {
         name: "mend",

@@ -45,8 +45,8 @@ fn cells_in_a_planners_words() {
     let lines = "\
 nodes row 0, name: \"H?\"?\" -> \"Hall\"
 nodes row 0, position x: 1.5 -> 1.75
-nodes row 0, position y: 0.0 -> -0.0
-nodes row 0, position z: NaN (7fc00000) -> NaN (7fc00001)
+nodes row 0, position y: 0 -> -0
+nodes row 0, position z: nan:7fc00000 -> nan:7fc00001
 nodes row 0, scale x: inf -> 1e30
 ";
     let told = run(&folder, &["diff", "old", "new"]);
@@ -55,8 +55,8 @@ nodes row 0, scale x: inf -> 1e30
     let lines = "\
 {\"table\":3,\"row\":0,\"word\":0,\"what\":\"nodes row 0, name\",\"old\":\"H?\\\"?\",\"new\":\"Hall\"}
 {\"table\":3,\"row\":0,\"word\":3,\"what\":\"nodes row 0, position x\",\"old\":1.5,\"new\":1.75}
-{\"table\":3,\"row\":0,\"word\":4,\"what\":\"nodes row 0, position y\",\"old\":0.0,\"new\":-0.0}
-{\"table\":3,\"row\":0,\"word\":5,\"what\":\"nodes row 0, position z\",\"old\":\"NaN (7fc00000)\",\"new\":\"NaN (7fc00001)\"}
+{\"table\":3,\"row\":0,\"word\":4,\"what\":\"nodes row 0, position y\",\"old\":0,\"new\":-0}
+{\"table\":3,\"row\":0,\"word\":5,\"what\":\"nodes row 0, position z\",\"old\":\"nan:7fc00000\",\"new\":\"nan:7fc00001\"}
 {\"table\":3,\"row\":0,\"word\":6,\"what\":\"nodes row 0, scale x\",\"old\":\"inf\",\"new\":1e30}
 ";
     run(&folder, &["diff", "old", "new", "--json"]).is(1, lines);
