@@ -1,6 +1,6 @@
 //! The commands on skeletons and meshes of cal3d.
 
-use crate::answer::{accepted, Stop};
+use crate::answer::{about, accepted, Stop};
 use crate::commands::{check_each, put_tables, shown};
 use crate::run::Run;
 use crate::text;
@@ -99,15 +99,16 @@ pub fn bones(words: &Words, run: &mut Run) -> Result<u32, Stop> {
 
 /// A line for each file: its answer in words.
 pub fn check(kind: Kind, paths: &[&Path], run: &mut Run) -> Result<(), Stop> {
-    check_each(paths, run, |file| match kind.read(file) {
-        Ok(opened) => {
-            let counts = opened.counts(kind);
-            (
-                true,
-                accepted(kind.subject(), opened.head()[0], None, &counts),
-            )
+    check_each(paths, run, |path, file| {
+        match file.map(|file| kind.read(file)) {
+            Ok(Ok(opened)) => {
+                let counts = opened.counts(kind);
+                let words = accepted(kind.subject(), opened.head()[0], None, &counts);
+                (true, about(path, words))
+            }
+            Ok(Err(refusal)) => (false, about(path, refusal)),
+            Err(why) => (false, why.to_string()),
         }
-        Err(refusal) => (false, refusal.to_string()),
     })
 }
 

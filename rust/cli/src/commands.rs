@@ -3,6 +3,7 @@
 
 use crate::answer::{about, in_words, Stop};
 use crate::json;
+use crate::progress::Progress;
 use crate::run::{is_standard, Run, LARGEST};
 use crate::text;
 use kelompuris::columns::{Table, HEAD, TABLES};
@@ -27,28 +28,17 @@ pub fn check(mode: Mode, paths: &[&Path], json: bool, run: &mut Run) -> Result<(
         }
     }
     let files: Vec<&Path> = files.iter().map(PathBuf::as_path).collect();
-    if !json {
-        return check_each(&files, run, |file| {
-            let answer = kelompuris::check(mode, file);
-            (answer.is_ok(), in_words(&answer))
-        });
-    }
-    let (mut refused, mut failed) = (0, 0);
-    for path in &files {
-        let line = match run.load(path) {
-            Ok(file) => {
-                let answer = kelompuris::check(mode, &file);
-                refused += usize::from(answer.is_err());
-                json::answer(path, &answer)
-            }
-            Err(Stop::Failed(why) | Stop::Refused(why) | Stop::Found(why)) => {
-                failed += 1;
-                json::failure(path, &why)
-            }
+    check_each(&files, run, |path, file| {
+        let answer = file.map(|file| kelompuris::check(mode, file));
+        let is_accepted = matches!(answer, Ok(Ok(_)));
+        let line = match (answer, json) {
+            (Ok(answer), true) => json::answer(path, &answer),
+            (Ok(answer), false) => about(path, in_words(&answer)),
+            (Err(why), true) => json::failure(path, why),
+            (Err(why), false) => why.to_string(),
         };
-        run.line(line);
-    }
-    verdict(files.len(), refused, failed)
+        (is_accepted, line)
+    })
 }
 
 /// The files in a folder and below it whose names end in .b3d, in order of their
@@ -69,27 +59,30 @@ fn scenes_below(folder: &Path, files: &mut Vec<PathBuf>) -> io::Result<()> {
     Ok(())
 }
 
-/// The same for files of any kind, whose judge says whether they are accepted, and words.
+/// A line for each file, of any kind: `line` is given its bytes, or why it cannot be read, and says whether it is accepted, and in a line what it is.
 pub fn check_each(
     paths: &[&Path],
     run: &mut Run,
-    judge: impl Fn(&[u8]) -> (bool, String),
+    line: impl Fn(&Path, Result<&[u8], &str>) -> (bool, String),
 ) -> Result<(), Stop> {
     let (mut refused, mut failed) = (0, 0);
+    let mut progress = Progress::of(paths.len());
     for path in paths {
-        let line = match run.load(path) {
+        let (_, told) = match run.load(path) {
             Ok(file) => {
-                let (is_accepted, words) = judge(&file);
-                refused += usize::from(!is_accepted);
-                about(path, words)
+                let told = line(path, Ok(&file));
+                refused += usize::from(!told.0);
+                told
             }
-            Err(Stop::Failed(line) | Stop::Refused(line) | Stop::Found(line)) => {
+            Err(Stop::Failed(why) | Stop::Refused(why) | Stop::Found(why)) => {
                 failed += 1;
-                line
+                line(path, Err(&why))
             }
         };
-        run.line(line);
+        run.line(told);
+        progress.step();
     }
+    drop(progress);
     verdict(paths.len(), refused, failed)
 }
 

@@ -13,6 +13,7 @@ mod help;
 mod json;
 mod mend;
 mod output;
+mod progress;
 mod run;
 mod temporary;
 mod text;
