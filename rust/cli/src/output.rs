@@ -5,7 +5,7 @@ use crate::answer::Stop;
 use crate::run::is_standard;
 use crate::temporary::Temporary;
 use std::ffi::{c_char, c_int, CString};
-use std::fs::{self, DirBuilder, File, OpenOptions};
+use std::fs::{self, DirBuilder, File, Metadata, OpenOptions};
 use std::io::{self, Error, ErrorKind, Write};
 use std::os::fd::AsRawFd;
 use std::os::unix::ffi::OsStrExt;
@@ -225,7 +225,7 @@ fn may_be_file(path: &Path, force: bool) -> io::Result<()> {
     let taken = match fs::symlink_metadata(path) {
         Ok(found) if !found.is_file() => "not a plain file",
         Ok(_) if !force => "there is such a file; --force replaces it",
-        _ => return Ok(()),
+        found => return is_free(found),
     };
     Err(Error::new(ErrorKind::AlreadyExists, taken))
 }
@@ -236,9 +236,17 @@ fn may_be_folder(path: &Path) -> io::Result<()> {
     let taken = match fs::symlink_metadata(path) {
         Ok(found) if !found.is_dir() => "not a folder",
         Ok(_) if fs::read_dir(path)?.next().is_some() => "the folder is not empty",
-        _ => return Ok(()),
+        found => return is_free(found),
     };
     Err(Error::new(ErrorKind::AlreadyExists, taken))
+}
+
+/// Whether a name that was looked for can be given: what may be replaced was found, or nothing. A name that is too long, say, cannot.
+fn is_free(found: io::Result<Metadata>) -> io::Result<()> {
+    match found {
+        Err(error) if error.kind() != ErrorKind::NotFound => Err(error),
+        _ => Ok(()),
+    }
 }
 
 /// Refuses an output that is what is to be kept.

@@ -29,7 +29,7 @@ impl Progress {
     /// One more file is done.
     pub fn step(&mut self) {
         self.done += 1;
-        if self.shown && self.done % STEP == 0 {
+        if self.shown && self.done.is_multiple_of(STEP) {
             show(&format!("\r{} of {}", self.done, self.all));
         }
     }

@@ -153,7 +153,7 @@ impl Compared {
         match self.number {
             0 => Ok(self),
             number => {
-                let place = u32::try_from(u64::from(self.place)).unwrap_or(u32::MAX);
+                let place = u32::try_from(self.place).unwrap_or(u32::MAX);
                 let refusal = Refusal::new(Subject::Scene, number, place);
                 let which = self.which;
                 Err(Refusal { which, ..refusal })

@@ -102,7 +102,7 @@ macro_rules! row {
 pub(crate) use row;
 
 /// The bytes at a place, of a length; none where the names have no such part.
-pub(crate) fn name<'a>(names: &'a [u8], place: u32, length: u32) -> &'a [u8] {
+pub(crate) fn name(names: &[u8], place: u32, length: u32) -> &[u8] {
     let behind = names.get(place as usize..).unwrap_or_default();
     behind.get(..length as usize).unwrap_or_default()
 }

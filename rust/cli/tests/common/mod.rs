@@ -33,7 +33,7 @@ impl Run {
     }
 }
 
-const PROGRAM: &str = env!("CARGO_BIN_EXE_kelompuris");
+pub const PROGRAM: &str = env!("CARGO_BIN_EXE_kelompuris");
 
 /// Runs the program in a folder.
 pub fn run(folder: &Path, args: &[&str]) -> Run {
