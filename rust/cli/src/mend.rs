@@ -4,6 +4,7 @@ use crate::answer::{about, Stop};
 use crate::explain::brushes;
 use crate::output::keep;
 use crate::run::Run;
+use crate::text::decimal;
 use kelompuris::{mend_to_vec, Mend, MendKind};
 use std::path::Path;
 
@@ -11,22 +12,34 @@ use std::path::Path;
 fn in_words(mend: &Mend, texture: bool) -> String {
     let number = |bytes: &[u8]| bytes.try_into().map_or(0, u32::from_le_bytes);
     let (given, mended) = (number(mend.given), number(mend.mended));
-    let size = mend.given.len();
-    let taken = match size {
-        1 => "1 byte taken out".to_string(),
-        _ => format!("{size} bytes taken out"),
-    };
-    let what = match (mend.kind, size) {
+    let words: Vec<u32> = mend.given.chunks(4).map(number).collect();
+    let ids: Vec<String> = words.iter().map(|&id| (id as i32).to_string()).collect();
+    let what = match (mend.kind, &words[..]) {
+        (MendKind::Length, _) if given == mended => {
+            format!("length of the scene (BB3D), {given}, is right once the bytes behind it are taken out")
+        }
         (MendKind::Length, _) => {
-            format!("length of BB3D that is not the file's, {given} -> {mended}")
+            format!("length of the scene (BB3D) is not the file's, {given} -> {mended}")
         }
         (MendKind::Id, _) => {
             let kind = if texture { "texture" } else { "brush" };
             format!("{kind} that is not there, {} -> none", given as i32)
         }
-        (MendKind::Item, 8) => format!("weight of a vertex that is not there, {taken}"),
-        (MendKind::Item, _) => format!("triangle with a vertex that is not there, {taken}"),
-        (MendKind::Spare, _) => format!("spare bytes, {taken}"),
+        (MendKind::Item, [vertex, weight]) => {
+            let weight = decimal(f32::from_bits(*weight));
+            format!(
+                "weight {weight} of vertex {}, which is not there, taken out",
+                *vertex as i32
+            )
+        }
+        (MendKind::Item, _) => {
+            let ids = ids.join(" ");
+            format!("triangle {ids} with a vertex that is not there, taken out")
+        }
+        (MendKind::Spare, _) => match mend.given.len() {
+            1 => "1 spare byte taken out".to_string(),
+            size => format!("{size} spare bytes taken out"),
+        },
     };
     format!("byte {}: {what}", mend.place)
 }
@@ -57,7 +70,7 @@ pub fn mend(
     }
     match mending.mends().count() {
         0 => Ok(()),
-        1 => Err(Stop::Found(about(path, "1 mend"))),
-        count => Err(Stop::Found(about(path, format!("{count} mends")))),
+        1 => Err(Stop::Found(about(path, "1 fault mended"))),
+        count => Err(Stop::Found(about(path, format!("{count} faults mended")))),
     }
 }

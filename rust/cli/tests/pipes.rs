@@ -64,7 +64,7 @@ fn files_to_standard_output() {
     let (status, slip, _) = to_out(&folder, "$0 slip hall.b3d -");
     assert_eq!((status, slip.len()), (0, 12));
     // Lines give way to a file.
-    let line = "byte 153: spare bytes, 3 bytes taken out\n";
+    let line = "byte 153: 3 spare bytes taken out\n";
     let told = to_out(&folder, "$0 mend bad -");
     assert_eq!((told.0, &told.1), (1, &t()));
     assert!(told.2.contains(line), "{}", told.2);
