@@ -25,7 +25,7 @@ impl Stop {
 
     /// A file or folder that cannot be used.
     pub fn failed(path: &Path, why: impl Display) -> Stop {
-        Stop::Failed(about(path, why))
+        Stop::Failed(about(path, without_number(&why)))
     }
 }
 
@@ -34,6 +34,15 @@ pub fn about(path: &Path, what: impl Display) -> String {
     match is_standard(path) {
         true => format!("standard input: {what}"),
         false => format!("{}: {what}", printable(path)),
+    }
+}
+
+/// Why something failed, without the number that the system has for it.
+pub fn without_number(why: &impl Display) -> String {
+    let why = why.to_string();
+    match why.split_once(" (os error ") {
+        Some((words, _)) => words.to_string(),
+        None => why,
     }
 }
 

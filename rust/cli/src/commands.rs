@@ -20,7 +20,7 @@ pub fn check(mode: Mode, paths: &[&Path], json: bool, run: &mut Run) -> Result<(
     for path in paths {
         let before = files.len();
         match !is_standard(path) && path.is_dir() {
-            true => scenes_below(path, &mut files).map_err(|error| Stop::failed(path, error))?,
+            true => scenes_below(path, &mut files),
             false => files.push(path.to_path_buf()),
         }
         if files.len() == before {
@@ -42,21 +42,30 @@ pub fn check(mode: Mode, paths: &[&Path], json: bool, run: &mut Run) -> Result<(
 }
 
 /// The files in a folder and below it whose names end in .b3d, in order of their
-/// names. A link to a folder is not followed.
-fn scenes_below(folder: &Path, files: &mut Vec<PathBuf>) -> io::Result<()> {
-    let entries: io::Result<Vec<_>> = fs::read_dir(folder)?.collect();
-    let mut entries = entries?;
+/// names. A link to a folder is not followed, and pipes and devices, which may never end,
+/// are left out. A folder that cannot be read stands there itself, and is not read as a file
+/// either.
+fn scenes_below(folder: &Path, files: &mut Vec<PathBuf>) {
+    let entries = fs::read_dir(folder).and_then(Iterator::collect::<io::Result<Vec<_>>>);
+    let Ok(mut entries) = entries else {
+        files.push(folder.to_path_buf());
+        return;
+    };
     entries.sort_by_key(|entry| entry.file_name());
     for entry in entries {
         let path = entry.path();
         let ending = path.extension().map(|ending| ending.to_ascii_lowercase());
-        if entry.file_type()?.is_dir() {
-            scenes_below(&path, files)?;
-        } else if ending.is_some_and(|ending| ending == "b3d") {
+        if entry.file_type().is_ok_and(|kind| kind.is_dir()) {
+            scenes_below(&path, files);
+        } else if ending.is_some_and(|ending| ending == "b3d") && !may_never_end(&path) {
             files.push(path);
         }
     }
-    Ok(())
+}
+
+/// Whether something stands at `path` that is no file and no folder.
+fn may_never_end(path: &Path) -> bool {
+    fs::metadata(path).is_ok_and(|found| !found.is_file() && !found.is_dir())
 }
 
 /// A line for each file, of any kind: `line` is given its bytes, or why it cannot be read, and says whether it is accepted, and in a line what it is.

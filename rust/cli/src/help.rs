@@ -1,16 +1,16 @@
 //! Help and the manual page, made from the table of commands.
 
-use crate::words::{usage, COMMANDS};
+use crate::words::{usage, Command, COMMANDS};
 
-/// What holds of all commands, a paragraph for each.
-const NOTES: [&str; 4] = [
-    "A red, green, blue or alpha that is not a number or lies outside 0 to 1 is refused; with --lenient any is taken. `clear`, `slip`, `diff` and `mend` take any.",
-    "FILE may be -, which is standard input; OUT may be -, which is standard output: lines that are told then go to standard error. A file of that name is ./-.",
-    "In the texts of `tables` the first line has the column names, and a tab stands between cells. Whole numbers are signed decimals, so NONE is -1. A float is the \
+/// What holds of all commands, a paragraph for each, and words that stand in the usage of those that it concerns.
+const NOTES: [(&[&str], &str); 4] = [
+    (&["--lenient"], "A red, green, blue or alpha that is not a number or lies outside 0 to 1 is refused; with --lenient any is taken. `clear`, `slip`, `diff` and `mend` take any."),
+    (&["FILE", "OLD", "OUT", "SLIP"], "FILE may be -, which is standard input; OUT may be -, which is standard output: lines that are told then go to standard error. A file of that name is ./-."),
+    (&["DIR"], "In the texts of `tables` the first line has the column names, and a tab stands between cells. Whole numbers are signed decimals, so NONE is -1. A float is the \
      shortest decimal that reads back as the same float: 0.5, -0, 1e30, inf; what is not a number has its bits, nan:7fc00001. In a name the backslash and bytes \
-     outside 33 to 126 are \\xNN, so a space is \\x20. `build` also takes texts of version 0.1.0, where a float is 8 hex digits.",
-    "A file that stands at OUT is replaced only with --force. What is written has the mode of what was read, less the umask. A command that is refused or fails \
-     writes no file, and one that is stopped leaves none. Options may stand anywhere; behind -- nothing is one.",
+     outside 33 to 126 are \\xNN, so a space is \\x20. `build` also takes texts of version 0.1.0, where a float is 8 hex digits."),
+    (&["OUT", "DIR"], "A file that stands at OUT is replaced only with --force. What is written has the mode of what was read, less the umask. A command that is refused or fails \
+     writes no file, and one that is stopped leaves none. Options may stand anywhere; behind -- nothing is one."),
 ];
 
 /// What 2 means of every command.
@@ -19,6 +19,7 @@ const TROUBLE: &str = "Trouble is wrong usage, or a file that cannot be read or 
 /// The width of a line of help.
 const WIDTH: usize = 80;
 
+/// Help on all commands.
 pub fn help() -> String {
     let mut text = usage(&COMMANDS);
     text += "       kelompuris --help\n       kelompuris --version\n\n";
@@ -33,11 +34,32 @@ pub fn help() -> String {
             text += &format!("        {line}\n");
         }
     }
-    for note in NOTES {
-        text += &format!("\n{}\n", wrapped(note, WIDTH).join("\n"));
+    text + &notes_and_ends(&COMMANDS, |_| true)
+}
+
+/// Help on one command.
+pub fn help_on(command: &Command) -> String {
+    let about = wrapped(command.about, WIDTH).join("\n");
+    let forms = command.usage.join(" ");
+    // What holds of options and files that the command does not take is left out.
+    let concerns = |words: &[&str]| words.iter().any(|word| forms.contains(word));
+    let text = format!("{}\n{about}\n", usage([command]));
+    text + &notes_and_ends([command], concerns)
+}
+
+/// What holds of all commands, where it concerns these, and how they end.
+fn notes_and_ends<'a>(
+    commands: impl IntoIterator<Item = &'a Command>,
+    concerns: impl Fn(&[&str]) -> bool,
+) -> String {
+    let mut text = String::new();
+    for (words, note) in NOTES {
+        if concerns(words) {
+            text += &format!("\n{}\n", wrapped(note, WIDTH).join("\n"));
+        }
     }
     text += "\nExit status:\n";
-    for command in &COMMANDS {
+    for command in commands {
         text += &format!("  {:11}", command.name);
         for (number, meaning) in command.status.iter().enumerate() {
             let cell = match meaning.is_empty() {
@@ -90,7 +112,7 @@ fault.\n\
         page += &format!("{}\n", escaped(command.about));
     }
     page += ".SH NOTES\n";
-    for note in NOTES {
+    for (_, note) in NOTES {
         page += &format!("{}\n.PP\n", escaped(note));
     }
     page += ".SH EXIT STATUS\n.TS\nl l l l.\ncommand\t0\t1\t2\n";

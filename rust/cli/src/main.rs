@@ -51,6 +51,11 @@ fn command(args: &[OsString], run: &mut Run) -> Result<(), Stop> {
     };
     match (command.to_str(), words) {
         (Some("--help" | "-h" | "help"), []) => return told(run, help::help()),
+        (Some("help"), [command]) => {
+            if let Some(found) = COMMANDS.iter().find(|each| command == each.name) {
+                return told(run, help::help_on(found));
+            }
+        }
         (Some("--version" | "-V"), []) => {
             let version = concat!("kelompuris ", env!("CARGO_PKG_VERSION"), "\n");
             return told(run, version.to_string());
@@ -66,7 +71,7 @@ fn command(args: &[OsString], run: &mut Run) -> Result<(), Stop> {
     };
     let words = Words::of(found, words)?;
     if words.help {
-        return told(run, help::help());
+        return told(run, help::help_on(found));
     }
     let mode = match words.flag("--lenient") {
         true => Mode::Lenient,

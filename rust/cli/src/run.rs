@@ -1,6 +1,6 @@
 //! One run of the program: what it has read, what it tells, and what it is to leave. Nothing has its name before all is told.
 
-use crate::answer::Stop;
+use crate::answer::{without_number, Stop};
 use crate::output::{keep, place_all, Output};
 use std::ffi::OsStr;
 use std::fs::{File, Metadata};
@@ -148,14 +148,14 @@ impl Run {
 
 /// Writes to standard output.
 fn tell(bytes: &[u8]) -> Result<(), Stop> {
-    let failed = |why: &dyn std::fmt::Display| Stop::Failed(format!("standard output: {why}"));
+    let failed = |why: &str| Stop::Failed(format!("standard output: {why}"));
     if bytes.is_empty() {
         return Ok(());
     }
     if crate::closed::output_was_closed() {
-        return Err(failed(&"it is closed"));
+        return Err(failed("it is closed"));
     }
     let mut output = io::stdout();
     let told = output.write_all(bytes).and_then(|()| output.flush());
-    told.map_err(|error| failed(&error))
+    told.map_err(|error| failed(&without_number(&error)))
 }

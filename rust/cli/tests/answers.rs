@@ -256,6 +256,11 @@ fn folders_and_json() {
     fs::write(folder.join("rooms/upper.b3d/Z.B3D"), worked::h()).unwrap();
     fs::write(folder.join("rooms/\"a\\.b3d"), &worked::h()[..11]).unwrap();
     fs::write(folder.join("rooms/note.txt"), "no scene").unwrap();
+    // A pipe that nobody writes to would never end.
+    let pipe = std::process::Command::new("mkfifo")
+        .arg(folder.join("rooms/pipe.b3d"))
+        .status();
+    assert!(pipe.unwrap().success());
     let words = "1 at 0: a file size outside 12 to 16,777,216 bytes";
     let told =
         format!("rooms/\"a\\.b3d: {words}\nrooms/upper.b3d/Z.B3D: accepted, version 1, 1 node\n");

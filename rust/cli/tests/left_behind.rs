@@ -5,7 +5,7 @@ mod common;
 use common::{fresh, names_in, run, start, under_umask};
 use scenes::worked::{t, with};
 use std::fs::{self, Permissions};
-use std::os::unix::fs::PermissionsExt;
+use std::os::unix::fs::{OpenOptionsExt, PermissionsExt};
 use std::os::unix::process::ExitStatusExt;
 use std::path::Path;
 use std::process::Command;
@@ -25,6 +25,12 @@ fn writes_unnamed(process: u32, folder: &Path) -> bool {
 #[test]
 fn killed_while_it_writes_it_leaves_nothing() {
     let folder = fresh("killed");
+    const O_TMPFILE: i32 = 0o20_200_000;
+    let mut options = fs::OpenOptions::new();
+    if let Err(error) = options.write(true).custom_flags(O_TMPFILE).open(&folder) {
+        eprintln!("no files without names here, so this is not tried: {error}");
+        return;
+    }
     let large = scenes::rows::file_with_rows(10, 500_000);
     fs::write(folder.join("large"), &large).unwrap();
     // A first length that is wrong: there is something to report.

@@ -1,5 +1,6 @@
 //! Rows of tables with named fields, over the words that the reader gives.
 
+use std::fmt;
 use std::iter::FusedIterator;
 use std::marker::PhantomData;
 use std::ops::Range;
@@ -20,7 +21,7 @@ pub trait Row<'a>: Sized {
 }
 
 /// The rows of a table, one after the other.
-#[derive(Clone, Debug)]
+#[derive(Clone)]
 #[must_use = "rows do nothing until they are taken"]
 pub struct Rows<'a, R> {
     words: &'a [u32],
@@ -70,6 +71,13 @@ impl<'a, R: Row<'a>> Iterator for Rows<'a, R> {
     }
 }
 
+/// Tells how many rows are left, and no name.
+impl<'a, R: Row<'a>> fmt::Debug for Rows<'a, R> {
+    fn fmt(&self, formatter: &mut fmt::Formatter) -> fmt::Result {
+        write!(formatter, "Rows({})", self.len())
+    }
+}
+
 impl<'a, R: Row<'a>> ExactSizeIterator for Rows<'a, R> {}
 impl<'a, R: Row<'a>> FusedIterator for Rows<'a, R> {}
 
@@ -77,7 +85,7 @@ impl<'a, R: Row<'a>> FusedIterator for Rows<'a, R> {}
 macro_rules! row {
     ($(#[$about:meta])* $row:ident, $words:expr) => {
         $(#[$about])*
-        #[derive(Clone, Copy, Debug)]
+        #[derive(Clone, Copy)]
         pub struct $row<'a> {
             words: &'a [u32],
             // Not all rows have a name.
@@ -94,6 +102,13 @@ macro_rules! row {
 
             fn words(&self) -> &'a [u32] {
                 self.words
+            }
+        }
+
+        /// Tells the words, and no name.
+        impl std::fmt::Debug for $row<'_> {
+            fn fmt(&self, formatter: &mut std::fmt::Formatter) -> std::fmt::Result {
+                formatter.debug_tuple(stringify!($row)).field(&self.words).finish()
             }
         }
     };

@@ -4,6 +4,7 @@ use crate::columns::TABLES;
 use crate::refusal::{Refusal, TOO_SHORT};
 use crate::rows::{floats, id, name, range, row, Rows};
 use crate::{judge, Answer, Mode, Written};
+use std::fmt;
 use std::ops::Range;
 
 /// Judges a file: what it holds, or why it is refused.
@@ -132,7 +133,7 @@ impl Tables {
 /// # Ok(())
 /// # }
 /// ```
-#[derive(Clone, Debug)]
+#[derive(Clone)]
 pub struct Scene<'a> {
     tables: Tables,
     file: &'a [u8],
@@ -169,6 +170,19 @@ impl<'a> Scene<'a> {
     /// The file that the scene was read from.
     pub fn file(&self) -> &'a [u8] {
         self.file
+    }
+}
+
+/// Tells version, n_texs and how many rows there are, and no name.
+impl fmt::Debug for Scene<'_> {
+    fn fmt(&self, formatter: &mut fmt::Formatter) -> fmt::Result {
+        let mut scene = formatter.debug_struct("Scene");
+        scene.field("version", &self.tables.version);
+        scene.field("n_texs", &self.tables.n_texs);
+        for (table, words) in TABLES.iter().zip(&self.tables.words) {
+            scene.field(table.many, &(words.len() / table.words()));
+        }
+        scene.finish()
     }
 }
 

@@ -184,3 +184,17 @@ fn rows_are_counted_and_passed() {
     assert!(nodes.next().is_none());
     assert!(scene.nodes().get(6).is_none());
 }
+
+/// What is printed for whoever looks for a fault has no name in it.
+#[test]
+fn no_name_is_told_of_what_is_looked_into() {
+    let hall = std::fs::read("../../samples/hall.b3d").unwrap();
+    let scene = Scene::read(Mode::Strict, &hall).unwrap();
+    let told = format!("{scene:?} {:?} {:?}", scene.nodes(), scene.nodes().next());
+    assert!(told.starts_with("Scene { version: 1, n_texs: 0, textures: 0, brushes: 0, nodes: 1,"));
+    assert!(
+        told.contains(" Rows(1) Some(Node([20, 4, 4294967295, "),
+        "{told}"
+    );
+    assert!(!told.contains("72, 97, 108, 108"), "{told}");
+}

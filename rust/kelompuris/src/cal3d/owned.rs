@@ -4,6 +4,7 @@ use super::{judge_mesh, judge_skeleton, read_mesh, read_skeleton};
 use crate::columns::{cal3d, Table};
 use crate::refusal::Refusal;
 use crate::rows::{floats, id, name, range, row, Rows};
+use std::fmt;
 use std::ops::Range;
 
 /// Tables of so many rows, to lend.
@@ -29,7 +30,7 @@ fn lendable<const TABLES: usize>(
 /// # Ok(())
 /// # }
 /// ```
-#[derive(Clone, Debug)]
+#[derive(Clone)]
 pub struct Skeleton<'a> {
     head: [u32; 5],
     words: [Vec<u32>; 2],
@@ -63,6 +64,17 @@ impl<'a> Skeleton<'a> {
     /// The numbers of a bone's children.
     pub fn children(&self, bone: &Bone) -> &[u32] {
         self.words[1].get(bone.children()).unwrap_or_default()
+    }
+}
+
+/// Tells the header's numbers and the tables' words, and no name.
+impl fmt::Debug for Skeleton<'_> {
+    fn fmt(&self, formatter: &mut fmt::Formatter) -> fmt::Result {
+        let mut skeleton = formatter.debug_struct("Skeleton");
+        skeleton
+            .field("head", &self.head)
+            .field("words", &self.words)
+            .finish()
     }
 }
 
