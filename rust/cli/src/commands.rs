@@ -176,7 +176,24 @@ pub fn explain(mode: Mode, path: &Path, run: &mut Run) -> Result<(), Stop> {
     for line in crate::explain::lines(&file, refusal.number(), refusal.place()) {
         run.line(line);
     }
+    tell_of_mending(mode, &file, run);
     Err(Stop::refused(path, refusal))
+}
+
+/// Tells that a file can be mended. A colour that only the strict mode refuses is nothing to mend.
+fn tell_of_mending(mode: Mode, file: &[u8], run: &mut Run) {
+    let Ok(mending) = kelompuris::mend_to_vec(file) else {
+        return;
+    };
+    if mending.mends().next().is_some() {
+        let opens = match kelompuris::check(mode, mending.file()) {
+            Ok(_) => "opens",
+            Err(_) => "opens with --lenient",
+        };
+        run.line(format!(
+            "kelompuris mend FILE OUT makes a copy that {opens}"
+        ));
+    }
 }
 
 /// The first chunk of a file as far as it is there; of a file that does not begin

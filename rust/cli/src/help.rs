@@ -8,7 +8,7 @@ const NOTES: [(&[&str], &str); 4] = [
     (&["FILE", "OLD", "OUT", "SLIP"], "FILE may be -, which is standard input; OUT may be -, which is standard output: lines that are told then go to standard error. A file of that name is ./-."),
     (&["DIR"], "In the texts of `tables` the first line has the column names, and a tab stands between cells. Whole numbers are signed decimals, so NONE is -1. A float is the \
      shortest decimal that reads back as the same float: 0.5, -0, 1e30, inf; what is not a number has its bits, nan:7fc00001. In a name the backslash and bytes \
-     outside 33 to 126 are \\xNN, so a space is \\x20. `build` also takes texts of version 0.1.0, where a float is 8 hex digits."),
+     outside 33 to 126 are \\xNN, so a space is \\x20. `build` also takes older texts, where a float is 8 hex digits."),
     (&["OUT", "DIR"], "A file that stands at OUT is replaced only with --force. What is written has the mode of what was read, less the umask. A command that is refused or fails \
      writes no file, and one that is stopped leaves none. Options may stand anywhere; behind -- nothing is one."),
 ];

@@ -8,7 +8,7 @@ use kelompuris::columns::{Kind, Table, HEAD};
 pub enum Floats {
     /// The shortest decimal that reads back as the same float; `nan:` and the bits of what is not a number.
     Decimal,
-    /// The bits as 8 hex digits, as version 0.1.0 wrote them.
+    /// The bits as 8 hex digits, as in older texts.
     Hex,
 }
 
@@ -22,7 +22,7 @@ pub fn print_head(words: [u32; 2]) -> String {
     format!("{}\t{FLOATS}\n{cells}\t{DECIMAL}\n", HEAD.header())
 }
 
-/// Such a text. Without that column, which version 0.1.0 did not write, floats are in hex.
+/// Such a text. Without that column, which older texts do not have, floats are in hex.
 pub fn parse_head(text: &[u8]) -> Result<([u32; 2], Floats), String> {
     let text = String::from_utf8_lossy(text);
     let mut lines: Vec<&str> = text.lines().collect();
@@ -345,7 +345,7 @@ mod tests {
     }
 
     #[test]
-    fn heads_of_both_versions() {
+    fn heads_of_both_forms() {
         let text = print_head([1, 2]);
         assert_eq!(text, "version\tn_texs\tfloats\n1\t2\tdecimal\n");
         assert_eq!(parse_head(text.as_bytes()), Ok(([1, 2], Floats::Decimal)));

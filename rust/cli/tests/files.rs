@@ -158,7 +158,7 @@ fn every_float_comes_back() {
     assert!(FLOATS.iter().all(|float| met.contains(float)));
 }
 
-/// Texts as version 0.1.0 wrote them in place of these.
+/// Texts in the older form, with floats in hex, in place of these.
 fn in_hex(parts: &Path, scene: &Scene) {
     let tables = scene.tables();
     let head = format!("version\tn_texs\n{}\t{}\n", tables.version, tables.n_texs);

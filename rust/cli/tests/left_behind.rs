@@ -45,7 +45,7 @@ fn killed_while_it_writes_it_leaves_nothing() {
     ];
     for args in commands {
         // A run that ends before it is seen to write is tried again.
-        let killed = (0..20).any(|_| {
+        let killed = (0..6).any(|_| {
             let mut child = start(&folder, args);
             while child.try_wait().unwrap().is_none() && !writes_unnamed(child.id(), &folder) {}
             let kill = format!("kill -9 {}", child.id());

@@ -80,7 +80,10 @@ fn options_stand_anywhere() {
     let before = run(&folder, &["mesh", "--bones", "4", "door.cmf"]);
     let behind = run(&folder, &["mesh", "door.cmf", "--bones", "4"]);
     assert_eq!((before.status, before.out), (0, behind.out));
-    run(&folder, &["--version"]).is(0, "kelompuris 0.1.0\n");
+    let header = include_str!("../../../include/kelompuris.h");
+    let version = header.split("KELOMPURIS_VERSION \"").nth(1).unwrap();
+    let version = version.split('"').next().unwrap();
+    run(&folder, &["--version"]).is(0, &format!("kelompuris {version}\n"));
     let help = run(&folder, &["--help"]).out;
     for words in [&["-h"][..], &["help"]] {
         run(&folder, words).is(0, &help);
