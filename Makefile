@@ -22,10 +22,13 @@ cli:
 	rust/build-lib
 	cd rust && cargo build --offline --release -p kelompuris-cli --target-dir target
 
-# The tool, its manual page, the header, the library and its pkg-config file; what `make cli` made.
+# The tool, its manual page and its completions, the header, the library and its pkg-config file; what `make cli` made.
 install:
 	install -D $(CLI) $(DESTDIR)$(PREFIX)/bin/kelompuris
 	install -D -m 644 docs/kelompuris.1 $(DESTDIR)$(PREFIX)/share/man/man1/kelompuris.1
+	for shell in bash:bash-completion/completions/kelompuris zsh:zsh/site-functions/_kelompuris fish:fish/vendor_completions.d/kelompuris.fish; do \
+	    to=$(DESTDIR)$(PREFIX)/share/$${shell#*:}; mkdir -p "$${to%/*}" && $(CLI) completions $${shell%%:*} > "$$to" || exit 1; \
+	done
 	install -D -m 644 include/kelompuris.h $(DESTDIR)$(PREFIX)/include/kelompuris.h
 	install -D -m 644 target/staticlib/libkelompuris_c.a $(DESTDIR)$(PREFIX)/lib/libkelompuris_c.a
 	mkdir -p $(DESTDIR)$(PREFIX)/lib/pkgconfig

@@ -1,14 +1,14 @@
 //! The commands on skeletons and meshes of cal3d.
 
-use crate::answer::{accepted, refusal, Format, Stop, MESH, SKELETON};
-use crate::columns::cal3d::{CHILDREN, FIRST_CHILD, MESH_HEAD, PARENT, SKELETON_HEAD};
-use crate::columns::Table;
-use crate::commands::{add_line, add_numbers, check_each, put_tables, shown};
-use crate::scene::{load, name};
+use crate::answer::{about, accepted, Stop};
+use crate::commands::{check_each, put_tables, shown};
+use crate::run::Run;
 use crate::text;
 use crate::words::Words;
-use kelompuris::cal3d::{judge_mesh, judge_skeleton, read_mesh, read_skeleton, Answer};
-use kelompuris::slices;
+use kelompuris::cal3d::{judge_skeleton, Bone, Skeleton, Submeshes};
+use kelompuris::columns::cal3d::{MESH_HEAD, SKELETON_HEAD};
+use kelompuris::columns::Table;
+use kelompuris::{Refusal, Row, Subject};
 use std::path::Path;
 
 /// Which files a command takes.
@@ -21,28 +21,17 @@ pub enum Kind {
     },
 }
 
-/// What a file is answered, whatever its kind.
-struct Told {
-    number: u32,
-    place: u32,
-    head: Vec<u32>,
-    counts: Vec<u32>,
-}
-
-fn told<const HEAD: usize, const TABLES: usize>(answer: Answer<HEAD, TABLES>) -> Told {
-    Told {
-        number: answer.number,
-        place: answer.place,
-        head: answer.head.to_vec(),
-        counts: answer.counts.to_vec(),
-    }
+/// An accepted file, whatever its kind.
+enum Opened<'a> {
+    Skeleton(Skeleton<'a>),
+    Mesh(Submeshes),
 }
 
 impl Kind {
-    fn format(self) -> &'static Format {
+    fn subject(self) -> Subject {
         match self {
-            Kind::Skeleton => &SKELETON,
-            Kind::Mesh { .. } => &MESH,
+            Kind::Skeleton => Subject::Skeleton,
+            Kind::Mesh { .. } => Subject::Mesh,
         }
     }
 
@@ -54,33 +43,34 @@ impl Kind {
         }
     }
 
-    fn judge(self, file: &[u8]) -> Told {
+    fn read(self, file: &[u8]) -> Result<Opened<'_>, Refusal> {
         match self {
-            Kind::Skeleton => told(judge_skeleton(file)),
-            Kind::Mesh { bones } => told(judge_mesh(file, bones)),
+            Kind::Skeleton => Skeleton::read(file).map(Opened::Skeleton),
+            Kind::Mesh { bones } => Submeshes::read(file, bones).map(Opened::Mesh),
+        }
+    }
+}
+
+impl Opened<'_> {
+    fn head(&self) -> &[u32] {
+        match self {
+            Opened::Skeleton(skeleton) => skeleton.head(),
+            Opened::Mesh(mesh) => mesh.head(),
         }
     }
 
-    fn read(self, file: &[u8], tables: &mut [Vec<u32>]) -> Told {
+    fn words(&self) -> &[Vec<u32>] {
         match self {
-            Kind::Skeleton => told(read_skeleton(file, &mut slices(tables))),
-            Kind::Mesh { bones } => told(read_mesh(file, bones, &mut slices(tables))),
+            Opened::Skeleton(skeleton) => skeleton.words(),
+            Opened::Mesh(mesh) => mesh.words(),
         }
     }
 
-    /// The tables of a file that was told so, unless it is refused.
-    fn tables(self, path: &Path, file: &[u8], told: &Told) -> Result<Vec<Vec<u32>>, Stop> {
-        let refused = |told: &Told| Stop::refused(self.format(), path, told.number, told.place);
-        if told.number != 0 {
-            return Err(refused(told));
-        }
-        let each = self.format().tables.iter().zip(&told.counts);
-        let words = |(table, &count): (&Table, &u32)| vec![0; table.words() * count as usize];
-        let mut tables: Vec<Vec<u32>> = each.map(words).collect();
-        match self.read(file, &mut tables) {
-            again if again.number != 0 => Err(refused(&again)),
-            _ => Ok(tables),
-        }
+    /// How many rows each table has.
+    fn counts(&self, kind: Kind) -> Vec<u32> {
+        let each = kind.subject().tables().iter().zip(self.words());
+        each.map(|(table, words)| (words.len() / table.words()) as u32)
+            .collect()
     }
 }
 
@@ -90,7 +80,7 @@ const MOST_BONES: u32 = 16_383;
 /// How many bones a mesh may name: the number behind `--bones`, or the bones of
 /// the accepted skeleton behind `--skeleton`; without either as many as a
 /// skeleton can have.
-pub fn bones(words: &Words) -> Result<u32, Stop> {
+pub fn bones(words: &Words, run: &mut Run) -> Result<u32, Stop> {
     match (words.value("--bones")?, words.value("--skeleton")?) {
         (None, None) => Ok(MOST_BONES),
         (Some(count), None) => {
@@ -98,52 +88,57 @@ pub fn bones(words: &Words) -> Result<u32, Stop> {
             count.ok_or_else(|| words.wrong("--bones takes a number of bones"))
         }
         (None, Some(path)) => {
-            let (kind, path) = (Kind::Skeleton, Path::new(path));
-            let told = kind.judge(&load(path)?);
-            match told.number {
-                0 => Ok(told.counts[0]),
-                number => Err(Stop::refused(kind.format(), path, number, told.place)),
-            }
+            let path = Path::new(path);
+            let held = judge_skeleton(&run.load(path)?).result();
+            let held = held.map_err(|refusal| Stop::refused(path, refusal))?;
+            Ok(held.counts[0])
         }
         _ => Err(words.wrong("--bones or --skeleton, not both")),
     }
 }
 
 /// A line for each file: its answer in words.
-pub fn check(kind: Kind, paths: &[&Path], out: &mut Vec<u8>) -> Result<(), Stop> {
-    check_each(paths, out, |file| {
-        let told = kind.judge(file);
-        let words = match told.number {
-            0 => accepted(kind.format(), told.head[0], None, &told.counts),
-            number => refusal(kind.format(), number, told.place),
-        };
-        (told.number, words)
+pub fn check(kind: Kind, paths: &[&Path], run: &mut Run) -> Result<(), Stop> {
+    check_each(paths, run, |path, file| {
+        match file.map(|file| kind.read(file)) {
+            Ok(Ok(opened)) => {
+                let counts = opened.counts(kind);
+                let words = accepted(kind.subject(), opened.head()[0], None, &counts);
+                (true, about(path, words))
+            }
+            Ok(Err(refusal)) => (false, about(path, refusal)),
+            Err(why) => (false, why.to_string()),
+        }
     })
 }
 
 /// Number and place; if accepted the header's numbers, the row counts, and what
 /// the file holds.
-pub fn list(kind: Kind, path: &Path, out: &mut Vec<u8>) -> Result<(), Stop> {
-    let file = load(path)?;
-    let told = kind.judge(&file);
-    add_numbers(out, &[told.number, told.place]);
-    let tables = kind.tables(path, &file, &told)?;
-    add_line(out, text::cells(kind.head(), &told.head, &[]).join(" "));
-    add_numbers(out, &told.counts);
-    match kind {
-        Kind::Skeleton => list_bones(&file, &tables, out),
-        Kind::Mesh { .. } => list_submeshes(&tables[0], out),
+pub fn list(kind: Kind, path: &Path, run: &mut Run) -> Result<(), Stop> {
+    let file = run.load(path)?;
+    let opened = kind.read(&file).map_err(|refusal| {
+        run.numbers(&[refusal.number(), refusal.place()]);
+        Stop::refused(path, refusal)
+    })?;
+    run.numbers(&[0, 0]);
+    run.line(text::cells(kind.head(), opened.head(), &[]).join(" "));
+    run.numbers(&opened.counts(kind));
+    match &opened {
+        Opened::Skeleton(skeleton) => list_bones(skeleton, run),
+        Opened::Mesh(mesh) => list_submeshes(mesh, run),
     }
     Ok(())
 }
 
 /// The tables of a file as a folder of texts.
-pub fn tables(kind: Kind, path: &Path, folder: &Path) -> Result<(), Stop> {
-    let file = load(path)?;
-    let told = kind.judge(&file);
-    let tables = kind.tables(path, &file, &told)?;
-    let each = kind.format().tables.iter().zip(&tables);
-    put_tables(folder, (kind.head(), &told.head), each, &file)
+pub fn tables(kind: Kind, path: &Path, folder: &Path, run: &mut Run) -> Result<(), Stop> {
+    let file = run.load(path)?;
+    let opened = kind
+        .read(&file)
+        .map_err(|refusal| Stop::refused(path, refusal))?;
+    let each = kind.subject().tables().iter().zip(opened.words());
+    let head = text::print(kind.head(), opened.head(), &[]);
+    put_tables(folder, (kind.head(), head), each, &file, run)
 }
 
 /// A bone more than so many levels below a root is listed at that level, with
@@ -158,9 +153,9 @@ fn without_zero(name: &[u8]) -> &[u8] {
 
 /// The bones as trees, a parent before its children, these in the order of its
 /// list, two spaces further in.
-fn list_bones(file: &[u8], tables: &[Vec<u32>], out: &mut Vec<u8>) {
-    let bones: Vec<&[u32]> = tables[0].chunks(SKELETON.tables[0].words()).collect();
-    let no_parent = |bone: &u32| bones[*bone as usize][PARENT] == u32::MAX;
+fn list_bones(skeleton: &Skeleton, run: &mut Run) {
+    let bones: Vec<Bone> = skeleton.bones().collect();
+    let no_parent = |bone: &u32| bones[*bone as usize].parent().is_none();
     let mut left: Vec<(usize, u32)> = (0..bones.len() as u32)
         .rev()
         .filter(no_parent)
@@ -168,26 +163,25 @@ fn list_bones(file: &[u8], tables: &[Vec<u32>], out: &mut Vec<u8>) {
         .collect();
     while let Some((level, bone)) = left.pop() {
         let bone = bones[bone as usize];
-        let name = shown(without_zero(name(file, bone)));
+        let name = shown(without_zero(bone.name()));
         let line = match level {
             0..=DEEPEST => format!("{:1$}{name}", "", 2 * level),
             _ => format!("{:1$}{level}: {name}", "", 2 * DEEPEST),
         };
-        add_line(out, line);
-        let (first, count) = (bone[FIRST_CHILD] as usize, bone[CHILDREN] as usize);
-        let list = &tables[1][first..first + count];
+        run.line(line);
+        let list = skeleton.children(&bone);
         left.extend(list.iter().rev().map(|&child| (level + 1, child)));
     }
 }
 
 /// A line for each submesh: its numbers, each with its column's name.
-fn list_submeshes(rows: &[u32], out: &mut Vec<u8>) {
-    let table = &MESH.tables[0];
+fn list_submeshes(mesh: &Submeshes, run: &mut Run) {
+    let table = &Subject::Mesh.tables()[0];
     let header = table.header();
-    for row in rows.chunks(table.words()) {
-        let cells = text::cells(table, row, &[]);
+    for submesh in mesh.submeshes() {
+        let cells = text::cells(table, submesh.words(), &[]);
         let named = header.split('\t').zip(cells).take(6);
         let parts: Vec<String> = named.map(|(name, cell)| format!("{name} {cell}")).collect();
-        add_line(out, parts.join(", "));
+        run.line(parts.join(", "));
     }
 }

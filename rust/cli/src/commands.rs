@@ -1,26 +1,26 @@
-//! The commands, those on scenes in a mode but for `clear`, `slip`, `label` and `stream`. What goes to standard output is added to `out`, by those
-//! that print; the others say nothing unless they stop.
+//! The commands, those on scenes in a mode but for `clear`, `slip`, `label` and `stream`. Those that print add lines to the run; the others say nothing unless
+//! they stop.
 
-use crate::answer::{about, in_words, Stop, SCENE};
-use crate::columns::{Table, HEAD, NODES, TABLES};
+use crate::answer::{about, in_words, Stop};
 use crate::json;
-use crate::output::{put_file, put_folder};
-use crate::scene::{self, load, name, Scene};
+use crate::progress::Progress;
+use crate::run::{is_standard, Run, LARGEST};
 use crate::text;
+use kelompuris::columns::{Table, HEAD, TABLES};
 use kelompuris::pieces::Pieces;
-use kelompuris::{judge, read_slip, Answer, Mode};
-use std::fs::{self, File};
+use kelompuris::{Answer, Mode, Scene, Tables};
+use std::fs;
 use std::io::{self, ErrorKind, Read};
 use std::path::{Path, PathBuf};
 
 /// A line for each file: its answer in words, or in JSON. Of a folder each scene in
 /// it and below it is taken.
-pub fn check(mode: Mode, paths: &[&Path], json: bool, out: &mut Vec<u8>) -> Result<(), Stop> {
+pub fn check(mode: Mode, paths: &[&Path], json: bool, run: &mut Run) -> Result<(), Stop> {
     let mut files = Vec::new();
     for path in paths {
         let before = files.len();
-        match path.is_dir() {
-            true => scenes_below(path, &mut files).map_err(|error| Stop::failed(path, error))?,
+        match !is_standard(path) && path.is_dir() {
+            true => scenes_below(path, &mut files),
             false => files.push(path.to_path_buf()),
         }
         if files.len() == before {
@@ -28,69 +28,70 @@ pub fn check(mode: Mode, paths: &[&Path], json: bool, out: &mut Vec<u8>) -> Resu
         }
     }
     let files: Vec<&Path> = files.iter().map(PathBuf::as_path).collect();
-    if !json {
-        return check_each(&files, out, |file| {
-            let answer = judge(mode, file);
-            (answer.number, in_words(&answer))
-        });
-    }
-    let (mut refused, mut failed) = (0, 0);
-    for path in &files {
-        let line = match load(path) {
-            Ok(file) => {
-                let answer = judge(mode, &file);
-                refused += usize::from(answer.number != 0);
-                json::answer(path, &answer)
-            }
-            Err(Stop::Failed(why) | Stop::Refused(why) | Stop::Found(why)) => {
-                failed += 1;
-                json::failure(path, &why)
-            }
+    check_each(&files, run, |path, file| {
+        let answer = file.map(|file| kelompuris::check(mode, file));
+        let is_accepted = matches!(answer, Ok(Ok(_)));
+        let line = match (answer, json) {
+            (Ok(answer), true) => json::answer(path, &answer),
+            (Ok(answer), false) => about(path, in_words(&answer)),
+            (Err(why), true) => json::failure(path, why),
+            (Err(why), false) => why.to_string(),
         };
-        add_line(out, line);
-    }
-    verdict(files.len(), refused, failed)
+        (is_accepted, line)
+    })
 }
 
 /// The files in a folder and below it whose names end in .b3d, in order of their
-/// names. A link to a folder is not followed.
-fn scenes_below(folder: &Path, files: &mut Vec<PathBuf>) -> io::Result<()> {
-    let entries: io::Result<Vec<_>> = fs::read_dir(folder)?.collect();
-    let mut entries = entries?;
+/// names. A link to a folder is not followed, and pipes and devices, which may never end,
+/// are left out. A folder that cannot be read stands there itself, and is not read as a file
+/// either.
+fn scenes_below(folder: &Path, files: &mut Vec<PathBuf>) {
+    let entries = fs::read_dir(folder).and_then(Iterator::collect::<io::Result<Vec<_>>>);
+    let Ok(mut entries) = entries else {
+        files.push(folder.to_path_buf());
+        return;
+    };
     entries.sort_by_key(|entry| entry.file_name());
     for entry in entries {
         let path = entry.path();
         let ending = path.extension().map(|ending| ending.to_ascii_lowercase());
-        if entry.file_type()?.is_dir() {
-            scenes_below(&path, files)?;
-        } else if ending.is_some_and(|ending| ending == "b3d") {
+        if entry.file_type().is_ok_and(|kind| kind.is_dir()) {
+            scenes_below(&path, files);
+        } else if ending.is_some_and(|ending| ending == "b3d") && !may_never_end(&path) {
             files.push(path);
         }
     }
-    Ok(())
 }
 
-/// The same for files of any kind, whose judge gives number and words.
+/// Whether something stands at `path` that is no file and no folder.
+fn may_never_end(path: &Path) -> bool {
+    fs::metadata(path).is_ok_and(|found| !found.is_file() && !found.is_dir())
+}
+
+/// A line for each file, of any kind: `line` is given its bytes, or why it cannot be read, and says whether it is accepted, and in a line what it is.
 pub fn check_each(
     paths: &[&Path],
-    out: &mut Vec<u8>,
-    judge: impl Fn(&[u8]) -> (u32, String),
+    run: &mut Run,
+    line: impl Fn(&Path, Result<&[u8], &str>) -> (bool, String),
 ) -> Result<(), Stop> {
     let (mut refused, mut failed) = (0, 0);
+    let mut progress = Progress::of(paths.len());
     for path in paths {
-        let line = match load(path) {
+        let (_, told) = match run.load(path) {
             Ok(file) => {
-                let (number, words) = judge(&file);
-                refused += usize::from(number != 0);
-                about(path, words)
+                let told = line(path, Ok(&file));
+                refused += usize::from(!told.0);
+                told
             }
-            Err(Stop::Failed(line) | Stop::Refused(line) | Stop::Found(line)) => {
+            Err(Stop::Failed(why) | Stop::Refused(why) | Stop::Found(why)) => {
                 failed += 1;
-                line
+                line(path, Err(&why))
             }
         };
-        add_line(out, line);
+        run.line(told);
+        progress.step();
     }
+    drop(progress);
     verdict(paths.len(), refused, failed)
 }
 
@@ -104,17 +105,24 @@ fn verdict(of: usize, refused: usize, failed: usize) -> Result<(), Stop> {
 }
 
 /// Number and place; if accepted version and n_texs, ten counts, node names.
-pub fn list(mode: Mode, path: &Path, out: &mut Vec<u8>) -> Result<(), Stop> {
-    let file = load(path)?;
-    let answer = judge(mode, &file);
-    add_numbers(out, &[answer.number, answer.place]);
-    let scene = accepted(mode, path, file, &answer)?;
-    add_numbers(out, &[answer.version, answer.n_texs]);
-    add_numbers(out, &answer.counts);
-    for node in scene.tables[NODES].chunks(TABLES[NODES].words()) {
-        add_line(out, shown(name(&scene.names, node)));
+pub fn list(mode: Mode, path: &Path, run: &mut Run) -> Result<(), Stop> {
+    let file = run.load(path)?;
+    let held = kelompuris::judge(mode, &file);
+    add_answer(&held, run);
+    let scene = Scene::read(mode, &file).map_err(|refusal| Stop::refused(path, refusal))?;
+    for node in scene.nodes() {
+        run.line(shown(node.name()));
     }
     Ok(())
+}
+
+/// Number and place; if accepted version and n_texs, ten counts.
+fn add_answer(answer: &Answer, run: &mut Run) {
+    run.numbers(&[answer.number, answer.place]);
+    if answer.number == 0 {
+        run.numbers(&[answer.version, answer.n_texs]);
+        run.numbers(&answer.counts);
+    }
 }
 
 /// How many bytes `stream` takes at a time, and the most that it can be told to.
@@ -123,9 +131,9 @@ pub const LARGEST_PIECE: usize = 65_536;
 
 /// The same without names for a file that comes by an input, so many bytes at a
 /// time. It is never held; behind the largest file nothing is read.
-pub fn stream(most: usize, input: &mut impl Read, out: &mut Vec<u8>) -> Result<(), Stop> {
+pub fn stream(most: usize, input: &mut impl Read, run: &mut Run) -> Result<(), Stop> {
     let path = Path::new("standard input");
-    let mut input = input.take(scene::LARGEST + 1);
+    let mut input = input.take(LARGEST + 1);
     let mut bytes = vec![0; most];
     let mut pieces = Pieces::default();
     loop {
@@ -137,47 +145,60 @@ pub fn stream(most: usize, input: &mut impl Read, out: &mut Vec<u8>) -> Result<(
         }
     }
     let answer = pieces.close();
-    add_numbers(out, &[answer.number, answer.place]);
-    if answer.number != 0 {
-        return Err(Stop::refused(&SCENE, path, answer.number, answer.place));
-    }
-    add_numbers(out, &[answer.version, answer.n_texs]);
-    add_numbers(out, &answer.counts);
+    add_answer(&answer, run);
+    let held = answer.result();
+    held.map_err(|refusal| Stop::refused(path, refusal))?;
     Ok(())
 }
 
 /// Number and place; if found the root's name and the vertices of its mesh. No
 /// size limit holds here; what stands behind BB3D is not read.
-pub fn label(path: &Path, out: &mut Vec<u8>) -> Result<(), Stop> {
-    let file = first_chunk(path).map_err(|error| Stop::failed(path, error))?;
-    let label = kelompuris::label(&file);
-    add_numbers(out, &[label.number, label.place]);
-    if label.number != 0 {
-        return Err(Stop::refused(&SCENE, path, label.number, label.place));
-    }
-    add_line(out, shown(kelompuris::label_name(&file)));
-    add_line(out, label.vertices.to_string());
+pub fn label(path: &Path, run: &mut Run) -> Result<(), Stop> {
+    let file = first_chunk(run.open(path)?).map_err(|error| Stop::failed(path, error))?;
+    let label = kelompuris::label_of(&file).map_err(|refusal| {
+        run.numbers(&[refusal.number(), refusal.place()]);
+        Stop::refused(path, refusal)
+    })?;
+    run.numbers(&[0, 0]);
+    run.line(shown(label.name));
+    run.line(label.vertices.to_string());
     Ok(())
 }
 
 /// The answer in words, and of a refusal where it stands.
-pub fn explain(mode: Mode, path: &Path, out: &mut Vec<u8>) -> Result<(), Stop> {
-    let file = load(path)?;
-    let answer = judge(mode, &file);
-    add_line(out, in_words(&answer));
-    for line in crate::explain::lines(&file, answer.number, answer.place) {
-        add_line(out, line);
+pub fn explain(mode: Mode, path: &Path, run: &mut Run) -> Result<(), Stop> {
+    let file = run.load(path)?;
+    let answer = kelompuris::check(mode, &file);
+    run.line(in_words(&answer));
+    let Err(refusal) = answer else {
+        return Ok(());
+    };
+    for line in crate::explain::lines(&file, refusal.number(), refusal.place()) {
+        run.line(line);
     }
-    match answer.number {
-        0 => Ok(()),
-        number => Err(Stop::refused(&SCENE, path, number, answer.place)),
+    tell_of_mending(mode, &file, run);
+    Err(Stop::refused(path, refusal))
+}
+
+/// Tells that a file can be mended. A colour that only the strict mode refuses is nothing to mend.
+fn tell_of_mending(mode: Mode, file: &[u8], run: &mut Run) {
+    let Ok(mending) = kelompuris::mend_to_vec(file) else {
+        return;
+    };
+    if mending.mends().next().is_some() {
+        let opens = match kelompuris::check(mode, mending.file()) {
+            Ok(_) => "opens",
+            Err(_) => "opens with --lenient",
+        };
+        run.line(format!(
+            "kelompuris mend FILE OUT makes a copy that {opens}"
+        ));
     }
 }
 
 /// The first chunk of a file as far as it is there; of a file that does not begin
 /// with BB3D its first eight bytes, which have no label either.
-fn first_chunk(path: &Path) -> io::Result<Vec<u8>> {
-    let mut file = File::open(path)?;
+fn first_chunk(mut file: impl Read) -> io::Result<Vec<u8>> {
     let mut bytes = Vec::new();
     file.by_ref().take(8).read_to_end(&mut bytes)?;
     if let [b'B', b'B', b'3', b'D', length @ ..] = &bytes[..] {
@@ -188,100 +209,92 @@ fn first_chunk(path: &Path) -> io::Result<Vec<u8>> {
 }
 
 /// The nodes of a file as a tree, its textures and its brushes.
-pub fn tree(mode: Mode, path: &Path, out: &mut Vec<u8>) -> Result<(), Stop> {
-    let file = load(path)?;
-    let answer = judge(mode, &file);
-    let scene = accepted(mode, path, file, &answer)?;
-    crate::tree::print(&scene, out);
+pub fn tree(mode: Mode, path: &Path, run: &mut Run) -> Result<(), Stop> {
+    let file = run.load(path)?;
+    let scene = Scene::read(mode, &file).map_err(|refusal| Stop::refused(path, refusal))?;
+    crate::tree::print(&scene, run);
     Ok(())
 }
 
 /// The tables of a file as a folder of texts.
-pub fn tables(mode: Mode, path: &Path, folder: &Path) -> Result<(), Stop> {
-    let file = load(path)?;
-    let answer = judge(mode, &file);
-    let scene = accepted(mode, path, file, &answer)?;
-    let each = TABLES.iter().zip(&scene.tables);
-    let head = [scene.version, scene.n_texs];
-    put_tables(folder, (&HEAD, &head), each, &scene.names)
+pub fn tables(mode: Mode, path: &Path, folder: &Path, run: &mut Run) -> Result<(), Stop> {
+    let file = run.load(path)?;
+    let scene = Scene::read(mode, &file).map_err(|refusal| Stop::refused(path, refusal))?;
+    let tables = scene.tables();
+    let head = text::print_head([tables.version, tables.n_texs]);
+    let each = TABLES.iter().zip(&tables.words);
+    put_tables(folder, (&HEAD, head), each, &file, run)
 }
 
-/// A head of one row and tables as a folder of texts.
+/// The text of a head of one row and tables as a folder of texts.
 pub fn put_tables<'a>(
     folder: &Path,
-    head: (&Table, &[u32]),
+    head: (&Table, String),
     tables: impl Iterator<Item = (&'a Table, &'a Vec<u32>)>,
     names: &[u8],
+    run: &mut Run,
 ) -> Result<(), Stop> {
-    let as_text =
-        |table: &Table, words: &[u32]| (table.file_name(), text::print(table, words, names));
-    let mut files = vec![as_text(head.0, head.1)];
-    files.extend(tables.map(|(table, words)| as_text(table, words)));
-    put_folder(folder, &files)
+    let as_text = |table: &Table, words: &[u32]| text::print(table, words, names);
+    let mut files = vec![(head.0.file_name(), head.1)];
+    files.extend(tables.map(|(table, words)| (table.file_name(), as_text(table, words))));
+    run.put_folder(folder, &files)
 }
 
 /// A file from such a folder.
-pub fn build(mode: Mode, folder: &Path, target: &Path, force: bool) -> Result<(), Stop> {
+pub fn build(
+    mode: Mode,
+    folder: &Path,
+    target: &Path,
+    force: bool,
+    run: &mut Run,
+) -> Result<(), Stop> {
     let mut names = Vec::new();
+    let path = folder.join(HEAD.file_name());
+    let head = text::parse_head(&run.load_text(&path)?);
+    let ([version, n_texs], floats) = head.map_err(|why| Stop::failed(&path, why))?;
     let mut read = |table: &Table| {
         let path = folder.join(table.file_name());
-        let text = fs::read(&path).map_err(|error| Stop::failed(&path, error))?;
-        text::parse(table, &text, &mut names).map_err(|why| Stop::failed(&path, why))
+        let text = run.load_text(&path)?;
+        text::parse(table, &text, floats, &mut names).map_err(|why| Stop::failed(&path, why))
     };
-    let [version, n_texs] = read(&HEAD)?[..] else {
-        let path = folder.join(HEAD.file_name());
-        return Err(Stop::failed(&path, "not just one row"));
-    };
-    let mut tables = <[Vec<u32>; 10]>::default();
-    for (words, table) in tables.iter_mut().zip(&TABLES) {
+    let mut words = <[Vec<u32>; 10]>::default();
+    for (words, table) in words.iter_mut().zip(&TABLES) {
         *words = read(table)?;
     }
-    let scene = Scene {
+    let tables = Tables {
         version,
         n_texs,
-        tables,
-        names,
+        words,
     };
-    let bytes = scene.write(mode);
-    let bytes = bytes.map_err(|written| Stop::not_written(folder, written))?;
-    put_file(target, &bytes, force)
+    let bytes = tables.write(mode, &names);
+    let bytes = bytes.map_err(|refusal| Stop::refused(folder, refusal))?;
+    run.put_file(target, &bytes, force)
 }
 
 /// The copy of a file without names.
-pub fn clear(path: &Path, target: &Path, force: bool) -> Result<(), Stop> {
-    let file = load(path)?;
-    let bytes = scene::clear(&file);
-    let bytes = bytes.map_err(|written| Stop::not_written(path, written))?;
-    put_file(target, &bytes, force)
+pub fn clear(path: &Path, target: &Path, force: bool, run: &mut Run) -> Result<(), Stop> {
+    let copy = kelompuris::clear_to_vec(&run.load(path)?);
+    let copy = copy.map_err(|refusal| Stop::refused(path, refusal))?;
+    run.put_file(target, &copy, force)
 }
 
 /// The slip of a file.
-pub fn slip(path: &Path, target: &Path, force: bool) -> Result<(), Stop> {
-    let file = load(path)?;
-    let bytes = scene::slip_of(&file);
-    let bytes = bytes.map_err(|written| Stop::not_written(path, written))?;
-    put_file(target, &bytes, force)
+pub fn slip(path: &Path, target: &Path, force: bool, run: &mut Run) -> Result<(), Stop> {
+    let slip = kelompuris::slip_to_vec(&run.load(path)?);
+    let slip = slip.map_err(|refusal| Stop::refused(path, refusal))?;
+    run.put_file(target, &slip, force)
 }
 
 /// Number and place of a slip; if accepted version and n_texs, ten counts.
-pub fn show_slip(path: &Path, out: &mut Vec<u8>) -> Result<(), Stop> {
-    let slip = read_slip(&load(path)?);
-    add_numbers(out, &[slip.number, slip.place]);
-    if slip.number != 0 {
-        return Err(Stop::refused(&SCENE, path, slip.number, slip.place));
-    }
-    add_numbers(out, &slip.numbers[..2]);
-    add_numbers(out, &slip.numbers[2..]);
+pub fn show_slip(path: &Path, run: &mut Run) -> Result<(), Stop> {
+    let slip = kelompuris::read_slip(&run.load(path)?);
+    run.numbers(&[slip.number, slip.place]);
+    let slip = slip
+        .result()
+        .map_err(|refusal| Stop::refused(path, refusal))?;
+    run.numbers(&slip.numbers[..2]);
+    run.numbers(&slip.numbers[2..]);
     Ok(())
-}
-
-/// The scene of a file, unless it is refused.
-fn accepted(mode: Mode, path: &Path, file: Vec<u8>, answer: &Answer) -> Result<Scene, Stop> {
-    let scene = match answer.number {
-        0 => Scene::read(mode, file, answer),
-        _ => Err(*answer),
-    };
-    scene.map_err(|answer| Stop::refused(&SCENE, path, answer.number, answer.place))
 }
 
 /// `unnamed` if empty, bytes outside 32 to 126 as `?`.
@@ -299,14 +312,4 @@ pub fn plain(name: &[u8]) -> String {
         _ => '?',
     };
     name.iter().map(plain).collect()
-}
-
-pub fn add_numbers(out: &mut Vec<u8>, numbers: &[u32]) {
-    let texts: Vec<String> = numbers.iter().map(u32::to_string).collect();
-    add_line(out, texts.join(" "));
-}
-
-pub fn add_line(out: &mut Vec<u8>, line: String) {
-    out.extend_from_slice(line.as_bytes());
-    out.push(b'\n');
 }

@@ -1,117 +1,227 @@
 //! What changed between two scenes, in a planner's words.
 
-use crate::answer::{about, refusal, Stop, SCENE, SHORT};
-use crate::columns::{Kind, HEAD, TABLES};
-use crate::commands::{add_line, plain};
-use crate::groups::Bytes;
+use crate::answer::{about, Stop};
+use crate::commands::plain;
 use crate::json;
-use crate::output::{keep, put_file};
-use crate::scene::{load, word};
-use kelompuris::Compared;
+use crate::run::Run;
+use crate::text::decimal;
+use kelompuris::columns::{HEAD, TABLES};
+use kelompuris::{compare_to_vec, Cells, Difference, Mode, NodeKind, Scene};
+use std::ops::Range;
 use std::path::Path;
 
-/// What a cell holds in both files.
-enum Values<'a> {
-    Whole(u32, u32),
-    Float(u32, u32),
-    Name(&'a [u8], &'a [u8]),
+/// A scene, and whose the rows of its tables are.
+struct Owners<'a> {
+    scene: &'a Scene<'a>,
+    /// The vertices of each mesh, the triangles of each set and the keys of each list.
+    vertices: Vec<Range<usize>>,
+    triangles: Vec<Range<usize>>,
+    keys: Vec<Range<usize>>,
+    /// The weights of each node, none if it is no bone.
+    weights: Vec<Range<usize>>,
 }
 
-/// An entry of the list.
-struct Difference<'a> {
-    table: u32,
-    row: u32,
-    word: u32,
-    /// What the cell means.
-    what: String,
-    values: Values<'a>,
+/// The number of the range that a row is in; the ranges follow each other.
+fn holder(ranges: &[Range<usize>], row: usize) -> Option<usize> {
+    let number = ranges.partition_point(|range| range.end <= row);
+    ranges.get(number).map(|_| number)
 }
 
-impl<'a> Difference<'a> {
-    fn take(list: &mut Bytes<'a>) -> Difference<'a> {
-        let [table, row, word] = std::array::from_fn(|_| list.number());
-        let (kind, what) = meaning(table, row, word);
-        let (old, new) = (list.number(), list.number());
-        let values = match kind {
-            Kind::Whole => Values::Whole(old, new),
-            Kind::Float => Values::Float(old, new),
-            Kind::Name => Values::Name(list.part(old as usize), list.part(new as usize)),
-        };
-        Difference {
-            table,
-            row,
-            word,
-            what,
-            values,
+impl<'a> Owners<'a> {
+    fn of(scene: &'a Scene<'a>) -> Owners<'a> {
+        let mut last = 0..0;
+        let mut weights = Vec::new();
+        for node in scene.nodes() {
+            last = match node.kind() {
+                NodeKind::Bone { weights } => weights,
+                _ => last.end..last.end,
+            };
+            weights.push(last.clone());
+        }
+        Owners {
+            scene,
+            vertices: scene.meshes().map(|mesh| mesh.vertices()).collect(),
+            triangles: scene.triangle_sets().map(|set| set.triangles()).collect(),
+            keys: scene.key_lists().map(|list| list.keys()).collect(),
+            weights,
         }
     }
 
-    fn in_words(&self) -> String {
-        let [old, new] = match self.values {
-            Values::Whole(old, new) => [old, new].map(|value| self.whole(value)),
-            Values::Float(old, new) => [old, new].map(float),
-            Values::Name(old, new) => [old, new].map(|name| format!("\"{}\"", plain(name))),
-        };
-        format!("{}: {old} -> {new}", self.what)
+    fn node(&self, node: usize) -> Option<&'a [u8]> {
+        Some(self.scene.nodes().get(node)?.name())
     }
 
-    fn as_json(&self) -> String {
-        let values = match self.values {
-            Values::Whole(old, new) => [old, new].map(|value| (value as i32).to_string()),
-            Values::Float(old, new) => [old, new].map(|bits| {
-                let value = float(bits);
-                match f32::from_bits(bits).is_finite() {
-                    true => value,
-                    false => json::text(&value),
-                }
-            }),
-            Values::Name(old, new) => [old, new].map(|name| json::text(&plain(name))),
-        };
-        let ([old, new], what) = (values, json::text(&self.what));
-        let Difference {
-            table, row, word, ..
-        } = self;
-        let place = format!("\"table\":{table},\"row\":{row},\"word\":{word}");
-        format!("{{{place},\"what\":{what},\"old\":{old},\"new\":{new}}}")
+    fn node_of_mesh(&self, mesh: usize) -> Option<&'a [u8]> {
+        self.node(self.scene.meshes().get(mesh)?.node())
     }
 
-    /// A whole number: an id that is absent and the kind of a node in words.
-    fn whole(&self, value: u32) -> String {
-        let may_be_absent = matches!((self.table, self.word), (2, 9..) | (3, 2) | (4 | 6, 1));
-        match (self.table, self.word, value) {
-            (3, 13, 0..=2) => ["pivot", "mesh", "bone"][value as usize].to_string(),
-            (.., u32::MAX) if may_be_absent => "none".to_string(),
-            _ => (value as i32).to_string(),
+    fn brush(&self, brush: usize) -> Option<&'a [u8]> {
+        Some(self.scene.brushes().get(brush)?.name())
+    }
+
+    fn texture(&self, texture: usize) -> Option<&'a [u8]> {
+        Some(self.scene.textures().get(texture)?.name())
+    }
+
+    /// Whose a row of tables 1 to 10 is, by its name.
+    fn owner(&self, table: u32, row: usize) -> Option<&'a [u8]> {
+        match table {
+            1 => self.texture(row),
+            2 => self.brush(row),
+            3 => self.node(row),
+            4 => self.node_of_mesh(row),
+            5 => self.node_of_mesh(holder(&self.vertices, row)?),
+            6 => self.node_of_mesh(self.scene.triangle_sets().get(row)?.mesh()),
+            7 => {
+                let set = holder(&self.triangles, row)?;
+                self.node_of_mesh(self.scene.triangle_sets().get(set)?.mesh())
+            }
+            8 => self.node(holder(&self.weights, row)?),
+            9 => self.node(self.scene.key_lists().get(row)?.node()),
+            10 => {
+                let list = holder(&self.keys, row)?;
+                self.node(self.scene.key_lists().get(list)?.node())
+            }
+            _ => None,
+        }
+    }
+
+    /// What is to be said of a row beside its table and number.
+    fn about(&self, table: u32, row: usize) -> Option<String> {
+        let owner = quoted(self.owner(table, row)?);
+        Some(match table {
+            1..=3 => owner,
+            5 => {
+                let first = self.vertices[holder(&self.vertices, row)?].start;
+                format!("(vertex {} of {owner})", row - first)
+            }
+            8 => {
+                let vertex = self.scene.weights().get(row)?.vertex();
+                format!("(of {owner}, vertex {vertex})")
+            }
+            10 => {
+                let frame = self.scene.keys().get(row)?.frame();
+                format!("(of {owner}, frame {frame})")
+            }
+            _ => format!("(of {owner})"),
+        })
+    }
+
+    /// A whole number of a cell: an id with the name of what it names, the kind of a node in words.
+    fn whole(&self, table: u32, word: u32, value: u32) -> String {
+        let id = value as usize;
+        let named = match (table, word) {
+            (2, 9..) => self.texture(id),
+            (3, 2) | (4 | 9, 0) => self.node(id),
+            (4 | 6, 1) => self.brush(id),
+            (3, 13) => {
+                return ["pivot", "mesh", "bone"]
+                    .get(id)
+                    .map_or(value.to_string(), |kind| kind.to_string())
+            }
+            (3, 16) => {
+                return ["no", "yes"]
+                    .get(id)
+                    .map_or(value.to_string(), |is| is.to_string())
+            }
+            _ => return (value as i32).to_string(),
+        };
+        match (value, named) {
+            (u32::MAX, _) => "none".to_string(),
+            (_, Some(name)) => format!("{value} {}", quoted(name)),
+            (_, None) => (value as i32).to_string(),
         }
     }
 }
 
-/// What stands in a word: its kind, and what it means.
-fn meaning(table: u32, row: u32, word: u32) -> (Kind, String) {
-    let word = word as usize;
-    let Some(table) = (table as usize).checked_sub(1) else {
-        let what = match word.checked_sub(2) {
-            Some(table) => format!("number of {}", TABLES[table].many),
-            None => HEAD
-                .header()
-                .split('\t')
-                .nth(word)
-                .unwrap_or_default()
-                .to_string(),
-        };
-        return (Kind::Whole, what);
+/// A name as it is told.
+fn quoted(name: &[u8]) -> String {
+    match name {
+        [] => "unnamed".to_string(),
+        _ => format!("\"{}\"", plain(name)),
+    }
+}
+
+/// A cell that differs as a line of words.
+fn in_words(difference: &Difference, old: &Owners, new: &Owners) -> String {
+    let &Difference {
+        table, row, word, ..
+    } = difference;
+    let mut place = row_of(difference);
+    // A name that differs is told behind.
+    if let (Some(about), true) = (
+        old.about(table, row as usize),
+        !matches!(difference.cells, Cells::Name(..)),
+    ) {
+        place += &format!(" {about}");
+    }
+    let what = match table {
+        0 => column(difference),
+        _ => format!("{place}, {}", column(difference)),
     };
-    let table = &TABLES[table];
-    let (kind, column) = table.column(word).expect("a word of the table");
-    (kind, format!("{} row {row}, {column}", table.many))
+    let [before, after] = match difference.cells {
+        Cells::Whole(before, after) => [
+            old.whole(table, word, before),
+            new.whole(table, word, after),
+        ],
+        Cells::Float(before, after) => [before, after].map(decimal),
+        Cells::Name(before, after) => [before, after].map(|name| format!("\"{}\"", plain(name))),
+    };
+    format!("{what}: {before} -> {after}")
 }
 
-/// A float; of what is no number its bits too, for there are many.
-fn float(bits: u32) -> String {
-    let value = f32::from_bits(bits);
-    match value.is_nan() {
-        true => format!("NaN ({bits:08x})"),
-        false => format!("{value:?}"),
+/// A cell that differs as a JSON object. Whose the row is stands there by the name that the first file has for it.
+fn as_json(difference: &Difference, old: &Owners) -> String {
+    let values = match difference.cells {
+        Cells::Whole(old, new) => [old, new].map(|value| (value as i32).to_string()),
+        Cells::Float(old, new) => [old, new].map(|value| match value.is_finite() {
+            true => decimal(value),
+            false => json::text(&decimal(value)),
+        }),
+        Cells::Name(old, new) => [old, new].map(|name| json::text(&plain(name))),
+    };
+    let [before, after] = values;
+    let &Difference {
+        table, row, word, ..
+    } = difference;
+    let what = match table {
+        0 => column(difference),
+        _ => format!("{}, {}", row_of(difference), column(difference)),
+    };
+    let what = json::text(&what);
+    let of = match old.owner(table, row as usize) {
+        Some(name) => format!(",\"of\":{}", json::text(&plain(name))),
+        None => String::new(),
+    };
+    let place = format!("\"table\":{table},\"row\":{row},\"word\":{word}");
+    format!("{{{place},\"what\":{what}{of},\"old\":{before},\"new\":{after}}}")
+}
+
+/// The table and the row of a cell.
+fn row_of(difference: &Difference) -> String {
+    let table = (difference.table as usize).checked_sub(1);
+    let many = table.map_or(HEAD.many, |table| TABLES[table].many);
+    format!("{many} row {}", difference.row)
+}
+
+/// What stands in a cell.
+fn column(difference: &Difference) -> String {
+    let word = difference.word as usize;
+    let Some(table) = (difference.table as usize).checked_sub(1) else {
+        return match word.checked_sub(2) {
+            Some(table) => format!("number of {}", TABLES[table].many),
+            None => HEAD.column(word).expect("a word of the head").1,
+        };
+    };
+    match (difference.table, word) {
+        (3, 9..=12) => format!("rotation {}", ["w", "x", "y", "z"][word - 9]),
+        (10, 7..) => format!("rotation {}", ["w", "x", "y", "z"][word - 7]),
+        (3, 14) => "its mesh or first weight".to_string(),
+        (3, 15) => "its meshes or weights".to_string(),
+        (3, 16) => "has an ANIM".to_string(),
+        (3, 20) => "nodes below it".to_string(),
+        (5, 10..) => format!("coordinate {} of set {}", (word - 10) % 4, (word - 10) / 4),
+        _ => TABLES[table].column(word).expect("a word of the table").1,
     }
 }
 
@@ -121,55 +231,42 @@ pub fn diff(
     raw: Option<&Path>,
     json: bool,
     force: bool,
-    out: &mut Vec<u8>,
+    run: &mut Run,
 ) -> Result<(), Stop> {
-    let [old, new] = [load(paths[0])?, load(paths[1])?];
-    let list = list(&old, &new).map_err(|answer| {
-        let path = paths[usize::from(answer.which == 2)];
-        let place = word(answer.place as usize);
-        Stop::Failed(about(path, refusal(&SCENE, answer.number, place)))
+    let files = [run.load(paths[0])?, run.load(paths[1])?];
+    // Refused is trouble here: 1 says that something differs.
+    let compared = compare_to_vec(&files[0], &files[1]).map_err(|refusal| {
+        let path = paths[usize::from(refusal.which() == Some(2))];
+        Stop::Failed(about(path, refusal))
     })?;
     if let Some(raw) = raw {
-        for path in paths {
-            keep(path, raw)?;
-        }
-        put_file(raw, &list, force)?;
+        run.keep_inputs(raw)?;
+        run.put_file(raw, compared.list(), force)?;
     }
-    let mut left = Bytes(&list);
+    if compared.differences().next().is_none() {
+        return Ok(());
+    }
+    let read = |number: usize| {
+        let scene = Scene::read(Mode::Lenient, &files[number]);
+        scene.map_err(|refusal| Stop::Failed(about(paths[number], refusal)))
+    };
+    let [old, new] = [read(0)?, read(1)?];
+    let [old, new] = [Owners::of(&old), Owners::of(&new)];
     let (mut count, mut numbers) = (0, false);
-    while !left.0.is_empty() {
-        let difference = Difference::take(&mut left);
+    for difference in compared.differences() {
         count += 1;
         numbers = difference.table == 0;
-        add_line(
-            out,
-            match json {
-                true => difference.as_json(),
-                false => difference.in_words(),
-            },
-        );
+        run.line(match json {
+            true => as_json(&difference, &old),
+            false => in_words(&difference, &old, &new),
+        });
     }
-    let told = match (count, numbers) {
-        (0, _) => return Ok(()),
-        (_, true) => format!("{count} of version, n_texs and the numbers of rows differ; what is in the rows is not compared"),
+    Err(Stop::Found(match (count, numbers) {
+        (_, true) => {
+            let what = "version, n_texs and the numbers of rows";
+            format!("{count} of {what} differ; what is in the rows is not compared")
+        }
         (1, _) => "1 cell differs".to_string(),
         _ => format!("{count} cells differ"),
-    };
-    Err(Stop::Found(told))
-}
-
-/// The list of what differs. Lends no output, to learn the size, then just that much.
-fn list(old: &[u8], new: &[u8]) -> Result<Vec<u8>, Compared> {
-    let asked = kelompuris::compare(old, new, &mut []);
-    let size = match asked.number {
-        0 => 0,
-        SHORT => asked.place as usize,
-        _ => return Err(asked),
-    };
-    let mut list = vec![0; size];
-    let written = kelompuris::compare(old, new, &mut list);
-    match written.number {
-        0 => Ok(list),
-        _ => Err(written),
-    }
+    }))
 }

@@ -1,23 +1,26 @@
 //! Answers for programs: one JSON object on a line for each file.
 
 use crate::answer::{in_words, printable};
-use crate::columns::TABLES;
-use kelompuris::Answer;
+use kelompuris::columns::TABLES;
+use kelompuris::{Answer, Refusal};
 use std::path::Path;
 
 /// A file and its answer. On a refusal there are no counts.
-pub fn answer(path: &Path, answer: &Answer) -> String {
-    let Answer { number, place, .. } = answer;
+pub fn answer(path: &Path, answer: &Result<Answer, Refusal>) -> String {
+    let (number, place) = match answer {
+        Ok(_) => (0, 0),
+        Err(refusal) => (refusal.number(), refusal.place()),
+    };
     let mut cells = vec![
         format!("\"file\":{}", text(&printable(path))),
         format!("\"number\":{number}"),
         format!("\"place\":{place}"),
         format!("\"words\":{}", text(&in_words(answer))),
     ];
-    if answer.number == 0 {
-        cells.push(format!("\"version\":{}", answer.version));
-        cells.push(format!("\"n_texs\":{}", answer.n_texs));
-        for (table, count) in TABLES.iter().zip(answer.counts) {
+    if let Ok(held) = answer {
+        cells.push(format!("\"version\":{}", held.version));
+        cells.push(format!("\"n_texs\":{}", held.n_texs));
+        for (table, count) in TABLES.iter().zip(held.counts) {
             cells.push(format!("{}:{count}", text(&table.many.replace(' ', "_"))));
         }
     }

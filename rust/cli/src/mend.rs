@@ -1,54 +1,47 @@
 //! A scene mended, and what was mended in a planner's words.
 
-use crate::answer::{about, refusal, Stop, SCENE, SHORT};
-use crate::commands::add_line;
+use crate::answer::{about, Stop};
 use crate::explain::brushes;
-use crate::groups::Bytes;
-use crate::output::{keep, put_files};
-use crate::scene::load;
-use kelompuris::Mended;
+use crate::output::keep;
+use crate::run::Run;
+use crate::text::decimal;
+use kelompuris::{mend_to_vec, Mend, MendKind};
 use std::path::Path;
 
-/// An entry of the report.
-struct Mend<'a> {
-    place: u32,
-    which: u32,
-    given: &'a [u8],
-    mended: &'a [u8],
-}
-
-impl<'a> Mend<'a> {
-    fn take(report: &mut Bytes<'a>) -> Mend<'a> {
-        let [place, which, before, after] = std::array::from_fn(|_| report.number());
-        Mend {
-            place,
-            which,
-            given: report.part(before as usize),
-            mended: report.part(after as usize),
+/// What was mended; an id is one of a texture or of a brush.
+fn in_words(mend: &Mend, texture: bool) -> String {
+    let number = |bytes: &[u8]| bytes.try_into().map_or(0, u32::from_le_bytes);
+    let (given, mended) = (number(mend.given), number(mend.mended));
+    let words: Vec<u32> = mend.given.chunks(4).map(number).collect();
+    let ids: Vec<String> = words.iter().map(|&id| (id as i32).to_string()).collect();
+    let what = match (mend.kind, &words[..]) {
+        (MendKind::Length, _) if given == mended => {
+            format!("length of the scene (BB3D), {given}, is right once the bytes behind it are taken out")
         }
-    }
-
-    /// What was mended; an id is one of a texture or of a brush.
-    fn in_words(&self, texture: bool) -> String {
-        let number = |bytes: &[u8]| bytes.try_into().map_or(0, u32::from_le_bytes);
-        let (given, mended) = (number(self.given), number(self.mended));
-        let size = self.given.len();
-        let taken = match size {
-            1 => "1 byte taken out".to_string(),
-            _ => format!("{size} bytes taken out"),
-        };
-        let what = match (self.which, size) {
-            (1, _) => format!("length of BB3D that is not the file's, {given} -> {mended}"),
-            (2, _) => {
-                let kind = if texture { "texture" } else { "brush" };
-                format!("{kind} that is not there, {} -> none", given as i32)
-            }
-            (3, 8) => format!("weight of a vertex that is not there, {taken}"),
-            (3, _) => format!("triangle with a vertex that is not there, {taken}"),
-            _ => format!("spare bytes, {taken}"),
-        };
-        format!("byte {}: {what}", self.place)
-    }
+        (MendKind::Length, _) => {
+            format!("length of the scene (BB3D) is not the file's, {given} -> {mended}")
+        }
+        (MendKind::Id, _) => {
+            let kind = if texture { "texture" } else { "brush" };
+            format!("{kind} that is not there, {} -> none", given as i32)
+        }
+        (MendKind::Item, [vertex, weight]) => {
+            let weight = decimal(f32::from_bits(*weight));
+            format!(
+                "weight {weight} of vertex {}, which is not there, taken out",
+                *vertex as i32
+            )
+        }
+        (MendKind::Item, _) => {
+            let ids = ids.join(" ");
+            format!("triangle {ids} with a vertex that is not there, taken out")
+        }
+        (MendKind::Spare, _) => match mend.given.len() {
+            1 => "1 spare byte taken out".to_string(),
+            size => format!("{size} spare bytes taken out"),
+        },
+    };
+    format!("byte {}: {what}", mend.place)
 }
 
 /// A copy of a file whose faults are mended, and a line for each.
@@ -57,52 +50,27 @@ pub fn mend(
     target: &Path,
     report_target: Option<&Path>,
     force: bool,
-    out: &mut Vec<u8>,
+    run: &mut Run,
 ) -> Result<(), Stop> {
-    let file = load(path)?;
-    let (mended, report) = mended(&file).map_err(|answer| {
-        Stop::Failed(about(path, refusal(&SCENE, answer.number, answer.place)))
-    })?;
-    let mut files = vec![(target, &mended[..])];
+    let file = run.load(path)?;
+    // Refused is trouble here: 1 says that the file is mended.
+    let mending = mend_to_vec(&file).map_err(|refusal| Stop::Failed(about(path, refusal)))?;
+    run.keep_inputs(target)?;
     if let Some(report_target) = report_target {
         keep(target, report_target)?;
-        files.push((report_target, &report));
+        run.keep_inputs(report_target)?;
     }
-    for (each, _) in &files {
-        keep(path, each)?;
+    run.put_file(target, mending.file(), force)?;
+    if let Some(report_target) = report_target {
+        run.put_file(report_target, mending.report(), force)?;
     }
-    put_files(&files, force)?;
     let textures = brushes(&file);
-    let mut count = 0;
-    let mut left = Bytes(&report);
-    while !left.0.is_empty() {
-        let mend = Mend::take(&mut left);
-        let texture = textures.contains(&(mend.place as usize));
-        add_line(out, mend.in_words(texture));
-        count += 1;
+    for mend in mending.mends() {
+        run.line(in_words(&mend, textures.contains(&(mend.place as usize))));
     }
-    match count {
+    match mending.mends().count() {
         0 => Ok(()),
-        1 => Err(Stop::Found(about(path, "1 mend"))),
-        count => Err(Stop::Found(about(path, format!("{count} mends")))),
-    }
-}
-
-/// The mended file and the report. Lends no outputs, to learn the first size, then one,
-/// to learn the other, then just that much.
-fn mended(file: &[u8]) -> Result<(Vec<u8>, Vec<u8>), Mended> {
-    let (mut mended, mut report) = (Vec::new(), Vec::new());
-    let asked = kelompuris::mend(file, &mut [], &mut []);
-    if asked.number == SHORT {
-        mended.resize(asked.place as usize, 0);
-    }
-    let asked = kelompuris::mend(file, &mut mended, &mut []);
-    if asked.number == SHORT {
-        report.resize(asked.place as usize, 0);
-    }
-    let answer = kelompuris::mend(file, &mut mended, &mut report);
-    match answer.number {
-        0 => Ok((mended, report)),
-        _ => Err(answer),
+        1 => Err(Stop::Found(about(path, "1 fault mended"))),
+        count => Err(Stop::Found(about(path, format!("{count} faults mended")))),
     }
 }

@@ -1,8 +1,56 @@
 //! Tables as text: a header line, then a line for each row, with a tab between
 //! cells. What is printed is read back to the same words and names.
 
-use crate::columns::{Kind, Table};
-use crate::scene::{name, word};
+use kelompuris::columns::{Kind, Table, HEAD};
+
+/// How floats are written.
+#[derive(Clone, Copy, Debug, PartialEq, Eq)]
+pub enum Floats {
+    /// The shortest decimal that reads back as the same float; `nan:` and the bits of what is not a number.
+    Decimal,
+    /// The bits as 8 hex digits, as in older texts.
+    Hex,
+}
+
+/// What stands behind the columns of `scene.tsv`, and in its one row.
+const FLOATS: &str = "floats";
+const DECIMAL: &str = "decimal";
+
+/// Version and n_texs as text, and how floats are written.
+pub fn print_head(words: [u32; 2]) -> String {
+    let cells = cells(&HEAD, &words, &[]).join("\t");
+    format!("{}\t{FLOATS}\n{cells}\t{DECIMAL}\n", HEAD.header())
+}
+
+/// Such a text. Without that column, which older texts do not have, floats are in hex.
+pub fn parse_head(text: &[u8]) -> Result<([u32; 2], Floats), String> {
+    let text = String::from_utf8_lossy(text);
+    let mut lines: Vec<&str> = text.lines().collect();
+    let mut floats = Floats::Hex;
+    if let Some(header) = lines.first().and_then(|line| line.strip_suffix("\tfloats")) {
+        lines[0] = header;
+        for (line, number) in lines[1..].iter_mut().zip(2..) {
+            match line.rsplit_once('\t') {
+                Some((cells, DECIMAL)) => *line = cells,
+                Some((_, cell)) => {
+                    return Err(format!("line {number}, {FLOATS}: cannot read \"{cell}\""))
+                }
+                None => return Err(format!("line {number}: 1 cells, not 3")),
+            }
+        }
+        floats = Floats::Decimal;
+    }
+    let words = parse(
+        &HEAD,
+        lines.join("\n").as_bytes(),
+        Floats::Hex,
+        &mut Vec::new(),
+    )?;
+    match words[..] {
+        [version, n_texs] => Ok(([version, n_texs], floats)),
+        _ => Err("not just one row".to_string()),
+    }
+}
 
 /// The table as text; `names` holds the bytes of the names.
 pub fn print(table: &Table, words: &[u32], names: &[u8]) -> String {
@@ -26,7 +74,12 @@ pub fn cells(table: &Table, row: &[u32], names: &[u8]) -> Vec<String> {
 }
 
 /// The words of the rows; names are added to `names`.
-pub fn parse(table: &Table, text: &[u8], names: &mut Vec<u8>) -> Result<Vec<u32>, String> {
+pub fn parse(
+    table: &Table,
+    text: &[u8],
+    floats: Floats,
+    names: &mut Vec<u8>,
+) -> Result<Vec<u32>, String> {
     let text = text.strip_suffix(b"\n").unwrap_or(text);
     let mut lines = text.split(|&byte| byte == b'\n').zip(1..);
     let header = table.header();
@@ -43,7 +96,7 @@ pub fn parse(table: &Table, text: &[u8], names: &mut Vec<u8>) -> Result<Vec<u32>
             return Err(format!("line {number}: {found} cells, not {columns}"));
         }
         for (column, (kind, cell)) in table.kinds().zip(cells).enumerate() {
-            let Some(own) = parse_cell(kind, cell, names) else {
+            let Some(own) = parse_cell(kind, cell, floats, names) else {
                 let cell = String::from_utf8_lossy(cell);
                 let name = header.split('\t').nth(column).unwrap_or_default();
                 return Err(format!("line {number}, {name}: cannot read \"{cell}\""));
@@ -75,12 +128,12 @@ fn print_cell(kind: Kind, words: &[u32], names: &[u8]) -> String {
     match kind {
         Kind::Name => escape(name(names, words)),
         Kind::Whole => (words[0] as i32).to_string(),
-        Kind::Float => format!("{:08x}", words[0]),
+        Kind::Float => decimal(f32::from_bits(words[0])),
     }
 }
 
 /// The words of a cell, as many as its kind takes.
-fn parse_cell(kind: Kind, cell: &[u8], names: &mut Vec<u8>) -> Option<[u32; 2]> {
+fn parse_cell(kind: Kind, cell: &[u8], floats: Floats, names: &mut Vec<u8>) -> Option<[u32; 2]> {
     match kind {
         Kind::Name => {
             let name = unescape(cell)?;
@@ -92,9 +145,58 @@ fn parse_cell(kind: Kind, cell: &[u8], names: &mut Vec<u8>) -> Option<[u32; 2]> 
             let whole: i32 = std::str::from_utf8(cell).ok()?.parse().ok()?;
             Some([whole as u32, 0])
         }
-        Kind::Float if cell.len() == 8 => Some([hex(cell)?, 0]),
-        Kind::Float => None,
+        Kind::Float => match floats {
+            Floats::Decimal => Some([from_decimal(cell)?, 0]),
+            Floats::Hex if cell.len() == 8 => Some([hex(cell)?, 0]),
+            Floats::Hex => None,
+        },
     }
+}
+
+/// The shortest decimal that reads back as this float; of what is not a number its bits.
+pub fn decimal(value: f32) -> String {
+    if value.is_nan() {
+        return format!("{NOT_A_NUMBER}{:08x}", value.to_bits());
+    }
+    let text = format!("{value:?}");
+    match text.strip_suffix(".0") {
+        Some(whole) => whole.to_string(),
+        None => text,
+    }
+}
+
+/// What stands before the bits of what is not a number.
+const NOT_A_NUMBER: &str = "nan:";
+
+/// The bits of a decimal, the nearest float's. One that is too large for a float is none.
+fn from_decimal(cell: &[u8]) -> Option<u32> {
+    let text = std::str::from_utf8(cell).ok()?;
+    if let Some(digits) = text.strip_prefix(NOT_A_NUMBER) {
+        let bits = hex(digits.as_bytes()).filter(|_| digits.len() == 8)?;
+        return f32::from_bits(bits).is_nan().then_some(bits);
+    }
+    let value: f32 = text.parse().ok()?;
+    let has_letters = text
+        .bytes()
+        .any(|byte| byte.is_ascii_alphabetic() && byte | 0x20 != b'e');
+    let same_kind = match has_letters {
+        // inf and infinity, with a sign or not.
+        true => value.is_infinite(),
+        false => value.is_finite(),
+    };
+    same_kind.then(|| value.to_bits())
+}
+
+/// A size as a word. One that is no word is far past every limit, and so is
+/// the highest word.
+fn word(size: usize) -> u32 {
+    u32::try_from(size).unwrap_or(u32::MAX)
+}
+
+/// The bytes of a name place and name length.
+fn name<'a>(names: &'a [u8], words: &[u32]) -> &'a [u8] {
+    let place = words[0] as usize;
+    &names[place..place + words[1] as usize]
 }
 
 /// Bytes outside 33 to 126 and the backslash as \xNN.
@@ -137,8 +239,10 @@ fn hex(digits: &[u8]) -> Option<u32> {
 
 #[cfg(test)]
 mod tests {
-    use super::{escape, parse, print, unescape};
-    use crate::columns::TABLES;
+    use super::{
+        decimal, escape, from_decimal, parse, parse_head, print, print_head, unescape, Floats,
+    };
+    use kelompuris::columns::TABLES;
 
     #[test]
     fn every_byte_of_a_name_comes_back() {
@@ -154,9 +258,111 @@ mod tests {
     fn any_words_come_back() {
         let words = [3, 0xFFFF_FFFF, 0x8000_0000, 0x7FC0_0001];
         let text = print(&TABLES[7], &words, b"");
-        assert_eq!(text, "vertex\tweight\n3\tffffffff\n-2147483648\t7fc00001\n");
-        let back = parse(&TABLES[7], text.as_bytes(), &mut Vec::new());
+        assert_eq!(
+            text,
+            "vertex\tweight\n3\tnan:ffffffff\n-2147483648\tnan:7fc00001\n"
+        );
+        let back = parse(
+            &TABLES[7],
+            text.as_bytes(),
+            Floats::Decimal,
+            &mut Vec::new(),
+        );
         assert_eq!(back, Ok(words.to_vec()));
+        let older = "vertex\tweight\n3\tffffffff\n-2147483648\t7fc00001\n";
+        let back = parse(&TABLES[7], older.as_bytes(), Floats::Hex, &mut Vec::new());
+        assert_eq!(back, Ok(words.to_vec()));
+    }
+
+    #[test]
+    fn decimals_read_back() {
+        let cases = [
+            (0, "0"),
+            (0x8000_0000, "-0"),
+            (0x3F00_0000, "0.5"),
+            (0x3F80_0000, "1"),
+            (0xBF80_0000, "-1"),
+            (0x3DCC_CCCD, "0.1"),
+            (1, "1e-45"),
+            (0x007F_FFFF, "1.1754942e-38"),
+            (0x7F7F_FFFF, "3.4028235e38"),
+            (0x7F80_0000, "inf"),
+            (0xFF80_0000, "-inf"),
+            (0x7F80_0001, "nan:7f800001"),
+            (0xFFC0_0000, "nan:ffc00000"),
+            // Eight digits, which would be a float in hex.
+            (0x4B80_0000, "16777216"),
+        ];
+        for (bits, text) in cases {
+            assert_eq!(decimal(f32::from_bits(bits)), text);
+            assert_eq!(from_decimal(text.as_bytes()), Some(bits), "{text}");
+        }
+        // Each exponent and both signs, with mantissas of all kinds.
+        for high in 0..512_u32 {
+            for low in [
+                0, 1, 2, 0x2A_AAAA, 0x40_0000, 0x55_5555, 0x7F_FFFE, 0x7F_FFFF,
+            ] {
+                let bits = high << 23 | low;
+                let text = decimal(f32::from_bits(bits));
+                assert_eq!(from_decimal(text.as_bytes()), Some(bits), "{text}");
+            }
+        }
+    }
+
+    #[test]
+    fn what_is_no_decimal() {
+        for text in [
+            "",
+            "one",
+            "nan",
+            "NaN",
+            "nan:",
+            "nan:3f800000",
+            "nan:7fc0001",
+            "0,5",
+            "1e50",
+            "-1e50",
+            "3f800000",
+            " 1",
+            "1 ",
+            "0x10",
+        ] {
+            assert_eq!(from_decimal(text.as_bytes()), None, "{text}");
+        }
+        for (text, value) in [
+            ("+1", 1.0),
+            (".5", 0.5),
+            ("1.", 1.0),
+            ("1E3", 1000.0),
+            ("Inf", f32::INFINITY),
+        ] {
+            assert_eq!(
+                from_decimal(text.as_bytes()),
+                Some(f32::to_bits(value)),
+                "{text}"
+            );
+        }
+    }
+
+    #[test]
+    fn heads_of_both_forms() {
+        let text = print_head([1, 2]);
+        assert_eq!(text, "version\tn_texs\tfloats\n1\t2\tdecimal\n");
+        assert_eq!(parse_head(text.as_bytes()), Ok(([1, 2], Floats::Decimal)));
+        assert_eq!(
+            parse_head(b"version\tn_texs\n1\t2\n"),
+            Ok(([1, 2], Floats::Hex))
+        );
+        for wrong in [
+            "",
+            "version\tn_texs\tfloats\n",
+            "version\tn_texs\tfloats\n1\t2\n",
+            "version\tn_texs\tfloats\n1\t2\tbinary\n",
+            "version\tn_texs\tfloats\n1\t2\tdecimal\n1\t2\tdecimal\n",
+            "version\tn_texs\n1\t2\tdecimal\n",
+        ] {
+            assert!(parse_head(wrong.as_bytes()).is_err(), "{wrong}");
+        }
     }
 
     #[test]

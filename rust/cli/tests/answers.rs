@@ -211,6 +211,7 @@ BB3D at 0, 145 bytes
       TRIS at 129, 16 bytes
 a vertex id is 3, not a vertex of the same mesh
 the mesh has 3 vertices
+kelompuris mend FILE OUT makes a copy that opens
 ";
     explained(&with(worked::t(), 149, 3), vertex);
     let version = "\
@@ -230,6 +231,19 @@ the file looks like a skeleton of cal3d: kelompuris skeleton FILE
 ";
     run(&folder, &["explain", "door.csf"]).is(1, door);
     run(&folder, &["explain", "hall.b3d"]).is(0, "accepted, version 1, 1 node\n");
+    // What only the strict mode refuses is not mended.
+    let colour = with(worked::brush(1), 64, 2.0_f32.to_bits());
+    fs::write(folder.join("bad.b3d"), with(colour.clone(), 92, 9)).unwrap();
+    let told = run(&folder, &["explain", "bad.b3d"]);
+    let hint = "kelompuris mend FILE OUT makes a copy that opens with --lenient\n";
+    assert!(told.out.ends_with(hint), "{told:?}");
+    fs::write(folder.join("bad.b3d"), colour).unwrap();
+    let told = run(&folder, &["explain", "bad.b3d"]);
+    assert!(
+        told.out
+            .ends_with("a colour is 2, not 0 to 1 (with --lenient any is taken)\n"),
+        "{told:?}"
+    );
 }
 
 #[test]
@@ -256,6 +270,11 @@ fn folders_and_json() {
     fs::write(folder.join("rooms/upper.b3d/Z.B3D"), worked::h()).unwrap();
     fs::write(folder.join("rooms/\"a\\.b3d"), &worked::h()[..11]).unwrap();
     fs::write(folder.join("rooms/note.txt"), "no scene").unwrap();
+    // A pipe that nobody writes to would never end.
+    let pipe = std::process::Command::new("mkfifo")
+        .arg(folder.join("rooms/pipe.b3d"))
+        .status();
+    assert!(pipe.unwrap().success());
     let words = "1 at 0: a file size outside 12 to 16,777,216 bytes";
     let told =
         format!("rooms/\"a\\.b3d: {words}\nrooms/upper.b3d/Z.B3D: accepted, version 1, 1 node\n");

@@ -15,7 +15,7 @@ fn the_door() {
     let folder = fresh("door");
     let listed = "\
 0 0
-1300 6 3e800000 3e800000 3e800000
+1300 6 0.25 0.25 0.25
 6 4
 frame
   hinge
@@ -45,7 +45,7 @@ fn names_with_a_zero() {
         put(&[NONE, 0, 0, 0, 0, 0], b"");
     }
     fs::write(folder.join("hip.csf"), file).unwrap();
-    let listed = "0 0\n1300 2 00000000 00000000 00000000\n2 0\nhip\nunnamed\n";
+    let listed = "0 0\n1300 2 0 0 0\n2 0\nhip\nunnamed\n";
     run(&folder, &["skeleton", "hip.csf"]).is(0, listed);
 }
 
@@ -140,13 +140,13 @@ fn tables_of_the_curtain() {
     run(&folder, &["mesh", "--tables", "curtain.cmf", "parts"]).is(0, "");
     let texts = [
         ("faces", "vertex_0 vertex_1 vertex_2", "1 5 4"),
-        ("influences", "bone weight", "4 3f800000"),
-        ("maps", "map_u map_v", "3f000000 3f800000"),
+        ("influences", "bone weight", "4 1"),
+        ("maps", "map_u map_v", "0.5 1"),
         ("mesh", "version submeshes", "700 1"),
         (
             "springs",
             "vertex_0 vertex_1 coefficient idle_length",
-            "2 5 41000000 3f800000",
+            "2 5 8 1",
         ),
         (
             "submeshes",
@@ -157,7 +157,7 @@ fn tables_of_the_curtain() {
             "vertices",
             "position_x position_y position_z normal_x normal_y normal_z collapse face_collapses \
              influences cloth_weight first_map first_influence",
-            "3f000000 3f800000 3e000000 00000000 00000000 3f800000 4 1 0 3f800000 5 3",
+            "0.5 1 0.125 0 0 1 4 1 0 1 5 3",
         ),
     ];
     let names = texts.map(|(name, _, _)| format!("{name}.tsv"));
@@ -180,7 +180,7 @@ fn tables_of_the_door() {
     assert_eq!(names_in(&folder.join("parts")), files);
     let text = |name| fs::read_to_string(folder.join("parts").join(name)).unwrap();
     let head = "version\tbones\tambient_red\tambient_green\tambient_blue\n\
-                1300\t6\t3e800000\t3e800000\t3e800000\n";
+                1300\t6\t0.25\t0.25\t0.25\n";
     assert_eq!(text("skeleton.tsv"), head);
     assert_eq!(text("children.tsv"), "bone\n1\n4\n2\n3\n");
     let bones = text("bones.tsv");
@@ -189,16 +189,14 @@ fn tables_of_the_door() {
                  rotation_w local_translation_x local_translation_y local_translation_z \
                  local_rotation_x local_rotation_y local_rotation_z local_rotation_w parent lighting \
                  colour_red colour_green colour_blue children first_child";
-    let rail = "curtain\\x20rail 00000000 40000000 3e000000 00000000 00000000 00000000 3f800000 \
-                00000000 c0000000 be000000 00000000 00000000 00000000 3f800000 0 0 3f800000 3f800000 \
-                3f800000 0 4";
+    let rail = "curtain\\x20rail 0 2 0.125 0 0 0 1 0 -2 -0.125 0 0 0 1 0 0 1 1 1 0 4";
     assert_eq!(lines.len(), 7);
     assert_eq!(lines[0], names.replace(' ', "\t"));
     assert_eq!(lines[5], rail.replace(' ', "\t"));
 }
 
 /// A table's text, but for the line of column names: `n` is a name, of two words,
-/// which is empty here, `w` a whole number, `f` a float.
+/// which is empty here, `w` a whole number, `f` a float, by its bits.
 fn text_of(words: &[u32], columns: &str) -> String {
     let mut left = words.iter();
     let mut text = String::new();
@@ -216,6 +214,21 @@ fn text_of(words: &[u32], columns: &str) -> String {
     text
 }
 
+/// Such a text with its floats read back and printed by their bits.
+fn in_hex(rows: &str, columns: &str) -> String {
+    let mut text = String::new();
+    for line in rows.lines() {
+        let cells = line.split('\t').zip(columns.chars());
+        let cells = cells.map(|(cell, column)| match (column, cell.strip_prefix("nan:")) {
+            ('f', Some(bits)) => bits.to_string(),
+            ('f', None) => format!("{:08x}", cell.parse::<f32>().unwrap().to_bits()),
+            _ => cell.to_string(),
+        });
+        text += &(cells.collect::<Vec<_>>().join("\t") + "\n");
+    }
+    text
+}
+
 /// Every word of the tables is in their texts.
 fn texts_hold(folder: &Path, made: &Made, kind: &str, tables: &[(&str, &str)]) {
     fs::write(folder.join("f"), &made.file).unwrap();
@@ -227,7 +240,7 @@ fn texts_hold(folder: &Path, made: &Made, kind: &str, tables: &[(&str, &str)]) {
     for ((name, columns), words) in tables.iter().zip(&made.tables) {
         let text = fs::read_to_string(parts.join(format!("{name}.tsv"))).unwrap();
         let rows = text.split_once('\n').unwrap().1;
-        assert_eq!(rows, text_of(words, columns), "{name}");
+        assert_eq!(in_hex(rows, columns), text_of(words, columns), "{name}");
     }
 }
 

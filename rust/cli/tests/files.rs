@@ -3,6 +3,8 @@
 mod common;
 
 use common::{fresh, names_in, run, sheet_of};
+use kelompuris::columns::{Kind, TABLES};
+use kelompuris::{Mode, Row, Scene};
 use scenes::worked::{self, with};
 use scenes::{scene, Profile, Rng};
 use std::fs;
@@ -48,13 +50,15 @@ fn tables_of_the_hall() {
     ];
     assert_eq!(names_in(&folder.join("parts")), files);
     let text = |name| fs::read_to_string(folder.join("parts").join(name)).unwrap();
-    assert_eq!(text("scene.tsv"), "version\tn_texs\n1\t0\n");
+    assert_eq!(
+        text("scene.tsv"),
+        "version\tn_texs\tfloats\n1\t0\tdecimal\n"
+    );
     assert_eq!(text("weights.tsv"), "vertex\tweight\n");
     let nodes = "\
 name parent position_x position_y position_z scale_x scale_y scale_z rotation_0 rotation_1 \
 rotation_2 rotation_3 kind first count anim anim_flags anim_frames anim_fps below
-Hall -1 00000001 00000002 00000003 00000004 00000005 00000006 00000007 00000008 00000009 \
-0000000a 0 0 0 0 0 0 00000000 0
+Hall -1 1e-45 3e-45 4e-45 6e-45 7e-45 8e-45 1e-44 1.1e-44 1.3e-44 1.4e-44 0 0 0 0 0 0 0 0
 ";
     assert_eq!(text("nodes.tsv"), nodes.replace(' ', "\t"));
 }
@@ -83,6 +87,99 @@ fn built_samples_have_the_same_tables() {
             "{name}"
         );
         assert_eq!(built == file, name != "kitchen.b3d", "{name}");
+    }
+}
+
+/// Floats of all kinds: zeros, the least and the largest, whole ones of eight digits, infinities, and what is not a number.
+const FLOATS: [u32; 16] = [
+    0,
+    0x8000_0000,
+    1,
+    0x8000_0001,
+    0x007F_FFFF,
+    0x0080_0000,
+    0x3DCC_CCCD,
+    0x3F80_0000,
+    0x4B80_0000,
+    0x4B3C_614E,
+    0x7F7F_FFFF,
+    0x7F80_0000,
+    0xFF80_0000,
+    0x7F80_0001,
+    0x7FC0_0000,
+    0xFFFF_FFFF,
+];
+
+/// The writer's file of a scene some of whose floats are others.
+fn with_floats(file: &[u8], rng: &mut Rng) -> Vec<u8> {
+    let mut tables = Scene::read(Mode::Lenient, file).unwrap().tables().clone();
+    // Words that are floats in each row, whatever it has: of textures, brushes, nodes, vertices and weights.
+    for (table, floats) in [(0, 4..9), (1, 2..7), (2, 3..13), (4, 0..3), (7, 1..2)] {
+        let width = TABLES[table].words();
+        for row in tables.words[table].chunks_mut(width) {
+            for word in &mut row[floats.clone()] {
+                *word = FLOATS[rng.between(0, FLOATS.len() - 1)];
+            }
+        }
+    }
+    tables.write(Mode::Lenient, file).unwrap()
+}
+
+#[test]
+fn every_float_comes_back() {
+    let folder = fresh("floats");
+    let mut rng = Rng::new(24);
+    let mut files: Vec<Vec<u8>> = (0..20)
+        .map(|_| scene(&mut rng, Profile::WIDE).file)
+        .collect();
+    files.extend(SAMPLES.map(|name| fs::read(folder.join(name)).unwrap()));
+    let mut met = std::collections::BTreeSet::new();
+    for file in files {
+        let file = with_floats(&file, &mut rng);
+        fs::write(folder.join("f"), &file).unwrap();
+        drop(fs::remove_dir_all(folder.join("parts")));
+        run(&folder, &["tables", "--lenient", "f", "parts"]).is(0, "");
+        run(
+            &folder,
+            &["build", "--lenient", "--force", "parts", "built"],
+        )
+        .is(0, "");
+        assert!(fs::read(folder.join("built")).unwrap() == file);
+        let scene = Scene::read(Mode::Lenient, &file).unwrap();
+        met.extend(scene.nodes().flat_map(|node| node.words()[3..13].to_vec()));
+        in_hex(&folder.join("parts"), &scene);
+        run(
+            &folder,
+            &["build", "--lenient", "--force", "parts", "built"],
+        )
+        .is(0, "");
+        assert!(fs::read(folder.join("built")).unwrap() == file);
+    }
+    assert!(FLOATS.iter().all(|float| met.contains(float)));
+}
+
+/// Texts in the older form, with floats in hex, in place of these.
+fn in_hex(parts: &Path, scene: &Scene) {
+    let tables = scene.tables();
+    let head = format!("version\tn_texs\n{}\t{}\n", tables.version, tables.n_texs);
+    fs::write(parts.join("scene.tsv"), head).unwrap();
+    for (table, words) in TABLES.iter().zip(&tables.words) {
+        let path = parts.join(table.file_name());
+        let text = fs::read_to_string(&path).unwrap();
+        let mut lines = text.lines().map(str::to_string);
+        let mut older = vec![lines.next().unwrap()];
+        for (line, row) in lines.zip(words.chunks(table.words())) {
+            let mut word = 0;
+            let cells = line.split('\t').zip(table.kinds()).map(|(cell, kind)| {
+                word += kind.words();
+                match kind {
+                    Kind::Float => format!("{:08x}", row[word - 1]),
+                    _ => cell.to_string(),
+                }
+            });
+            older.push(cells.collect::<Vec<_>>().join("\t"));
+        }
+        fs::write(path, older.join("\n") + "\n").unwrap();
     }
 }
 

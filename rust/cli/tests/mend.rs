@@ -2,7 +2,7 @@
 
 mod common;
 
-use common::{fresh, names_in, run, run_on_full_disk};
+use common::{fresh, in_shell, names_in, run, run_on_full_disk};
 use scenes::mendable::mendable;
 use scenes::worked::{brush, t, with};
 use scenes::{scene, Profile, Rng};
@@ -24,14 +24,14 @@ fn mends_in_a_planners_words() {
     bad.extend(b"abc");
     put(&folder, "bad", &with(bad, 4, 7));
     let lines = "\
-byte 4: length of BB3D that is not the file's, 7 -> 133
+byte 4: length of the scene (BB3D) is not the file's, 7 -> 133
 byte 69: brush that is not there, 5 -> none
-byte 141: triangle with a vertex that is not there, 12 bytes taken out
-byte 153: spare bytes, 3 bytes taken out
+byte 141: triangle 3 1 2 with a vertex that is not there, taken out
+byte 153: 3 spare bytes taken out
 ";
     let told = run(&folder, &["mend", "bad", "good", "--report", "report"]);
     told.is(1, lines);
-    assert_eq!(told.err, "kelompuris: bad: 4 mends\n");
+    assert_eq!(told.err, "kelompuris: bad: 4 faults mended\n");
     run(&folder, &["check", "good"]).is(
         0,
         "good: accepted, version 1, 1 node, 1 mesh, 3 vertices, 1 triangle set\n",
@@ -45,12 +45,57 @@ byte 153: spare bytes, 3 bytes taken out
     let line = "byte 96: texture that is not there, 7 -> none\n";
     let told = run(&folder, &["mend", "brush", "brush_mended"]);
     told.is(1, line);
-    assert_eq!(told.err, "kelompuris: brush: 1 mend\n");
+    assert_eq!(told.err, "kelompuris: brush: 1 fault mended\n");
     // The brush behind a first length that ends before it.
     let file = with(with(brush(2), 96, 7), 4, 9);
     put(&folder, "short", &file);
     let told = run(&folder, &["mend", "short", "short_mended"]);
     assert!(told.out.ends_with(line), "{told:?}");
+}
+
+#[test]
+fn bytes_behind_a_right_scene() {
+    let folder = fresh("behind");
+    put(&folder, "bad", &[t(), b"x".to_vec()].concat());
+    let lines = "\
+byte 4: length of the scene (BB3D), 145, is right once the bytes behind it are taken out
+byte 153: 1 spare byte taken out
+";
+    run(&folder, &["mend", "bad", "good"]).is(1, lines);
+    assert_eq!(get(&folder, "good"), t());
+}
+
+#[test]
+fn weights_that_are_taken_out() {
+    let folder = fresh("weights");
+    let mut kitchen = get(&folder, "kitchen.b3d");
+    let bone = kitchen.windows(4).position(|tag| tag == b"BONE").unwrap();
+    kitchen = with(kitchen, bone + 8 + 16, 99);
+    put(&folder, "bad", &kitchen);
+    let place = bone + 24;
+    let line = format!("byte {place}: weight 0.75 of vertex 99, which is not there, taken out\n");
+    run(&folder, &["mend", "bad", "good"]).is(1, &line);
+    assert_eq!(run(&folder, &["check", "good"]).status, 0);
+}
+
+/// A broken file leaves the building without names, and nothing of it is kept on the way.
+#[test]
+fn mended_and_cleared() {
+    let folder = fresh("mended_and_cleared");
+    let mut kitchen = get(&folder, "kitchen.b3d");
+    kitchen.extend(b"Kunde 4");
+    put(&folder, "bad", &kitchen);
+    let before = [names_in(&folder), vec!["sent".to_string()]].concat();
+    run(&folder, &["clear", "bad", "sent"]).stops(1, "2 at 4");
+    let line = "set -o pipefail; $0 mend bad - 2>told | $0 clear - sent; cat told; rm told";
+    let told = in_shell(&folder, line, &[]);
+    assert!(told.out.contains("7 spare bytes taken out"), "{told:?}");
+    run(&folder, &["clear", "kitchen.b3d", "copy"]).is(0, "");
+    assert_eq!(get(&folder, "sent"), get(&folder, "copy"));
+    fs::remove_file(folder.join("copy")).unwrap();
+    let mut before = before;
+    before.sort();
+    assert_eq!(names_in(&folder), before);
 }
 
 #[test]

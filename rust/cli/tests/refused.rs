@@ -48,7 +48,7 @@ fn tables_that_no_file_has_are_refused() {
     change("bad_name", "nodes.tsv", "hinge", "hi\\x00nge");
     change("bad_parent", "nodes.tsv", "hinge\t0", "hinge\t1");
     change("bad_branch", "nodes.tsv", "\t5\n", "\t3\n");
-    change("bad_rows", "weights.tsv", "\n4\t3f800000\n", "\n");
+    change("bad_rows", "weights.tsv", "\n4\t1\n", "\n");
 }
 
 #[test]
@@ -58,10 +58,13 @@ fn texts_that_are_no_tables_fail() {
     change("no_header", "weights.tsv", "vertex\tweight\n", "", header);
     let cells = "triangles.tsv: line 2: 2 cells, not 3";
     change("few_cells", "triangles.tsv", "0\t1\t2", "0\t1", cells);
-    let float = "weights.tsv: line 2, weight: cannot read \"1.0\"";
-    change("no_hex", "weights.tsv", "3f800000", "1.0", float);
-    let short = "weights.tsv: line 2, weight: cannot read \"3f80\"";
-    change("short_hex", "weights.tsv", "3f800000", "3f80", short);
+    let float = "weights.tsv: line 2, weight: cannot read \"0,5\"";
+    change("comma", "weights.tsv", "4\t1\n", "4\t0,5\n", float);
+    let hex = "weights.tsv: line 2, weight: cannot read \"3f800000\"";
+    change("hex", "weights.tsv", "4\t1\n", "4\t3f800000\n", hex);
+    let older = "textures.tsv: line 2, position_x: cannot read \"0\"";
+    let (head, no_floats) = ("\tfloats\n1\t2\tdecimal\n", "\n1\t2\n");
+    change("decimal_in_older", "scene.tsv", head, no_floats, older);
     let whole = "scene.tsv: line 2, version: cannot read \"one\"";
     change("no_number", "scene.tsv", "1\t2", "one\t2", whole);
     let name = "brushes.tsv: line 4, name: cannot read \"steel\\door\"";
@@ -75,7 +78,13 @@ fn texts_that_are_no_tables_fail() {
     let below = "nodes.tsv: line 1: 19 columns, not 20: an older width, without below";
     change("old_width", "nodes.tsv", "\tbelow\n", "\n", below);
     let rows = "scene.tsv: not just one row";
-    change("two_rows", "scene.tsv", "1\t2\n", "1\t2\n1\t2\n", rows);
+    change(
+        "two_rows",
+        "scene.tsv",
+        "1\t2\tdecimal\n",
+        "1\t2\tdecimal\n1\t2\tdecimal\n",
+        rows,
+    );
 }
 
 #[test]

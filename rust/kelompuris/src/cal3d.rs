@@ -1,5 +1,9 @@
 //! Skeletons and meshes of cal3d.
 
+mod owned;
+
+pub use owned::{Bone, Face, Influence, Map, MeshVertex, Skeleton, Spring, Submesh, Submeshes};
+
 /// What a file is answered: the numbers of its header, and the rows of its
 /// tables. All but number and place are 0 on refusal.
 #[repr(C)]
@@ -39,6 +43,7 @@ extern "C" {
 }
 
 /// Judges a skeleton without tables: refusals 1 to 10 and 16.
+#[must_use = "an answer may be a refusal"]
 pub fn judge_skeleton(file: &[u8]) -> SkeletonAnswer {
     // SAFETY: the pointer holds for the length, and nothing is written.
     unsafe { kelompuris_csf_judge(file.as_ptr(), file.len()) }
@@ -46,6 +51,7 @@ pub fn judge_skeleton(file: &[u8]) -> SkeletonAnswer {
 
 /// Reads a skeleton into lent tables: refusals 1 to 10, 16, then 11. A refused
 /// call changes no word, and words past the last row stay as they were.
+#[must_use = "an answer may be a refusal"]
 #[rustfmt::skip]
 pub fn read_skeleton(file: &[u8], tables: &mut [&mut [u32]; 2]) -> SkeletonAnswer {
     let [bones, children] = tables;
@@ -60,6 +66,7 @@ pub fn read_skeleton(file: &[u8], tables: &mut [&mut [u32]; 2]) -> SkeletonAnswe
 
 /// Judges a mesh without tables, its bone ids being below a count: refusals 1
 /// to 10.
+#[must_use = "an answer may be a refusal"]
 pub fn judge_mesh(file: &[u8], bone_count: u32) -> MeshAnswer {
     // SAFETY: the pointer holds for the length, and nothing is written.
     unsafe { kelompuris_cmf_judge(file.as_ptr(), file.len(), bone_count) }
@@ -67,6 +74,7 @@ pub fn judge_mesh(file: &[u8], bone_count: u32) -> MeshAnswer {
 
 /// Reads a mesh into lent tables: refusals 1 to 10, then 11. A refused call
 /// changes no word, and words past the last row stay as they were.
+#[must_use = "an answer may be a refusal"]
 #[rustfmt::skip]
 pub fn read_mesh(file: &[u8], bone_count: u32, tables: &mut [&mut [u32]; 6]) -> MeshAnswer {
     let [submeshes, vertices, maps, influences, springs, faces] = tables;

@@ -1,11 +1,48 @@
 //! Safe Rust over the proved functions of `libkelompuris_c.a`. The rules of
 //! each stand in `include/kelompuris.h`.
+//!
+//! There are two layers. [`Scene::read`], [`check`], [`clear_to_vec`], [`compare_to_vec`] and the like own what they give, and refuse
+//! with a [`Refusal`], which is an error:
+//!
+//! ```
+//! use kelompuris::{Mode, Scene};
+//!
+//! fn first_node(file: &[u8]) -> Result<String, Box<dyn std::error::Error>> {
+//!     let scene = Scene::read(Mode::Strict, file)?;
+//!     let root = scene.nodes().next().ok_or("a scene without nodes")?;
+//!     Ok(String::from_utf8_lossy(root.name()).into_owned())
+//! }
+//!
+//! let hall = std::fs::read("../../samples/hall.b3d").unwrap();
+//! assert_eq!(first_node(&hall).unwrap(), "Hall");
+//! let why = first_node(&hall[..60]).unwrap_err().to_string();
+//! assert_eq!(why, "2 at 4: a BB3D length that is not the file size minus 8");
+//! ```
+//!
+//! [`judge`], [`read()`], [`write()`], [`clear`], [`compare`] and the like are the functions of the header: they are lent tables and outputs, allocate nothing,
+//! and answer with a number, which `result` turns into a [`Refusal`] where it is one.
 
 pub mod cal3d;
+pub mod columns;
+mod entries;
+mod groups;
 pub mod pieces;
 mod planner;
+mod refusal;
+mod rows;
+mod scene;
 
+pub use entries::{
+    compare_to_vec, mend_to_vec, Cells, Comparison, Difference, Differences, Mend, MendKind,
+    Mending, Mends,
+};
 pub use planner::{compare, mend, Compared, Mended};
+pub use refusal::{Refusal, Subject, TOO_SHORT};
+pub use rows::{Row, Rows};
+pub use scene::{
+    check, clear_to_vec, label_of, slip_to_vec, Anim, Brush, Key, KeyList, Mesh, Node, NodeKind,
+    RootLabel, Scene, Tables, Texture, Triangle, TriangleSet, Vertex, Weight,
+};
 
 /// Whether a red, green, blue or alpha outside 0 to 1 is refused.
 #[repr(u32)]
@@ -95,6 +132,7 @@ extern "C" {
 }
 
 /// Judges a file without tables: refusals 1 to 10.
+#[must_use = "an answer may be a refusal"]
 pub fn judge(mode: Mode, file: &[u8]) -> Answer {
     // SAFETY: the pointer holds for the length, and nothing is written.
     unsafe { kelompuris_b3d_judge(mode as u32, file.as_ptr(), file.len()) }
@@ -102,6 +140,7 @@ pub fn judge(mode: Mode, file: &[u8]) -> Answer {
 
 /// Reads a file into lent tables: refusals 1 to 11. A refused call changes no
 /// word, and words past the last row stay as they were.
+#[must_use = "an answer may be a refusal"]
 #[rustfmt::skip]
 pub fn read(mode: Mode, file: &[u8], tables: &mut [&mut [u32]; 10]) -> Answer {
     let [t1, t2, t3, t4, t5, t6, t7, t8, t9, t10] = tables;
@@ -120,6 +159,7 @@ pub fn read(mode: Mode, file: &[u8], tables: &mut [&mut [u32]; 10]) -> Answer {
 
 /// Writes tables as the shortest file: refusals 12, then 11. A refused call
 /// changes no byte, and bytes past the size stay as they were.
+#[must_use = "an answer may be a refusal"]
 #[rustfmt::skip]
 pub fn write(
     mode: Mode,
@@ -149,6 +189,7 @@ pub fn write(
 
 /// Copies a file without names: refusals 1 to 10 of the lenient mode, then 11. A refused call
 /// changes no byte, and bytes past the size stay as they were.
+#[must_use = "an answer may be a refusal"]
 pub fn clear(file: &[u8], out: &mut [u8]) -> Written {
     // SAFETY: each pointer holds for its length, and the borrows are apart.
     unsafe { kelompuris_b3d_clear(file.as_ptr(), file.len(), out.as_mut_ptr(), out.len()) }
@@ -156,6 +197,7 @@ pub fn clear(file: &[u8], out: &mut [u8]) -> Written {
 
 /// Writes the slip of a file: refusals 1 to 10, then 11. A refused call changes
 /// no byte, and bytes past the size stay as they were.
+#[must_use = "an answer may be a refusal"]
 pub fn slip_of(file: &[u8], out: &mut [u8]) -> Written {
     // SAFETY: each pointer holds for its length, and the borrows are apart.
     unsafe { kelompuris_b3d_slip(file.as_ptr(), file.len(), out.as_mut_ptr(), out.len()) }
@@ -163,6 +205,7 @@ pub fn slip_of(file: &[u8], out: &mut [u8]) -> Written {
 
 /// Writes the slip of twelve numbers: refusals 13, then 11. A refused call
 /// changes no byte, and bytes past the size stay as they were.
+#[must_use = "an answer may be a refusal"]
 pub fn write_slip(numbers: &[u32; 12], out: &mut [u8]) -> Written {
     // SAFETY: the pointers hold for twelve words and for the output's length,
     // and the borrows are apart.
@@ -170,6 +213,7 @@ pub fn write_slip(numbers: &[u32; 12], out: &mut [u8]) -> Written {
 }
 
 /// Reads a slip: refusal 13.
+#[must_use = "an answer may be a refusal"]
 pub fn read_slip(slip: &[u8]) -> Slip {
     // SAFETY: the pointer holds for the length, and nothing is written.
     unsafe { kelompuris_slip_read(slip.as_ptr(), slip.len()) }
@@ -177,12 +221,14 @@ pub fn read_slip(slip: &[u8]) -> Slip {
 
 /// The name of a file's root and the vertices of its mesh, by a walk over
 /// headers that does not judge the file.
+#[must_use = "an answer may be a refusal"]
 pub fn label(file: &[u8]) -> Label {
     // SAFETY: the pointer holds for the length, and nothing is written.
     unsafe { kelompuris_b3d_label(file.as_ptr(), file.len()) }
 }
 
 /// The name on a file's label, a part of the file; empty where it is refused.
+#[must_use]
 pub fn label_name(file: &[u8]) -> &[u8] {
     let label = label(file);
     &file[label.name_place..][..label.name_length]

@@ -94,6 +94,7 @@ extern "C" {
 }
 
 /// A fresh state.
+#[must_use]
 pub fn start() -> State {
     // SAFETY: nothing is lent.
     unsafe { kelompuris_b3d_pieces_start() }
@@ -102,6 +103,7 @@ pub fn start() -> State {
 /// The next bytes of a file: refusals 11 at 19 for fewer records, then 15 at 0
 /// after the close, or for a state and a row that no calls lead to. A refused
 /// call gives back the state and changes no record.
+#[must_use = "the next call needs the state"]
 pub fn piece(state: State, row: &mut [OpenChunk], bytes: &[u8]) -> Fed {
     let len = row.len();
     // SAFETY: each pointer holds for its length, and the borrows are apart.
@@ -112,12 +114,26 @@ pub fn piece(state: State, row: &mut [OpenChunk], bytes: &[u8]) -> Fed {
 
 /// No byte is left: what the judge says of all bytes joined, in strict mode, or
 /// the same refusals.
+#[must_use = "an answer may be a refusal"]
 pub fn close(state: State, row: &[OpenChunk]) -> Closed {
     // SAFETY: the pointer holds for the length, and nothing is written.
     unsafe { kelompuris_b3d_pieces_close(state, row.as_ptr(), row.len()) }
 }
 
 /// A file that is handed over in pieces, with state and row.
+///
+/// ```
+/// use kelompuris::pieces::Pieces;
+///
+/// # fn main() -> Result<(), Box<dyn std::error::Error>> {
+/// let mut pieces = Pieces::default();
+/// for piece in std::fs::read("../../samples/hall.b3d")?.chunks(7) {
+///     pieces.piece(piece);
+/// }
+/// assert_eq!(pieces.close().result()?.counts[2], 1);
+/// # Ok(())
+/// # }
+/// ```
 #[derive(Clone, Debug)]
 pub struct Pieces {
     state: State,
@@ -140,6 +156,7 @@ impl Pieces {
     }
 
     /// What the judge says of all bytes joined, in strict mode.
+    #[must_use = "an answer may be a refusal"]
     pub fn close(self) -> Answer {
         close(self.state, &self.row).answer
     }

@@ -39,6 +39,7 @@ extern "C" {
 /// Lists what differs between two files: the first one's refusals 1 to 10 of the
 /// lenient mode, then the second's, then 11. A refused call changes no byte, and
 /// bytes past the size stay as they were.
+#[must_use = "an answer may be a refusal"]
 #[rustfmt::skip]
 pub fn compare(first: &[u8], second: &[u8], out: &mut [u8]) -> Compared {
     // SAFETY: each pointer holds for its length; only the output is written, and its
@@ -54,6 +55,7 @@ pub fn compare(first: &[u8], second: &[u8], out: &mut [u8]) -> Compared {
 /// Mends a file and reports what it mended: its first fault of another kind than the
 /// four, then 11 for the mended file, then 11 for the report. A refused call changes
 /// no byte, and bytes past the sizes stay as they were.
+#[must_use = "an answer may be a refusal"]
 #[rustfmt::skip]
 pub fn mend(file: &[u8], out: &mut [u8], report: &mut [u8]) -> Mended {
     // SAFETY: each pointer holds for its length, and the borrows are apart.

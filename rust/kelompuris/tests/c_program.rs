@@ -5,7 +5,8 @@ use std::path::Path;
 use std::process::Command;
 
 /// Each program and what it prints.
-const SAMPLES: [(&str, &str); 8] = [
+const SAMPLES: [(&str, &str); 9] = [
+    ("bad_input", "3548 answers, 0 wrong\n"),
     (
         "read_sample",
         "\
@@ -172,6 +173,24 @@ fn run(compiler: &str, language: &str, standard: &str) {
         assert!(output.status.success());
         assert_eq!(String::from_utf8_lossy(&output.stdout), printed);
     }
+}
+
+/// The names of functions that a text has, with a parenthesis behind them.
+fn functions(text: &str) -> std::collections::BTreeSet<&str> {
+    let is_part = |letter: char| letter.is_ascii_alphanumeric() || letter == '_';
+    let names = text
+        .split('(')
+        .map(|before| before.rsplit(|letter| !is_part(letter)).next());
+    let is_ours = |name: &&str| name.starts_with("kelompuris_");
+    names.flatten().filter(is_ours).collect()
+}
+
+#[test]
+fn bad_input_is_tried_with_every_function() {
+    let header = functions(include_str!("../../../include/kelompuris.h"));
+    assert_eq!(header.len(), 17, "{header:?}");
+    let tried = functions(include_str!("../../../tests/c/bad_input.c"));
+    assert_eq!(header, tried);
 }
 
 #[test]

@@ -7,7 +7,7 @@ use scenes::sheet::{Sheet, ROW_WORDS};
 use std::ffi::OsStr;
 use std::fs;
 use std::path::{Path, PathBuf};
-use std::process::Command;
+use std::process::{Child, Command, Stdio};
 
 /// What a run gives.
 #[derive(Debug)]
@@ -33,11 +33,34 @@ impl Run {
     }
 }
 
-const PROGRAM: &str = env!("CARGO_BIN_EXE_kelompuris");
+pub const PROGRAM: &str = env!("CARGO_BIN_EXE_kelompuris");
 
 /// Runs the program in a folder.
 pub fn run(folder: &Path, args: &[&str]) -> Run {
     outcome(folder, Command::new(PROGRAM).args(args))
+}
+
+/// Starts the program in a folder.
+pub fn start(folder: &Path, args: &[&str]) -> Child {
+    let mut command = Command::new(PROGRAM);
+    command.args(args).current_dir(folder);
+    command.stdout(Stdio::null()).stderr(Stdio::null());
+    command.spawn().expect("the program starts")
+}
+
+/// Runs the program in a folder under a umask.
+pub fn under_umask(folder: &Path, umask: u32, args: &[&str]) -> Run {
+    in_shell(
+        folder,
+        &format!("umask {umask:o}; exec \"$0\" \"$@\""),
+        args,
+    )
+}
+
+/// Runs a line of a shell in a folder; \"$0\" is the program and \"$@\" are the words.
+pub fn in_shell(folder: &Path, line: &str, args: &[&str]) -> Run {
+    let mut shell = Command::new("bash");
+    outcome(folder, shell.args(["-c", line, PROGRAM]).args(args))
 }
 
 /// The same with these bytes as its standard input.
@@ -50,9 +73,11 @@ pub fn run_on(folder: &Path, args: &[&str], input: &[u8]) -> Run {
 
 /// The same where every write to a file fails.
 pub fn run_on_full_disk(folder: &Path, args: &[&str]) -> Run {
-    let script = "trap '' XFSZ; ulimit -f 0; exec \"$0\" \"$@\"";
-    let mut shell = Command::new("sh");
-    outcome(folder, shell.args(["-c", script, PROGRAM]).args(args))
+    in_shell(
+        folder,
+        "trap '' XFSZ; ulimit -f 0; exec \"$0\" \"$@\"",
+        args,
+    )
 }
 
 fn outcome(folder: &Path, command: &mut Command) -> Run {

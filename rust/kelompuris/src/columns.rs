@@ -1,17 +1,17 @@
 //! Tables and their columns: the ten of a scene, as paper 01 names them, and
-//! those of cal3d's files. Sizes of rows, headers, printing and reading back all
-//! follow from these lists.
+//! those of cal3d's files. Sizes of rows and names of columns follow from these
+//! lists.
 
 pub mod cal3d;
 
-/// How a column is held and printed.
-#[derive(Clone, Copy)]
+/// How a column is held.
+#[derive(Clone, Copy, Debug, PartialEq, Eq)]
 pub enum Kind {
-    /// Name place and name length; printed as the name.
+    /// Name place and name length.
     Name,
-    /// A signed number; printed in decimal.
+    /// A signed number.
     Whole,
-    /// A float; its 32 bits are printed in hex.
+    /// A float, held by its 32 bits.
     Float,
 }
 
@@ -26,6 +26,7 @@ impl Kind {
 }
 
 /// Columns of one kind, one for each part of what the name means.
+#[derive(Debug)]
 struct Group {
     kind: Kind,
     name: &'static str,
@@ -33,6 +34,7 @@ struct Group {
 }
 
 /// A table: what one row is called, what several are, and the columns.
+#[derive(Debug)]
 pub struct Table {
     pub one: &'static str,
     pub many: &'static str,
@@ -124,9 +126,6 @@ const fn table(one: &'static str, many: &'static str, groups: &'static [Group]) 
 /// Version and n_texs, as a table of one row.
 pub static HEAD: Table = table("scene", "scene", &[whole("version"), whole("n_texs")]);
 
-/// Which of the ten tables has the nodes.
-pub const NODES: usize = 2;
-
 const TEXTURE: &[Group] = &[
     NAME,
     whole("flags"),
@@ -203,6 +202,7 @@ const KEY: &[Group] = &[
     floats("rotation", FOUR),
 ];
 
+/// The ten tables of a scene.
 pub static TABLES: [Table; 10] = [
     table("texture", "textures", TEXTURE),
     table("brush", "brushes", BRUSH),

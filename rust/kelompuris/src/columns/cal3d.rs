@@ -28,11 +28,6 @@ const BONE: &[Group] = &[
     whole("first_child"),
 ];
 
-/// Words of a bone's row.
-pub const PARENT: usize = 16;
-pub const CHILDREN: usize = 21;
-pub const FIRST_CHILD: usize = 22;
-
 /// The numbers of a mesh's header, as a table of one row.
 pub static MESH_HEAD: Table = table("mesh", "mesh", &[whole("version"), whole("submeshes")]);
 
