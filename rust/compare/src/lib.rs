@@ -22,10 +22,11 @@ mod run;
 mod slip;
 
 pub use cal3d::{Format, Mesh, Skeleton};
+pub use lent::row_words;
 pub use output::{sheet_of, Call};
 pub use run::{run, Group};
 
-use lent::{row_words, sizes_around, some_sizes, Lent};
+use lent::{sizes_around, some_sizes, Lent};
 use reference::{Answer, Label, Mode};
 use scenes::sheet::ROW_WORDS;
 use scenes::Rng;
@@ -126,7 +127,8 @@ impl Compared {
         disagree(about, file)
     }
 
-    fn judge(&mut self, mode: Mode, file: &[u8]) -> Result<Answer, Disagreement> {
+    /// Judges a file; the answer of both.
+    pub fn judge(&mut self, mode: Mode, file: &[u8]) -> Result<Answer, Disagreement> {
         let answer = own(kelompuris::judge(proved(mode), file));
         let about = format!("judge, {mode:?}");
         let expected = reference::judge(mode, file);
@@ -148,7 +150,12 @@ impl Compared {
     }
 
     /// Reads with tables of these sizes.
-    fn read(&mut self, mode: Mode, file: &[u8], sizes: [usize; 10]) -> Result<(), Disagreement> {
+    pub fn read(
+        &mut self,
+        mode: Mode,
+        file: &[u8],
+        sizes: [usize; 10],
+    ) -> Result<(), Disagreement> {
         let (mut lent, mut plain) = (Lent::new(sizes), Lent::new(sizes));
         let answer = own(kelompuris::read(proved(mode), file, &mut lent.tables()));
         let expected = reference::read(mode, file, &mut plain.tables());
@@ -211,7 +218,7 @@ fn proved(mode: Mode) -> kelompuris::Mode {
 }
 
 /// The proved answer as one of the reference.
-fn own(answer: kelompuris::Answer) -> Answer {
+pub fn own(answer: kelompuris::Answer) -> Answer {
     Answer {
         number: answer.number,
         place: answer.place,

@@ -130,7 +130,7 @@ impl Compared {
 
     /// Calls both with an output of this size among other bytes; their answer
     /// and the bytes written.
-    fn output(&mut self, call: Call, size: usize) -> Result<(Written, Vec<u8>), Disagreement> {
+    pub fn output(&mut self, call: Call, size: usize) -> Result<(Written, Vec<u8>), Disagreement> {
         self.outputs += 1;
         let (mut proved, mut plain) = (Lent::new(size), Lent::new(size));
         let answer = call.proved(proved.part());
