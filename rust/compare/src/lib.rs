@@ -30,6 +30,7 @@ use lent::{sizes_around, some_sizes, Lent};
 use reference::{Answer, Label, Mode};
 use scenes::sheet::ROW_WORDS;
 use scenes::Rng;
+use std::borrow::Cow;
 use std::error::Error;
 use std::fmt;
 
@@ -53,6 +54,21 @@ pub struct Compared {
     pub pieces: usize,
     /// How often each number was answered.
     pub numbers: [usize; NUMBERS],
+    /// Where a test puts a fault.
+    pub planted: Option<Planted>,
+}
+
+/// A fault that is put into what the proved functions gave, so that a test sees it told.
+#[derive(Clone, Copy, Debug, PartialEq, Eq)]
+pub enum Planted {
+    /// This number is answered as the next one.
+    Number(u32),
+    /// The last word or byte that was written is another.
+    Written,
+    /// The word or byte right before what was lent is another.
+    Before,
+    /// The word or byte right behind what was lent is another.
+    Behind,
 }
 
 /// Where the two differ, or both from what is known.
@@ -175,10 +191,24 @@ impl Compared {
     ) -> Result<(), Disagreement> {
         self.reads += 1;
         self.words += lent.len();
+        let mut lent = Cow::Borrowed(lent);
+        if let Some(planted) = self.planted {
+            lent.to_mut().plant(planted, rows);
+        }
         match lent.wrong(plain, rows) {
             None => Ok(()),
             Some(wrong) => disagree(format!("{about}: {wrong}"), file),
         }
+    }
+
+    /// What is wrong with an output, of which so many bytes were written, beside that of the
+    /// reference.
+    fn wrong(&self, proved: &output::Lent, plain: &output::Lent, size: usize) -> Option<String> {
+        let mut proved = Cow::Borrowed(proved);
+        if let Some(planted) = self.planted {
+            proved.to_mut().plant(planted, size);
+        }
+        proved.wrong(plain, size)
     }
 
     fn count(&mut self, number: u32) {
@@ -186,20 +216,52 @@ impl Compared {
     }
 
     /// Holds an answer with this number to that of the reference.
-    fn same<T: PartialEq + fmt::Debug>(
+    fn same<T: PartialEq + fmt::Debug + Numbered>(
         &mut self,
         about: &str,
         file: &[u8],
         number: u32,
-        answer: T,
+        mut answer: T,
         expected: T,
     ) -> Result<T, Disagreement> {
         self.count(number);
+        if self.planted == Some(Planted::Number(number)) {
+            *answer.number() += 1;
+        }
         if answer == expected {
             return Ok(answer);
         }
         let about = format!("{about}: proved {answer:?}, reference {expected:?}");
         disagree(about, file)
+    }
+}
+
+/// An answer that begins with a number.
+trait Numbered {
+    fn number(&mut self) -> &mut u32;
+}
+
+macro_rules! numbered {
+    ($($answer:ty),*) => {
+        $(impl Numbered for $answer {
+            fn number(&mut self) -> &mut u32 {
+                &mut self.number
+            }
+        })*
+    };
+}
+
+numbered!(
+    Answer,
+    Label,
+    reference::Slip,
+    reference::Compared,
+    reference::Mended
+);
+
+impl<const HEAD: usize, const TABLES: usize> Numbered for kelompuris::cal3d::Answer<HEAD, TABLES> {
+    fn number(&mut self) -> &mut u32 {
+        &mut self.number
     }
 }
 

@@ -2,32 +2,36 @@
 //! and mode, a byte that says how many parameters follow, these, and a file.
 //!
 //! - here: what an input asks for, and the call.
+//! - `chunks`: a file as a tree of chunks.
+//! - `edits`: parameters as a program of edits over lent tables.
+//! - `guarded`: bytes beside memory that must not be touched.
+//! - `kept`: inputs that are kept, one behind the other in one file.
+//! - `pairs`: the two files of an input for the comparison.
+//! - `states`: parameters as changes of a state that a judge of pieces keeps.
+//!
+//! The fuzzer itself is `main.rs`, with
 //! - `blocks`: which blocks of the proved code inputs reach.
 //! - `bones`: a skeleton changed as trees.
 //! - `edges`: which blocks of the reference inputs reach.
-//! - `edits`: parameters as a program of edits over lent tables.
 //! - `flips`: whether inputs tell the proved code from code with one jump turned around.
-//! - `guarded`: bytes beside memory that must not be touched.
 //! - `seeds`: inputs to begin with.
-//! - `states`: parameters as changes of a state that a judge of pieces keeps.
-//! - `tree`: a file as chunks, and inputs changed as such.
+//! - `tree`: inputs changed as trees of chunks.
 
-pub mod blocks;
-pub mod bones;
-pub mod edges;
+pub mod chunks;
 pub mod edits;
-pub mod flips;
 pub mod guarded;
-pub mod seeds;
+pub mod kept;
+pub mod pairs;
 pub mod states;
-pub mod tree;
 
 use compare::pieces::joined;
 use compare::{disagree, own, row_words, sheet_of, Call, Compared, Disagreement};
 use compare::{Format, Mesh, Skeleton};
+use guarded::Guarded;
 use reference::Mode;
 use scenes::sheet::ROW_WORDS;
 use scenes::{Rng, Sheet};
+use std::hint::black_box;
 
 /// What is called. Parameters, where a function takes any, are:
 #[derive(Clone, Copy, Debug, PartialEq, Eq)]
@@ -52,6 +56,10 @@ pub enum Function {
     Skeleton,
     /// How many bones there are, then as for reading.
     Mesh,
+    /// By how much the output is too long or short, then changes that make the second file.
+    Compare,
+    /// By how much the output and the report are too long or short.
+    Mend,
 }
 
 /// The function of each low half of a first byte.
@@ -68,9 +76,9 @@ pub const FUNCTIONS: [Function; 16] = [
     Function::State,
     Function::Skeleton,
     Function::Mesh,
-    Function::Read,
+    Function::Compare,
     Function::Write,
-    Function::Write,
+    Function::Mend,
     Function::Pieces,
 ];
 
@@ -125,8 +133,25 @@ impl<'a> Input<'a> {
         }
     }
 
-    /// Calls both and holds one to the other.
-    pub fn compare(&self, compared: &mut Compared) -> Result<(), Disagreement> {
+    /// The same with another file.
+    pub fn with_file<'b>(&'b self, file: &'b [u8]) -> Input<'b> {
+        Input { file, ..*self }
+    }
+
+    /// The file, and for the comparison a second one; else that is empty.
+    fn files(&self) -> (&'a [u8], Vec<u8>) {
+        match self.function() {
+            Function::Compare => {
+                let (first, second) = pairs::split(self.file).unwrap_or((self.file, self.file));
+                let program = self.parameters.get(1..).unwrap_or(&[]);
+                (first, pairs::changed(second, program))
+            }
+            _ => (self.file, Vec::new()),
+        }
+    }
+
+    /// Calls both and holds one to the other; `second` is for the comparison of two files.
+    fn compare(&self, compared: &mut Compared, second: &[u8]) -> Result<(), Disagreement> {
         let (mode, file, parameters) = (self.mode(), self.file, self.parameters);
         match self.function() {
             Function::Judge => match parameters.first_chunk() {
@@ -175,6 +200,49 @@ impl<'a> Input<'a> {
                 };
                 cal3d(compared, Mesh { bones }, file, parameters)
             }
+            Function::Compare => listed(compared, file, second, first(parameters)),
+            Function::Mend => {
+                let spare = [0, 1].map(|at| *parameters.get(at).unwrap_or(&0));
+                mended(compared, file, spare)
+            }
+        }
+    }
+}
+
+/// Longest input; what stands behind is left out.
+pub const LONGEST: usize = 1 << 20;
+
+/// Runs inputs, one after the other.
+pub struct Runner {
+    pub compared: Compared,
+    /// Where the files are put that are lent.
+    memory: [Guarded; 2],
+}
+
+impl Default for Runner {
+    fn default() -> Runner {
+        Runner {
+            compared: Compared::default(),
+            memory: [(); 2].map(|()| Guarded::new(2 * LONGEST)),
+        }
+    }
+}
+
+impl Runner {
+    /// Compares on an input. Its files stand beside memory that must not be touched, and
+    /// must stay as they were.
+    pub fn run(&mut self, bytes: &[u8]) -> Result<(), Disagreement> {
+        let input = Input::of(&bytes[..bytes.len().min(LONGEST)]);
+        let (first, second) = input.files();
+        let at_end = input.first & AT_START == 0;
+        let [memory, other_memory] = &mut self.memory;
+        let lent = memory.hold(first, at_end);
+        let other_lent = other_memory.hold(&second, at_end);
+        let call = input.with_file(lent);
+        call.compare(&mut self.compared, other_lent)?;
+        match black_box(lent) == first && black_box(other_lent) == second {
+            true => Ok(()),
+            false => disagree("a lent file was changed", first),
         }
     }
 }
@@ -202,7 +270,7 @@ fn first(parameters: &[u8]) -> u8 {
 fn lengths<const TABLES: usize>(mut rows: [usize; TABLES], parameters: &[u8]) -> [usize; TABLES] {
     for pair in parameters.chunks_exact(2) {
         let length = &mut rows[usize::from(pair[0]) % TABLES];
-        *length = length.saturating_add_signed(isize::from(pair[1] as i8));
+        *length = with_spare(*length, pair[1]);
     }
     rows
 }
@@ -229,7 +297,7 @@ fn numbers(file: &[u8]) -> [u32; 12] {
 fn output(compared: &mut Compared, call: Call, spare: u8) -> Result<Option<Vec<u8>>, Disagreement> {
     let (asked, _) = compared.output(call, 0)?;
     let size = match asked.number {
-        11 => (asked.place as usize).saturating_add_signed(isize::from(spare as i8)),
+        11 => with_spare(asked.place as usize, spare),
         _ => usize::from(spare),
     };
     let (answer, bytes) = compared.output(call, size)?;
@@ -252,6 +320,68 @@ fn cleared_again(compared: &mut Compared, copy: Vec<u8>) -> Result<(), Disagreem
         Some(again) if again == copy => Ok(()),
         _ => disagree("clear: the copy has another", &copy),
     }
+}
+
+/// Compares two files with no output, then as `output` does. The list of the second and the
+/// first file is as long.
+fn listed(
+    compared: &mut Compared,
+    first: &[u8],
+    second: &[u8],
+    spare: u8,
+) -> Result<(), Disagreement> {
+    let (asked, _) = compared.list(first, second, 0)?;
+    let size = match asked.number {
+        11 => with_spare(asked.place as usize, spare),
+        _ => usize::from(spare),
+    };
+    compared.list(first, second, size)?;
+    let (turned, _) = compared.list(second, first, 0)?;
+    let accepted = |number| matches!(number, 0 | 11);
+    match accepted(asked.number) && turned != asked {
+        true => disagree(format!("compare: {asked:?}, turned {turned:?}"), second),
+        false => Ok(()),
+    }
+}
+
+/// Mends a file with no output, with one for the file alone, and with outputs that have so
+/// many bytes more than are needed, or, below 0, less. What is mended is accepted and comes
+/// back as it was, as each accepted file does.
+fn mended(compared: &mut Compared, file: &[u8], spare: [u8; 2]) -> Result<(), Disagreement> {
+    let (asked, ..) = compared.mended(file, 0, 0)?;
+    if asked.number != 11 {
+        let [size, report_size] = spare.map(usize::from);
+        return compared.mended(file, size, report_size).map(drop);
+    }
+    let size = asked.place as usize;
+    let (answer, ..) = compared.mended(file, size, 0)?;
+    let report_size = match answer.number {
+        0 => 0,
+        _ => answer.place as usize,
+    };
+    let sizes = [
+        with_spare(size, spare[0]),
+        with_spare(report_size, spare[1]),
+    ];
+    compared.mended(file, sizes[0], sizes[1])?;
+    let (_, mended, _) = compared.mended(file, size, report_size)?;
+    let (again, same, _) = compared.mended(&mended, mended.len(), 0)?;
+    if compared.judge(Mode::Lenient, &mended)?.number != 0 || again.number != 0 || same != mended {
+        return disagree("mend: what is mended is refused, or mended again", file);
+    }
+    let accepted = compared.judge(Mode::Lenient, file)?.number == 0;
+    match accepted == (mended == file && report_size == 0) {
+        true => Ok(()),
+        false => disagree(
+            "mend: an accepted file changed, or a refused one did not",
+            file,
+        ),
+    }
+}
+
+/// A size with so many more, or, as a number below 0, less.
+fn with_spare(size: usize, spare: u8) -> usize {
+    size.saturating_add_signed(isize::from(spare as i8))
 }
 
 fn cal3d<F: Format<H, T>, const H: usize, const T: usize>(

@@ -1,16 +1,24 @@
 //! The functions that libFuzzer calls; it has the `main`, and its options.
+//! Where KELOMPURIS_BLOCKS names a list of blocks of the proved code, inputs grow by these
+//! too, and those that none reached are listed beside it.
 //! - `fuzz --seeds FOLDER FILE..` writes inputs to begin with into a folder, and ends.
-//!   Where KELOMPURIS_BLOCKS names a list of blocks of the proved code, inputs grow by these
-//!   too, and those that none reached are listed beside it.
+//! - `fuzz --keep FILE FOLDER..` keeps the inputs of folders in one file, and one that tells
+//!   what no block does.
+//! - `fuzz --kept FILE FOLDER` writes the inputs that such a file keeps into a folder.
 //! - `fuzz --edges FOLDER..` prints which blocks of the reference the inputs there reach.
 //! - `fuzz --flips LIST FOLDER..` turns each of these jumps of the proved code around and
 //!   prints those that no input there tells.
 
 #![no_main]
 
-use compare::Compared;
-use fuzz::guarded::Guarded;
-use fuzz::{blocks, edges, flips, seeds, tree, Input, AT_START};
+mod blocks;
+mod bones;
+mod edges;
+mod flips;
+mod seeds;
+mod tree;
+
+use fuzz::{kept, Input, Runner};
 use scenes::Rng;
 use std::ffi::OsString;
 use std::path::PathBuf;
@@ -19,14 +27,11 @@ use std::slice::{from_raw_parts, from_raw_parts_mut};
 use std::sync::Mutex;
 use std::{env, fs, io};
 
-/// Longest input.
-const LONGEST: usize = 1 << 20;
-
 /// The name of what has the name of the list of blocks.
 const BLOCKS: &str = "KELOMPURIS_BLOCKS";
 
-/// What was compared so far, and where each file is put.
-static COMPARED: Mutex<Option<(Compared, Guarded)>> = Mutex::new(None);
+/// What runs inputs, from the first one on.
+static RUNNER: Mutex<Option<Runner>> = Mutex::new(None);
 
 extern "C" {
     fn LLVMFuzzerMutate(data: *mut u8, size: usize, most: usize) -> usize;
@@ -40,6 +45,8 @@ extern "C" fn LLVMFuzzerInitialize(_count: *mut i32, _words: *mut *mut *mut u8) 
     let command = words.next().unwrap_or_default();
     let done = match command.to_str() {
         Some("--seeds") => write_seeds(words.map(PathBuf::from)),
+        Some("--keep") => keep(words.map(PathBuf::from)),
+        Some("--kept") => write_kept(words.map(PathBuf::from)),
         Some("--edges") => print_edges(words.map(PathBuf::from)),
         Some("--flips") => print_flips(words),
         _ => match begin() {
@@ -73,6 +80,26 @@ fn write_seeds(mut names: impl Iterator<Item = PathBuf>) -> io::Result<()> {
     let folder = names.next().ok_or(io::ErrorKind::NotFound)?;
     let files = names.map(fs::read).collect::<io::Result<_>>()?;
     seeds::write(&folder, files)
+}
+
+fn keep(mut names: impl Iterator<Item = PathBuf>) -> io::Result<()> {
+    let file = names.next().ok_or(io::ErrorKind::NotFound)?;
+    let mut inputs = inputs(names)?;
+    inputs.push(seeds::label_of_anim());
+    inputs.sort_by_key(|input| (input.len(), input.clone()));
+    inputs.dedup();
+    fs::write(file, kept::joined(&inputs))
+}
+
+fn write_kept(mut names: impl Iterator<Item = PathBuf>) -> io::Result<()> {
+    let (Some(file), Some(folder)) = (names.next(), names.next()) else {
+        return Err(io::ErrorKind::NotFound.into());
+    };
+    fs::create_dir_all(&folder)?;
+    for (number, input) in kept::apart(&fs::read(file)?)?.iter().enumerate() {
+        fs::write(folder.join(format!("kept_{number}")), input)?;
+    }
+    Ok(())
 }
 
 fn print_edges(folders: impl Iterator<Item = PathBuf>) -> io::Result<()> {
@@ -113,7 +140,7 @@ fn inputs(folders: impl Iterator<Item = PathBuf>) -> io::Result<Vec<Vec<u8>>> {
 
 /// Prints what was compared, and how often each number was answered.
 extern "C" fn summary() {
-    if let Some((compared, _)) = &*COMPARED.lock().unwrap() {
+    if let Some(Runner { compared, .. }) = &*RUNNER.lock().unwrap() {
         eprintln!("Compared: {}", compared.summary());
         eprintln!("Answers 0 to 16, and others: {:?}", compared.numbers);
     }
@@ -137,13 +164,9 @@ extern "C" fn LLVMFuzzerTestOneInput(data: *const u8, size: usize) -> i32 {
 
 /// Compares on an input; ends the program where the two differ.
 fn run(bytes: &[u8]) {
-    let mut compared = COMPARED.lock().unwrap();
-    let (compared, guarded) =
-        compared.get_or_insert_with(|| (Compared::default(), Guarded::new(LONGEST)));
-    let input = Input::of(&bytes[..bytes.len().min(LONGEST)]);
-    let file = guarded.hold(input.file, input.first & AT_START == 0);
-    let input = Input { file, ..input };
-    if let Err(disagreement) = input.compare(compared) {
+    let mut runner = RUNNER.lock().unwrap();
+    if let Err(disagreement) = runner.get_or_insert_default().run(bytes) {
+        let input = Input::of(bytes);
         eprintln!("{:?}, {:?}", input.function(), input.mode());
         eprintln!("{disagreement}");
         abort();

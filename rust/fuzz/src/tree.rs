@@ -1,53 +1,11 @@
-//! A file as a tree of chunks, as far as it is one, and inputs changed as such: the
-//! lengths of all chunks around a change are right again.
+//! Inputs changed as trees of chunks: the lengths of all chunks around a change are right
+//! again.
 
 use crate::bones::moved;
-use crate::{Function, Input};
+use fuzz::chunks::of_file;
+use fuzz::{pairs, Function, Input};
 use scenes::change::{inserted, other_word, tree_change};
 use scenes::{Chunk, Rng};
-
-/// Chunks inside each other that are told apart; inside of those all is data.
-const DEEPEST: usize = 40;
-
-/// The tree of a B3D file; none of other bytes. The first length is not looked at.
-pub fn of_file(file: &[u8]) -> Option<Chunk> {
-    let (tag, rest) = file.split_first_chunk::<4>()?;
-    let (_, body) = rest.split_first_chunk::<4>()?;
-    (tag == b"BB3D").then(|| of_body(*tag, body, 0))
-}
-
-/// A chunk of this tag and body. What is no chunk at its end is its tail.
-fn of_body(tag: [u8; 4], body: &[u8], depth: usize) -> Chunk {
-    let fixed = match &tag {
-        b"BB3D" | b"MESH" => 4,
-        b"NODE" => {
-            41 + body
-                .iter()
-                .position(|&byte| byte == 0)
-                .unwrap_or(body.len())
-        }
-        _ => body.len(),
-    };
-    if fixed > body.len() || depth == DEEPEST {
-        return Chunk::of_bytes(tag, body.to_vec());
-    }
-    let (data, mut rest) = body.split_at(fixed);
-    let mut chunk = Chunk::of_bytes(tag, data.to_vec());
-    while let Some((tag, body, behind)) = split(rest) {
-        chunk.chunks.push(of_body(tag, body, depth + 1));
-        rest = behind;
-    }
-    chunk.tail = rest.to_vec();
-    chunk
-}
-
-/// The tag and body of the first chunk, and what is behind it.
-fn split(bytes: &[u8]) -> Option<([u8; 4], &[u8], &[u8])> {
-    let (tag, rest) = bytes.split_first_chunk::<4>()?;
-    let (length, rest) = rest.split_first_chunk::<4>()?;
-    let (body, behind) = rest.split_at_checked(u32::from_le_bytes(*length) as usize)?;
-    Some((*tag, body, behind))
-}
 
 /// A change of plain bytes, which may become so many: that of the fuzzer.
 pub type Change<'a> = &'a mut dyn FnMut(Vec<u8>, usize) -> Vec<u8>;
@@ -73,21 +31,33 @@ pub fn changed(input: &[u8], most: usize, rng: &mut Rng, bytes: Change) -> Vec<u
         }
         .bytes();
     }
-    let file = match of_file(parts.file) {
+    let [before, file, behind] = one_file(&parts, rng);
+    let file = match of_file(file) {
         Some(tree) => changed_tree(tree, most, rng, bytes).bytes(),
-        None => match rng.percent(30).then(|| moved(parts.file, rng)).flatten() {
+        None => match rng.percent(30).then(|| moved(file, rng)).flatten() {
             Some(file) => file,
-            None => bytes(parts.file.to_vec(), most),
+            None => bytes(file.to_vec(), most),
         },
     };
-    let changed = Input {
-        file: &file,
-        ..parts
-    };
-    match changed.bytes() {
+    let file = [before, &file, behind].concat();
+    match parts.with_file(&file).bytes() {
         long if long.len() > most => bytes(input.to_vec(), most),
         changed => changed,
     }
+}
+
+/// The file of an input that is changed, with what stands before and behind it: of a pair
+/// one of the two.
+fn one_file<'a>(parts: &Input<'a>, rng: &mut Rng) -> [&'a [u8]; 3] {
+    if parts.function() == Function::Compare {
+        if let Some((first, second)) = pairs::split(parts.file) {
+            return match rng.percent(50) {
+                true => [&[], first, second],
+                false => [first, second, &[]],
+            };
+        }
+    }
+    [&[], parts.file, &[]]
 }
 
 fn changed_tree(mut tree: Chunk, most: usize, rng: &mut Rng, bytes: Change) -> Chunk {
@@ -126,11 +96,18 @@ fn any_chunk<'a>(tree: &'a mut Chunk, rng: &mut Rng) -> &'a mut Chunk {
     tree.at_mut(&spot.path)
 }
 
-/// The first input with a chunk of the second one's file; none where a file has none.
+/// The first input with a chunk of the second one's file, or a pair of both files; none
+/// where a file is no tree.
 pub fn crossed(one: &[u8], other: &[u8], rng: &mut Rng) -> Option<Vec<u8>> {
-    let parts = Input::of(one);
-    let mut tree = of_file(parts.file)?;
-    let mut taken = of_file(Input::of(other).file)?;
+    let (parts, others) = (Input::of(one), Input::of(other));
+    let [before, file, behind] = one_file(&parts, rng);
+    let [_, other, _] = one_file(&others, rng);
+    let mut tree = of_file(file)?;
+    let mut taken = of_file(other)?;
+    if parts.function() == Function::Compare && rng.percent(30) {
+        let file = [file, other].concat();
+        return Some(parts.with_file(&file).bytes());
+    }
     let taken = any_chunk(&mut taken, rng).clone();
     let chunk = any_chunk(&mut tree, rng);
     match chunk.tag == taken.tag || chunk.chunks.is_empty() {
@@ -140,12 +117,6 @@ pub fn crossed(one: &[u8], other: &[u8], rng: &mut Rng) -> Option<Vec<u8>> {
             chunk.chunks.insert(at, taken);
         }
     }
-    let file = tree.bytes();
-    Some(
-        Input {
-            file: &file,
-            ..parts
-        }
-        .bytes(),
-    )
+    let file = [before, &tree.bytes(), behind].concat();
+    Some(parts.with_file(&file).bytes())
 }
