@@ -4,7 +4,7 @@ CLI = rust/target/release/kelompuris
 PREFIX = /usr/local
 VERSION = $(shell sed -n 's/.define KELOMPURIS_VERSION "\(.*\)"/\1/p' include/kelompuris.h)
 
-.PHONY: demo cli install peers test
+.PHONY: demo cli install peers test world
 
 demo: cli
 	$(CLI) check samples/*.b3d
@@ -36,6 +36,10 @@ install:
 peers:
 	rust/build-lib
 	$(CXX) -O3 -Iinclude rust/bench/peers.cpp target/staticlib/libkelompuris_c.a -lassimp -lIrrlicht -o target/peers
+
+# Every B3D file that Debian ships through each command, and counts beside those loaders'.
+world: cli
+	tools/world
 
 test:
 	bash .ci/run
