@@ -32,10 +32,12 @@ install:
 	printf 'Name: kelompuris\nDescription: B3D scenes and cal3d files, proved\nVersion: %s\nCflags: -I%s/include\nLibs: -L%s/lib -lkelompuris_c\n' \
 	    $(VERSION) $(PREFIX) $(PREFIX) > $(DESTDIR)$(PREFIX)/lib/pkgconfig/kelompuris.pc
 
-# Times beside Assimp's and Irrlicht's loaders, where libassimp-dev and libirrlicht-dev are installed.
+# Times beside the loaders of Assimp, Irrlicht and libcal3d, where Debian's libassimp-dev, libirrlicht-dev and libcal3d12-dev are installed; with the files that
+# `make world` fetched.
 peers:
 	rust/build-lib
-	$(CXX) -O3 -Iinclude rust/bench/peers.cpp target/staticlib/libkelompuris_c.a -lassimp -lIrrlicht -o target/peers
+	$(CXX) -std=c++17 -O3 -Iinclude rust/bench/peers.cpp target/staticlib/libkelompuris_c.a -lassimp -lIrrlicht -lcal3d -o target/peers
+	target/peers $(wildcard target/world/files/*/*.b3d)
 
 # Every B3D file that Debian ships through each command, and counts beside those loaders'.
 world: cli
