@@ -22,7 +22,7 @@ impl Call<'_> {
             Call::Write(mode, sheet) => return proved_write(*mode, sheet, out),
             Call::Clear(file) => kelompuris::clear(file, out),
             Call::SlipOf(file) => kelompuris::slip_of(file, out),
-            Call::Slip(numbers) => kelompuris::write_slip(numbers, out),
+            Call::Slip(numbers) => return proved_slip(numbers, out),
         };
         Some(own(answer))
     }
@@ -86,6 +86,15 @@ fn proved_write(mode: Mode, sheet: &Sheet, out: &mut [u8]) -> Option<Written> {
         && counts.holds(&[&sheet.counts])
         && black_box(&names).0 == Lent::holding(&sheet.names).0;
     same.then_some(own(answer))
+}
+
+/// Writes the slip of numbers by the proved function. They stand among other words; none where
+/// one of all these changed.
+fn proved_slip(numbers: &[u32; 12], out: &mut [u8]) -> Option<Written> {
+    let lent = lent::Lent::holding(&[&numbers[..]]);
+    let [held] = lent.held();
+    let answer = kelompuris::write_slip(held.try_into().expect("twelve numbers"), out);
+    lent.holds(&[&numbers[..]]).then_some(own(answer))
 }
 
 /// Tables to be printed, where they are small.
