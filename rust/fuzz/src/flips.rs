@@ -6,16 +6,25 @@ use std::fs::File;
 use std::io;
 use std::os::fd::AsRawFd;
 
-/// Most seconds of a child.
-const SECONDS: u32 = 3;
+/// Most seconds of processor time of a child, and the signal that then ends it.
+const SECONDS: i64 = 3;
+const PROCESSOR_TIME: i32 = 2;
+const TIME_IS_OVER: i32 = 27;
 
 extern "C" {
     fn fork() -> i32;
     fn waitpid(child: i32, status: *mut i32, options: i32) -> i32;
-    fn alarm(seconds: u32) -> u32;
+    fn setitimer(which: i32, time: *const Timer, old: *mut Timer) -> i32;
     fn dup2(from: i32, to: i32) -> i32;
     fn signal(number: i32, call: usize) -> usize;
     fn _exit(status: i32) -> !;
+}
+
+/// A time that ends once: seconds and microseconds to begin again with, and those until then.
+#[repr(C)]
+struct Timer {
+    again: [i64; 2],
+    first: [i64; 2],
 }
 
 /// How inputs tell: the two differ, memory was touched that must not be, the call did not
@@ -55,7 +64,11 @@ pub fn flips(list: &str, inputs: &[Vec<u8>], run: fn(&[u8])) -> io::Result<Told>
                 for number in 1..16 {
                     signal(number, 0);
                 }
-                alarm(SECONDS);
+                let timer = Timer {
+                    again: [0, 0],
+                    first: [SECONDS, 0],
+                };
+                setitimer(PROCESSOR_TIME, &timer, std::ptr::null_mut());
                 inputs.iter().for_each(|input| run(input));
                 _exit(0);
             }
@@ -65,7 +78,7 @@ pub fn flips(list: &str, inputs: &[Vec<u8>], run: fn(&[u8])) -> io::Result<Told>
             0 if status == 0 => told.untold.push(at - start),
             6 => told.differ += 1,
             7 | 11 => told.touched += 1,
-            14 => told.endless += 1,
+            TIME_IS_OVER => told.endless += 1,
             _ => told.other += 1,
         }
     }

@@ -1,6 +1,7 @@
 //! The two files of an input for the comparison.
 
 use crate::chunks::of_file;
+use crate::LONGEST;
 use scenes::change::{other_word, tree_change};
 use scenes::private::private_change;
 use scenes::Rng;
@@ -14,10 +15,14 @@ pub fn split(files: &[u8]) -> Option<(&[u8], &[u8])> {
 }
 
 /// A file changed by a program: changes of four bytes each, which say how, where and by
-/// what; what is left of the last is not looked at.
+/// what; what is left of the last is not looked at. A file that grew past half the longest
+/// input is not changed further, since a change may double it.
 pub fn changed(file: &[u8], program: &[u8]) -> Vec<u8> {
     let mut file = file.to_vec();
     for change in program.chunks_exact(4) {
+        if file.len() > LONGEST / 2 {
+            break;
+        }
         let place = usize::from(u16::from_le_bytes([change[1], change[2]]));
         change_at(&mut file, change[0], place, change[3]);
     }
