@@ -4,7 +4,7 @@ CLI = rust/target/release/kelompuris
 PREFIX = /usr/local
 VERSION = $(shell sed -n 's/.define KELOMPURIS_VERSION "\(.*\)"/\1/p' include/kelompuris.h)
 
-.PHONY: demo cli install peers test
+.PHONY: demo cli install peers test world
 
 demo: cli
 	$(CLI) check samples/*.b3d
@@ -35,10 +35,16 @@ install:
 	printf 'Name: kelompuris\nDescription: B3D scenes and cal3d files, proved\nVersion: %s\nCflags: -I%s/include\nLibs: -L%s/lib -lkelompuris_c\n' \
 	    $(VERSION) $(PREFIX) $(PREFIX) > $(DESTDIR)$(PREFIX)/lib/pkgconfig/kelompuris.pc
 
-# Times beside Assimp's and Irrlicht's loaders, where libassimp-dev and libirrlicht-dev are installed.
+# Times beside the loaders of Assimp, Irrlicht and libcal3d, where Debian's libassimp-dev, libirrlicht-dev and libcal3d12-dev are installed; with the files that
+# `make world` fetched.
 peers:
 	rust/build-lib
-	$(CXX) -O3 -Iinclude rust/bench/peers.cpp target/staticlib/libkelompuris_c.a -lassimp -lIrrlicht -o target/peers
+	$(CXX) -std=c++17 -O3 -Iinclude rust/bench/peers.cpp target/staticlib/libkelompuris_c.a -lassimp -lIrrlicht -lcal3d -o target/peers
+	target/peers $(wildcard target/world/files/*/*.b3d)
+
+# Every B3D file that Debian ships through each command, and counts beside those loaders'.
+world: cli
+	tools/world
 
 test:
 	bash .ci/run

@@ -1,31 +1,21 @@
-// Times the proved reader beside Assimp's and Irrlicht's loaders of B3D files, a plain copy of the file and a plain fill of the tables' words:
-// one run, the same file in memory, medians. Where Debian's libassimp-dev and libirrlicht-dev are installed, from the repository's root:
+// Times the proved readers beside Assimp's and Irrlicht's loaders of B3D files, libcal3d's of skeletons and meshes, a plain fill of the tables' words and a plain copy
+// of the file: one run, the same file in memory, the shortest of many calls; where that is long, by processor time. Where Debian's libassimp-dev, libirrlicht-dev and libcal3d12-dev are installed,
+// `make peers` builds and runs it, with the files that `make world` fetched.
 //
-//   make peers && target/peers [FILE..]
+//   peers [FILE..]
 //
-// A line is a file: its bytes, then microseconds for each. `ours` judges the file in strict mode, allocates the ten tables, reads into them and frees them; a loader is
-// given the bytes and its scene is freed again; `copy` copies the bytes into a buffer that is there; `fill` allocates the tables, stores one
-// value into each word and frees them. The ratios are of these medians. A loader that refuses the file has no time.
-#include <assimp/Importer.hpp>
-#include <assimp/scene.h>
-#include <irrlicht/irrlicht.h>
-
+// A line is a file: its bytes, then microseconds for each. `ours` judges the file (B3D in strict mode), allocates the tables, reads into them and frees them; a loader is
+// given the bytes and what it makes is freed again; `fill` allocates the tables, stores one value into each word and frees them; `copy` copies the bytes into a buffer
+// that is there. The ratios are of these times. A loader that refuses the file has no time.
 #include <algorithm>
 #include <chrono>
 #include <cstdio>
-#include <cstdlib>
-#include <cstring>
-#include <fstream>
-#include <iterator>
-#include <memory>
-#include <string>
-#include <vector>
+#include <ctime>
+#include <functional>
 
-#include "kelompuris.h"
+#include "loaders.h"
 
 namespace {
-
-using Bytes = std::vector<uint8_t>;
 
 // ---- files
 
@@ -118,56 +108,54 @@ Bytes node_scene(uint32_t nodes, uint32_t each) {
 
 // ---- times
 
-// The median time of a call in microseconds; below 0 where a call says that it failed.
-template <class F> double median(F call) {
+double processor_time() {
+    timespec now;
+    clock_gettime(CLOCK_THREAD_CPUTIME_ID, &now);
+    return double(now.tv_sec) * 1e6 + double(now.tv_nsec) * 1e-3;
+}
+
+// Calls that take longer, in microseconds, are timed by the processor time of this thread, since other processes may come between; to ask for that takes some tenths.
+const double LONG = 100;
+
+// The shortest time of each call in microseconds, below 0 where a call says that it failed. All are called in turns, each for a while, so that what else the machine
+// does meets all of them.
+template <size_t N, class F> void shortest(double (&times)[N], const F (&calls)[N]) {
     using clock = std::chrono::steady_clock;
-    std::vector<double> times;
-    auto begun = clock::now();
-    while (times.size() < 11 || clock::now() - begun < std::chrono::milliseconds(300)) {
-        auto start = clock::now();
-        bool ok = call();
-        times.push_back(std::chrono::duration<double, std::micro>(clock::now() - start).count());
-        if (!ok) return -1;
-    }
-    std::nth_element(times.begin(), times.begin() + times.size() / 2, times.end());
-    return times[times.size() / 2];
-}
-
-const size_t WIDTHS[10] = {
-    KELOMPURIS_TEXTURE_WORDS,  KELOMPURIS_BRUSH_WORDS,        KELOMPURIS_NODE_WORDS,     KELOMPURIS_MESH_WORDS,   KELOMPURIS_VERTEX_WORDS,
-    KELOMPURIS_TRIANGLE_SET_WORDS, KELOMPURIS_TRIANGLE_WORDS, KELOMPURIS_WEIGHT_WORDS, KELOMPURIS_KEY_LIST_WORDS, KELOMPURIS_KEY_WORDS,
-};
-
-struct Tables {
-    std::unique_ptr<uint32_t[]> words[10];
-    size_t sizes[10];
-
-    explicit Tables(const kelompuris_answer &a) {
-        for (int k = 0; k < 10; k++) {
-            sizes[k] = WIDTHS[k] * a.counts[k];
-            words[k].reset(new uint32_t[sizes[k]]);
+    std::fill_n(times, N, 1e18);
+    for (int turn = 0; turn < 8; turn++)
+        for (size_t k = 0; k < N; k++) {
+            auto begun = clock::now();
+            for (int n = 0; times[k] >= 0 && (n < 3 || clock::now() - begun < std::chrono::milliseconds(25)); n++) {
+                double before = processor_time();
+                auto start = clock::now();
+                bool ok = calls[k]();
+                double time = std::chrono::duration<double, std::micro>(clock::now() - start).count();
+                if (time > LONG) time = std::max(LONG, processor_time() - before);
+                times[k] = ok ? std::min(times[k], time) : -1;
+            }
         }
-    }
-};
-
-bool ours(const Bytes &f) {
-    kelompuris_answer a = kelompuris_b3d_judge(KELOMPURIS_STRICT, f.data(), f.size());
-    if (a.number) return false;
-    Tables t(a);
-    uint32_t *p[10];
-    for (int k = 0; k < 10; k++) p[k] = t.words[k].get();
-    const size_t *n = t.sizes;
-    a = kelompuris_b3d_read(KELOMPURIS_STRICT, f.data(), f.size(), p[0], n[0], p[1], n[1], p[2], n[2], p[3], n[3], p[4], n[4], p[5], n[5], p[6], n[6], p[7], n[7], p[8], n[8], p[9], n[9]);
-    return a.number == 0;
 }
 
-bool fill(const kelompuris_answer &a) {
-    Tables t(a);
-    for (int k = 0; k < 10; k++) {
+template <size_t N> bool filled(const size_t *widths, const uint32_t *counts) {
+    Tables<N> t(widths, counts);
+    for (size_t k = 0; k < N; k++) {
         std::fill_n(t.words[k].get(), t.sizes[k], 1u);
         asm volatile("" : : "r"(t.words[k].get()) : "memory");
     }
     return true;
+}
+
+bool copied(const Bytes &f, Bytes &to) {
+    memcpy(to.data(), f.data(), f.size());
+    asm volatile("" : : "r"(to.data()) : "memory");
+    return true;
+}
+
+bool ours(const Bytes &f) {
+    kelompuris_answer a = kelompuris_b3d_judge(KELOMPURIS_STRICT, f.data(), f.size());
+    if (a.number) return false;
+    Tables<10> t(WIDTHS, a.counts);
+    return read_b3d(f, t).number == 0;
 }
 
 bool assimp(const Bytes &f) {
@@ -176,12 +164,9 @@ bool assimp(const Bytes &f) {
 }
 
 bool irrlicht(irr::IrrlichtDevice *device, const Bytes &f) {
-    auto *scene = device->getSceneManager();
-    auto *in = device->getFileSystem()->createMemoryReadFile(const_cast<uint8_t *>(f.data()), irr::s32(f.size()), "scene.b3d", false);
-    auto *mesh = scene->getMesh(in);
-    in->drop();
+    auto *mesh = irrlicht_mesh(device, f);
     if (!mesh) return false;
-    scene->getMeshCache()->removeMesh(mesh);
+    drop(device, mesh);
     return true;
 }
 
@@ -192,42 +177,127 @@ std::string shown(double x, int digits, bool there) {
     return there ? text : "-";
 }
 
-void line(irr::IrrlichtDevice *device, const std::string &name, const Bytes &f) {
+// The least of the ratios to loaders and the highest of those to a fill, of the lines so far of one kind.
+struct Kind {
+    double least = 1e18, most = 0;
+    std::string least_of, most_of;
+
+    void met(const std::string &name, double ratio) {
+        if (ratio < least) least = ratio, least_of = name;
+    }
+    void met_fill(const std::string &name, double ratio) {
+        if (ratio > most) most = ratio, most_of = name;
+    }
+};
+
+using Call = std::function<bool()>;
+
+void line(irr::IrrlichtDevice *device, const std::string &name, const Bytes &f, Kind &kind) {
     kelompuris_answer a = kelompuris_b3d_judge(KELOMPURIS_STRICT, f.data(), f.size());
     if (a.number) {
-        printf("%-24s %9zu | refused: %u %u\n", name.c_str(), f.size(), a.number, a.place);
+        printf("%-30s %9zu | refused: %u %u\n", name.c_str(), f.size(), a.number, a.place);
         return;
     }
     Bytes to(f.size());
-    double we = median([&] { return ours(f); });
-    double judged = median([&] { return kelompuris_b3d_judge(KELOMPURIS_STRICT, f.data(), f.size()).number == 0; });
-    double as = median([&] { return assimp(f); });
-    double ir = median([&] { return irrlicht(device, f); });
-    double filled = median([&] { return fill(a); });
-    double copied = median([&] {
-        memcpy(to.data(), f.data(), f.size());
-        asm volatile("" : : "r"(to.data()) : "memory");
-        return true;
-    });
-    printf("%-24s %9zu | %9.1f %9.1f %10s %10s %9.1f %8.1f | %8s %9s %9.2f\n", name.c_str(), f.size(), judged, we, shown(as, 1, as >= 0).c_str(), shown(ir, 1, ir >= 0).c_str(), filled, copied,
-           shown(as / we, 1, as >= 0).c_str(), shown(ir / we, 1, ir >= 0).c_str(), we / filled);
+    const Call calls[] = {
+        [&] { return kelompuris_b3d_judge(KELOMPURIS_STRICT, f.data(), f.size()).number == 0; },
+        [&] { return ours(f); },
+        [&] { return assimp(f); },
+        [&] { return irrlicht(device, f); },
+        [&] { return filled<10>(WIDTHS, a.counts); },
+        [&] { return copied(f, to); },
+    };
+    double t[6];
+    shortest(t, calls);
+    double we = t[1], as = t[2], ir = t[3];
+    printf("%-30s %9zu | %9.1f %9.1f %10s %10s %9.1f %8.1f | %8s %9s %9.2f\n", name.c_str(), f.size(), t[0], we, shown(as, 1, as >= 0).c_str(), shown(ir, 1, ir >= 0).c_str(), t[4], t[5],
+           shown(as / we, 1, as >= 0).c_str(), shown(ir / we, 1, ir >= 0).c_str(), we / t[4]);
+    if (as >= 0) kind.met(name, as / we);
+    if (ir >= 0) kind.met(name, ir / we);
+    kind.met_fill(name, we / t[4]);
 }
+
+void cal3d_line(const std::string &name, const Bytes &f, const Call (&calls)[5]) {
+    double t[5];
+    shortest(t, calls);
+    printf("%-30s %9zu | %9.1f %9.1f %10s %9.1f %8.1f | %9s %9.2f\n", name.c_str(), f.size(), t[0], t[1], shown(t[2], 1, t[2] >= 0).c_str(), t[3], t[4],
+           shown(t[2] / t[1], 1, t[2] >= 0).c_str(), t[1] / t[3]);
+}
+
+void skeleton_line(int bones, const std::string &scratch) {
+    Bytes own = saved_skeleton(bones, 3, scratch), f = csf_1300(own), to(f.size());
+    kelompuris_csf_answer a = kelompuris_csf_judge(f.data(), f.size());
+    const Call calls[] = {
+        [&] { return kelompuris_csf_judge(f.data(), f.size()).number == 0; },
+        [&] {
+            Tables<2> t(CSF_WIDTHS, kelompuris_csf_judge(f.data(), f.size()).counts);
+            return read_csf(f, t).number == 0;
+        },
+        [&] {
+            uint32_t counts[2];
+            return cal3d_skeleton(own, counts);
+        },
+        [&] { return filled<2>(CSF_WIDTHS, a.counts); },
+        [&] { return copied(f, to); },
+    };
+    cal3d_line("skeleton, " + std::to_string(bones) + " bones", f, calls);
+}
+
+void mesh_line(int vertices, bool springs, const std::string &scratch) {
+    const uint32_t bones = 40;
+    Bytes f = cmf_700(saved_mesh(1, vertices, int(bones), 1, springs, scratch)), to(f.size());
+    kelompuris_cmf_answer a = kelompuris_cmf_judge(f.data(), f.size(), bones);
+    const Call calls[] = {
+        [&] { return kelompuris_cmf_judge(f.data(), f.size(), bones).number == 0; },
+        [&] {
+            Tables<6> t(CMF_WIDTHS, kelompuris_cmf_judge(f.data(), f.size(), bones).counts);
+            return read_cmf(f, bones, t).number == 0;
+        },
+        [&] {
+            uint32_t counts[6];
+            return cal3d_mesh(f, counts);
+        },
+        [&] { return filled<6>(CMF_WIDTHS, a.counts); },
+        [&] { return copied(f, to); },
+    };
+    cal3d_line("mesh, " + std::to_string(vertices) + " vertices" + (springs ? ", springs" : ""), f, calls);
+}
+
+void print_processor() {
+    std::ifstream in("/proc/cpuinfo");
+    for (std::string text; std::getline(in, text);)
+        if (text.rfind("model name", 0) == 0) {
+            printf("%s\n\n", text.substr(text.find(':') + 2).c_str());
+            return;
+        }
+}
+
+// Whether an aim is met.
+const char *met(bool is) { return is ? "met" : "MISSED"; }
 
 }  // namespace
 
 int main(int count, char **names) {
-    irr::SIrrlichtCreationParameters how;
-    how.DriverType = irr::video::EDT_NULL;
-    how.LoggingLevel = irr::ELL_NONE;
-    irr::IrrlichtDevice *device = irr::createDeviceEx(how);
+    irr::IrrlichtDevice *device = irrlicht_device();
     if (!device) return 1;
-    printf("%-24s %9s | %9s %9s %10s %10s %9s %8s | %8s %9s %9s\n", "file", "bytes", "judge", "ours", "Assimp", "Irrlicht", "fill", "copy", "Assimp/", "Irrlicht/", "ours/fill");
-    for (uint32_t n : {16u, 64u, 256u, 1024u, 4096u, 16384u, 163840u}) line(device, "mesh " + std::to_string(n), mesh_scene(n));
-    for (uint32_t n : {16u, 128u, 1000u}) line(device, "nodes " + std::to_string(n) + ", 16 keys", node_scene(n, 16));
-    line(device, "nodes 5000", node_scene(5000, 0));
+    setvbuf(stdout, nullptr, _IOLBF, 0);
+    print_processor();
+    printf("%-30s %9s | %9s %9s %10s %10s %9s %8s | %8s %9s %9s\n", "file", "bytes", "judge", "ours", "Assimp", "Irrlicht", "fill", "copy", "Assimp/", "Irrlicht/", "ours/fill");
+    Kind made, scene, real_files;
+    for (uint32_t n : {16u, 64u, 256u, 1024u, 4096u, 16384u, 163840u}) line(device, "mesh " + std::to_string(n), mesh_scene(n), n == 16384u ? scene : made);
+    for (uint32_t n : {16u, 128u, 1000u}) line(device, "nodes " + std::to_string(n) + ", 16 keys", node_scene(n, 16), made);
+    line(device, "nodes 5000", node_scene(5000, 0), made);
     for (int i = 1; i < count; i++) {
-        std::ifstream in(names[i], std::ios::binary);
-        line(device, names[i], Bytes(std::istreambuf_iterator<char>(in), {}));
+        std::string name = names[i];
+        line(device, name.substr(name.rfind('/') + 1), bytes_of(name), real_files);
     }
     device->drop();
+    const char *scratch = "target/peers.cal3d";
+    printf("\n%-30s %9s | %9s %9s %10s %9s %8s | %9s %9s\n", "cal3d", "bytes", "judge", "ours", "libcal3d", "fill", "copy", "libcal3d/", "ours/fill");
+    for (int bones : {40, 1000, 16000}) skeleton_line(bones, std::string(scratch) + ".csf");
+    for (int vertices : {100, 1000, 8000})
+        for (bool springs : {false, true}) mesh_line(vertices, springs, std::string(scratch) + ".cmf");
+    printf("\nmesh 16384: %.1f times as fast as the nearer loader (aim 12: %s), %.2f times a fill (aim 3: %s)\n", scene.least, met(scene.least >= 12), scene.most, met(scene.most <= 3));
+    if (count > 1) printf("real files: at least %.1f times (aim 6: %s), the least %s\n", real_files.least, met(real_files.least >= 6), real_files.least_of.c_str());
+    printf("other made files: at least %.1f times, the least %s\n", made.least, made.least_of.c_str());
 }

@@ -81,10 +81,7 @@ impl Compared {
         file: &[u8],
         rng: &mut Rng,
     ) -> Result<Answer<H, T>, Disagreement> {
-        self.files += 1;
-        let (answer, expected) = (format.proved(file, None), format.plain(file, None));
-        let about = format!("judge, {format:?}");
-        let answer = self.same(&about, file, answer.number, answer, expected)?;
+        let answer = self.cal3d_judge(format, file)?;
         let sizes = match answer.number {
             0 => sizes_around(row_words(&answer.counts, &F::WIDTHS), rng),
             _ => vec![some_sizes(rng)],
@@ -112,6 +109,18 @@ impl Compared {
                 file,
             ),
         }
+    }
+
+    /// Judges a file; the answer of both.
+    pub fn cal3d_judge<F: Format<H, T>, const H: usize, const T: usize>(
+        &mut self,
+        format: F,
+        file: &[u8],
+    ) -> Result<Answer<H, T>, Disagreement> {
+        self.files += 1;
+        let (answer, expected) = (format.proved(file, None), format.plain(file, None));
+        let about = format!("judge, {format:?}");
+        self.same(&about, file, answer.number, answer, expected)
     }
 
     /// Reads with tables of these sizes.

@@ -51,8 +51,8 @@ impl Compared {
         }
     }
 
-    /// Compares by both, with an output of this size.
-    fn list(
+    /// Compares by both, with an output of this size: the answer and the list.
+    pub fn list(
         &mut self,
         first: &[u8],
         second: &[u8],
@@ -72,7 +72,7 @@ impl Compared {
         self.same(&about, second, answer.number, answer, expected)?;
         self.bytes += proved.len();
         let written = answer.size as usize;
-        match proved.wrong(&plain, written) {
+        match self.wrong(&proved, &plain, written) {
             None => Ok((answer, proved.written(written))),
             Some(wrong) => disagree(format!("{about}: {wrong}"), second),
         }

@@ -1,6 +1,8 @@
 //! Tables to lend, each among other words, and what becomes of them.
 
+use crate::Planted;
 use scenes::Rng;
+use std::hint::black_box;
 
 /// Words before and behind each lent table.
 const AROUND: usize = 3;
@@ -19,6 +21,25 @@ impl<const TABLES: usize> Lent<TABLES> {
         }
     }
 
+    /// Tables of these words, to be read.
+    pub fn holding(tables: &[&[u32]; TABLES]) -> Self {
+        let mut lent = Lent::new(tables.map(<[u32]>::len));
+        for (own, table) in lent.tables().into_iter().zip(tables) {
+            own.copy_from_slice(table);
+        }
+        lent
+    }
+
+    pub fn held(&self) -> [&[u32]; TABLES] {
+        let part = |words: &'_ Vec<u32>| AROUND..words.len() - AROUND;
+        self.words.each_ref().map(|words| &words[part(words)])
+    }
+
+    /// Whether the tables still hold these words, and those around them are as they were.
+    pub fn holds(&self, tables: &[&[u32]; TABLES]) -> bool {
+        black_box(&self.words) == &Lent::holding(tables).words
+    }
+
     pub fn tables(&mut self) -> [&mut [u32]; TABLES] {
         self.words.each_mut().map(|words| {
             let end = words.len() - AROUND;
@@ -29,6 +50,19 @@ impl<const TABLES: usize> Lent<TABLES> {
     /// How many words there are, those around the tables too.
     pub fn len(&self) -> usize {
         self.words.iter().map(Vec::len).sum()
+    }
+
+    /// Puts a fault into each table, of whose words so many are rows.
+    pub fn plant(&mut self, planted: Planted, rows: [usize; TABLES]) {
+        for (words, rows) in self.words.iter_mut().zip(rows) {
+            let end = words.len() - AROUND;
+            match planted {
+                Planted::Written if rows > 0 => words[AROUND + rows - 1] ^= 1,
+                Planted::Before => words[AROUND - 1] ^= 1,
+                Planted::Behind => words[end] ^= 1,
+                _ => {}
+            }
+        }
     }
 
     /// What is wrong with these tables beside those of the reference, when each

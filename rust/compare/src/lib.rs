@@ -22,13 +22,15 @@ mod run;
 mod slip;
 
 pub use cal3d::{Format, Mesh, Skeleton};
+pub use lent::row_words;
 pub use output::{sheet_of, Call};
 pub use run::{run, Group};
 
-use lent::{row_words, sizes_around, some_sizes, Lent};
+use lent::{sizes_around, some_sizes, Lent};
 use reference::{Answer, Label, Mode};
 use scenes::sheet::ROW_WORDS;
 use scenes::Rng;
+use std::borrow::Cow;
 use std::error::Error;
 use std::fmt;
 
@@ -52,6 +54,21 @@ pub struct Compared {
     pub pieces: usize,
     /// How often each number was answered.
     pub numbers: [usize; NUMBERS],
+    /// Where a test puts a fault.
+    pub planted: Option<Planted>,
+}
+
+/// A fault that is put into what the proved functions gave, so that a test sees it told.
+#[derive(Clone, Copy, Debug, PartialEq, Eq)]
+pub enum Planted {
+    /// This number is answered as the next one.
+    Number(u32),
+    /// The last word or byte that was written is another.
+    Written,
+    /// The word or byte right before what was lent is another.
+    Before,
+    /// The word or byte right behind what was lent is another.
+    Behind,
 }
 
 /// Where the two differ, or both from what is known.
@@ -126,7 +143,8 @@ impl Compared {
         disagree(about, file)
     }
 
-    fn judge(&mut self, mode: Mode, file: &[u8]) -> Result<Answer, Disagreement> {
+    /// Judges a file; the answer of both.
+    pub fn judge(&mut self, mode: Mode, file: &[u8]) -> Result<Answer, Disagreement> {
         let answer = own(kelompuris::judge(proved(mode), file));
         let about = format!("judge, {mode:?}");
         let expected = reference::judge(mode, file);
@@ -148,7 +166,12 @@ impl Compared {
     }
 
     /// Reads with tables of these sizes.
-    fn read(&mut self, mode: Mode, file: &[u8], sizes: [usize; 10]) -> Result<(), Disagreement> {
+    pub fn read(
+        &mut self,
+        mode: Mode,
+        file: &[u8],
+        sizes: [usize; 10],
+    ) -> Result<(), Disagreement> {
         let (mut lent, mut plain) = (Lent::new(sizes), Lent::new(sizes));
         let answer = own(kelompuris::read(proved(mode), file, &mut lent.tables()));
         let expected = reference::read(mode, file, &mut plain.tables());
@@ -168,10 +191,24 @@ impl Compared {
     ) -> Result<(), Disagreement> {
         self.reads += 1;
         self.words += lent.len();
+        let mut lent = Cow::Borrowed(lent);
+        if let Some(planted) = self.planted {
+            lent.to_mut().plant(planted, rows);
+        }
         match lent.wrong(plain, rows) {
             None => Ok(()),
             Some(wrong) => disagree(format!("{about}: {wrong}"), file),
         }
+    }
+
+    /// What is wrong with an output, of which so many bytes were written, beside that of the
+    /// reference.
+    fn wrong(&self, proved: &output::Lent, plain: &output::Lent, size: usize) -> Option<String> {
+        let mut proved = Cow::Borrowed(proved);
+        if let Some(planted) = self.planted {
+            proved.to_mut().plant(planted, size);
+        }
+        proved.wrong(plain, size)
     }
 
     fn count(&mut self, number: u32) {
@@ -179,20 +216,52 @@ impl Compared {
     }
 
     /// Holds an answer with this number to that of the reference.
-    fn same<T: PartialEq + fmt::Debug>(
+    fn same<T: PartialEq + fmt::Debug + Numbered>(
         &mut self,
         about: &str,
         file: &[u8],
         number: u32,
-        answer: T,
+        mut answer: T,
         expected: T,
     ) -> Result<T, Disagreement> {
         self.count(number);
+        if self.planted == Some(Planted::Number(number)) {
+            *answer.number() += 1;
+        }
         if answer == expected {
             return Ok(answer);
         }
         let about = format!("{about}: proved {answer:?}, reference {expected:?}");
         disagree(about, file)
+    }
+}
+
+/// An answer that begins with a number.
+trait Numbered {
+    fn number(&mut self) -> &mut u32;
+}
+
+macro_rules! numbered {
+    ($($answer:ty),*) => {
+        $(impl Numbered for $answer {
+            fn number(&mut self) -> &mut u32 {
+                &mut self.number
+            }
+        })*
+    };
+}
+
+numbered!(
+    Answer,
+    Label,
+    reference::Slip,
+    reference::Compared,
+    reference::Mended
+);
+
+impl<const HEAD: usize, const TABLES: usize> Numbered for kelompuris::cal3d::Answer<HEAD, TABLES> {
+    fn number(&mut self) -> &mut u32 {
+        &mut self.number
     }
 }
 
@@ -211,7 +280,7 @@ fn proved(mode: Mode) -> kelompuris::Mode {
 }
 
 /// The proved answer as one of the reference.
-fn own(answer: kelompuris::Answer) -> Answer {
+pub fn own(answer: kelompuris::Answer) -> Answer {
     Answer {
         number: answer.number,
         place: answer.place,

@@ -63,8 +63,8 @@ impl Compared {
         }
     }
 
-    /// Mends by both, with outputs of these sizes.
-    fn mended(
+    /// Mends by both, with outputs of these sizes: the answer, the file and the report.
+    pub fn mended(
         &mut self,
         file: &[u8],
         size: usize,
@@ -84,15 +84,16 @@ impl Compared {
         let about = format!("mend, outputs of {size} and {report_size} bytes");
         self.same(&about, file, answer.number, answer, expected)?;
         self.bytes += proved.len() + report.len();
-        if let Some(wrong) = proved.wrong(&plain, answer.size as usize) {
+        if let Some(wrong) = self.wrong(&proved, &plain, answer.size as usize) {
             return disagree(format!("{about}: file, {wrong}"), file);
         }
-        if let Some(wrong) = report.wrong(&plain_report, answer.report_size as usize) {
+        let report_written = answer.report_size as usize;
+        if let Some(wrong) = self.wrong(&report, &plain_report, report_written) {
             return disagree(format!("{about}: report, {wrong}"), file);
         }
         let bytes = (
             proved.written(answer.size as usize),
-            report.written(answer.report_size as usize),
+            report.written(report_written),
         );
         Ok((answer, bytes.0, bytes.1))
     }

@@ -1,7 +1,8 @@
-use crate::{disagree, proved, Compared, Disagreement};
+use crate::{disagree, lent, proved, Compared, Disagreement, Planted};
 use reference::{Mode, Written};
 use scenes::sheet::ROW_WORDS;
 use scenes::{Rng, Sheet};
+use std::hint::black_box;
 
 /// A call of a function that writes, the output aside.
 #[derive(Clone, Copy)]
@@ -15,26 +16,15 @@ pub enum Call<'a> {
 }
 
 impl Call<'_> {
-    fn proved(&self, out: &mut [u8]) -> Written {
+    /// Calls the proved function; none where it changed what it was lent to read.
+    fn proved(&self, out: &mut [u8]) -> Option<Written> {
         let answer = match self {
-            Call::Write(mode, sheet) => kelompuris::write(
-                proved(*mode),
-                &sheet.slices(),
-                &sheet.counts,
-                sheet.version,
-                sheet.n_texs,
-                &sheet.names,
-                out,
-            ),
+            Call::Write(mode, sheet) => return proved_write(*mode, sheet, out),
             Call::Clear(file) => kelompuris::clear(file, out),
             Call::SlipOf(file) => kelompuris::slip_of(file, out),
-            Call::Slip(numbers) => kelompuris::write_slip(numbers, out),
+            Call::Slip(numbers) => return proved_slip(numbers, out),
         };
-        Written {
-            number: answer.number,
-            place: answer.place,
-            size: answer.size,
-        }
+        Some(own(answer))
     }
 
     fn plain(&self, out: &mut [u8]) -> Written {
@@ -65,6 +55,46 @@ impl Call<'_> {
             Call::Slip(numbers) => disagree(format!("slip of {numbers:?}: {about}"), &[]),
         }
     }
+}
+
+/// The proved answer as one of the reference.
+fn own(answer: kelompuris::Written) -> Written {
+    Written {
+        number: answer.number,
+        place: answer.place,
+        size: answer.size,
+    }
+}
+
+/// Writes tables by the proved writer. Tables, counts and names stand among other words and
+/// bytes; none where one of all these changed.
+fn proved_write(mode: Mode, sheet: &Sheet, out: &mut [u8]) -> Option<Written> {
+    let tables = lent::Lent::holding(&sheet.slices());
+    let counts = lent::Lent::holding(&[&sheet.counts]);
+    let names = Lent::holding(&sheet.names);
+    let (lent_tables, [lent_counts]) = (tables.held(), counts.held());
+    let answer = kelompuris::write(
+        proved(mode),
+        &lent_tables,
+        lent_counts.try_into().expect("ten counts"),
+        sheet.version,
+        sheet.n_texs,
+        names.held(),
+        out,
+    );
+    let same = tables.holds(&sheet.slices())
+        && counts.holds(&[&sheet.counts])
+        && black_box(&names).0 == Lent::holding(&sheet.names).0;
+    same.then_some(own(answer))
+}
+
+/// Writes the slip of numbers by the proved function. They stand among other words; none where
+/// one of all these changed.
+fn proved_slip(numbers: &[u32; 12], out: &mut [u8]) -> Option<Written> {
+    let lent = lent::Lent::holding(&[&numbers[..]]);
+    let [held] = lent.held();
+    let answer = kelompuris::write_slip(held.try_into().expect("twelve numbers"), out);
+    lent.holds(&[&numbers[..]]).then_some(own(answer))
 }
 
 /// Tables to be printed, where they are small.
@@ -130,20 +160,25 @@ impl Compared {
 
     /// Calls both with an output of this size among other bytes; their answer
     /// and the bytes written.
-    fn output(&mut self, call: Call, size: usize) -> Result<(Written, Vec<u8>), Disagreement> {
+    pub fn output(&mut self, call: Call, size: usize) -> Result<(Written, Vec<u8>), Disagreement> {
         self.outputs += 1;
         let (mut proved, mut plain) = (Lent::new(size), Lent::new(size));
-        let answer = call.proved(proved.part());
+        let Some(mut answer) = call.proved(proved.part()) else {
+            return call.disagree("what was lent to be read was changed".to_string());
+        };
         let expected = call.plain(plain.part());
         self.count(answer.number);
         self.bytes += proved.len();
         let about = format!("output of {size} bytes");
+        if self.planted == Some(Planted::Number(answer.number)) {
+            answer.number += 1;
+        }
         if answer != expected {
             let values = format!("proved {answer:?}, reference {expected:?}");
             return call.disagree(format!("{about}: {values}"));
         }
         let written = answer.size as usize;
-        match proved.wrong(&plain, written) {
+        match self.wrong(&proved, &plain, written) {
             None => Ok((answer, proved.written(written))),
             Some(wrong) => call.disagree(format!("{about}: {wrong}")),
         }
@@ -151,11 +186,23 @@ impl Compared {
 }
 
 /// A lent output, with bytes before and behind it.
+#[derive(Clone)]
 pub struct Lent(Vec<u8>);
 
 impl Lent {
     pub fn new(size: usize) -> Lent {
         Lent((0..size + 2 * AROUND).map(pattern).collect())
+    }
+
+    /// These bytes, to be read.
+    fn holding(bytes: &[u8]) -> Lent {
+        let mut lent = Lent::new(bytes.len());
+        lent.part().copy_from_slice(bytes);
+        lent
+    }
+
+    fn held(&self) -> &[u8] {
+        &self.0[AROUND..self.0.len() - AROUND]
     }
 
     /// The output.
@@ -172,6 +219,17 @@ impl Lent {
     /// What was written: so many bytes from its start.
     pub fn written(&self, size: usize) -> Vec<u8> {
         self.0[AROUND..AROUND + size].to_vec()
+    }
+
+    /// Puts a fault into it, of which so many bytes are written.
+    pub fn plant(&mut self, planted: Planted, size: usize) {
+        let end = self.0.len() - AROUND;
+        match planted {
+            Planted::Written if size > 0 => self.0[AROUND + size - 1] ^= 1,
+            Planted::Before => self.0[AROUND - 1] ^= 1,
+            Planted::Behind => self.0[end] ^= 1,
+            _ => {}
+        }
     }
 
     /// Where it is not as the reference's, or changed outside what was written.

@@ -41,7 +41,7 @@ pub fn run(groups: &[(&str, Group)], needed: &[usize]) -> ExitCode {
 
 impl Compared {
     /// All that was compared, each with its number.
-    fn summary(&self) -> String {
+    pub fn summary(&self) -> String {
         let counts = [
             (self.files, "files"),
             (self.reads, "reads"),
