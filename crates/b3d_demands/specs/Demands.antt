@@ -82,7 +82,7 @@ pub record Writing (mode : Mode) (T : Lent) (ns : List ℕ) : Type 0 where
   pub bytes : (room : ℕ) (b : List ℕ) → write mode T ns room ≡ got b → AllBytes b
   -- no file with those tables is shorter
   pub least : (room : ℕ) (b : List ℕ) → write mode T ns room ≡ got b → (s : List ℕ) → AllBytes s → Has mode s T ns → length b ≤ length s
-  -- the same file is written into every output that has room for it
+  -- one file is written into every output that has room for it
   pub enough : (room : ℕ) (b : List ℕ) → write mode T ns room ≡ got b → (more : ℕ) → length b ≤ more → write mode T ns more ≡ got b
   -- an output with less room gets 11 and the file's size, which comes after 12
   pub short : (room : ℕ) (b : List ℕ) → write mode T ns room ≡ got b → (less : ℕ) → less < length b → write mode T ns less ≡ bad 11 (length b)

@@ -22,9 +22,9 @@ pub record Entry : Type 0 where
   pub place : ℕ
   -- which of the four, 1 to 4
   pub which : ℕ
-  -- those bytes as the given file has them
+  -- its bytes as the given file has them
   pub before : List ℕ
-  -- those bytes as the mended file has them
+  -- its bytes as the mended file has them
   pub after : List ℕ
 
 -- the entries of the edits of the bytes from place p on: one for each mend, where its bytes begin in the given file

@@ -6,7 +6,7 @@ use Rattle.wire.specs.Bytes.{IsWord}
 use Rattle.layout.specs.Lists.{All}
 use Rattle.layout.specs.Rules.{Rule, holds}
 
--- as many words as rules, and each word keeps its rule
+-- there is a word for each rule, which it keeps, and no word more
 abbrev pub Fits : List Rule → List ℕ → Type 0
 Fits [] [] = Unit {0}
 Fits [] (w ∷ ws) = ⊥
