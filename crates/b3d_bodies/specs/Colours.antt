@@ -3,11 +3,11 @@ use Prim.Native.Nat.{ℕ, _+_, _*_, _/_, _%_}
 use Rattle.b3d_scene.specs.declared.Mode.{Mode}
 use Rattle.b3d_scene.specs.declared.Mode.the-variants.{Strict, Lenient}
 
--- the words of a vertex before its colour
+-- how many words of a vertex with these flags stand before its colour
 abbrev pub beforeColour : ℕ → ℕ
 beforeColour flags = 3 + flags / 1 % 2 * 3
 
--- and the colours
+-- how many words of a vertex with these flags are colours that a mode looks at
 unfoldable pub coloursOf : Mode → ℕ → ℕ
 coloursOf Strict flags = flags / 2 % 2 * 4
 coloursOf Lenient flags = 0

@@ -1,5 +1,5 @@
-// Judges the bodies of chunks that hold items only, of vertices, triangles, weights and keys: VRTS, TRIS, BONE, KEYS. An answer is a refusal with its place,
-// or what the body adds to the row counts and to the size of the cleared copy.
+// Judges the bodies of chunks that hold items only: VRTS, TRIS, BONE and KEYS. An answer is a refusal with its place, or what the body adds to the row counts
+// and to the size of the cleared copy.
 ghost use Prim.Native.Nat.{_≤_, _<_, _+_, _-_};
 ghost use mathlib.Core.Path.{_≡_};
 ghost use lib.ListN.{length};
@@ -18,13 +18,14 @@ use b3d_tally::Judged;
 use wire::Cursor;
 use wire::Number;
 
-// How many vertices, and how many words each has.
+// How many vertices there are and how many words each has, or a refusal and its place.
 pub enum Shaped {
     Is(usize, usize),
     Not(u32, usize),
 }
 
-// A KEYS: its flags, then keys to the end.
+// Judges the `body` of a KEYS whose header is at `at`: its flags, then keys to the end, none at all being allowed. Returns its tally; 5 where flags or a key
+// is cut, 6 at flags over 7.
 pub fn judge_keys(s: &[u8], at: usize, body: Cursor) -> Judged
     requires { ⌜ Body at body (length (now s)) ⌝ }
     ensures { λ r. ⌜ Judges listTally (readKeys at (left body (now (s .entry)))) at (body .end) r ⌝ }
@@ -44,7 +45,8 @@ pub fn judge_keys(s: &[u8], at: usize, body: Cursor) -> Judged
     }
 }
 
-// The weights of a bone that may name so many vertices.
+// Judges the `body` of a BONE whose header is at `at`: weights to the end. Returns its tally; 5 at a weight that is cut, 7 at a vertex id that is not below
+// `vertices`.
 pub fn judge_bone(s: &[u8], at: usize, body: Cursor, vertices: usize) -> Judged
     requires { ⌜ Body at body (length (now s)) ⌝ }
     ensures { λ r. ⌜ Judges boneTally (readBone vertices at (left body (now (s .entry)))) at (body .end) r ⌝ }
@@ -55,7 +57,7 @@ pub fn judge_bone(s: &[u8], at: usize, body: Cursor, vertices: usize) -> Judged
     }
 }
 
-// The colours of a vertex with these flags that the mode looks at.
+// Returns how many words of a vertex with these `flags` are colours that the `mode` looks at: 4 or 0.
 fn colours_of(mode: Mode, flags: u32) -> usize
     requires { ⌜ flags ≤ 3 ⌝ }
     ensures { λ r. ⌜ r ≡ coloursOf mode flags ⌝ }
@@ -66,7 +68,8 @@ fn colours_of(mode: Mode, flags: u32) -> usize
     }
 }
 
-// Vertices of so many words, by one division where no colour is looked at.
+// Counts the vertices of `words` words that `items` has left, by one division where no colour is looked at. Answers 5 at a vertex that is cut, 6 at a colour
+// that does not pass.
 fn vertex_items(s: &[u8], items: Cursor, words: usize, flags: u32, mode: Mode) -> Counted
     requires { ⌜ Inside items (length (now s)) × (flags ≤ 3) × (0 < words) × (words ≤ 64) × (beforeColour flags + coloursOf mode flags ≤ words) ⌝ }
     ensures { λ r. ⌜ (r ≡ counted (colourItems (beforeColour flags) (coloursOf mode flags) (words - (beforeColour flags + coloursOf mode flags)) (items .at) (left items (now (s .entry))))) × CountedIn items words r ⌝ }
@@ -79,7 +82,8 @@ fn vertex_items(s: &[u8], items: Cursor, words: usize, flags: u32, mode: Mode) -
     b3d_colour_items::colour_items(s, items, words, before, n)
 }
 
-// A VRTS: its flags, sets and set size, then vertices to the end.
+// Judges the `body` of a VRTS whose header is at `at`: flags, sets and set size, then vertices to the end. Returns how many vertices and words of each; 5
+// where these numbers or a vertex is cut, 6 at a number out of its range or, in strict `mode`, a colour that does not pass.
 pub fn judge_vertices(s: &[u8], at: usize, body: Cursor, mode: Mode) -> Shaped
     requires { ⌜ Body at body (length (now s)) ⌝ }
     ensures { λ r. ⌜ Shapes (readVertices mode at (left body (now (s .entry)))) body r ⌝ }
@@ -112,7 +116,8 @@ pub fn judge_vertices(s: &[u8], at: usize, body: Cursor, mode: Mode) -> Shaped
     }
 }
 
-// A set of triangles of a mesh with so many vertices, beside so many brushes.
+// Judges the `body` of a TRIS whose header is at `at`: its brush id, -1 or below `brushes`, then triangles to the end. Returns its tally; 5 where the id or a
+// triangle is cut, 7 at a brush id that names nothing or a vertex id that is not below `vertices`.
 pub fn judge_triangles(s: &[u8], at: usize, body: Cursor, brushes: usize, vertices: usize) -> Judged
     requires { ⌜ Body at body (length (now s)) ⌝ }
     ensures { λ r. ⌜ Judges setTally (readTriangles brushes vertices at (left body (now (s .entry)))) at (body .end) r ⌝ }

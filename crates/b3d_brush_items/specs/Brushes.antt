@@ -10,16 +10,17 @@ use Rattle.b3d_items.specs.declared.Counted.the-variants as counts
 use Rattle.b3d_scene.specs.declared.Mode.{Mode}
 use Rattle.b3d_scene.specs.declared.Mode.the-variants.{Strict, Lenient}
 
--- the colours of a brush that a mode looks at: its first words
+-- how many of the first words of a brush are colours that a mode looks at
 abbrev pub brushColours : Mode → ℕ
 brushColours Strict = 4
 brushColours Lenient = 0
 
+-- how many brushes were read, or the refusal
 abbrev pub countedBrushes : Out (List Brush) → Counted
 countedBrushes (got l) = counts.Is (length l)
 countedBrushes (bad n p) = counts.Not n p
 
--- so many brushes have room, each the zero of a text, seven words and its slots at least; a refusal's place is before the end
+-- k brushes have room in what c has left, each the zero of a text, seven words and `slots` ids at least; a refusal's place is not past its end
 abbrev pub BrushesIn : Cursor → ℕ → Counted → Type 0
 BrushesIn c slots (counts.Is k) = k * (29 + 4 * slots) ≤ c .end - c .at
 BrushesIn c slots (counts.Not n p) = p ≤ c .end

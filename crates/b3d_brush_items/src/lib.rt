@@ -1,4 +1,4 @@
-// The items of a BRUS: how many brushes, each with the colours and the texture ids that it may have.
+// Counts the items of a BRUS, and looks at the colours and the texture ids of each brush.
 ghost use Prim.Native.Nat.{_≤_};
 ghost use mathlib.Core.Path.{_≡_};
 ghost use lib.ListN.{length};
@@ -11,7 +11,7 @@ use b3d_items::Counted;
 use b3d_scene::Mode;
 use wire::Cursor;
 
-// The colours of a brush that the mode looks at.
+// Returns how many of the first words of a brush are colours that the `mode` looks at: 4 or 0.
 fn brush_colours(mode: Mode) -> usize
     ensures { λ r. ⌜ (r ≡ brushColours mode) × (r ≤ 4) ⌝ }
 {
@@ -21,7 +21,8 @@ fn brush_colours(mode: Mode) -> usize
     }
 }
 
-// How many brushes of so many slots, each empty or naming one of so many textures.
+// Counts the brushes that `from` has left, each with `slots` texture ids that are -1 or below `textures`. Answers 5 at a brush that is cut, 6 at a colour
+// that does not pass in the `mode`, 7 at an id that names nothing.
 pub fn brush_items(s: &[u8], from: Cursor, slots: usize, textures: usize, mode: Mode) -> Counted
     requires { ⌜ Inside from (length (now s)) × (slots ≤ 8) ⌝ }
     ensures { λ r. ⌜ (r ≡ countedBrushes (items (readBrush mode slots textures) (from .at) (left from (now (s .entry))))) × BrushesIn from slots r ⌝ }

@@ -19,44 +19,55 @@ use Rattle.b3d_chunks.specs.declared.Next.the-variants as next
 use Rattle.b3d_chunks.specs.declared.Named.{Named}
 use Rattle.b3d_chunks.specs.declared.Named.the-variants as named
 
+-- a tag, if it is known, as `Tagged` has it
 abbrev pub tagged : Option Tag → Tagged
 tagged none = tags.Other
 tagged (some t) = tags.Known t
 
--- the chunks that an answer stands for: the one found, and those after it
+-- the chunks that an answer on s stands for: the one found, and those after it
 abbrev pub chunksOf : List ℕ → Next → Chunks
 chunksOf s (next.Chunk t p b n) = chunk t p (left b s) (split (n .at) (left n s))
 chunksOf s (next.Cut p) = stop 3 p
 chunksOf s next.Done = done
 
--- a chunk that stands at p among the bytes of c: its body follows its header, and the cursor after it the body
+-- a chunk with its header at p, its body b and the cursor n after it stands among the bytes of c
 pub record Among (c : Cursor) (p : ℕ) (b n : Cursor) : Type 0 where
+  -- its header is not before c
   pub from : c .at ≤ p
+  -- its body follows its header
   pub body : b .at ≡ p + 8
+  -- its body ends behind its beginning, or there
   pub room : b .at ≤ b .end
+  -- the cursor after it follows its body
   pub after : n .at ≡ b .end
+  -- that cursor is not past its end
   pub to : n .at ≤ n .end
+  -- it has the end of c
   pub same : n .end ≡ c .end
 
+-- where an answer's parts stand: a chunk among the bytes of c; the place of a cut header not past the end of c
 abbrev pub NextIn : Cursor → Next → Type 0
 NextIn c (next.Chunk t p b n) = Among c p b n
 NextIn c (next.Cut p) = p ≤ c .end
 NextIn c next.Done = Unit {0}
 
--- r is what the bytes of c begin with
+-- r is what the bytes of s at c begin with
 pub record NextIs (s : List ℕ) (c : Cursor) (r : Next) : Type 0 where
+  -- the chunks from c on are those that r stands for
   pub says : split (c .at) (left c s) ≡ chunksOf s r
+  -- the parts of r stand among the bytes of c
   pub among : NextIn c r
 
--- a text, and so many words after it
+-- a text that was read and `words` words after it; Cut where they are not all there
 unfoldable pub namedBy : ℕ → Text → Named
 namedBy words text.Cut = named.Cut
 namedBy words (text.Is len w) = if (ltb (w .end - w .at) (4 * words)) named.Cut (named.Is len w (record { at = w .at + 4 * words; end = w .end }))
 
+-- the text of s at c and `words` words after it; Cut where they are not all there
 unfoldable pub namedAt : List ℕ → Cursor → ℕ → Named
 namedAt s c words = namedBy words (textAt s c)
 
--- where its parts stand
+-- a text of len bytes at c, the cursor w at the words behind its zero, and the cursor n after the `words` words
 pub record RowIn (c : Cursor) (len : ℕ) (w n : Cursor) (words : ℕ) : Type 0 where
   pub row : w .at ≡ c .at + len + 1
   pub after : n .at ≡ w .at + 4 * words
@@ -64,6 +75,7 @@ pub record RowIn (c : Cursor) (len : ℕ) (w n : Cursor) (words : ℕ) : Type 0 
   pub row-same : w .end ≡ c .end
   pub same : n .end ≡ c .end
 
+-- where the parts of an answer on a text at c and `words` words stand
 abbrev pub NamedIn : Cursor → ℕ → Named → Type 0
 NamedIn c words (named.Is len w n) = RowIn c len w n words
 NamedIn c words named.Cut = Unit {0}

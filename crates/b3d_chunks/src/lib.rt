@@ -11,13 +11,13 @@ use wire::Cursor;
 use wire::Header;
 use wire::Text;
 
-// A known tag, or another.
+// A known tag, or another: `Other`.
 pub enum Tagged {
     Known(Tag),
     Other,
 }
 
-// The known tag with these letters.
+// Returns the known tag with the letters `n`, or `Other` where there is none.
 pub fn tag_of(n: u32) -> Tagged
     ensures { λ r. ⌜ r ≡ tagged (tagOf n) ⌝ }
 {
@@ -36,7 +36,7 @@ pub fn tag_of(n: u32) -> Tagged
     }
 }
 
-// The four letters of a tag as a number.
+// Returns the four letters of `tag` as a number.
 pub fn letters(tag: Tag) -> u32
     ensures { λ r. ⌜ r ≡ code tag ⌝ }
 {
@@ -54,14 +54,14 @@ pub fn letters(tag: Tag) -> u32
     }
 }
 
-// Whether two tags are one.
+// Returns whether `a` and `b` are one tag.
 pub fn same(a: Tag, b: Tag) -> bool
     ensures { λ r. ⌜ r ≡ is a b ⌝ }
 {
     letters(a) == letters(b)
 }
 
-// The next known chunk: its tag, the place of its header, its body, the cursor after it; or the place of a cut header; or none.
+// The next known chunk: its tag, the place of its header, its body, the cursor after it; or `Cut`, the place of a cut header; or `Done`, no chunk is left.
 pub enum Next {
     Chunk {
         tag: Tag,
@@ -73,7 +73,7 @@ pub enum Next {
     Done,
 }
 
-// Unknown chunks are passed over.
+// Finds the next known chunk of `s` from the cursor `from` on; unknown chunks are passed over. Returns it, the place of a header that is cut, or `Done`.
 pub fn next_chunk(s: &[u8], from: Cursor) -> Next
     requires { ⌜ Inside from (length (now s)) ⌝ }
     ensures { λ r. ⌜ NextIs (now (s .entry)) from r ⌝ }
@@ -104,7 +104,7 @@ pub fn next_chunk(s: &[u8], from: Cursor) -> Next
     }
 }
 
-// A text of so many bytes, a cursor at the words that follow it, the cursor after those; or not all of it is there.
+// A text's length without its zero, a cursor at the words that follow it, and the cursor after those; or `Cut`: not all of it is there.
 pub enum Named {
     Is {
         length: usize,
@@ -114,7 +114,7 @@ pub enum Named {
     Cut,
 }
 
-// A text and so many words.
+// Reads a text of `s` at `c` and the `words` words behind it. Returns where they stand, or `Cut` where they are not all there.
 pub fn named_row(s: &[u8], c: Cursor, words: usize) -> Named
     requires { ⌜ Inside c (length (now s)) × (words ≤ 64) ⌝ }
     ensures { λ r. ⌜ (r ≡ namedAt (now (s .entry)) c words) × NamedIn c words r ⌝ }

@@ -1,4 +1,4 @@
-// Items of a chunk of which some words are colours: those that are looked at, one after the other.
+// Counts the items of a chunk of which some words are colours, and looks at each colour.
 ghost use mathlib.Core.Path.{_≡_};
 ghost use Prim.Native.Nat.{_+_, _-_, _*_, _<_, _≤_};
 ghost use lib.ListN.{length};
@@ -10,7 +10,7 @@ ghost use Rattle.b3d_items.specs.Items.{CountedIn, colourItems, counted};
 use b3d_items::Counted;
 use wire::Cursor;
 
-// How many of the first n words are colours before one that is not.
+// Returns how many of the `n` words at `c` are colours from 0 to 1 before the first that is not; `n` where each is.
 pub fn first_bad_colour(s: &[u8], c: Cursor, n: usize) -> usize
     requires { ⌜ Inside c (length (now s)) × (c .at + 4 * n ≤ c .end) × (n ≤ 64) ⌝ }
     ensures { λ r. ⌜ (r ≡ firstBad unit (wordsOf n (left c (now (s .entry))))) × (r ≤ n) ⌝ }
@@ -27,7 +27,8 @@ pub fn first_bad_colour(s: &[u8], c: Cursor, n: usize) -> usize
     i
 }
 
-// Items of so many words, of which n from word `before` on are colours: 5 at a cut item, 6 at a colour that is not from 0 to 1.
+// Counts the items of `words` words that `from` has left. Of each, `n` words behind the first `before` are colours. Answers 5 at an item that is cut, 6 at
+// the first colour that is not from 0 to 1.
 pub fn colour_items(s: &[u8], from: Cursor, words: usize, before: usize, n: usize) -> Counted
     requires { ⌜ Inside from (length (now s)) × (0 < words) × (words ≤ 64) × (before + n ≤ words) ⌝ }
     ensures { λ r. ⌜ (r ≡ counted (colourItems before n (words - (before + n)) (from .at) (left from (now (s .entry))))) × CountedIn from words r ⌝ }

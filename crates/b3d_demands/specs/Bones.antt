@@ -15,49 +15,66 @@ use Rattle.b3d_scene.specs.Scene.{Scene}
 use Rattle.b3d_scene.specs.Tables.{rows}
 use Rattle.b3d_demands.specs.Branches.{parentOf}
 
--- what row j of the node rows says: kind (0 pivot, 1 mesh, 2 bone), first, count, whether there is an ANIM
+-- the kind in row j of the node rows xs: 0 pivot, 1 mesh, 2 bone
 abbrev pub kindOf : List (List ℕ) → ℕ → ℕ
 kindOf xs j = getD (getD xs j []) 13 0
 
+-- cell `first` in row j of the node rows xs: the mesh number or the first weight
 abbrev pub firstOf : List (List ℕ) → ℕ → ℕ
 firstOf xs j = getD (getD xs j []) 14 0
 
+-- cell `count` in row j of the node rows xs
 abbrev pub countOf : List (List ℕ) → ℕ → ℕ
 countOf xs j = getD (getD xs j []) 15 0
 
+-- cell ANIM present in row j of the node rows xs: 1, or 0
 abbrev pub animOf : List (List ℕ) → ℕ → ℕ
 animOf xs j = getD (getD xs j []) 16 0
 
--- from row j up by the parents: c is the nearest row with an ANIM, or the root if there is none
+-- from row j of the node rows xs up by the parents: c is the nearest row with an ANIM, or the root if there is none
 pub data Nearest (xs : List (List ℕ)) (c : ℕ) : ℕ → Type 0 where
+  -- row j is that row: it has an ANIM, or is the root
   itself : (j : ℕ) → j ≡ c → (animOf xs j ≡ 1) ⊎ (parentOf xs j ≡ NONE) → Nearest xs c j
+  -- row j has no ANIM and is not the root: go up to its parent
   above : (j : ℕ) → animOf xs j ≡ 0 → (parentOf xs j ≡ NONE → ⊥) → Nearest xs c (parentOf xs j) → Nearest xs c j
 
--- how many vertices the MESH of node c has; 0 where it has no MESH
+-- how many vertices the MESH of node c has, in the tables R; 0 where it has no MESH
 unfoldable pub meshVertices : Rows → ℕ → ℕ
 meshVertices R c = if (eqb (kindOf (R 3) c) 1) (getD (getD (R 4) (firstOf (R 3) c) []) 6 0) 0
 
--- the vertex id of weight i of node r
+-- the vertex id of weight i of node r, in the tables R
 abbrev pub weightId : Rows → ℕ → ℕ → ℕ
 weightId R r i = getD (getD (R 8) (firstOf (R 3) r + i) []) 0 0
 
--- row w of the weights is one of a bone's
+-- row w of the weights is one of a bone's, xs being the node rows
 pub record Owned (xs : List (List ℕ)) (w : ℕ) : Type 0 where
+  -- the bone's row
   pub by : ℕ
+  -- which of its weights, from 0 on
   pub number : ℕ
+  -- there is such a node row
   pub row : by < length xs
+  -- it is a bone
   pub kind : kindOf xs by ≡ 2
+  -- it has such a weight
   pub few : number < countOf xs by
+  -- that weight is row w
   pub is : w ≡ firstOf xs by + number
 
--- weight i of node r is of one node, from r's parent upward, and names a vertex of that node's MESH: none where it has none
+-- weight i of node r, in the tables R, names a vertex as E3 says
 pub record Bone (R : Rows) (r i : ℕ) : Type 0 where
+  -- the node whose MESH it is measured against
   pub of : ℕ
+  -- from r's parent up, that node is the nearest with an ANIM, or the root if no node above has one
   pub nearest : Nearest (R 3) of (parentOf (R 3) r)
+  -- no other node is
   pub only : (c : ℕ) → Nearest (R 3) c (parentOf (R 3) r) → c ≡ of
+  -- the vertex id names a vertex of that node's MESH; without a MESH no vertex id is right
   pub names : weightId R r i < meshVertices R of
 
--- so it is, in the tables of a file that a mode accepts, of each weight of each bone; and each row of the weights is one of those
+-- E3, in the tables of a file s that a mode accepts
 pub record BonesNearest (mode : Mode) (s : List ℕ) : Type 0 where
+  -- each weight of each bone names a vertex of the MESH of the nearest node above with an ANIM, else of the root's
   pub bones : (t : Scene) → judge mode s ≡ got t → (r : ℕ) → r < length (rows 3 t) → kindOf (rows 3 t) r ≡ 2 → (i : ℕ) → i < countOf (rows 3 t) r → Bone (λ k. rows k t) r i
+  -- each row of the weights is a weight of some bone
   pub each : (t : Scene) → judge mode s ≡ got t → (w : ℕ) → w < length (rows 8 t) → Owned (rows 3 t) w

@@ -1,4 +1,4 @@
-// The next known chunk inside a chunk, by cursor: of a file at hand refusals 4 and 8 are given here, by `by_permit`, and nowhere else.
+// The next known chunk inside a chunk, by cursor. Of a file at hand refusals 4 and 8 are given here, by `by_permit`, and nowhere else.
 ghost use mathlib.Core.Path.{_≡_};
 ghost use Prim.Native.Nat.{_≤_};
 ghost use lib.ListN.{length};
@@ -32,7 +32,8 @@ const FIRST: Reached = Reached {
     spent: false,
 };
 
-// What the table permits of what was found next: the chunk there, or the end of the chunks.
+// Returns what the table permits of `found` inside a chunk of the tag `enclosing`, after `reached`: the chunk there, or the end of the chunks; of a cut
+// header `No`.
 fn permit_for(found: Next, enclosing: Tag, reached: Reached) -> Permit
     ensures { λ r. ⌜ r ≡ permitFor enclosing reached found ⌝ }
 {
@@ -48,8 +49,8 @@ fn permit_for(found: Next, enclosing: Tag, reached: Reached) -> Permit
     }
 }
 
-// The answer for what was found next, by what the table permits: 3 at a cut header, 4 at a chunk that may not stand there, 8 at the header
-// of a chunk that ends and still owes one.
+// Returns the answer for `found` by its `permit`: 3 at a cut header, 4 at a chunk that may not stand there, 8 at `head`, the header of the chunk that
+// encloses, where the chunks end and one that must stand is missing.
 fn by_permit(
     s: &[u8],
     from: Cursor,
@@ -86,7 +87,8 @@ fn by_permit(
     }
 }
 
-// The first known chunk inside one whose header is at `head`, by what was found from a cursor on.
+// Returns the first known chunk inside one of the tag `enclosing` whose header is at `head`, by what was `found` from the cursor `from` on; or a refusal, or
+// the end.
 pub fn first_inside(s: &[u8], from: Cursor, found: Next, enclosing: Tag, head: usize) -> Enclosed
     requires { ⌜ NextIs (now s) from found × Inside from (length (now s)) × (head ≤ from .at) ⌝ }
     ensures { λ r. ⌜ EnclosedIs (now (s .entry)) enclosing head first from r ⌝ }
@@ -95,7 +97,8 @@ pub fn first_inside(s: &[u8], from: Cursor, found: Next, enclosing: Tag, head: u
     by_permit(s, from, found, permit, enclosing, head, FIRST)
 }
 
-// The next one, after those that have come so far.
+// Returns the next known chunk inside one of the tag `enclosing` whose header is at `head`, after chunks that came to `reached`, by what was `found` from the
+// cursor `from` on; or a refusal, or the end.
 pub fn next_inside(
     s: &[u8],
     from: Cursor,

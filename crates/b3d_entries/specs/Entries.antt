@@ -7,9 +7,10 @@ use Rattle.b3d_scene.specs.Tags.{tagNumber}
 use Rattle.b3d_nesting.specs.declared.Entry.{Entry}
 use Rattle.b3d_nesting.specs.Table.{nestingTable, entryAt}
 
+-- the table's row of this number, from 0 on
 abbrev pub rowAt : ℕ → List Entry
 rowAt row = getD nestingTable row []
 
--- inside a chunk of tag k: the entry for a tag
+-- the table's entry for tag t inside a chunk of tag k
 abbrev pub entryOf : Tag → Tag → Entry
 entryOf k t = entryAt (tagNumber k) (tagNumber t)

@@ -5,8 +5,7 @@ ghost use Rattle.b3d_entries.specs.Entries.{rowAt, entryOf};
 use b3d_nesting::Entry;
 use b3d_scene::Tag;
 
-// The table's row for the tag that encloses. Rows and numbers are picked by constants: where a caller names the tag that encloses, the
-// compiler looks them up.
+// Returns the table's row for the tag `enclosing`. Rows and numbers are picked by constants: where a caller names that tag, the compiler looks them up.
 pub fn row_of(enclosing: Tag) -> [Entry; 10]
     ensures { λ r. ⌜ r ≡ rowAt (tagNumber enclosing) ⌝ }
 {
@@ -25,7 +24,7 @@ pub fn row_of(enclosing: Tag) -> [Entry; 10]
     }
 }
 
-// The table's entry for a tag inside a chunk.
+// Returns the table's entry for `tag` inside a chunk of the tag `enclosing`.
 pub fn entry_of(enclosing: Tag, tag: Tag) -> Entry
     ensures { λ r. ⌜ r ≡ entryOf enclosing tag ⌝ }
 {

@@ -19,20 +19,20 @@ use Rattle.b3d_turns.specs.ByTable.{standsBy, afterBy, owesBefore}
 
 -- ---- a chunk of the file s whose header stands at place h
 
--- the known tag that it has, if it has one
+-- the known tag of the chunk whose header is at h, if it has one
 abbrev pub tagAt : List ℕ → ℕ → Option Tag
 tagAt s h = tagOf (wordAt s h)
 
--- where it ends
+-- the place where the chunk whose header is at h ends
 abbrev pub endOf : List ℕ → ℕ → ℕ
 endOf s h = h + 8 + wordAt s (h + 4)
 
--- the bytes from place p to place q
+-- the bytes of s from place p to place q
 abbrev pub part : List ℕ → ℕ → ℕ → List ℕ
 part s p q = take (q - p) (drop p s)
 
--- the chunks inside one of tag k, whose body goes from place p to q, begin at b, behind its fixed data: a NODE's name and ten floats, a MESH's brush
--- id. The bodies of all others but the file's BB3D are never read as chunks
+-- b is the place where the chunks inside a chunk of tag k begin, whose body goes from place p to q: behind its fixed data, a NODE's name and ten floats, a
+-- MESH's brush id. The bodies of all others but the file's BB3D are never read as chunks
 abbrev pub Begin : List ℕ → Tag → ℕ → ℕ → ℕ → Type 0
 Begin s BB3D p q b = ⊥
 Begin s TEXS p q b = ⊥
@@ -47,36 +47,38 @@ Begin s ANIM p q b = ⊥
 
 -- ---- the table
 
--- inside a chunk of tag k, after chunks that came to r, one of tag t may stand
+-- the table says that inside a chunk of tag k, after chunks that came to r, one of tag t may stand
 abbrev pub mayStand : Tag → Reached → Tag → Bool
 mayStand k r t = standsBy (owesBefore k r ((entryOf k t) .turn)) r (entryOf k t)
 
--- how far the chunks have come with it
+-- how far chunks inside one of tag k that had come to r come with one of tag t
 abbrev pub withChunk : Tag → Reached → Tag → Reached
 withChunk k r t = afterBy r (entryOf k t)
 
 -- ---- the walk over the headers
 
--- what is looked for: inside a chunk of tag k, whose header is at `head` and which ends at `last`, where the chunks up to place h have come to r
+-- what is looked for, said of a tag k, places `head`, h and `last`, and r: inside a chunk of tag k, whose header is at `head` and which ends at `last`, the
+-- chunks up to place h have come to r
 abbrev pub Looked : Type 1
 Looked = Tag → ℕ → ℕ → ℕ → Reached → Type 0
 
--- it is there, or further on, among the chunks of known tags that may stand where they do and the chunks inside them
+-- E holds at place h or further on, among the chunks of known tags that may stand where they do and the chunks inside them
 pub data Meets (s : List ℕ) (E : Looked) : Tag → ℕ → ℕ → ℕ → Reached → Type 0 where
+  -- at place h
   here : (k : Tag) (head h last : ℕ) (r : Reached) → E k head h last r → Meets s E k head h last r
-  -- behind a chunk of another tag, which is passed over and counts for no order
+  -- behind a chunk of another tag at h, which is passed over and counts for no order
   passed : (k : Tag) (head h last : ℕ) (r : Reached) → endOf s h ≤ last → tagAt s h ≡ none → Meets s E k head (endOf s h) last r → Meets s E k head h last r
-  -- behind a chunk that may stand there
+  -- behind a chunk at h that may stand there
   behind : (k : Tag) (head h last : ℕ) (r : Reached) (t : Tag) → endOf s h ≤ last → tagAt s h ≡ some t → mayStand k r t ≡ true
       → Meets s E k head (endOf s h) last (withChunk k r t) → Meets s E k head h last r
-  -- among the chunks inside a chunk that may stand there
+  -- among the chunks inside a chunk at h that may stand there
   within : (k : Tag) (head h last : ℕ) (r : Reached) (t : Tag) → endOf s h ≤ last → tagAt s h ≡ some t → mayStand k r t ≡ true
       → (b : ℕ) → Begin s t (h + 8) (endOf s h) b → Meets s E t h b (endOf s h) start → Meets s E k head h last r
 
--- somewhere in a file: among the chunks of its BB3D, behind the version
+-- E holds somewhere in the file s: among the chunks of its BB3D, behind the version
 abbrev pub InFile : List ℕ → Looked → Type 0
 InFile s E = Meets s E BB3D 0 12 (length s) start
 
--- a refusal n at p that comes before what is met at place m: it has a lower place; or it is a 5 there, of a chunk that ends there without the fixed data that it needs
+-- refusal n at p comes before what is met at place m: p is a lower place; or n is a 5 at p, of a chunk that ends at m without the fixed data that it needs
 abbrev pub Sooner : ℕ → ℕ → ℕ → Type 0
 Sooner m n p = (p < m) ⊎ ((p ≤ m) × (n ≡ 5))

@@ -9,20 +9,28 @@ use Rattle.b3d_scene.specs.declared.Tag.{Tag}
 use Rattle.b3d_scene.specs.Tags.{Chunks, split}
 use Rattle.b3d_scene.specs.Nesting.{Reached, order}
 
--- the body of a chunk whose header stands at `at`, in a file of n bytes
+-- b is the body of a chunk whose header stands at `at`, in a file of n bytes
 pub record Body (at : ℕ) (b : Cursor) (n : ℕ) : Type 0 where
+  -- it begins behind the header
   pub head : b .at ≡ at + 8
+  -- it ends behind its beginning, or there
   pub room : b .at ≤ b .end
+  -- it ends in the file
   pub within : b .end ≤ n
+  -- the file is within the size limit
   pub small : n ≤ mostBytes
 
--- a cursor among the chunks inside a chunk whose header stands at `at`, in a file of n bytes
+-- cursor c stands among the chunks inside a chunk whose header stands at `at`, in a file of n bytes
 pub record Among (at : ℕ) (c : Cursor) (n : ℕ) : Type 0 where
+  -- it is behind the header
   pub head : at + 8 ≤ c .at
+  -- it is not past its end
   pub room : c .at ≤ c .end
+  -- its end is in the file
   pub within : c .end ≤ n
+  -- the file is within the size limit
   pub small : n ≤ mostBytes
 
--- the chunks from a cursor on, inside a chunk of tag k whose header is at `head`
+-- the chunks of s from cursor c on, inside a chunk of tag k whose header is at `head`, after chunks that came to r
 unfoldable pub restIn : List ℕ → Tag → ℕ → Reached → Cursor → Chunks
 restIn s k head r c = order k head r (split (c .at) (left c s))

@@ -1,4 +1,4 @@
-// Items of a chunk: ids that are looked at, items that are counted by one division.
+// Counts the items of a chunk: by one division where no word is looked at, one after the other where ids are.
 ghost use mathlib.Core.Path.{_≡_};
 ghost use Prim.Native.Nat.{_-_, _<_, _≤_};
 ghost use lib.ListN.{length};
@@ -6,13 +6,14 @@ ghost use Rattle.wire.specs.Cursors.{Inside, left};
 ghost use Rattle.b3d_items.specs.Items.{dividedAt, CountedIn, idItems, counted};
 use wire::Cursor;
 
-// So many items, or a refusal and its place.
+// How many items there are, or a refusal and its place.
 pub enum Counted {
     Is(usize),
     Not(u32, usize),
 }
 
-// Items of so many words that are not looked at, by one division: 5 at one that is cut.
+// Counts the items of `words` words that `c` has left, by one division; no word is looked at. Answers 5 at an item that is cut, 0 items where no byte is
+// left.
 pub fn whole_items(c: Cursor, words: usize) -> Counted
     requires { ⌜ (c .at ≤ c .end) × (0 < words) × (words ≤ 64) ⌝ }
     ensures { λ r. ⌜ (r ≡ dividedAt c words) × CountedIn c words r ⌝ }
@@ -27,7 +28,8 @@ pub fn whole_items(c: Cursor, words: usize) -> Counted
     Counted::Not(5, at + count * size)
 }
 
-// Items of so many words, the first of them ids of so many things, none absent: 5 at a cut item, 7 at an id that names nothing.
+// Counts the items of `words` words that `from` has left. The first `ids` words of each are ids below `limit`, none absent. Answers 5 at an item that is cut,
+// 7 at the first id that names nothing.
 pub fn id_items(s: &[u8], from: Cursor, words: usize, ids: usize, limit: usize) -> Counted
     requires { ⌜ Inside from (length (now s)) × (0 < words) × (words ≤ 64) × (ids ≤ words) ⌝ }
     ensures { λ r. ⌜ (r ≡ counted (idItems ids (words - ids) limit (from .at) (left from (now (s .entry))))) × CountedIn from words r ⌝ }

@@ -5,7 +5,7 @@ use Rattle.b3d_tally.specs.Tally.{tallyOf}
 use Rattle.b3d_judge_body.specs.declared.Verdict.{Verdict}
 use Rattle.b3d_judge_body.specs.declared.Verdict.the-variants as verdict
 
--- what the judge answers for what a file says: 01's number and place, or version, n_texs, counts and the size of the copy
+-- the judge's answer for what a file says: 01's number and place, or version, n_texs, counts and the size of the copy
 abbrev pub verdictOf : Out Scene → Verdict
 verdictOf (got t) = verdict.Good (record { version = t .version; «n_texs» = t .slots; tally = tallyOf t })
 verdictOf (bad n p) = verdict.Bad n p

@@ -1,5 +1,5 @@
-// The judge: one walk over a file, which answers the refusal (1 to 10) with its place, or version, n_texs, the ten row counts and the
-// size of the cleared copy. Nothing is written; reader, clearer and lister start from it.
+// The judge: one walk over a file, which answers its refusal, 1 to 10, or what it says without its tables. That is version, n_texs, the ten row counts and
+// the size of the cleared copy. Nothing is written; reader, clearer and lister start from it.
 ghost use mathlib.Core.Path.{_≡_};
 ghost use Rattle.b3d_judge.specs.Answers.{verdictOf};
 ghost use Rattle.wire.specs.Bytes.{AllBytes};
@@ -8,7 +8,7 @@ use b3d_judge_body::Verdict;
 use b3d_scene::Mode;
 use b3d_scene::letters;
 
-// Called for its promise alone: the elements of a slice of bytes are bytes. It has no result.
+// Does nothing: called for its promise alone, that the elements of the slice `s` are bytes. It has no result.
 pub fn are_bytes(s: &[u8])
     ensures { λ _. ⌜ AllBytes (now (s .entry)) ⌝ }
 {
@@ -17,7 +17,8 @@ pub fn are_bytes(s: &[u8])
     }
 }
 
-// What a file says, without any table.
+// Judges `file` in a `mode`, without any table: checks 1 to 10. Returns its refusal and place, or version, n_texs, row counts and the size of its cleared
+// copy.
 pub fn judge(mode: Mode, file: &[u8]) -> Verdict
     ensures { λ r. ⌜ r ≡ verdictOf (judge mode (now (file .entry))) ⌝ }
 {

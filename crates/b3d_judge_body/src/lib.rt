@@ -1,4 +1,4 @@
-// Judges all that follows the header of a file: its version and its chunks; the rows of all of them.
+// Judges all that follows the header of a file, its version and its chunks, and counts their rows.
 ghost use Prim.Native.Nat.{_≤_};
 ghost use mathlib.Core.Path.{_≡_};
 ghost use lib.ListN.{length, drop};
@@ -16,20 +16,20 @@ use b3d_tally::Tally;
 use wire::Cursor;
 use wire::Number;
 
-// What is answered of a file that keeps the layout rules, and the size of its cleared copy.
+// What a file says without its tables: version, n_texs, and the tally of its rows with the size of its cleared copy.
 pub struct Summary {
     pub version: u32,
     pub n_texs: u32,
     pub tally: Tally,
 }
 
-// A file without the faults 1 to 10, or its refusal and the place.
+// What a file says, or its refusal and the place.
 pub enum Verdict {
     Good(Summary),
     Bad(u32, usize),
 }
 
-// The rows of a file: its header and version, its textures, the rest.
+// Returns the tally of a file: BB3D's header and version, its `textures`, and the `rest`.
 pub fn file_rows(textures: Tally, rest: Tally) -> Tally
     requires { ⌜ Within textures mostBytes × Within (plus (bytesTally 12) textures) mostBytes × Within rest mostBytes ⌝ }
     ensures { λ r. ⌜ r ≡ plus (plus (bytesTally 12) textures) rest ⌝ }
@@ -37,7 +37,7 @@ pub fn file_rows(textures: Tally, rest: Tally) -> Tally
     b3d_tally::plus(b3d_tally::plus(b3d_tally::bytes(12), textures), rest)
 }
 
-// TEXS, BRUS and NODE.
+// Judges the chunks of a file of this `version` from the cursor `from` on: TEXS, BRUS and NODE. Returns what the file says, or the first refusal.
 fn judge_chunks(s: &[u8], version: u32, from: Cursor, mode: Mode) -> Verdict
     requires { ⌜ Among 0 from (length (now s)) × (from .at ≡ 12) ⌝ }
     ensures { λ r. ⌜ Walks (readChunks mode version (restIn (now (s .entry)) BB3D 0 start from)) (from .end) r ⌝ }
@@ -55,7 +55,8 @@ fn judge_chunks(s: &[u8], version: u32, from: Cursor, mode: Mode) -> Verdict
     }
 }
 
-// All that follows the header of a file.
+// Judges all that follows the header of the file `s`, in a `mode`. Returns what the file says, or the first refusal: 5 at 8 where the version is cut, 6 at 8
+// where it is over 99. The row limit is not looked at.
 pub fn judge_body(s: &[u8], mode: Mode) -> Verdict
     requires { ⌜ (8 ≤ length (now s)) × (length (now s) ≤ mostBytes) ⌝ }
     ensures { λ r. ⌜ Walks (readBody mode 8 (drop 8 (now (s .entry)))) (length (now (s .entry))) r ⌝ }

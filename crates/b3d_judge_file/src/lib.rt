@@ -20,35 +20,38 @@ use b3d_tally::Tally;
 use b3d_turns::Reached;
 use wire::Cursor;
 
-// The tally of chunks that were judged, and the cursor after them.
+// The tally of chunks that were judged, and the cursor after them; or a refusal and its place.
 pub enum Phase {
     To(Tally, Cursor),
     Not(u32, usize),
 }
 
-// The slots of a brush, the tally of the brushes, and the cursor after them.
+// n_texs, 0 without a brush, the tally of the brushes, and the cursor after them; or a refusal and its place.
 pub enum Brushed {
     To(u32, Tally, Cursor),
     Not(u32, usize),
 }
 
-// How far the chunks of a file have come after its textures, its brushes and its root, with them or without.
+// How far the chunks of a file have come after its TEXS, or without one.
 const TEXS_READ: Reached = Reached {
     turn: 1,
     spent: true,
 };
 
+// How far the chunks of a file have come after its BRUS, or without one.
 const BRUS_READ: Reached = Reached {
     turn: 2,
     spent: true,
 };
 
+// How far the chunks of a file have come after its root, or without one.
 const ROOT_READ: Reached = Reached {
     turn: 3,
     spent: true,
 };
 
-// The textures, if TEXS comes first.
+// Judges the TEXS of a file, if it comes first from the cursor `from` on. Returns its tally and the cursor after it, or the first refusal; without a TEXS no
+// rows, and `from`.
 pub fn judge_texs(s: &[u8], from: Cursor) -> Phase
     requires { ⌜ Among 0 from (length (now s)) ⌝ }
     ensures { λ r. ⌜ Phases texsTally (readOne TEXS [] readTextures (restIn (now (s .entry)) BB3D 0 start from)) (restIn (now (s .entry)) BB3D 0 (reachedAt 1 true)) from r ⌝ }
@@ -73,7 +76,8 @@ pub fn judge_texs(s: &[u8], from: Cursor) -> Phase
     }
 }
 
-// The brushes, if BRUS comes first.
+// Judges the BRUS of a file with this number of `textures`, if it comes first from the cursor `from` on. Returns n_texs, its tally and the cursor after it,
+// or the first refusal; without a BRUS 0, no rows, and `from`.
 pub fn judge_brus(s: &[u8], from: Cursor, textures: usize, mode: Mode) -> Brushed
     requires { ⌜ Among 0 from (length (now s)) ⌝ }
     ensures { λ r. ⌜ Brushes (readOne BRUS (0, []) (readBrushes mode textures) (restIn (now (s .entry)) BB3D 0 (reachedAt 1 true) from)) (restIn (now (s .entry)) BB3D 0 (reachedAt 2 true)) from r ⌝ }
@@ -98,7 +102,8 @@ pub fn judge_brus(s: &[u8], from: Cursor, textures: usize, mode: Mode) -> Brushe
     }
 }
 
-// The nodes, if NODE comes first.
+// Judges the root NODE of a file with this number of `brushes`, if it comes first from the cursor `from` on. Returns the tally of the nodes and the cursor
+// after it, or the first refusal; without a NODE no rows, and `from`.
 fn judge_root(s: &[u8], from: Cursor, brushes: usize, mode: Mode) -> Phase
     requires { ⌜ Among 0 from (length (now s)) ⌝ }
     ensures { λ r. ⌜ Phases forestTally (readOne NODE leaf (readRoot mode brushes) (restIn (now (s .entry)) BB3D 0 (reachedAt 2 true) from)) (restIn (now (s .entry)) BB3D 0 (reachedAt 3 true)) from r ⌝ }
@@ -116,7 +121,8 @@ fn judge_root(s: &[u8], from: Cursor, brushes: usize, mode: Mode) -> Phase
     }
 }
 
-// The nodes, if NODE comes first, and nothing known after it.
+// Judges the root NODE of a file, if it comes first from the cursor `from` on, and that no known chunk follows it. Returns the tally of the nodes, or the
+// first refusal.
 fn judge_last(s: &[u8], from: Cursor, brushes: usize, mode: Mode) -> Judged
     requires { ⌜ Among 0 from (length (now s)) ⌝ }
     ensures { λ r. ⌜ Judges forestTally (readLast mode brushes (restIn (now (s .entry)) BB3D 0 (reachedAt 2 true) from)) (from .at) (from .end) r ⌝ }
@@ -135,7 +141,8 @@ fn judge_last(s: &[u8], from: Cursor, brushes: usize, mode: Mode) -> Judged
     }
 }
 
-// BRUS and NODE.
+// Judges the chunks of a file with this number of `textures` behind its TEXS, from the cursor `from` on: BRUS and NODE. Returns n_texs and their tally, or
+// the first refusal.
 pub fn judge_rest(s: &[u8], from: Cursor, textures: usize, mode: Mode) -> Slotted
     requires { ⌜ Among 0 from (length (now s)) ⌝ }
     ensures { λ r. ⌜ Rests (readRest mode textures (restIn (now (s .entry)) BB3D 0 (reachedAt 1 true) from)) (from .at) (from .end) r ⌝ }

@@ -1,4 +1,4 @@
-// Judges the two lists of a file, TEXS and BRUS: rows that begin with a name.
+// Judges the two lists of a file, TEXS and BRUS, whose items begin with a name.
 ghost use lib.ListN.{length};
 ghost use Rattle.wire.specs.Cursors.{left};
 ghost use Rattle.b3d_scene.specs.Parse.{readTextures, readBrushes};
@@ -14,13 +14,13 @@ use b3d_tally::Tally;
 use wire::Cursor;
 use wire::Number;
 
-// Texture slots of a brush, 0 without one.
+// n_texs, 0 without a brush, and a tally; or a refusal and its place.
 pub enum Slotted {
     Is(u32, Tally),
     Not(u32, usize),
 }
 
-// A TEXS: textures to the end.
+// Judges the `body` of a TEXS whose header is at `at`: textures to the end. Returns its tally, that of no TEXS without a texture; 5 at a texture that is cut.
 pub fn judge_textures(s: &[u8], at: usize, body: Cursor) -> Judged
     requires { ⌜ Body at body (length (now s)) ⌝ }
     ensures { λ r. ⌜ Judges texsTally (readTextures at (left body (now (s .entry)))) at (body .end) r ⌝ }
@@ -41,7 +41,9 @@ pub fn judge_textures(s: &[u8], at: usize, body: Cursor) -> Judged
     Judged::Good(b3d_tally::texs(count))
 }
 
-// Brushes beside so many textures.
+// Judges the `body` of a BRUS whose header is at `at`: n_texs, then brushes to the end, whose texture ids are -1 or below `textures`. Returns n_texs, 0
+// without a brush, and its tally; 5 at n_texs or a brush that is cut, 6 at n_texs over 8 or a colour that does not pass in the `mode`, 7 at an id that names
+// nothing.
 pub fn judge_brushes(s: &[u8], at: usize, body: Cursor, textures: usize, mode: Mode) -> Slotted
     requires { ⌜ Body at body (length (now s)) ⌝ }
     ensures { λ r. ⌜ SlotsAre (readBrushes mode textures at (left body (now (s .entry)))) at (body .end) r ⌝ }

@@ -1,4 +1,4 @@
-// Judges a MESH: its brush, its VRTS, its TRIS.
+// Judges a MESH: its brush id, its VRTS and its TRIS.
 ghost use Prim.Native.Nat.{_≤_, _+_};
 ghost use mathlib.Core.Path.{_≡_};
 ghost use mathlib.Core.Bool.{true};
@@ -22,19 +22,20 @@ use b3d_turns::Reached;
 use wire::Cursor;
 use wire::Number;
 
-// A mesh's vertices and its tally.
+// How many vertices a mesh has, and its tally; or a refusal and its place.
 pub enum Meshed {
     Is(usize, Tally),
     Not(u32, usize),
 }
 
-// How far the chunks of a mesh have come after its VRTS.
+// How far the chunks inside a MESH have come after its VRTS.
 const VRTS_READ: Reached = Reached {
     turn: 1,
     spent: true,
 };
 
-// The TRIS chunks of a mesh whose header is at `at`, with so many vertices: one or more.
+// Judges the TRIS chunks from the cursor `from` to the end of a MESH whose header is at `at`, with this number of `brushes` and `vertices`. Returns their
+// tally, or the first refusal: 8 at `at` where there is none.
 pub fn judge_sets(s: &[u8], at: usize, from: Cursor, brushes: usize, vertices: usize) -> Judged
     requires { ⌜ Among at from (length (now s)) ⌝ }
     ensures { λ r. ⌜ Judges setsTally (readSets brushes vertices (restIn (now (s .entry)) MESH at (reachedAt 1 true) from)) (from .at) (from .end) r ⌝ }
@@ -71,7 +72,7 @@ pub fn judge_sets(s: &[u8], at: usize, from: Cursor, brushes: usize, vertices: u
     }
 }
 
-// The rows of a mesh of n vertices of so many words each, and of its TRIS.
+// Returns the tally of a mesh of `n` vertices of `words` words each, and of its TRIS, `sets`.
 pub fn mesh_rows(n: usize, words: usize, sets: Tally) -> Tally
     requires { ⌜ (n ≤ mostBytes) × (words ≤ 42) × Within (verticesTally n words) mostBytes × Within sets mostBytes ⌝ }
     ensures { λ r. ⌜ r ≡ plus (verticesTally n words) sets ⌝ }
@@ -79,7 +80,8 @@ pub fn mesh_rows(n: usize, words: usize, sets: Tally) -> Tally
     b3d_tally::plus(b3d_tally::vertices(n, words), sets)
 }
 
-// A VRTS whose header is at p, and the TRIS after it, of a mesh whose header is at `at`.
+// Judges a VRTS with its header at `p` and its `body`, and the TRIS from `next` on, of a MESH whose header is at `at`. Returns the mesh's vertices and tally,
+// or the first refusal.
 fn judge_shape(
     s: &[u8],
     at: usize,
@@ -101,7 +103,8 @@ fn judge_shape(
     }
 }
 
-// The VRTS of a mesh and its TRIS, from the first chunk on.
+// Judges the chunks inside a MESH whose header is at `at`, from the cursor `from` on: its VRTS, then its TRIS. Returns the mesh's vertices and tally, or the
+// first refusal.
 fn judge_inside(s: &[u8], at: usize, from: Cursor, brushes: usize, mode: Mode) -> Meshed
     requires { ⌜ Among at from (length (now s)) × (at + 12 ≤ from .at) ⌝ }
     ensures { λ r. ⌜ Meshes (readInside mode brushes 0 (restIn (now (s .entry)) MESH at start from)) at (from .end) r ⌝ }
@@ -120,7 +123,8 @@ fn judge_inside(s: &[u8], at: usize, from: Cursor, brushes: usize, mode: Mode) -
     }
 }
 
-// A MESH: its brush id, then the chunks inside it.
+// Judges the `body` of a MESH whose header is at `at`: its brush id, -1 or below `brushes`, then the chunks inside it. Returns its vertices and tally, or the
+// first refusal.
 pub fn judge_mesh(s: &[u8], at: usize, body: Cursor, brushes: usize, mode: Mode) -> Meshed
     requires { ⌜ Body at body (length (now s)) ⌝ }
     ensures { λ r. ⌜ Meshes (readMesh mode brushes at (left body (now (s .entry)))) at (body .end) r ⌝ }

@@ -1,4 +1,4 @@
-// Judges what moves a node: its KEYS and its ANIM.
+// Judges the KEYS and the ANIM of a node.
 ghost use mathlib.Core.Path.{_≡_};
 ghost use mathlib.Core.Bool.{false};
 ghost use lib.ListN.{length};
@@ -17,19 +17,19 @@ use b3d_tally::Tally;
 use b3d_turns::Reached;
 use wire::Cursor;
 
-// Whether a node has an ANIM, the tally of its KEYS and ANIM, and the cursor after them.
+// Whether a node has an ANIM, the tally of its KEYS and ANIM, and the cursor after them; or a refusal and its place.
 pub enum Motion {
     To(bool, Tally, Cursor),
     Not(u32, usize),
 }
 
-// How far the chunks of a node have come after its kind, with one or without.
+// How far the chunks inside a NODE have come after its MESH or BONE, or without one.
 const KIND_READ: Reached = Reached {
     turn: 2,
     spent: false,
 };
 
-// The tally of keys, with an ANIM where one was seen.
+// Returns the tally `m` of KEYS, with an ANIM added where one was `seen`.
 fn with_anim(m: Tally, seen: bool) -> Tally
     requires { ⌜ Within m mostBytes ⌝ }
     ensures { λ r. ⌜ r ≡ plus m (animTally (animOf seen)) ⌝ }
@@ -40,7 +40,8 @@ fn with_anim(m: Tally, seen: bool) -> Tally
     b3d_tally::plus(m, b3d_tally::none())
 }
 
-// KEYS and ANIM, in any mix, up to the first NODE.
+// Judges KEYS and ANIM, in any mix, from the cursor `from` up to the first NODE or the end of the NODE whose header is at `at`. Returns whether there is an
+// ANIM, their tally and the cursor after them, or the first refusal: 5 at the body of an ANIM whose length is not 12.
 pub fn judge_moves(s: &[u8], at: usize, from: Cursor) -> Motion
     requires { ⌜ Among at from (length (now s)) ⌝ }
     ensures { λ r. ⌜ Motions (readMoves still (restIn (now (s .entry)) NODE at (reachedAt 2 false) from)) (restIn (now (s .entry)) NODE at (reachedAt 3 false)) from r ⌝ }

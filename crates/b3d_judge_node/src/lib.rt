@@ -1,4 +1,4 @@
-// Judges a NODE without the nodes below it: its name and place, its kind (a MESH, a BONE or neither), its KEYS and ANIM.
+// Judges a NODE without the nodes below it: its name and floats, its kind (a MESH, a BONE or neither), its KEYS and ANIM.
 ghost use Prim.Native.Nat.{_≤_, _+_};
 ghost use mathlib.Core.Path.{_≡_};
 ghost use mathlib.Core.Bool.{false};
@@ -22,25 +22,25 @@ use b3d_tally::Judged;
 use b3d_tally::Tally;
 use wire::Cursor;
 
-// The vertices of a node's own mesh, the tally of its kind, and the cursor after it.
+// How many vertices a node's own mesh has, the tally of its kind, and the cursor after it; or a refusal and its place.
 pub enum Kinded {
     To(usize, Tally, Cursor),
     Not(u32, usize),
 }
 
-// Which vertices the bones of a node may name: so many, by what the nodes above say; the root's own none.
+// How many vertices a bone of a node may name (E3), by the nodes above it; `Root`, above which there is none: no vertex.
 pub enum Above {
     Root,
     Of(usize),
 }
 
-// What a node says of bones to those below, its own tally, and the cursor at its children.
+// How many vertices a bone below a node may name, the node's own tally, and the cursor at its children; or a refusal and its place.
 pub enum Owned {
     To(Above, Tally, Cursor),
     Not(u32, usize),
 }
 
-// How many vertices a bone of this node may name.
+// Returns how many vertices a bone of a node may name, `a` being what holds above it: 0 for the root.
 pub fn bone_vertices(a: Above) -> usize
     ensures { λ r. ⌜ r ≡ boneVertices (aboveOf a) ⌝ }
 {
@@ -50,7 +50,7 @@ pub fn bone_vertices(a: Above) -> usize
     }
 }
 
-// What a node with so many vertices of its own, and with an ANIM or without, says to those below.
+// Returns how many vertices a bone below a node may name (E3): the node's `own` if it is the root or has an ANIM (`anim`), else what holds above it, `a`.
 pub fn bones_below(a: Above, anim: bool, own: usize) -> Above
     ensures { λ r. ⌜ aboveOf r ≡ bonesFrom (aboveOf a) anim own ⌝ }
 {
@@ -65,7 +65,8 @@ pub fn bones_below(a: Above, anim: bool, own: usize) -> Above
     }
 }
 
-// A MESH or a BONE, if it comes first.
+// Judges a MESH or a BONE, if it comes first from the cursor `from` on, inside a NODE whose header is at `at`; a bone may name `bones` vertices. Returns the
+// vertices of the node's mesh, 0 without one, the tally and the cursor after it; the cursor `from` where neither comes first; or the first refusal.
 pub fn judge_kind(
     s: &[u8],
     at: usize,
@@ -101,7 +102,7 @@ pub fn judge_kind(
     }
 }
 
-// The rows of a node without those below it: its NODE, its kind, its KEYS and ANIM.
+// Returns the tally of a node without the nodes below it: its NODE, its `kind`, its KEYS and ANIM, `moves`.
 pub fn own_rows(kind: Tally, moves: Tally) -> Tally
     requires { ⌜ Within kind mostBytes × Within (plus headTally kind) mostBytes × Within moves mostBytes ⌝ }
     ensures { λ r. ⌜ r ≡ plus (plus headTally kind) moves ⌝ }
@@ -109,7 +110,8 @@ pub fn own_rows(kind: Tally, moves: Tally) -> Tally
     b3d_tally::plus(b3d_tally::plus(b3d_tally::head(), kind), moves)
 }
 
-// The chunks inside a NODE up to the nodes below it.
+// Judges the chunks inside a NODE whose header is at `at`, from the cursor `from` up to the nodes below it. Returns what holds for bones below it, its tally
+// and the cursor at its children, or the first refusal.
 fn judge_parts(s: &[u8], at: usize, from: Cursor, brushes: usize, above: Above, mode: Mode) -> Owned
     requires { ⌜ Among at from (length (now s)) × (at + 49 ≤ from .at) ⌝ }
     ensures { λ r. ⌜ Parted (aboveOf above) (readParts mode brushes (boneVertices (aboveOf above)) (restIn (now (s .entry)) NODE at start from)) (restIn (now (s .entry)) NODE at (reachedAt 3 false)) at from r ⌝ }
@@ -123,7 +125,8 @@ fn judge_parts(s: &[u8], at: usize, from: Cursor, brushes: usize, above: Above, 
     }
 }
 
-// A NODE whose header is at `at`, without the nodes below it.
+// Judges the `body` of a NODE whose header is at `at`, without the nodes below it; `above` is what holds for its bones. Returns what holds for bones below
+// it, its tally and the cursor at its children, or the first refusal: 5 at the body where its name or floats are cut.
 pub fn judge_own(
     s: &[u8],
     at: usize,

@@ -1,4 +1,4 @@
-// Judges a NODE with the nodes below it, a node and its list of children calling each other: at most 16 levels.
+// Judges a NODE with the nodes below it: a node and its list of children call each other, at most 16 levels deep.
 ghost use mathlib.Core.Bool.{false};
 ghost use lib.ListN.{length};
 ghost use Rattle.wire.specs.Cursors.{left};
@@ -18,13 +18,14 @@ use b3d_tally::Judged;
 use b3d_turns::Reached;
 use wire::Cursor;
 
-// How far the chunks of a node have come after its KEYS and ANIM.
+// How far the chunks inside a NODE have come after its KEYS and ANIM.
 const MOVES_READ: Reached = Reached {
     turn: 3,
     spent: false,
 };
 
-// A NODE whose header is at `at`, with so many levels left.
+// Judges the `body` of a NODE whose header is at `at`, with the nodes below it and `levels` levels left; `above` is what holds for its bones. Returns their
+// tally, or the first refusal: 9 at `at` where no level is left.
 pub fn judge_node(
     s: &[u8],
     at: usize,
@@ -49,7 +50,8 @@ pub fn judge_node(
     }
 }
 
-// The nodes inside a node whose header is at `at`, with so many levels left.
+// Judges the NODE chunks from the cursor `from` to the end of the NODE whose header is at `at`, with `levels` levels left; `above` is what holds for their
+// bones. Returns their tally, that of nothing where there is no node, or the first refusal.
 pub fn judge_nodes(
     s: &[u8],
     at: usize,

@@ -5,7 +5,7 @@ use Rattle.wire.specs.Test.{if}
 use Rattle.b3d_scene.specs.Rules.{rowLimit}
 use Rattle.b3d_tally.specs.declared.Tally.{Tally}
 
--- a tally with f k rows of table k
+-- a tally with f k rows of table k, and `copy` bytes of the copy
 abbrev pub tallied : (ℕ → ℕ) → ℕ → Tally
 tallied f copy =
     record {
@@ -22,7 +22,7 @@ tallied f copy =
       copy = copy;
     }
 
--- the first table of a tally with more rows than the limit, by its number; 0 where there is none
+-- the first table of tally t with more rows than the limit, by its number; 0 where there is none
 unfoldable pub overLimit : Tally → ℕ
 overLimit t =
     if (ltb rowLimit (t .textures)) 1
@@ -36,7 +36,7 @@ overLimit t =
     (if (ltb rowLimit (t .lists)) 9
     (if (ltb rowLimit (t .keys)) 10 0)))))))))
 
--- no table of a tally has more rows than the limit
+-- no table of tally t has more rows than the limit
 pub record TallyLimited (t : Tally) : Type 0 where
   pub textures : t .textures ≤ rowLimit
   pub brushes : t .brushes ≤ rowLimit

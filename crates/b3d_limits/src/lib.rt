@@ -11,7 +11,7 @@ ghost use Rattle.b3d_limits.specs.Rooms.{countsIn};
 use b3d_scene::NODE_WIDTH;
 use b3d_tally::Tally;
 
-// The table k where it has more rows than the limit, else what is found later.
+// Returns `k` if `rows` is more than the row limit, else `later`.
 fn over_or(k: usize, rows: usize, later: usize) -> usize
     ensures { λ r. ⌜ r ≡ if (ltb rowLimit rows) k later ⌝ }
 {
@@ -21,7 +21,7 @@ fn over_or(k: usize, rows: usize, later: usize) -> usize
     later
 }
 
-// The first table with more rows than the limit, by its number; 0 where there is none.
+// Returns the number of the first table of `t` with more rows than the limit, or 0 where there is none.
 pub fn over_limit(t: Tally) -> usize
     ensures { λ r. ⌜ r ≡ overLimit t ⌝ }
 {
@@ -32,7 +32,7 @@ pub fn over_limit(t: Tally) -> usize
     over_or(1, t.textures, over_or(2, t.brushes, from3))
 }
 
-// The first of ten tables, of these lengths, that is too short for its rows, by its number; 0 where there is none.
+// Returns the number of the first of ten tables, of `l1` to `l10` words, that is too short for its rows in `t`, or 0 where there is none.
 pub fn first_short(
     t: Tally,
     l1: usize,

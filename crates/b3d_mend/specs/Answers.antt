@@ -8,25 +8,29 @@ use Rattle.b3d_mend.specs.Report.{Mending, mendInto}
 use Rattle.b3d_mend.specs.declared.WrittenBoth.{WrittenBoth}
 use Prim.Native.Nat.{ℕ}
 
+-- the mender's answer: number and place, and the sizes written of file and report, 0 where refused
 unfoldable pub writtenBoth : Out Mending → WrittenBoth
 writtenBoth (got m) = record { number = 0; place = 0; size = length (m .file); «report_size» = length (m .report) }
 writtenBoth (bad n p) = record { number = n; place = p; size = 0; «report_size» = 0 }
 
--- an output afterwards: what was written, then what stood there; where refused, what stood there
+-- the output for the file, `out`, afterwards: what was written, then what stood there; where refused, what stood there
 unfoldable pub fileAfter : Out Mending → List ℕ → List ℕ
 fileAfter (got m) out = over (m .file) out
 fileAfter (bad n p) out = out
 
+-- the output for the report, `out`, afterwards: what was written, then what stood there; where refused, what stood there
 unfoldable pub reportAfter : Out Mending → List ℕ → List ℕ
 reportAfter (got m) out = over (m .report) out
 reportAfter (bad n p) out = out
 
--- of a file, an output for the mended file and one for the report
+-- the mender's answer on the file s, with the outputs `out` for the mended file and `report` for the report
 unfoldable pub mendAnswer : List ℕ → List ℕ → List ℕ → WrittenBoth
 mendAnswer s out report = writtenBoth (mendInto (length out) (length report) s)
 
+-- the output `out` for the mended file after the mender on the file s
 unfoldable pub mendOutput : List ℕ → List ℕ → List ℕ → List ℕ
 mendOutput s out report = fileAfter (mendInto (length out) (length report) s) out
 
+-- the output `report` for the report after the mender on the file s
 unfoldable pub mendReport : List ℕ → List ℕ → List ℕ → List ℕ
 mendReport s out report = reportAfter (mendInto (length out) (length report) s) report

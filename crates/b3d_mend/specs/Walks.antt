@@ -15,20 +15,21 @@ use Rattle.b3d_scene.specs.Rules.{brushRow, brushIds, brushesHead, triangleRow,
 use Rattle.b3d_mend.specs.Edits.{Edit, keep, idSet, itemOut}
 use Rattle.b3d_mend.specs.Mend.{allHold}
 
--- a number that stays, or an id set to -1
+-- the number w against its rule r: it stays, or is set to -1
 unfoldable pub wordEdit : Rule → ℕ → Edit
 wordEdit r w = if (holds r w) (keep (bytes w [])) (idSet w NONE)
 
+-- the numbers ws against their rules: each stays, or is set to -1
 unfoldable pub wordEdits : List Rule → List ℕ → List Edit
 wordEdits [] ws = []
 wordEdits (r ∷ rs) [] = []
 wordEdits (r ∷ rs) (w ∷ ws) = wordEdit r w ∷ wordEdits rs ws
 
--- an item that stays, or is taken out
+-- the item with the words ws against its rules rs: it stays, or is taken out
 unfoldable pub itemEdit : List Rule → List ℕ → Edit
 itemEdit rs ws = if (allHold rs ws) (keep (writeWords ws [])) (itemOut (writeWords ws []))
 
--- items up to the first that is not all there, at most so many
+-- items of s against their rules rs, up to the first that is not all there, at most f
 unfoldable pub itemEditsIn : ℕ → List Rule → List ℕ → List Edit
 itemEditsIn zero rs s = []
 itemEditsIn (suc f) rs [] = []
@@ -36,30 +37,34 @@ itemEditsIn (suc f) rs (c ∷ s) =
     let it = itemEdit rs (wordsOf (length rs) (c ∷ s)) ∷ itemEditsIn f rs (drop (4 * length rs) (c ∷ s)) in
     if (leb (4 * length rs) (length (c ∷ s))) it []
 
+-- items of s against their rules rs, up to the first that is not all there
 unfoldable pub itemEdits : List Rule → List ℕ → List Edit
 itemEdits rs s = itemEditsIn (length s) rs s
 
+-- the body b of a TRIS: its brush id, -1 or below `brushes`, then triangles of ids below `vertices`
 unfoldable pub trisEdits : ℕ → ℕ → List ℕ → List Edit
 trisEdits brushes vertices b = wordEdits (trianglesHead brushes) (wordsOf 1 b) ++ itemEdits (triangleRow vertices) (drop 4 b)
 
+-- the body b of a BONE: weights of ids below `vertices`
 unfoldable pub boneEdits : ℕ → List ℕ → List Edit
 boneEdits vertices b = itemEdits (weightRow vertices) b
 
--- a brush that is there, then what `rest` makes of what follows
+-- a brush that is all there, its numbers against their rules rs, then what `rest` makes of what follows; nothing where it is cut
 unfoldable pub brushOf : List Rule → (ℕ → List ℕ → List Edit) → Out (Step (Name × List ℕ)) → List Edit
 brushOf rs rest (got x) = keep (writeText (x .value .0 .bytes) []) ∷ (wordEdits rs (x .value .1) ++ rest (x .place) (x .left))
 brushOf rs rest (bad n p) = []
 
--- brushes up to the first that is not all there, at most so many
+-- brushes from place p on, their numbers against their rules rs, up to the first that is not all there, at most f
 unfoldable pub brushEditsIn : ℕ → List Rule → ℕ → List ℕ → List Edit
 brushEditsIn zero rs p s = []
 brushEditsIn (suc f) rs p [] = []
 brushEditsIn (suc f) rs p (c ∷ s) = brushOf rs (brushEditsIn f rs) (named (replicate (length rs) any) p (c ∷ s))
 
--- a BRUS by its fixed data
+-- a BRUS by its fixed data that was read, texture ids being -1 or below `textures`; nothing where that is refused
 unfoldable pub brusOf : ℕ → Out (Step (List ℕ)) → List Edit
 brusOf textures (got h) = keep (bytes (number h 0) []) ∷ brushEditsIn (length (h .left)) (brushRow Lenient ++ brushIds (number h 0) textures) (h .place) (h .left)
 brusOf textures (bad n p) = []
 
+-- the body b of a BRUS whose header is at p, texture ids being -1 or below `textures`
 unfoldable pub brusEdits : ℕ → ℕ → List ℕ → List Edit
 brusEdits textures p b = brusOf textures (row brushesHead (p + 8) b)

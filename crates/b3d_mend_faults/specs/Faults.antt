@@ -24,13 +24,14 @@ use Rattle.b3d_mend.specs.Pieces.{Pieces, none-left, spare, past, other as unkn
 
 -- ---- faults
 
+-- a fault of a file
 pub data Fault : Type 0 where
   -- one of the four that are mended: which of them, 1 to 4, and 01's number and place
   mendable : ℕ → ℕ → ℕ → Fault
   -- a fault of another kind: 01's number and place
   other : ℕ → ℕ → Fault
 
--- what reading a part of a file gives
+-- what reading a part of a file gives: a value, behind the faults that were found
 pub data Reading (A : Type 0) : Type 0 where
   -- a value, and no fault
   gives : A → Reading A
@@ -153,7 +154,7 @@ found (past p s) = refused 3 p
 found (unknown o r) = found r
 found (known t p b r) = chunkAt t p b (found r)
 
--- `go` on if a chunk at p may stand there, else 4
+-- goes on by `go` if a chunk at p may stand there, else 4 at p
 unfoldable pub onwardFrom : Option Reached → ℕ → (Reached → Within) → Within
 onwardFrom none p go = refused 4 p
 onwardFrom (some r) p go = go r
@@ -207,7 +208,8 @@ meshFaults brushes p b = do
   _ ← setFaults brushes (v .value) (v .rest)
   gives (v .value)
 
--- a MESH or a BONE, if it comes first; the value is how many vertices the node has of its own, 0 without a MESH
+-- a MESH or a BONE, if it comes first, in a file with this number of `brushes`, where a bone may name this number of `vertices`; the value is how many
+-- vertices the node has of its own, 0 without a MESH
 unfoldable pub kindFaults : ℕ → ℕ → Within → Reading (Part ℕ)
 kindFaults brushes vertices finished = gives (part 0 finished)
 kindFaults brushes vertices (refused n p) = ends n p
@@ -238,7 +240,7 @@ nodesFaults one (chunkAt t p b r) = do
   _ ← one p b
   nodesFaults one r
 
--- a NODE whose header is at p, with l levels left, in a file with `brushes` brushes; `above`: what the nodes above say of bones
+-- a NODE whose header is at p, with l levels left, in a file with this number of `brushes`; `above`: how many vertices its bones may name, none for the root
 unfoldable pub nodeFaults : ℕ → ℕ → Option ℕ → ℕ → List ℕ → Reading (Unit {0})
 nodeFaults zero brushes above p b = ends 9 p
 nodeFaults (suc l) brushes above p b = do
@@ -265,7 +267,7 @@ bodyFaults p b = do
   n ← oneFaults NODE tt (nodeFaults levels (u .value) none) (u .rest)
   endFaults (n .rest)
 
--- a wrong length of BB3D is one of the four: its end is then the file's
+-- whether BB3D's length is right: a wrong one is one of the four, and BB3D's end is then the file's
 unfoldable pub lengthFault : Bool → Reading (Unit {0})
 lengthFault true = gives tt
 lengthFault false = passes 1 2 4 (gives tt)

@@ -7,7 +7,7 @@ use lib.ListN.{length}
 use Rattle.b3d_scene.specs.declared.Tag.{Tag}
 use Rattle.b3d_faults.specs.ByHeaders.{tagAt, endOf, Begin}
 
--- at place h a chunk may begin, inside a BB3D, a NODE or a MESH that ends at `last`
+-- a chunk may begin at place h, inside a BB3D, a NODE or a MESH that ends at `last`
 pub data Due (s : List ℕ) : ℕ → ℕ → Type 0 where
   -- behind the version: BB3D ends where the file does
   first : (h last : ℕ) → h ≡ 12 → last ≡ length s → Due s h last

@@ -11,27 +11,27 @@ use Rattle.b3d_scene.specs.Nesting.{entry, nesting, needed, repeats}
 use Rattle.b3d_scene.specs.Nesting as nest
 use Rattle.b3d_nesting.specs.declared.Entry.{Entry}
 
--- the order of the rows, and of the columns
+-- the ten tags in the order of the rows, and of the columns
 abbrev pub tags : List Tag
 tags = BB3D ∷ TEXS ∷ BRUS ∷ NODE ∷ MESH ∷ VRTS ∷ TRIS ∷ BONE ∷ KEYS ∷ ANIM ∷ []
 
--- what may not stand
+-- the entry of a tag that may not stand
 abbrev pub denied : Entry
 denied = record { allowed = false; turn = 0; must = false; again = false }
 
--- the first entry of the rule's list for a tag
+-- the first entry of the rule's list for tag t; `denied` where there is none
 unfoldable pub entryIn : List nest.Entry → Tag → Entry
 entryIn [] t = denied
 entryIn (entry k turn often ∷ l) t = if (is t k) (record { allowed = true; turn = turn; must = needed often; again = repeats often }) (entryIn l t)
 
--- the entry for a tag inside a chunk of tag k
+-- the entry for tag t inside a chunk of tag k
 abbrev pub entryFor : Tag → Tag → Entry
 entryFor k t = entryIn (nesting k) t
 
--- a row for each tag that encloses, a column for each that stands in it
+-- the table: a row for each tag that encloses, a column for each that stands in it
 unfoldable pub nestingTable : List (List Entry)
 nestingTable = map (λ k. map (λ t. entryFor k t) tags) tags
 
--- the entry in a row and a column
+-- the entry in a row and a column, both from 0 on
 unfoldable pub entryAt : ℕ → ℕ → Entry
 entryAt row column = getD (getD nestingTable row []) column denied

@@ -1,4 +1,4 @@
-// What may stand inside what, in which order and how often: the nesting rule as one constant table, which docs/NESTING.md shows in words.
+// The nesting rule as one constant table: what may stand inside what, in which order and how often. docs/NESTING.md shows it in words.
 ghost use mathlib.Core.Path.{_≡_};
 ghost use Rattle.b3d_nesting.specs.Table.{nestingTable};
 
@@ -11,7 +11,7 @@ pub struct Entry {
     pub again: bool,
 }
 
-// Never.
+// A tag that may not stand.
 const DENY: Entry = Entry {
     allowed: false,
     turn: 0,
@@ -19,7 +19,7 @@ const DENY: Entry = Entry {
     again: false,
 };
 
-// At most once, at turn 1, 2 or 3.
+// At most one, at turn 1.
 const OPT1: Entry = Entry {
     allowed: true,
     turn: 1,
@@ -27,6 +27,7 @@ const OPT1: Entry = Entry {
     again: false,
 };
 
+// At most one, at turn 2.
 const OPT2: Entry = Entry {
     allowed: true,
     turn: 2,
@@ -34,6 +35,7 @@ const OPT2: Entry = Entry {
     again: false,
 };
 
+// At most one, at turn 3.
 const OPT3: Entry = Entry {
     allowed: true,
     turn: 3,
@@ -41,7 +43,7 @@ const OPT3: Entry = Entry {
     again: false,
 };
 
-// Any number, at turn 2 or 3.
+// Any number, at turn 2.
 const ANY2: Entry = Entry {
     allowed: true,
     turn: 2,
@@ -49,6 +51,7 @@ const ANY2: Entry = Entry {
     again: true,
 };
 
+// Any number, at turn 3.
 const ANY3: Entry = Entry {
     allowed: true,
     turn: 3,
@@ -72,7 +75,7 @@ const MIN2: Entry = Entry {
     again: true,
 };
 
-// A row for the chunk that encloses, a column for the tag that stands in it.
+// The table: a row for the chunk that encloses, a column for the tag that stands in it.
 const NESTING: [[Entry; 10]; 10] = [
     //BB3D TEXS  BRUS  NODE  MESH  VRTS  TRIS  BONE  KEYS  ANIM
     [DENY, OPT1, OPT2, OPT3, DENY, DENY, DENY, DENY, DENY, DENY], // BB3D
@@ -87,7 +90,7 @@ const NESTING: [[Entry; 10]; 10] = [
     [DENY; 10], // ANIM
 ];
 
-// The table: what the definition has, for each tag that encloses and each that stands in it.
+// Returns the table: an entry for each tag that encloses and each tag that stands in it.
 pub fn nesting_table() -> [[Entry; 10]; 10]
     ensures { λ r. ⌜ r ≡ nestingTable ⌝ }
 {

@@ -1,3 +1,4 @@
+-- What a B3D file says, what its tables hold, and what reader, writer and clearer answer.
 pub mod Tags
 pub mod Scene
 pub mod Rules

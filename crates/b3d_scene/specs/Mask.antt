@@ -5,32 +5,32 @@ use mathlib.Core.List.{List, [], _∷_}
 use lib.Dec.{ltb, eqb}
 use Rattle.wire.specs.Test.{if}
 
--- does word w say that it is there: n words from word w on
+-- for each of n words from word w on, whether f says that it is there
 unfoldable pub mask : (ℕ → Bool) → ℕ → ℕ → List Bool
 mask f zero w = []
 mask f (suc n) w = f w ∷ mask f n (w + 1)
 
--- how many words a mask has
+-- how many words are there by a mask
 unfoldable pub ones : List Bool → ℕ
 ones [] = 0
 ones (true ∷ m) = suc (ones m)
 ones (false ∷ m) = ones m
 
--- a row of a mask's width: where the mask says so the next word, else 0
+-- a row of the mask's width: where the mask says so the next word of ws, else 0
 unfoldable pub spread : List Bool → List ℕ → List ℕ
 spread [] ws = []
 spread (true ∷ m) [] = 0 ∷ spread m []
 spread (true ∷ m) (w ∷ ws) = w ∷ spread m ws
 spread (false ∷ m) ws = 0 ∷ spread m ws
 
--- a row's words where the mask says so
+-- the words of row r that are there by a mask, in order
 unfoldable pub squeeze : List Bool → List ℕ → List ℕ
 squeeze [] r = []
 squeeze (b ∷ m) [] = []
 squeeze (true ∷ m) (x ∷ r) = x ∷ squeeze m r
 squeeze (false ∷ m) (x ∷ r) = squeeze m r
 
--- a vertex: 3 position; 3 normal by flag 1; 4 colour by flag 2; coordinate c of set s at word 10 + 4 s + c
+-- word w of a vertex row is there: 3 position; 3 normal by flag 1; 4 colour by flag 2; coordinate c of set s at word 10 + 4 s + c
 unfoldable pub vertexHas : ℕ → ℕ → ℕ → ℕ → Bool
 vertexHas flags sets size w =
     if (ltb w 3) true
@@ -38,15 +38,17 @@ vertexHas flags sets size w =
     (if (ltb w 10) (eqb (flags / 2 % 2) 1)
     (ltb ((w - 10) / 4) sets && ltb ((w - 10) % 4) size)))
 
+-- which of the 42 words of a vertex row are there, by the mesh's flags, sets and set size
 unfoldable pub vertexMask : ℕ → ℕ → ℕ → List Bool
 vertexMask flags sets size = mask (vertexHas flags sets size) 42 0
 
--- a key: the frame; 3 position by flag 1; 3 scale by flag 2; 4 rotation by flag 4
+-- word w of a key row is there: the frame; 3 position by flag 1; 3 scale by flag 2; 4 rotation by flag 4
 unfoldable pub keyHas : ℕ → ℕ → Bool
 keyHas flags w =
     if (ltb w 1) true
     (if (ltb w 4) (eqb (flags % 2) 1)
     (if (ltb w 7) (eqb (flags / 2 % 2) 1) (eqb (flags / 4 % 2) 1)))
 
+-- which of the 11 words of a key row are there, by the KEYS flags
 unfoldable pub keyMask : ℕ → List Bool
 keyMask flags = mask (keyHas flags) 11 0

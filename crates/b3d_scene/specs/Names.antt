@@ -7,53 +7,60 @@ use Rattle.wire.specs.Test.{if}
 use Rattle.layout.specs.Parts.{Name}
 use Rattle.b3d_scene.specs.Scene.{Texture, Brush, Data, Forest, leaf, node, Scene}
 
--- a scene with each name changed
+-- a scene and its parts with each name changed by f
 module _ (f : Name → Name) where
+  -- texture t with its name changed
   abbrev pub renameTexture : Texture → Texture
   renameTexture t = record { name = f (t .name); words = t .words }
 
+  -- brush b with its name changed
   abbrev pub renameBrush : Brush → Brush
   renameBrush b = record { name = f (b .name); words = b .words; ids = b .ids }
 
+  -- a node's data d with its name changed
   abbrev pub renameData : Data → Data
   renameData d = record { name = f (d .name); words = d .words; kind = d .kind; keys = d .keys; anim = d .anim }
 
+  -- the nodes with each name changed
   abbrev pub renameForest : Forest → Forest
   renameForest leaf = leaf
   renameForest (node d g h) = node (renameData d) (renameForest g) (renameForest h)
 
+  -- scene t with each name changed
   unfoldable pub rename : Scene → Scene
   rename t =
       record { version = t .version; textures = map renameTexture (t .textures); slots = t .slots; brushes = map renameBrush (t .brushes); nodes = renameForest (t .nodes) }
 
--- a name with its place left out
+-- name n with its place left out
 abbrev pub bareName : Name → Name
 bareName n = record { place = 0; bytes = n .bytes }
 
+-- the empty name for each name
 abbrev pub noName : Name → Name
 noName n = record { place = 0; bytes = [] }
 
--- name places aside
+-- scene t, name places aside
 unfoldable pub bare : Scene → Scene
 bare t = rename bareName t
 
--- every name empty
+-- scene t with every name empty
 unfoldable pub cleared : Scene → Scene
 cleared t = rename noName t
 
 -- ---- the same in rows
 
--- table k's rows under g where they begin with a name: in tables 1 to 3
+-- the rows rs of table k, each changed by g where it begins with a name: in tables 1 to 3
 unfoldable pub named : (List ℕ → List ℕ) → ℕ → List (List ℕ) → List (List ℕ)
 named g k rs = if (leb k 3) (map g rs) rs
 
--- a row with its name's place 0; with place and length 0
+-- row r with 0 for its name's place
 unfoldable pub unplaced : List ℕ → List ℕ
 unplaced r = 0 ∷ drop 1 r
 
+-- row r with 0 for its name's place and length
 unfoldable pub unnamed : List ℕ → List ℕ
 unnamed r = 0 ∷ 0 ∷ drop 2 r
 
--- a row without its name's place and length
+-- row r without its name's place and length
 unfoldable pub nameOff : List ℕ → List ℕ
 nameOff r = drop 2 r

@@ -3,22 +3,24 @@ use Prim.Native.Nat.{ℕ}
 use mathlib.Core.List.{List}
 use Rattle.layout.specs.Parts.{Name}
 
--- flags, blend, position x y, scale x y, rotation
+-- a texture: its name, and seven words: flags, blend, position x y, scale x y, rotation
 pub record Texture : Type 0 where
   pub name : Name
   pub words : List ℕ
 
--- red green blue alpha, shininess, blend, fx; then the texture ids
+-- a brush: its name, seven words, red green blue alpha, shininess, blend, fx, and then its n_texs texture ids
 pub record Brush : Type 0 where
   pub name : Name
   pub words : List ℕ
   pub ids : List ℕ
 
+-- a TRIS: its brush id, and three vertex ids for each triangle
 pub record TriangleSet : Type 0 where
   pub brush : ℕ
   pub triangles : List (List ℕ)
 
--- a vertex is its words in the file: those that the flags, the sets and the set size say are there
+-- a MESH: its brush id, the fixed data of its VRTS, its vertices and its TRIS. A vertex is its words in the file: those that flags, sets and set size say are
+-- there
 pub record Mesh : Type 0 where
   pub brush : ℕ
   pub flags : ℕ
@@ -27,22 +29,28 @@ pub record Mesh : Type 0 where
   pub vertices : List (List ℕ)
   pub triangleSets : List TriangleSet
 
+-- what a node is (01, table 3)
 pub data Kind : Type 0 where
+  -- kind 0: neither MESH nor BONE
   pivot : Kind
+  -- kind 1: its MESH
   mesh : Mesh → Kind
+  -- kind 2: the weights of its BONE, a vertex id and a weight each
   bone : List (List ℕ) → Kind
 
--- a key is its words in the file
+-- a KEYS: its flags and its keys. A key is its words in the file
 pub record Keys : Type 0 where
   pub flags : ℕ
   pub items : List (List ℕ)
 
--- no ANIM, or its three values
+-- the ANIM of a node
 pub data Anim : Type 0 where
+  -- there is no ANIM
   still : Anim
+  -- its three values: flags, frames, fps
   anim : List ℕ → Anim
 
--- a node without its children; words: position, scale, rotation
+-- a node without its children: name, ten words (position, scale, rotation), kind, KEYS and ANIM
 pub record Data : Type 0 where
   pub name : Name
   pub words : List ℕ
@@ -50,12 +58,14 @@ pub record Data : Type 0 where
   pub keys : List Keys
   pub anim : Anim
 
--- nodes in file order: the first, its children, its later siblings
+-- nodes in file order
 pub data Forest : Type 0 where
+  -- no node
   leaf : Forest
+  -- the first node, its children, its later siblings
   node : Data → Forest → Forest → Forest
 
--- slots: texture ids of a brush, n_texs; 0 where there is no brush
+-- what an accepted file holds; `slots`: n_texs, the texture ids of a brush, 0 where there is no brush; `nodes`: the root, if there is one
 pub record Scene : Type 0 where
   pub version : ℕ
   pub textures : List Texture

@@ -11,11 +11,11 @@ use Rattle.b3d_scene.specs.declared.Counts.{Counts}
 use Rattle.b3d_scene.specs.Mask.{spread, vertexMask, keyMask}
 use Rattle.b3d_scene.specs.Scene.{Texture, Brush, TriangleSet, Mesh, Kind, pivot, mesh, bone, Keys, Anim, still, anim, Data, Forest, leaf, node, Scene}
 
--- how many words a node's row has
+-- how many words a node's row has: 01's 20, and the nodes below it (E4)
 abbrev pub nodeWidth : ℕ
 nodeWidth = 21
 
--- how many words a row of table k has
+-- how many words a row of table k has (01, the ten tables)
 unfoldable pub width : ℕ → ℕ
 width k =
     if (eqb k 1) 9
@@ -29,14 +29,15 @@ width k =
     (if (eqb k 9) 4
     (if (eqb k 10) 11 0)))))))))
 
--- no row came before
+-- no row came before, in any table
 abbrev pub noRows : Counts
 noRows = record { nodes = 0; meshes = 0; vertices = 0; sets = 0; triangles = 0; weights = 0; lists = 0; keys = 0 }
 
+-- the row counts at the beginning of a file: no row came before
 unfoldable pub start : Counts
 start = noRows
 
--- how many rows of table k came before
+-- how many rows of table k came before, by the counts n; 0 for tables 1 and 2, which are not counted
 unfoldable pub reached : ℕ → Counts → ℕ
 reached k n =
     if (eqb k 3) (n .nodes)
@@ -50,11 +51,13 @@ reached k n =
 
 -- ---- what a node has: at most one mesh, weights, key lists
 
+-- the mesh of a node's kind, as a list of one; none without a MESH
 unfoldable pub meshesOf : Kind → List Mesh
 meshesOf pivot = []
 meshesOf (mesh m) = m ∷ []
 meshesOf (bone ws) = []
 
+-- the weights of a node's kind; none without a BONE
 unfoldable pub weightsOf : Kind → List (List ℕ)
 weightsOf pivot = []
 weightsOf (mesh m) = []
@@ -62,61 +65,67 @@ weightsOf (bone ws) = ws
 
 -- ---- single rows
 
+-- the row of texture x: name place, name length, 7 words
 unfoldable pub textureRow : Texture → List ℕ
 textureRow x = nameCells (x .name) ++ x .words
 
+-- the row of brush b: name place, name length, 7 words, 8 texture slots, the unused NONE
 unfoldable pub brushRow : Brush → List ℕ
 brushRow b = nameCells (b .name) ++ (b .words ++ (b .ids ++ replicate (8 - length (b .ids)) NONE))
 
--- kind, first, count
+-- cells kind, first and count of a node, when n rows came before: mesh number and 1, first weight and weights, or 0 and 0
 unfoldable pub kindCells : Kind → Counts → List ℕ
 kindCells pivot n = 0 ∷ 0 ∷ 0 ∷ []
 kindCells (mesh m) n = 1 ∷ n .meshes ∷ 1 ∷ []
 kindCells (bone ws) n = 2 ∷ n .weights ∷ length ws ∷ []
 
--- is ANIM there, and its values
+-- cells ANIM present and its 3 values; 0 where there is no ANIM
 unfoldable pub animCells : Anim → List ℕ
 animCells still = 0 ∷ 0 ∷ 0 ∷ 0 ∷ []
 animCells (anim vs) = 1 ∷ vs
 
--- of a node under parent p with so many nodes below it, when n rows came before
+-- the row of a node with data d under parent p, with `below` nodes below it at all depths (E4), when n rows came before
 unfoldable pub nodeRow : Data → ℕ → ℕ → Counts → List ℕ
 nodeRow d p below n = nameCells (d .name) ++ (p ∷ (d .words ++ (kindCells (d .kind) n ++ (animCells (d .anim) ++ (below ∷ [])))))
 
+-- the row of mesh m, when n rows came before: node, brush, flags, sets, set size, first vertex, vertices, first triangle set, sets of triangles
 unfoldable pub meshRow : Mesh → Counts → List ℕ
 meshRow m n = n .nodes ∷ m .brush ∷ m .flags ∷ m .sets ∷ m .size ∷ n .vertices ∷ length (m .vertices) ∷ n .sets ∷ length (m .triangleSets) ∷ []
 
 -- ---- runs of rows
 
+-- the rows of the vertices of mesh m; cells for absent parts hold 0
 unfoldable pub vertexRows : Mesh → List (List ℕ)
 vertexRows m = map (spread (vertexMask (m .flags) (m .sets) (m .size))) (m .vertices)
 
--- the sets of mesh i, the first triangle being number r
+-- the rows of the triangle sets of mesh i, the first triangle being number r: mesh, brush, first triangle, triangles
 unfoldable pub setRows : ℕ → ℕ → List TriangleSet → List (List ℕ)
 setRows i r [] = []
 setRows i r (s ∷ ss) = (i ∷ s .brush ∷ r ∷ length (s .triangles) ∷ []) ∷ setRows i (r + length (s .triangles)) ss
 
+-- the rows of the triangles of the sets: vertex ids as encoded
 unfoldable pub triangleRows : List TriangleSet → List (List ℕ)
 triangleRows [] = []
 triangleRows (s ∷ ss) = s .triangles ++ triangleRows ss
 
--- the key lists of node i, the first key being number k
+-- the rows of the key lists of node i, the first key being number k: node, KEYS flags, first key, keys
 unfoldable pub listRows : ℕ → ℕ → List Keys → List (List ℕ)
 listRows i k [] = []
 listRows i k (x ∷ xs) = (i ∷ x .flags ∷ k ∷ length (x .items) ∷ []) ∷ listRows i (k + length (x .items)) xs
 
+-- the rows of the keys of the lists; cells for absent parts hold 0
 unfoldable pub keyRows : List Keys → List (List ℕ)
 keyRows [] = []
 keyRows (x ∷ xs) = map (spread (keyMask (x .flags))) (x .items) ++ keyRows xs
 
 -- ---- a node, then the nodes in it, then those after it
 
--- how many nodes, at all depths
+-- how many nodes there are, at all depths
 unfoldable pub nodesIn : Forest → ℕ
 nodesIn leaf = 0
 nodesIn (node d ch sib) = suc (nodesIn ch + nodesIn sib)
 
--- table k's rows of a mesh, when n rows came before its node
+-- the rows of table k that a mesh adds, when n rows came before its node; none without a mesh
 unfoldable pub meshRows : ℕ → List Mesh → Counts → List (List ℕ)
 meshRows k [] n = []
 meshRows k (m ∷ ms) n =
@@ -125,7 +134,7 @@ meshRows k (m ∷ ms) n =
     (if (eqb k 6) (setRows (n .meshes) (n .triangles) (m .triangleSets))
     (if (eqb k 7) (triangleRows (m .triangleSets)) [])))
 
--- table k's rows of a node itself, under parent p with so many nodes below it
+-- the rows of table k that a node with data d adds itself, under parent p and with `below` nodes below it, when n rows came before
 unfoldable pub ownRows : ℕ → Data → ℕ → ℕ → Counts → List (List ℕ)
 ownRows k d p below n =
     if (eqb k 3) (nodeRow d p below n ∷ [])
@@ -133,7 +142,7 @@ ownRows k d p below n =
     (if (eqb k 9) (listRows (n .nodes) (n .keys) (d .keys))
     (if (eqb k 10) (keyRows (d .keys)) (meshRows k (meshesOf (d .kind)) n))))
 
--- the counts after a node itself
+-- the row counts n after a node's mesh, if there is one
 unfoldable pub withMeshes : List Mesh → Counts → Counts
 withMeshes [] n = n
 withMeshes (m ∷ ms) n =
@@ -148,6 +157,7 @@ withMeshes (m ∷ ms) n =
       keys = n .keys;
     }
 
+-- the row counts n after a node with data d itself, without the nodes below it
 unfoldable pub withNode : Data → Counts → Counts
 withNode d n =
     let x = withMeshes (meshesOf (d .kind)) n in
@@ -162,11 +172,12 @@ withNode d n =
       keys = x .keys + length (keyRows (d .keys));
     }
 
+-- the row counts n after all nodes of a forest
 unfoldable pub withForest : Forest → Counts → Counts
 withForest leaf n = n
 withForest (node d ch sib) n = withForest sib (withForest ch (withNode d n))
 
--- table k's rows of nodes under parent p
+-- the rows of table k of the nodes under parent p and the nodes below them, when n rows came before: a node, then the nodes in it, then those after it
 unfoldable pub forestRows : ℕ → Forest → ℕ → Counts → List (List ℕ)
 forestRows k leaf p n = []
 forestRows k (node d ch sib) p n =
@@ -175,24 +186,28 @@ forestRows k (node d ch sib) p n =
 
 -- ---- the tables
 
+-- the rows of table k of scene t, in file order; the root's parent is NONE
 unfoldable pub rows : ℕ → Scene → List (List ℕ)
 rows k t =
     if (eqb k 1) (map textureRow (t .textures))
     (if (eqb k 2) (map brushRow (t .brushes)) (forestRows k (t .nodes) NONE start))
 
+-- the words of table k of scene t, row after row
 unfoldable pub table : ℕ → Scene → List ℕ
 table k t = joined (rows k t)
 
--- the tables of what nodes have, and with them that of the nodes
+-- the tables of what nodes have, 4 to 10
 abbrev pub partTables : List ℕ
 partTables = 4 ∷ 5 ∷ 6 ∷ 7 ∷ 8 ∷ 9 ∷ 10 ∷ []
 
+-- the tables of nodes and of what they have, 3 to 10
 unfoldable pub nodeTables : List ℕ
 nodeTables = 3 ∷ partTables
 
+-- the ten tables, 1 to 10
 unfoldable pub tables : List ℕ
 tables = 1 ∷ 2 ∷ nodeTables
 
--- how many rows each of the ten has
+-- the ten row counts of scene t
 unfoldable pub counts : Scene → List ℕ
 counts t = map (λ (k : ℕ). length (rows k t)) tables

@@ -1,12 +1,12 @@
-// The meaning of B3D files: what a file says (parse), what its tables hold (table), which file is written (encode), which tables a
-// file can have (rebuild), and what reader, writer and clearer answer. Definitions in specs/, their laws in proofs/; no function.
+// The meaning of B3D files: what a file says and its tables hold, and what reader, writer and clearer answer. `parse` reads a file, `table` gives its tables,
+// `encode` writes the shortest file, `rebuild` goes back from tables to the scene. Definitions in specs/, their laws in proofs/; no function.
 
 pub mod letters;
 
-// The most rows of a table, as `Rules.rowLimit` has it: each function that cites this is held to that.
+// The most rows of a table (E12), as `Rules.rowLimit` has it: each function that cites this is held to that.
 pub const ROW_LIMIT: usize = 2097151;
 
-// The ten known tags.
+// The ten known tags, in the order of 01.
 pub enum Tag {
     BB3D,
     TEXS,
@@ -20,16 +20,16 @@ pub enum Tag {
     ANIM,
 }
 
-// Whether colours are held to the range 0 to 1.
+// Whether colours are held to the range 0 to 1: `Strict` refuses others, `Lenient` looks at no colour (E8).
 pub enum Mode {
     Strict,
     Lenient,
 }
 
-// How many words a node's row has.
+// How many words a node's row has: 01's 20, and the number of nodes below it (E4).
 pub const NODE_WIDTH: usize = 21;
 
-// How many rows of tables 3 to 10 came before.
+// How many rows of each of the tables 3 to 10 came before.
 #[repr(C)]
 pub struct Counts {
     pub nodes: usize,
@@ -42,7 +42,7 @@ pub struct Counts {
     pub keys: usize,
 }
 
-// No row came before.
+// The counts at the beginning of a file: no row came before.
 pub const START: Counts = Counts {
     nodes: 0,
     meshes: 0,
@@ -57,17 +57,25 @@ pub const START: Counts = Counts {
 // What the reader answers: refusal number and place, or 0 and 0 with the version, the texture slots of a brush and the ten row counts.
 #[repr(C)]
 pub struct Answer {
+    // Refusal number, 0 if accepted.
     pub number: u32,
+    // Place of the refusal, 0 if accepted.
     pub place: u32,
+    // The file's version, 0 if refused.
     pub version: u32,
+    // Texture slots of a brush, 0 if there is no brush or the file is refused.
     pub n_texs: u32,
+    // Row counts of tables 1 to 10, all 0 if refused.
     pub counts: [u32; 10],
 }
 
 // What writer and clearer answer: refusal number and place, or 0 and 0 with the size written.
 #[repr(C)]
 pub struct Written {
+    // Refusal number, 0 if written.
     pub number: u32,
+    // Place of the refusal, 0 if written.
     pub place: u32,
+    // Size written, 0 if refused.
     pub size: u32,
 }

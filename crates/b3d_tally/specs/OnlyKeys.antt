@@ -11,8 +11,10 @@ use Rattle.b3d_scene.specs.Rules.{rowLimit}
 use Rattle.b3d_scene.specs.Scene.{Scene}
 use Rattle.b3d_scene.specs.Tables.{rows}
 
+-- the tables but that of the keys, 1 to 9
 abbrev pub otherTables : List ℕ
 otherTables = 1 ∷ 2 ∷ 3 ∷ 4 ∷ 5 ∷ 6 ∷ 7 ∷ 8 ∷ 9 ∷ []
 
+-- E12: in no file s that keeps the layout rules does a table other than that of the keys have more rows than the limit
 abbrev pub OnlyKeys : Mode → List ℕ → Type 0
 OnlyKeys mode s = (t : Scene) → parse mode s ≡ got t → All (λ k. length (rows k t) ≤ rowLimit) otherTables

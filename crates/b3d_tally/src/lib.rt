@@ -26,7 +26,7 @@ pub enum Judged {
     Bad(u32, usize),
 }
 
-// Nothing.
+// Returns a tally of 0 rows and 0 bytes.
 pub fn none() -> Tally
     ensures { λ r. ⌜ r ≡ noTally ⌝ }
 {
@@ -45,7 +45,7 @@ pub fn none() -> Tally
     }
 }
 
-// Bytes of the copy, and no row.
+// Returns a tally of `n` bytes of the copy, and no row.
 pub fn bytes(n: usize) -> Tally
     ensures { λ r. ⌜ r ≡ bytesTally n ⌝ }
 {
@@ -54,7 +54,7 @@ pub fn bytes(n: usize) -> Tally
     t
 }
 
-// A TEXS of so many textures; none without one.
+// Returns the tally of a TEXS of `n` textures; where `n` is 0, of no TEXS.
 pub fn texs(n: usize) -> Tally
     requires { ⌜ n ≤ mostBytes ⌝ }
     ensures { λ r. ⌜ r ≡ texsOf n ⌝ }
@@ -67,7 +67,7 @@ pub fn texs(n: usize) -> Tally
     t
 }
 
-// A BRUS of so many brushes, each with so many slots; none without one.
+// Returns the tally of a BRUS of `n` brushes, each with `slots` texture ids; where `n` is 0, of no BRUS.
 pub fn brus(slots: usize, n: usize) -> Tally
     requires { ⌜ (n ≤ mostBytes) × (slots ≤ 8) ⌝ }
     ensures { λ r. ⌜ r ≡ brusOf slots n ⌝ }
@@ -80,7 +80,7 @@ pub fn brus(slots: usize, n: usize) -> Tally
     t
 }
 
-// A NODE without the chunks inside it.
+// Returns the tally of a NODE without the chunks inside it.
 pub fn head() -> Tally
     ensures { λ r. ⌜ r ≡ headTally ⌝ }
 {
@@ -89,7 +89,7 @@ pub fn head() -> Tally
     t
 }
 
-// A MESH with its VRTS and without its TRIS.
+// Returns the tally of a MESH with a VRTS of `n` vertices of `words` words each, without its TRIS.
 pub fn vertices(n: usize, words: usize) -> Tally
     requires { ⌜ (n ≤ mostBytes) × (words ≤ 42) ⌝ }
     ensures { λ r. ⌜ r ≡ verticesTally n words ⌝ }
@@ -100,7 +100,7 @@ pub fn vertices(n: usize, words: usize) -> Tally
     t
 }
 
-// A TRIS of so many triangles.
+// Returns the tally of a TRIS of `n` triangles.
 pub fn triangles(n: usize) -> Tally
     requires { ⌜ n ≤ mostBytes ⌝ }
     ensures { λ r. ⌜ r ≡ trianglesTally n ⌝ }
@@ -111,7 +111,7 @@ pub fn triangles(n: usize) -> Tally
     t
 }
 
-// A BONE of so many weights.
+// Returns the tally of a BONE of `n` weights.
 pub fn weights(n: usize) -> Tally
     requires { ⌜ n ≤ mostBytes ⌝ }
     ensures { λ r. ⌜ r ≡ weightsTally n ⌝ }
@@ -121,7 +121,7 @@ pub fn weights(n: usize) -> Tally
     t
 }
 
-// A KEYS of so many keys, each of so many words.
+// Returns the tally of a KEYS of `n` keys of `words` words each.
 pub fn keys(n: usize, words: usize) -> Tally
     requires { ⌜ (n ≤ mostBytes) × (words ≤ 11) ⌝ }
     ensures { λ r. ⌜ r ≡ keysTally n words ⌝ }
@@ -132,7 +132,7 @@ pub fn keys(n: usize, words: usize) -> Tally
     t
 }
 
-// One tally and another.
+// Returns the sum of the tallies `a` and `b`, count by count.
 pub fn plus(a: Tally, b: Tally) -> Tally
     requires { ⌜ Within a mostBytes × Within b mostBytes ⌝ }
     ensures { λ r. ⌜ r ≡ plus a b ⌝ }

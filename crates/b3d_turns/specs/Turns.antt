@@ -9,11 +9,11 @@ use Rattle.b3d_turns.specs.declared.Reached.{Reached}
 use Rattle.b3d_turns.specs.declared.Permit.{Permit}
 use Rattle.b3d_turns.specs.declared.Permit.the-variants as permit
 
--- how far the chunks have come, as the rule has it
+-- how far chunks have come by r, in the rule's terms
 abbrev pub reachedOf : Reached → nest.Reached
 reachedOf r = record { turn = r .turn; spent = r .spent }
 
--- how far the chunks come with one more, or that it may not stand, as an answer
+-- how far chunks come with one more, or none where it may not stand, as `Permit` has it
 abbrev pub permitOf : Option nest.Reached → Permit
 permitOf none = permit.No
 permitOf (some r) = permit.Yes (record { turn = r .turn; spent = r .spent })
@@ -22,6 +22,6 @@ permitOf (some r) = permit.Yes (record { turn = r .turn; spent = r .spent })
 abbrev pub first : Reached
 first = record { turn = 0; spent = false }
 
--- it must stand, at a turn after lo and before hi
+-- a chunk of entry e must stand, at a turn after lo and before hi
 abbrev pub between : Entry → ℕ → ℕ → Bool
 between e lo hi = e .must && (ltb lo (e .turn) && ltb (e .turn) hi)

@@ -1,12 +1,12 @@
-// What the nesting table says of the chunks inside a chunk, one after the other. Refusal 4 is given where `may_stand` says no, 8 where `owes` says
-// yes: of a file at hand by `b3d_enclosed`; the judge of pieces asks the same two.
+// What the nesting table says of the chunks inside a chunk, one after the other. Refusal 4 is given where `may_stand` says no, 8 where `owes` says yes: of a
+// file at hand by `b3d_enclosed`; the judge of pieces asks the same two.
 ghost use mathlib.Core.Path.{_≡_};
 ghost use Rattle.b3d_scene.specs.Nesting.{nesting, owed, end, next};
 ghost use Rattle.b3d_turns.specs.Turns.{between, reachedOf, permitOf};
 use b3d_nesting::Entry;
 use b3d_scene::Tag;
 
-// It must stand, at a turn after lo and before hi.
+// Returns whether a chunk of entry `e` must stand, at a turn after `lo` and before `hi`.
 fn is_between(e: Entry, lo: u8, hi: u8) -> bool
     ensures { λ r. ⌜ r ≡ between e lo hi ⌝ }
 {
@@ -19,7 +19,7 @@ fn is_between(e: Entry, lo: u8, hi: u8) -> bool
     false
 }
 
-// A tag that must stand inside a chunk has its turn after lo and before hi.
+// Returns whether a tag that must stand inside a chunk of the tag `enclosing` has its turn after `lo` and before `hi`.
 fn owed_between(enclosing: Tag, lo: u8, hi: u8) -> bool
     ensures { λ r. ⌜ r ≡ owed (nesting enclosing) lo hi ⌝ }
 {
@@ -40,13 +40,13 @@ pub struct Reached {
     pub spent: bool,
 }
 
-// Whether a chunk may stand where it does, or the chunks may end there; and how far they have come with it.
+// Whether a chunk may stand where it does, or the chunks may end there; if so, how far they have come with it.
 pub enum Permit {
     No,
     Yes(Reached),
 }
 
-// May a chunk of this tag stand inside one that encloses it, after what was reached?
+// Returns whether a chunk of `tag` may stand inside one of the tag `enclosing`, after chunks that came to `reached`; if so, how far they come with it.
 pub fn may_stand(enclosing: Tag, reached: Reached, tag: Tag) -> Permit
     ensures { λ r. ⌜ r ≡ permitOf (next (nesting enclosing) (nesting enclosing) (reachedOf reached) tag) ⌝ }
 {
@@ -76,7 +76,7 @@ pub fn may_stand(enclosing: Tag, reached: Reached, tag: Tag) -> Permit
     Permit::No
 }
 
-// Does a chunk that ends after what was reached still owe one that must stand in it?
+// Returns whether a chunk of the tag `enclosing` that ends after `reached` lacks one that must stand in it.
 pub fn owes(enclosing: Tag, reached: Reached) -> bool
     ensures { λ r. ⌜ r ≡ owed (nesting enclosing) (reached .turn) end ⌝ }
 {

@@ -7,21 +7,22 @@ use lib.Dec.{leb, ltb, eqb}
 abbrev pub NONE : ℕ
 NONE = 0xFFFFFFFF
 
--- a negative number is, by its bits, above every bound here
+-- the rule of one number; a negative number is, by its bits, above every bound here
 pub data Rule : Type 0 where
   -- anything: a float, or a number that is not looked at
   any : Rule
-  -- 0 to this
+  -- 0 to this bound
   upTo : ℕ → Rule
-  -- this and no other
+  -- this number and no other
   exactly : ℕ → Rule
-  -- an id of so many things, from 0 on
+  -- an id that names one of this number of things, from 0 on
   names : ℕ → Rule
-  -- such an id, or -1
+  -- an id that names one of this number of things, or -1
   namesOrNone : ℕ → Rule
-  -- a float from 0 to 1, by its bits; minus zero is one
+  -- a float from 0 to 1, by its bits; minus zero is one (E8)
   unit : Rule
 
+-- word w keeps the rule
 abbrev pub holds : Rule → ℕ → Bool
 holds any w = true
 holds (upTo m) w = leb w m
@@ -30,7 +31,7 @@ holds (names n) w = ltb w n
 holds (namesOrNone n) w = eqb w NONE || ltb w n
 holds unit w = leb w 0x3F800000 || eqb w 0x80000000
 
--- what refuses a number against its rule: 6 a range, 7 an id
+-- the refusal of a number that breaks the rule: 6 for a range, 7 for an id
 abbrev pub refusal : Rule → ℕ
 refusal any = 6
 refusal (upTo m) = 6
