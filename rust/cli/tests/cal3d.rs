@@ -47,6 +47,8 @@ fn names_with_a_zero() {
     fs::write(folder.join("hip.csf"), file).unwrap();
     let listed = "0 0\n1300 2 0 0 0\n2 0\nhip\nunnamed\n";
     run(&folder, &["skeleton", "hip.csf"]).is(0, listed);
+    let listed = "0 0\n1300 2 0 0 0\n2 1\nlid\n  hinge\n";
+    run(&folder, &["skeleton", "lid.csf"]).is(0, listed);
 }
 
 #[test]

@@ -10,15 +10,33 @@ const NONE: u32 = 0xFFFF_FFFF;
 const UPRIGHT: [f32; 7] = [1.0, 1.0, 1.0, 1.0, 0.0, 0.0, 0.0];
 
 /// Names and bytes of all samples.
-pub fn all() -> [(&'static str, Vec<u8>); 6] {
+pub fn all() -> [(&'static str, Vec<u8>); 7] {
     [
         ("hall.b3d", worked::h()),
         ("table.b3d", worked::t()),
         ("kitchen.b3d", kitchen()),
         ("door.csf", door_skeleton()),
+        ("lid.csf", lid_skeleton()),
         ("door.cmf", door_mesh()),
         ("curtain.cmf", curtain()),
     ]
+}
+
+/// A lid on a hinge, with names as cal3d's own saver stores them: each ends with a zero, which its length counts.
+fn lid_skeleton() -> Vec<u8> {
+    let mut file = b"CSF\0".to_vec();
+    let mut put = |numbers: &[u32], name: &[u8]| {
+        file.extend(numbers.iter().flat_map(|number| number.to_le_bytes()));
+        file.extend(name);
+    };
+    put(&[1300, 2, 0, 0, 0], b"");
+    for (name, parent, children) in [(&b"lid\0"[..], NONE, &[1][..]), (&b"hinge\0"[..], 0, &[])] {
+        put(&[name.len() as u32], name);
+        put(&[0; 14], b"");
+        put(&[parent, 0, 0, 0, 0, children.len() as u32], b"");
+        put(children, b"");
+    }
+    file
 }
 
 /// A cupboard with a door on a hinge, which is skinned; a worktop and a lamp.
