@@ -19,8 +19,8 @@ use Rattle.b3d_compare_list.specs.Changes.{twelve}
 use Rattle.b3d_compare_list.specs.Compare.{Comparison, refused, roomFor, compare, compared, outputAfter, compareAnswer, compareOutput}
 use Rattle.b3d_compare_list.proofs.Bounds.{list-small}
 use Rattle.b3d_compare_list.proofs.Theorem.{both, compares}
-use Rattle.b3d_compare.specs.Files.{Judged, filesBytes}
-use Rattle.b3d_compare.proofs.Judging.{files-are}
+use Rattle.b3d_compare_files.specs.Files.{Judged, filesBytes}
+use Rattle.b3d_compare_files.proofs.Judging.{files-are}
 
 -- ---- `list_into`
 

@@ -1,4 +1,2 @@
--- The list of two accepted files, and a law for each way through the functions.
-pub mod Judging
-pub mod Filing
+-- A law for each way through the functions.
 pub mod Comparing

@@ -19,7 +19,7 @@ use Rattle.b3d_compare_list.proofs.Walking.{changes-twelve, changes-cells, same
 use Rattle.b3d_compare_tables.specs.Tables.{Comparable, tableBytes}
 use Rattle.b3d_compare_tables.proofs.Places.{range, at-range}
 use Rattle.b3d_compare_tables.proofs.Accepted.{comparable}
-use Rattle.b3d_compare.specs.Files.{Judged, tablesBytes, orElse, filesBytes}
+use Rattle.b3d_compare_files.specs.Files.{Judged, tablesBytes, orElse, filesBytes}
 
 -- ---- rows of one file
 

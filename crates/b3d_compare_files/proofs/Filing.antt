@@ -12,8 +12,8 @@ use Rattle.b3d_scene.specs.Tables.{tables}
 use Rattle.b3d_compare_list.specs.Changes.{rowChanges}
 use Rattle.b3d_compare_list.specs.List.{listBytes}
 use Rattle.b3d_compare_tables.specs.Tables.{Comparable, tableBytes}
-use Rattle.b3d_compare.specs.Files.{Judged, tablesBytes, filesBytes}
-use Rattle.b3d_compare.proofs.Judging.{rows-known, rows-few, tablesFrom, from-first, from-step, from-end, or-some, or-none, by-length, by-none, same-numbers}
+use Rattle.b3d_compare_files.specs.Files.{Judged, tablesBytes, filesBytes}
+use Rattle.b3d_compare_files.proofs.Judging.{rows-known, rows-few, tablesFrom, from-first, from-step, from-end, or-some, or-none, by-length, by-none, same-numbers}
 
 -- ---- `put_cells`: the tables from k on are left
 
