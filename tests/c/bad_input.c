@@ -1,5 +1,6 @@
-/* Calls every function of the header with what a careless caller may lend: nothing at all, files that are cut at every byte, tables and outputs that are short by
- * one. All that is lent ends where a page begins that nobody may touch, so that a byte too far ends the program. Counts the answers that are not the header's.
+/* Calls every function of the header with what a careless caller may lend: nothing at all, files that are cut at every byte, tables and outputs
+ * that are too short. All that is lent ends where a page begins that nobody may touch, so that a byte too far ends the program. Counts the
+ * answers that are not the header's.
  * The test rust/kelompuris/tests/c_program.rs builds and runs it, as C and as C++, and looks that no function of the header is left out. */
 #define _DEFAULT_SOURCE
 #include "hall.h"
@@ -243,7 +244,8 @@ static void labelled_compared_and_mended(void) {
     for (size = 0; size <= sizeof hall; size++) {
         uint8_t *out = edge(1, size), *report = edge(2, 19);
         mended = kelompuris_b3d_mend(lent(bad, sizeof bad), sizeof bad, size == 0 ? NULL : out, size, report, 19);
-        refused("a mended file in a short output", mended.number, mended.place, size < sizeof hall ? KELOMPURIS_TOO_SHORT : 0, size < sizeof hall ? sizeof hall : 0);
+        refused("a mended file in a short output", mended.number, mended.place, size < sizeof hall ? KELOMPURIS_TOO_SHORT : 0,
+                size < sizeof hall ? sizeof hall : 0);
         expect("a short output", (unsigned long)is_marked(out, size), size < sizeof hall);
         expect("its report", (unsigned long)is_marked(report, 19), size < sizeof hall);
     }

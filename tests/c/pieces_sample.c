@@ -13,7 +13,7 @@ static_assert(sizeof(kelompuris_b3d_piece_state) == 8 + 41 * sizeof(size_t), "fo
 
 static kelompuris_b3d_open_chunk row[KELOMPURIS_B3D_OPEN_CHUNKS];
 
-/* The state after these bytes, handed over in pieces of so many. */
+/* The state after `len` bytes, handed over in pieces of `most`. */
 static kelompuris_b3d_piece_state after(kelompuris_b3d_piece_state state, const uint8_t *bytes, size_t len, size_t most) {
     size_t at;
     for (at = 0; at < len; at += most) {

@@ -141,7 +141,7 @@ pub fn tables(kind: Kind, path: &Path, folder: &Path, run: &mut Run) -> Result<(
     put_tables(folder, (kind.head(), head), each, &file, run)
 }
 
-/// A bone more than so many levels below a root is listed at that level, with
+/// A bone more levels than this below a root is listed at that level, with
 /// its own before its name, so that the listing of a chain stays linear.
 const DEEPEST: usize = 32;
 

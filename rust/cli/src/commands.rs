@@ -95,7 +95,7 @@ pub fn check_each(
     verdict(paths.len(), refused, failed)
 }
 
-/// How a check of so many files ends.
+/// How a check of `of` files ends, of which `refused` are refused and `failed` cannot be read.
 fn verdict(of: usize, refused: usize, failed: usize) -> Result<(), Stop> {
     match (refused, failed) {
         (0, 0) => Ok(()),
@@ -129,7 +129,7 @@ fn add_answer(answer: &Answer, run: &mut Run) {
 pub const PIECE: usize = 200;
 pub const LARGEST_PIECE: usize = 65_536;
 
-/// The same without names for a file that comes by an input, so many bytes at a
+/// The same without names for a file that comes by an input, `most` bytes at a
 /// time. It is never held; behind the largest file nothing is read.
 pub fn stream(most: usize, input: &mut impl Read, run: &mut Run) -> Result<(), Stop> {
     let path = Path::new("standard input");

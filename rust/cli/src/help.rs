@@ -4,13 +4,30 @@ use crate::words::{usage, Command, COMMANDS};
 
 /// What holds of all commands, a paragraph for each, and words that stand in the usage of those that it concerns.
 const NOTES: [(&[&str], &str); 4] = [
-    (&["--lenient"], "A red, green, blue or alpha that is not a number or lies outside 0 to 1 is refused; with --lenient any is taken. `clear`, `slip`, `diff` and `mend` take any."),
-    (&["FILE", "OLD", "OUT", "SLIP"], "FILE may be -, which is standard input; OUT may be -, which is standard output: lines that are told then go to standard error. A file of that name is ./-."),
-    (&["DIR"], "In the texts of `tables` the first line has the column names, and a tab stands between cells. Whole numbers are signed decimals, so NONE is -1. A float is the \
-     shortest decimal that reads back as the same float: 0.5, -0, 1e30, inf; what is not a number has its bits, nan:7fc00001. In a name the backslash and bytes \
-     outside 33 to 126 are \\xNN, so a space is \\x20. `build` also takes older texts, where a float is 8 hex digits."),
-    (&["OUT", "DIR"], "A file that stands at OUT is replaced only with --force. What is written has the mode of what was read, less the umask. A command that is refused or fails \
-     writes no file, and one that is stopped leaves none. Options may stand anywhere; behind -- nothing is one."),
+    (
+        &["--lenient"],
+        "A red, green, blue or alpha that is not a number or lies outside 0 to 1 is refused; \
+         with --lenient any is taken. `clear`, `slip`, `diff` and `mend` take any.",
+    ),
+    (
+        &["FILE", "OLD", "OUT", "SLIP"],
+        "FILE may be -, which is standard input; OUT may be -, which is standard output: \
+         lines that are told then go to standard error. A file of that name is ./-.",
+    ),
+    (
+        &["DIR"],
+        "In the texts of `tables` the first line has the column names, and a tab stands between \
+         cells. Whole numbers are signed decimals, so NONE is -1. A float is the shortest decimal \
+         that reads back as the same float: 0.5, -0, 1e30, inf; what is not a number has its bits, \
+         nan:7fc00001. In a name the backslash and bytes outside 33 to 126 are \\xNN, so a space is \
+         \\x20. `build` also takes older texts, where a float is 8 hex digits.",
+    ),
+    (
+        &["OUT", "DIR"],
+        "A file that stands at OUT is replaced only with --force. What is written has the mode of \
+         what was read, less the umask. A command that is refused or fails writes no file, and one \
+         that is stopped leaves none. Options may stand anywhere; behind -- nothing is one.",
+    ),
 ];
 
 /// What 2 means of every command.
@@ -97,8 +114,8 @@ kelompuris \\- check, show, clear, compare and mend B3D scenes, and cal3d skelet
 .SH SYNOPSIS\n\
 .B kelompuris\n.I COMMAND\n.RI [ OPTION ..]\n.IR FILE ..\n\
 .SH DESCRIPTION\n\
-Whether a file is accepted, what it holds and what is copied of it is said by proved functions. A file is accepted, or refused with a number and the byte of the \
-fault.\n\
+Whether a file is accepted, what it holds and what is copied of it is said by proved functions. \
+A file is accepted, or refused with a number and the byte of the fault.\n\
 .SH COMMANDS\n",
     );
     for command in &COMMANDS {

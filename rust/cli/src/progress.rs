@@ -5,7 +5,7 @@ use std::io::{self, IsTerminal, Write};
 /// Fewer files are done before anybody reads this.
 const MANY: usize = 50;
 
-/// So many files of all are told at once.
+/// How many files are done between two lines that are shown.
 const STEP: usize = 10;
 
 /// Files done and all files. What is shown is gone when this is dropped.

@@ -123,7 +123,8 @@ impl Run {
     /// Has a folder of files with these names and texts put at `path`.
     pub fn put_folder(&mut self, path: &Path, files: &[(String, String)]) -> Result<(), Stop> {
         if is_standard(path) {
-            return Err(Stop::failed(path, "a folder cannot be written there"));
+            let why = "a folder cannot be written to standard output";
+            return Err(Stop::Failed(why.to_string()));
         }
         self.outputs.push(Output::folder(path, files, self.mode)?);
         Ok(())

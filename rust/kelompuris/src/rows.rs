@@ -81,7 +81,7 @@ impl<'a, R: Row<'a>> fmt::Debug for Rows<'a, R> {
 impl<'a, R: Row<'a>> ExactSizeIterator for Rows<'a, R> {}
 impl<'a, R: Row<'a>> FusedIterator for Rows<'a, R> {}
 
-/// A type of rows with so many words.
+/// A type of rows with `$words` words.
 macro_rules! row {
     ($(#[$about:meta])* $row:ident, $words:expr) => {
         $(#[$about])*

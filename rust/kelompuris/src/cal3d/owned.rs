@@ -7,7 +7,7 @@ use crate::rows::{floats, id, name, range, row, Rows};
 use std::fmt;
 use std::ops::Range;
 
-/// Tables of so many rows, to lend.
+/// Tables of `counts` rows, to lend.
 fn lendable<const TABLES: usize>(
     tables: &[Table; TABLES],
     counts: [u32; TABLES],
