@@ -11,18 +11,18 @@ use Rattle.wire.specs.Test.{if}
 use Rattle.layout.specs.Fit.{all}
 use Rattle.layout.proofs.Testing.{and-true, and-assoc}
 use Rattle.layout.proofs.Outs.{if-case}
-use Rattle.b3d_scene.specs.Colours.{passes}
-use Rattle.b3d_scene.specs.Rebuild.{Lent, lentRows, roomy, cut}
-use Rattle.b3d_scene.specs.Tables.{width, tables, nodeTables, nodeWidth}
-use Rattle.b3d_scene.specs.declared.Counts.{Counts}
-use Rattle.b3d_scene.specs.declared.Mode.{Mode}
-use Rattle.b3d_scene.specs.declared.Mode.the-variants.{Strict, Lenient}
-use Rattle.b3d_sound.specs.Check.{nameHere, brushHere, slotsHere, treeHere, check, checkIn}
+use Rattle.b3d_spec.specs.Colours.{passes}
+use Rattle.b3d_spec.specs.Rebuild.{Lent, lentRows, roomy, cut}
+use Rattle.b3d_spec.specs.Tables.{width, tables, nodeTables, nodeWidth}
+use Rattle.b3d_spec.specs.declared.Counts.{Counts}
+use Rattle.b3d_spec.specs.declared.Mode.{Mode}
+use Rattle.b3d_spec.specs.declared.Mode.the-variants.{Strict, Lenient}
+use Rattle.b3d_check_spec.specs.Check.{nameHere, brushHere, slotsHere, treeHere, check, checkIn}
 use Rattle.b3d_check_rows.specs.Rows.{rowsAt}
 use Rattle.b3d_check_rows.proofs.Ands.{and-stop, and-go}
 use Rattle.b3d_check_rows.proofs.Rows.{rows-whole}
-use Rattle.b3d_check_counts.specs.Parts.{partRows}
-use Rattle.b3d_check_rooms.specs.LentRooms.{partCounts, fitsIn, rooms}
+use Rattle.b3d_check_node_counts.specs.Parts.{partRows}
+use Rattle.b3d_check_table_lengths.specs.LentRooms.{partCounts, fitsIn, rooms}
 use Rattle.b3d_check_colours.specs.LentColours.{coloursPart}
 use Rattle.b3d_check.specs.Lent.{lentOf}
 use Rattle.b3d_check.proofs.SameRows.{Agree, same-tree}

@@ -7,12 +7,12 @@ use mathlib.Core.List.{List, [], _∷_}
 use lib.ListN.{length, getD}
 use lib.Dec.{ltb, eqb}
 use Rattle.layout.specs.Rules.{NONE}
-use Rattle.b3d_scene.specs.Rebuild.{Rows}
-use Rattle.b3d_scene.specs.Rules.{boneVertices, levels}
-use Rattle.b3d_scene.specs.Tables.{start}
-use Rattle.b3d_scene.specs.declared.Counts.{Counts}
-use Rattle.b3d_sound.specs.CellCounts.{kindCounts, cellCounts, cellBones}
-use Rattle.b3d_sound.specs.Check.{kindHere, nodeHere, spent, Level, upTo, toldBy, nodesHere, treeHere, endHere, endFrom}
+use Rattle.b3d_spec.specs.Rebuild.{Rows}
+use Rattle.b3d_spec.specs.Rules.{boneVertices, levels}
+use Rattle.b3d_spec.specs.Tables.{start}
+use Rattle.b3d_spec.specs.declared.Counts.{Counts}
+use Rattle.b3d_check_spec.specs.CellCounts.{kindCounts, cellCounts, cellBones}
+use Rattle.b3d_check_spec.specs.Check.{kindHere, nodeHere, spent, Level, upTo, toldBy, nodesHere, treeHere, endHere, endFrom}
 
 pub record Agree (R S : Rows) : Type 0 where
   pub meshes : R 4 ≡ S 4

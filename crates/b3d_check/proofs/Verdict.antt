@@ -8,11 +8,11 @@ use lib.ListN.{getD}
 use Rattle.wire.specs.Bytes.{IsWord, AllBytes}
 use Rattle.wire.specs.Test.{if}
 use Rattle.layout.proofs.Lists.{All}
-use Rattle.b3d_scene.specs.Rebuild.{together, rebuild}
-use Rattle.b3d_scene.specs.Tables.{tables, nodeTables}
-use Rattle.b3d_scene.specs.declared.Mode.{Mode}
-use Rattle.b3d_sound.specs.Check.{checkIn}
-use Rattle.b3d_sound.proofs.Check.Verdict.{Typed, rebuild-check-in}
+use Rattle.b3d_spec.specs.Rebuild.{together, rebuild}
+use Rattle.b3d_spec.specs.Tables.{tables, nodeTables}
+use Rattle.b3d_spec.specs.declared.Mode.{Mode}
+use Rattle.b3d_check_spec.specs.Check.{checkIn}
+use Rattle.b3d_check_spec.proofs.Check.Verdict.{Typed, rebuild-check-in}
 use Rattle.b3d_check.specs.Lent.{lentOf}
 
 pub all-words : (l : List ℕ) → ((i : ℕ) → getD l i 0 < 4294967296) → All IsWord l

@@ -7,8 +7,8 @@ use mathlib.Core.List.{List, []}
 use lib.ListN.{getD}
 use lib.Dec.{eqb}
 use Rattle.wire.specs.Test.{if}
-use Rattle.b3d_scene.specs.Rebuild.{Lent, together, rebuild}
-use Rattle.b3d_scene.specs.declared.Mode.{Mode}
+use Rattle.b3d_spec.specs.Rebuild.{Lent, together, rebuild}
+use Rattle.b3d_spec.specs.declared.Mode.{Mode}
 
 -- version, n_texs (`slots`), ten counts and the words t₁ to t₁₀ of ten tables, as one record of lent tables
 unfoldable pub lentOf : ℕ → ℕ → List ℕ → List ℕ → List ℕ → List ℕ → List ℕ → List ℕ → List ℕ → List ℕ → List ℕ → List ℕ → List ℕ → Lent

@@ -1,6 +1,6 @@
 // The writer's check of lent tables, row by row: whether some accepted file has them.
 ghost use Rattle.b3d_check.specs.Lent.{lentOf, Says};
-use b3d_scene::Mode;
+use b3d_spec::Mode;
 
 // Returns whether some file that `mode` accepts has these tables: `version`, n_texs (`slots`), `counts` by table, the tables `t1` to `t10` and the bytes
 // `names` that hold the names. Then the scene put together from them is that file's.
@@ -29,23 +29,23 @@ pub fn sound(
     let brushes = counts[1];
     let n1 = wire::size(textures);
     let n2 = wire::size(brushes);
-    let all = b3d_check_rooms::sizes(counts);
-    if !b3d_check_rooms::rooms_here(n1, n2, all, t1, t2, t3, t4, t5, t6, t7, t8, t9, t10) {
+    let all = b3d_check_table_lengths::sizes(counts);
+    if !b3d_check_table_lengths::rooms_here(n1, n2, all, t1, t2, t3, t4, t5, t6, t7, t8, t9, t10) {
         return false;
     }
     if !(version <= 99) {
         return false;
     }
-    if !b3d_check_brushes::slots_here(slots, brushes) {
+    if !b3d_check_materials::slots_here(slots, brushes) {
         return false;
     }
-    if !b3d_check_brushes::textures_here(names, t1, n1) {
+    if !b3d_check_materials::textures_here(names, t1, n1) {
         return false;
     }
-    if !b3d_check_brushes::brushes_here(names, slots, textures, t2, n2) {
+    if !b3d_check_materials::brushes_here(names, slots, textures, t2, n2) {
         return false;
     }
-    if !b3d_check_tree::tree_here(names, brushes, all, t3, t4, t5, t6, t7, t8, t9, t10) {
+    if !b3d_check_root::tree_here(names, brushes, all, t3, t4, t5, t6, t7, t8, t9, t10) {
         return false;
     }
     b3d_check_colours::colours_here(mode, n2, t2, all.vertices, t5)

@@ -9,7 +9,7 @@ use lib.Seq.{drop-cons}
 use Rattle.layout.specs.Fit.{all}
 use Rattle.layout.specs.Rules.{unit, holds}
 use Rattle.layout.proofs.Testing.{and-true}
-use Rattle.b3d_scene.specs.Colours.{coloured}
+use Rattle.b3d_spec.specs.Colours.{coloured}
 use Rattle.b3d_check_rows.specs.Rows.{rowAt}
 use Rattle.b3d_check_rows.proofs.Rows.{row-cell, row-length, row-room}
 

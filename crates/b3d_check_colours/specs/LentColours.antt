@@ -4,9 +4,9 @@ use mathlib.Core.Bool.{Bool}
 use mathlib.Core.List.{List}
 use lib.Dec.{eqb}
 use Rattle.wire.specs.Test.{if}
-use Rattle.b3d_scene.specs.Colours.{passes}
-use Rattle.b3d_scene.specs.Rebuild.{cut}
-use Rattle.b3d_scene.specs.declared.Mode.{Mode}
+use Rattle.b3d_spec.specs.Colours.{passes}
+use Rattle.b3d_spec.specs.Rebuild.{cut}
+use Rattle.b3d_spec.specs.declared.Mode.{Mode}
 
 -- the mode accepts the colours of the first `brushes` rows of table 2 and the first `vertices` rows of table 5
 unfoldable pub coloursPart : Mode → ℕ → List ℕ → ℕ → List ℕ → Bool

@@ -3,10 +3,10 @@ ghost use mathlib.Core.Path.{_≡_};
 ghost use Prim.Native.Nat.{_+_, _*_, _≤_};
 ghost use lib.ListN.{length};
 ghost use Rattle.layout.specs.Fit.{all};
-ghost use Rattle.b3d_scene.specs.Colours.{coloured};
+ghost use Rattle.b3d_spec.specs.Colours.{coloured};
 ghost use Rattle.b3d_check_rows.specs.Rows.{rowAt, rowsAt};
 ghost use Rattle.b3d_check_colours.specs.LentColours.{coloursPart};
-use b3d_scene::Mode;
+use b3d_spec::Mode;
 
 // Returns whether the four words of row `i` of `t` from word `word` of the row on are colours from 0 to 1; a row has `width` words.
 fn row_coloured(t: &[u32], width: usize, word: usize, i: usize) -> bool
@@ -14,10 +14,10 @@ fn row_coloured(t: &[u32], width: usize, word: usize, i: usize) -> bool
     ensures { λ r. ⌜ r ≡ coloured word (rowAt width i (now (t .entry))) ⌝ }
 {
     let o = width * i + word;
-    let red = b3d_colour::colour_ok(t[o]);
-    let green = b3d_colour::colour_ok(t[o + 1]);
-    let blue = b3d_colour::colour_ok(t[o + 2]);
-    let alpha = b3d_colour::colour_ok(t[o + 3]);
+    let red = b3d_rule_colour::colour_ok(t[o]);
+    let green = b3d_rule_colour::colour_ok(t[o + 1]);
+    let blue = b3d_rule_colour::colour_ok(t[o + 2]);
+    let alpha = b3d_rule_colour::colour_ok(t[o + 3]);
     red & (green & (blue & alpha))
 }
 

@@ -10,9 +10,9 @@ use borrow.Author.Tests.{lt-ltb, le-ltb, lt-leb, le-leb}
 use Rattle.layout.specs.Fit.{all}
 use Rattle.layout.specs.Rules.{NONE}
 use Rattle.layout.proofs.Testing.{and-assoc}
-use Rattle.b3d_scene.specs.Mask.{vertexMask}
-use Rattle.b3d_scene.specs.declared.Counts.{Counts}
-use Rattle.b3d_sound.specs.Check.{clean, rowsHere, runsHere, setHere, meshHere}
+use Rattle.b3d_spec.specs.Mask.{vertexMask}
+use Rattle.b3d_spec.specs.declared.Counts.{Counts}
+use Rattle.b3d_check_spec.specs.Check.{clean, rowsHere, runsHere, setHere, meshHere}
 use Rattle.b3d_check_rows.specs.Rows.{rowAt, rowsAt}
 use Rattle.b3d_check_rows.proofs.Ands.{and-stop, and-go}
 use Rattle.b3d_check_rows.proofs.Rows.{row-cell, row-first, rows-length, rows-take}

@@ -5,10 +5,10 @@ use mathlib.Core.List.{List}
 use lib.ListN.{length, take, getD}
 use lib.Dec.{leb, ltb, eqb}
 use Rattle.layout.specs.Rules.{holds}
-use Rattle.b3d_scene.specs.Rules.{vertexFlags, sets, setSize, brushId}
-use Rattle.b3d_scene.specs.declared.Counts.{Counts}
-use Rattle.b3d_sound.specs.Check.{runsHere, setHere}
-use Rattle.b3d_sound.specs.Rooms.{KindRoom}
+use Rattle.b3d_spec.specs.Rules.{vertexFlags, sets, setSize, brushId}
+use Rattle.b3d_spec.specs.declared.Counts.{Counts}
+use Rattle.b3d_check_spec.specs.Check.{runsHere, setHere}
+use Rattle.b3d_check_spec.specs.Rooms.{KindRoom}
 
 -- mesh row x is of node number `node`, has a brush that is NONE or below `brushes`, numbers in their range, and `first` as its first vertex
 unfoldable pub meshRowHere : ℕ → ℕ → ℕ → List ℕ → Bool

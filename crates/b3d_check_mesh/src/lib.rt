@@ -1,16 +1,16 @@
-// Whether meshes with their triangle sets, and weights, are sound in lent tables. Each function is a test of b3d_sound's specs/Check on rows that are given
+// Whether meshes with their triangle sets, and weights, are sound in lent tables. Each function is a test of b3d_check_spec's specs/Check on rows that are given
 // by their number.
 ghost use mathlib.Core.Path.{_≡_};
 ghost use Prim.Native.Nat.{_+_, _-_, _*_, _<_, _≤_};
 ghost use lib.ListN.{length};
-ghost use Rattle.b3d_scene.specs.Mask.{vertexMask};
-ghost use Rattle.b3d_scene.specs.Rules.{weightRow};
-ghost use Rattle.b3d_sound.specs.Check.{keeps, clean, rowsHere, meshHere};
+ghost use Rattle.b3d_spec.specs.Mask.{vertexMask};
+ghost use Rattle.b3d_spec.specs.Rules.{weightRow};
+ghost use Rattle.b3d_check_spec.specs.Check.{keeps, clean, rowsHere, meshHere};
 ghost use Rattle.b3d_check_rows.specs.Rows.{rowAt, rowsAt};
 ghost use Rattle.b3d_check_mesh.specs.Parts.{meshRowHere, meshSets, MeshAfter};
-use b3d_check_lists::Run;
+use b3d_check_row_runs::Run;
 use b3d_check_rows::Ids;
-use b3d_scene::Counts;
+use b3d_spec::Counts;
 
 // ---- vertices and weights
 
@@ -30,7 +30,7 @@ fn vertices_left(
     if total - first < count {
         return false;
     }
-    b3d_check_absent::vertices_here(t, flags, sets, size, first, count)
+    b3d_check_absent_words::vertices_here(t, flags, sets, size, first, count)
 }
 
 // Returns whether `count` weights are there from row `first` on, of `total` in all, and each names a vertex below `bones`.
@@ -92,7 +92,7 @@ fn mesh_sets(
     }
     let v = t[o + 6];
     let run = Run::Triangles(brushes, v, i);
-    b3d_check_lists::runs_here(run, sets, first, count, triangles, from, all)
+    b3d_check_row_runs::runs_here(run, sets, first, count, triangles, from, all)
 }
 
 // Returns whether the mesh that comes after the counts `n` is sound in tables 4 to 7, whose rows `all` counts.

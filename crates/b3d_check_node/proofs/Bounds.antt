@@ -11,16 +11,16 @@ use mir.Facts.{and-yes}
 use Rattle.wire.specs.Test.{if}
 use Rattle.layout.specs.Fit.{all}
 use Rattle.layout.specs.Rules.{holds}
-use Rattle.b3d_scene.specs.Mask.{vertexMask}
-use Rattle.b3d_scene.specs.Rebuild.{Rows, mine}
-use Rattle.b3d_scene.specs.Rules.{vertexFlags, sets, setSize, brushId, weightRow}
-use Rattle.b3d_scene.specs.declared.Counts.{Counts}
-use Rattle.b3d_scene.proofs.Rows.RowLists.{cut-length, mine-length}
-use Rattle.b3d_sound.specs.CellCounts.{endOf, meshCounts, weightCounts, kindCounts, nodeCounts, cellCounts}
-use Rattle.b3d_sound.specs.Check.{keeps, clean, rowsHere, runsHere, nameHere, setHere, listHere, meshHere, kindHere, nodeHere}
-use Rattle.b3d_sound.proofs.Check.Testing.{if-both}
-use Rattle.b3d_check_counts.specs.Parts.{partRows, Below}
-use Rattle.b3d_check_counts.proofs.AfterLaws.{kind-keeps}
+use Rattle.b3d_spec.specs.Mask.{vertexMask}
+use Rattle.b3d_spec.specs.Rebuild.{Rows, mine}
+use Rattle.b3d_spec.specs.Rules.{vertexFlags, sets, setSize, brushId, weightRow}
+use Rattle.b3d_spec.specs.declared.Counts.{Counts}
+use Rattle.b3d_spec.proofs.Rows.RowLists.{cut-length, mine-length}
+use Rattle.b3d_check_spec.specs.CellCounts.{endOf, meshCounts, weightCounts, kindCounts, nodeCounts, cellCounts}
+use Rattle.b3d_check_spec.specs.Check.{keeps, clean, rowsHere, runsHere, nameHere, setHere, listHere, meshHere, kindHere, nodeHere}
+use Rattle.b3d_check_spec.proofs.Check.Testing.{if-both}
+use Rattle.b3d_check_node_counts.specs.Parts.{partRows, Below}
+use Rattle.b3d_check_node_counts.proofs.AfterLaws.{kind-keeps}
 
 -- the rows of the tables 4 to 10 are as many as a counts
 pub record Sized (R : Rows) (a : Counts) : Type 0 where

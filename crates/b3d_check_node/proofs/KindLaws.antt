@@ -9,16 +9,16 @@ use lib.Dec.{ltb, eqb}
 use borrow.Author.Tests.{ne-eqb, lt-ltb, le-ltb}
 use Rattle.wire.specs.Test.{if}
 use Rattle.layout.proofs.Testing.{and-assoc}
-use Rattle.b3d_scene.specs.Rebuild.{cut}
-use Rattle.b3d_scene.specs.Rules.{weightRow}
-use Rattle.b3d_scene.specs.declared.Counts.{Counts}
-use Rattle.b3d_scene.specs.Tables.{nodeWidth}
-use Rattle.b3d_sound.specs.Check.{keeps, rowsHere, meshHere, kindHere}
+use Rattle.b3d_spec.specs.Rebuild.{cut}
+use Rattle.b3d_spec.specs.Rules.{weightRow}
+use Rattle.b3d_spec.specs.declared.Counts.{Counts}
+use Rattle.b3d_spec.specs.Tables.{nodeWidth}
+use Rattle.b3d_check_spec.specs.Check.{keeps, rowsHere, meshHere, kindHere}
 use Rattle.b3d_check_rows.specs.Rows.{rowAt, rowsAt}
 use Rattle.b3d_check_rows.proofs.Ands.{and-stop, and-go}
 use Rattle.b3d_check_rows.proofs.Rows.{rows-length, rows-from, rows-first}
-use Rattle.b3d_check_counts.proofs.AfterLaws.{kind-cell}
-use Rattle.b3d_check_counts.specs.Parts.{partRows, Below}
+use Rattle.b3d_check_node_counts.proofs.AfterLaws.{kind-cell}
+use Rattle.b3d_check_node_counts.specs.Parts.{partRows, Below}
 
 module _ (brushes bones : ℕ) (n a : Counts) (t₃ t₄ t₅ t₆ t₇ t₈ : List ℕ) (f c : ℕ) (ef : f ≡ getD t₃ (nodeWidth * n .nodes + 14) 0) (ec : c ≡ getD t₃ (nodeWidth * n .nodes + 15) 0) (h : Below n a) where
   abbrev k : ℕ

@@ -11,17 +11,17 @@ use borrow.Author.Tests.{eq-eqb, ne-eqb}
 use Rattle.wire.specs.Test.{if}
 use Rattle.layout.specs.Fit.{all}
 use Rattle.layout.proofs.Testing.{and-true}
-use Rattle.b3d_scene.specs.Rebuild.{mine}
-use Rattle.b3d_scene.specs.declared.Counts.{Counts}
-use Rattle.b3d_scene.specs.Tables.{nodeWidth}
-use Rattle.b3d_sound.specs.Check.{runsHere, nameHere, kindHere, listHere, animHere, nodeHere}
-use Rattle.b3d_sound.proofs.Check.Rows.{cells, cells-are}
+use Rattle.b3d_spec.specs.Rebuild.{mine}
+use Rattle.b3d_spec.specs.declared.Counts.{Counts}
+use Rattle.b3d_spec.specs.Tables.{nodeWidth}
+use Rattle.b3d_check_spec.specs.Check.{runsHere, nameHere, kindHere, listHere, animHere, nodeHere}
+use Rattle.b3d_check_spec.proofs.Check.Rows.{cells, cells-are}
 use Rattle.b3d_check_rows.specs.Rows.{rowAt, rowsAt}
 use Rattle.b3d_check_rows.proofs.Rows.{row-length, rows-from}
 use Rattle.b3d_check_rows.proofs.RowLaws.{name-cells}
-use Rattle.b3d_check_lists.specs.Mine.{MineTo}
-use Rattle.b3d_check_counts.proofs.AfterLaws.{kind-cell}
-use Rattle.b3d_check_counts.specs.Parts.{partRows, Below}
+use Rattle.b3d_check_row_runs.specs.Mine.{MineTo}
+use Rattle.b3d_check_node_counts.proofs.AfterLaws.{kind-cell}
+use Rattle.b3d_check_node_counts.specs.Parts.{partRows, Below}
 
 -- ---- key lists
 

@@ -3,15 +3,15 @@ ghost use mathlib.Core.Path.{_≡_};
 ghost use mathlib.Core.List.{[]};
 ghost use Prim.Native.Nat.{_+_, _-_, _*_, _<_, _≤_};
 ghost use lib.ListN.{length, take, drop};
-ghost use Rattle.b3d_scene.specs.Rebuild.{mine};
-ghost use Rattle.b3d_scene.specs.Tables.{nodeWidth};
-ghost use Rattle.b3d_sound.specs.Check.{runsHere, listHere, kindHere, animHere, nodeHere};
+ghost use Rattle.b3d_spec.specs.Rebuild.{mine};
+ghost use Rattle.b3d_spec.specs.Tables.{nodeWidth};
+ghost use Rattle.b3d_check_spec.specs.Check.{runsHere, listHere, kindHere, animHere, nodeHere};
 ghost use Rattle.b3d_check_rows.specs.Rows.{rowAt, rowsAt};
-ghost use Rattle.b3d_sound.specs.Rooms.{KindRoom, ListRoom};
-ghost use Rattle.b3d_check_counts.specs.Parts.{partRows, Below};
-use b3d_check_lists::Run;
-use b3d_scene::Counts;
-use b3d_scene::NODE_WIDTH;
+ghost use Rattle.b3d_check_spec.specs.Rooms.{KindRoom, ListRoom};
+ghost use Rattle.b3d_check_node_counts.specs.Parts.{partRows, Below};
+use b3d_check_row_runs::Run;
+use b3d_spec::Counts;
+use b3d_spec::NODE_WIDTH;
 
 // Returns whether kind, first and count of the node that comes after the counts `n` are sound, with its mesh or weights; a weight may name a vertex below
 // `most`. `all` counts the rows of the tables.
@@ -58,8 +58,8 @@ fn own_lists(n: Counts, all: Counts, t9: &[u32], t10: &[u32]) -> bool
     requires { ⌜ Below n all × ListRoom all (length (now t9)) (length (now t10)) ⌝ }
     ensures { λ r. ⌜ r ≡ runsHere listHere (n .keys) (mine (n .nodes) (rowsAt 4 (n .lists) (all .lists - n .lists) (now (t9 .entry)))) (rowsAt 11 (n .keys) (all .keys - n .keys) (now (t10 .entry))) ⌝ }
 {
-    let end = b3d_check_lists::lists_of(n.nodes, t9, n.lists, all.lists);
-    b3d_check_lists::runs_here(Run::Keys, t9, n.lists, end - n.lists, t10, n.keys, all.keys)
+    let end = b3d_check_row_runs::lists_of(n.nodes, t9, n.lists, all.lists);
+    b3d_check_row_runs::runs_here(Run::Keys, t9, n.lists, end - n.lists, t10, n.keys, all.keys)
 }
 
 // Returns whether row `i` of table 3, `t`, has 1 for an ANIM, or 0 and three values of 0.

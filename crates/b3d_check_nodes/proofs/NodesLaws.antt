@@ -11,23 +11,23 @@ use mir.Syntax.{w64}
 use mir.Val.{Fits}
 use Rattle.wire.specs.Test.{if}
 use Rattle.layout.proofs.Outs.{if-case}
-use Rattle.b3d_scene.specs.Rebuild.{Rows}
-use Rattle.b3d_scene.specs.Rules.{levels}
-use Rattle.b3d_scene.specs.Tables.{nodeWidth}
-use Rattle.b3d_scene.specs.declared.Counts.{Counts}
-use Rattle.b3d_sound.specs.CellCounts.{meshCounts, weightCounts, kindCounts, nodeCounts, cellCounts, cellBones}
-use Rattle.b3d_sound.specs.Check.{nodeHere, spent, Level, upTo, endFrom, toldBy, nodesHere}
+use Rattle.b3d_spec.specs.Rebuild.{Rows}
+use Rattle.b3d_spec.specs.Rules.{levels}
+use Rattle.b3d_spec.specs.Tables.{nodeWidth}
+use Rattle.b3d_spec.specs.declared.Counts.{Counts}
+use Rattle.b3d_check_spec.specs.CellCounts.{meshCounts, weightCounts, kindCounts, nodeCounts, cellCounts, cellBones}
+use Rattle.b3d_check_spec.specs.Check.{nodeHere, spent, Level, upTo, endFrom, toldBy, nodesHere}
 use Rattle.b3d_check_rows.specs.Rows.{rowAt, rowsAt}
 use Rattle.b3d_check_rows.proofs.Ands.{and-stop, and-go}
 use Rattle.b3d_check_rows.proofs.Rows.{row-cell, rows-none, rows-next}
-use Rattle.b3d_sound.specs.Rooms.{Limited}
-use Rattle.b3d_check_counts.specs.Parts.{partRows, Below}
-use Rattle.b3d_check_counts.proofs.AfterLaws.{kind-keeps}
-use Rattle.b3d_check_counts.proofs.EndedLaws.{ended-spent}
+use Rattle.b3d_check_spec.specs.Rooms.{Limited}
+use Rattle.b3d_check_node_counts.specs.Parts.{partRows, Below}
+use Rattle.b3d_check_node_counts.proofs.AfterLaws.{kind-keeps}
+use Rattle.b3d_check_node_counts.proofs.EndedLaws.{ended-spent}
 use Rattle.b3d_check_node.proofs.Bounds.{after-below}
-use Rattle.b3d_check_counts.specs.Ended.{ended}
-use Rattle.b3d_check_path.specs.Path.{pathOf, CutTo, Ending}
-use Rattle.b3d_check_path.proofs.PathLaws.{path-length, path-told, path-set}
+use Rattle.b3d_check_node_counts.specs.Ended.{ended}
+use Rattle.b3d_check_parents.specs.Path.{pathOf, CutTo, Ending}
+use Rattle.b3d_check_parents.proofs.PathLaws.{path-length, path-told, path-set}
 
 -- counts need the tables 4, 6 and 9 alone
 pub counts-few : (n a : Counts) (x t₄ t₅ t₆ t₇ t₈ t₉ t₁₀ : List ℕ) → cellCounts (partRows a t₄ [] t₆ [] [] t₉ []) x n ≡ cellCounts (partRows a t₄ t₅ t₆ t₇ t₈ t₉ t₁₀) x n

@@ -3,13 +3,13 @@ ghost use mathlib.Core.Path.{_≡_};
 ghost use mathlib.Core.List.{[], _∷_};
 ghost use Prim.Native.Nat.{_-_, _*_, _≤_};
 ghost use lib.ListN.{length};
-ghost use Rattle.b3d_scene.specs.Tables.{nodeWidth};
-ghost use Rattle.b3d_sound.specs.Check.{nodesHere};
+ghost use Rattle.b3d_spec.specs.Tables.{nodeWidth};
+ghost use Rattle.b3d_check_spec.specs.Check.{nodesHere};
 ghost use Rattle.b3d_check_rows.specs.Rows.{rowsAt};
-ghost use Rattle.b3d_sound.specs.Rooms.{Limited, KindRoom, ListRoom};
-ghost use Rattle.b3d_check_counts.specs.Parts.{partRows, Below};
+ghost use Rattle.b3d_check_spec.specs.Rooms.{Limited, KindRoom, ListRoom};
+ghost use Rattle.b3d_check_node_counts.specs.Parts.{partRows, Below};
 use b3d_check_node::node_here;
-use b3d_scene::Counts;
+use b3d_spec::Counts;
 
 // Returns whether the nodes after the root are sound in tables 3 to 10, whose rows `all` counts; `from` are the counts after the root, whose branch ends at
 // row `end` and whose bone limit is its vertices. The names are in `text`. A path of 16 levels holds the open nodes, where each ends and its bone limit.
@@ -37,12 +37,12 @@ pub fn nodes_here(
     let mut ends: [usize; 16] = [0; 16];
     ends[0] = end;
     let mut bones: [u32; 16] = [0; 16];
-    bones[0] = cells::cell(from.vertices);
+    bones[0] = shared_table_words::cell(from.vertices);
     let mut depth: usize = 1;
     let mut n = from;
     while n.nodes < all.nodes {
-        let p = b3d_check_path::parent(t3, n.nodes);
-        let d = b3d_check_path::up_to(&path, &ends, depth, n.nodes, p);
+        let p = b3d_check_parents::parent(t3, n.nodes);
+        let d = b3d_check_parents::up_to(&path, &ends, depth, n.nodes, p);
         if d <= 0 {
             return false;
         }
@@ -53,15 +53,15 @@ pub fn nodes_here(
         if !node_here(text, brushes, told, n, all, t3, t4, t5, t6, t7, t8, t9, t10) {
             return false;
         }
-        let m = b3d_check_counts::node_counts(n, all, t3, t4, t6, t9);
+        let m = b3d_check_node_counts::node_counts(n, all, t3, t4, t6, t9);
         path[d] = n.nodes;
-        ends[d] = b3d_check_path::branch_end(t3, n.nodes);
-        bones[d] = b3d_check_path::bones_below(told, n, m, t3);
+        ends[d] = b3d_check_parents::branch_end(t3, n.nodes);
+        bones[d] = b3d_check_parents::bones_below(told, n, m, t3);
         depth = d + 1;
         n = m;
     }
-    if !b3d_check_path::all_end(&ends, depth, n.nodes) {
+    if !b3d_check_parents::all_end(&ends, depth, n.nodes) {
         return false;
     }
-    b3d_check_counts::ended(n, all)
+    b3d_check_node_counts::ended(n, all)
 }

@@ -12,9 +12,9 @@ use mir.Val.{Fits}
 use Rattle.layout.specs.Fit.{all}
 use Rattle.layout.specs.Rules.{Rule}
 use Rattle.layout.proofs.Testing.{and-true}
-use Rattle.b3d_scene.specs.Rules.{triangleRow, weightRow}
-use Rattle.b3d_sound.specs.Check.{keeps, nameHere}
-use Rattle.b3d_sound.proofs.Check.Rows.{cells, cells-are}
+use Rattle.b3d_spec.specs.Rules.{triangleRow, weightRow}
+use Rattle.b3d_check_spec.specs.Check.{keeps, nameHere}
+use Rattle.b3d_check_spec.proofs.Check.Rows.{cells, cells-are}
 use Rattle.b3d_check_rows.specs.declared.Ids.{Ids}
 use Rattle.b3d_check_rows.specs.declared.Ids.the-variants.{Triangles, Weights}
 use Rattle.b3d_check_rows.specs.IdRows.{idWidth, idRow}

@@ -8,9 +8,9 @@ use lib.ListN.{length, take, drop, getD, length-drop}
 use lib.Seq.{drop-drop, getD-take, getD-drop, length-take-le}
 use mir.Syntax.{w64}
 use mir.Val.{Fits}
-use Rattle.b3d_scene.specs.Rebuild.{cut}
-use Rattle.b3d_scene.proofs.Rows.RowLists.{cut-length}
-use Rattle.b3d_sound.proofs.Places.{cut-drop}
+use Rattle.b3d_spec.specs.Rebuild.{cut}
+use Rattle.b3d_spec.proofs.Rows.RowLists.{cut-length}
+use Rattle.b3d_check_spec.proofs.Places.{cut-drop}
 use Rattle.b3d_check_rows.specs.Rows.{rowAt, rowsAt}
 
 -- ---- cells

@@ -2,7 +2,7 @@
 use Prim.Native.Nat.{ℕ}
 use mathlib.Core.List.{List}
 use Rattle.layout.specs.Rules.{Rule}
-use Rattle.b3d_scene.specs.Rules.{triangleRow, weightRow}
+use Rattle.b3d_spec.specs.Rules.{triangleRow, weightRow}
 use Rattle.b3d_check_rows.specs.declared.Ids.{Ids}
 use Rattle.b3d_check_rows.specs.declared.Ids.the-variants.{Triangles, Weights}
 

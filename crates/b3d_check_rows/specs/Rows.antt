@@ -2,7 +2,7 @@
 use Prim.Native.Nat.{ℕ, _*_}
 use mathlib.Core.List.{List}
 use lib.ListN.{take, drop}
-use Rattle.b3d_scene.specs.Rebuild.{cut}
+use Rattle.b3d_spec.specs.Rebuild.{cut}
 
 -- row i of the table ws, whose rows have w words
 unfoldable pub rowAt : ℕ → ℕ → List ℕ → List ℕ

@@ -1,4 +1,4 @@
-// Whether names, triangles and weights of lent tables keep their rules. Each function is a test of b3d_sound's specs/Check on rows that are given by their
+// Whether names, triangles and weights of lent tables keep their rules. Each function is a test of b3d_check_spec's specs/Check on rows that are given by their
 // number.
 ghost use mathlib.Core.Path.{_≡_};
 ghost use mathlib.Core.List.{[], _∷_};
@@ -6,8 +6,8 @@ ghost use Prim.Native.Nat.{_+_, _*_, _<_, _≤_};
 ghost use lib.ListN.{length, getD, take, drop};
 ghost use lib.Dec.{ltb};
 ghost use Rattle.layout.specs.Fit.{all};
-ghost use Rattle.b3d_scene.specs.Rules.{triangleRow, weightRow};
-ghost use Rattle.b3d_sound.specs.Check.{keeps, nameHere};
+ghost use Rattle.b3d_spec.specs.Rules.{triangleRow, weightRow};
+ghost use Rattle.b3d_check_spec.specs.Check.{keeps, nameHere};
 ghost use Rattle.b3d_check_rows.specs.IdRows.{idWidth, idRow};
 ghost use Rattle.b3d_check_rows.specs.Rows.{rowAt, rowsAt};
 

@@ -8,27 +8,27 @@ use Rattle.wire.specs.Bytes.{AllBytes, over}
 use Rattle.layout.specs.Out.{Out, got, bad, _>>=_}
 use Rattle.layout.proofs.Outs.{by-check}
 use Rattle.layout.specs.Rows.{sizeFits, mostBytes}
-use Rattle.emit.specs.Writing.{Room, Put}
-use Rattle.b3d_scene.specs.declared.Mode.the-variants.{Lenient}
-use Rattle.b3d_scene.specs.Answers.{judge, roomFor, copy, clear, written, outputAfter, clearAnswer, clearOutput}
-use Rattle.b3d_scene.specs.Parse.{parse}
-use Rattle.b3d_scene.specs.Scene.{Scene}
-use Rattle.b3d_scene.specs.declared.Written.{Written}
-use Rattle.b3d_scene.proofs.AnswerLaws.{judge-got, clear-first}
-use Rattle.b3d_scene.proofs.Files.FileLaws.{size-low, size-bound}
-use Rattle.b3d_scene.proofs.Files.NameLaws.{copy-short}
-use Rattle.b3d_tally.specs.declared.Tally.{Tally}
-use Rattle.b3d_tally.specs.Tally.{tallyOf}
+use Rattle.shared_output.specs.Writing.{Room, Put}
+use Rattle.b3d_spec.specs.declared.Mode.the-variants.{Lenient}
+use Rattle.b3d_spec.specs.Answers.{judge, roomFor, copy, clear, written, outputAfter, clearAnswer, clearOutput}
+use Rattle.b3d_spec.specs.Parse.{parse}
+use Rattle.b3d_spec.specs.Scene.{Scene}
+use Rattle.b3d_spec.specs.declared.Written.{Written}
+use Rattle.b3d_spec.proofs.AnswerLaws.{judge-got, clear-first}
+use Rattle.b3d_spec.proofs.Files.FileLaws.{size-low, size-bound}
+use Rattle.b3d_spec.proofs.Files.NameLaws.{copy-short}
+use Rattle.b3d_judge_tally.specs.declared.Tally.{Tally}
+use Rattle.b3d_judge_tally.specs.Tally.{tallyOf}
 use Rattle.b3d_judge.specs.Answers.{verdictOf}
-use Rattle.b3d_judge_body.specs.declared.Summary.{Summary}
-use Rattle.b3d_judge_body.specs.declared.Verdict.{Verdict}
-use Rattle.b3d_judge_body.specs.declared.Verdict.the-variants as verdict
+use Rattle.b3d_judge_file_body.specs.declared.Summary.{Summary}
+use Rattle.b3d_judge_file_body.specs.declared.Verdict.{Verdict}
+use Rattle.b3d_judge_file_body.specs.declared.Verdict.the-variants as verdict
 use Rattle.b3d_judge.proofs.Verdicts.{was-bad}
-use Rattle.b3d_copy.specs.Copies.{fileCopy}
-use Rattle.b3d_copy.proofs.Files.{file-copied}
-use Rattle.b3d_scene.proofs.Refusals.{judge-place}
-use Rattle.b3d_output.specs.Sizes.{OfSize}
-use Rattle.b3d_output.proofs.SizeAnswers.{room-short, room-fits, fits-where, short-where}
+use Rattle.b3d_clear_spec.specs.Copies.{fileCopy}
+use Rattle.b3d_clear_spec.proofs.Files.{file-copied}
+use Rattle.b3d_spec.proofs.Refusals.{judge-place}
+use Rattle.b3d_spec_output_answer.specs.Sizes.{OfSize}
+use Rattle.b3d_spec_output_answer.proofs.SizeAnswers.{room-short, room-fits, fits-where, short-where}
 
 -- ---- what the judge says
 

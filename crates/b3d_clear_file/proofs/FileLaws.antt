@@ -6,11 +6,11 @@ use mathlib.Core.List.{List, [], _++_}
 use lib.ListN.{length, take, drop}
 use Rattle.wire.specs.Bytes.{bytes, wordAt}
 use Rattle.wire.specs.Cursors.{Inside}
-use Rattle.emit.specs.Writing.{Wrote, Room, Put, head}
-use Rattle.b3d_scene.specs.Tags.{code}
-use Rattle.b3d_scene.specs.declared.Tag.the-variants.{BB3D}
-use Rattle.b3d_copy.specs.Copies.{chunksAt, inFile, fileCopy}
-use Rattle.b3d_clear_copies.proofs.Chunking.{open-fits, open-room, open-asks, open-done}
+use Rattle.shared_output.specs.Writing.{Wrote, Room, Put, head}
+use Rattle.b3d_spec.specs.Tags.{code}
+use Rattle.b3d_spec.specs.declared.Tag.the-variants.{BB3D}
+use Rattle.b3d_clear_spec.specs.Copies.{chunksAt, inFile, fileCopy}
+use Rattle.b3d_clear_copied_chunks.proofs.Chunking.{open-fits, open-room, open-asks, open-done}
 
 pub file-inside : (s : List ℕ) → 12 ≤ length s → Inside (record { at = 12; end = length s }) (length s)
 file-inside s h = record { before = h; within = omega arith }

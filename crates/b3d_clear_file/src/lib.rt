@@ -5,12 +5,12 @@ ghost use lib.ListN.{length};
 ghost use Rattle.wire.specs.Bytes.{AllBytes};
 ghost use Rattle.wire.specs.Cursors.{Inside};
 ghost use Rattle.layout.specs.Rows.{mostBytes};
-ghost use Rattle.emit.specs.Writing.{Room, Put};
-ghost use Rattle.b3d_scene.specs.Rules.{levels};
-ghost use Rattle.b3d_scene.specs.declared.Tag.the-variants.{BRUS, NODE};
-ghost use Rattle.b3d_copy.specs.Copies.{each, chunksAt, brusCopy, nodeCopy, inFile, fileCopy};
-use b3d_scene::Tag;
-use b3d_scene::letters;
+ghost use Rattle.shared_output.specs.Writing.{Room, Put};
+ghost use Rattle.b3d_spec.specs.Rules.{levels};
+ghost use Rattle.b3d_spec.specs.declared.Tag.the-variants.{BRUS, NODE};
+ghost use Rattle.b3d_clear_spec.specs.Copies.{each, chunksAt, brusCopy, nodeCopy, inFile, fileCopy};
+use b3d_spec::Tag;
+use b3d_spec::letters;
 use wire::Cursor;
 
 // Writes each BRUS, then each NODE, of those from the cursor `from` on, without names. Returns their size.
@@ -19,7 +19,7 @@ fn clear_rest(file: &[u8], from: Cursor, out: &mut [u8]) -> usize
     requires { ⌜ Room (each BRUS brusCopy (chunksAt (now file) from) ++ each NODE (nodeCopy levels) (chunksAt (now file) from)) (now out) ⌝ }
     ensures { λ r. ⌜ Put (each BRUS brusCopy (chunksAt (now (file .entry)) from) ++ each NODE (nodeCopy levels) (chunksAt (now (file .entry)) from)) (now (out .entry)) (now (out .exit)) r ⌝ }
 {
-    let n = b3d_clear_parts::clear_each(file, from, Tag::BRUS, out);
+    let n = b3d_clear_chunks::clear_each(file, from, Tag::BRUS, out);
     let m = b3d_clear_nodes::clear_nodes(file, from, 16, &mut out[n..]);
     n + m
 }
@@ -30,7 +30,7 @@ fn clear_chunks(file: &[u8], from: Cursor, out: &mut [u8]) -> usize
     requires { ⌜ Room (inFile (chunksAt (now file) from)) (now out) ⌝ }
     ensures { λ r. ⌜ Put (inFile (chunksAt (now (file .entry)) from)) (now (out .entry)) (now (out .exit)) r ⌝ }
 {
-    let n = b3d_clear_parts::clear_each(file, from, Tag::TEXS, out);
+    let n = b3d_clear_chunks::clear_each(file, from, Tag::TEXS, out);
     let m = clear_rest(file, from, &mut out[n..]);
     n + m
 }
@@ -48,6 +48,6 @@ pub fn clear_file(file: &[u8], out: &mut [u8]) -> usize
     };
     let version = wire::number_at(file, 8);
     let n = clear_chunks(file, from, &mut out[12..]);
-    emit::put_opening(out, letters::BB3D, n, version);
+    shared_output::put_opening(out, letters::BB3D, n, version);
     n + 12
 }

@@ -6,15 +6,15 @@ ghost use Rattle.wire.specs.Bytes.{AllBytes};
 ghost use Rattle.wire.specs.Cursors.{Inside, left};
 ghost use Rattle.layout.specs.Parts.{wordsOf};
 ghost use Rattle.layout.specs.Rows.{mostBytes};
-ghost use Rattle.emit.specs.Writing.{Room, Put};
-ghost use Rattle.b3d_scene.specs.Tags.{code};
-ghost use Rattle.b3d_scene.specs.declared.Tag.the-variants.{NODE, BONE, KEYS, ANIM};
-ghost use Rattle.b3d_inside.specs.Places.{Body};
-ghost use Rattle.b3d_copy.specs.Copies.{chunkOf, each, chunksAt, asIs, inNode, ownCopy, nodeCopy};
-use b3d_chunks::Named;
-use b3d_scene::Tag;
-use b3d_scene::letters;
-use b3d_walk::Sought;
+ghost use Rattle.shared_output.specs.Writing.{Room, Put};
+ghost use Rattle.b3d_spec.specs.Tags.{code};
+ghost use Rattle.b3d_spec.specs.declared.Tag.the-variants.{NODE, BONE, KEYS, ANIM};
+ghost use Rattle.b3d_spec_chunk_places.specs.Places.{Body};
+ghost use Rattle.b3d_clear_spec.specs.Copies.{chunkOf, each, chunksAt, asIs, inNode, ownCopy, nodeCopy};
+use b3d_chunk_cursor::Named;
+use b3d_chunk_walk::Sought;
+use b3d_spec::Tag;
+use b3d_spec::letters;
 use wire::Cursor;
 
 // Writes each BONE, KEYS and ANIM, in this order, of the chunks from the cursor `from` on, as they are. Returns their size.
@@ -23,8 +23,8 @@ fn clear_moves(file: &[u8], from: Cursor, out: &mut [u8]) -> usize
     requires { ⌜ Room (each BONE (asIs BONE) (chunksAt (now file) from) ++ (each KEYS (asIs KEYS) (chunksAt (now file) from) ++ each ANIM (asIs ANIM) (chunksAt (now file) from))) (now out) ⌝ }
     ensures { λ r. ⌜ Put (each BONE (asIs BONE) (chunksAt (now (file .entry)) from) ++ (each KEYS (asIs KEYS) (chunksAt (now (file .entry)) from) ++ each ANIM (asIs ANIM) (chunksAt (now (file .entry)) from))) (now (out .entry)) (now (out .exit)) r ⌝ }
 {
-    let n = b3d_clear_copies::copy_each(file, from, Tag::BONE, out);
-    let m = b3d_clear_copies::copy_two(file, from, Tag::KEYS, Tag::ANIM, &mut out[n..]);
+    let n = b3d_clear_copied_chunks::copy_each(file, from, Tag::BONE, out);
+    let m = b3d_clear_copied_chunks::copy_two(file, from, Tag::KEYS, Tag::ANIM, &mut out[n..]);
     n + m
 }
 
@@ -34,7 +34,7 @@ fn clear_inside(file: &[u8], from: Cursor, out: &mut [u8]) -> usize
     requires { ⌜ Room (inNode (chunksAt (now file) from)) (now out) ⌝ }
     ensures { λ r. ⌜ Put (inNode (chunksAt (now (file .entry)) from)) (now (out .entry)) (now (out .exit)) r ⌝ }
 {
-    let n = b3d_clear_parts::clear_each(file, from, Tag::MESH, out);
+    let n = b3d_clear_chunks::clear_each(file, from, Tag::MESH, out);
     let m = clear_moves(file, from, &mut out[n..]);
     n + m
 }
@@ -46,7 +46,7 @@ fn clear_own(file: &[u8], row: Cursor, next: Cursor, out: &mut [u8]) -> usize
     requires { ⌜ Room (ownCopy (wordsOf 10 (left row (now file))) (chunksAt (now file) next)) (now out) ⌝ }
     ensures { λ r. ⌜ Put (ownCopy (wordsOf 10 (left row (now (file .entry)))) (chunksAt (now (file .entry)) next)) (now (out .entry)) (now (out .exit)) r ⌝ }
 {
-    let n = b3d_clear_lists::put_unnamed(file, row, 10, out);
+    let n = b3d_clear_materials::put_unnamed(file, row, 10, out);
     let m = clear_inside(file, next, &mut out[n..]);
     n + m
 }
@@ -60,7 +60,7 @@ pub fn clear_node(file: &[u8], at: usize, body: Cursor, levels: u32, out: &mut [
     if levels == 0 {
         return 0;
     }
-    match b3d_chunks::named_row(file, body, 10) {
+    match b3d_chunk_cursor::named_row(file, body, 10) {
         Named::Cut => 0,
         Named::Is { row, next, .. } => node_chunk(file, row, next, levels - 1, out),
     }
@@ -76,7 +76,7 @@ fn node_chunk(file: &[u8], row: Cursor, next: Cursor, levels: u32, out: &mut [u8
     let n = clear_own(file, row, next, &mut out[8..]);
     let behind = n + 8;
     let m = clear_nodes(file, next, levels, &mut out[behind..]);
-    emit::put_header(out, letters::NODE, n + m);
+    shared_output::put_header(out, letters::NODE, n + m);
     n + m + 8
 }
 
@@ -89,7 +89,7 @@ pub fn clear_nodes(file: &[u8], from: Cursor, levels: u32, out: &mut [u8]) -> us
     let mut c = from;
     let mut n: usize = 0;
     loop {
-        match b3d_walk::seek(file, c, Tag::NODE) {
+        match b3d_chunk_walk::seek(file, c, Tag::NODE) {
             Sought::Nothing => {
                 return n;
             }

@@ -9,16 +9,16 @@ use borrow.Author.Tests.{le-leb, lt-leb}
 use Rattle.wire.specs.Test.{if}
 use Rattle.wire.specs.Bytes.{AllBytes, over}
 use Rattle.shared_put_or_count.specs.Emits.{written, Fits, Emits}
-use Rattle.cells.proofs.Joined.{over-all}
-use Rattle.b3d_scene.specs.declared.Mode.the-variants.{Lenient}
-use Rattle.b3d_scene.specs.declared.Answer.{Answer}
-use Rattle.b3d_scene.specs.Answers.{judge, answer}
-use Rattle.b3d_slip.proofs.SlipOf.{refused-as, accepted-as}
-use Rattle.b3d_compare_list.specs.declared.Compared.{Compared}
-use Rattle.b3d_compare_list.specs.Changes.{twelve}
-use Rattle.b3d_compare_list.specs.Compare.{Comparison, refused, roomFor, compare, compared, outputAfter, compareAnswer, compareOutput}
-use Rattle.b3d_compare_list.proofs.Bounds.{list-small}
-use Rattle.b3d_compare_list.proofs.Theorem.{both, compares}
+use Rattle.shared_table_words.proofs.Joined.{over-all}
+use Rattle.b3d_spec.specs.declared.Mode.the-variants.{Lenient}
+use Rattle.b3d_spec.specs.declared.Answer.{Answer}
+use Rattle.b3d_spec.specs.Answers.{judge, answer}
+use Rattle.slip_of_b3d.proofs.SlipOf.{refused-as, accepted-as}
+use Rattle.b3d_compare_spec.specs.declared.Compared.{Compared}
+use Rattle.b3d_compare_spec.specs.Changes.{twelve}
+use Rattle.b3d_compare_spec.specs.Compare.{Comparison, refused, roomFor, compare, compared, outputAfter, compareAnswer, compareOutput}
+use Rattle.b3d_compare_spec.proofs.Bounds.{list-small}
+use Rattle.b3d_compare_spec.proofs.Theorem.{both, compares}
 use Rattle.b3d_compare_files.specs.Files.{Judged, filesBytes}
 use Rattle.b3d_compare_files.proofs.Judging.{files-are}
 

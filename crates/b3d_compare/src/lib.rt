@@ -1,10 +1,10 @@
 // What differs between two files, as a list in a lent output. No table is needed. One walk counts the bytes of the list, and then puts them.
 ghost use mathlib.Core.Path.{_≡_};
 ghost use lib.ListN.{length};
-ghost use Rattle.b3d_compare_list.specs.Compare.{compareAnswer, compareOutput, roomFor, compared, outputAfter};
+ghost use Rattle.b3d_compare_spec.specs.Compare.{compareAnswer, compareOutput, roomFor, compared, outputAfter};
 ghost use Rattle.b3d_compare_files.specs.Files.{Judged, filesBytes};
-use b3d_compare_list::Compared;
-use b3d_scene::Mode;
+use b3d_compare_spec::Compared;
+use b3d_spec::Mode;
 
 // The list of two accepted files with the twelve numbers x and y; where the output is too short, 11 and the size that is needed.
 fn list_into(a: &[u8], b: &[u8], x: [u32; 12], y: [u32; 12], out: &mut [u8]) -> Compared
@@ -48,7 +48,7 @@ pub fn compare(first: &[u8], second: &[u8], out: &mut [u8]) -> Compared
     ensures { λ r. ⌜ r ≡ compareAnswer (now (first .entry)) (now (second .entry)) (now (out .entry)) ⌝ }
     ensures { λ _. ⌜ now (out .exit) ≡ compareOutput (now (first .entry)) (now (second .entry)) (now (out .entry)) ⌝ }
 {
-    let x = b3d_answers::judge(Mode::Lenient, first);
+    let x = b3d_read_answer::judge(Mode::Lenient, first);
     if x.number != 0 {
         return Compared {
             number: x.number,
@@ -57,7 +57,7 @@ pub fn compare(first: &[u8], second: &[u8], out: &mut [u8]) -> Compared
             size: 0,
         };
     }
-    let y = b3d_answers::judge(Mode::Lenient, second);
+    let y = b3d_read_answer::judge(Mode::Lenient, second);
     if y.number != 0 {
         return Compared {
             number: y.number,
@@ -69,8 +69,8 @@ pub fn compare(first: &[u8], second: &[u8], out: &mut [u8]) -> Compared
     list_into(
         first,
         second,
-        b3d_slip::numbers_of(x),
-        b3d_slip::numbers_of(y),
+        slip_of_b3d::numbers_of(x),
+        slip_of_b3d::numbers_of(y),
         out,
     )
 }

@@ -8,18 +8,18 @@ use mathlib.Core.List.{List, [], _∷_, _++_, append-nil}
 use lib.ListN.{length, take, drop, getD, drop-of-length-le}
 use lib.Seq.{drop-cons}
 use lib.Ieee.{Float}
-use Rattle.emit.proofs.Joining.{Both}
-use Rattle.groups.specs.Groups.{groups, writeNumbers}
-use Rattle.groups.proofs.Fronts.{groups-append, numbers-append}
+use Rattle.shared_output.proofs.Joining.{Both}
+use Rattle.shared_seven_bit_groups.specs.Groups.{groups, writeNumbers}
+use Rattle.shared_seven_bit_groups.proofs.Fronts.{groups-append, numbers-append}
 use Rattle.shared_put_or_count.specs.Emits.{Fits, Emits}
 use Rattle.shared_put_or_count.proofs.Putting.{emits-none, fits-first, fits-second, emits-both, fits-same, emits-same, Left, left-none, left-done, left-fits, left-next}
-use Rattle.b3d_compare_list.specs.declared.Span.{Span}
-use Rattle.b3d_compare_list.specs.declared.Difference.{Difference}
-use Rattle.b3d_compare_list.specs.declared.Difference.the-variants.{Wholes, Floats, Texts}
-use Rattle.b3d_compare_list.specs.List.{leadBytes, textBytes, changeBytes}
-use Rattle.b3d_compare_list.specs.Differences.{spanText, firstOf, secondOf}
-use Rattle.b3d_difference.specs.Spans.{Within, entryNumbers}
-use Rattle.b3d_difference.proofs.Values.{text-long}
+use Rattle.b3d_compare_spec.specs.declared.Span.{Span}
+use Rattle.b3d_compare_spec.specs.declared.Difference.{Difference}
+use Rattle.b3d_compare_spec.specs.declared.Difference.the-variants.{Wholes, Floats, Texts}
+use Rattle.b3d_compare_spec.specs.List.{leadBytes, textBytes, changeBytes}
+use Rattle.b3d_compare_spec.specs.Differences.{spanText, firstOf, secondOf}
+use Rattle.b3d_compare_difference.specs.Spans.{Within, entryNumbers}
+use Rattle.b3d_compare_difference.proofs.Values.{text-long}
 use Rattle.b3d_compare_entries.specs.Entries.{Lies, changeOf, textsOf}
 
 -- ---- `put_numbers`

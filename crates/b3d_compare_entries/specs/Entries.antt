@@ -1,11 +1,11 @@
 -- The entry of a difference between files a and b.
 use Prim.Native.Nat.{ℕ}
 use mathlib.Core.List.{List, [], _++_}
-use Rattle.b3d_compare_list.specs.declared.Difference.{Difference}
-use Rattle.b3d_compare_list.specs.declared.Difference.the-variants.{Wholes, Floats, Texts}
-use Rattle.b3d_compare_list.specs.Changes.{Change}
-use Rattle.b3d_compare_list.specs.Differences.{spanText, firstOf, secondOf}
-use Rattle.b3d_difference.specs.Spans.{Within}
+use Rattle.b3d_compare_spec.specs.declared.Difference.{Difference}
+use Rattle.b3d_compare_spec.specs.declared.Difference.the-variants.{Wholes, Floats, Texts}
+use Rattle.b3d_compare_spec.specs.Changes.{Change}
+use Rattle.b3d_compare_spec.specs.Differences.{spanText, firstOf, secondOf}
+use Rattle.b3d_compare_difference.specs.Spans.{Within}
 
 -- spans lie in their files
 abbrev pub Lies : List ℕ → List ℕ → Difference → Type 0

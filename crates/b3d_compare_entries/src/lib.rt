@@ -1,13 +1,13 @@
 // An entry of the list of differences, put into a lent output from a place on, or only counted.
 ghost use mathlib.Core.List.{[]};
-ghost use Rattle.groups.specs.Groups.{writeNumbers};
+ghost use Rattle.shared_seven_bit_groups.specs.Groups.{writeNumbers};
 ghost use Rattle.shared_put_or_count.specs.Emits.{Fits, Emits};
-ghost use Rattle.b3d_compare_list.specs.List.{changeBytes};
-ghost use Rattle.b3d_compare_list.specs.Differences.{spanText};
-ghost use Rattle.b3d_difference.specs.Spans.{Within, Clean};
+ghost use Rattle.b3d_compare_spec.specs.List.{changeBytes};
+ghost use Rattle.b3d_compare_spec.specs.Differences.{spanText};
+ghost use Rattle.b3d_compare_difference.specs.Spans.{Within, Clean};
 ghost use Rattle.b3d_compare_entries.specs.Entries.{Lies, changeOf, textsOf};
-use b3d_compare_list::Difference;
-use b3d_compare_list::Span;
+use b3d_compare_spec::Difference;
+use b3d_compare_spec::Span;
 
 // Puts or counts the five numbers in their groups, and gives the place after them.
 fn put_numbers(ns: [u32; 5], wet: bool, out: &mut [u8], at: usize) -> usize
@@ -67,7 +67,7 @@ pub fn put_entry(
     requires { ⌜ Fits wet (changeBytes (changeOf (now a) (now b) k r w d) []) at (now out) ⌝ }
     ensures { λ n. ⌜ Emits wet (changeBytes (changeOf (now (a .entry)) (now (b .entry)) k r w d) []) (now (out .entry)) at (now (out .exit)) n ⌝ }
 {
-    let ns = b3d_difference::entry_numbers(k, r, w, d);
+    let ns = b3d_compare_difference::entry_numbers(k, r, w, d);
     let next = put_numbers(ns, wet, out, at);
     put_texts(a, b, d, wet, out, next)
 }

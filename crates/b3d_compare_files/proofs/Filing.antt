@@ -5,12 +5,12 @@ use native.Mathlib.Omega.{arith}
 use mathlib.Core.Bool.{Bool, true, false}
 use mathlib.Core.List.{List, _++_}
 use lib.ListN.{length, getD}
-use Rattle.emit.proofs.Joining.{Both}
+use Rattle.shared_output.proofs.Joining.{Both}
 use Rattle.shared_put_or_count.specs.Emits.{Fits, Emits}
 use Rattle.shared_put_or_count.proofs.Putting.{fits-second, emits-both, fits-same, emits-same, Left, left-none, left-done, left-fits, left-next}
-use Rattle.b3d_scene.specs.Tables.{tables}
-use Rattle.b3d_compare_list.specs.Changes.{rowChanges}
-use Rattle.b3d_compare_list.specs.List.{listBytes}
+use Rattle.b3d_spec.specs.Tables.{tables}
+use Rattle.b3d_compare_spec.specs.Changes.{rowChanges}
+use Rattle.b3d_compare_spec.specs.List.{listBytes}
 use Rattle.b3d_compare_tables.specs.Tables.{Comparable, tableBytes}
 use Rattle.b3d_compare_files.specs.Files.{Judged, tablesBytes, filesBytes}
 use Rattle.b3d_compare_files.proofs.Judging.{rows-known, rows-few, tablesFrom, from-first, from-step, from-end, or-some, or-none, by-length, by-none, same-numbers}

@@ -6,16 +6,16 @@ use mathlib.Core.List.{List, [], _∷_, _++_}
 use lib.ListN.{length, getD}
 use Rattle.layout.proofs.Lists.{All}
 use Rattle.layout.specs.Out.{got}
-use Rattle.b3d_scene.specs.declared.Mode.the-variants.{Lenient}
-use Rattle.b3d_scene.specs.Answers.{judge}
-use Rattle.b3d_scene.specs.Scene.{Scene}
-use Rattle.b3d_scene.specs.Tables.{rows, tables, nodeTables, counts}
-use Rattle.b3d_scene.proofs.AnswerLaws.{Small, judge-got}
-use Rattle.b3d_file_rows.proofs.Laws.{rows-law}
-use Rattle.b3d_compare_list.specs.Changes.{rowChanges, tableChanges, twelve, changesIn, changes}
-use Rattle.b3d_compare_list.specs.List.{listBytes}
-use Rattle.b3d_compare_list.proofs.Sizes.{list-append}
-use Rattle.b3d_compare_list.proofs.Walking.{changes-twelve, changes-cells, same-twelve, tables-step}
+use Rattle.b3d_spec.specs.declared.Mode.the-variants.{Lenient}
+use Rattle.b3d_spec.specs.Answers.{judge}
+use Rattle.b3d_spec.specs.Scene.{Scene}
+use Rattle.b3d_spec.specs.Tables.{rows, tables, nodeTables, counts}
+use Rattle.b3d_spec.proofs.AnswerLaws.{Small, judge-got}
+use Rattle.b3d_spec_plain_rows.proofs.Laws.{rows-law}
+use Rattle.b3d_compare_spec.specs.Changes.{rowChanges, tableChanges, twelve, changesIn, changes}
+use Rattle.b3d_compare_spec.specs.List.{listBytes}
+use Rattle.b3d_compare_spec.proofs.Sizes.{list-append}
+use Rattle.b3d_compare_spec.proofs.Walking.{changes-twelve, changes-cells, same-twelve, tables-step}
 use Rattle.b3d_compare_tables.specs.Tables.{Comparable, tableBytes}
 use Rattle.b3d_compare_tables.proofs.Places.{range, at-range}
 use Rattle.b3d_compare_tables.proofs.Accepted.{comparable}

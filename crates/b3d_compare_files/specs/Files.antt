@@ -3,12 +3,12 @@ use mathlib.Core.Path.{_≡_}
 use Prim.Native.Nat.{ℕ}
 use mathlib.Core.List.{List, [], _∷_, _++_}
 use Rattle.layout.specs.Out.{got}
-use Rattle.b3d_scene.specs.declared.Mode.the-variants.{Lenient}
-use Rattle.b3d_scene.specs.Answers.{judge}
-use Rattle.b3d_scene.specs.Scene.{Scene}
-use Rattle.b3d_scene.specs.Tables.{tables}
-use Rattle.b3d_compare_list.specs.Changes.{rowChanges, twelve}
-use Rattle.b3d_compare_list.specs.List.{listBytes}
+use Rattle.b3d_spec.specs.declared.Mode.the-variants.{Lenient}
+use Rattle.b3d_spec.specs.Answers.{judge}
+use Rattle.b3d_spec.specs.Scene.{Scene}
+use Rattle.b3d_spec.specs.Tables.{tables}
+use Rattle.b3d_compare_spec.specs.Changes.{rowChanges, twelve}
+use Rattle.b3d_compare_spec.specs.List.{listBytes}
 use Rattle.b3d_compare_tables.specs.Tables.{tableBytes}
 
 -- an accepted file, with its twelve numbers

@@ -1,6 +1,6 @@
 // The list of two accepted files, put into a lent output from its start on, or only counted: version, n_texs and counts first, then table by table.
 ghost use Rattle.shared_put_or_count.specs.Emits.{Fits, Emits};
-ghost use Rattle.b3d_scene.specs.Tables.{tables};
+ghost use Rattle.b3d_spec.specs.Tables.{tables};
 ghost use Rattle.b3d_compare_files.specs.Files.{Judged, tablesBytes, filesBytes};
 
 // Puts or counts the entries of the ten tables, of two accepted files with the same twelve numbers x. Gives the place after them.

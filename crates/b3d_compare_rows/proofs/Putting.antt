@@ -5,16 +5,16 @@ use native.Mathlib.Omega.{arith}
 use mathlib.Core.Bool.{Bool}
 use mathlib.Core.List.{List, []}
 use lib.ListN.{length, getD}
-use Rattle.emit.proofs.Joining.{Both}
+use Rattle.shared_output.proofs.Joining.{Both}
 use Rattle.shared_put_or_count.specs.Emits.{Fits, Emits}
 use Rattle.shared_put_or_count.proofs.Putting.{emits-none, fits-first, fits-second, emits-both, fits-same, emits-same, Left, left-none, left-done, left-fits, left-next}
-use Rattle.b3d_compare_list.specs.declared.Difference.{Difference}
-use Rattle.b3d_compare_list.specs.Words.{wordsOf}
-use Rattle.b3d_compare_list.specs.Changes.{wordChanges, rowChanges}
-use Rattle.b3d_compare_list.specs.List.{changeBytes, listBytes}
-use Rattle.b3d_compare_list.specs.Differences.{numbersOf}
-use Rattle.b3d_compare_list.proofs.Exact.{words-zero}
-use Rattle.b3d_compare_list.proofs.Sizes.{list-append}
+use Rattle.b3d_compare_spec.specs.declared.Difference.{Difference}
+use Rattle.b3d_compare_spec.specs.Words.{wordsOf}
+use Rattle.b3d_compare_spec.specs.Changes.{wordChanges, rowChanges}
+use Rattle.b3d_compare_spec.specs.List.{changeBytes, listBytes}
+use Rattle.b3d_compare_spec.specs.Differences.{numbersOf}
+use Rattle.b3d_compare_spec.proofs.Exact.{words-zero}
+use Rattle.b3d_compare_spec.proofs.Sizes.{list-append}
 use Rattle.b3d_compare_entries.specs.Entries.{changeOf}
 use Rattle.b3d_compare_rows.specs.declared.Names.{Names}
 use Rattle.b3d_compare_rows.specs.declared.Names.the-variants.{Same, Differ}

@@ -14,18 +14,18 @@ use borrow.Author.Tests.{ne-eqb}
 use mir.Facts.{and-yes, yes-eqb}
 use Rattle.wire.specs.Test.{if}
 use Rattle.layout.proofs.Outs.{if-case, if-yes, if-no, by-test}
-use Rattle.b3d_scene.specs.Rebuild.{same, nameFrom}
-use Rattle.b3d_compare_list.specs.declared.WordKind.{WordKind}
-use Rattle.b3d_compare_list.specs.declared.WordKind.the-variants.{Whole, Float, Name, Length}
-use Rattle.b3d_compare_list.specs.declared.Span.{Span}
-use Rattle.b3d_compare_list.specs.declared.Difference.{Difference}
-use Rattle.b3d_compare_list.specs.declared.Difference.the-variants.{Wholes, Floats, Texts}
-use Rattle.b3d_compare_list.specs.Words.{wordKinds, wordsOf, kindAt}
-use Rattle.b3d_compare_list.specs.Changes.{number, text, sameCell, cellOf, cellAt, Change, wordChanges, rowChanges}
-use Rattle.b3d_compare_list.specs.List.{changeBytes, listBytes}
-use Rattle.b3d_compare_list.specs.Differences.{spanText, firstOf, secondOf, numbersOf}
-use Rattle.b3d_compare_list.proofs.WordLaws.{few-words, kinds-by, three}
-use Rattle.b3d_difference.specs.Spans.{Within, SpanIs, Clean}
+use Rattle.b3d_spec.specs.Rebuild.{same, nameFrom}
+use Rattle.b3d_compare_spec.specs.declared.WordKind.{WordKind}
+use Rattle.b3d_compare_spec.specs.declared.WordKind.the-variants.{Whole, Float, Name, Length}
+use Rattle.b3d_compare_spec.specs.declared.Span.{Span}
+use Rattle.b3d_compare_spec.specs.declared.Difference.{Difference}
+use Rattle.b3d_compare_spec.specs.declared.Difference.the-variants.{Wholes, Floats, Texts}
+use Rattle.b3d_compare_spec.specs.Words.{wordKinds, wordsOf, kindAt}
+use Rattle.b3d_compare_spec.specs.Changes.{number, text, sameCell, cellOf, cellAt, Change, wordChanges, rowChanges}
+use Rattle.b3d_compare_spec.specs.List.{changeBytes, listBytes}
+use Rattle.b3d_compare_spec.specs.Differences.{spanText, firstOf, secondOf, numbersOf}
+use Rattle.b3d_compare_spec.proofs.WordLaws.{few-words, kinds-by, three}
+use Rattle.b3d_compare_difference.specs.Spans.{Within, SpanIs, Clean}
 use Rattle.b3d_compare_entries.specs.Entries.{Lies, changeOf}
 use Rattle.b3d_compare_rows.specs.Rows.{wordEntry, Plain, nameEntries, NamesAre}
 use Rattle.b3d_compare_rows.specs.declared.Names.{Names}

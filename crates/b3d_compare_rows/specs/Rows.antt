@@ -5,9 +5,9 @@ use mathlib.Core.List.{List, [], _∷_}
 use lib.ListN.{getD}
 use lib.Dec.{eqb}
 use Rattle.wire.specs.Test.{if}
-use Rattle.b3d_compare_list.specs.Words.{wordsOf}
-use Rattle.b3d_compare_list.specs.Changes.{Change, number, cellAt, wordChanges}
-use Rattle.b3d_difference.specs.Spans.{Clean}
+use Rattle.b3d_compare_spec.specs.Words.{wordsOf}
+use Rattle.b3d_compare_spec.specs.Changes.{Change, number, cellAt, wordChanges}
+use Rattle.b3d_compare_difference.specs.Spans.{Clean}
 use Rattle.b3d_compare_entries.specs.Entries.{Lies, changeOf}
 use Rattle.b3d_compare_rows.specs.declared.Names.{Names}
 use Rattle.b3d_compare_rows.specs.declared.Names.the-variants.{Same, Differ}

@@ -5,11 +5,11 @@ ghost use Prim.Native.Nat.{_-_, _<_, _≤_};
 ghost use mathlib.Core.List.{[]};
 ghost use lib.ListN.{length};
 ghost use Rattle.shared_put_or_count.specs.Emits.{Fits, Emits};
-ghost use Rattle.b3d_compare_list.specs.Words.{wordsOf};
-ghost use Rattle.b3d_compare_list.specs.Changes.{wordChanges, rowChanges};
-ghost use Rattle.b3d_compare_list.specs.List.{listBytes};
+ghost use Rattle.b3d_compare_spec.specs.Words.{wordsOf};
+ghost use Rattle.b3d_compare_spec.specs.Changes.{wordChanges, rowChanges};
+ghost use Rattle.b3d_compare_spec.specs.List.{listBytes};
 ghost use Rattle.b3d_compare_rows.specs.Rows.{wordEntry, Plain, NamesAre};
-use b3d_compare_list::Difference;
+use b3d_compare_spec::Difference;
 
 // How many words a row of each table has.
 const WORDS: [usize; 11] = [12, 9, 17, 21, 9, 42, 4, 3, 2, 4, 11];
@@ -43,7 +43,7 @@ fn put_word(
     if p == q {
         return at;
     }
-    let d = b3d_difference::numbers(k, w, p, q);
+    let d = b3d_compare_difference::numbers(k, w, p, q);
     b3d_compare_entries::put_entry(a, b, k as u32, r, w as u32, d, wet, out, at)
 }
 
@@ -90,9 +90,9 @@ fn row_names(a: &[u8], b: &[u8], x: &[u32], y: &[u32]) -> Names
     requires { ⌜ 2 ≤ length (now y) ⌝ }
     ensures { λ n. ⌜ NamesAre (now (a .entry)) (now (b .entry)) (now (x .entry)) (now (y .entry)) n ⌝ }
 {
-    let s = b3d_difference::span_of(a, x[0], x[1]);
-    let t = b3d_difference::span_of(b, y[0], y[1]);
-    if b3d_difference::same_text(a, b, s, t) {
+    let s = b3d_compare_difference::span_of(a, x[0], x[1]);
+    let t = b3d_compare_difference::span_of(b, y[0], y[1]);
+    if b3d_compare_difference::same_text(a, b, s, t) {
         return Names::Same;
     }
     Names::Differ(Difference::Texts(s, t))

@@ -7,15 +7,15 @@ use lib.ListN.{length}
 use Rattle.layout.specs.Out.{got}
 use Rattle.layout.specs.Rows.{sizeFits}
 use Rattle.layout.proofs.Outs.{by-check}
-use Rattle.b3d_scene.specs.declared.Mode.the-variants.{Lenient}
-use Rattle.b3d_scene.specs.Answers.{judge}
-use Rattle.b3d_scene.specs.Parse.{parse}
-use Rattle.b3d_scene.specs.Scene.{Scene}
-use Rattle.b3d_scene.specs.Tables.{rows}
-use Rattle.b3d_scene.proofs.AnswerLaws.{judge-got}
-use Rattle.b3d_scene.proofs.Files.FileLaws.{size-bound}
-use Rattle.b3d_inside.proofs.Files.{parse-low}
-use Rattle.b3d_file_rows.proofs.Laws.{rows-law}
+use Rattle.b3d_spec.specs.declared.Mode.the-variants.{Lenient}
+use Rattle.b3d_spec.specs.Answers.{judge}
+use Rattle.b3d_spec.specs.Parse.{parse}
+use Rattle.b3d_spec.specs.Scene.{Scene}
+use Rattle.b3d_spec.specs.Tables.{rows}
+use Rattle.b3d_spec.proofs.AnswerLaws.{judge-got}
+use Rattle.b3d_spec.proofs.Files.FileLaws.{size-bound}
+use Rattle.b3d_spec_chunk_places.proofs.Files.{parse-low}
+use Rattle.b3d_spec_plain_rows.proofs.Laws.{rows-law}
 use Rattle.b3d_rows_nodes.proofs.DepthLaws.{accepted-shallow}
 use Rattle.b3d_compare_tables.specs.Tables.{Comparable}
 

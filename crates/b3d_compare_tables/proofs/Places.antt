@@ -9,20 +9,20 @@ use lib.ListN.{length, getD, length-append}
 use lib.Seq.{length-sets}
 use borrow.Author.Tests.{eq-eqb}
 use Rattle.layout.proofs.Lists.{All}
-use Rattle.b3d_scene.specs.Tables.{width, tables, nodeTables}
-use Rattle.b3d_file_rows.specs.Flat.{flatAt}
+use Rattle.b3d_spec.specs.Tables.{width, tables, nodeTables}
+use Rattle.b3d_spec_plain_rows.specs.Flat.{flatAt}
 use Rattle.b3d_rows_nodes.specs.NextNode.{Shallow}
 use Rattle.b3d_rows_nodes.specs.declared.RowCursor.{RowCursor}
 use Rattle.b3d_rows.specs.NextRow.{rowsFrom, RowCursorAt, Starts, RowNext}
-use Rattle.b3d_compare_list.specs.Words.{wordsOf}
+use Rattle.b3d_compare_spec.specs.Words.{wordsOf}
 use Rattle.wire.specs.Test.{if}
 use Rattle.b3d_rows_same.specs.declared.EqualItems.{EqualItems}
 use Rattle.b3d_rows_open_items.specs.declared.OpenItems.{OpenItems}
 use Rattle.b3d_rows_same.specs.SameItems.{RowsSame, SameItems, cursorPast}
 use Rattle.b3d_rows_same.proofs.PastLaws.{above-four, rows-past, cursor-past}
-use Rattle.b3d_compare_list.specs.Changes.{Change, sameCell, wordChanges, rowChanges, tableChanges}
-use Rattle.b3d_compare_list.specs.List.{listBytes}
-use Rattle.b3d_compare_list.proofs.WordLaws.{widths, few-words}
+use Rattle.b3d_compare_spec.specs.Changes.{Change, sameCell, wordChanges, rowChanges, tableChanges}
+use Rattle.b3d_compare_spec.specs.List.{listBytes}
+use Rattle.b3d_compare_spec.proofs.WordLaws.{widths, few-words}
 use Rattle.b3d_compare_rows.proofs.Rowing.{plain-high}
 use Rattle.b3d_compare_tables.proofs.TableLaws.{come-step, come-end}
 use Rattle.b3d_compare_tables.specs.Tables.{Comparable, bytesFrom, tableBytes, Onward}

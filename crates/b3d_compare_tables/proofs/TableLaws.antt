@@ -5,12 +5,12 @@ use native.Mathlib.Omega.{arith}
 use mathlib.Core.List.{List, [], _∷_, _++_}
 use lib.ListN.{length, take, drop}
 use lib.Seq.{sets, sets-eq, take-append-le}
-use Rattle.b3d_compare_list.specs.Words.{wordsOf}
-use Rattle.b3d_compare_list.specs.Changes.{Change, rowChanges, tableChanges}
-use Rattle.b3d_compare_list.specs.List.{listBytes}
-use Rattle.b3d_compare_list.proofs.Sizes.{list-append}
-use Rattle.b3d_compare_list.proofs.Walking.{row-front}
-use Rattle.b3d_compare_list.proofs.WordLaws.{few-words}
+use Rattle.b3d_compare_spec.specs.Words.{wordsOf}
+use Rattle.b3d_compare_spec.specs.Changes.{Change, rowChanges, tableChanges}
+use Rattle.b3d_compare_spec.specs.List.{listBytes}
+use Rattle.b3d_compare_spec.proofs.Sizes.{list-append}
+use Rattle.b3d_compare_spec.proofs.Walking.{row-front}
+use Rattle.b3d_compare_spec.proofs.WordLaws.{few-words}
 use Rattle.b3d_compare_rows.proofs.Rowing.{no-bytes}
 
 -- a row that was stored over the front of a longer one

@@ -5,15 +5,15 @@ use native.Mathlib.Omega.{arith}
 use mathlib.Core.Bool.{Bool}
 use mathlib.Core.List.{List, [], _++_}
 use lib.ListN.{length}
-use Rattle.emit.proofs.Joining.{Both}
+use Rattle.shared_output.proofs.Joining.{Both}
 use Rattle.shared_put_or_count.specs.Emits.{Fits, Emits}
 use Rattle.shared_put_or_count.proofs.Putting.{emits-none, fits-first, Left, left-none, left-done, left-next}
 use Rattle.b3d_rows_nodes.specs.declared.RowCursor.{RowCursor}
 use Rattle.b3d_rows.specs.NextRow.{RowCursorAt, Starts, RowNext}
 use Rattle.b3d_rows_same.specs.declared.EqualItems.{EqualItems}
 use Rattle.b3d_rows_same.specs.SameItems.{SameItems, cursorPast}
-use Rattle.b3d_compare_list.specs.Changes.{rowChanges}
-use Rattle.b3d_compare_list.specs.List.{listBytes}
+use Rattle.b3d_compare_spec.specs.Changes.{rowChanges}
+use Rattle.b3d_compare_spec.specs.List.{listBytes}
 use Rattle.b3d_compare_tables.specs.declared.Turn.{Turn}
 use Rattle.b3d_compare_tables.specs.Tables.{Comparable, bytesFrom, tableBytes, PutTurn}
 use Rattle.b3d_compare_tables.proofs.Places.{step-is, step-on, BothLeft, both-start, start-bytes, end-bytes, both-next, pass-is, pass-on}

@@ -4,15 +4,15 @@ use Prim.Native.Nat.{ℕ, _+_, _<_, _≤_}
 use mathlib.Core.Bool.{Bool}
 use mathlib.Core.List.{List, []}
 use lib.ListN.{length}
-use Rattle.emit.proofs.Joining.{Both}
+use Rattle.shared_output.proofs.Joining.{Both}
 use Rattle.shared_put_or_count.specs.Emits.{Emits}
-use Rattle.b3d_file_rows.specs.Flat.{flatAt}
-use Rattle.b3d_file_rows.specs.Rows.{fileRows}
+use Rattle.b3d_spec_plain_rows.specs.Flat.{flatAt}
+use Rattle.b3d_spec_plain_rows.specs.Rows.{fileRows}
 use Rattle.b3d_rows_nodes.specs.NextNode.{Shallow}
 use Rattle.b3d_rows_nodes.specs.declared.RowCursor.{RowCursor}
 use Rattle.b3d_rows.specs.NextRow.{rowsFrom, RowCursorAt}
-use Rattle.b3d_compare_list.specs.Changes.{tableChanges}
-use Rattle.b3d_compare_list.specs.List.{listBytes}
+use Rattle.b3d_compare_spec.specs.Changes.{tableChanges}
+use Rattle.b3d_compare_spec.specs.List.{listBytes}
 use Rattle.b3d_compare_tables.specs.declared.Turn.{Turn}
 
 -- a file whose table k has this number of rows, and whose nodes nest at most 16 deep

@@ -11,24 +11,24 @@ use Rattle.wire.specs.Bytes.{wordAt, AllBytes}
 use Rattle.layout.specs.Out.{Out, got, bad, check, _>>=_}
 use Rattle.layout.specs.Parts.{wordsOf}
 use Rattle.layout.proofs.StepLaws.{word-of}
-use Rattle.b3d_scene.specs.declared.Mode.{Mode}
+use Rattle.b3d_spec.specs.declared.Mode.{Mode}
 use Rattle.layout.specs.Rows.{eachOf, sizeFits}
-use Rattle.b3d_scene.specs.Scene.{Scene}
-use Rattle.b3d_scene.specs.Rules.{version, rowLimit}
-use Rattle.b3d_scene.specs.Parse.{readBody, parse}
-use Rattle.b3d_scene.specs.Tables.{rows, tables}
-use Rattle.b3d_scene.specs.Answers.{judge}
-use Rattle.b3d_scene.proofs.Laws.{fine}
-use Rattle.b3d_tally.specs.Tally.{sceneTally, tallyOf}
-use Rattle.b3d_inside.proofs.Heads.{head-is}
+use Rattle.b3d_spec.specs.Scene.{Scene}
+use Rattle.b3d_spec.specs.Rules.{version, rowLimit}
+use Rattle.b3d_spec.specs.Parse.{readBody, parse}
+use Rattle.b3d_spec.specs.Tables.{rows, tables}
+use Rattle.b3d_spec.specs.Answers.{judge}
+use Rattle.b3d_spec.proofs.Laws.{fine}
+use Rattle.b3d_judge_tally.specs.Tally.{sceneTally, tallyOf}
+use Rattle.b3d_spec_chunk_places.proofs.Heads.{head-is}
 use Rattle.b3d_judge.specs.Answers.{verdictOf}
-use Rattle.b3d_judge_body.specs.Bodies.{walked, Walks}
-use Rattle.b3d_limits.specs.Limits.{overLimit}
-use Rattle.b3d_limits.proofs.Limits.{over-none, over-some}
-use Rattle.b3d_judge_body.specs.declared.Summary.{Summary}
-use Rattle.b3d_judge_body.specs.declared.Verdict.{Verdict}
-use Rattle.b3d_judge_body.specs.declared.Verdict.the-variants as verdict
-use Rattle.b3d_tally.proofs.Totals.{total}
+use Rattle.b3d_judge_file_body.specs.Bodies.{walked, Walks}
+use Rattle.b3d_judge_limits.specs.Limits.{overLimit}
+use Rattle.b3d_judge_limits.proofs.Limits.{over-none, over-some}
+use Rattle.b3d_judge_file_body.specs.declared.Summary.{Summary}
+use Rattle.b3d_judge_file_body.specs.declared.Verdict.{Verdict}
+use Rattle.b3d_judge_file_body.specs.declared.Verdict.the-variants as verdict
+use Rattle.b3d_judge_tally.proofs.Totals.{total}
 
 -- ---- a slice's bytes
 

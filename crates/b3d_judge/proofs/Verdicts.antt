@@ -3,11 +3,11 @@ use mathlib.Core.Path.{_≡_, refl}
 use Prim.Native.Nat.{ℕ}
 use native.Mathlib.Omega.{arith}
 use Rattle.layout.specs.Out.{Out, got, bad}
-use Rattle.b3d_scene.specs.Scene.{Scene}
-use Rattle.b3d_tally.specs.Tally.{tallyOf}
+use Rattle.b3d_spec.specs.Scene.{Scene}
+use Rattle.b3d_judge_tally.specs.Tally.{tallyOf}
 use Rattle.b3d_judge.specs.Answers.{verdictOf}
-use Rattle.b3d_judge_body.specs.declared.Summary.{Summary}
-use Rattle.b3d_judge_body.specs.declared.Verdict.the-variants as verdict
+use Rattle.b3d_judge_file_body.specs.declared.Summary.{Summary}
+use Rattle.b3d_judge_file_body.specs.declared.Verdict.the-variants as verdict
 
 abbrev pub summaryOf : Scene → Summary
 summaryOf t = record { version = t .version; «n_texs» = t .slots; tally = tallyOf t }

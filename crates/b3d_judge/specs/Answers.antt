@@ -1,9 +1,9 @@
 -- What is answered of a file.
 use Rattle.layout.specs.Out.{Out, got, bad}
-use Rattle.b3d_scene.specs.Scene.{Scene}
-use Rattle.b3d_tally.specs.Tally.{tallyOf}
-use Rattle.b3d_judge_body.specs.declared.Verdict.{Verdict}
-use Rattle.b3d_judge_body.specs.declared.Verdict.the-variants as verdict
+use Rattle.b3d_spec.specs.Scene.{Scene}
+use Rattle.b3d_judge_tally.specs.Tally.{tallyOf}
+use Rattle.b3d_judge_file_body.specs.declared.Verdict.{Verdict}
+use Rattle.b3d_judge_file_body.specs.declared.Verdict.the-variants as verdict
 
 -- the judge's answer for what a file says: 01's number and place, or version, n_texs, counts and the size of the copy
 abbrev pub verdictOf : Out Scene → Verdict

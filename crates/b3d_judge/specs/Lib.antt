@@ -1,2 +1,2 @@
--- What the judge answers, in the terms of b3d_scene's definitions.
+-- What the judge answers, in the terms of b3d_spec's definitions.
 pub mod Answers

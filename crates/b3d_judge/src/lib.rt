@@ -3,10 +3,10 @@
 ghost use mathlib.Core.Path.{_≡_};
 ghost use Rattle.b3d_judge.specs.Answers.{verdictOf};
 ghost use Rattle.wire.specs.Bytes.{AllBytes};
-ghost use Rattle.b3d_scene.specs.Answers.{judge};
-use b3d_judge_body::Verdict;
-use b3d_scene::Mode;
-use b3d_scene::letters;
+ghost use Rattle.b3d_spec.specs.Answers.{judge};
+use b3d_judge_file_body::Verdict;
+use b3d_spec::Mode;
+use b3d_spec::letters;
 
 // Does nothing: called for its promise alone, that the elements of the slice `s` are bytes. It has no result.
 pub fn are_bytes(s: &[u8])
@@ -35,11 +35,11 @@ pub fn judge(mode: Mode, file: &[u8]) -> Verdict
     if wire::size(wire::number_at(file, 4)) != n - 8 {
         return Verdict::Bad(2, 4);
     }
-    match b3d_judge_body::judge_body(file, mode) {
+    match b3d_judge_file_body::judge_body(file, mode) {
         Verdict::Bad(e, p) => Verdict::Bad(e, p),
         Verdict::Good(x) => {
             are_bytes(file);
-            let over = b3d_limits::over_limit(x.tally);
+            let over = b3d_judge_limits::over_limit(x.tally);
             if over != 0 {
                 return Verdict::Bad(10, over);
             }

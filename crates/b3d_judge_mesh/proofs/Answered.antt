@@ -4,9 +4,9 @@ use Prim.Native.Nat.{ℕ}
 use native.Mathlib.Omega.{arith}
 use lib.ListN.{length}
 use Rattle.layout.specs.Out.{Out, got, bad}
-use Rattle.b3d_scene.specs.Scene.{Mesh}
-use Rattle.b3d_tally.specs.Tally.{meshTally}
-use Rattle.b3d_tally.specs.declared.Tally.{Tally}
+use Rattle.b3d_spec.specs.Scene.{Mesh}
+use Rattle.b3d_judge_tally.specs.Tally.{meshTally}
+use Rattle.b3d_judge_tally.specs.declared.Tally.{Tally}
 use Rattle.b3d_judge_mesh.specs.Answers.{meshed}
 use Rattle.b3d_judge_mesh.specs.declared.Meshed.the-variants as meshes
 

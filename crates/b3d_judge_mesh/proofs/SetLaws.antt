@@ -14,40 +14,40 @@ use Rattle.layout.specs.Out.{Out, got, bad, _>>=_}
 use Rattle.layout.specs.Chunks.{done, stop}
 use Rattle.layout.proofs.Outs.{bind-bind}
 use Rattle.layout.specs.Rows.{mostBytes}
-use Rattle.b3d_scene.specs.declared.Mode.{Mode}
-use Rattle.b3d_scene.specs.declared.Tag.{Tag}
-use Rattle.b3d_scene.specs.declared.Tag.the-variants.{MESH, VRTS}
-use Rattle.b3d_scene.specs.Scene.{TriangleSet, Mesh}
-use Rattle.b3d_scene.specs.Rules.{vertexWords}
-use Rattle.b3d_scene.specs.Nesting.{nesting, start, next as nextTurn, order, reachedAt}
-use Rattle.b3d_scene.specs.Parse.{readOne, Vertices, readVertices, readTriangles, readSets}
-use Rattle.b3d_scene.proofs.Files.TagCodes.{by-tag}
-use Rattle.b3d_chunks.specs.Chunks.{Among as Chunked}
-use Rattle.b3d_chunks.specs.declared.Next.the-variants as next
-use Rattle.b3d_tally.specs.Tally.{noTally, verticesTally, setTally, setsTally, meshTally, plus, Within}
-use Rattle.b3d_inside.specs.Places.{Body, restIn, Among}
-use Rattle.b3d_tally.specs.Answers.{judged, JudgedIn, Judges, judgedFrom}
-use Rattle.b3d_bodies.specs.Answers.{shaped, ShapedIn, Shapes}
-use Rattle.b3d_tally.specs.declared.Tally.{Tally}
-use Rattle.b3d_tally.specs.declared.Judged.{Judged}
-use Rattle.b3d_tally.specs.declared.Judged.the-variants as judge
-use Rattle.b3d_bodies.specs.declared.Shaped.{Shaped}
-use Rattle.b3d_bodies.specs.declared.Shaped.the-variants as shape
-use Rattle.b3d_tally.proofs.Tallies.{within-more, within-plus, within-vertices}
-use Rattle.b3d_turns.specs.declared.Reached.{Reached as State}
-use Rattle.b3d_enclosed.specs.declared.Enclosed.{Enclosed}
-use Rattle.b3d_enclosed.specs.declared.Enclosed.the-variants as enclosed
-use Rattle.b3d_turns.specs.Turns.{reachedOf}
-use Rattle.b3d_enclosed.specs.Steps.{EnclosedIs}
-use Rattle.b3d_enclosed.proofs.Stepping.{step-among, step-turn, stop-before, end-next}
-use Rattle.b3d_bodies.proofs.Going.{Going, going-start, going-refused, going-done, going-place, going-more, going}
+use Rattle.b3d_spec.specs.declared.Mode.{Mode}
+use Rattle.b3d_spec.specs.declared.Tag.{Tag}
+use Rattle.b3d_spec.specs.declared.Tag.the-variants.{MESH, VRTS}
+use Rattle.b3d_spec.specs.Scene.{TriangleSet, Mesh}
+use Rattle.b3d_spec.specs.Rules.{vertexWords}
+use Rattle.b3d_spec.specs.Nesting.{nesting, start, next as nextTurn, order, reachedAt}
+use Rattle.b3d_spec.specs.Parse.{readOne, Vertices, readVertices, readTriangles, readSets}
+use Rattle.b3d_spec.proofs.Files.TagCodes.{by-tag}
+use Rattle.b3d_chunk_cursor.specs.Chunks.{Among as Chunked}
+use Rattle.b3d_chunk_cursor.specs.declared.Next.the-variants as next
+use Rattle.b3d_judge_tally.specs.Tally.{noTally, verticesTally, setTally, setsTally, meshTally, plus, Within}
+use Rattle.b3d_spec_chunk_places.specs.Places.{Body, restIn, Among}
+use Rattle.b3d_judge_tally.specs.Answers.{judged, JudgedIn, Judges, judgedFrom}
+use Rattle.b3d_judge_bodies.specs.Answers.{shaped, ShapedIn, Shapes}
+use Rattle.b3d_judge_tally.specs.declared.Tally.{Tally}
+use Rattle.b3d_judge_tally.specs.declared.Judged.{Judged}
+use Rattle.b3d_judge_tally.specs.declared.Judged.the-variants as judge
+use Rattle.b3d_judge_bodies.specs.declared.Shaped.{Shaped}
+use Rattle.b3d_judge_bodies.specs.declared.Shaped.the-variants as shape
+use Rattle.b3d_judge_tally.proofs.Tallies.{within-more, within-plus, within-vertices}
+use Rattle.b3d_rule_nesting_order.specs.declared.Reached.{Reached as State}
+use Rattle.b3d_chunk_next_allowed.specs.declared.Enclosed.{Enclosed}
+use Rattle.b3d_chunk_next_allowed.specs.declared.Enclosed.the-variants as enclosed
+use Rattle.b3d_rule_nesting_order.specs.Turns.{reachedOf}
+use Rattle.b3d_chunk_next_allowed.specs.Steps.{EnclosedIs}
+use Rattle.b3d_chunk_next_allowed.proofs.Stepping.{step-among, step-turn, stop-before, end-next}
+use Rattle.b3d_judge_bodies.proofs.Going.{Going, going-start, going-refused, going-done, going-place, going-more, going}
 use Rattle.b3d_judge_mesh.specs.Answers.{readAfter, readInside, meshed, MeshedIn, Meshes}
 use Rattle.b3d_judge_mesh.specs.declared.Meshed.{Meshed}
 use Rattle.b3d_judge_mesh.specs.declared.Meshed.the-variants as meshes
-use Rattle.b3d_tally.proofs.Answered.{judged-bad, judged-good}
-use Rattle.b3d_tally.proofs.Chains.{judged-start, judged-more}
-use Rattle.b3d_enclosed.proofs.Rests.{rest-done, rest-step, rest-stop, rest-end, step-body, among-inside, among-head}
-use Rattle.b3d_inside.proofs.TagTests.{never, some-inj}
+use Rattle.b3d_judge_tally.proofs.Answered.{judged-bad, judged-good}
+use Rattle.b3d_judge_tally.proofs.Chains.{judged-start, judged-more}
+use Rattle.b3d_chunk_next_allowed.proofs.Rests.{rest-done, rest-step, rest-stop, rest-end, step-body, among-inside, among-head}
+use Rattle.b3d_spec_chunk_places.proofs.TagTests.{never, some-inj}
 
 -- ---- TRIS after TRIS
 

@@ -3,12 +3,12 @@ use mathlib.Core.Path.{_≡_}
 use Prim.Native.Nat.{ℕ, _≤_, _-_}
 use lib.ListN.{length}
 use Rattle.layout.specs.Out.{Out, got, bad, _>>=_}
-use Rattle.b3d_scene.specs.declared.Mode.{Mode}
-use Rattle.b3d_scene.specs.declared.Tag.the-variants.{VRTS}
-use Rattle.b3d_scene.specs.Tags.{Chunks}
-use Rattle.b3d_scene.specs.Scene.{Mesh}
-use Rattle.b3d_scene.specs.Parse.{readOne, Vertices, noVertices, readVertices, readSets}
-use Rattle.b3d_tally.specs.Tally.{meshTally, Within}
+use Rattle.b3d_spec.specs.declared.Mode.{Mode}
+use Rattle.b3d_spec.specs.declared.Tag.the-variants.{VRTS}
+use Rattle.b3d_spec.specs.Tags.{Chunks}
+use Rattle.b3d_spec.specs.Scene.{Mesh}
+use Rattle.b3d_spec.specs.Parse.{readOne, Vertices, noVertices, readVertices, readSets}
+use Rattle.b3d_judge_tally.specs.Tally.{meshTally, Within}
 use Rattle.b3d_judge_mesh.specs.declared.Meshed.{Meshed}
 use Rattle.b3d_judge_mesh.specs.declared.Meshed.the-variants as mesh
 

@@ -5,20 +5,20 @@ ghost use mathlib.Core.Bool.{true};
 ghost use lib.ListN.{length};
 ghost use Rattle.wire.specs.Cursors.{left};
 ghost use Rattle.layout.specs.Rows.{mostBytes};
-ghost use Rattle.b3d_scene.specs.declared.Tag.the-variants.{MESH};
-ghost use Rattle.b3d_scene.specs.Parse.{readVertices, readSets, readMesh};
-ghost use Rattle.b3d_tally.specs.Tally.{plus, setsTally, verticesTally, Within};
-ghost use Rattle.b3d_inside.specs.Places.{Body, restIn, Among};
-ghost use Rattle.b3d_tally.specs.Answers.{Judges};
-ghost use Rattle.b3d_scene.specs.Nesting.{start, reachedAt};
+ghost use Rattle.b3d_spec.specs.declared.Tag.the-variants.{MESH};
+ghost use Rattle.b3d_spec.specs.Parse.{readVertices, readSets, readMesh};
+ghost use Rattle.b3d_judge_tally.specs.Tally.{plus, setsTally, verticesTally, Within};
+ghost use Rattle.b3d_spec_chunk_places.specs.Places.{Body, restIn, Among};
+ghost use Rattle.b3d_judge_tally.specs.Answers.{Judges};
+ghost use Rattle.b3d_spec.specs.Nesting.{start, reachedAt};
 ghost use Rattle.b3d_judge_mesh.specs.Answers.{readAfter, readInside, Meshes};
-use b3d_bodies::Shaped;
-use b3d_enclosed::Enclosed;
-use b3d_scene::Mode;
-use b3d_scene::Tag;
-use b3d_tally::Judged;
-use b3d_tally::Tally;
-use b3d_turns::Reached;
+use b3d_chunk_next_allowed::Enclosed;
+use b3d_judge_bodies::Shaped;
+use b3d_judge_tally::Judged;
+use b3d_judge_tally::Tally;
+use b3d_rule_nesting_order::Reached;
+use b3d_spec::Mode;
+use b3d_spec::Tag;
 use wire::Cursor;
 use wire::Number;
 
@@ -42,10 +42,10 @@ pub fn judge_sets(s: &[u8], at: usize, from: Cursor, brushes: usize, vertices: u
 {
     let mut c = from;
     let mut q = VRTS_READ;
-    let mut m = b3d_tally::none();
+    let mut m = b3d_judge_tally::none();
     loop {
-        let found = b3d_chunks::next_chunk(s, c);
-        match b3d_enclosed::next_inside(s, c, found, Tag::MESH, at, q) {
+        let found = b3d_chunk_cursor::next_chunk(s, c);
+        match b3d_chunk_next_allowed::next_inside(s, c, found, Tag::MESH, at, q) {
             Enclosed::End => {
                 return Judged::Good(m);
             }
@@ -58,12 +58,12 @@ pub fn judge_sets(s: &[u8], at: usize, from: Cursor, brushes: usize, vertices: u
                 next,
                 reached,
                 ..
-            } => match b3d_bodies::judge_triangles(s, p, body, brushes, vertices) {
+            } => match b3d_judge_bodies::judge_triangles(s, p, body, brushes, vertices) {
                 Judged::Bad(e, i) => {
                     return Judged::Bad(e, i);
                 }
                 Judged::Good(t) => {
-                    m = b3d_tally::plus(m, t);
+                    m = b3d_judge_tally::plus(m, t);
                     q = reached;
                     c = next;
                 }
@@ -77,7 +77,7 @@ pub fn mesh_rows(n: usize, words: usize, sets: Tally) -> Tally
     requires { ⌜ (n ≤ mostBytes) × (words ≤ 42) × Within (verticesTally n words) mostBytes × Within sets mostBytes ⌝ }
     ensures { λ r. ⌜ r ≡ plus (verticesTally n words) sets ⌝ }
 {
-    b3d_tally::plus(b3d_tally::vertices(n, words), sets)
+    b3d_judge_tally::plus(b3d_judge_tally::vertices(n, words), sets)
 }
 
 // Judges a VRTS with its header at `p` and its `body`, and the TRIS from `next` on, of a MESH whose header is at `at`. Returns the mesh's vertices and tally,
@@ -94,7 +94,7 @@ fn judge_shape(
     requires { ⌜ Body p body (length (now s)) × Among at next (length (now s)) × (at + 12 ≤ p) × (body .end ≡ next .at) ⌝ }
     ensures { λ r. ⌜ Meshes (readAfter brushes 0 (readVertices mode p (left body (now (s .entry)))) (restIn (now (s .entry)) MESH at (reachedAt 1 true) next)) at (next .end) r ⌝ }
 {
-    match b3d_bodies::judge_vertices(s, p, body, mode) {
+    match b3d_judge_bodies::judge_vertices(s, p, body, mode) {
         Shaped::Not(e, q) => Meshed::Not(e, q),
         Shaped::Is(n, words) => match judge_sets(s, at, next, brushes, n) {
             Judged::Bad(e, q) => Meshed::Not(e, q),
@@ -109,10 +109,10 @@ fn judge_inside(s: &[u8], at: usize, from: Cursor, brushes: usize, mode: Mode) -
     requires { ⌜ Among at from (length (now s)) × (at + 12 ≤ from .at) ⌝ }
     ensures { λ r. ⌜ Meshes (readInside mode brushes 0 (restIn (now (s .entry)) MESH at start from)) at (from .end) r ⌝ }
 {
-    let found = b3d_chunks::next_chunk(s, from);
-    match b3d_enclosed::first_inside(s, from, found, Tag::MESH, at) {
+    let found = b3d_chunk_cursor::next_chunk(s, from);
+    match b3d_chunk_next_allowed::first_inside(s, from, found, Tag::MESH, at) {
         // No mesh ends here: it owes its VRTS.
-        Enclosed::End => Meshed::Is(0, b3d_tally::none()),
+        Enclosed::End => Meshed::Is(0, b3d_judge_tally::none()),
         Enclosed::Not(e, p) => Meshed::Not(e, p),
         Enclosed::Chunk {
             at: p,
@@ -132,7 +132,7 @@ pub fn judge_mesh(s: &[u8], at: usize, body: Cursor, brushes: usize, mode: Mode)
     match body.number(s) {
         Number::Cut => Meshed::Not(5, body.at),
         Number::Is(brush, c) => {
-            if !id_check::id_named(brush, brushes, true) {
+            if !shared_ids::id_named(brush, brushes, true) {
                 return Meshed::Not(7, body.at);
             }
             judge_inside(s, at, c, brushes, mode)

@@ -6,22 +6,22 @@ use mathlib.Core.List.{List}
 use Rattle.wire.specs.declared.Cursor.{Cursor}
 use Rattle.layout.specs.Out.{Out, got, bad, _>>=_}
 use Rattle.layout.specs.Parts.{named}
-use Rattle.b3d_scene.specs.declared.Mode.{Mode}
-use Rattle.b3d_scene.specs.declared.Tag.the-variants.{NODE}
-use Rattle.b3d_scene.specs.Tags.{Chunks, Found}
-use Rattle.b3d_scene.specs.Scene.{Kind, still, anim, Data}
-use Rattle.b3d_scene.specs.Rules.{nodeRow, boneVertices, ownVertices, animated, bonesFrom, bonesBelow}
-use Rattle.b3d_scene.specs.Nesting.{inside}
-use Rattle.b3d_scene.specs.Parse.{Moves, readKind, readMoves}
-use Rattle.b3d_tally.specs.Tally.{plus, headTally, movesTally, kindTally, dataTally}
-use Rattle.b3d_tally.specs.declared.Tally.{Tally}
+use Rattle.b3d_spec.specs.declared.Mode.{Mode}
+use Rattle.b3d_spec.specs.declared.Tag.the-variants.{NODE}
+use Rattle.b3d_spec.specs.Tags.{Chunks, Found}
+use Rattle.b3d_spec.specs.Scene.{Kind, still, anim, Data}
+use Rattle.b3d_spec.specs.Rules.{nodeRow, boneVertices, ownVertices, animated, bonesFrom, bonesBelow}
+use Rattle.b3d_spec.specs.Nesting.{inside}
+use Rattle.b3d_spec.specs.Parse.{Moves, readKind, readMoves}
+use Rattle.b3d_judge_tally.specs.Tally.{plus, headTally, movesTally, kindTally, dataTally}
+use Rattle.b3d_judge_tally.specs.declared.Tally.{Tally}
 use Rattle.b3d_judge_node.specs.declared.Kinded.{Kinded}
 use Rattle.b3d_judge_node.specs.declared.Kinded.the-variants as kind
 use Rattle.b3d_judge_node.specs.declared.Above.{Above}
 use Rattle.b3d_judge_node.specs.declared.Above.the-variants as above
 use Rattle.b3d_judge_node.specs.declared.Owned.{Owned}
 use Rattle.b3d_judge_node.specs.declared.Owned.the-variants as own
-use Rattle.b3d_tally.specs.Answers.{beside, Onward}
+use Rattle.b3d_judge_tally.specs.Answers.{beside, Onward}
 
 -- the chunks cs inside a NODE up to the nodes below it: its kind, whose bones may name `bones` vertices, its KEYS and ANIM, and the chunks that are left
 unfoldable pub readParts : Mode → ℕ → ℕ → Chunks → Out (Found (Kind × Moves))

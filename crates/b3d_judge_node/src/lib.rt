@@ -5,21 +5,21 @@ ghost use mathlib.Core.Bool.{false};
 ghost use lib.ListN.{length};
 ghost use Rattle.wire.specs.Cursors.{left};
 ghost use Rattle.layout.specs.Rows.{mostBytes};
-ghost use Rattle.b3d_scene.specs.declared.Tag.the-variants.{NODE};
-ghost use Rattle.b3d_scene.specs.Rules.{boneVertices, bonesFrom};
-ghost use Rattle.b3d_scene.specs.Nesting.{start, reachedAt};
-ghost use Rattle.b3d_scene.specs.Parse.{readKind};
-ghost use Rattle.b3d_tally.specs.Tally.{plus, headTally, Within};
-ghost use Rattle.b3d_inside.specs.Places.{Body, restIn, Among};
+ghost use Rattle.b3d_spec.specs.declared.Tag.the-variants.{NODE};
+ghost use Rattle.b3d_spec.specs.Rules.{boneVertices, bonesFrom};
+ghost use Rattle.b3d_spec.specs.Nesting.{start, reachedAt};
+ghost use Rattle.b3d_spec.specs.Parse.{readKind};
+ghost use Rattle.b3d_judge_tally.specs.Tally.{plus, headTally, Within};
+ghost use Rattle.b3d_spec_chunk_places.specs.Places.{Body, restIn, Among};
 ghost use Rattle.b3d_judge_node.specs.Answers.{readParts, readOwn, Kinds, Parted, Owns, aboveOf};
-use b3d_chunks::Named;
-use b3d_enclosed::Enclosed;
+use b3d_chunk_cursor::Named;
+use b3d_chunk_next_allowed::Enclosed;
+use b3d_judge_animation::Motion;
 use b3d_judge_mesh::Meshed;
-use b3d_judge_moves::Motion;
-use b3d_scene::Mode;
-use b3d_scene::Tag;
-use b3d_tally::Judged;
-use b3d_tally::Tally;
+use b3d_judge_tally::Judged;
+use b3d_judge_tally::Tally;
+use b3d_spec::Mode;
+use b3d_spec::Tag;
 use wire::Cursor;
 
 // How many vertices a node's own mesh has, the tally of its kind, and the cursor after it; or a refusal and its place.
@@ -78,9 +78,9 @@ pub fn judge_kind(
     requires { ⌜ Among at from (length (now s)) ⌝ }
     ensures { λ r. ⌜ Kinds (readKind mode brushes bones (restIn (now (s .entry)) NODE at start from)) (restIn (now (s .entry)) NODE at (reachedAt 2 false)) from r ⌝ }
 {
-    let found = b3d_chunks::next_chunk(s, from);
-    match b3d_enclosed::first_inside(s, from, found, Tag::NODE, at) {
-        Enclosed::End => Kinded::To(0, b3d_tally::none(), from),
+    let found = b3d_chunk_cursor::next_chunk(s, from);
+    match b3d_chunk_next_allowed::first_inside(s, from, found, Tag::NODE, at) {
+        Enclosed::End => Kinded::To(0, b3d_judge_tally::none(), from),
         Enclosed::Not(e, p) => Kinded::Not(e, p),
         Enclosed::Chunk {
             tag,
@@ -93,11 +93,11 @@ pub fn judge_kind(
                 Meshed::Not(e, q) => Kinded::Not(e, q),
                 Meshed::Is(own, t) => Kinded::To(own, t, next),
             },
-            Tag::BONE => match b3d_bodies::judge_bone(s, p, body, bones) {
+            Tag::BONE => match b3d_judge_bodies::judge_bone(s, p, body, bones) {
                 Judged::Bad(e, q) => Kinded::Not(e, q),
                 Judged::Good(t) => Kinded::To(0, t, next),
             },
-            _ => Kinded::To(0, b3d_tally::none(), from),
+            _ => Kinded::To(0, b3d_judge_tally::none(), from),
         },
     }
 }
@@ -107,7 +107,7 @@ pub fn own_rows(kind: Tally, moves: Tally) -> Tally
     requires { ⌜ Within kind mostBytes × Within (plus headTally kind) mostBytes × Within moves mostBytes ⌝ }
     ensures { λ r. ⌜ r ≡ plus (plus headTally kind) moves ⌝ }
 {
-    b3d_tally::plus(b3d_tally::plus(b3d_tally::head(), kind), moves)
+    b3d_judge_tally::plus(b3d_judge_tally::plus(b3d_judge_tally::head(), kind), moves)
 }
 
 // Judges the chunks inside a NODE whose header is at `at`, from the cursor `from` up to the nodes below it. Returns what holds for bones below it, its tally
@@ -118,7 +118,7 @@ fn judge_parts(s: &[u8], at: usize, from: Cursor, brushes: usize, above: Above, 
 {
     match judge_kind(s, at, from, brushes, bone_vertices(above), mode) {
         Kinded::Not(e, q) => Owned::Not(e, q),
-        Kinded::To(own, k, c) => match b3d_judge_moves::judge_moves(s, at, c) {
+        Kinded::To(own, k, c) => match b3d_judge_animation::judge_moves(s, at, c) {
             Motion::Not(e, q) => Owned::Not(e, q),
             Motion::To(anim, m, d) => Owned::To(bones_below(above, anim, own), own_rows(k, m), d),
         },
@@ -138,7 +138,7 @@ pub fn judge_own(
     requires { ⌜ Body at body (length (now s)) ⌝ }
     ensures { λ r. ⌜ Owns (aboveOf above) (readOwn mode brushes (aboveOf above) at (left body (now (s .entry)))) (restIn (now (s .entry)) NODE at (reachedAt 3 false)) at body r ⌝ }
 {
-    match b3d_chunks::named_row(s, body, 10) {
+    match b3d_chunk_cursor::named_row(s, body, 10) {
         Named::Cut => Owned::Not(5, body.at),
         Named::Is { next, .. } => judge_parts(s, at, next, brushes, above, mode),
     }

@@ -21,11 +21,11 @@ use Rattle.layout.specs.Out.{check}
 use Rattle.layout.specs.Parts.{wordsOf}
 use Rattle.layout.proofs.Outs.{by-test}
 use Rattle.layout.proofs.StepLaws.{word-of, row-any, any-short}
-use Rattle.b3d_scene.specs.declared.Tag.the-variants.{BB3D}
-use Rattle.b3d_scene.specs.Tags.{code}
-use Rattle.b3d_label_walk.specs.Walk.{Refused, fileIn, labelWalk, noLabel, labelled, labelOf, nameOn}
+use Rattle.b3d_spec.specs.declared.Tag.the-variants.{BB3D}
+use Rattle.b3d_spec.specs.Tags.{code}
+use Rattle.b3d_label_spec.specs.Walk.{Refused, fileIn, labelWalk, noLabel, labelled, labelOf, nameOn}
 use Rattle.b3d_label.specs.Answers.{Labels}
-use Rattle.b3d_label_walk.specs.declared.TrayLabel.{TrayLabel}
+use Rattle.b3d_label_spec.specs.declared.TrayLabel.{TrayLabel}
 use Rattle.b3d_label.proofs.Roots.{label-none}
 
 -- the whole file

@@ -9,9 +9,9 @@ use Rattle.wire.specs.declared.Number.{Number}
 use Rattle.wire.specs.declared.Number.the-variants as number
 use Rattle.layout.specs.Out.{got, bad}
 use Rattle.layout.specs.Parts.{row}
-use Rattle.b3d_cursors.specs.Answers.{numberSays}
-use Rattle.b3d_cursors.proofs.Told.{answered}
-use Rattle.b3d_label_walk.specs.Walk.{oneNumber}
+use Rattle.b3d_chunk_cursor_answers.specs.Answers.{numberSays}
+use Rattle.b3d_chunk_cursor_answers.proofs.Told.{answered}
+use Rattle.b3d_label_spec.specs.Walk.{oneNumber}
 
 module _ (s : List ℕ) (b : Cursor) (i : Inside b (length s)) (r : Number) (e : r ≡ numberAt s b) where
   told : (n : Number) → r ≡ n → row oneNumber (b .at) (left b s) ≡ numberSays s b n

@@ -12,22 +12,22 @@ use Rattle.wire.specs.declared.Number.the-variants as number
 use Rattle.wire.proofs.Found.{number-inside}
 use Rattle.wire.proofs.Left.{left-length}
 use Rattle.layout.specs.Out.{Out, got, bad, _>>=_}
-use Rattle.b3d_scene.specs.declared.Tag.the-variants.{NODE}
-use Rattle.b3d_scene.specs.Tags.{split}
-use Rattle.b3d_scene.specs.Rules.{nodeRow}
-use Rattle.b3d_chunks.specs.Chunks.{namedAt, NamedIn}
-use Rattle.b3d_chunks.specs.declared.Named.{Named}
-use Rattle.b3d_chunks.specs.declared.Named.the-variants as named
-use Rattle.b3d_chunks.proofs.Names.{named-cut, named-any, named-among, after-inside}
-use Rattle.b3d_walk.specs.Seeks.{Seeks}
-use Rattle.b3d_walk.specs.declared.Sought.{Sought}
-use Rattle.b3d_walk.specs.declared.Sought.the-variants as sought
-use Rattle.b3d_walk.proofs.Seeking.{sought-body}
-use Rattle.b3d_label_walk.specs.Walk.{Refused, rootVertices, Printed, rootIn, fileIn, noLabel, labelled}
+use Rattle.b3d_spec.specs.declared.Tag.the-variants.{NODE}
+use Rattle.b3d_spec.specs.Tags.{split}
+use Rattle.b3d_spec.specs.Rules.{nodeRow}
+use Rattle.b3d_chunk_cursor.specs.Chunks.{namedAt, NamedIn}
+use Rattle.b3d_chunk_cursor.specs.declared.Named.{Named}
+use Rattle.b3d_chunk_cursor.specs.declared.Named.the-variants as named
+use Rattle.b3d_chunk_cursor.proofs.Names.{named-cut, named-any, named-among, after-inside}
+use Rattle.b3d_chunk_walk.specs.Seeks.{Seeks}
+use Rattle.b3d_chunk_walk.specs.declared.Sought.{Sought}
+use Rattle.b3d_chunk_walk.specs.declared.Sought.the-variants as sought
+use Rattle.b3d_chunk_walk.proofs.Seeking.{sought-body}
+use Rattle.b3d_label_spec.specs.Walk.{Refused, rootVertices, Printed, rootIn, fileIn, noLabel, labelled}
 use Rattle.b3d_label.specs.Answers.{manySays, onLabel, Labels}
 use Rattle.b3d_label.specs.declared.Many.{Many}
 use Rattle.b3d_label.specs.declared.Many.the-variants as many
-use Rattle.b3d_label_walk.specs.declared.TrayLabel.{TrayLabel}
+use Rattle.b3d_label_spec.specs.declared.TrayLabel.{TrayLabel}
 use Rattle.b3d_label.proofs.Heads.{one-cut, one-got}
 use Rattle.b3d_label.proofs.Seeking.{first-not, first-found}
 

@@ -8,13 +8,13 @@ use Rattle.wire.specs.declared.Cursor.{Cursor}
 use Rattle.layout.specs.Chunks.{done, stop, chunk}
 use Rattle.layout.specs.Out.{got}
 use Rattle.layout.proofs.Outs.{if-yes, if-no, by-test}
-use Rattle.b3d_scene.specs.declared.Tag.{Tag}
-use Rattle.b3d_scene.specs.Tags.{Chunks, code, is}
-use Rattle.b3d_walk.specs.Seeks.{seekOf, ahead, Seeks}
-use Rattle.b3d_walk.specs.declared.Sought.{Sought}
-use Rattle.b3d_walk.specs.declared.Sought.the-variants as sought
-use Rattle.b3d_walk.proofs.Seeking.{sought-none, sought-is, sought-among}
-use Rattle.b3d_label_walk.specs.Walk.{Refused, firstWith}
+use Rattle.b3d_spec.specs.declared.Tag.{Tag}
+use Rattle.b3d_spec.specs.Tags.{Chunks, code, is}
+use Rattle.b3d_chunk_walk.specs.Seeks.{seekOf, ahead, Seeks}
+use Rattle.b3d_chunk_walk.specs.declared.Sought.{Sought}
+use Rattle.b3d_chunk_walk.specs.declared.Sought.the-variants as sought
+use Rattle.b3d_chunk_walk.proofs.Seeking.{sought-none, sought-is, sought-among}
+use Rattle.b3d_label_spec.specs.Walk.{Refused, firstWith}
 
 first-none : (k : Tag) (cs : Chunks) → seekOf k cs ≡ done → Refused (firstWith (code k) cs)
 unfolding seekOf firstWith

@@ -17,22 +17,22 @@ use Rattle.wire.proofs.Left.{span, left-length, left-drop}
 use Rattle.layout.specs.Out.{Out, got, bad, check, _>>=_}
 use Rattle.layout.specs.Parts.{wordsOf, judged, row}
 use Rattle.layout.proofs.StepLaws.{row-enough, row-short, three-left}
-use Rattle.b3d_scene.specs.declared.Tag.{Tag}
-use Rattle.b3d_scene.specs.declared.Tag.the-variants.{MESH, VRTS}
-use Rattle.b3d_scene.specs.Tags.{code, split}
-use Rattle.b3d_scene.specs.Rules.{verticesHead, vertexWords}
-use Rattle.b3d_chunks.specs.Chunks.{NextIs}
-use Rattle.b3d_items.specs.Items.{dividedAt}
-use Rattle.b3d_items.specs.declared.Counted.{Counted}
-use Rattle.b3d_items.specs.declared.Counted.the-variants as counts
-use Rattle.b3d_chunks.specs.declared.Next.{Next}
-use Rattle.b3d_chunks.specs.declared.Next.the-variants as next
-use Rattle.b3d_chunks.proofs.Nexts.{chunk-is, chunk-among, body-inside, cut-is, done-is}
-use Rattle.b3d_walk.specs.Seeks.{Seeks}
-use Rattle.b3d_walk.specs.declared.Sought.{Sought}
-use Rattle.b3d_walk.specs.declared.Sought.the-variants as sought
-use Rattle.b3d_walk.proofs.Seeking.{sought-body}
-use Rattle.b3d_label_walk.specs.Walk.{vrtsVertices, meshVertices, rootVertices}
+use Rattle.b3d_spec.specs.declared.Tag.{Tag}
+use Rattle.b3d_spec.specs.declared.Tag.the-variants.{MESH, VRTS}
+use Rattle.b3d_spec.specs.Tags.{code, split}
+use Rattle.b3d_spec.specs.Rules.{verticesHead, vertexWords}
+use Rattle.b3d_chunk_cursor.specs.Chunks.{NextIs}
+use Rattle.b3d_judge_items.specs.Items.{dividedAt}
+use Rattle.b3d_judge_items.specs.declared.Counted.{Counted}
+use Rattle.b3d_judge_items.specs.declared.Counted.the-variants as counts
+use Rattle.b3d_chunk_cursor.specs.declared.Next.{Next}
+use Rattle.b3d_chunk_cursor.specs.declared.Next.the-variants as next
+use Rattle.b3d_chunk_cursor.proofs.Nexts.{chunk-is, chunk-among, body-inside, cut-is, done-is}
+use Rattle.b3d_chunk_walk.specs.Seeks.{Seeks}
+use Rattle.b3d_chunk_walk.specs.declared.Sought.{Sought}
+use Rattle.b3d_chunk_walk.specs.declared.Sought.the-variants as sought
+use Rattle.b3d_chunk_walk.proofs.Seeking.{sought-body}
+use Rattle.b3d_label_spec.specs.Walk.{vrtsVertices, meshVertices, rootVertices}
 use Rattle.b3d_label.specs.Answers.{manySays, onLabel}
 use Rattle.b3d_label.specs.declared.Many.{Many}
 use Rattle.b3d_label.specs.declared.Many.the-variants as many

@@ -2,10 +2,10 @@
 use mathlib.Core.Path.{_≡_}
 use Prim.Native.Nat.{ℕ, _+_, _≤_}
 use Rattle.layout.specs.Out.{Out, got, bad}
-use Rattle.b3d_label_walk.specs.Walk.{Printed, labelled}
+use Rattle.b3d_label_spec.specs.Walk.{Printed, labelled}
 use Rattle.b3d_label.specs.declared.Many.{Many}
 use Rattle.b3d_label.specs.declared.Many.the-variants as many
-use Rattle.b3d_label_walk.specs.declared.TrayLabel.{TrayLabel}
+use Rattle.b3d_label_spec.specs.declared.TrayLabel.{TrayLabel}
 
 -- ---- vertices
 

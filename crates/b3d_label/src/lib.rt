@@ -4,16 +4,16 @@ ghost use mathlib.Core.Path.{_≡_};
 ghost use Prim.Native.Nat.{_+_, _≤_};
 ghost use lib.ListN.{length};
 ghost use Rattle.wire.specs.Cursors.{Inside, left};
-ghost use Rattle.b3d_scene.specs.Tags.{split};
-ghost use Rattle.b3d_label_walk.specs.Walk.{vrtsVertices, meshVertices, rootVertices, rootIn, fileIn, noLabel, labelOf, nameOn};
+ghost use Rattle.b3d_spec.specs.Tags.{split};
+ghost use Rattle.b3d_label_spec.specs.Walk.{vrtsVertices, meshVertices, rootVertices, rootIn, fileIn, noLabel, labelOf, nameOn};
 ghost use Rattle.b3d_label.specs.Answers.{manySays, onLabel, Labels};
-use b3d_chunks::Named;
-use b3d_chunks::Next;
-use b3d_items::Counted;
-use b3d_label_walk::TrayLabel;
-use b3d_scene::Tag;
-use b3d_scene::letters;
-use b3d_walk::Sought;
+use b3d_chunk_cursor::Named;
+use b3d_chunk_cursor::Next;
+use b3d_chunk_walk::Sought;
+use b3d_judge_items::Counted;
+use b3d_label_spec::TrayLabel;
+use b3d_spec::Tag;
+use b3d_spec::letters;
 use wire::Cursor;
 use wire::Header;
 use wire::Number;
@@ -46,12 +46,12 @@ fn vrts_vertices(s: &[u8], body: Cursor) -> Many
     if 4 < size {
         return Many::Not;
     }
-    let words = b3d_widths::vertex_words(flags, sets, size);
+    let words = b3d_rule_widths::vertex_words(flags, sets, size);
     let items = Cursor {
         at: start + 12,
         end,
     };
-    match b3d_items::whole_items(items, words) {
+    match b3d_judge_items::whole_items(items, words) {
         Counted::Not(_, _) => Many::Not,
         Counted::Is(count) => Many::Are(count),
     }
@@ -64,7 +64,7 @@ fn mesh_vertices(s: &[u8], body: Cursor) -> Many
 {
     match body.number(s) {
         Number::Cut => Many::Not,
-        Number::Is(_, inside) => match b3d_walk::seek(s, inside, Tag::VRTS) {
+        Number::Is(_, inside) => match b3d_chunk_walk::seek(s, inside, Tag::VRTS) {
             Sought::Nothing => Many::Not,
             Sought::Found { body: vrts, .. } => vrts_vertices(s, vrts),
         },
@@ -76,11 +76,11 @@ fn root_vertices(s: &[u8], from: Cursor) -> Many
     requires { ⌜ Inside from (length (now s)) ⌝ }
     ensures { λ r. ⌜ manySays r ≡ onLabel (rootVertices (split (from .at) (left from (now (s .entry))))) ⌝ }
 {
-    match b3d_chunks::next_chunk(s, from) {
+    match b3d_chunk_cursor::next_chunk(s, from) {
         Next::Done => Many::Are(0),
         Next::Cut(_) => Many::Not,
         Next::Chunk { tag, body, .. } => {
-            if b3d_chunks::letters(tag) == letters::MESH {
+            if b3d_chunk_cursor::letters(tag) == letters::MESH {
                 return mesh_vertices(s, body);
             }
             Many::Are(0)
@@ -106,7 +106,7 @@ fn root_label(s: &[u8], body: Cursor) -> TrayLabel
     requires { ⌜ Inside body (length (now s)) ⌝ }
     ensures { λ r. ⌜ Labels (rootIn (body .at) (left body (now (s .entry)))) (length (now (s .entry))) r ⌝ }
 {
-    match b3d_chunks::named_row(s, body, 10) {
+    match b3d_chunk_cursor::named_row(s, body, 10) {
         Named::Cut => refused(),
         Named::Is { length, next, .. } => match root_vertices(s, next) {
             Many::Not => refused(),
@@ -128,7 +128,7 @@ fn file_label(s: &[u8], body: Cursor) -> TrayLabel
 {
     match body.number(s) {
         Number::Cut => refused(),
-        Number::Is(_, inside) => match b3d_walk::seek(s, inside, Tag::NODE) {
+        Number::Is(_, inside) => match b3d_chunk_walk::seek(s, inside, Tag::NODE) {
             Sought::Nothing => refused(),
             Sought::Found { body: root, .. } => root_label(s, root),
         },

@@ -1,24 +1,2 @@
-pub mod Exact
-pub mod Computing
-pub mod EditLaws
-pub mod Agreeing
-pub mod PartLaws
-pub mod LeafLaws
-pub mod PieceLaws
-pub mod StageLaws
-pub mod NodeLaws
-pub mod FileTags
-pub mod FileLaws
-pub mod QuietParts
-pub mod QuietLeaves
-pub mod QuietStages
-pub mod QuietFile
-pub mod EntryLaws
-pub mod ReportLaws
-pub mod StepLaws
-pub mod RefusalLaws
-pub mod Cases
-pub mod WalkLaws
-pub mod TreeLaws
-pub mod FileWalk
-pub mod Laws
+-- The laws of the mender.
+pub mod MendLaws

@@ -4,10 +4,10 @@ use mathlib.Core.List.{List, [], _∷_, _++_, map}
 use Prim.Native.Nat.{ℕ}
 use Rattle.layout.specs.Rules.{NONE}
 use Rattle.layout.specs.Write.{writeWords}
-use Rattle.b3d_scene.proofs.Cases.{zeros, file, T-with, T}
-use Rattle.b3d_scene.specs.Tags.{code}
-use Rattle.b3d_scene.specs.declared.Tag.the-variants.{BRUS, NODE, MESH, TRIS}
-use Rattle.b3d_mend.proofs.Computing.{mend-computing}
+use Rattle.b3d_spec.proofs.Cases.{zeros, file, T-with, T}
+use Rattle.b3d_spec.specs.Tags.{code}
+use Rattle.b3d_spec.specs.declared.Tag.the-variants.{BRUS, NODE, MESH, TRIS}
+use Rattle.b3d_mend_spec.proofs.Computing.{mend-computing}
 use Rattle.b3d_mend_faults.specs.Faults.{Fault, mendable, other, listed, plainly, numberFault, itemFault, numberFaults, rowFaults, brushFaults, itemFaultsIn, itemFaults, textureFaults, brushesFaults, vertexFaults, triangleFaults, boneFaults, found, onwardFrom, inOrder, within, oneFaults, setFaults, meshFaults, kindFaults, moveFaults, nodesFaults, nodeFaults, endFaults, bodyFaults, lengthFault, fileFaults, faults}
 
 pub record Case : Type 0 where

@@ -9,12 +9,12 @@ use lib.ListN.{drop, length-take}
 use lib.Dec.{ltb, ltb→lt, nltb→le}
 use Rattle.layout.specs.Parts.{Name, Step}
 use Rattle.layout.proofs.Outs.{by-test, got-inj}
-use Rattle.b3d_scene.specs.declared.Tag.{Tag}
-use Rattle.b3d_scene.specs.declared.Tag.the-variants.{BB3D, TEXS, BRUS, NODE, MESH, VRTS, TRIS, BONE, KEYS, ANIM}
-use Rattle.b3d_scene.specs.Rules.{nodeRow}
-use Rattle.b3d_faults.specs.ByHeaders.{tagAt, endOf, part, Begin}
-use Rattle.b3d_faults.proofs.Opening.{begin-later}
-use Rattle.b3d_faults.proofs.Steps.{named-onward}
+use Rattle.b3d_spec.specs.declared.Tag.{Tag}
+use Rattle.b3d_spec.specs.declared.Tag.the-variants.{BB3D, TEXS, BRUS, NODE, MESH, VRTS, TRIS, BONE, KEYS, ANIM}
+use Rattle.b3d_spec.specs.Rules.{nodeRow}
+use Rattle.b3d_rule_refusal_places.specs.ByHeaders.{tagAt, endOf, part, Begin}
+use Rattle.b3d_rule_refusal_places.proofs.Opening.{begin-later}
+use Rattle.b3d_rule_refusal_places.proofs.Steps.{named-onward}
 use Rattle.b3d_mend_faults.specs.Headers.{Due, first, behind, inside, Spare, Past}
 
 order-of : (a b : ℕ) → (a < b) ⊎ ((a ≡ b) ⊎ (b < a))

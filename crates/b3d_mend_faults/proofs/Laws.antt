@@ -10,14 +10,14 @@ use lib.Dec.{leb}
 use Rattle.layout.specs.Out.{Out, got, bad, check, _>>=_}
 use Rattle.layout.specs.Rows.{eachOf}
 use Rattle.layout.proofs.Outs.{bad-got}
-use Rattle.b3d_scene.specs.declared.Mode.the-variants.{Lenient}
-use Rattle.b3d_scene.specs.Answers.{judge}
-use Rattle.b3d_scene.specs.Parse.{parse}
-use Rattle.b3d_scene.specs.Rules.{rowLimit}
-use Rattle.b3d_scene.specs.Scene.{Scene}
-use Rattle.b3d_scene.specs.Tables.{rows, tables}
-use Rattle.b3d_mend.specs.Mend.{Mended, mendFile}
-use Rattle.b3d_mend.specs.Report.{Mending, mending, mendJudged, roomForBoth, mendInto}
+use Rattle.b3d_spec.specs.declared.Mode.the-variants.{Lenient}
+use Rattle.b3d_spec.specs.Answers.{judge}
+use Rattle.b3d_spec.specs.Parse.{parse}
+use Rattle.b3d_spec.specs.Rules.{rowLimit}
+use Rattle.b3d_spec.specs.Scene.{Scene}
+use Rattle.b3d_spec.specs.Tables.{rows, tables}
+use Rattle.b3d_mend_spec.specs.Mend.{Mended, mendFile}
+use Rattle.b3d_mend_spec.specs.Report.{Mending, mending, mendJudged, roomForBoth, mendInto}
 use Rattle.b3d_mend_faults.specs.Faults.{Fault, Reading, gives, ends, passes, listed, fileFaults, faults}
 use Rattle.b3d_mend_faults.specs.Headers.{Spare, Past}
 use Rattle.b3d_mend_faults.specs.FirstFault.{refusalBy, others, refusalOf, FirstFault}

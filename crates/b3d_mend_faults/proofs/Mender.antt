@@ -12,17 +12,17 @@ use Rattle.layout.specs.Parts.{Step, text, words, row, number, named, items}
 use Rattle.layout.specs.Rows.{sizeFits}
 use Rattle.layout.specs.Rules.{Rule, holds}
 use Rattle.layout.proofs.Outs.{if-case}
-use Rattle.b3d_scene.specs.declared.Mode.the-variants.{Lenient}
-use Rattle.b3d_scene.specs.declared.Tag.{Tag}
-use Rattle.b3d_scene.specs.declared.Tag.the-variants.{BB3D, TEXS, BRUS, NODE, MESH, VRTS, BONE, KEYS, ANIM}
-use Rattle.b3d_scene.specs.Nesting.{start, order}
-use Rattle.b3d_scene.specs.Parse.{readTextures, Vertices, noVertices, readVertices, readKeys, readAnim, Inner}
-use Rattle.b3d_scene.specs.Rules.{brushRow, brushIds, nodeRow, triangleRow, weightRow, animated, boneVertices, bonesFrom, bonesBelow, levels, header, fileHead, brushesHead, meshHead, trianglesHead}
-use Rattle.b3d_scene.specs.Scene.{Texture, Brush, Mesh, Anim, still, anim, leaf}
-use Rattle.b3d_scene.specs.Tags.{code, is, Chunks}
-use Rattle.b3d_mend.specs.Edits.{keep}
-use Rattle.b3d_mend.specs.Mend.{Mended, mayBeNone, mendWord, andWords, mendWords, mendRow, mendNamed, mendItem, gathered, mendItems, asRead, oneBrush, mendBrush, mendBrushes, mendTriangles, mendBone, Taken, found, mendOne, mendSets, meshOf, mendMesh, mendKind, withKeys, withAnim, mendMoves, mendNodes, dataOf, mendNode, mendRoot, mendBody, mendFile}
-use Rattle.b3d_mend.specs.Pieces.{pieces, chunksOf}
+use Rattle.b3d_spec.specs.declared.Mode.the-variants.{Lenient}
+use Rattle.b3d_spec.specs.declared.Tag.{Tag}
+use Rattle.b3d_spec.specs.declared.Tag.the-variants.{BB3D, TEXS, BRUS, NODE, MESH, VRTS, BONE, KEYS, ANIM}
+use Rattle.b3d_spec.specs.Nesting.{start, order}
+use Rattle.b3d_spec.specs.Parse.{readTextures, Vertices, noVertices, readVertices, readKeys, readAnim, Inner}
+use Rattle.b3d_spec.specs.Rules.{brushRow, brushIds, nodeRow, triangleRow, weightRow, animated, boneVertices, bonesFrom, bonesBelow, levels, header, fileHead, brushesHead, meshHead, trianglesHead}
+use Rattle.b3d_spec.specs.Scene.{Texture, Brush, Mesh, Anim, still, anim, leaf}
+use Rattle.b3d_spec.specs.Tags.{code, is, Chunks}
+use Rattle.b3d_mend_spec.specs.Edits.{keep}
+use Rattle.b3d_mend_spec.specs.Mend.{Mended, mayBeNone, mendWord, andWords, mendWords, mendRow, mendNamed, mendItem, gathered, mendItems, asRead, oneBrush, mendBrush, mendBrushes, mendTriangles, mendBone, Taken, found, mendOne, mendSets, meshOf, mendMesh, mendKind, withKeys, withAnim, mendMoves, mendNodes, dataOf, mendNode, mendRoot, mendBody, mendFile}
+use Rattle.b3d_mend_spec.specs.Pieces.{pieces, chunksOf}
 use Rattle.b3d_mend_faults.specs.Faults.{Reading, gives, _>>=_, plainly, numberFault, itemFault, numberFaults, rowFaults, brushFaults, itemFaults, textureFaults, brushesFaults, vertexFaults, triangleFaults, boneFaults, Within, finished, refused, spareAt, chunkAt, within, Part, oneFaults, setFaults, meshFaults, kindFaults, moveFaults, nodesFaults, nodeFaults, bodyFaults, lengthFault, fileFaults}
 use Rattle.b3d_mend_faults.proofs.Agreeing.{Agrees, Any, bind-agrees, more-agrees, weak-agrees, same-agrees, plain-agrees, if-agrees, moved, At}
 use Rattle.b3d_mend_faults.proofs.Shared.{items-agree, Own, Moving, seen, chunks-seen, end-agrees}

@@ -11,15 +11,15 @@ use Rattle.layout.specs.Out.{Out, bad, check}
 use Rattle.layout.specs.Parts.{Step, text, words, judged, row, number, named, items}
 use Rattle.layout.specs.Rows.{sizeFits}
 use Rattle.layout.specs.Rules.{Rule, holds, refusal}
-use Rattle.b3d_scene.specs.declared.Mode.the-variants.{Lenient}
-use Rattle.b3d_scene.specs.declared.Tag.{Tag}
-use Rattle.b3d_scene.specs.declared.Tag.the-variants.{BB3D, TEXS, BRUS, NODE, MESH, VRTS, BONE, KEYS, ANIM}
-use Rattle.b3d_scene.specs.Nesting.{inside}
-use Rattle.b3d_scene.specs.Parse.{readOne, readTextures, readBrush, readBrushes, Vertices, noVertices, readVertices, readTriangles, readSets, readMesh, readBone, readKeys, readAnim, aMesh, aBone, readKind, withKeys, readMoves, Inner, readNodes, readBelow, readNode, readRoot, readBody, parse}
-use Rattle.b3d_scene.specs.Rules.{brushRow, brushIds, nodeRow, triangleRow, weightRow, animated, boneVertices, bonesFrom, bonesBelow, levels, header, fileHead, brushesHead, meshHead, trianglesHead}
-use Rattle.b3d_scene.specs.Scene.{Brush, Mesh, Anim, still, anim, Data, leaf}
-use Rattle.b3d_scene.specs.Tags.{code, is, Chunks, Found}
-use Rattle.b3d_mend.specs.Mend.{mayBeNone}
+use Rattle.b3d_spec.specs.declared.Mode.the-variants.{Lenient}
+use Rattle.b3d_spec.specs.declared.Tag.{Tag}
+use Rattle.b3d_spec.specs.declared.Tag.the-variants.{BB3D, TEXS, BRUS, NODE, MESH, VRTS, BONE, KEYS, ANIM}
+use Rattle.b3d_spec.specs.Nesting.{inside}
+use Rattle.b3d_spec.specs.Parse.{readOne, readTextures, readBrush, readBrushes, Vertices, noVertices, readVertices, readTriangles, readSets, readMesh, readBone, readKeys, readAnim, aMesh, aBone, readKind, withKeys, readMoves, Inner, readNodes, readBelow, readNode, readRoot, readBody, parse}
+use Rattle.b3d_spec.specs.Rules.{brushRow, brushIds, nodeRow, triangleRow, weightRow, animated, boneVertices, bonesFrom, bonesBelow, levels, header, fileHead, brushesHead, meshHead, trianglesHead}
+use Rattle.b3d_spec.specs.Scene.{Brush, Mesh, Anim, still, anim, Data, leaf}
+use Rattle.b3d_spec.specs.Tags.{code, is, Chunks, Found}
+use Rattle.b3d_mend_spec.specs.Mend.{mayBeNone}
 use Rattle.b3d_mend_faults.specs.Faults.{Reading, gives, numberFault, itemFault, numberFaults, rowFaults, brushFaults, itemFaults, textureFaults, brushesFaults, vertexFaults, triangleFaults, boneFaults, Within, finished, refused, spareAt, chunkAt, within, Part, oneFaults, setFaults, meshFaults, kindFaults, moveFaults, nodesFaults, nodeFaults, bodyFaults, lengthFault, fileFaults}
 use Rattle.b3d_mend_faults.proofs.Agreeing.{Agrees, Any, bind-agrees, more-agrees, weak-agrees, same-agrees, plain-agrees, if-agrees, either-agrees, moved, At}
 use Rattle.b3d_mend_faults.proofs.Shared.{items-agree, Own, Moving, seen, inside-seen, end-agrees}

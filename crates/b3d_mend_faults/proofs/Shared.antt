@@ -9,14 +9,14 @@ use Rattle.wire.specs.Test.{if}
 use Rattle.layout.specs.Chunks.{done, stop, chunk, ended}
 use Rattle.layout.specs.Out.{Out}
 use Rattle.layout.specs.Parts.{Step, itemsIn, items}
-use Rattle.b3d_scene.specs.declared.Tag.{Tag}
-use Rattle.b3d_scene.specs.Nesting.{nesting, Reached, start, owed, end, next, onward, order, inside}
-use Rattle.b3d_scene.specs.Parse.{Moves}
-use Rattle.b3d_scene.specs.Rules.{ownVertices, animated}
-use Rattle.b3d_scene.specs.Scene.{Kind}
-use Rattle.b3d_scene.specs.Tags.{Chunks}
-use Rattle.b3d_mend.specs.Pieces.{Pieces, none-left, spare, past, other, known, pieces, chunksOf}
-use Rattle.b3d_mend.proofs.QuietLeaves.{strictOf, split-strict}
+use Rattle.b3d_spec.specs.declared.Tag.{Tag}
+use Rattle.b3d_spec.specs.Nesting.{nesting, Reached, start, owed, end, next, onward, order, inside}
+use Rattle.b3d_spec.specs.Parse.{Moves}
+use Rattle.b3d_spec.specs.Rules.{ownVertices, animated}
+use Rattle.b3d_spec.specs.Scene.{Kind}
+use Rattle.b3d_spec.specs.Tags.{Chunks}
+use Rattle.b3d_mend_spec.specs.Pieces.{Pieces, none-left, spare, past, other, known, pieces, chunksOf}
+use Rattle.b3d_mend_spec.proofs.QuietLeaves.{strictOf, split-strict}
 use Rattle.b3d_mend_faults.specs.Faults.{Reading, endFaults, itemFaultsIn, itemFaults, Within, finished, refused, spareAt, chunkAt, found, onwardFrom, inOrder, within}
 use Rattle.b3d_mend_faults.proofs.Agreeing.{Agrees, Any, bind-agrees, moved, At}
 

@@ -19,21 +19,21 @@ use Rattle.layout.proofs.HeldLaws.{word-in}
 use Rattle.layout.proofs.Outs.{by-got}
 use Rattle.layout.proofs.PlaceLaws.{At, at-four, at-eight, at-take, at-drop, words-at, named-at}
 use Rattle.layout.proofs.StepLaws.{judged-got}
-use Rattle.b3d_scene.specs.declared.Mode.the-variants.{Lenient}
-use Rattle.b3d_scene.specs.declared.Tag.{Tag}
-use Rattle.b3d_scene.specs.declared.Tag.the-variants.{BB3D, TEXS, BRUS, NODE, MESH, VRTS, KEYS, ANIM}
-use Rattle.b3d_scene.specs.Nesting.{nesting, Reached, start, reachedAt, owed, end, next}
-use Rattle.b3d_scene.specs.Parse.{readTextures, readVertices, readKeys, readAnim}
-use Rattle.b3d_scene.specs.Rules.{brushRow, brushIds, nodeRow, triangleRow, weightRow, boneVertices, bonesFrom, levels, header, fileHead, brushesHead, meshHead, trianglesHead}
-use Rattle.b3d_scene.specs.Tags.{code, is, tagOf}
-use Rattle.b3d_scene.proofs.Files.BodyRefusals as refusals
-use Rattle.b3d_scene.proofs.Files.Entries.{Either, same-tag}
-use Rattle.b3d_scene.proofs.Files.TagCodes.{by-tag}
-use Rattle.b3d_faults.specs.ByHeaders.{tagAt, endOf}
-use Rattle.b3d_faults.proofs.Coloured.{part-is}
-use Rattle.b3d_faults.proofs.Steps.{words-onward, words-to, named-onward}
-use Rattle.b3d_mend.specs.Mend.{mayBeNone}
-use Rattle.b3d_mend.specs.Pieces.{Pieces, past, piece, piecesIn, pieces}
+use Rattle.b3d_spec.specs.declared.Mode.the-variants.{Lenient}
+use Rattle.b3d_spec.specs.declared.Tag.{Tag}
+use Rattle.b3d_spec.specs.declared.Tag.the-variants.{BB3D, TEXS, BRUS, NODE, MESH, VRTS, KEYS, ANIM}
+use Rattle.b3d_spec.specs.Nesting.{nesting, Reached, start, reachedAt, owed, end, next}
+use Rattle.b3d_spec.specs.Parse.{readTextures, readVertices, readKeys, readAnim}
+use Rattle.b3d_spec.specs.Rules.{brushRow, brushIds, nodeRow, triangleRow, weightRow, boneVertices, bonesFrom, levels, header, fileHead, brushesHead, meshHead, trianglesHead}
+use Rattle.b3d_spec.specs.Tags.{code, is, tagOf}
+use Rattle.b3d_spec.proofs.Files.BodyRefusals as refusals
+use Rattle.b3d_spec.proofs.Files.Entries.{Either, same-tag}
+use Rattle.b3d_spec.proofs.Files.TagCodes.{by-tag}
+use Rattle.b3d_rule_refusal_places.specs.ByHeaders.{tagAt, endOf}
+use Rattle.b3d_rule_refusal_places.proofs.Coloured.{part-is}
+use Rattle.b3d_rule_refusal_places.proofs.Steps.{words-onward, words-to, named-onward}
+use Rattle.b3d_mend_spec.specs.Mend.{mayBeNone}
+use Rattle.b3d_mend_spec.specs.Pieces.{Pieces, past, piece, piecesIn, pieces}
 use Rattle.b3d_mend_faults.specs.Faults.{Fault, mendable, other, Reading, gives, ends, passes, _>>=_, plainly, numberFault, itemFault, numberFaults, rowFaults, brushFaults, itemFaultsIn, itemFaults, textureFaults, brushesFaults, vertexFaults, triangleFaults, boneFaults, Within, finished, refused, spareAt, chunkAt, found, onwardFrom, inOrder, within, Part, oneFaults, setFaults, meshFaults, kindFaults, moveFaults, nodesFaults, nodeFaults, endFaults, bodyFaults, lengthFault, fileFaults}
 use Rattle.b3d_mend_faults.specs.Headers.{Due, first, behind, inside, Spare, Past}
 

@@ -12,15 +12,15 @@ use Rattle.layout.specs.Out.{Out, got, bad, check}
 use Rattle.layout.specs.Parts.{Step, text, words, row, number, named}
 use Rattle.layout.specs.Rows.{sizeFits}
 use Rattle.layout.specs.Rules.{Rule, holds, refusal}
-use Rattle.b3d_scene.specs.declared.Mode.the-variants.{Lenient}
-use Rattle.b3d_scene.specs.declared.Tag.{Tag}
-use Rattle.b3d_scene.specs.declared.Tag.the-variants.{BB3D, TEXS, BRUS, NODE, MESH, VRTS, BONE, KEYS, ANIM}
-use Rattle.b3d_scene.specs.Nesting.{nesting, Reached, start, owed, end, next}
-use Rattle.b3d_scene.specs.Parse.{readTextures, readVertices, readKeys, readAnim}
-use Rattle.b3d_scene.specs.Rules.{brushRow, brushIds, nodeRow, triangleRow, weightRow, boneVertices, bonesFrom, levels, header, fileHead, brushesHead, meshHead, trianglesHead}
-use Rattle.b3d_scene.specs.Tags.{code, is}
-use Rattle.b3d_mend.specs.Mend.{mayBeNone}
-use Rattle.b3d_mend.specs.Pieces.{Pieces, none-left, spare, past, other as unknown, known, pieces}
+use Rattle.b3d_spec.specs.declared.Mode.the-variants.{Lenient}
+use Rattle.b3d_spec.specs.declared.Tag.{Tag}
+use Rattle.b3d_spec.specs.declared.Tag.the-variants.{BB3D, TEXS, BRUS, NODE, MESH, VRTS, BONE, KEYS, ANIM}
+use Rattle.b3d_spec.specs.Nesting.{nesting, Reached, start, owed, end, next}
+use Rattle.b3d_spec.specs.Parse.{readTextures, readVertices, readKeys, readAnim}
+use Rattle.b3d_spec.specs.Rules.{brushRow, brushIds, nodeRow, triangleRow, weightRow, boneVertices, bonesFrom, levels, header, fileHead, brushesHead, meshHead, trianglesHead}
+use Rattle.b3d_spec.specs.Tags.{code, is}
+use Rattle.b3d_mend_spec.specs.Mend.{mayBeNone}
+use Rattle.b3d_mend_spec.specs.Pieces.{Pieces, none-left, spare, past, other as unknown, known, pieces}
 
 -- ---- faults
 

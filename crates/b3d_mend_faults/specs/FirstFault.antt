@@ -4,11 +4,11 @@ use mathlib.Core.Path.{_≡_}
 use Prim.Native.Nat.{ℕ, _≤_}
 use mathlib.Core.List.{List, [], _∷_}
 use Rattle.layout.specs.Out.{Out, got, bad}
-use Rattle.b3d_scene.specs.declared.Mode.the-variants.{Lenient}
-use Rattle.b3d_scene.specs.Answers.{judge}
-use Rattle.b3d_scene.specs.Parse.{parse}
-use Rattle.b3d_mend.specs.Mend.{mendFile}
-use Rattle.b3d_mend.specs.Report.{mendInto}
+use Rattle.b3d_spec.specs.declared.Mode.the-variants.{Lenient}
+use Rattle.b3d_spec.specs.Answers.{judge}
+use Rattle.b3d_spec.specs.Parse.{parse}
+use Rattle.b3d_mend_spec.specs.Mend.{mendFile}
+use Rattle.b3d_mend_spec.specs.Report.{mendInto}
 use Rattle.b3d_mend_faults.specs.Faults.{Fault, mendable, other, faults}
 use Rattle.b3d_mend_faults.specs.Headers.{Spare, Past}
 

@@ -4,8 +4,8 @@ use mathlib.Core.Path.{_≡_}
 use mathlib.Core.Option.{some}
 use mathlib.Core.List.{List}
 use lib.ListN.{length}
-use Rattle.b3d_scene.specs.declared.Tag.{Tag}
-use Rattle.b3d_faults.specs.ByHeaders.{tagAt, endOf, Begin}
+use Rattle.b3d_spec.specs.declared.Tag.{Tag}
+use Rattle.b3d_rule_refusal_places.specs.ByHeaders.{tagAt, endOf, Begin}
 
 -- a chunk may begin at place h, inside a BB3D, a NODE or a MESH that ends at `last`
 pub data Due (s : List ℕ) : ℕ → ℕ → Type 0 where

@@ -10,26 +10,26 @@ use Rattle.wire.specs.declared.Number.{Number}
 use Rattle.wire.specs.declared.Number.the-variants as number
 use Rattle.layout.specs.Out.{Out, got, _>>=_}
 use Rattle.layout.proofs.Outs.{bind-cong, bind-bind}
-use Rattle.b3d_scene.specs.declared.Mode.the-variants.{Lenient}
-use Rattle.b3d_scene.specs.declared.Tag.the-variants.{BB3D, TEXS, BRUS, NODE}
+use Rattle.b3d_spec.specs.declared.Mode.the-variants.{Lenient}
+use Rattle.b3d_spec.specs.declared.Tag.the-variants.{BB3D, TEXS, BRUS, NODE}
 use Rattle.layout.specs.Chunks.{done, stop, chunk, ended}
 use Rattle.layout.specs.Rows.{mostBytes}
-use Rattle.b3d_scene.specs.Tags.{Chunks, Found}
-use Rattle.b3d_scene.specs.Scene.{Texture, Brush, Forest, leaf, Scene}
-use Rattle.b3d_scene.specs.Rules.{version}
-use Rattle.b3d_scene.specs.Nesting.{start}
-use Rattle.b3d_scene.specs.Parse.{readOne, readTextures, readBrushes, slotsOf}
-use Rattle.b3d_inside.specs.Places.{Body, restIn, Among}
-use Rattle.b3d_inside.proofs.Heads.{head-cut, head-numbered, head-over, head-within}
-use Rattle.b3d_tally.proofs.Tallies.{within-more}
-use Rattle.b3d_judge_body.proofs.BodyLaws.{behind, left-behind}
+use Rattle.b3d_spec.specs.Tags.{Chunks, Found}
+use Rattle.b3d_spec.specs.Scene.{Texture, Brush, Forest, leaf, Scene}
+use Rattle.b3d_spec.specs.Rules.{version}
+use Rattle.b3d_spec.specs.Nesting.{start}
+use Rattle.b3d_spec.specs.Parse.{readOne, readTextures, readBrushes, slotsOf}
+use Rattle.b3d_spec_chunk_places.specs.Places.{Body, restIn, Among}
+use Rattle.b3d_spec_chunk_places.proofs.Heads.{head-cut, head-numbered, head-over, head-within}
+use Rattle.b3d_judge_tally.proofs.Tallies.{within-more}
+use Rattle.b3d_judge_file_body.proofs.BodyLaws.{behind, left-behind}
 use Rattle.b3d_mend_judge_items.specs.Lax.{every, laxInside, laxRoot, laxBody}
 use Rattle.b3d_mend_judge_items.specs.Trimmed.{Trimmed}
 use Rattle.b3d_mend_judge_file.specs.Phases.{laxLast, laxRest}
-use Rattle.b3d_judge_body.specs.Bodies.{walked, WalkedIn, Walks}
+use Rattle.b3d_judge_file_body.specs.Bodies.{walked, WalkedIn, Walks}
 use Rattle.b3d_mend_judge.specs.Bodies.{laxChunks}
-use Rattle.b3d_judge_body.specs.declared.Verdict.{Verdict}
-use Rattle.b3d_judge_body.specs.declared.Verdict.the-variants as verdict
+use Rattle.b3d_judge_file_body.specs.declared.Verdict.{Verdict}
+use Rattle.b3d_judge_file_body.specs.declared.Verdict.the-variants as verdict
 
 -- the end of the file is looked at before the scene is made, or after
 ended-made : {A B : Type 0} (cs : Chunks) (f : A → B) (a : A) → ended cs (f a) ≡ (ended cs a >>= λ x. got (f x))

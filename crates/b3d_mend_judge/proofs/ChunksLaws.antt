@@ -8,28 +8,28 @@ use lib.ListN.{length}
 use Rattle.wire.specs.declared.Cursor.{Cursor}
 use Rattle.layout.specs.Out.{Out, got, _>>=_}
 use Rattle.layout.specs.Rows.{mostBytes}
-use Rattle.b3d_scene.specs.declared.Tag.the-variants.{BB3D, TEXS}
-use Rattle.b3d_scene.specs.Tags.{Found}
-use Rattle.b3d_scene.specs.Scene.{Texture, Brush, Forest, Scene}
-use Rattle.b3d_scene.specs.Nesting.{start, reachedAt}
-use Rattle.b3d_scene.specs.Parse.{readOne, readTextures}
-use Rattle.b3d_tally.specs.Tally.{bytesTally, texsTally, brusTally, forestTally, sceneTally, plus, Within}
-use Rattle.b3d_judge_lists.specs.Answers.{SlottedIn}
-use Rattle.b3d_judge_lists.specs.declared.Slotted.{Slotted}
-use Rattle.b3d_judge_lists.specs.declared.Slotted.the-variants as slotted
-use Rattle.b3d_tally.specs.declared.Tally.{Tally}
-use Rattle.b3d_tally.proofs.Tallies.{plus-assoc, within-more, within-plus, within-bytes}
-use Rattle.b3d_inside.specs.Places.{restIn, Among}
-use Rattle.b3d_judge_file.specs.Answers.{PhasedIn, Phases, Rests}
+use Rattle.b3d_spec.specs.declared.Tag.the-variants.{BB3D, TEXS}
+use Rattle.b3d_spec.specs.Tags.{Found}
+use Rattle.b3d_spec.specs.Scene.{Texture, Brush, Forest, Scene}
+use Rattle.b3d_spec.specs.Nesting.{start, reachedAt}
+use Rattle.b3d_spec.specs.Parse.{readOne, readTextures}
+use Rattle.b3d_judge_tally.specs.Tally.{bytesTally, texsTally, brusTally, forestTally, sceneTally, plus, Within}
+use Rattle.b3d_judge_materials.specs.Answers.{SlottedIn}
+use Rattle.b3d_judge_materials.specs.declared.Slotted.{Slotted}
+use Rattle.b3d_judge_materials.specs.declared.Slotted.the-variants as slotted
+use Rattle.b3d_judge_tally.specs.declared.Tally.{Tally}
+use Rattle.b3d_judge_tally.proofs.Tallies.{plus-assoc, within-more, within-plus, within-bytes}
+use Rattle.b3d_spec_chunk_places.specs.Places.{restIn, Among}
+use Rattle.b3d_judge_file_chunks.specs.Answers.{PhasedIn, Phases, Rests}
 use Rattle.b3d_mend_judge_file.specs.Phases.{laxRest}
-use Rattle.b3d_judge_body.specs.Bodies.{walked, Walks}
+use Rattle.b3d_judge_file_body.specs.Bodies.{walked, Walks}
 use Rattle.b3d_mend_judge.specs.Bodies.{laxChunks}
-use Rattle.b3d_tally.specs.Answers.{Onward}
-use Rattle.b3d_judge_file.specs.declared.Phase.{Phase}
-use Rattle.b3d_judge_file.specs.declared.Phase.the-variants as phase
-use Rattle.b3d_judge_body.specs.declared.Verdict.{Verdict}
-use Rattle.b3d_judge_body.specs.declared.Verdict.the-variants as verdict
-use Rattle.b3d_judge_file.proofs.Answered.{tallied-bad, GaveFound, tallied-good, phases-at, rested-bad, rested-good}
+use Rattle.b3d_judge_tally.specs.Answers.{Onward}
+use Rattle.b3d_judge_file_chunks.specs.declared.Phase.{Phase}
+use Rattle.b3d_judge_file_chunks.specs.declared.Phase.the-variants as phase
+use Rattle.b3d_judge_file_body.specs.declared.Verdict.{Verdict}
+use Rattle.b3d_judge_file_body.specs.declared.Verdict.the-variants as verdict
+use Rattle.b3d_judge_file_chunks.proofs.Answered.{tallied-bad, GaveFound, tallied-good, phases-at, rested-bad, rested-good}
 
 -- ---- the ways of `lax_chunks`
 

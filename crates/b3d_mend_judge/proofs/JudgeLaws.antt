@@ -13,24 +13,24 @@ use Rattle.wire.specs.Test.{if}
 use Rattle.layout.specs.Out.{Out, got, bad, check, _>>=_}
 use Rattle.layout.specs.Parts.{wordsOf}
 use Rattle.layout.specs.Rows.{eachOf, sizeFits}
-use Rattle.b3d_scene.specs.Scene.{Scene}
-use Rattle.b3d_scene.specs.Tags.{code}
-use Rattle.b3d_scene.specs.declared.Tag.the-variants.{BB3D}
-use Rattle.b3d_scene.specs.Rules.{rowLimit}
-use Rattle.b3d_scene.specs.Tables.{rows, tables}
-use Rattle.b3d_tally.specs.Tally.{sceneTally}
-use Rattle.b3d_tally.specs.declared.Tally.{Tally}
-use Rattle.b3d_inside.proofs.Heads.{head-is}
-use Rattle.b3d_judge_body.specs.Bodies.{walked, WalkedIn, Walks}
-use Rattle.b3d_judge_body.specs.declared.Summary.{Summary}
-use Rattle.b3d_judge_body.specs.declared.Verdict.{Verdict}
-use Rattle.b3d_judge_body.specs.declared.Verdict.the-variants as verdict
+use Rattle.b3d_spec.specs.Scene.{Scene}
+use Rattle.b3d_spec.specs.Tags.{code}
+use Rattle.b3d_spec.specs.declared.Tag.the-variants.{BB3D}
+use Rattle.b3d_spec.specs.Rules.{rowLimit}
+use Rattle.b3d_spec.specs.Tables.{rows, tables}
+use Rattle.b3d_judge_tally.specs.Tally.{sceneTally}
+use Rattle.b3d_judge_tally.specs.declared.Tally.{Tally}
+use Rattle.b3d_spec_chunk_places.proofs.Heads.{head-is}
+use Rattle.b3d_judge_file_body.specs.Bodies.{walked, WalkedIn, Walks}
+use Rattle.b3d_judge_file_body.specs.declared.Summary.{Summary}
+use Rattle.b3d_judge_file_body.specs.declared.Verdict.{Verdict}
+use Rattle.b3d_judge_file_body.specs.declared.Verdict.the-variants as verdict
 use Rattle.b3d_judge.proofs.JudgeLaws.{first-word}
-use Rattle.b3d_limits.specs.Limits.{overLimit, tallied}
-use Rattle.b3d_limits.proofs.Limits.{over-none, over-some}
-use Rattle.b3d_mend.specs.Edits.{keep, after, fileLength}
-use Rattle.b3d_mend.specs.Mend.{Mended, mendBody, mendFile}
-use Rattle.b3d_mend.specs.Report.{mendJudged}
+use Rattle.b3d_judge_limits.specs.Limits.{overLimit, tallied}
+use Rattle.b3d_judge_limits.proofs.Limits.{over-none, over-some}
+use Rattle.b3d_mend_spec.specs.Edits.{keep, after, fileLength}
+use Rattle.b3d_mend_spec.specs.Mend.{Mended, mendBody, mendFile}
+use Rattle.b3d_mend_spec.specs.Report.{mendJudged}
 use Rattle.b3d_mend_judge_items.specs.Lax.{laxBody}
 use Rattle.b3d_mend_judge_items.proofs.Alike.{Alike}
 use Rattle.b3d_mend_judge_items.proofs.LaxFile.{SameScene, body-alike}

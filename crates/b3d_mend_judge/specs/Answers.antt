@@ -3,11 +3,11 @@ use mathlib.Core.Path.{_≡_}
 use Prim.Native.Nat.{ℕ, _≤_}
 use Rattle.layout.specs.Rows.{mostBytes}
 use Rattle.layout.specs.Out.{Out, got, bad}
-use Rattle.b3d_scene.specs.Scene.{Scene}
-use Rattle.b3d_tally.specs.Tally.{sceneTally}
-use Rattle.b3d_judge_body.specs.declared.Verdict.{Verdict}
-use Rattle.b3d_judge_body.specs.declared.Verdict.the-variants as verdict
-use Rattle.b3d_mend.specs.Mend.{Mended}
+use Rattle.b3d_spec.specs.Scene.{Scene}
+use Rattle.b3d_judge_tally.specs.Tally.{sceneTally}
+use Rattle.b3d_judge_file_body.specs.declared.Verdict.{Verdict}
+use Rattle.b3d_judge_file_body.specs.declared.Verdict.the-variants as verdict
+use Rattle.b3d_mend_spec.specs.Mend.{Mended}
 
 abbrev pub mendedVerdict : Out (Mended Scene) → Verdict
 mendedVerdict (got x) = verdict.Good (record { version = x .value .version; «n_texs» = x .value .slots; tally = sceneTally (x .value) })

@@ -2,10 +2,10 @@
 use Prim.Native.Nat.{ℕ}
 use mathlib.Core.List.{[]}
 use Rattle.layout.specs.Out.{Out, got, _>>=_}
-use Rattle.b3d_scene.specs.declared.Tag.the-variants.{TEXS}
-use Rattle.b3d_scene.specs.Tags.{Chunks}
-use Rattle.b3d_scene.specs.Scene.{Scene}
-use Rattle.b3d_scene.specs.Parse.{readOne, readTextures}
+use Rattle.b3d_spec.specs.declared.Tag.the-variants.{TEXS}
+use Rattle.b3d_spec.specs.Tags.{Chunks}
+use Rattle.b3d_spec.specs.Scene.{Scene}
+use Rattle.b3d_spec.specs.Parse.{readOne, readTextures}
 use Rattle.b3d_mend_judge_file.specs.Phases.{laxRest}
 
 -- the chunks inside a BB3D of this version, from the first on

@@ -3,20 +3,20 @@
 ghost use Prim.Native.Nat.{_≤_};
 ghost use mathlib.Core.Path.{_≡_};
 ghost use lib.ListN.{length, drop};
-ghost use Rattle.b3d_scene.specs.declared.Tag.the-variants.{BB3D};
-ghost use Rattle.b3d_scene.specs.Nesting.{start};
-ghost use Rattle.b3d_inside.specs.Places.{restIn, Among};
-ghost use Rattle.b3d_judge_body.specs.Bodies.{Walks};
+ghost use Rattle.b3d_spec.specs.declared.Tag.the-variants.{BB3D};
+ghost use Rattle.b3d_spec.specs.Nesting.{start};
+ghost use Rattle.b3d_spec_chunk_places.specs.Places.{restIn, Among};
+ghost use Rattle.b3d_judge_file_body.specs.Bodies.{Walks};
 ghost use Rattle.layout.specs.Rows.{mostBytes};
 ghost use Rattle.b3d_mend_judge_items.specs.Lax.{laxBody};
 ghost use Rattle.b3d_mend_judge.specs.Bodies.{laxChunks};
-ghost use Rattle.b3d_mend.specs.Report.{mendJudged};
+ghost use Rattle.b3d_mend_spec.specs.Report.{mendJudged};
 ghost use Rattle.b3d_mend_judge.specs.Answers.{mendedVerdict, Placed};
-use b3d_judge_body::Summary;
-use b3d_judge_body::Verdict;
-use b3d_judge_file::Phase;
-use b3d_judge_lists::Slotted;
-use b3d_scene::letters;
+use b3d_judge_file_body::Summary;
+use b3d_judge_file_body::Verdict;
+use b3d_judge_file_chunks::Phase;
+use b3d_judge_materials::Slotted;
+use b3d_spec::letters;
 use wire::Cursor;
 use wire::Number;
 
@@ -25,14 +25,14 @@ fn lax_chunks(s: &[u8], version: u32, from: Cursor) -> Verdict
     requires { ⌜ Among 0 from (length (now s)) × (from .at ≡ 12) ⌝ }
     ensures { λ r. ⌜ Walks (laxChunks version (restIn (now (s .entry)) BB3D 0 start from)) (from .end) r ⌝ }
 {
-    match b3d_judge_file::judge_texs(s, from) {
+    match b3d_judge_file_chunks::judge_texs(s, from) {
         Phase::Not(e, p) => Verdict::Bad(e, p),
         Phase::To(t, c) => match b3d_mend_judge_file::lax_rest(s, c) {
             Slotted::Not(e, p) => Verdict::Bad(e, p),
             Slotted::Is(slots, r) => Verdict::Good(Summary {
                 version,
                 n_texs: slots,
-                tally: b3d_judge_body::file_rows(t, r),
+                tally: b3d_judge_file_body::file_rows(t, r),
             }),
         },
     }
@@ -78,7 +78,7 @@ pub fn judge_mended(file: &[u8]) -> Verdict
     match lax_body(file) {
         Verdict::Bad(e, p) => Verdict::Bad(e, p),
         Verdict::Good(x) => {
-            let over = b3d_limits::over_limit(x.tally);
+            let over = b3d_judge_limits::over_limit(x.tally);
             if over != 0 {
                 return Verdict::Bad(10, over);
             }

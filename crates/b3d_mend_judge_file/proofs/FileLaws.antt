@@ -7,21 +7,21 @@ use mathlib.Core.List.{List}
 use lib.ListN.{length}
 use Rattle.wire.specs.Cursors.{left}
 use Rattle.wire.specs.declared.Cursor.{Cursor}
-use Rattle.b3d_scene.specs.declared.Tag.{Tag}
-use Rattle.b3d_scene.specs.declared.Tag.the-variants.{BB3D}
-use Rattle.b3d_tally.specs.Tally.{forestTally, innerTally}
-use Rattle.b3d_inside.specs.Places.{Among}
-use Rattle.b3d_tally.specs.Answers.{Judges}
-use Rattle.b3d_tally.specs.declared.Tally.{Tally}
-use Rattle.b3d_tally.specs.declared.Judged.{Judged}
-use Rattle.b3d_tally.specs.declared.Judged.the-variants as judge
-use Rattle.b3d_turns.specs.declared.Reached.{Reached as State}
-use Rattle.b3d_enclosed.specs.declared.Enclosed.{Enclosed}
-use Rattle.b3d_enclosed.specs.declared.Enclosed.the-variants as enclosed
-use Rattle.b3d_enclosed.specs.Steps.{EnclosedIs}
-use Rattle.b3d_enclosed.proofs.Rests.{among-inside, among-head}
-use Rattle.b3d_judge_file.specs.declared.Phase.the-variants as phase
-use Rattle.b3d_judge_file.proofs.FileLaws.{file-body, Root, root-judges, root-end, root-stop, any-root-bad, any-root-good}
+use Rattle.b3d_spec.specs.declared.Tag.{Tag}
+use Rattle.b3d_spec.specs.declared.Tag.the-variants.{BB3D}
+use Rattle.b3d_judge_tally.specs.Tally.{forestTally, innerTally}
+use Rattle.b3d_spec_chunk_places.specs.Places.{Among}
+use Rattle.b3d_judge_tally.specs.Answers.{Judges}
+use Rattle.b3d_judge_tally.specs.declared.Tally.{Tally}
+use Rattle.b3d_judge_tally.specs.declared.Judged.{Judged}
+use Rattle.b3d_judge_tally.specs.declared.Judged.the-variants as judge
+use Rattle.b3d_rule_nesting_order.specs.declared.Reached.{Reached as State}
+use Rattle.b3d_chunk_next_allowed.specs.declared.Enclosed.{Enclosed}
+use Rattle.b3d_chunk_next_allowed.specs.declared.Enclosed.the-variants as enclosed
+use Rattle.b3d_chunk_next_allowed.specs.Steps.{EnclosedIs}
+use Rattle.b3d_chunk_next_allowed.proofs.Rests.{among-inside, among-head}
+use Rattle.b3d_judge_file_chunks.specs.declared.Phase.the-variants as phase
+use Rattle.b3d_judge_file_chunks.proofs.FileLaws.{file-body, Root, root-judges, root-end, root-stop, any-root-bad, any-root-good}
 use Rattle.b3d_mend_judge_items.specs.Lax.{laxNode, laxRoot}
 
 module _ (s : List ℕ) (from : Cursor) (g : Among 0 from (length s)) (r : Enclosed) (x : EnclosedIs s BB3D 0 (record { turn = 2; spent = true }) from r)

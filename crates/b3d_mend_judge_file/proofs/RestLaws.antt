@@ -12,38 +12,38 @@ use Rattle.wire.specs.declared.Cursor.{Cursor}
 use Rattle.layout.specs.Out.{Out, got, _>>=_}
 use Rattle.layout.specs.Chunks.{ended}
 use Rattle.layout.specs.Rows.{mostBytes}
-use Rattle.b3d_scene.specs.declared.Mode.the-variants.{Lenient}
-use Rattle.b3d_scene.specs.declared.Tag.{Tag}
-use Rattle.b3d_scene.specs.declared.Tag.the-variants.{BB3D, TEXS, BRUS, NODE, MESH, VRTS, TRIS, BONE, KEYS, ANIM}
-use Rattle.b3d_scene.specs.Tags.{Chunks, Found}
-use Rattle.b3d_scene.specs.Scene.{Brush, Forest, leaf}
-use Rattle.b3d_scene.specs.Nesting.{nesting, next as nextTurn, reachedAt}
-use Rattle.b3d_scene.specs.Parse.{readOne, readBrushes, slotsOf}
-use Rattle.b3d_tally.specs.Tally.{forestTally, plus, Within}
-use Rattle.b3d_tally.specs.Answers.{judged, JudgedIn, Judges, Onward}
-use Rattle.b3d_judge_lists.specs.declared.Slotted.{Slotted}
-use Rattle.b3d_judge_lists.specs.declared.Slotted.the-variants as slotted
-use Rattle.b3d_tally.specs.declared.Tally.{Tally}
-use Rattle.b3d_tally.specs.declared.Judged.{Judged}
-use Rattle.b3d_tally.specs.declared.Judged.the-variants as judge
-use Rattle.b3d_tally.proofs.Tallies.{within-more, within-plus}
-use Rattle.b3d_turns.specs.declared.Reached.{Reached as State}
-use Rattle.b3d_enclosed.specs.declared.Enclosed.{Enclosed}
-use Rattle.b3d_enclosed.specs.declared.Enclosed.the-variants as enclosed
-use Rattle.b3d_enclosed.specs.Steps.{EnclosedIs}
-use Rattle.b3d_enclosed.proofs.Stepping.{step-turn, stop-before}
-use Rattle.b3d_inside.specs.Places.{restIn, Among}
-use Rattle.b3d_judge_file.specs.Answers.{slotsIn, brusIn, PhasedIn, Phases, BrushedIn, Brushes, rested, Rests}
+use Rattle.b3d_spec.specs.declared.Mode.the-variants.{Lenient}
+use Rattle.b3d_spec.specs.declared.Tag.{Tag}
+use Rattle.b3d_spec.specs.declared.Tag.the-variants.{BB3D, TEXS, BRUS, NODE, MESH, VRTS, TRIS, BONE, KEYS, ANIM}
+use Rattle.b3d_spec.specs.Tags.{Chunks, Found}
+use Rattle.b3d_spec.specs.Scene.{Brush, Forest, leaf}
+use Rattle.b3d_spec.specs.Nesting.{nesting, next as nextTurn, reachedAt}
+use Rattle.b3d_spec.specs.Parse.{readOne, readBrushes, slotsOf}
+use Rattle.b3d_judge_tally.specs.Tally.{forestTally, plus, Within}
+use Rattle.b3d_judge_tally.specs.Answers.{judged, JudgedIn, Judges, Onward}
+use Rattle.b3d_judge_materials.specs.declared.Slotted.{Slotted}
+use Rattle.b3d_judge_materials.specs.declared.Slotted.the-variants as slotted
+use Rattle.b3d_judge_tally.specs.declared.Tally.{Tally}
+use Rattle.b3d_judge_tally.specs.declared.Judged.{Judged}
+use Rattle.b3d_judge_tally.specs.declared.Judged.the-variants as judge
+use Rattle.b3d_judge_tally.proofs.Tallies.{within-more, within-plus}
+use Rattle.b3d_rule_nesting_order.specs.declared.Reached.{Reached as State}
+use Rattle.b3d_chunk_next_allowed.specs.declared.Enclosed.{Enclosed}
+use Rattle.b3d_chunk_next_allowed.specs.declared.Enclosed.the-variants as enclosed
+use Rattle.b3d_chunk_next_allowed.specs.Steps.{EnclosedIs}
+use Rattle.b3d_chunk_next_allowed.proofs.Stepping.{step-turn, stop-before}
+use Rattle.b3d_spec_chunk_places.specs.Places.{restIn, Among}
+use Rattle.b3d_judge_file_chunks.specs.Answers.{slotsIn, brusIn, PhasedIn, Phases, BrushedIn, Brushes, rested, Rests}
 use Rattle.b3d_mend_judge_items.specs.Lax.{every, laxRoot}
 use Rattle.b3d_mend_judge_file.specs.Phases.{laxLast, laxRest}
-use Rattle.b3d_judge_file.specs.declared.Phase.{Phase}
-use Rattle.b3d_judge_file.specs.declared.Phase.the-variants as phase
-use Rattle.b3d_judge_file.specs.declared.Brushed.{Brushed}
-use Rattle.b3d_judge_file.specs.declared.Brushed.the-variants as brushed
-use Rattle.b3d_tally.proofs.Answered.{GaveBeside, beside-bad, beside-good, judged-bad, judged-good}
-use Rattle.b3d_judge_file.proofs.Answered.{tallied-bad, GaveFound, tallied-good, phases-at, brushes-at}
-use Rattle.b3d_enclosed.proofs.Rests.{rest-stop, rest-end}
-use Rattle.b3d_inside.proofs.TagTests.{never}
+use Rattle.b3d_judge_file_chunks.specs.declared.Phase.{Phase}
+use Rattle.b3d_judge_file_chunks.specs.declared.Phase.the-variants as phase
+use Rattle.b3d_judge_file_chunks.specs.declared.Brushed.{Brushed}
+use Rattle.b3d_judge_file_chunks.specs.declared.Brushed.the-variants as brushed
+use Rattle.b3d_judge_tally.proofs.Answered.{GaveBeside, beside-bad, beside-good, judged-bad, judged-good}
+use Rattle.b3d_judge_file_chunks.proofs.Answered.{tallied-bad, GaveFound, tallied-good, phases-at, brushes-at}
+use Rattle.b3d_chunk_next_allowed.proofs.Rests.{rest-stop, rest-end}
+use Rattle.b3d_spec_chunk_places.proofs.TagTests.{never}
 
 -- ---- the end of a file
 

@@ -3,11 +3,11 @@ use Prim.Native.Nat.{ℕ}
 use mathlib.Core.List.{List, []}
 use Rattle.layout.specs.Out.{Out, got, _>>=_}
 use Rattle.layout.specs.Chunks.{ended}
-use Rattle.b3d_scene.specs.declared.Mode.the-variants.{Lenient}
-use Rattle.b3d_scene.specs.declared.Tag.the-variants.{BRUS, NODE}
-use Rattle.b3d_scene.specs.Tags.{Chunks}
-use Rattle.b3d_scene.specs.Scene.{Brush, Forest, leaf}
-use Rattle.b3d_scene.specs.Parse.{readOne, readBrushes, slotsOf}
+use Rattle.b3d_spec.specs.declared.Mode.the-variants.{Lenient}
+use Rattle.b3d_spec.specs.declared.Tag.the-variants.{BRUS, NODE}
+use Rattle.b3d_spec.specs.Tags.{Chunks}
+use Rattle.b3d_spec.specs.Scene.{Brush, Forest, leaf}
+use Rattle.b3d_spec.specs.Parse.{readOne, readBrushes, slotsOf}
 use Rattle.b3d_mend_judge_items.specs.Lax.{every, laxRoot}
 
 -- the nodes, if NODE comes first, and nothing known after it

@@ -1,25 +1,25 @@
 // Judges the chunks of a file after its textures as they are mended: at most one BRUS, at most one NODE.
 ghost use mathlib.Core.Bool.{true};
 ghost use lib.ListN.{length};
-ghost use Rattle.b3d_scene.specs.declared.Tag.the-variants.{BB3D, NODE};
-ghost use Rattle.b3d_scene.specs.Scene.{leaf};
-ghost use Rattle.b3d_scene.specs.Nesting.{reachedAt};
-ghost use Rattle.b3d_scene.specs.Parse.{readOne};
-ghost use Rattle.b3d_tally.specs.Tally.{forestTally};
-ghost use Rattle.b3d_tally.specs.Answers.{Judges};
-ghost use Rattle.b3d_inside.specs.Places.{restIn, Among};
-ghost use Rattle.b3d_judge_file.specs.Answers.{Phases, Rests};
+ghost use Rattle.b3d_spec.specs.declared.Tag.the-variants.{BB3D, NODE};
+ghost use Rattle.b3d_spec.specs.Scene.{leaf};
+ghost use Rattle.b3d_spec.specs.Nesting.{reachedAt};
+ghost use Rattle.b3d_spec.specs.Parse.{readOne};
+ghost use Rattle.b3d_judge_tally.specs.Tally.{forestTally};
+ghost use Rattle.b3d_judge_tally.specs.Answers.{Judges};
+ghost use Rattle.b3d_spec_chunk_places.specs.Places.{restIn, Among};
+ghost use Rattle.b3d_judge_file_chunks.specs.Answers.{Phases, Rests};
 ghost use Rattle.b3d_mend_judge_items.specs.Lax.{laxRoot};
 ghost use Rattle.b3d_mend_judge_file.specs.Phases.{laxLast, laxRest};
-use b3d_enclosed::Enclosed;
-use b3d_judge_file::Brushed;
-use b3d_judge_file::Phase;
-use b3d_judge_lists::Slotted;
+use b3d_chunk_next_allowed::Enclosed;
+use b3d_judge_file_chunks::Brushed;
+use b3d_judge_file_chunks::Phase;
+use b3d_judge_materials::Slotted;
 use b3d_judge_node::Above;
-use b3d_scene::Mode;
-use b3d_scene::Tag;
-use b3d_tally::Judged;
-use b3d_turns::Reached;
+use b3d_judge_tally::Judged;
+use b3d_rule_nesting_order::Reached;
+use b3d_spec::Mode;
+use b3d_spec::Tag;
 use wire::Cursor;
 
 // How far the chunks of a file have come after its brushes and its root, with them or without.
@@ -42,9 +42,9 @@ fn lax_root(s: &[u8], from: Cursor) -> Phase
     ensures { λ r. ⌜ Phases forestTally (readOne NODE leaf laxRoot (restIn (now (s .entry)) BB3D 0 (reachedAt 2 true) from))
         (restIn (now (s .entry)) BB3D 0 (reachedAt 3 true)) from r ⌝ }
 {
-    let found = b3d_chunks::next_chunk(s, from);
-    match b3d_enclosed::next_inside(s, from, found, Tag::BB3D, 0, BRUS_READ) {
-        Enclosed::End => Phase::To(b3d_tally::none(), from),
+    let found = b3d_chunk_cursor::next_chunk(s, from);
+    match b3d_chunk_next_allowed::next_inside(s, from, found, Tag::BB3D, 0, BRUS_READ) {
+        Enclosed::End => Phase::To(b3d_judge_tally::none(), from),
         Enclosed::Not(e, p) => Phase::Not(e, p),
         Enclosed::Chunk { at, body, next, .. } => {
             match b3d_mend_judge_tree::lax_node(s, at, body, 16, Above::Root) {
@@ -63,8 +63,8 @@ fn lax_last(s: &[u8], from: Cursor) -> Judged
     match lax_root(s, from) {
         Phase::Not(e, p) => Judged::Bad(e, p),
         Phase::To(t, end) => {
-            let found = b3d_chunks::next_chunk(s, end);
-            match b3d_enclosed::next_inside(s, end, found, Tag::BB3D, 0, ROOT_READ) {
+            let found = b3d_chunk_cursor::next_chunk(s, end);
+            match b3d_chunk_next_allowed::next_inside(s, end, found, Tag::BB3D, 0, ROOT_READ) {
                 Enclosed::End => Judged::Good(t),
                 Enclosed::Not(e, p) => Judged::Bad(e, p),
                 // Nothing may stand here.
@@ -79,11 +79,11 @@ pub fn lax_rest(s: &[u8], from: Cursor) -> Slotted
     requires { ⌜ Among 0 from (length (now s)) ⌝ }
     ensures { λ r. ⌜ Rests (laxRest (restIn (now (s .entry)) BB3D 0 (reachedAt 1 true) from)) (from .at) (from .end) r ⌝ }
 {
-    match b3d_judge_file::judge_brus(s, from, EVERY, Mode::Lenient) {
+    match b3d_judge_file_chunks::judge_brus(s, from, EVERY, Mode::Lenient) {
         Brushed::Not(e, p) => Slotted::Not(e, p),
         Brushed::To(slots, b, c) => match lax_last(s, c) {
             Judged::Bad(e, p) => Slotted::Not(e, p),
-            Judged::Good(f) => Slotted::Is(slots, b3d_tally::plus(b, f)),
+            Judged::Good(f) => Slotted::Is(slots, b3d_judge_tally::plus(b, f)),
         },
     }
 }

@@ -14,11 +14,11 @@ use Rattle.layout.specs.Out.{Out, got, bad, _>>=_}
 use Rattle.layout.specs.Parts.{wordsOf, row, items}
 use Rattle.layout.specs.Rules.{Rule, any, names, holds}
 use Rattle.layout.proofs.StepLaws.{length-words-of, row-any, any-short, row-shrinks, items-none, items-step, Shrinks, words-add}
-use Rattle.id_check.specs.Ids.{firstBad, idRow}
-use Rattle.b3d_items.specs.Items.{counted}
-use Rattle.b3d_items.specs.declared.Counted.{Counted}
-use Rattle.b3d_items.specs.declared.Counted.the-variants as counts
-use Rattle.b3d_mend.specs.Mend.{allHold}
+use Rattle.shared_ids.specs.Ids.{firstBad, idRow}
+use Rattle.b3d_judge_items.specs.Items.{counted}
+use Rattle.b3d_judge_items.specs.declared.Counted.{Counted}
+use Rattle.b3d_judge_items.specs.declared.Counted.the-variants as counts
+use Rattle.b3d_mend_spec.specs.Mend.{allHold}
 use Rattle.b3d_mend_judge_items.specs.Lax.{kept, laxItems}
 use Rattle.b3d_mend_judge_items.specs.Ones.{oneIf}
 

@@ -9,19 +9,19 @@ use Rattle.wire.specs.declared.Cursor.{Cursor}
 use Rattle.wire.specs.declared.Number.{Number}
 use Rattle.wire.specs.declared.Number.the-variants as number
 use Rattle.layout.specs.Rules.{any}
-use Rattle.id_check.specs.Ids.{idRow}
-use Rattle.b3d_items.specs.Items.{counted, CountedIn}
-use Rattle.b3d_items.specs.declared.Counted.{Counted}
-use Rattle.b3d_items.specs.declared.Counted.the-variants as counts
-use Rattle.b3d_items.proofs.Divided.{counted-room, counted-before}
-use Rattle.b3d_inside.specs.Places.{Body}
-use Rattle.b3d_tally.specs.Answers.{Judges}
-use Rattle.b3d_tally.specs.Tally.{weightsTally, boneTally, trianglesTally, setTally}
-use Rattle.b3d_tally.specs.declared.Judged.the-variants as judge
-use Rattle.b3d_tally.specs.declared.Tally.{Tally}
-use Rattle.b3d_inside.proofs.Heads.{head-cut, head-numbered, head-got}
-use Rattle.b3d_bodies.proofs.Judging.{judges-bad, items-bad, items-good}
-use Rattle.b3d_tally.proofs.Tallies.{within-weights, within-triangles}
+use Rattle.shared_ids.specs.Ids.{idRow}
+use Rattle.b3d_judge_items.specs.Items.{counted, CountedIn}
+use Rattle.b3d_judge_items.specs.declared.Counted.{Counted}
+use Rattle.b3d_judge_items.specs.declared.Counted.the-variants as counts
+use Rattle.b3d_judge_items.proofs.Divided.{counted-room, counted-before}
+use Rattle.b3d_spec_chunk_places.specs.Places.{Body}
+use Rattle.b3d_judge_tally.specs.Answers.{Judges}
+use Rattle.b3d_judge_tally.specs.Tally.{weightsTally, boneTally, trianglesTally, setTally}
+use Rattle.b3d_judge_tally.specs.declared.Judged.the-variants as judge
+use Rattle.b3d_judge_tally.specs.declared.Tally.{Tally}
+use Rattle.b3d_spec_chunk_places.proofs.Heads.{head-cut, head-numbered, head-got}
+use Rattle.b3d_judge_bodies.proofs.Judging.{judges-bad, items-bad, items-good}
+use Rattle.b3d_judge_tally.proofs.Tallies.{within-weights, within-triangles}
 use Rattle.b3d_mend_judge_items.specs.Lax.{laxItems, laxBone, laxTriangles}
 
 module _ (s : List ℕ) (at : ℕ) (b : Cursor) (body : Body at b (length s)) (vertices : ℕ) where

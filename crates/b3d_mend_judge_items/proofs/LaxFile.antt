@@ -17,21 +17,21 @@ use Rattle.layout.specs.Parts.{Name, Step, text, words, row, judged, number, na
 use Rattle.layout.specs.Rules.{Rule, any, upTo, exactly, names, namesOrNone, unit, NONE, holds}
 use Rattle.layout.proofs.Outs.{by-got}
 use Rattle.layout.proofs.StepLaws.{judged-got}
-use Rattle.b3d_scene.specs.declared.Mode.the-variants.{Lenient}
-use Rattle.b3d_scene.specs.declared.Tag.{Tag}
-use Rattle.b3d_scene.specs.declared.Tag.the-variants.{BB3D, TEXS, BRUS, NODE}
-use Rattle.b3d_scene.specs.Nesting.{Reached, nesting, start, owed, end, next, onward, order}
-use Rattle.b3d_scene.specs.Parse.{readOne, readTextures, readBrush, readBrushes, slotsOf}
-use Rattle.b3d_scene.specs.Rules.{brushRow, brushIds, brushesHead, fileHead}
-use Rattle.b3d_scene.specs.Scene.{Texture, Brush, Forest, leaf, Scene}
-use Rattle.b3d_scene.specs.Tags.{is, Chunks, Found}
-use Rattle.b3d_tally.specs.Tally.{plus, bytesTally, texsTally, brusOf, brusTally, forestTally, sceneTally}
-use Rattle.b3d_tally.specs.declared.Tally.{Tally}
-use Rattle.b3d_mend.specs.Edits.{Edit, keep}
-use Rattle.b3d_mend.specs.Mend.{Mended, mendNamed, gathered, mendItems, oneBrush, mendBrush, mendBrushes, asRead, Taken, found, mendOne, mendRoot, sceneOf, mendBody}
-use Rattle.b3d_mend.specs.Pieces.{Pieces, none-left, spare, past, other, known, pieces, chunksOf}
-use Rattle.b3d_mend.proofs.PartLaws.{words-read, text-read}
-use Rattle.b3d_mend.proofs.PieceLaws.{Whole, pieces-whole}
+use Rattle.b3d_spec.specs.declared.Mode.the-variants.{Lenient}
+use Rattle.b3d_spec.specs.declared.Tag.{Tag}
+use Rattle.b3d_spec.specs.declared.Tag.the-variants.{BB3D, TEXS, BRUS, NODE}
+use Rattle.b3d_spec.specs.Nesting.{Reached, nesting, start, owed, end, next, onward, order}
+use Rattle.b3d_spec.specs.Parse.{readOne, readTextures, readBrush, readBrushes, slotsOf}
+use Rattle.b3d_spec.specs.Rules.{brushRow, brushIds, brushesHead, fileHead}
+use Rattle.b3d_spec.specs.Scene.{Texture, Brush, Forest, leaf, Scene}
+use Rattle.b3d_spec.specs.Tags.{is, Chunks, Found}
+use Rattle.b3d_judge_tally.specs.Tally.{plus, bytesTally, texsTally, brusOf, brusTally, forestTally, sceneTally}
+use Rattle.b3d_judge_tally.specs.declared.Tally.{Tally}
+use Rattle.b3d_mend_spec.specs.Edits.{Edit, keep}
+use Rattle.b3d_mend_spec.specs.Mend.{Mended, mendNamed, gathered, mendItems, oneBrush, mendBrush, mendBrushes, asRead, Taken, found, mendOne, mendRoot, sceneOf, mendBody}
+use Rattle.b3d_mend_spec.specs.Pieces.{Pieces, none-left, spare, past, other, known, pieces, chunksOf}
+use Rattle.b3d_mend_spec.proofs.PartLaws.{words-read, text-read}
+use Rattle.b3d_mend_spec.proofs.PieceLaws.{Whole, pieces-whole}
 use Rattle.b3d_mend_judge_items.specs.Lax.{every, laxInside, laxRoot, laxBody}
 use Rattle.b3d_mend_judge_items.proofs.Alike.{Alike, alike-bind, alike-after, alike-if}
 use Rattle.b3d_mend_judge_items.proofs.LaxParts.{Mild, mild-words, read-alike}

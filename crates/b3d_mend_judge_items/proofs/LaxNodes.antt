@@ -7,17 +7,17 @@ use Rattle.wire.specs.Test.{if}
 use Rattle.layout.specs.Chunks.{done, stop, chunk}
 use Rattle.layout.specs.Out.{Out, got, bad, _>>=_}
 use Rattle.layout.specs.Parts.{Name, named}
-use Rattle.b3d_scene.specs.declared.Tag.the-variants.{NODE, MESH, BONE, KEYS, ANIM}
-use Rattle.b3d_scene.specs.Nesting.{start, order}
-use Rattle.b3d_scene.specs.Parse.{Moves, Inner, readKeys, readAnim, readMoves, withKeys, readNodes, readBelow}
-use Rattle.b3d_scene.specs.Rules.{nodeRow, boneVertices, ownVertices, animated, bonesFrom, bonesBelow, levels}
-use Rattle.b3d_scene.specs.Scene.{Kind, mesh, bone, Keys, Anim, still, anim, Forest, node}
-use Rattle.b3d_scene.specs.Tags.{is, Chunks, Found}
-use Rattle.b3d_tally.specs.Tally.{noTally, plus, headTally, kindTally, boneTally, listsTally, animTally, dataTally, forestTally, innerTally}
-use Rattle.b3d_tally.specs.declared.Tally.{Tally}
-use Rattle.b3d_mend.specs.Edits.{Edit}
-use Rattle.b3d_mend.specs.Mend.{Mended, asRead, mendBone, Taken, found, mendMesh, mendKind, withKeys as mendKeys, withAnim, mendMoves, mendNodes, dataOf, mendNode, mendRoot}
-use Rattle.b3d_mend.specs.Pieces.{pieces, chunksOf}
+use Rattle.b3d_spec.specs.declared.Tag.the-variants.{NODE, MESH, BONE, KEYS, ANIM}
+use Rattle.b3d_spec.specs.Nesting.{start, order}
+use Rattle.b3d_spec.specs.Parse.{Moves, Inner, readKeys, readAnim, readMoves, withKeys, readNodes, readBelow}
+use Rattle.b3d_spec.specs.Rules.{nodeRow, boneVertices, ownVertices, animated, bonesFrom, bonesBelow, levels}
+use Rattle.b3d_spec.specs.Scene.{Kind, mesh, bone, Keys, Anim, still, anim, Forest, node}
+use Rattle.b3d_spec.specs.Tags.{is, Chunks, Found}
+use Rattle.b3d_judge_tally.specs.Tally.{noTally, plus, headTally, kindTally, boneTally, listsTally, animTally, dataTally, forestTally, innerTally}
+use Rattle.b3d_judge_tally.specs.declared.Tally.{Tally}
+use Rattle.b3d_mend_spec.specs.Edits.{Edit}
+use Rattle.b3d_mend_spec.specs.Mend.{Mended, asRead, mendBone, Taken, found, mendMesh, mendKind, withKeys as mendKeys, withAnim, mendMoves, mendNodes, dataOf, mendNode, mendRoot}
+use Rattle.b3d_mend_spec.specs.Pieces.{pieces, chunksOf}
 use Rattle.b3d_mend_judge_items.specs.Lax.{laxBone, laxInside, laxMesh, laxKind, laxNode, laxRoot}
 use Rattle.b3d_mend_judge_items.proofs.Alike.{Alike, alike-bind, alike-both, alike-if}
 use Rattle.b3d_mend_judge_items.proofs.LaxParts.{read-alike, bone-alike, SameMesh, mesh-alike}

@@ -12,19 +12,19 @@ use Rattle.layout.specs.Parts.{Step, words, row, judged, itemsIn, items}
 use Rattle.layout.specs.Lists.{All}
 use Rattle.layout.specs.Rules.{Rule, any, upTo, exactly, names, namesOrNone, unit, NONE, holds}
 use Rattle.layout.proofs.StepLaws.{judged-any}
-use Rattle.b3d_scene.specs.declared.Mode.the-variants.{Lenient}
-use Rattle.b3d_scene.specs.declared.Tag.{Tag}
-use Rattle.b3d_scene.specs.declared.Tag.the-variants.{MESH, VRTS}
-use Rattle.b3d_scene.specs.Nesting.{start, order}
-use Rattle.b3d_scene.specs.Parse.{readOne, Vertices, noVertices, readVertices}
-use Rattle.b3d_scene.specs.Rules.{triangleRow, weightRow, trianglesHead, meshHead, vertexWords}
-use Rattle.b3d_scene.specs.Scene.{TriangleSet, Mesh}
-use Rattle.b3d_scene.specs.Tags.{is, Chunks, Found}
-use Rattle.b3d_tally.specs.Tally.{plus, trianglesTally, verticesTally, setTally, setsTally, meshTally}
-use Rattle.b3d_tally.specs.declared.Tally.{Tally}
-use Rattle.b3d_mend.specs.Edits.{Edit, keep, idSet}
-use Rattle.b3d_mend.specs.Mend.{Mended, mendWord, andWords, mendWords, mendRow, allHold, stays, mendItem, gathered, mendItems, asRead, mendTriangles, mendBone, Taken, found, mendOne, mendSets, meshOf, mendMesh}
-use Rattle.b3d_mend.specs.Pieces.{pieces, chunksOf}
+use Rattle.b3d_spec.specs.declared.Mode.the-variants.{Lenient}
+use Rattle.b3d_spec.specs.declared.Tag.{Tag}
+use Rattle.b3d_spec.specs.declared.Tag.the-variants.{MESH, VRTS}
+use Rattle.b3d_spec.specs.Nesting.{start, order}
+use Rattle.b3d_spec.specs.Parse.{readOne, Vertices, noVertices, readVertices}
+use Rattle.b3d_spec.specs.Rules.{triangleRow, weightRow, trianglesHead, meshHead, vertexWords}
+use Rattle.b3d_spec.specs.Scene.{TriangleSet, Mesh}
+use Rattle.b3d_spec.specs.Tags.{is, Chunks, Found}
+use Rattle.b3d_judge_tally.specs.Tally.{plus, trianglesTally, verticesTally, setTally, setsTally, meshTally}
+use Rattle.b3d_judge_tally.specs.declared.Tally.{Tally}
+use Rattle.b3d_mend_spec.specs.Edits.{Edit, keep, idSet}
+use Rattle.b3d_mend_spec.specs.Mend.{Mended, mendWord, andWords, mendWords, mendRow, allHold, stays, mendItem, gathered, mendItems, asRead, mendTriangles, mendBone, Taken, found, mendOne, mendSets, meshOf, mendMesh}
+use Rattle.b3d_mend_spec.specs.Pieces.{pieces, chunksOf}
 use Rattle.b3d_mend_judge_items.specs.Lax.{kept, laxItems, laxTriangles, laxBone, laxInside, laxSets, laxMesh}
 use Rattle.b3d_mend_judge_items.proofs.Alike.{Alike, alike-bind, alike-if}
 

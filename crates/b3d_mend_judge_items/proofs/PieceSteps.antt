@@ -15,9 +15,9 @@ use Rattle.wire.proofs.Left.{span, left-length, left-nil, left-four, left-drop,
 use Rattle.layout.specs.Chunks.{stop, keep}
 use Rattle.layout.proofs.ChunkLaws.{split-step, split-past}
 use Rattle.layout.proofs.Outs.{if-yes, if-no}
-use Rattle.b3d_scene.specs.declared.Tag.{Tag}
-use Rattle.b3d_scene.specs.Tags.{tagOf, split}
-use Rattle.b3d_mend.specs.Pieces.{Pieces, none-left, spare, past, piece, piecesIn, pieces, chunksOf}
+use Rattle.b3d_spec.specs.declared.Tag.{Tag}
+use Rattle.b3d_spec.specs.Tags.{tagOf, split}
+use Rattle.b3d_mend_spec.specs.Pieces.{Pieces, none-left, spare, past, piece, piecesIn, pieces, chunksOf}
 
 -- ---- by the list
 

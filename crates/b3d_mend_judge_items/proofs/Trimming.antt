@@ -15,8 +15,8 @@ use Rattle.wire.proofs.Left.{span, left-nil}
 use Rattle.wire.proofs.Found.{Framed, framed, header-end, header-cut}
 use Rattle.layout.specs.Chunks.{done, keep}
 use Rattle.layout.proofs.ChunkLaws.{split-none}
-use Rattle.b3d_scene.specs.Tags.{tagOf, split, Chunks}
-use Rattle.b3d_mend.specs.Pieces.{Pieces, pieces, chunksOf}
+use Rattle.b3d_spec.specs.Tags.{tagOf, split, Chunks}
+use Rattle.b3d_mend_spec.specs.Pieces.{Pieces, pieces, chunksOf}
 use Rattle.b3d_mend_judge_items.proofs.PieceSteps.{piece-chunks, at-end, at-spare, at-past, at-piece, at-split, split-cut}
 use Rattle.b3d_mend_judge_items.specs.Trimmed.{Trimmed}
 

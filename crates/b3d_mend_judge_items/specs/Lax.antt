@@ -9,16 +9,16 @@ use Rattle.layout.specs.Chunks.{done, stop, chunk, ended}
 use Rattle.layout.specs.Out.{Out, got, bad, _>>=_}
 use Rattle.layout.specs.Parts.{row, number, named, items}
 use Rattle.layout.specs.Rules.{Rule, any}
-use Rattle.b3d_scene.specs.Nesting.{start, order}
-use Rattle.b3d_scene.specs.Parse.{readOne, readTextures, readBrushes, noVertices, readVertices, Inner, readMoves, readBelow, slotsOf}
-use Rattle.b3d_scene.specs.Rules.{nodeRow, triangleRow, weightRow, boneVertices, levels, fileHead}
-use Rattle.b3d_scene.specs.Scene.{TriangleSet, Mesh, Kind, pivot, mesh, bone, still, Forest, leaf, node, Scene}
-use Rattle.b3d_scene.specs.Tags.{is, Chunks, Found}
-use Rattle.b3d_scene.specs.declared.Mode.the-variants.{Lenient}
-use Rattle.b3d_scene.specs.declared.Tag.{Tag}
-use Rattle.b3d_scene.specs.declared.Tag.the-variants.{BB3D, TEXS, BRUS, NODE, MESH, VRTS, BONE}
-use Rattle.b3d_mend.specs.Mend.{allHold}
-use Rattle.b3d_mend.specs.Pieces.{pieces, chunksOf}
+use Rattle.b3d_spec.specs.Nesting.{start, order}
+use Rattle.b3d_spec.specs.Parse.{readOne, readTextures, readBrushes, noVertices, readVertices, Inner, readMoves, readBelow, slotsOf}
+use Rattle.b3d_spec.specs.Rules.{nodeRow, triangleRow, weightRow, boneVertices, levels, fileHead}
+use Rattle.b3d_spec.specs.Scene.{TriangleSet, Mesh, Kind, pivot, mesh, bone, still, Forest, leaf, node, Scene}
+use Rattle.b3d_spec.specs.Tags.{is, Chunks, Found}
+use Rattle.b3d_spec.specs.declared.Mode.the-variants.{Lenient}
+use Rattle.b3d_spec.specs.declared.Tag.{Tag}
+use Rattle.b3d_spec.specs.declared.Tag.the-variants.{BB3D, TEXS, BRUS, NODE, MESH, VRTS, BONE}
+use Rattle.b3d_mend_spec.specs.Mend.{allHold}
+use Rattle.b3d_mend_spec.specs.Pieces.{pieces, chunksOf}
 
 -- more things than an id can be: every id names one
 abbrev pub every : ℕ

@@ -4,8 +4,8 @@ use Prim.Native.Nat.{ℕ, _≤_}
 use mathlib.Core.List.{List}
 use Rattle.wire.specs.Cursors.{left}
 use Rattle.wire.specs.declared.Cursor.{Cursor}
-use Rattle.b3d_scene.specs.Tags.{split}
-use Rattle.b3d_mend.specs.Pieces.{pieces, chunksOf}
+use Rattle.b3d_spec.specs.Tags.{split}
+use Rattle.b3d_mend_spec.specs.Pieces.{pieces, chunksOf}
 
 pub record Trimmed (s : List ℕ) (from r : Cursor) : Type 0 where
   pub same : r .at ≡ from .at

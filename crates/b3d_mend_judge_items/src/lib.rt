@@ -6,16 +6,16 @@ ghost use Rattle.b3d_mend_judge_items.specs.Trimmed.{Trimmed};
 ghost use mathlib.Core.Path.{_≡_};
 ghost use Prim.Native.Nat.{_+_, _-_, _*_, _<_, _≤_};
 ghost use Rattle.layout.specs.Parts.{wordsOf};
-ghost use Rattle.id_check.specs.Ids.{idRow};
-ghost use Rattle.b3d_items.specs.Items.{counted, CountedIn};
-ghost use Rattle.b3d_inside.specs.Places.{Body};
-ghost use Rattle.b3d_tally.specs.Answers.{Judges};
-ghost use Rattle.b3d_tally.specs.Tally.{setTally, boneTally};
-ghost use Rattle.b3d_mend.specs.Mend.{allHold};
+ghost use Rattle.shared_ids.specs.Ids.{idRow};
+ghost use Rattle.b3d_judge_items.specs.Items.{counted, CountedIn};
+ghost use Rattle.b3d_spec_chunk_places.specs.Places.{Body};
+ghost use Rattle.b3d_judge_tally.specs.Answers.{Judges};
+ghost use Rattle.b3d_judge_tally.specs.Tally.{setTally, boneTally};
+ghost use Rattle.b3d_mend_spec.specs.Mend.{allHold};
 ghost use Rattle.b3d_mend_judge_items.specs.Lax.{laxItems, laxTriangles, laxBone};
 ghost use Rattle.b3d_mend_judge_items.specs.Ones.{oneIf};
-use b3d_items::Counted;
-use b3d_tally::Judged;
+use b3d_judge_items::Counted;
+use b3d_judge_tally::Judged;
 use wire::Cursor;
 use wire::Header;
 use wire::Number;
@@ -53,7 +53,7 @@ pub fn kept_one(s: &[u8], c: Cursor, words: usize, ids: usize, limit: usize) -> 
     requires { ⌜ Inside c (length (now s)) × (c .at + 4 * words ≤ c .end) × (words ≤ 64) × (ids ≤ words) ⌝ }
     ensures { λ r. ⌜ (r ≡ oneIf (allHold (idRow ids (words - ids) limit) (wordsOf words (left c (now (s .entry)))))) × (r ≤ 1) ⌝ }
 {
-    let good = id_check::first_bad(s, c, ids, limit, false);
+    let good = shared_ids::first_bad(s, c, ids, limit, false);
     if good < ids {
         return 0;
     }
@@ -87,7 +87,7 @@ pub fn lax_bone(s: &[u8], at: usize, body: Cursor, vertices: usize) -> Judged
 {
     match kept_items(s, body, 2, 1, vertices) {
         Counted::Not(n, p) => Judged::Bad(n, p),
-        Counted::Is(count) => Judged::Good(b3d_tally::weights(count)),
+        Counted::Is(count) => Judged::Good(b3d_judge_tally::weights(count)),
     }
 }
 
@@ -100,7 +100,7 @@ pub fn lax_triangles(s: &[u8], at: usize, body: Cursor, vertices: usize) -> Judg
         Number::Cut => Judged::Bad(5, body.at),
         Number::Is(_, items) => match kept_items(s, items, 3, 3, vertices) {
             Counted::Not(n, p) => Judged::Bad(n, p),
-            Counted::Is(count) => Judged::Good(b3d_tally::triangles(count)),
+            Counted::Is(count) => Judged::Good(b3d_judge_tally::triangles(count)),
         },
     }
 }

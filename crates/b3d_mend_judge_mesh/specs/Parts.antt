@@ -2,11 +2,11 @@
 use Prim.Native.Nat.{ℕ}
 use lib.ListN.{length}
 use Rattle.layout.specs.Out.{Out, got, _>>=_}
-use Rattle.b3d_scene.specs.declared.Mode.the-variants.{Lenient}
-use Rattle.b3d_scene.specs.declared.Tag.the-variants.{VRTS}
-use Rattle.b3d_scene.specs.Tags.{Chunks}
-use Rattle.b3d_scene.specs.Scene.{Mesh}
-use Rattle.b3d_scene.specs.Parse.{readOne, Vertices, noVertices, readVertices}
+use Rattle.b3d_spec.specs.declared.Mode.the-variants.{Lenient}
+use Rattle.b3d_spec.specs.declared.Tag.the-variants.{VRTS}
+use Rattle.b3d_spec.specs.Tags.{Chunks}
+use Rattle.b3d_spec.specs.Scene.{Mesh}
+use Rattle.b3d_spec.specs.Parse.{readOne, Vertices, noVertices, readVertices}
 use Rattle.b3d_mend_judge_items.specs.Lax.{laxSets}
 
 -- a mesh of this brush, of vertices that were read and the TRIS chunks after them

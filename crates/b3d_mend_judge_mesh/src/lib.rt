@@ -4,23 +4,23 @@ ghost use mathlib.Core.Path.{_≡_};
 ghost use mathlib.Core.Bool.{true};
 ghost use lib.ListN.{length};
 ghost use Rattle.wire.specs.Cursors.{left};
-ghost use Rattle.b3d_scene.specs.declared.Mode.the-variants.{Lenient};
-ghost use Rattle.b3d_scene.specs.declared.Tag.the-variants.{MESH};
-ghost use Rattle.b3d_scene.specs.Parse.{readVertices};
-ghost use Rattle.b3d_tally.specs.Tally.{setsTally};
-ghost use Rattle.b3d_inside.specs.Places.{Body, restIn, Among};
-ghost use Rattle.b3d_tally.specs.Answers.{Judges};
-ghost use Rattle.b3d_scene.specs.Nesting.{start, reachedAt};
+ghost use Rattle.b3d_spec.specs.declared.Mode.the-variants.{Lenient};
+ghost use Rattle.b3d_spec.specs.declared.Tag.the-variants.{MESH};
+ghost use Rattle.b3d_spec.specs.Parse.{readVertices};
+ghost use Rattle.b3d_judge_tally.specs.Tally.{setsTally};
+ghost use Rattle.b3d_spec_chunk_places.specs.Places.{Body, restIn, Among};
+ghost use Rattle.b3d_judge_tally.specs.Answers.{Judges};
+ghost use Rattle.b3d_spec.specs.Nesting.{start, reachedAt};
 ghost use Rattle.b3d_judge_mesh.specs.Answers.{Meshes};
 ghost use Rattle.b3d_mend_judge_items.specs.Lax.{laxSets, laxMesh};
 ghost use Rattle.b3d_mend_judge_mesh.specs.Parts.{laxAfter, laxWithin};
-use b3d_bodies::Shaped;
-use b3d_enclosed::Enclosed;
+use b3d_chunk_next_allowed::Enclosed;
+use b3d_judge_bodies::Shaped;
 use b3d_judge_mesh::Meshed;
-use b3d_scene::Mode;
-use b3d_scene::Tag;
-use b3d_tally::Judged;
-use b3d_turns::Reached;
+use b3d_judge_tally::Judged;
+use b3d_rule_nesting_order::Reached;
+use b3d_spec::Mode;
+use b3d_spec::Tag;
 use wire::Cursor;
 use wire::Number;
 
@@ -37,10 +37,10 @@ fn lax_sets(s: &[u8], at: usize, from: Cursor, vertices: usize) -> Judged
 {
     let mut c = from;
     let mut q = VRTS_READ;
-    let mut m = b3d_tally::none();
+    let mut m = b3d_judge_tally::none();
     loop {
-        let found = b3d_chunks::next_chunk(s, c);
-        match b3d_enclosed::next_inside(s, c, found, Tag::MESH, at, q) {
+        let found = b3d_chunk_cursor::next_chunk(s, c);
+        match b3d_chunk_next_allowed::next_inside(s, c, found, Tag::MESH, at, q) {
             Enclosed::End => {
                 return Judged::Good(m);
             }
@@ -58,7 +58,7 @@ fn lax_sets(s: &[u8], at: usize, from: Cursor, vertices: usize) -> Judged
                     return Judged::Bad(e, i);
                 }
                 Judged::Good(t) => {
-                    m = b3d_tally::plus(m, t);
+                    m = b3d_judge_tally::plus(m, t);
                     q = reached;
                     c = next;
                 }
@@ -73,7 +73,7 @@ fn lax_shape(s: &[u8], at: usize, p: usize, body: Cursor, next: Cursor) -> Meshe
     ensures { λ r. ⌜ Meshes (laxAfter 0 (readVertices Lenient p (left body (now (s .entry))))
         (restIn (now (s .entry)) MESH at (reachedAt 1 true) next)) at (next .end) r ⌝ }
 {
-    match b3d_bodies::judge_vertices(s, p, body, Mode::Lenient) {
+    match b3d_judge_bodies::judge_vertices(s, p, body, Mode::Lenient) {
         Shaped::Not(e, q) => Meshed::Not(e, q),
         Shaped::Is(n, words) => match lax_sets(s, at, next, n) {
             Judged::Bad(e, q) => Meshed::Not(e, q),
@@ -87,10 +87,10 @@ fn lax_inside(s: &[u8], at: usize, from: Cursor) -> Meshed
     requires { ⌜ Among at from (length (now s)) × (at + 12 ≤ from .at) ⌝ }
     ensures { λ r. ⌜ Meshes (laxWithin 0 (restIn (now (s .entry)) MESH at start from)) at (from .end) r ⌝ }
 {
-    let found = b3d_chunks::next_chunk(s, from);
-    match b3d_enclosed::first_inside(s, from, found, Tag::MESH, at) {
+    let found = b3d_chunk_cursor::next_chunk(s, from);
+    match b3d_chunk_next_allowed::first_inside(s, from, found, Tag::MESH, at) {
         // No mesh ends here: it owes its VRTS.
-        Enclosed::End => Meshed::Is(0, b3d_tally::none()),
+        Enclosed::End => Meshed::Is(0, b3d_judge_tally::none()),
         Enclosed::Not(e, p) => Meshed::Not(e, p),
         Enclosed::Chunk {
             at: p,

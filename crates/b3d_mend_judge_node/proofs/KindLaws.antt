@@ -13,42 +13,42 @@ use Rattle.wire.specs.Cursors.{left}
 use Rattle.wire.specs.declared.Cursor.{Cursor}
 use Rattle.layout.specs.Out.{Out, got, bad, _>>=_}
 use Rattle.layout.specs.Chunks.{chunk}
-use Rattle.b3d_scene.specs.declared.Tag.{Tag}
-use Rattle.b3d_scene.specs.declared.Tag.the-variants.{NODE, MESH, BONE}
+use Rattle.b3d_spec.specs.declared.Tag.{Tag}
+use Rattle.b3d_spec.specs.declared.Tag.the-variants.{NODE, MESH, BONE}
 use Rattle.layout.proofs.Outs.{if-no}
-use Rattle.b3d_scene.specs.Tags.{is}
-use Rattle.b3d_scene.specs.Scene.{Kind, mesh, bone}
-use Rattle.b3d_scene.specs.Rules.{ownVertices}
-use Rattle.b3d_scene.specs.Nesting.{start, next as nextTurn, onward, order, reachedAt}
+use Rattle.b3d_spec.specs.Tags.{is}
+use Rattle.b3d_spec.specs.Scene.{Kind, mesh, bone}
+use Rattle.b3d_spec.specs.Rules.{ownVertices}
+use Rattle.b3d_spec.specs.Nesting.{start, next as nextTurn, onward, order, reachedAt}
 use Rattle.b3d_mend_judge_items.specs.Lax.{laxMesh, laxBone, laxKind}
-use Rattle.b3d_scene.proofs.Tag.{the-type}
-use Rattle.b3d_chunks.specs.Chunks.{NextIs}
-use Rattle.b3d_chunks.specs.declared.Next.the-variants as next
-use Rattle.b3d_chunks.proofs.Nexts.{chunk-among}
-use Rattle.b3d_tally.specs.Tally.{noTally, boneTally, kindTally, Within}
-use Rattle.b3d_inside.specs.Places.{Body, restIn, Among}
-use Rattle.b3d_tally.specs.Answers.{JudgedIn, Judges}
-use Rattle.b3d_tally.specs.declared.Tally.{Tally}
-use Rattle.b3d_tally.specs.declared.Judged.{Judged}
-use Rattle.b3d_tally.specs.declared.Judged.the-variants as judge
-use Rattle.b3d_tally.proofs.Tallies.{within-more}
-use Rattle.b3d_turns.specs.declared.Reached.{Reached as State}
-use Rattle.b3d_enclosed.specs.declared.Enclosed.{Enclosed}
-use Rattle.b3d_enclosed.specs.declared.Enclosed.the-variants as enclosed
-use Rattle.b3d_turns.specs.Turns.{reachedOf}
-use Rattle.b3d_enclosed.specs.Steps.{EnclosedIs}
-use Rattle.b3d_enclosed.proofs.Stepping.{step-next, step-turn, stop-before, end-next}
+use Rattle.b3d_spec.proofs.Tag.{the-type}
+use Rattle.b3d_chunk_cursor.specs.Chunks.{NextIs}
+use Rattle.b3d_chunk_cursor.specs.declared.Next.the-variants as next
+use Rattle.b3d_chunk_cursor.proofs.Nexts.{chunk-among}
+use Rattle.b3d_judge_tally.specs.Tally.{noTally, boneTally, kindTally, Within}
+use Rattle.b3d_spec_chunk_places.specs.Places.{Body, restIn, Among}
+use Rattle.b3d_judge_tally.specs.Answers.{JudgedIn, Judges}
+use Rattle.b3d_judge_tally.specs.declared.Tally.{Tally}
+use Rattle.b3d_judge_tally.specs.declared.Judged.{Judged}
+use Rattle.b3d_judge_tally.specs.declared.Judged.the-variants as judge
+use Rattle.b3d_judge_tally.proofs.Tallies.{within-more}
+use Rattle.b3d_rule_nesting_order.specs.declared.Reached.{Reached as State}
+use Rattle.b3d_chunk_next_allowed.specs.declared.Enclosed.{Enclosed}
+use Rattle.b3d_chunk_next_allowed.specs.declared.Enclosed.the-variants as enclosed
+use Rattle.b3d_rule_nesting_order.specs.Turns.{reachedOf}
+use Rattle.b3d_chunk_next_allowed.specs.Steps.{EnclosedIs}
+use Rattle.b3d_chunk_next_allowed.proofs.Stepping.{step-next, step-turn, stop-before, end-next}
 use Rattle.b3d_judge_mesh.specs.Answers.{MeshedIn, Meshes}
 use Rattle.b3d_judge_node.specs.Answers.{Kinds}
 use Rattle.b3d_judge_mesh.specs.declared.Meshed.{Meshed}
 use Rattle.b3d_judge_mesh.specs.declared.Meshed.the-variants as meshes
 use Rattle.b3d_judge_node.specs.declared.Kinded.the-variants as kind
-use Rattle.b3d_tally.proofs.Answered.{judged-bad, judged-good, onward-none}
+use Rattle.b3d_judge_tally.proofs.Answered.{judged-bad, judged-good, onward-none}
 use Rattle.b3d_judge_mesh.proofs.Answered.{meshed-bad, meshed-good}
-use Rattle.b3d_enclosed.proofs.Rests.{rest-chunk, rest-done, rest-stop, step-body, among-inside, among-head}
-use Rattle.b3d_inside.proofs.TagTests.{plain, plain-here}
+use Rattle.b3d_chunk_next_allowed.proofs.Rests.{rest-chunk, rest-done, rest-stop, step-body, among-inside, among-head}
+use Rattle.b3d_spec_chunk_places.proofs.TagTests.{plain, plain-here}
 use Rattle.b3d_judge_node.proofs.KindLaws.{takes, kind-follows}
-use Rattle.b3d_inside.proofs.Turns.{after-kind}
+use Rattle.b3d_spec_chunk_places.proofs.Turns.{after-kind}
 
 neither : (a b : Bool) → T (not (a || b)) → T (not a) × T (not b)
 neither true b h = absurd h

@@ -6,13 +6,13 @@ use mathlib.Core.List.{List}
 use Rattle.wire.specs.declared.Cursor.{Cursor}
 use Rattle.layout.specs.Out.{Out, got, _>>=_}
 use Rattle.layout.specs.Parts.{named}
-use Rattle.b3d_scene.specs.declared.Tag.the-variants.{NODE}
-use Rattle.b3d_scene.specs.Tags.{Chunks, Found}
-use Rattle.b3d_scene.specs.Scene.{Kind, still, Data}
-use Rattle.b3d_scene.specs.Rules.{nodeRow, boneVertices}
-use Rattle.b3d_scene.specs.Parse.{Moves, readMoves}
-use Rattle.b3d_tally.specs.Tally.{Within}
-use Rattle.b3d_tally.specs.declared.Tally.{Tally}
+use Rattle.b3d_spec.specs.declared.Tag.the-variants.{NODE}
+use Rattle.b3d_spec.specs.Tags.{Chunks, Found}
+use Rattle.b3d_spec.specs.Scene.{Kind, still, Data}
+use Rattle.b3d_spec.specs.Rules.{nodeRow, boneVertices}
+use Rattle.b3d_spec.specs.Parse.{Moves, readMoves}
+use Rattle.b3d_judge_tally.specs.Tally.{Within}
+use Rattle.b3d_judge_tally.specs.declared.Tally.{Tally}
 use Rattle.b3d_judge_node.specs.Answers.{owned, ownedBy}
 use Rattle.b3d_judge_node.specs.declared.Owned.{Owned}
 use Rattle.b3d_judge_node.specs.declared.Owned.the-variants as own

@@ -3,22 +3,22 @@ ghost use Prim.Native.Nat.{_≤_, _+_};
 ghost use mathlib.Core.Bool.{false};
 ghost use lib.ListN.{length};
 ghost use Rattle.wire.specs.Cursors.{left};
-ghost use Rattle.b3d_scene.specs.declared.Tag.the-variants.{NODE};
-ghost use Rattle.b3d_scene.specs.Rules.{boneVertices};
-ghost use Rattle.b3d_scene.specs.Nesting.{start, reachedAt};
-ghost use Rattle.b3d_inside.specs.Places.{Body, restIn, Among};
+ghost use Rattle.b3d_spec.specs.declared.Tag.the-variants.{NODE};
+ghost use Rattle.b3d_spec.specs.Rules.{boneVertices};
+ghost use Rattle.b3d_spec.specs.Nesting.{start, reachedAt};
+ghost use Rattle.b3d_spec_chunk_places.specs.Places.{Body, restIn, Among};
 ghost use Rattle.b3d_judge_node.specs.Answers.{Kinds, Parted, aboveOf};
 ghost use Rattle.b3d_mend_judge_items.specs.Lax.{laxKind};
 ghost use Rattle.b3d_mend_judge_node.specs.Answers.{laxParts, laxOwn, Owns};
-use b3d_chunks::Named;
-use b3d_enclosed::Enclosed;
+use b3d_chunk_cursor::Named;
+use b3d_chunk_next_allowed::Enclosed;
+use b3d_judge_animation::Motion;
 use b3d_judge_mesh::Meshed;
-use b3d_judge_moves::Motion;
 use b3d_judge_node::Above;
 use b3d_judge_node::Kinded;
 use b3d_judge_node::Owned;
-use b3d_scene::Tag;
-use b3d_tally::Judged;
+use b3d_judge_tally::Judged;
+use b3d_spec::Tag;
 use wire::Cursor;
 
 // Judges a MESH or a BONE, if one comes first in a NODE whose header is at `at`; weights may name `bones` vertices.
@@ -26,9 +26,9 @@ fn lax_kind(s: &[u8], at: usize, from: Cursor, bones: usize) -> Kinded
     requires { ⌜ Among at from (length (now s)) ⌝ }
     ensures { λ r. ⌜ Kinds (laxKind bones (restIn (now (s .entry)) NODE at start from)) (restIn (now (s .entry)) NODE at (reachedAt 2 false)) from r ⌝ }
 {
-    let found = b3d_chunks::next_chunk(s, from);
-    match b3d_enclosed::first_inside(s, from, found, Tag::NODE, at) {
-        Enclosed::End => Kinded::To(0, b3d_tally::none(), from),
+    let found = b3d_chunk_cursor::next_chunk(s, from);
+    match b3d_chunk_next_allowed::first_inside(s, from, found, Tag::NODE, at) {
+        Enclosed::End => Kinded::To(0, b3d_judge_tally::none(), from),
         Enclosed::Not(e, p) => Kinded::Not(e, p),
         Enclosed::Chunk {
             tag,
@@ -45,7 +45,7 @@ fn lax_kind(s: &[u8], at: usize, from: Cursor, bones: usize) -> Kinded
                 Judged::Bad(e, q) => Kinded::Not(e, q),
                 Judged::Good(t) => Kinded::To(0, t, next),
             },
-            _ => Kinded::To(0, b3d_tally::none(), from),
+            _ => Kinded::To(0, b3d_judge_tally::none(), from),
         },
     }
 }
@@ -58,7 +58,7 @@ fn lax_parts(s: &[u8], at: usize, from: Cursor, above: Above) -> Owned
 {
     match lax_kind(s, at, from, b3d_judge_node::bone_vertices(above)) {
         Kinded::Not(e, q) => Owned::Not(e, q),
-        Kinded::To(own, k, c) => match b3d_judge_moves::judge_moves(s, at, c) {
+        Kinded::To(own, k, c) => match b3d_judge_animation::judge_moves(s, at, c) {
             Motion::Not(e, q) => Owned::Not(e, q),
             Motion::To(anim, m, d) => Owned::To(
                 b3d_judge_node::bones_below(above, anim, own),
@@ -75,7 +75,7 @@ pub fn lax_own(s: &[u8], at: usize, body: Cursor, above: Above) -> Owned
     ensures { λ r. ⌜ Owns (aboveOf above) (laxOwn (aboveOf above) at (left body (now (s .entry))))
         (restIn (now (s .entry)) NODE at (reachedAt 3 false)) at (body .end) r ⌝ }
 {
-    match b3d_chunks::named_row(s, body, 10) {
+    match b3d_chunk_cursor::named_row(s, body, 10) {
         Named::Cut => Owned::Not(5, body.at),
         Named::Is { next, .. } => {
             let d = b3d_mend_judge_items::trimmed(s, next);

@@ -12,36 +12,36 @@ use Rattle.layout.specs.Out.{Out, got, bad, _>>=_}
 use Rattle.layout.specs.Parts.{named}
 use Rattle.layout.proofs.Outs.{bind-cong, bind-bind}
 use Rattle.layout.specs.Rows.{mostBytes}
-use Rattle.b3d_scene.specs.declared.Tag.{Tag}
-use Rattle.b3d_scene.specs.declared.Tag.the-variants.{NODE}
-use Rattle.b3d_scene.specs.Tags.{Chunks, Found}
-use Rattle.b3d_scene.specs.Scene.{Data, Forest, leaf, node, still}
-use Rattle.b3d_scene.specs.Rules.{nodeRow, boneVertices, bonesBelow}
-use Rattle.b3d_scene.specs.Nesting.{reachedAt}
-use Rattle.b3d_scene.specs.Parse.{Inner, readMoves, readNodes, readBelow}
-use Rattle.b3d_tally.specs.Tally.{noTally, dataTally, forestTally, innerTally, plus, Within}
-use Rattle.b3d_inside.specs.Places.{Body, restIn, Among}
-use Rattle.b3d_tally.specs.Answers.{judged, JudgedIn, Judges, judgedFrom}
-use Rattle.b3d_tally.specs.declared.Tally.{Tally}
-use Rattle.b3d_tally.specs.declared.Judged.{Judged}
-use Rattle.b3d_tally.specs.declared.Judged.the-variants as judge
-use Rattle.b3d_tally.proofs.Tallies.{within-more, within-plus}
-use Rattle.b3d_turns.specs.declared.Reached.{Reached as State}
-use Rattle.b3d_enclosed.specs.declared.Enclosed.{Enclosed}
-use Rattle.b3d_enclosed.specs.declared.Enclosed.the-variants as enclosed
-use Rattle.b3d_turns.specs.Turns.{reachedOf}
-use Rattle.b3d_enclosed.specs.Steps.{EnclosedIs}
-use Rattle.b3d_enclosed.proofs.Stepping.{stop-before}
+use Rattle.b3d_spec.specs.declared.Tag.{Tag}
+use Rattle.b3d_spec.specs.declared.Tag.the-variants.{NODE}
+use Rattle.b3d_spec.specs.Tags.{Chunks, Found}
+use Rattle.b3d_spec.specs.Scene.{Data, Forest, leaf, node, still}
+use Rattle.b3d_spec.specs.Rules.{nodeRow, boneVertices, bonesBelow}
+use Rattle.b3d_spec.specs.Nesting.{reachedAt}
+use Rattle.b3d_spec.specs.Parse.{Inner, readMoves, readNodes, readBelow}
+use Rattle.b3d_judge_tally.specs.Tally.{noTally, dataTally, forestTally, innerTally, plus, Within}
+use Rattle.b3d_spec_chunk_places.specs.Places.{Body, restIn, Among}
+use Rattle.b3d_judge_tally.specs.Answers.{judged, JudgedIn, Judges, judgedFrom}
+use Rattle.b3d_judge_tally.specs.declared.Tally.{Tally}
+use Rattle.b3d_judge_tally.specs.declared.Judged.{Judged}
+use Rattle.b3d_judge_tally.specs.declared.Judged.the-variants as judge
+use Rattle.b3d_judge_tally.proofs.Tallies.{within-more, within-plus}
+use Rattle.b3d_rule_nesting_order.specs.declared.Reached.{Reached as State}
+use Rattle.b3d_chunk_next_allowed.specs.declared.Enclosed.{Enclosed}
+use Rattle.b3d_chunk_next_allowed.specs.declared.Enclosed.the-variants as enclosed
+use Rattle.b3d_rule_nesting_order.specs.Turns.{reachedOf}
+use Rattle.b3d_chunk_next_allowed.specs.Steps.{EnclosedIs}
+use Rattle.b3d_chunk_next_allowed.proofs.Stepping.{stop-before}
 use Rattle.b3d_judge_node.specs.Answers.{aboveOf, owned, ownedBy}
 use Rattle.b3d_mend_judge_items.specs.Lax.{laxInside, laxKind, laxNode}
 use Rattle.b3d_mend_judge_node.specs.Answers.{laxOwn, Ahead, OwnedIn, Owns}
 use Rattle.b3d_judge_node.specs.declared.Above.{Above}
 use Rattle.b3d_judge_node.specs.declared.Owned.{Owned}
 use Rattle.b3d_judge_node.specs.declared.Owned.the-variants as own
-use Rattle.b3d_tally.proofs.Answered.{GaveBeside, beside-bad, beside-good, judged-bad, judged-good}
-use Rattle.b3d_tally.proofs.Chains.{judged-start, judged-more}
-use Rattle.b3d_enclosed.proofs.Rests.{rest-step, rest-stop, rest-end}
-use Rattle.b3d_bodies.proofs.Going.{Going, going-start, going-refused, going-done, going-place, going-more, going}
+use Rattle.b3d_judge_tally.proofs.Answered.{GaveBeside, beside-bad, beside-good, judged-bad, judged-good}
+use Rattle.b3d_judge_tally.proofs.Chains.{judged-start, judged-more}
+use Rattle.b3d_chunk_next_allowed.proofs.Rests.{rest-step, rest-stop, rest-end}
+use Rattle.b3d_judge_bodies.proofs.Going.{Going, going-start, going-refused, going-done, going-place, going-more, going}
 
 -- ---- a node: its own, then the nodes below
 

@@ -2,20 +2,20 @@
 ghost use mathlib.Core.Bool.{false};
 ghost use lib.ListN.{length};
 ghost use Rattle.wire.specs.Cursors.{left};
-ghost use Rattle.b3d_scene.specs.declared.Tag.the-variants.{NODE};
-ghost use Rattle.b3d_scene.specs.Parse.{readNodes};
-ghost use Rattle.b3d_tally.specs.Tally.{forestTally, innerTally};
-ghost use Rattle.b3d_scene.specs.Nesting.{reachedAt};
-ghost use Rattle.b3d_inside.specs.Places.{Body, restIn, Among};
-ghost use Rattle.b3d_tally.specs.Answers.{Judges};
+ghost use Rattle.b3d_spec.specs.declared.Tag.the-variants.{NODE};
+ghost use Rattle.b3d_spec.specs.Parse.{readNodes};
+ghost use Rattle.b3d_judge_tally.specs.Tally.{forestTally, innerTally};
+ghost use Rattle.b3d_spec.specs.Nesting.{reachedAt};
+ghost use Rattle.b3d_spec_chunk_places.specs.Places.{Body, restIn, Among};
+ghost use Rattle.b3d_judge_tally.specs.Answers.{Judges};
 ghost use Rattle.b3d_judge_node.specs.Answers.{aboveOf};
 ghost use Rattle.b3d_mend_judge_items.specs.Lax.{laxNode};
-use b3d_enclosed::Enclosed;
+use b3d_chunk_next_allowed::Enclosed;
 use b3d_judge_node::Above;
 use b3d_judge_node::Owned;
-use b3d_scene::Tag;
-use b3d_tally::Judged;
-use b3d_turns::Reached;
+use b3d_judge_tally::Judged;
+use b3d_rule_nesting_order::Reached;
+use b3d_spec::Tag;
 use wire::Cursor;
 
 // How far the chunks of a node have come after its KEYS and ANIM.
@@ -36,7 +36,7 @@ pub fn lax_node(s: &[u8], at: usize, body: Cursor, levels: u32, above: Above) ->
         Owned::Not(e, p) => Judged::Bad(e, p),
         Owned::To(below, t, c) => match lax_nodes(s, at, c, levels - 1, below) {
             Judged::Bad(e, p) => Judged::Bad(e, p),
-            Judged::Good(f) => Judged::Good(b3d_tally::plus(t, f)),
+            Judged::Good(f) => Judged::Good(b3d_judge_tally::plus(t, f)),
         },
     }
 }
@@ -49,10 +49,10 @@ fn lax_nodes(s: &[u8], at: usize, from: Cursor, levels: u32, above: Above) -> Ju
 {
     let mut c = from;
     let mut q = MOVES_READ;
-    let mut m = b3d_tally::none();
+    let mut m = b3d_judge_tally::none();
     loop {
-        let found = b3d_chunks::next_chunk(s, c);
-        match b3d_enclosed::next_inside(s, c, found, Tag::NODE, at, q) {
+        let found = b3d_chunk_cursor::next_chunk(s, c);
+        match b3d_chunk_next_allowed::next_inside(s, c, found, Tag::NODE, at, q) {
             Enclosed::End => {
                 return Judged::Good(m);
             }
@@ -70,7 +70,7 @@ fn lax_nodes(s: &[u8], at: usize, from: Cursor, levels: u32, above: Above) -> Ju
                     return Judged::Bad(e, i);
                 }
                 Judged::Good(t) => {
-                    m = b3d_tally::plus(m, t);
+                    m = b3d_judge_tally::plus(m, t);
                     q = reached;
                     c = next;
                 }

@@ -6,10 +6,10 @@ use lib.ListN.{length}
 use lib.Dec.{leb, leb→le, nleb→lt}
 use Rattle.layout.proofs.Outs.{by-test}
 use Rattle.layout.specs.Out.{Out, got, bad}
-use Rattle.b3d_mend.specs.Answers.{writtenBoth}
-use Rattle.b3d_mend.specs.Report.{Mending, roomForBoth}
-use Rattle.b3d_mend.specs.declared.WrittenBoth.{WrittenBoth}
-use Rattle.b3d_mend.proofs.Laws.{room-yes, room-file, room-report}
+use Rattle.b3d_mend_spec.specs.Answers.{writtenBoth}
+use Rattle.b3d_mend_spec.specs.Report.{Mending, roomForBoth}
+use Rattle.b3d_mend_spec.specs.declared.WrittenBoth.{WrittenBoth}
+use Rattle.b3d_mend_spec.proofs.Laws.{room-yes, room-file, room-report}
 use Rattle.b3d_mend_write_both.specs.BothSizes.{OfSizes}
 
 module _ (size reportSize room reportRoom q : ℕ) where

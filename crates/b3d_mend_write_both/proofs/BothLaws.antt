@@ -12,22 +12,22 @@ use Rattle.wire.specs.Test.{if}
 use Rattle.layout.specs.Out.{Out, got, bad}
 use Rattle.layout.specs.Rows.{sizeFits, mostBytes}
 use Rattle.layout.proofs.Outs.{by-check, got-inj}
-use Rattle.b3d_scene.specs.Scene.{Scene}
-use Rattle.b3d_scene.specs.Tags.{code}
-use Rattle.b3d_scene.specs.declared.Tag.the-variants.{BB3D}
-use Rattle.b3d_scene.proofs.Files.FileLaws.{size-low, size-bound}
-use Rattle.b3d_judge_body.specs.declared.Verdict.the-variants as verdict
-use Rattle.b3d_mend.specs.Answers.{writtenBoth, fileAfter, reportAfter, mendAnswer, mendOutput, mendReport}
-use Rattle.b3d_mend.specs.Edits.{follow, mend, becomes, after, fileLength}
-use Rattle.b3d_mend.specs.Mend.{Mended, mendFile}
-use Rattle.b3d_mend.specs.Mends.{Mends}
-use Rattle.b3d_mend.specs.Report.{Mending, mending, roomForBoth, mendInto}
-use Rattle.b3d_mend.specs.declared.WrittenBoth.{WrittenBoth}
-use Rattle.b3d_mend.proofs.Laws.{mends, room-yes}
+use Rattle.b3d_spec.specs.Scene.{Scene}
+use Rattle.b3d_spec.specs.Tags.{code}
+use Rattle.b3d_spec.specs.declared.Tag.the-variants.{BB3D}
+use Rattle.b3d_spec.proofs.Files.FileLaws.{size-low, size-bound}
+use Rattle.b3d_judge_file_body.specs.declared.Verdict.the-variants as verdict
+use Rattle.b3d_mend_spec.specs.Answers.{writtenBoth, fileAfter, reportAfter, mendAnswer, mendOutput, mendReport}
+use Rattle.b3d_mend_spec.specs.Edits.{follow, mend, becomes, after, fileLength}
+use Rattle.b3d_mend_spec.specs.Mend.{Mended, mendFile}
+use Rattle.b3d_mend_spec.specs.Mends.{Mends}
+use Rattle.b3d_mend_spec.specs.Report.{Mending, mending, roomForBoth, mendInto}
+use Rattle.b3d_mend_spec.specs.declared.WrittenBoth.{WrittenBoth}
+use Rattle.b3d_mend_spec.proofs.Laws.{mends, room-yes}
 use Rattle.b3d_mend_write_both.specs.Mendable.{CanMend, HaveRoom, Sized}
 use Rattle.b3d_mend_write_both.specs.declared.Sizes.{Sizes}
 use Rattle.shared_put_or_count.specs.Emits.{written, Fits, Emits}
-use Rattle.b3d_mend_puts.specs.Shown.{shown}
+use Rattle.b3d_mend_write_spec.specs.Shown.{shown}
 use Rattle.b3d_mend_write_both.specs.BothSizes.{OfSizes}
 use Rattle.b3d_mend_write_both.proofs.BothAnswers.{fits-both, short-both}
 use Rattle.b3d_mend_write_scopes.specs.Shown.{numberOf, walkBody, walkFile}

@@ -2,9 +2,9 @@
 use mathlib.Core.Path.{_≡_}
 use Prim.Native.Nat.{ℕ}
 use lib.ListN.{length}
-use Rattle.b3d_mend.specs.Answers.{writtenBoth}
-use Rattle.b3d_mend.specs.Report.{Mending, roomForBoth}
-use Rattle.b3d_mend.specs.declared.WrittenBoth.{WrittenBoth}
+use Rattle.b3d_mend_spec.specs.Answers.{writtenBoth}
+use Rattle.b3d_mend_spec.specs.Report.{Mending, roomForBoth}
+use Rattle.b3d_mend_spec.specs.declared.WrittenBoth.{WrittenBoth}
 
 -- r is the answer for a mended file and a report of these sizes, whichever they are, and outputs of `room` and `reportRoom` bytes
 pub record OfSizes (size reportSize room reportRoom : ℕ) (r : WrittenBoth) : Type 0 where

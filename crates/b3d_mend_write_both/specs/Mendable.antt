@@ -5,9 +5,9 @@ use mathlib.Core.List.{List}
 use lib.ListN.{length}
 use Rattle.wire.specs.Bytes.{AllBytes}
 use Rattle.layout.specs.Out.{got}
-use Rattle.b3d_scene.specs.Scene.{Scene}
-use Rattle.b3d_mend.specs.Mend.{Mended}
-use Rattle.b3d_mend.specs.Report.{mending, mendJudged}
+use Rattle.b3d_spec.specs.Scene.{Scene}
+use Rattle.b3d_mend_spec.specs.Mend.{Mended}
+use Rattle.b3d_mend_spec.specs.Report.{mending, mendJudged}
 use Rattle.b3d_mend_write_both.specs.declared.Sizes.{Sizes}
 
 -- without faults of another kind, and within the row limits

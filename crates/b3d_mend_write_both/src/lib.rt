@@ -1,10 +1,10 @@
 // The mended file and the report of a file that can be mended: how long both are, whether both have room, and both written.
 ghost use mathlib.Core.Path.{_≡_};
 ghost use Prim.Native.Nat.{_<_};
-ghost use Rattle.b3d_mend.specs.Answers.{mendAnswer, mendOutput, mendReport};
+ghost use Rattle.b3d_mend_spec.specs.Answers.{mendAnswer, mendOutput, mendReport};
 ghost use Rattle.b3d_mend_write_both.specs.BothSizes.{OfSizes};
 ghost use Rattle.b3d_mend_write_both.specs.Mendable.{CanMend, HaveRoom, Sized};
-use b3d_mend::WrittenBoth;
+use b3d_mend_spec::WrittenBoth;
 use b3d_mend_write_file::walk_file;
 
 // Returns the answer for a mended file of `size` bytes and a report of `report_size` bytes that are put into outputs of `room` and `report_room` bytes:
@@ -22,7 +22,7 @@ pub fn answer_of_both(
     if room < size {
         return WrittenBoth {
             number: 11,
-            place: cells::cell(size),
+            place: shared_table_words::cell(size),
             size: 0,
             report_size: 0,
         };
@@ -30,7 +30,7 @@ pub fn answer_of_both(
     if report_room < report_size {
         return WrittenBoth {
             number: 11,
-            place: cells::cell(report_size),
+            place: shared_table_words::cell(report_size),
             size: 0,
             report_size: 0,
         };
@@ -38,8 +38,8 @@ pub fn answer_of_both(
     WrittenBoth {
         number: 0,
         place: 0,
-        size: cells::cell(size),
-        report_size: cells::cell(report_size),
+        size: shared_table_words::cell(size),
+        report_size: shared_table_words::cell(report_size),
     }
 }
 

@@ -11,15 +11,15 @@ use Rattle.wire.specs.declared.Cursor.{Cursor}
 use Rattle.wire.specs.declared.Number.{Number}
 use Rattle.wire.specs.declared.Number.the-variants as number
 use Rattle.layout.specs.Rules.{upTo}
-use Rattle.emit.proofs.Joining.{Both}
-use Rattle.b3d_inside.specs.Places.{Body}
-use Rattle.b3d_inside.proofs.Heads.{body-inside, head-cut, head-numbered, head-over, head-within}
-use Rattle.b3d_mend.specs.Edits.{keep, was}
-use Rattle.b3d_mend.specs.Walks.{brusOf, brusEdits}
+use Rattle.shared_output.proofs.Joining.{Both}
+use Rattle.b3d_spec_chunk_places.specs.Places.{Body}
+use Rattle.b3d_spec_chunk_places.proofs.Heads.{body-inside, head-cut, head-numbered, head-over, head-within}
+use Rattle.b3d_mend_spec.specs.Edits.{keep, was}
+use Rattle.b3d_mend_spec.specs.Walks.{brusOf, brusEdits}
 use Rattle.shared_put_or_count.specs.Emits.{Fits, Emits}
-use Rattle.b3d_mend_puts.specs.Shown.{shown}
+use Rattle.b3d_mend_write_spec.specs.Shown.{shown}
 use Rattle.shared_put_or_count.proofs.Putting.{emits-none, fits-first, fits-second, emits-both}
-use Rattle.b3d_mend_puts.proofs.Shows.{shown-none, shown-cons}
+use Rattle.b3d_mend_write_spec.proofs.Shows.{shown-none, shown-cons}
 use Rattle.b3d_mend_write_edits.proofs.Slices.{word-slice}
 use Rattle.b3d_mend_write_brushes.specs.Lists.{brushesAt}
 

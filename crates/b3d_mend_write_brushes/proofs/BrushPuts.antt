@@ -15,17 +15,17 @@ use Rattle.layout.specs.Parts.{wordsOf}
 use Rattle.layout.specs.Rules.{Rule, any}
 use Rattle.layout.specs.Write.{writeWords, writeText}
 use Rattle.layout.proofs.StepLaws.{words-add, length-words-of}
-use Rattle.emit.proofs.Joining.{Both}
-use Rattle.emit.proofs.Appends.{text-zero}
-use Rattle.b3d_scene.specs.declared.Mode.the-variants.{Lenient}
-use Rattle.b3d_scene.specs.Rules.{brushRow, brushIds}
-use Rattle.b3d_mend.specs.Edits.{Edit, keep, was, becomes, after}
-use Rattle.b3d_mend.specs.Report.{entries, reportBytes}
-use Rattle.b3d_mend.specs.Walks.{wordEdit, wordEdits}
+use Rattle.shared_output.proofs.Joining.{Both}
+use Rattle.shared_output.proofs.Appends.{text-zero}
+use Rattle.b3d_spec.specs.declared.Mode.the-variants.{Lenient}
+use Rattle.b3d_spec.specs.Rules.{brushRow, brushIds}
+use Rattle.b3d_mend_spec.specs.Edits.{Edit, keep, was, becomes, after}
+use Rattle.b3d_mend_spec.specs.Report.{entries, reportBytes}
+use Rattle.b3d_mend_spec.specs.Walks.{wordEdit, wordEdits}
 use Rattle.shared_put_or_count.specs.Emits.{Fits, Emits}
-use Rattle.b3d_mend_puts.specs.Shown.{shown}
+use Rattle.b3d_mend_write_spec.specs.Shown.{shown}
 use Rattle.shared_put_or_count.proofs.Putting.{fits-first, fits-second, emits-both}
-use Rattle.b3d_mend_puts.proofs.Shows.{shown-cons}
+use Rattle.b3d_mend_write_spec.proofs.Shows.{shown-cons}
 use Rattle.b3d_mend_write_edits.proofs.Slices.{words-left, left-first}
 use Rattle.b3d_mend_write_brushes.specs.Ids.{idEdits}
 use Rattle.b3d_mend_write_brushes.specs.Brushes.{BrushAt, brushEdits}

@@ -11,13 +11,13 @@ use Rattle.wire.specs.Cursors.{left}
 use Rattle.wire.proofs.Left.{span, left-four}
 use Rattle.layout.specs.Parts.{wordsOf}
 use Rattle.layout.specs.Rules.{namesOrNone}
-use Rattle.emit.proofs.Joining.{Both}
-use Rattle.b3d_mend.specs.Edits.{Edit}
-use Rattle.b3d_mend.specs.Walks.{wordEdit, wordEdits}
+use Rattle.shared_output.proofs.Joining.{Both}
+use Rattle.b3d_mend_spec.specs.Edits.{Edit}
+use Rattle.b3d_mend_spec.specs.Walks.{wordEdit, wordEdits}
 use Rattle.shared_put_or_count.specs.Emits.{Fits, Emits}
-use Rattle.b3d_mend_puts.specs.Shown.{shown}
+use Rattle.b3d_mend_write_spec.specs.Shown.{shown}
 use Rattle.shared_put_or_count.proofs.Putting.{Left, left-none, left-done, left-fits, left-next}
-use Rattle.b3d_mend_puts.proofs.Shows.{shown-none, shown-cons}
+use Rattle.b3d_mend_write_spec.proofs.Shows.{shown-none, shown-cons}
 use Rattle.b3d_mend_write_items.proofs.SetPuts.{word-was}
 use Rattle.b3d_mend_write_brushes.specs.Ids.{idEdits}
 

@@ -18,18 +18,18 @@ use Rattle.layout.specs.Parts.{Name, Step, wordsOf, named}
 use Rattle.layout.specs.Rules.{Rule, any}
 use Rattle.layout.specs.Write.{writeText}
 use Rattle.layout.proofs.StepLaws.{named-shrinks, length-words-of}
-use Rattle.emit.proofs.Joining.{Both}
-use Rattle.emit.proofs.Appends.{text-zero}
-use Rattle.b3d_chunks.specs.Chunks.{namedBy, namedAt, NamedIn}
-use Rattle.b3d_chunks.specs.declared.Named.{Named}
-use Rattle.b3d_chunks.specs.declared.Named.the-variants as named
-use Rattle.b3d_chunks.proofs.Names.{named-cut, named-any, named-among}
-use Rattle.b3d_mend.specs.Edits.{Edit, keep, was, before}
-use Rattle.b3d_mend.specs.Walks.{wordEdit, wordEdits, brushOf, brushEditsIn}
+use Rattle.shared_output.proofs.Joining.{Both}
+use Rattle.shared_output.proofs.Appends.{text-zero}
+use Rattle.b3d_chunk_cursor.specs.Chunks.{namedBy, namedAt, NamedIn}
+use Rattle.b3d_chunk_cursor.specs.declared.Named.{Named}
+use Rattle.b3d_chunk_cursor.specs.declared.Named.the-variants as named
+use Rattle.b3d_chunk_cursor.proofs.Names.{named-cut, named-any, named-among}
+use Rattle.b3d_mend_spec.specs.Edits.{Edit, keep, was, before}
+use Rattle.b3d_mend_spec.specs.Walks.{wordEdit, wordEdits, brushOf, brushEditsIn}
 use Rattle.shared_put_or_count.specs.Emits.{Fits, Emits}
-use Rattle.b3d_mend_puts.specs.Shown.{shown}
+use Rattle.b3d_mend_write_spec.specs.Shown.{shown}
 use Rattle.shared_put_or_count.proofs.Putting.{Left, left-none, left-done, left-fits, left-next}
-use Rattle.b3d_mend_puts.proofs.Shows.{shown-none, shown-append}
+use Rattle.b3d_mend_write_spec.proofs.Shows.{shown-none, shown-append}
 use Rattle.b3d_mend_write_items.proofs.SetPuts.{word-was}
 use Rattle.b3d_mend_write_brushes.specs.Brushes.{BrushAt, brushEdits}
 use Rattle.b3d_mend_write_brushes.specs.Lists.{brushRules, brushesAt}

@@ -7,10 +7,10 @@ use Rattle.wire.specs.Cursors.{Inside, left}
 use Rattle.wire.specs.declared.Cursor.{Cursor}
 use Rattle.layout.specs.Parts.{wordsOf}
 use Rattle.layout.specs.Write.{writeText}
-use Rattle.b3d_scene.specs.declared.Mode.the-variants.{Lenient}
-use Rattle.b3d_scene.specs.Rules.{brushRow, brushIds}
-use Rattle.b3d_mend.specs.Edits.{Edit, keep}
-use Rattle.b3d_mend.specs.Walks.{wordEdits}
+use Rattle.b3d_spec.specs.declared.Mode.the-variants.{Lenient}
+use Rattle.b3d_spec.specs.Rules.{brushRow, brushIds}
+use Rattle.b3d_mend_spec.specs.Edits.{Edit, keep}
+use Rattle.b3d_mend_spec.specs.Walks.{wordEdits}
 
 -- the name at c ends with a zero before the words at `row`, which are all there
 pub record BrushAt (s : List ℕ) (c row : Cursor) (slots : ℕ) : Type 0 where

@@ -5,10 +5,10 @@ use lib.ListN.{length}
 use Rattle.wire.specs.Cursors.{left}
 use Rattle.wire.specs.declared.Cursor.{Cursor}
 use Rattle.layout.specs.Rules.{Rule}
-use Rattle.b3d_scene.specs.declared.Mode.the-variants.{Lenient}
-use Rattle.b3d_scene.specs.Rules.{brushRow, brushIds}
-use Rattle.b3d_mend.specs.Edits.{Edit}
-use Rattle.b3d_mend.specs.Walks.{brushEditsIn}
+use Rattle.b3d_spec.specs.declared.Mode.the-variants.{Lenient}
+use Rattle.b3d_spec.specs.Rules.{brushRow, brushIds}
+use Rattle.b3d_mend_spec.specs.Edits.{Edit}
+use Rattle.b3d_mend_spec.specs.Walks.{brushEditsIn}
 
 abbrev pub brushRules : ℕ → ℕ → List Rule
 brushRules slots textures = brushRow Lenient ++ brushIds slots textures

@@ -3,15 +3,15 @@ ghost use Prim.Native.Nat.{_+_, _*_, _≤_, _<_};
 ghost use lib.ListN.{length};
 ghost use Rattle.wire.specs.Bytes.{AllBytes};
 ghost use Rattle.shared_put_or_count.specs.Emits.{Emits, Fits};
-ghost use Rattle.b3d_mend_puts.specs.Shown.{shown};
+ghost use Rattle.b3d_mend_write_spec.specs.Shown.{shown};
 ghost use Rattle.b3d_mend_write_brushes.specs.Ids.{idEdits};
 ghost use Rattle.wire.specs.Cursors.{Inside, left};
-ghost use Rattle.b3d_chunks.specs.declared.Named.the-variants.{Is};
+ghost use Rattle.b3d_chunk_cursor.specs.declared.Named.the-variants.{Is};
 ghost use Rattle.b3d_mend_write_brushes.specs.Brushes.{BrushAt, brushEdits};
-ghost use Rattle.b3d_inside.specs.Places.{Body};
-ghost use Rattle.b3d_mend.specs.Walks.{brusEdits};
+ghost use Rattle.b3d_spec_chunk_places.specs.Places.{Body};
+ghost use Rattle.b3d_mend_spec.specs.Walks.{brusEdits};
 ghost use Rattle.b3d_mend_write_brushes.specs.Lists.{brushesAt};
-use b3d_chunks::Named;
+use b3d_chunk_cursor::Named;
 use wire::Cursor;
 use wire::Number;
 
@@ -81,7 +81,7 @@ pub fn put_brushes(
     let mut c = from;
     let mut at = start;
     while c.at < c.end {
-        match b3d_chunks::named_row(file, c, 7 + slots) {
+        match b3d_chunk_cursor::named_row(file, c, 7 + slots) {
             Named::Cut => {
                 return at;
             }

@@ -10,13 +10,13 @@ use Rattle.wire.specs.Cursors.{Inside, left}
 use Rattle.wire.specs.declared.Cursor.{Cursor}
 use Rattle.layout.specs.Rows.{mostBytes}
 use Rattle.layout.specs.Rules.{namesOrNone}
-use Rattle.emit.proofs.Joining.{Both}
-use Rattle.b3d_scene.specs.declared.Tag.{Tag}
-use Rattle.b3d_inside.specs.Places.{Body}
-use Rattle.b3d_mend.specs.Edits.{keep}
-use Rattle.b3d_mend.specs.Walks.{wordEdit}
+use Rattle.shared_output.proofs.Joining.{Both}
+use Rattle.b3d_spec.specs.declared.Tag.{Tag}
+use Rattle.b3d_spec_chunk_places.specs.Places.{Body}
+use Rattle.b3d_mend_spec.specs.Edits.{keep}
+use Rattle.b3d_mend_spec.specs.Walks.{wordEdit}
 use Rattle.shared_put_or_count.specs.Emits.{Fits, Emits}
-use Rattle.b3d_mend_puts.specs.Shown.{shown}
+use Rattle.b3d_mend_write_spec.specs.Shown.{shown}
 use Rattle.shared_put_or_count.proofs.Putting.{emits-none, fits-first, fits-second, emits-both}
 use Rattle.b3d_mend_write_scopes.specs.Shown.{Walked, walked, nodeScope, meshScope, walkLeaf, walkChunk}
 use Rattle.b3d_mend_write_scopes.specs.declared.Scope.{Scope}

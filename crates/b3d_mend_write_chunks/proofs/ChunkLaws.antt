@@ -4,9 +4,9 @@ use Prim.Native.Nat.{ℕ, _-_, _<_, _≤_}
 use native.Mathlib.Omega.{arith}
 use mathlib.Core.Bool.{Bool}
 use mathlib.Core.List.{List, []}
-use Rattle.emit.specs.Writing.{head}
-use Rattle.b3d_scene.specs.Tags.{code}
-use Rattle.b3d_scene.specs.declared.Tag.{Tag}
+use Rattle.shared_output.specs.Writing.{head}
+use Rattle.b3d_spec.specs.Tags.{code}
+use Rattle.b3d_spec.specs.declared.Tag.{Tag}
 use Rattle.shared_put_or_count.specs.Emits.{written, Fits, Emits}
 use Rattle.b3d_mend_write_scopes.specs.Shown.{Walked, headed}
 use Rattle.b3d_mend_write_scopes.specs.Heads.{bodyAt}

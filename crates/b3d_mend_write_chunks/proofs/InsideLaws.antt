@@ -17,19 +17,19 @@ use Rattle.wire.specs.declared.Header.the-variants as header
 use Rattle.wire.proofs.Left.{span, left-four}
 use Rattle.wire.proofs.Found.{Framed, framed, header-end, header-cut}
 use Rattle.layout.specs.Rows.{mostBytes}
-use Rattle.emit.proofs.Joining.{Both}
-use Rattle.b3d_scene.specs.Tags.{tagOf}
-use Rattle.b3d_scene.specs.declared.Tag.{Tag}
-use Rattle.b3d_chunks.specs.Chunks.{tagged}
-use Rattle.b3d_chunks.specs.declared.Tagged.{Tagged}
-use Rattle.b3d_chunks.specs.declared.Tagged.the-variants as tags
-use Rattle.b3d_inside.specs.Places.{Body}
-use Rattle.b3d_mend.specs.Edits.{keep, spareOut, after}
-use Rattle.b3d_mend.specs.Pieces.{Pieces, none-left, spare, past, piece, pieces, chunksOf}
-use Rattle.b3d_mend.specs.Report.{entries, reportBytes}
+use Rattle.shared_output.proofs.Joining.{Both}
+use Rattle.b3d_spec.specs.Tags.{tagOf}
+use Rattle.b3d_spec.specs.declared.Tag.{Tag}
+use Rattle.b3d_chunk_cursor.specs.Chunks.{tagged}
+use Rattle.b3d_chunk_cursor.specs.declared.Tagged.{Tagged}
+use Rattle.b3d_chunk_cursor.specs.declared.Tagged.the-variants as tags
+use Rattle.b3d_spec_chunk_places.specs.Places.{Body}
+use Rattle.b3d_mend_spec.specs.Edits.{keep, spareOut, after}
+use Rattle.b3d_mend_spec.specs.Pieces.{Pieces, none-left, spare, past, piece, pieces, chunksOf}
+use Rattle.b3d_mend_spec.specs.Report.{entries, reportBytes}
 use Rattle.b3d_mend_judge_items.proofs.PieceSteps.{headAt, at-end, at-spare, at-past, at-piece}
 use Rattle.shared_put_or_count.specs.Emits.{Fits, Emits}
-use Rattle.b3d_mend_puts.specs.Shown.{shown}
+use Rattle.b3d_mend_write_spec.specs.Shown.{shown}
 use Rattle.shared_put_or_count.proofs.Putting.{Left, left-none, left-done, left-fits, left-next, left-last}
 use Rattle.b3d_mend_write_scopes.specs.Shown.{Walked, walked, nextScope, walkChunks, headed, shownPieces, walkInside, walkChunk}
 use Rattle.b3d_mend_write_scopes.specs.declared.Scope.{Scope}

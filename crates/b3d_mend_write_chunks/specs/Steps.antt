@@ -1,6 +1,6 @@
 -- What a chunk with its header shows.
 use mathlib.Core.Bool.{Bool}
-use Rattle.b3d_scene.specs.declared.Tag.{Tag}
+use Rattle.b3d_spec.specs.declared.Tag.{Tag}
 use Rattle.b3d_mend_write_scopes.specs.Shown.{Walked, walked, headed}
 
 unfoldable pub withHeader : Bool → Tag → Walked → Walked

@@ -4,17 +4,17 @@ ghost use lib.ListN.{length};
 ghost use Rattle.wire.specs.Bytes.{AllBytes};
 ghost use Rattle.wire.specs.Cursors.{Inside, left};
 ghost use Rattle.layout.specs.Rows.{mostBytes};
-ghost use Rattle.b3d_inside.specs.Places.{Body};
+ghost use Rattle.b3d_spec_chunk_places.specs.Places.{Body};
 ghost use Rattle.shared_put_or_count.specs.Emits.{Fits};
 ghost use Rattle.b3d_mend_write_scopes.specs.Shown.{walkChunk};
 ghost use Rattle.b3d_mend_write_leaves.specs.Answers.{Walks};
 ghost use Rattle.b3d_mend_write_scopes.specs.Opens.{walkFrom};
 ghost use Rattle.b3d_mend_write_chunks.specs.Steps.{withHeader};
-use b3d_chunks::Tagged;
+use b3d_chunk_cursor::Tagged;
 use b3d_mend_write_leaves::Walk;
 use b3d_mend_write_scopes::Opening;
 use b3d_mend_write_scopes::Scope;
-use b3d_scene::Tag;
+use b3d_spec::Tag;
 use wire::Cursor;
 use wire::Header;
 
@@ -112,7 +112,7 @@ pub fn walk_inside(
                     count: k.own,
                 };
             }
-            Header::Whole { tag, body, next } => match b3d_chunks::tag_of(tag) {
+            Header::Whole { tag, body, next } => match b3d_chunk_cursor::tag_of(tag) {
                 Tagged::Other => {
                     let n = next.at - here;
                     at = b3d_mend_write_edits::put_kept(file, here, n, report, wet, out, at);

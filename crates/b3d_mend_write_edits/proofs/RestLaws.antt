@@ -12,9 +12,9 @@ use Rattle.wire.specs.Cursors.{Inside, left}
 use Rattle.wire.specs.declared.Cursor.{Cursor}
 use Rattle.wire.proofs.Left.{left-length}
 use Rattle.layout.specs.Rows.{mostBytes}
-use Rattle.b3d_mend.specs.Edits.{keep, mend}
+use Rattle.b3d_mend_spec.specs.Edits.{keep, mend}
 use Rattle.shared_put_or_count.specs.Emits.{Fits, Emits}
-use Rattle.b3d_mend_puts.specs.Shown.{shown}
+use Rattle.b3d_mend_write_spec.specs.Shown.{shown}
 use Rattle.shared_put_or_count.proofs.Putting.{fits-same, emits-same}
 use Rattle.b3d_mend_write_edits.specs.Rests.{cutShown}
 use Rattle.b3d_mend_write_edits.proofs.Slices.{left-first}

@@ -6,13 +6,13 @@ use mathlib.Core.Bool.{Bool, true, false}
 use mathlib.Core.List.{List, [], _∷_, _++_, append-nil}
 use lib.ListN.{length, take, drop, length-take, length-drop}
 use Rattle.wire.specs.Bytes.{bytes}
-use Rattle.emit.proofs.Joining.{Both}
-use Rattle.groups.specs.Groups.{groups, writeNumbers}
-use Rattle.groups.proofs.Fronts.{groups-append, numbers-append}
-use Rattle.b3d_mend.specs.Edits.{keep, mend, becomes, after}
-use Rattle.b3d_mend.specs.Report.{entries, entryBytes, reportBytes}
+use Rattle.shared_output.proofs.Joining.{Both}
+use Rattle.shared_seven_bit_groups.specs.Groups.{groups, writeNumbers}
+use Rattle.shared_seven_bit_groups.proofs.Fronts.{groups-append, numbers-append}
+use Rattle.b3d_mend_spec.specs.Edits.{keep, mend, becomes, after}
+use Rattle.b3d_mend_spec.specs.Report.{entries, entryBytes, reportBytes}
 use Rattle.shared_put_or_count.specs.Emits.{Fits, Emits}
-use Rattle.b3d_mend_puts.specs.Shown.{shown}
+use Rattle.b3d_mend_write_spec.specs.Shown.{shown}
 use Rattle.shared_put_or_count.proofs.Putting.{emits-none, fits-first, fits-second, emits-both, fits-same, emits-same}
 
 -- ---- the numbers of an entry

@@ -11,7 +11,7 @@ use Rattle.wire.specs.declared.Cursor.{Cursor}
 use Rattle.wire.proofs.Left.{span, left-take, left-four, left-bytes, left-length}
 use Rattle.layout.specs.Parts.{wordsOf}
 use Rattle.layout.specs.Write.{writeWords}
-use Rattle.b3d_mend.proofs.Exact.{bytes-of}
+use Rattle.b3d_mend_spec.proofs.Exact.{bytes-of}
 
 pub words-slice : (n : ℕ) (s : List ℕ) → AllBytes s → 4 * n ≤ length s → writeWords (wordsOf n s) [] ≡ take (4 * n) s
 words-slice zero s h le = refl

@@ -6,8 +6,8 @@ use lib.Dec.{ltb}
 use Rattle.wire.specs.Test.{if}
 use Rattle.wire.specs.Cursors.{left}
 use Rattle.wire.specs.declared.Cursor.{Cursor}
-use Rattle.b3d_mend.specs.Edits.{keep, spareOut}
-use Rattle.b3d_mend_puts.specs.Shown.{shown}
+use Rattle.b3d_mend_spec.specs.Edits.{keep, spareOut}
+use Rattle.b3d_mend_write_spec.specs.Shown.{shown}
 
 -- 1 to 7 bytes, or those of a chunk that passes the end
 unfoldable pub cutShown : Bool → List ℕ → Cursor → List ℕ

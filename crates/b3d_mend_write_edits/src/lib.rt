@@ -3,12 +3,12 @@ ghost use Prim.Native.Nat.{_+_, _≤_, _<_};
 ghost use mathlib.Core.List.{[], _∷_, _++_};
 ghost use lib.ListN.{length, take, drop};
 ghost use Rattle.wire.specs.Bytes.{bytes};
-ghost use Rattle.groups.specs.Groups.{writeNumbers};
-ghost use Rattle.b3d_mend.specs.Edits.{keep, mend};
+ghost use Rattle.shared_seven_bit_groups.specs.Groups.{writeNumbers};
+ghost use Rattle.b3d_mend_spec.specs.Edits.{keep, mend};
 ghost use Rattle.layout.specs.Rows.{mostBytes};
 ghost use Rattle.wire.specs.Cursors.{Inside, left};
 ghost use Rattle.shared_put_or_count.specs.Emits.{Emits, Fits};
-ghost use Rattle.b3d_mend_puts.specs.Shown.{shown};
+ghost use Rattle.b3d_mend_write_spec.specs.Shown.{shown};
 ghost use Rattle.b3d_mend_write_edits.specs.Rests.{cutShown};
 use wire::Cursor;
 

@@ -13,13 +13,13 @@ use Rattle.wire.specs.Cursors.{Inside}
 use Rattle.wire.proofs.Left.{span, left-four}
 use Rattle.layout.specs.Parts.{wordsOf}
 use Rattle.layout.specs.Rows.{mostBytes}
-use Rattle.emit.proofs.Joining.{Both}
-use Rattle.b3d_scene.specs.Tags.{code}
-use Rattle.b3d_scene.specs.declared.Tag.the-variants.{BB3D}
-use Rattle.b3d_mend.specs.Edits.{Edit, keep, follow, mend, fileLength, becomes, after}
-use Rattle.b3d_mend.specs.Report.{entries, reportBytes}
+use Rattle.shared_output.proofs.Joining.{Both}
+use Rattle.b3d_spec.specs.Tags.{code}
+use Rattle.b3d_spec.specs.declared.Tag.the-variants.{BB3D}
+use Rattle.b3d_mend_spec.specs.Edits.{Edit, keep, follow, mend, fileLength, becomes, after}
+use Rattle.b3d_mend_spec.specs.Report.{entries, reportBytes}
 use Rattle.shared_put_or_count.specs.Emits.{Fits, Emits}
-use Rattle.b3d_mend_puts.specs.Shown.{shown}
+use Rattle.b3d_mend_write_spec.specs.Shown.{shown}
 use Rattle.shared_put_or_count.proofs.Putting.{emits-none, fits-first, fits-second, emits-both, fits-same, emits-same}
 use Rattle.b3d_mend_write_edits.proofs.Slices.{left-all, word-slice}
 use Rattle.b3d_mend_write_scopes.specs.Shown.{walkInside, walkChunk, fileScope, walkBody, walkFile}

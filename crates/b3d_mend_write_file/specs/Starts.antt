@@ -4,10 +4,10 @@ use mathlib.Core.Bool.{Bool}
 use mathlib.Core.List.{List, [], _∷_}
 use lib.ListN.{length, drop}
 use Rattle.wire.specs.Bytes.{bytes}
-use Rattle.b3d_scene.specs.Tags.{code}
-use Rattle.b3d_scene.specs.declared.Tag.the-variants.{BB3D}
-use Rattle.b3d_mend.specs.Edits.{keep, fileLength}
-use Rattle.b3d_mend_puts.specs.Shown.{shown}
+use Rattle.b3d_spec.specs.Tags.{code}
+use Rattle.b3d_spec.specs.declared.Tag.the-variants.{BB3D}
+use Rattle.b3d_mend_spec.specs.Edits.{keep, fileLength}
+use Rattle.b3d_mend_write_spec.specs.Shown.{shown}
 use Rattle.b3d_mend_write_scopes.specs.Shown.{numberOf}
 
 -- the letters, the length, the version

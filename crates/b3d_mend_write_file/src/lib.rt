@@ -8,7 +8,7 @@ ghost use Rattle.shared_put_or_count.specs.Emits.{Emits, Fits};
 ghost use Rattle.b3d_mend_write_scopes.specs.Shown.{walkFile};
 ghost use Rattle.b3d_mend_write_file.specs.Starts.{startShown};
 use b3d_mend_write_scopes::Scope;
-use b3d_scene::letters;
+use b3d_spec::letters;
 use wire::Cursor;
 
 // Inside BB3D, before all chunks.

@@ -14,21 +14,21 @@ use Rattle.wire.specs.declared.Cursor.{Cursor}
 use Rattle.wire.proofs.Left.{span, left-length, left-drop}
 use Rattle.layout.specs.Parts.{wordsOf}
 use Rattle.layout.specs.Rules.{Rule, namesOrNone, NONE, holds}
-use Rattle.emit.proofs.Joining.{Both}
-use Rattle.groups.specs.Groups.{writeNumbers}
-use Rattle.groups.proofs.Fronts.{numbers-append}
-use Rattle.id_check.specs.Ids.{idRow}
-use Rattle.b3d_mend.specs.Edits.{Edit, keep, mend, was, becomes, after}
-use Rattle.b3d_mend.specs.Report.{entries, entryBytes, reportBytes}
-use Rattle.b3d_mend.specs.Mend.{allHold}
-use Rattle.b3d_mend.specs.Walks.{wordEdit, itemEdit, itemEdits}
-use Rattle.b3d_mend.proofs.WalkLaws.{edits-cut, edits-step}
+use Rattle.shared_output.proofs.Joining.{Both}
+use Rattle.shared_seven_bit_groups.specs.Groups.{writeNumbers}
+use Rattle.shared_seven_bit_groups.proofs.Fronts.{numbers-append}
+use Rattle.shared_ids.specs.Ids.{idRow}
+use Rattle.b3d_mend_spec.specs.Edits.{Edit, keep, mend, was, becomes, after}
+use Rattle.b3d_mend_spec.specs.Report.{entries, entryBytes, reportBytes}
+use Rattle.b3d_mend_spec.specs.Mend.{allHold}
+use Rattle.b3d_mend_spec.specs.Walks.{wordEdit, itemEdit, itemEdits}
+use Rattle.b3d_mend_spec.proofs.WalkLaws.{edits-cut, edits-step}
 use Rattle.b3d_mend_judge_items.specs.Ones.{oneIf}
 use Rattle.b3d_mend_judge_items.proofs.Keeping.{id-row-length}
 use Rattle.shared_put_or_count.specs.Emits.{Fits, Emits}
-use Rattle.b3d_mend_puts.specs.Shown.{shown}
+use Rattle.b3d_mend_write_spec.specs.Shown.{shown}
 use Rattle.shared_put_or_count.proofs.Putting.{fits-same, emits-same, Left, left-none, left-done, left-fits, left-next}
-use Rattle.b3d_mend_puts.proofs.Shows.{shown-none, shown-cons}
+use Rattle.b3d_mend_write_spec.proofs.Shows.{shown-none, shown-cons}
 use Rattle.b3d_mend_write_items.specs.Runs.{Stay, AllStay}
 use Rattle.b3d_mend_write_edits.proofs.Slices.{words-left, word-slice}
 

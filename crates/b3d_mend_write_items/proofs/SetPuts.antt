@@ -12,15 +12,15 @@ use Rattle.wire.specs.declared.Cursor.{Cursor}
 use Rattle.wire.proofs.Left.{span, left-length, left-four, left-drop}
 use Rattle.layout.specs.Parts.{wordsOf}
 use Rattle.layout.specs.Rules.{Rule, namesOrNone, NONE, holds}
-use Rattle.emit.proofs.Joining.{Both}
-use Rattle.id_check.specs.Ids.{idRow}
-use Rattle.b3d_mend.specs.Edits.{keep, mend, was}
-use Rattle.b3d_mend.specs.Walks.{wordEdit, wordEdits, itemEdits, trisEdits, boneEdits}
-use Rattle.b3d_mend.proofs.WalkLaws.{edits-none}
+use Rattle.shared_output.proofs.Joining.{Both}
+use Rattle.shared_ids.specs.Ids.{idRow}
+use Rattle.b3d_mend_spec.specs.Edits.{keep, mend, was}
+use Rattle.b3d_mend_spec.specs.Walks.{wordEdit, wordEdits, itemEdits, trisEdits, boneEdits}
+use Rattle.b3d_mend_spec.proofs.WalkLaws.{edits-none}
 use Rattle.shared_put_or_count.specs.Emits.{Fits, Emits}
-use Rattle.b3d_mend_puts.specs.Shown.{shown}
+use Rattle.b3d_mend_write_spec.specs.Shown.{shown}
 use Rattle.shared_put_or_count.proofs.Putting.{emits-none, fits-first, fits-second, emits-both}
-use Rattle.b3d_mend_puts.proofs.Shows.{shown-none, shown-cons}
+use Rattle.b3d_mend_write_spec.proofs.Shows.{shown-none, shown-cons}
 
 -- ---- BONE
 

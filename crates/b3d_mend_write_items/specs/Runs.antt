@@ -7,11 +7,11 @@ use lib.ListN.{take, drop}
 use Rattle.wire.specs.Cursors.{left}
 use Rattle.wire.specs.declared.Cursor.{Cursor}
 use Rattle.layout.specs.Parts.{wordsOf}
-use Rattle.id_check.specs.Ids.{idRow}
-use Rattle.b3d_mend.specs.Edits.{keep}
-use Rattle.b3d_mend.specs.Mend.{allHold}
-use Rattle.b3d_mend.specs.Walks.{itemEdits}
-use Rattle.b3d_mend_puts.specs.Shown.{shown}
+use Rattle.shared_ids.specs.Ids.{idRow}
+use Rattle.b3d_mend_spec.specs.Edits.{keep}
+use Rattle.b3d_mend_spec.specs.Mend.{allHold}
+use Rattle.b3d_mend_spec.specs.Walks.{itemEdits}
+use Rattle.b3d_mend_write_spec.specs.Shown.{shown}
 
 -- Of items of `words` words, the first `ids` of them ids below `limit`, the first n bytes after c stay.
 pub record Stay (s : List ℕ) (words ids limit : ℕ) (c : Cursor) (n : ℕ) : Type 0 where

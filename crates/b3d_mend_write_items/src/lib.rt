@@ -6,10 +6,10 @@ ghost use lib.ListN.{length};
 ghost use Rattle.wire.specs.Bytes.{wordAt, AllBytes};
 ghost use Rattle.wire.specs.Cursors.{Inside, left};
 ghost use Rattle.layout.specs.Rules.{namesOrNone};
-ghost use Rattle.id_check.specs.Ids.{idRow};
-ghost use Rattle.b3d_mend.specs.Walks.{wordEdit, itemEdits, trisEdits, boneEdits};
+ghost use Rattle.shared_ids.specs.Ids.{idRow};
+ghost use Rattle.b3d_mend_spec.specs.Walks.{wordEdit, itemEdits, trisEdits, boneEdits};
 ghost use Rattle.shared_put_or_count.specs.Emits.{Emits, Fits};
-ghost use Rattle.b3d_mend_puts.specs.Shown.{shown};
+ghost use Rattle.b3d_mend_write_spec.specs.Shown.{shown};
 ghost use Rattle.b3d_mend_write_items.specs.Runs.{AllStay};
 use wire::Cursor;
 
@@ -29,7 +29,7 @@ pub fn put_id(
         (now (out .exit)) r ⌝ }
 {
     let id = wire::number_at(file, from);
-    if id_check::id_named(id, limit, true) {
+    if shared_ids::id_named(id, limit, true) {
         return b3d_mend_write_edits::put_kept(file, from, 4, report, wet, out, at);
     }
     b3d_mend_write_edits::put_set(file, from, 2, 0xFFFFFFFF, report, wet, out, at)

@@ -5,21 +5,21 @@ use native.Mathlib.Omega.{arith}
 use mathlib.Core.List.{List}
 use Rattle.wire.specs.declared.Cursor.{Cursor}
 use Rattle.layout.specs.Out.{Out, got, bad}
-use Rattle.b3d_scene.specs.Parse.{Vertices, slotsOf}
-use Rattle.b3d_scene.specs.Scene.{Texture, Brush}
-use Rattle.b3d_tally.specs.Answers.{Judges}
-use Rattle.b3d_tally.specs.Tally.{texsTally, brusTally}
-use Rattle.b3d_tally.specs.declared.Tally.{Tally}
-use Rattle.b3d_tally.specs.declared.Judged.{Judged}
-use Rattle.b3d_tally.specs.declared.Judged.the-variants as judge
-use Rattle.b3d_judge_lists.specs.Answers.{SlotsAre}
-use Rattle.b3d_judge_lists.specs.declared.Slotted.{Slotted}
-use Rattle.b3d_judge_lists.specs.declared.Slotted.the-variants as slots
-use Rattle.b3d_bodies.specs.Answers.{Shapes}
-use Rattle.b3d_bodies.specs.declared.Shaped.{Shaped}
-use Rattle.b3d_bodies.specs.declared.Shaped.the-variants as shape
-use Rattle.b3d_judge_lists.proofs.TallyCounts.{texs-count, brus-count}
-use Rattle.b3d_mend.specs.Trees.{texturesOf, verticesOf}
+use Rattle.b3d_spec.specs.Parse.{Vertices, slotsOf}
+use Rattle.b3d_spec.specs.Scene.{Texture, Brush}
+use Rattle.b3d_judge_tally.specs.Answers.{Judges}
+use Rattle.b3d_judge_tally.specs.Tally.{texsTally, brusTally}
+use Rattle.b3d_judge_tally.specs.declared.Tally.{Tally}
+use Rattle.b3d_judge_tally.specs.declared.Judged.{Judged}
+use Rattle.b3d_judge_tally.specs.declared.Judged.the-variants as judge
+use Rattle.b3d_judge_materials.specs.Answers.{SlotsAre}
+use Rattle.b3d_judge_materials.specs.declared.Slotted.{Slotted}
+use Rattle.b3d_judge_materials.specs.declared.Slotted.the-variants as slots
+use Rattle.b3d_judge_bodies.specs.Answers.{Shapes}
+use Rattle.b3d_judge_bodies.specs.declared.Shaped.{Shaped}
+use Rattle.b3d_judge_bodies.specs.declared.Shaped.the-variants as shape
+use Rattle.b3d_judge_materials.proofs.TallyCounts.{texs-count, brus-count}
+use Rattle.b3d_mend_spec.specs.Trees.{texturesOf, verticesOf}
 use Rattle.b3d_mend_write_scopes.specs.Shown.{brushCount}
 
 pub texs-none : (o : Out (List Texture)) (from to : ℕ) (r : Judged) → Judges texsTally o from to r → (n p : ℕ) → r ≡ judge.Bad n p → 0 ≡ texturesOf o

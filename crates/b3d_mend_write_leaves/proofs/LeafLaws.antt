@@ -11,19 +11,19 @@ use types.Run.{OneOf}
 use denote.Enum.Declared.{tagOf}
 use Rattle.wire.specs.Cursors.{Inside, left}
 use Rattle.wire.specs.declared.Cursor.{Cursor}
-use Rattle.b3d_scene.specs.declared.Mode.the-variants.{Lenient}
-use Rattle.b3d_scene.specs.Parse.{readTextures, readBrushes, readVertices}
-use Rattle.b3d_scene.specs.Tags.{is}
-use Rattle.b3d_scene.specs.declared.Tag.{Tag}
-use Rattle.b3d_scene.specs.declared.Tag.the-variants.{BB3D, TEXS, BRUS, NODE, MESH, VRTS, TRIS, BONE, KEYS, ANIM}
-use Rattle.b3d_scene.proofs.Tag.{the-type}
-use Rattle.b3d_inside.specs.Places.{Body}
-use Rattle.b3d_inside.proofs.TagTests.{ten, one-of}
-use Rattle.b3d_mend.specs.Edits.{keep}
-use Rattle.b3d_mend.specs.Trees.{texturesOf, verticesOf}
-use Rattle.b3d_mend.specs.Walks.{trisEdits, boneEdits, brusEdits}
+use Rattle.b3d_spec.specs.declared.Mode.the-variants.{Lenient}
+use Rattle.b3d_spec.specs.Parse.{readTextures, readBrushes, readVertices}
+use Rattle.b3d_spec.specs.Tags.{is}
+use Rattle.b3d_spec.specs.declared.Tag.{Tag}
+use Rattle.b3d_spec.specs.declared.Tag.the-variants.{BB3D, TEXS, BRUS, NODE, MESH, VRTS, TRIS, BONE, KEYS, ANIM}
+use Rattle.b3d_spec.proofs.Tag.{the-type}
+use Rattle.b3d_spec_chunk_places.specs.Places.{Body}
+use Rattle.b3d_spec_chunk_places.proofs.TagTests.{ten, one-of}
+use Rattle.b3d_mend_spec.specs.Edits.{keep}
+use Rattle.b3d_mend_spec.specs.Trees.{texturesOf, verticesOf}
+use Rattle.b3d_mend_spec.specs.Walks.{trisEdits, boneEdits, brusEdits}
 use Rattle.shared_put_or_count.specs.Emits.{Fits, Emits}
-use Rattle.b3d_mend_puts.specs.Shown.{shown}
+use Rattle.b3d_mend_write_spec.specs.Shown.{shown}
 use Rattle.shared_put_or_count.proofs.Putting.{fits-same, emits-same}
 use Rattle.b3d_mend_judge_items.specs.Lax.{every}
 use Rattle.b3d_mend_write_scopes.specs.Shown.{walkLeaf, brushCount}

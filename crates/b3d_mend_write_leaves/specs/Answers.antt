@@ -3,7 +3,7 @@ use mathlib.Core.Path.{_≡_}
 use Prim.Native.Nat.{ℕ}
 use mathlib.Core.Bool.{Bool, false}
 use mathlib.Core.List.{List}
-use Rattle.b3d_scene.specs.declared.Tag.{Tag}
+use Rattle.b3d_spec.specs.declared.Tag.{Tag}
 use Rattle.shared_put_or_count.specs.Emits.{Emits}
 use Rattle.b3d_mend_write_scopes.specs.Shown.{Walked, walkLeaf, fileScope}
 use Rattle.b3d_mend_write_leaves.specs.declared.Walk.{Walk}

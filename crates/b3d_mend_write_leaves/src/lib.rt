@@ -2,21 +2,21 @@
 ghost use mathlib.Core.Path.{_≡_};
 ghost use lib.ListN.{length};
 ghost use Rattle.wire.specs.Cursors.{left};
-ghost use Rattle.b3d_inside.specs.Places.{Body};
-ghost use Rattle.b3d_scene.specs.declared.Mode.the-variants.{Lenient};
-ghost use Rattle.b3d_scene.specs.Parse.{readTextures, readBrushes, readVertices};
-ghost use Rattle.b3d_mend.specs.Trees.{texturesOf, verticesOf};
+ghost use Rattle.b3d_spec_chunk_places.specs.Places.{Body};
+ghost use Rattle.b3d_spec.specs.declared.Mode.the-variants.{Lenient};
+ghost use Rattle.b3d_spec.specs.Parse.{readTextures, readBrushes, readVertices};
+ghost use Rattle.b3d_mend_spec.specs.Trees.{texturesOf, verticesOf};
 ghost use Rattle.b3d_mend_judge_items.specs.Lax.{every};
 ghost use Rattle.b3d_mend_write_scopes.specs.Shown.{brushCount, walkLeaf};
 ghost use Rattle.wire.specs.Bytes.{AllBytes};
 ghost use Rattle.shared_put_or_count.specs.Emits.{Emits, Fits};
 ghost use Rattle.b3d_mend_write_leaves.specs.Answers.{leafCount, Walks};
-use b3d_bodies::Shaped;
-use b3d_judge_lists::Slotted;
+use b3d_judge_bodies::Shaped;
+use b3d_judge_materials::Slotted;
+use b3d_judge_tally::Judged;
 use b3d_mend_write_scopes::Scope;
-use b3d_scene::Mode;
-use b3d_scene::Tag;
-use b3d_tally::Judged;
+use b3d_spec::Mode;
+use b3d_spec::Tag;
 use wire::Cursor;
 
 // More things than an id can be: every id names one.
@@ -27,7 +27,7 @@ pub fn textures_in(file: &[u8], p: usize, body: Cursor) -> usize
     requires { ⌜ Body p body (length (now file)) ⌝ }
     ensures { λ r. ⌜ r ≡ texturesOf (readTextures p (left body (now (file .entry)))) ⌝ }
 {
-    match b3d_judge_lists::judge_textures(file, p, body) {
+    match b3d_judge_materials::judge_textures(file, p, body) {
         Judged::Bad(_, _) => 0,
         Judged::Good(t) => t.textures,
     }
@@ -38,7 +38,7 @@ pub fn brushes_in(file: &[u8], p: usize, body: Cursor) -> usize
     requires { ⌜ Body p body (length (now file)) ⌝ }
     ensures { λ r. ⌜ r ≡ brushCount (readBrushes Lenient every p (left body (now (file .entry)))) ⌝ }
 {
-    match b3d_judge_lists::judge_brushes(file, p, body, EVERY, Mode::Lenient) {
+    match b3d_judge_materials::judge_brushes(file, p, body, EVERY, Mode::Lenient) {
         Slotted::Not(_, _) => 0,
         Slotted::Is(_, t) => t.brushes,
     }
@@ -49,7 +49,7 @@ pub fn vertices_in(file: &[u8], p: usize, body: Cursor) -> usize
     requires { ⌜ Body p body (length (now file)) ⌝ }
     ensures { λ r. ⌜ r ≡ verticesOf (readVertices Lenient p (left body (now (file .entry)))) ⌝ }
 {
-    match b3d_bodies::judge_vertices(file, p, body, Mode::Lenient) {
+    match b3d_judge_bodies::judge_vertices(file, p, body, Mode::Lenient) {
         Shaped::Not(_, _) => 0,
         Shaped::Is(n, _) => n,
     }

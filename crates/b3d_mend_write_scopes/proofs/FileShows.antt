@@ -18,32 +18,32 @@ use Rattle.layout.specs.Rows.{sizeFits, mostBytes}
 use Rattle.layout.proofs.ChunkLaws.{ended-fine}
 use Rattle.layout.proofs.Outs.{by-got, by-check, bad-got, got-inj}
 use Rattle.layout.proofs.StepLaws.{words-enough, row-any, judged-got}
-use Rattle.b3d_scene.specs.declared.Mode.the-variants.{Lenient}
-use Rattle.b3d_scene.specs.declared.Tag.{Tag}
-use Rattle.b3d_scene.specs.declared.Tag.the-variants.{BB3D, TEXS, BRUS, NODE}
-use Rattle.b3d_scene.specs.Nesting.{start, next, onward, order, reachedAt}
-use Rattle.b3d_scene.specs.Parse.{readTextures, readBrushes, readRoot}
-use Rattle.b3d_scene.specs.Rules.{levels, header, fileHead}
-use Rattle.b3d_scene.specs.Scene.{Texture, Brush, Forest, leaf, Scene}
-use Rattle.b3d_scene.specs.Tags.{is, code, Chunks}
-use Rattle.b3d_scene.proofs.Files.Entries.{Either}
-use Rattle.b3d_scene.proofs.Files.TagCodes.{by-tag}
-use Rattle.b3d_scene.proofs.Files.TagLaws.{Nothing}
-use Rattle.b3d_mend.specs.Edits.{Edit, keep, follow, mend, was, becomes, before, after, fileLength}
-use Rattle.b3d_mend.specs.Mend.{Mended, asRead, mendBrushes, Taken, found, mendOne, mendNode, mendRoot, mendBody, mendFile}
-use Rattle.b3d_mend.specs.Pieces.{pieces, chunksOf, woven}
-use Rattle.b3d_mend.specs.Trees.{texturesOf}
-use Rattle.b3d_mend.specs.Walks.{brusEdits}
-use Rattle.b3d_mend.proofs.PieceLaws.{Fine, FineC, Fill, within, within-fine, order-kept}
-use Rattle.b3d_mend.proofs.FileLaws.{high}
-use Rattle.b3d_mend.proofs.FileTags.{file-end}
-use Rattle.b3d_mend.proofs.LeafLaws.{bareTextures, bareBrushes, textures-mend, brushes-mend}
-use Rattle.b3d_mend.proofs.NodeLaws.{bareForest, root-mend}
-use Rattle.b3d_mend.proofs.QuietStages.{row-left}
-use Rattle.b3d_mend.proofs.StageLaws.{one-stage}
-use Rattle.b3d_mend.proofs.WalkLaws.{brus-edits}
-use Rattle.b3d_mend_puts.specs.Shown.{shown}
-use Rattle.b3d_mend_puts.proofs.Shows.{shown-append}
+use Rattle.b3d_spec.specs.declared.Mode.the-variants.{Lenient}
+use Rattle.b3d_spec.specs.declared.Tag.{Tag}
+use Rattle.b3d_spec.specs.declared.Tag.the-variants.{BB3D, TEXS, BRUS, NODE}
+use Rattle.b3d_spec.specs.Nesting.{start, next, onward, order, reachedAt}
+use Rattle.b3d_spec.specs.Parse.{readTextures, readBrushes, readRoot}
+use Rattle.b3d_spec.specs.Rules.{levels, header, fileHead}
+use Rattle.b3d_spec.specs.Scene.{Texture, Brush, Forest, leaf, Scene}
+use Rattle.b3d_spec.specs.Tags.{is, code, Chunks}
+use Rattle.b3d_spec.proofs.Files.Entries.{Either}
+use Rattle.b3d_spec.proofs.Files.TagCodes.{by-tag}
+use Rattle.b3d_spec.proofs.Files.TagLaws.{Nothing}
+use Rattle.b3d_mend_spec.specs.Edits.{Edit, keep, follow, mend, was, becomes, before, after, fileLength}
+use Rattle.b3d_mend_spec.specs.Mend.{Mended, asRead, mendBrushes, Taken, found, mendOne, mendNode, mendRoot, mendBody, mendFile}
+use Rattle.b3d_mend_spec.specs.Pieces.{pieces, chunksOf, woven}
+use Rattle.b3d_mend_spec.specs.Trees.{texturesOf}
+use Rattle.b3d_mend_spec.specs.Walks.{brusEdits}
+use Rattle.b3d_mend_spec.proofs.PieceLaws.{Fine, FineC, Fill, within, within-fine, order-kept}
+use Rattle.b3d_mend_spec.proofs.FileLaws.{high}
+use Rattle.b3d_mend_spec.proofs.FileTags.{file-end}
+use Rattle.b3d_mend_spec.proofs.LeafLaws.{bareTextures, bareBrushes, textures-mend, brushes-mend}
+use Rattle.b3d_mend_spec.proofs.NodeLaws.{bareForest, root-mend}
+use Rattle.b3d_mend_spec.proofs.QuietStages.{row-left}
+use Rattle.b3d_mend_spec.proofs.StageLaws.{one-stage}
+use Rattle.b3d_mend_spec.proofs.WalkLaws.{brus-edits}
+use Rattle.b3d_mend_write_spec.specs.Shown.{shown}
+use Rattle.b3d_mend_write_spec.proofs.Shows.{shown-append}
 use Rattle.b3d_mend_judge_items.specs.Lax.{every}
 use Rattle.b3d_mend_judge_items.proofs.Alike.{Alike}
 use Rattle.b3d_mend_judge_items.proofs.LaxFile.{SameBrushes, brus-alike}

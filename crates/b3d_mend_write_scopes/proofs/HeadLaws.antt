@@ -8,9 +8,9 @@ use lib.ListN.{length, take, drop, set, length-take, length-drop}
 use lib.Seq.{sets, length-sets, set-comm}
 use borrow.Author.Tests.{not-true, not-false}
 use Rattle.wire.specs.Bytes.{bytes}
-use Rattle.emit.specs.Writing.{Wrote, head}
-use Rattle.b3d_scene.specs.declared.Tag.{Tag}
-use Rattle.b3d_scene.specs.Tags.{code}
+use Rattle.shared_output.specs.Writing.{Wrote, head}
+use Rattle.b3d_spec.specs.declared.Tag.{Tag}
+use Rattle.b3d_spec.specs.Tags.{code}
 use Rattle.shared_put_or_count.specs.Emits.{written, Fits, Emits}
 use Rattle.shared_put_or_count.proofs.Putting.{sets-append, part-over}
 use Rattle.b3d_mend_write_scopes.specs.Shown.{headed}

@@ -11,29 +11,29 @@ use Rattle.layout.specs.Out.{Out, got}
 use Rattle.layout.specs.Parts.{Step, words, wordsOf}
 use Rattle.layout.proofs.StepLaws.{words-enough}
 use Rattle.layout.proofs.Outs.{by-got, bad-got, got-inj}
-use Rattle.b3d_scene.specs.declared.Mode.the-variants.{Lenient}
-use Rattle.b3d_scene.specs.declared.Tag.{Tag}
-use Rattle.b3d_scene.specs.declared.Tag.the-variants.{MESH, VRTS, TRIS}
-use Rattle.b3d_scene.specs.Nesting.{start, next, onward, order, reachedAt}
-use Rattle.b3d_scene.specs.Parse.{Vertices, noVertices, readVertices}
-use Rattle.b3d_scene.specs.Rules.{meshHead}
-use Rattle.b3d_scene.specs.Scene.{TriangleSet, Mesh}
-use Rattle.b3d_scene.specs.Tags.{is, Chunks}
-use Rattle.b3d_scene.proofs.Files.TagCodes.{by-tag}
-use Rattle.b3d_scene.proofs.Files.TagLaws.{Only}
-use Rattle.b3d_mend.specs.Edits.{Edit, keep, before}
-use Rattle.b3d_mend.specs.Mend.{Mended, mendWords, mendRow, asRead, mendTriangles, Taken, found, mendOne, mendSets, meshOf, mendMesh}
-use Rattle.b3d_mend.specs.Pieces.{pieces, chunksOf, woven}
-use Rattle.b3d_mend.specs.Trees.{verticesOf}
-use Rattle.b3d_mend.specs.Walks.{wordEdits, trisEdits}
-use Rattle.b3d_mend.proofs.WalkLaws.{word-edits, tris-edits}
-use Rattle.b3d_mend.proofs.LeafLaws.{plain, vertices-mend}
-use Rattle.b3d_mend.proofs.PartLaws.{row-good}
-use Rattle.b3d_mend.proofs.PieceLaws.{Fine, within, within-fine, order-kept}
-use Rattle.b3d_mend.proofs.StageLaws.{left-fine, one-stage, sets-stage}
-use Rattle.b3d_mend.proofs.StepLaws.{left-in}
-use Rattle.b3d_mend_puts.specs.Shown.{shown}
-use Rattle.b3d_mend_puts.proofs.Shows.{shown-append}
+use Rattle.b3d_spec.specs.declared.Mode.the-variants.{Lenient}
+use Rattle.b3d_spec.specs.declared.Tag.{Tag}
+use Rattle.b3d_spec.specs.declared.Tag.the-variants.{MESH, VRTS, TRIS}
+use Rattle.b3d_spec.specs.Nesting.{start, next, onward, order, reachedAt}
+use Rattle.b3d_spec.specs.Parse.{Vertices, noVertices, readVertices}
+use Rattle.b3d_spec.specs.Rules.{meshHead}
+use Rattle.b3d_spec.specs.Scene.{TriangleSet, Mesh}
+use Rattle.b3d_spec.specs.Tags.{is, Chunks}
+use Rattle.b3d_spec.proofs.Files.TagCodes.{by-tag}
+use Rattle.b3d_spec.proofs.Files.TagLaws.{Only}
+use Rattle.b3d_mend_spec.specs.Edits.{Edit, keep, before}
+use Rattle.b3d_mend_spec.specs.Mend.{Mended, mendWords, mendRow, asRead, mendTriangles, Taken, found, mendOne, mendSets, meshOf, mendMesh}
+use Rattle.b3d_mend_spec.specs.Pieces.{pieces, chunksOf, woven}
+use Rattle.b3d_mend_spec.specs.Trees.{verticesOf}
+use Rattle.b3d_mend_spec.specs.Walks.{wordEdits, trisEdits}
+use Rattle.b3d_mend_spec.proofs.WalkLaws.{word-edits, tris-edits}
+use Rattle.b3d_mend_spec.proofs.LeafLaws.{plain, vertices-mend}
+use Rattle.b3d_mend_spec.proofs.PartLaws.{row-good}
+use Rattle.b3d_mend_spec.proofs.PieceLaws.{Fine, within, within-fine, order-kept}
+use Rattle.b3d_mend_spec.proofs.StageLaws.{left-fine, one-stage, sets-stage}
+use Rattle.b3d_mend_spec.proofs.StepLaws.{left-in}
+use Rattle.b3d_mend_write_spec.specs.Shown.{shown}
+use Rattle.b3d_mend_write_spec.proofs.Shows.{shown-append}
 use Rattle.b3d_mend_write_scopes.specs.Shown.{Walked, walked, nextScope, meshScope, Within, walkChunks, shownPieces, walkInside, walkLeaf, walkChunk}
 use Rattle.b3d_mend_write_scopes.specs.declared.Scope.{Scope}
 use Rattle.b3d_mend_write_scopes.proofs.PieceShows.{pieces-placed, shownBodies, woven-shown}

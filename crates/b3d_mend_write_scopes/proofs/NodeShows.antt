@@ -15,29 +15,29 @@ use Rattle.layout.specs.Write.{writeWords, writeText}
 use Rattle.layout.proofs.PartLaws.{named-fine}
 use Rattle.layout.proofs.StepLaws.{judged-got}
 use Rattle.layout.proofs.Outs.{by-got, bad-got, got-inj}
-use Rattle.b3d_scene.specs.declared.Mode.the-variants.{Lenient}
-use Rattle.b3d_scene.specs.declared.Tag.{Tag}
-use Rattle.b3d_scene.specs.declared.Tag.the-variants.{NODE, MESH, BONE, KEYS, ANIM}
-use Rattle.b3d_scene.specs.Nesting.{start, next, onward, order, reachedAt}
-use Rattle.b3d_scene.specs.Parse.{Moves, Inner, readKeys, readAnim, readNode}
-use Rattle.b3d_scene.specs.Rules.{nodeRow, boneVertices, bonesFrom, bonesBelow, animated, ownVertices}
-use Rattle.b3d_scene.specs.Scene.{Kind, pivot, Anim, still, anim, Forest}
-use Rattle.b3d_scene.specs.Tags.{is, Chunks}
-use Rattle.b3d_scene.proofs.Files.Entries.{Either}
-use Rattle.b3d_scene.proofs.Files.TagCodes.{by-tag}
-use Rattle.b3d_scene.proofs.Files.TagLaws.{Only}
-use Rattle.b3d_mend.specs.Edits.{Edit, keep, was}
-use Rattle.b3d_mend.specs.Mend.{Mended, asRead, mendBone, Taken, found, mendMesh, mendKind, withKeys, withAnim, mendMoves, mendNodes, dataOf, mendNode}
-use Rattle.b3d_mend.specs.Pieces.{pieces, chunksOf, woven}
-use Rattle.b3d_mend.specs.Walks.{boneEdits}
-use Rattle.b3d_mend.proofs.WalkLaws.{bone-edits}
-use Rattle.b3d_mend.proofs.PieceLaws.{Fine, FineC, within, within-fine, order-kept}
-use Rattle.b3d_mend.proofs.LeafLaws.{named-exact}
-use Rattle.b3d_mend.proofs.NodeLaws.{named-joins, nodes-stage, node-mend}
-use Rattle.b3d_mend.proofs.StageLaws.{left-fine, kind-stage, moves-stage}
-use Rattle.b3d_mend.proofs.TreeLaws.{read-edits}
-use Rattle.b3d_mend_puts.specs.Shown.{shown}
-use Rattle.b3d_mend_puts.proofs.Shows.{shown-cons}
+use Rattle.b3d_spec.specs.declared.Mode.the-variants.{Lenient}
+use Rattle.b3d_spec.specs.declared.Tag.{Tag}
+use Rattle.b3d_spec.specs.declared.Tag.the-variants.{NODE, MESH, BONE, KEYS, ANIM}
+use Rattle.b3d_spec.specs.Nesting.{start, next, onward, order, reachedAt}
+use Rattle.b3d_spec.specs.Parse.{Moves, Inner, readKeys, readAnim, readNode}
+use Rattle.b3d_spec.specs.Rules.{nodeRow, boneVertices, bonesFrom, bonesBelow, animated, ownVertices}
+use Rattle.b3d_spec.specs.Scene.{Kind, pivot, Anim, still, anim, Forest}
+use Rattle.b3d_spec.specs.Tags.{is, Chunks}
+use Rattle.b3d_spec.proofs.Files.Entries.{Either}
+use Rattle.b3d_spec.proofs.Files.TagCodes.{by-tag}
+use Rattle.b3d_spec.proofs.Files.TagLaws.{Only}
+use Rattle.b3d_mend_spec.specs.Edits.{Edit, keep, was}
+use Rattle.b3d_mend_spec.specs.Mend.{Mended, asRead, mendBone, Taken, found, mendMesh, mendKind, withKeys, withAnim, mendMoves, mendNodes, dataOf, mendNode}
+use Rattle.b3d_mend_spec.specs.Pieces.{pieces, chunksOf, woven}
+use Rattle.b3d_mend_spec.specs.Walks.{boneEdits}
+use Rattle.b3d_mend_spec.proofs.WalkLaws.{bone-edits}
+use Rattle.b3d_mend_spec.proofs.PieceLaws.{Fine, FineC, within, within-fine, order-kept}
+use Rattle.b3d_mend_spec.proofs.LeafLaws.{named-exact}
+use Rattle.b3d_mend_spec.proofs.NodeLaws.{named-joins, nodes-stage, node-mend}
+use Rattle.b3d_mend_spec.proofs.StageLaws.{left-fine, kind-stage, moves-stage}
+use Rattle.b3d_mend_spec.proofs.TreeLaws.{read-edits}
+use Rattle.b3d_mend_write_spec.specs.Shown.{shown}
+use Rattle.b3d_mend_write_spec.proofs.Shows.{shown-cons}
 use Rattle.b3d_mend_write_scopes.specs.Shown.{Walked, walked, nextScope, nodeScope, walkChunks, shownPieces, walkInside, walkLeaf, walkNode, walkChunk}
 use Rattle.b3d_mend_write_scopes.specs.declared.Scope.{Scope}
 use Rattle.b3d_mend_write_scopes.proofs.PieceShows.{pieces-placed, shownBodies, woven-shown}

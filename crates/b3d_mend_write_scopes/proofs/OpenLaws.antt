@@ -20,22 +20,22 @@ use Rattle.layout.specs.Out.{Out, got, bad}
 use Rattle.layout.specs.Parts.{Name, Step, wordsOf, named}
 use Rattle.layout.specs.Rules.{any, namesOrNone}
 use Rattle.layout.specs.Write.{writeWords, writeText}
-use Rattle.emit.proofs.Appends.{text-append, text-zero}
-use Rattle.b3d_chunks.specs.Chunks.{namedAt, RowIn, NamedIn}
-use Rattle.b3d_chunks.specs.declared.Named.{Named}
-use Rattle.b3d_chunks.specs.declared.Named.the-variants as row
-use Rattle.b3d_chunks.proofs.Names.{named-cut, named-any, named-among}
-use Rattle.b3d_scene.specs.Rules.{nodeRow, meshHead}
-use Rattle.b3d_scene.specs.Tags.{is}
-use Rattle.b3d_scene.specs.declared.Tag.{Tag}
-use Rattle.b3d_scene.specs.declared.Tag.the-variants.{BB3D, TEXS, BRUS, NODE, MESH, VRTS, TRIS, BONE, KEYS, ANIM}
-use Rattle.b3d_scene.proofs.Tag.{the-type}
-use Rattle.b3d_inside.proofs.TagTests.{ten, one-of}
-use Rattle.b3d_mend.specs.Edits.{keep}
-use Rattle.b3d_mend.specs.Pieces.{Pieces, chunksOf}
-use Rattle.b3d_mend.specs.Walks.{wordEdit, wordEdits}
-use Rattle.b3d_mend_puts.specs.Shown.{shown}
-use Rattle.b3d_mend_puts.proofs.Shows.{shown-none}
+use Rattle.shared_output.proofs.Appends.{text-append, text-zero}
+use Rattle.b3d_chunk_cursor.specs.Chunks.{namedAt, RowIn, NamedIn}
+use Rattle.b3d_chunk_cursor.specs.declared.Named.{Named}
+use Rattle.b3d_chunk_cursor.specs.declared.Named.the-variants as row
+use Rattle.b3d_chunk_cursor.proofs.Names.{named-cut, named-any, named-among}
+use Rattle.b3d_spec.specs.Rules.{nodeRow, meshHead}
+use Rattle.b3d_spec.specs.Tags.{is}
+use Rattle.b3d_spec.specs.declared.Tag.{Tag}
+use Rattle.b3d_spec.specs.declared.Tag.the-variants.{BB3D, TEXS, BRUS, NODE, MESH, VRTS, TRIS, BONE, KEYS, ANIM}
+use Rattle.b3d_spec.proofs.Tag.{the-type}
+use Rattle.b3d_spec_chunk_places.proofs.TagTests.{ten, one-of}
+use Rattle.b3d_mend_spec.specs.Edits.{keep}
+use Rattle.b3d_mend_spec.specs.Pieces.{Pieces, chunksOf}
+use Rattle.b3d_mend_spec.specs.Walks.{wordEdit, wordEdits}
+use Rattle.b3d_mend_write_spec.specs.Shown.{shown}
+use Rattle.b3d_mend_write_spec.proofs.Shows.{shown-none}
 use Rattle.b3d_mend_write_edits.proofs.Slices.{words-slice, left-first}
 use Rattle.b3d_mend_write_brushes.proofs.BrushPuts.{take-over}
 use Rattle.b3d_mend_write_brushes.proofs.ListPuts.{named-text}

@@ -10,14 +10,14 @@ use lib.Dec.{leb, leb→le}
 use Rattle.wire.specs.Bytes.{word}
 use Rattle.layout.specs.Chunks.{done, stop, chunk}
 use Rattle.layout.proofs.Outs.{if-case}
-use Rattle.b3d_scene.specs.Tags.{tagOf, Chunks}
-use Rattle.b3d_scene.specs.declared.Tag.{Tag}
-use Rattle.b3d_mend.specs.Edits.{Edit, keep, was, becomes, before, after, spareOut}
-use Rattle.b3d_mend.specs.Pieces.{Pieces, none-left, spare, past, other, known, piece, piecesIn, pieces, chunksOf, wrapped, woven}
-use Rattle.b3d_mend.specs.Report.{entries, reportBytes}
-use Rattle.b3d_mend.proofs.PieceLaws.{Fill}
-use Rattle.b3d_mend_puts.specs.Shown.{shown}
-use Rattle.b3d_mend_puts.proofs.Shows.{shown-none, shown-cons, shown-append}
+use Rattle.b3d_spec.specs.Tags.{tagOf, Chunks}
+use Rattle.b3d_spec.specs.declared.Tag.{Tag}
+use Rattle.b3d_mend_spec.specs.Edits.{Edit, keep, was, becomes, before, after, spareOut}
+use Rattle.b3d_mend_spec.specs.Pieces.{Pieces, none-left, spare, past, other, known, piece, piecesIn, pieces, chunksOf, wrapped, woven}
+use Rattle.b3d_mend_spec.specs.Report.{entries, reportBytes}
+use Rattle.b3d_mend_spec.proofs.PieceLaws.{Fill}
+use Rattle.b3d_mend_write_spec.specs.Shown.{shown}
+use Rattle.b3d_mend_write_spec.proofs.Shows.{shown-none, shown-cons, shown-append}
 use Rattle.b3d_mend_write_scopes.specs.Shown.{headed, shownPieces}
 
 -- ---- pieces stand one after the other

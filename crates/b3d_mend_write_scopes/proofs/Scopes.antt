@@ -3,8 +3,8 @@ use mathlib.Core.Path.{_≡_, refl}
 use Prim.Native.Nat.{ℕ, _+_}
 use mathlib.Core.Bool.{Bool, true, false}
 use Rattle.wire.specs.Test.{if}
-use Rattle.b3d_scene.specs.declared.Tag.{Tag}
-use Rattle.b3d_scene.specs.declared.Tag.the-variants.{BB3D, TEXS, BRUS, NODE, MESH, VRTS, TRIS, BONE, KEYS, ANIM}
+use Rattle.b3d_spec.specs.declared.Tag.{Tag}
+use Rattle.b3d_spec.specs.declared.Tag.the-variants.{BB3D, TEXS, BRUS, NODE, MESH, VRTS, TRIS, BONE, KEYS, ANIM}
 use Rattle.b3d_mend_write_scopes.specs.Shown.{nextScope, nodeScope, meshScope}
 use Rattle.b3d_mend_write_scopes.specs.declared.Scope.{Scope}
 use Rattle.b3d_mend_write_scopes.specs.Heads.{bodyAt}

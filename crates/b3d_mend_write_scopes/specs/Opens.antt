@@ -8,10 +8,10 @@ use Rattle.wire.specs.Bytes.{wordAt}
 use Rattle.wire.specs.Cursors.{Inside, left}
 use Rattle.wire.specs.declared.Cursor.{Cursor}
 use Rattle.layout.specs.Rules.{namesOrNone}
-use Rattle.b3d_scene.specs.declared.Tag.{Tag}
-use Rattle.b3d_mend.specs.Edits.{keep}
-use Rattle.b3d_mend.specs.Walks.{wordEdit}
-use Rattle.b3d_mend_puts.specs.Shown.{shown}
+use Rattle.b3d_spec.specs.declared.Tag.{Tag}
+use Rattle.b3d_mend_spec.specs.Edits.{keep}
+use Rattle.b3d_mend_spec.specs.Walks.{wordEdit}
+use Rattle.b3d_mend_write_spec.specs.Shown.{shown}
 use Rattle.b3d_mend_write_scopes.specs.Shown.{Walked, walked, nodeScope, meshScope, walkInside, walkLeaf, walkChunk}
 use Rattle.b3d_mend_write_scopes.specs.declared.Scope.{Scope}
 use Rattle.b3d_mend_write_scopes.specs.declared.Opening.{Opening}

@@ -10,18 +10,18 @@ use Rattle.layout.specs.Chunks.{done, stop, chunk}
 use Rattle.layout.specs.Out.{Out, got, bad}
 use Rattle.layout.specs.Parts.{Name, Step, wordsOf, named}
 use Rattle.layout.specs.Write.{writeWords, writeText}
-use Rattle.b3d_scene.specs.declared.Mode.the-variants.{Lenient}
-use Rattle.b3d_scene.specs.Parse.{readVertices, readTextures, readBrushes}
-use Rattle.b3d_scene.specs.Rules.{meshHead, nodeRow}
-use Rattle.b3d_scene.specs.Scene.{Brush}
-use Rattle.b3d_scene.specs.Tags.{code, Chunks}
-use Rattle.b3d_scene.specs.declared.Tag.{Tag}
-use Rattle.b3d_scene.specs.declared.Tag.the-variants.{BB3D, TEXS, BRUS, NODE, MESH, VRTS, TRIS, BONE, KEYS, ANIM}
-use Rattle.b3d_mend.specs.Edits.{keep, spareOut, fileLength}
-use Rattle.b3d_mend.specs.Pieces.{Pieces, none-left, spare, past, other, known, pieces, chunksOf}
-use Rattle.b3d_mend.specs.Trees.{verticesOf, texturesOf}
-use Rattle.b3d_mend.specs.Walks.{wordEdits, trisEdits, boneEdits, brusEdits}
-use Rattle.b3d_mend_puts.specs.Shown.{shown}
+use Rattle.b3d_spec.specs.declared.Mode.the-variants.{Lenient}
+use Rattle.b3d_spec.specs.Parse.{readVertices, readTextures, readBrushes}
+use Rattle.b3d_spec.specs.Rules.{meshHead, nodeRow}
+use Rattle.b3d_spec.specs.Scene.{Brush}
+use Rattle.b3d_spec.specs.Tags.{code, Chunks}
+use Rattle.b3d_spec.specs.declared.Tag.{Tag}
+use Rattle.b3d_spec.specs.declared.Tag.the-variants.{BB3D, TEXS, BRUS, NODE, MESH, VRTS, TRIS, BONE, KEYS, ANIM}
+use Rattle.b3d_mend_spec.specs.Edits.{keep, spareOut, fileLength}
+use Rattle.b3d_mend_spec.specs.Pieces.{Pieces, none-left, spare, past, other, known, pieces, chunksOf}
+use Rattle.b3d_mend_spec.specs.Trees.{verticesOf, texturesOf}
+use Rattle.b3d_mend_spec.specs.Walks.{wordEdits, trisEdits, boneEdits, brusEdits}
+use Rattle.b3d_mend_write_spec.specs.Shown.{shown}
 use Rattle.b3d_mend_judge_items.specs.Lax.{every}
 use Rattle.b3d_mend_write_scopes.specs.declared.Scope.{Scope}
 

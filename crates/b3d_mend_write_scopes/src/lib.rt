@@ -10,12 +10,12 @@ ghost use Rattle.b3d_mend_write_scopes.specs.Heads.{bodyAt};
 ghost use Rattle.wire.specs.Bytes.{AllBytes};
 ghost use Rattle.wire.specs.Cursors.{Inside};
 ghost use Rattle.b3d_mend_write_scopes.specs.Opens.{Opens};
-ghost use Rattle.b3d_scene.specs.Tags.{code};
-ghost use Rattle.emit.specs.Writing.{head};
+ghost use Rattle.b3d_spec.specs.Tags.{code};
+ghost use Rattle.shared_output.specs.Writing.{head};
 ghost use Rattle.shared_put_or_count.specs.Emits.{written};
 ghost use Rattle.b3d_mend_write_scopes.specs.HeadRooms.{headWet, HeadRoom};
-use b3d_chunks::Named;
-use b3d_scene::Tag;
+use b3d_chunk_cursor::Named;
+use b3d_spec::Tag;
 use wire::Cursor;
 use wire::Number;
 
@@ -123,7 +123,7 @@ pub fn put_head(tag: Tag, size: usize, report: bool, wet: bool, out: &mut [u8], 
     if !wet {
         return;
     }
-    emit::put_header(&mut out[at..], b3d_chunks::letters(tag), size);
+    shared_output::put_header(&mut out[at..], b3d_chunk_cursor::letters(tag), size);
 }
 
 // How a chunk is walked: as one that holds no chunks (`Flat`), not at all (`Nothing`), or as a NODE or a MESH whose chunks begin at the cursor.
@@ -143,7 +143,7 @@ pub fn find_chunks(file: &[u8], levels: u32, tag: Tag, body: Cursor) -> Opening
         return Opening::Flat;
     }
     match tag {
-        Tag::NODE => match b3d_chunks::named_row(file, body, 10) {
+        Tag::NODE => match b3d_chunk_cursor::named_row(file, body, 10) {
             Named::Cut => Opening::Flat,
             Named::Is { next, .. } => Opening::Node(next),
         },

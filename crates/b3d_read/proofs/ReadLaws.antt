@@ -13,24 +13,24 @@ use Rattle.layout.specs.Lists.{All}
 use Rattle.layout.proofs.Lists.{all-zip}
 use Rattle.layout.proofs.Outs.{by-check}
 use Rattle.layout.specs.Rows.{eachOf, sizeFits, joined}
-use Rattle.b3d_scene.specs.declared.Answer.{Answer}
-use Rattle.b3d_scene.specs.declared.Mode.{Mode}
-use Rattle.b3d_scene.specs.declared.Mode.the-variants.{Lenient}
-use Rattle.b3d_scene.specs.Answers.{judge, read, answer, readAnswer, readTable, tableAfter}
-use Rattle.b3d_scene.specs.Parse.{parse}
-use Rattle.b3d_scene.specs.Scene.{Scene}
-use Rattle.b3d_scene.specs.Tables.{width, rows, table, tables, nodeTables, counts}
-use Rattle.b3d_scene.proofs.Refusals.{read-number}
-use Rattle.b3d_scene.proofs.Rows.Numbers.{table-each, ten-tables}
-use Rattle.b3d_scene.proofs.AnswerLaws.{judge-got, judge-lenient, read-got}
-use Rattle.b3d_scene.proofs.Files.FileLaws.{parse-fine}
-use Rattle.b3d_scene.proofs.Rows.CountLaws.{table-length}
-use Rattle.b3d_file_rows.specs.Rows.{fileRows}
-use Rattle.b3d_file_rows.proofs.Laws.{rows-law}
-use Rattle.b3d_fill.specs.Fills.{Fillable, Filled}
-use Rattle.table_room.specs.Rooms.{numberOf}
+use Rattle.b3d_spec.specs.declared.Answer.{Answer}
+use Rattle.b3d_spec.specs.declared.Mode.{Mode}
+use Rattle.b3d_spec.specs.declared.Mode.the-variants.{Lenient}
+use Rattle.b3d_spec.specs.Answers.{judge, read, answer, readAnswer, readTable, tableAfter}
+use Rattle.b3d_spec.specs.Parse.{parse}
+use Rattle.b3d_spec.specs.Scene.{Scene}
+use Rattle.b3d_spec.specs.Tables.{width, rows, table, tables, nodeTables, counts}
+use Rattle.b3d_spec.proofs.Refusals.{read-number}
+use Rattle.b3d_spec.proofs.Rows.Numbers.{table-each, ten-tables}
+use Rattle.b3d_spec.proofs.AnswerLaws.{judge-got, judge-lenient, read-got}
+use Rattle.b3d_spec.proofs.Files.FileLaws.{parse-fine}
+use Rattle.b3d_spec.proofs.Rows.CountLaws.{table-length}
+use Rattle.b3d_spec_plain_rows.specs.Rows.{fileRows}
+use Rattle.b3d_spec_plain_rows.proofs.Laws.{rows-law}
+use Rattle.b3d_read_tables.specs.Fills.{Fillable, Filled}
+use Rattle.shared_room.specs.Rooms.{numberOf}
 use Rattle.b3d_read.specs.Reads.{tableIn, roomIn, Reads}
-use Rattle.b3d_limits.proofs.RoomLaws.{stored-over}
+use Rattle.b3d_judge_limits.proofs.RoomLaws.{stored-over}
 
 -- the number says whether a file is accepted, for no refusal has the number 0
 record Accepted (mode : Mode) (room : ℕ → ℕ) (s : List ℕ) : Type 0 where

@@ -3,9 +3,9 @@ use mathlib.Core.Path.{_≡_}
 use Prim.Native.Nat.{ℕ, _-_, _≤_}
 use mathlib.Core.List.{List, []}
 use lib.ListN.{length, getD}
-use Rattle.b3d_scene.specs.declared.Answer.{Answer}
-use Rattle.b3d_scene.specs.declared.Mode.{Mode}
-use Rattle.b3d_scene.specs.Answers.{readAnswer, readTable}
+use Rattle.b3d_spec.specs.declared.Answer.{Answer}
+use Rattle.b3d_spec.specs.declared.Mode.{Mode}
+use Rattle.b3d_spec.specs.Answers.{readAnswer, readTable}
 
 -- table k of the list ts of tables, the first being table 1; empty where there is none
 abbrev pub tableIn : List (List ℕ) → ℕ → List ℕ

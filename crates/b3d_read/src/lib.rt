@@ -1,8 +1,8 @@
 // The reader: stores a file's ten tables in lent slices, and gives the answer of paper 01 for every file and tables of every length.
 ghost use mathlib.Core.List.{[], _∷_};
 ghost use Rattle.b3d_read.specs.Reads.{Reads};
-use b3d_scene::Answer;
-use b3d_scene::Mode;
+use b3d_spec::Answer;
+use b3d_spec::Mode;
 
 // Reads `file` in `mode` into the ten lent tables `t1` to `t10`: stores their rows, and what stood behind them stays. Where the file is refused, or a table
 // is too short, each table stays as it was. Returns number, place, version, n_texs and the ten row counts.
@@ -26,7 +26,7 @@ pub fn read(
         (now (t1 .exit) ∷ now (t2 .exit) ∷ now (t3 .exit) ∷ now (t4 .exit) ∷ now (t5 .exit)
         ∷ now (t6 .exit) ∷ now (t7 .exit) ∷ now (t8 .exit) ∷ now (t9 .exit) ∷ now (t10 .exit) ∷ []) r ⌝ }
 {
-    let answer = b3d_answers::answer_for(
+    let answer = b3d_read_answer::answer_for(
         mode,
         file,
         t1.len(),
@@ -45,6 +45,6 @@ pub fn read(
     }
     b3d_judge::are_bytes(file);
     let counts = answer.counts;
-    b3d_fill::fill_tables(file, counts, t1, t2, t3, t4, t5, t6, t7, t8, t9, t10);
+    b3d_read_tables::fill_tables(file, counts, t1, t2, t3, t4, t5, t6, t7, t8, t9, t10);
     answer
 }

@@ -13,14 +13,14 @@ use Rattle.wire.proofs.Left.{span, left-nil}
 use Rattle.layout.specs.Chunks.{done}
 use Rattle.layout.proofs.Outs.{by-test}
 use Rattle.layout.proofs.ChunkLaws.{split-none}
-use Rattle.b3d_scene.specs.Mask.{ones, mask, keyHas, keyMask}
-use Rattle.b3d_scene.specs.Rules.{vertexWords}
-use Rattle.b3d_scene.specs.Tables.{noRows, start, setRows, triangleRows}
-use Rattle.b3d_scene.specs.Tags.{split, tagOf}
-use Rattle.b3d_file_rows.specs.Flat.{flatAt, flat}
-use Rattle.b3d_file_rows.specs.Plain.{setsOf}
-use Rattle.b3d_file_rows.specs.Rows.{flatRows, fileRows}
-use Rattle.b3d_walk.specs.Seeks.{ahead}
+use Rattle.b3d_spec.specs.Mask.{ones, mask, keyHas, keyMask}
+use Rattle.b3d_spec.specs.Rules.{vertexWords}
+use Rattle.b3d_spec.specs.Tables.{noRows, start, setRows, triangleRows}
+use Rattle.b3d_spec.specs.Tags.{split, tagOf}
+use Rattle.b3d_spec_plain_rows.specs.Flat.{flatAt, flat}
+use Rattle.b3d_spec_plain_rows.specs.Plain.{setsOf}
+use Rattle.b3d_spec_plain_rows.specs.Rows.{flatRows, fileRows}
+use Rattle.b3d_chunk_walk.specs.Seeks.{ahead}
 use Rattle.b3d_rows_open_items.specs.ItemsLeft.{ItemTable, itemRows, Measured}
 use Rattle.b3d_rows_open_items.specs.declared.OpenItems.{OpenItems}
 use Rattle.b3d_rows_open_items.proofs.ItemsLeftLaws.{by-table, items-none}

@@ -5,7 +5,7 @@ use mathlib.Core.List.{List}
 use lib.ListN.{length}
 use lib.Dec.{eqb, leb}
 use Rattle.wire.specs.Test.{if}
-use Rattle.b3d_file_rows.specs.Rows.{fileRows}
+use Rattle.b3d_spec_plain_rows.specs.Rows.{fileRows}
 use Rattle.b3d_rows_open_items.specs.ItemsLeft.{ItemTable, Measured}
 use Rattle.b3d_rows_open_items.specs.declared.OpenItems.{OpenItems}
 use Rattle.b3d_rows_positions.specs.Positions.{itemsAhead, ItemPosition, Comes}

@@ -3,7 +3,7 @@ ghost use mathlib.Core.Path.{_≡_};
 ghost use Prim.Native.Nat.{_<_, _≤_};
 ghost use mathlib.Core.List.{[]};
 ghost use lib.ListN.{length};
-ghost use Rattle.b3d_file_rows.specs.Flat.{flatAt};
+ghost use Rattle.b3d_spec_plain_rows.specs.Flat.{flatAt};
 ghost use Rattle.b3d_rows_nodes.specs.NextNode.{Shallow};
 ghost use Rattle.b3d_rows.specs.NextRow.{partsFrom, rowsFrom, FirstItems, PartAt, RowCursorAt, Starts, PartNext, RowNext};
 use b3d_rows_nodes::OpenNodes;
@@ -51,7 +51,7 @@ pub fn start(file: &[u8], k: u32) -> RowCursor
     ensures { λ r. ⌜ Starts k (now (file .entry)) r ⌝ }
 {
     let items = first_items(file, k);
-    let counts = b3d_scene::START;
+    let counts = b3d_spec::START;
     RowCursor {
         position: Position {
             at: 12,

@@ -12,23 +12,23 @@ use Rattle.wire.specs.Test.{if}
 use Rattle.wire.specs.Cursors.{Inside, left}
 use Rattle.wire.specs.declared.Cursor.{Cursor}
 use Rattle.wire.proofs.Left.{left-most}
-use Rattle.b3d_scene.specs.declared.Counts.{Counts}
-use Rattle.b3d_scene.specs.declared.Tag.the-variants.{MESH, KEYS}
-use Rattle.b3d_scene.specs.Tables.{width, withMeshes}
-use Rattle.b3d_file_rows.specs.Flat.{flatAt}
-use Rattle.b3d_file_rows.specs.Plain.{plainMesh, plainKeys}
-use Rattle.b3d_file_rows.specs.Rows.{counted, addKeys, flatRows, listRow}
-use Rattle.b3d_walk.specs.Walks.{BodyAt}
-use Rattle.b3d_walk.proofs.Meshes.{mesh-inside}
-use Rattle.b3d_item_rows.proofs.Groups.{group-few}
-use Rattle.b3d_mesh_rows.specs.Meshes.{meshCells, MeshPut}
-use Rattle.b3d_mesh_rows.specs.declared.Added.{Added}
+use Rattle.b3d_spec.specs.declared.Counts.{Counts}
+use Rattle.b3d_spec.specs.declared.Tag.the-variants.{MESH, KEYS}
+use Rattle.b3d_spec.specs.Tables.{width, withMeshes}
+use Rattle.b3d_spec_plain_rows.specs.Flat.{flatAt}
+use Rattle.b3d_spec_plain_rows.specs.Plain.{plainMesh, plainKeys}
+use Rattle.b3d_spec_plain_rows.specs.Rows.{counted, addKeys, flatRows, listRow}
+use Rattle.b3d_chunk_walk.specs.Walks.{BodyAt}
+use Rattle.b3d_chunk_walk.proofs.Meshes.{mesh-inside}
+use Rattle.b3d_read_item_rows.proofs.Groups.{group-few}
+use Rattle.b3d_read_mesh_rows.specs.Meshes.{meshCells, MeshPut}
+use Rattle.b3d_read_mesh_rows.specs.declared.Added.{Added}
 use Rattle.b3d_rows_positions.specs.FindChunk.{Later, RowsFound, ChunkFound, ChunkFinds}
 use Rattle.b3d_rows_positions.specs.declared.FoundChunk.{FoundChunk}
 use Rattle.b3d_rows_positions.specs.declared.FoundChunk.the-variants as met
 use Rattle.b3d_rows_positions.proofs.FindChunkLaws.{chunk-none, chunk-at}
-use Rattle.b3d_fill_meshes.proofs.Tables.{meshes}
-use Rattle.b3d_fill_moves.proofs.Tables.{lists}
+use Rattle.b3d_read_meshes.proofs.Tables.{meshes}
+use Rattle.b3d_read_animation.proofs.Tables.{lists}
 use Rattle.b3d_rows_positions.specs.Positions.{Comes}
 use Rattle.b3d_rows_positions.specs.declared.Position.{Position}
 use Rattle.b3d_rows_positions.proofs.PositionLaws.{owns-only}

@@ -4,13 +4,13 @@ use Prim.Native.Nat.{ℕ, _+_, _-_, _<_, _≤_}
 use mathlib.Core.List.{List, _∷_, _++_}
 use lib.ListN.{length}
 use Rattle.wire.specs.Cursors.{Inside, left}
-use Rattle.b3d_scene.specs.declared.Counts.{Counts}
-use Rattle.b3d_scene.specs.Tables.{setRows, triangleRows}
-use Rattle.b3d_file_rows.specs.Flat.{flatAt}
-use Rattle.b3d_file_rows.specs.Plain.{plainTriangles, setsOf}
-use Rattle.b3d_file_rows.specs.Rows.{flatRows}
-use Rattle.b3d_walk.specs.Seeks.{ahead}
-use Rattle.b3d_item_rows.specs.Items.{setRow}
+use Rattle.b3d_spec.specs.declared.Counts.{Counts}
+use Rattle.b3d_spec.specs.Tables.{setRows, triangleRows}
+use Rattle.b3d_spec_plain_rows.specs.Flat.{flatAt}
+use Rattle.b3d_spec_plain_rows.specs.Plain.{plainTriangles, setsOf}
+use Rattle.b3d_spec_plain_rows.specs.Rows.{flatRows}
+use Rattle.b3d_chunk_walk.specs.Seeks.{ahead}
+use Rattle.b3d_read_item_rows.specs.Items.{setRow}
 use Rattle.b3d_rows_positions.specs.Positions.{MeshPosition, Comes}
 use Rattle.b3d_rows_positions.specs.declared.Position.{Position}
 use Rattle.b3d_rows_chunks.specs.declared.FoundSet.{FoundSet}

@@ -3,11 +3,11 @@ ghost use mathlib.Core.Path.{_≡_};
 ghost use Prim.Native.Nat.{_<_, _≤_};
 ghost use lib.ListN.{length};
 ghost use Rattle.b3d_rows_chunks.specs.NextChunk.{chunksAhead, ChunkPosition, ChunkNext, setsAhead, SetPosition, SetFound, SetNext};
+use b3d_chunk_walk::Sought;
 use b3d_rows_positions::FoundChunk;
 use b3d_rows_positions::NextPosition;
 use b3d_rows_positions::Position;
-use b3d_scene::Tag;
-use b3d_walk::Sought;
+use b3d_spec::Tag;
 use wire::Cursor;
 
 // Writes the next row of table 4 into the start of `row` and returns the position behind it. The cells behind the row stay.
@@ -25,8 +25,17 @@ pub fn next_mesh(file: &[u8], x: Position, row: &mut [u32]) -> Position
     else {
         return x;
     };
-    let node = b3d_walk::current(nodes);
-    let more = b3d_mesh_rows::put_mesh(file, p, body, node, counts.vertices, counts.sets, 0, row);
+    let node = b3d_chunk_walk::current(nodes);
+    let more = b3d_read_mesh_rows::put_mesh(
+        file,
+        p,
+        body,
+        node,
+        counts.vertices,
+        counts.sets,
+        0,
+        row,
+    );
     let vertices = counts.vertices + more.vertices;
     let sets = counts.sets + more.sets;
     counts.nodes = nodes;
@@ -57,8 +66,8 @@ pub fn next_list(file: &[u8], x: Position, row: &mut [u32]) -> Position
     else {
         return x;
     };
-    let node = b3d_walk::current(nodes);
-    let n = b3d_item_rows::put_group(file, body, true, node, counts.keys, 0, row);
+    let node = b3d_chunk_walk::current(nodes);
+    let n = b3d_read_item_rows::put_group(file, body, true, node, counts.keys, 0, row);
     counts.nodes = nodes;
     counts.keys = counts.keys + n;
     let inner = x.inner;
@@ -85,7 +94,7 @@ fn find_set(file: &[u8], from: Position) -> FoundSet
     let mut x = from;
     loop {
         let c = x.inner;
-        match b3d_walk::seek(file, c, Tag::TRIS) {
+        match b3d_chunk_walk::seek(file, c, Tag::TRIS) {
             Sought::Found {
                 body,
                 next: inner,
@@ -124,8 +133,8 @@ pub fn next_set(file: &[u8], x: Position, row: &mut [u32]) -> Position
     let set = find_set(file, x);
     let position = set.position;
     let mut counts = position.counts;
-    let mesh = b3d_walk::current(counts.meshes);
-    let n = b3d_item_rows::put_group(file, set.body, false, mesh, counts.triangles, 0, row);
+    let mesh = b3d_chunk_walk::current(counts.meshes);
+    let n = b3d_read_item_rows::put_group(file, set.body, false, mesh, counts.triangles, 0, row);
     counts.triangles = counts.triangles + n;
     let inner = position.inner;
     let items = position.items;

@@ -13,14 +13,14 @@ use Rattle.layout.specs.Parts.{Name, wordsOf}
 use Rattle.layout.specs.Rules.{any, NONE}
 use Rattle.layout.proofs.StepLaws.{length-words-of}
 use Rattle.layout.specs.Rows.{nameCells}
-use Rattle.b3d_scene.specs.Tables.{width}
-use Rattle.b3d_chunks.specs.Chunks.{namedAt, NamedIn}
-use Rattle.b3d_chunks.specs.declared.Named.{Named}
-use Rattle.b3d_chunks.specs.declared.Named.the-variants as named
-use Rattle.b3d_chunks.proofs.Names.{named-cut, named-any, named-among, row-inside as named-inside, row-room as named-room, after-inside}
-use Rattle.b3d_file_rows.specs.Plain.{nextItem, namedItems}
-use Rattle.b3d_file_rows.proofs.Items.{items-from}
-use Rattle.b3d_fill_texts.specs.Texts.{namedRow}
+use Rattle.b3d_spec.specs.Tables.{width}
+use Rattle.b3d_chunk_cursor.specs.Chunks.{namedAt, NamedIn}
+use Rattle.b3d_chunk_cursor.specs.declared.Named.{Named}
+use Rattle.b3d_chunk_cursor.specs.declared.Named.the-variants as named
+use Rattle.b3d_chunk_cursor.proofs.Names.{named-cut, named-any, named-among, row-inside as named-inside, row-room as named-room, after-inside}
+use Rattle.b3d_spec_plain_rows.specs.Plain.{nextItem, namedItems}
+use Rattle.b3d_spec_plain_rows.proofs.Items.{items-from}
+use Rattle.b3d_read_materials.specs.Texts.{namedRow}
 use Rattle.b3d_rows_positions.specs.Positions.{Comes}
 use Rattle.b3d_rows_positions.specs.declared.Position.{Position}
 use Rattle.b3d_rows_items.specs.NextText.{textRows, textsAhead, TextsAt, TextPosition, TextNext}

@@ -4,10 +4,10 @@ use Prim.Native.Nat.{ℕ, _+_, _<_, _≤_}
 use mathlib.Core.List.{List, map}
 use lib.ListN.{length}
 use Rattle.wire.specs.Cursors.{Inside, left}
-use Rattle.b3d_scene.specs.Tables.{width}
-use Rattle.b3d_file_rows.specs.Plain.{namedItems}
-use Rattle.b3d_file_rows.specs.Rows.{fileRows}
-use Rattle.b3d_fill_texts.specs.Texts.{namedRow}
+use Rattle.b3d_spec.specs.Tables.{width}
+use Rattle.b3d_spec_plain_rows.specs.Plain.{namedItems}
+use Rattle.b3d_spec_plain_rows.specs.Rows.{fileRows}
+use Rattle.b3d_read_materials.specs.Texts.{namedRow}
 use Rattle.b3d_rows_open_items.specs.declared.OpenItems.{OpenItems}
 use Rattle.b3d_rows_positions.specs.Positions.{Comes}
 use Rattle.b3d_rows_positions.specs.declared.Position.{Position}

@@ -7,12 +7,12 @@ ghost use Rattle.b3d_rows_open_items.specs.ItemsLeft.{ItemTable};
 ghost use Rattle.b3d_rows_positions.specs.Positions.{itemsAhead, ItemPosition, ItemsMore, ItemFound};
 ghost use Rattle.b3d_rows_items.specs.NextItem.{ItemNext};
 ghost use Rattle.b3d_rows_items.specs.NextText.{textsAhead, TextsOpen, TextPosition, TextNext};
-use b3d_chunks::Named;
+use b3d_chunk_cursor::Named;
+use b3d_chunk_walk::Sought;
 use b3d_rows_open_items::OpenItems;
 use b3d_rows_positions::NextPosition;
 use b3d_rows_positions::Position;
-use b3d_scene::Tag;
-use b3d_walk::Sought;
+use b3d_spec::Tag;
 use wire::Cursor;
 
 // Returns the position at the first item of the next chunk after `x` that has items of table `k`, or `End`.
@@ -88,7 +88,7 @@ fn no_texts(end: usize, free: u32) -> OpenItems
 pub fn open_textures(file: &[u8]) -> OpenItems
     ensures { λ r. ⌜ TextsOpen 1 (now (file .entry)) r ⌝ }
 {
-    let Sought::Found { body: rest, .. } = b3d_fill_texts::first_chunk(file, Tag::TEXS) else {
+    let Sought::Found { body: rest, .. } = b3d_read_materials::first_chunk(file, Tag::TEXS) else {
         return no_texts(file.len(), 0);
     };
     OpenItems {
@@ -104,10 +104,10 @@ pub fn open_textures(file: &[u8]) -> OpenItems
 pub fn open_brushes(file: &[u8]) -> OpenItems
     ensures { λ r. ⌜ TextsOpen 2 (now (file .entry)) r ⌝ }
 {
-    let Sought::Found { body, .. } = b3d_fill_texts::first_chunk(file, Tag::BRUS) else {
+    let Sought::Found { body, .. } = b3d_read_materials::first_chunk(file, Tag::BRUS) else {
         return no_texts(file.len(), 8);
     };
-    let head = b3d_walk::first_word(file, body);
+    let head = b3d_chunk_walk::first_word(file, body);
     if 8 < head.word {
         return no_texts(file.len(), 8);
     }
@@ -129,7 +129,7 @@ pub fn next_text(file: &[u8], k: u32, x: Position, row: &mut [u32]) -> Position
 {
     let items = x.items;
     let c = items.rest;
-    match b3d_chunks::named_row(file, c, items.words) {
+    match b3d_chunk_cursor::named_row(file, c, items.words) {
         Named::Cut => x,
         Named::Is {
             length,
@@ -137,7 +137,7 @@ pub fn next_text(file: &[u8], k: u32, x: Position, row: &mut [u32]) -> Position
             next,
         } => {
             let free = wire::size(items.size);
-            b3d_fill_texts::put_row(file, c.at, length, w, items.words, free, 0, row);
+            b3d_read_materials::put_row(file, c.at, length, w, items.words, free, 0, row);
             let inner = x.inner;
             let counts = x.counts;
             Position {

@@ -12,22 +12,22 @@ use Rattle.layout.specs.Chunks.{done, stop, chunk}
 use Rattle.layout.specs.Out.{Out, got}
 use Rattle.layout.specs.Parts.{Name, Step, named}
 use Rattle.layout.proofs.Outs.{by-got, bad-got, by-test, if-no}
-use Rattle.b3d_scene.specs.declared.Mode.the-variants.{Lenient}
-use Rattle.b3d_scene.specs.declared.Tag.{Tag}
-use Rattle.b3d_scene.specs.declared.Tag.the-variants.{TEXS, BRUS, NODE, MESH, BONE, KEYS, ANIM}
-use Rattle.b3d_scene.specs.Answers.{judge}
-use Rattle.b3d_scene.specs.Nesting.{inside}
-use Rattle.b3d_scene.specs.Parse.{readKind, readMoves, Inner, readNodes, readBelow, readNode}
-use Rattle.b3d_scene.specs.Rules.{nodeRow, levels, boneVertices, bonesBelow}
-use Rattle.b3d_scene.specs.Scene.{Kind, Keys, Anim, still, Data, Forest, leaf, node, Scene}
-use Rattle.b3d_scene.specs.Tags.{Chunks, split, is}
-use Rattle.b3d_scene.proofs.AnswerLaws.{judge-got}
-use Rattle.b3d_inside.proofs.Nodes.{ByParts, parts-read}
-use Rattle.b3d_file_rows.specs.Flat.{rest, flatAt}
-use Rattle.b3d_file_rows.specs.Rows.{Open, opened}
-use Rattle.b3d_file_rows.proofs.Files.{Says, file-flat}
-use Rattle.b3d_file_rows.proofs.Laws.{end-done}
-use Rattle.b3d_file_rows.proofs.Run.{Here, Laid, run-same, run-past, run-into, inside-laid}
+use Rattle.b3d_spec.specs.declared.Mode.the-variants.{Lenient}
+use Rattle.b3d_spec.specs.declared.Tag.{Tag}
+use Rattle.b3d_spec.specs.declared.Tag.the-variants.{TEXS, BRUS, NODE, MESH, BONE, KEYS, ANIM}
+use Rattle.b3d_spec.specs.Answers.{judge}
+use Rattle.b3d_spec.specs.Nesting.{inside}
+use Rattle.b3d_spec.specs.Parse.{readKind, readMoves, Inner, readNodes, readBelow, readNode}
+use Rattle.b3d_spec.specs.Rules.{nodeRow, levels, boneVertices, bonesBelow}
+use Rattle.b3d_spec.specs.Scene.{Kind, Keys, Anim, still, Data, Forest, leaf, node, Scene}
+use Rattle.b3d_spec.specs.Tags.{Chunks, split, is}
+use Rattle.b3d_spec.proofs.AnswerLaws.{judge-got}
+use Rattle.b3d_spec_chunk_places.proofs.Nodes.{ByParts, parts-read}
+use Rattle.b3d_spec_plain_rows.specs.Flat.{rest, flatAt}
+use Rattle.b3d_spec_plain_rows.specs.Rows.{Open, opened}
+use Rattle.b3d_spec_plain_rows.proofs.Files.{Says, file-flat}
+use Rattle.b3d_spec_plain_rows.proofs.Laws.{end-done}
+use Rattle.b3d_spec_plain_rows.proofs.Run.{Here, Laid, run-same, run-past, run-into, inside-laid}
 use Rattle.b3d_rows_nodes.specs.NodeStack.{openAt}
 use Rattle.b3d_rows_nodes.proofs.NodeStackLaws.{open-closed, open-still}
 use Rattle.b3d_rows_nodes.specs.NextNode.{shallow, Shallow}

@@ -14,18 +14,18 @@ use Rattle.wire.specs.Cursors.{Inside, left}
 use Rattle.wire.specs.declared.Cursor.{Cursor}
 use Rattle.layout.specs.Parts.{named}
 use Rattle.layout.proofs.Outs.{if-yes, if-no}
-use Rattle.b3d_scene.specs.declared.Counts.{Counts}
-use Rattle.b3d_scene.specs.declared.Tag.{Tag}
-use Rattle.b3d_scene.specs.declared.Tag.the-variants.{NODE, MESH, BONE}
-use Rattle.b3d_scene.specs.Rules.{nodeRow}
-use Rattle.b3d_scene.specs.Tags.{is}
-use Rattle.b3d_file_rows.specs.Flat.{flatAt}
-use Rattle.b3d_file_rows.specs.Rows.{Open, parentAt, opened, rowOf, nodeRows, counted}
-use Rattle.b3d_walk.specs.Walks.{NodeRead, ChunkIs, Ends, FlatIs, Steps}
-use Rattle.b3d_walk.specs.declared.Flat.{Flat}
-use Rattle.b3d_walk.specs.declared.Flat.the-variants as run
-use Rattle.b3d_walk.proofs.Counting.{tag-same, counted-nodes, counted-meshes, counted-weights}
-use Rattle.b3d_node_parts.proofs.Own.{bone-count}
+use Rattle.b3d_spec.specs.declared.Counts.{Counts}
+use Rattle.b3d_spec.specs.declared.Tag.{Tag}
+use Rattle.b3d_spec.specs.declared.Tag.the-variants.{NODE, MESH, BONE}
+use Rattle.b3d_spec.specs.Rules.{nodeRow}
+use Rattle.b3d_spec.specs.Tags.{is}
+use Rattle.b3d_spec_plain_rows.specs.Flat.{flatAt}
+use Rattle.b3d_spec_plain_rows.specs.Rows.{Open, parentAt, opened, rowOf, nodeRows, counted}
+use Rattle.b3d_chunk_walk.specs.Walks.{NodeRead, ChunkIs, Ends, FlatIs, Steps}
+use Rattle.b3d_chunk_walk.specs.declared.Flat.{Flat}
+use Rattle.b3d_chunk_walk.specs.declared.Flat.the-variants as run
+use Rattle.b3d_chunk_walk.proofs.Counting.{tag-same, counted-nodes, counted-meshes, counted-weights}
+use Rattle.b3d_read_node_cells.proofs.Own.{bone-count}
 use Rattle.b3d_rows_nodes.specs.NodeStack.{openAt}
 use Rattle.b3d_rows_nodes.specs.NextNode.{shallow, NodeRowsFound, NodeFound, NoNode, NodeFinds}
 use Rattle.b3d_rows_nodes.specs.declared.FoundNode.the-variants as met

@@ -11,19 +11,19 @@ use Rattle.layout.specs.Chunks.{done, stop, chunk}
 use Rattle.layout.specs.Out.{Out, got, bad}
 use Rattle.layout.specs.Parts.{Name, Step, named}
 use Rattle.layout.proofs.Outs.{by-test, if-yes, if-no}
-use Rattle.b3d_scene.specs.declared.Counts.{Counts}
-use Rattle.b3d_scene.specs.declared.Tag.{Tag}
-use Rattle.b3d_scene.specs.declared.Tag.the-variants.{NODE, MESH, BONE}
-use Rattle.b3d_scene.specs.Rules.{nodeRow}
-use Rattle.b3d_scene.specs.Tags.{Chunks, is}
-use Rattle.b3d_file_rows.specs.Flat.{rest, flatAt}
-use Rattle.b3d_file_rows.specs.Plain.{plainWeights}
-use Rattle.b3d_file_rows.specs.Rows.{Open, parentAt, opened, rowOf, nodeRows, counted}
-use Rattle.b3d_file_rows.proofs.Ahead.{named-ahead}
-use Rattle.b3d_file_rows.proofs.Run.{Here, Laid, rest-laid, run-done, run-stop, run-past, run-into, run-none}
-use Rattle.b3d_walk.proofs.Counting.{counted-nodes, counted-meshes, counted-weights}
-use Rattle.b3d_fill_tree.proofs.Tree.{row-told}
-use Rattle.b3d_node_parts.specs.Parts.{told}
+use Rattle.b3d_spec.specs.declared.Counts.{Counts}
+use Rattle.b3d_spec.specs.declared.Tag.{Tag}
+use Rattle.b3d_spec.specs.declared.Tag.the-variants.{NODE, MESH, BONE}
+use Rattle.b3d_spec.specs.Rules.{nodeRow}
+use Rattle.b3d_spec.specs.Tags.{Chunks, is}
+use Rattle.b3d_spec_plain_rows.specs.Flat.{rest, flatAt}
+use Rattle.b3d_spec_plain_rows.specs.Plain.{plainWeights}
+use Rattle.b3d_spec_plain_rows.specs.Rows.{Open, parentAt, opened, rowOf, nodeRows, counted}
+use Rattle.b3d_spec_plain_rows.proofs.Ahead.{named-ahead}
+use Rattle.b3d_spec_plain_rows.proofs.Run.{Here, Laid, rest-laid, run-done, run-stop, run-past, run-into, run-none}
+use Rattle.b3d_chunk_walk.proofs.Counting.{counted-nodes, counted-meshes, counted-weights}
+use Rattle.b3d_read_nodes.proofs.Tree.{row-told}
+use Rattle.b3d_read_node_cells.specs.Parts.{told}
 
 module _ (s : List ℕ) (P : ℕ → Chunks → Type 0)
     (at-done : (at : ℕ) → P at done)

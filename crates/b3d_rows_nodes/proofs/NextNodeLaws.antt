@@ -14,15 +14,15 @@ use Rattle.wire.specs.Cursors.{Inside, left}
 use Rattle.wire.specs.declared.Cursor.{Cursor}
 use Rattle.wire.proofs.Left.{left-length}
 use Rattle.layout.specs.Parts.{named}
-use Rattle.b3d_scene.specs.declared.Counts.{Counts}
-use Rattle.b3d_scene.specs.declared.Tag.the-variants.{NODE}
-use Rattle.b3d_scene.specs.Rules.{nodeRow}
-use Rattle.b3d_scene.specs.Tables.{width}
-use Rattle.b3d_file_rows.specs.Flat.{flatAt}
-use Rattle.b3d_file_rows.specs.Rows.{Open, addNode, parentAt, opened, rowOf, nodeRows, counted}
-use Rattle.b3d_walk.specs.Walks.{BodyAt}
-use Rattle.b3d_node_parts.specs.Parts.{told}
-use Rattle.b3d_fill_tree.proofs.Tree.{row-told, row-of}
+use Rattle.b3d_spec.specs.declared.Counts.{Counts}
+use Rattle.b3d_spec.specs.declared.Tag.the-variants.{NODE}
+use Rattle.b3d_spec.specs.Rules.{nodeRow}
+use Rattle.b3d_spec.specs.Tables.{width}
+use Rattle.b3d_spec_plain_rows.specs.Flat.{flatAt}
+use Rattle.b3d_spec_plain_rows.specs.Rows.{Open, addNode, parentAt, opened, rowOf, nodeRows, counted}
+use Rattle.b3d_chunk_walk.specs.Walks.{BodyAt}
+use Rattle.b3d_read_node_cells.specs.Parts.{told}
+use Rattle.b3d_read_nodes.proofs.Tree.{row-told, row-of}
 use Rattle.b3d_rows_nodes.specs.NodeStack.{openAt, stackOf, OpenNodesAt, Enters}
 use Rattle.b3d_rows_nodes.specs.declared.OpenNodes.{OpenNodes}
 use Rattle.b3d_rows_nodes.specs.declared.EnteredNode.{EnteredNode}

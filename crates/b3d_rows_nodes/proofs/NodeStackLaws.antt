@@ -14,7 +14,7 @@ use borrow.Author.Tests.{lt-leb, le-leb}
 use Rattle.wire.specs.Test.{if}
 use Rattle.layout.specs.Rules.{NONE}
 use Rattle.layout.proofs.Outs.{if-yes, if-no, by-test}
-use Rattle.b3d_file_rows.specs.Rows.{Open, parentAt}
+use Rattle.b3d_spec_plain_rows.specs.Rows.{Open, parentAt}
 use Rattle.b3d_rows_nodes.specs.NodeStack.{openAt, stackTo, stackOf, topOf, OpenNodesAt, Closed, Enters}
 use Rattle.b3d_rows_nodes.specs.declared.OpenNodes.{OpenNodes}
 use Rattle.b3d_rows_nodes.specs.declared.EnteredNode.{EnteredNode}

@@ -10,13 +10,13 @@ use Rattle.wire.specs.Cursors.{left}
 use Rattle.wire.specs.declared.Cursor.{Cursor}
 use Rattle.layout.specs.Chunks.{done, stop, chunk}
 use Rattle.layout.specs.Parts.{named}
-use Rattle.b3d_scene.specs.declared.Counts.{Counts}
-use Rattle.b3d_scene.specs.declared.Tag.the-variants.{NODE}
-use Rattle.b3d_scene.specs.Rules.{nodeRow}
-use Rattle.b3d_scene.specs.Tags.{Chunks, is}
-use Rattle.b3d_file_rows.specs.Flat.{flatAt}
-use Rattle.b3d_file_rows.specs.Rows.{Open, parentAt, opened, rowOf, nodeRows, counted}
-use Rattle.b3d_walk.specs.Walks.{BodyAt, NodeRead}
+use Rattle.b3d_spec.specs.declared.Counts.{Counts}
+use Rattle.b3d_spec.specs.declared.Tag.the-variants.{NODE}
+use Rattle.b3d_spec.specs.Rules.{nodeRow}
+use Rattle.b3d_spec.specs.Tags.{Chunks, is}
+use Rattle.b3d_spec_plain_rows.specs.Flat.{flatAt}
+use Rattle.b3d_spec_plain_rows.specs.Rows.{Open, parentAt, opened, rowOf, nodeRows, counted}
+use Rattle.b3d_chunk_walk.specs.Walks.{BodyAt, NodeRead}
 use Rattle.b3d_rows_nodes.specs.NodeStack.{openAt, stackOf, OpenNodesAt}
 use Rattle.b3d_rows_nodes.specs.declared.OpenNodes.{OpenNodes}
 use Rattle.b3d_rows_positions.specs.Positions.{Comes}

@@ -6,7 +6,7 @@ use lib.ListN.{length, getD}
 use lib.Dec.{leb}
 use Rattle.wire.specs.Test.{if}
 use Rattle.layout.specs.Rules.{NONE}
-use Rattle.b3d_file_rows.specs.Rows.{Open, parentAt}
+use Rattle.b3d_spec_plain_rows.specs.Rows.{Open, parentAt}
 use Rattle.b3d_rows_nodes.specs.declared.OpenNodes.{OpenNodes}
 use Rattle.b3d_rows_nodes.specs.declared.EnteredNode.{EnteredNode}
 

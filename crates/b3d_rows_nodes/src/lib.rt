@@ -4,9 +4,9 @@ ghost use Prim.Native.Nat.{_<_, _≤_};
 ghost use lib.ListN.{length};
 ghost use Rattle.b3d_rows_nodes.specs.NodeStack.{stackOf, openAt, topOf, OpenNodesAt, Closed, Enters};
 ghost use Rattle.b3d_rows_nodes.specs.NextNode.{nodesAhead, NodeFinds, NodePosition, NodeNext};
+use b3d_chunk_walk::Flat;
 use b3d_rows_positions::Position;
-use b3d_scene::Tag;
-use b3d_walk::Flat;
+use b3d_spec::Tag;
 use wire::Cursor;
 
 // The nodes that are open at a place: `depth` of them, the root first, with their ends and their row numbers. The cells from `depth` on say nothing.
@@ -92,10 +92,10 @@ fn find_node(file: &[u8], from: usize, meshes: usize, weights: usize) -> FoundNo
     let mut m = meshes;
     let mut w = weights;
     loop {
-        let Flat::Chunk(tag, p, body, next) = b3d_walk::flat_next(file, at) else {
+        let Flat::Chunk(tag, p, body, next) = b3d_chunk_walk::flat_next(file, at) else {
             return FoundNode::End;
         };
-        if b3d_chunks::same(tag, Tag::NODE) {
+        if b3d_chunk_cursor::same(tag, Tag::NODE) {
             return FoundNode::Node {
                 at: p,
                 body,
@@ -104,9 +104,9 @@ fn find_node(file: &[u8], from: usize, meshes: usize, weights: usize) -> FoundNo
                 weights: w,
             };
         }
-        if b3d_chunks::same(tag, Tag::MESH) {
+        if b3d_chunk_cursor::same(tag, Tag::MESH) {
             m += 1;
-        } else if b3d_chunks::same(tag, Tag::BONE) {
+        } else if b3d_chunk_cursor::same(tag, Tag::BONE) {
             w += (body.end - body.at) / 8;
         }
         at = next;
@@ -135,9 +135,9 @@ pub fn next_node(file: &[u8], x: Position, path: OpenNodes, row: &mut [u32]) -> 
     else {
         return RowCursor { position: x, path };
     };
-    let i = cells::cell(counts.nodes);
+    let i = shared_table_words::cell(counts.nodes);
     let e = enter(path, p, body.end, i);
-    b3d_fill_tree::put_node(file, p, body, next, e.parent, meshes, weights, 0, row);
+    b3d_read_nodes::put_node(file, p, body, next, e.parent, meshes, weights, 0, row);
     counts.nodes = counts.nodes + 1;
     counts.meshes = meshes;
     counts.weights = weights;

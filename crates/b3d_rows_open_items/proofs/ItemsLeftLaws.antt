@@ -13,10 +13,10 @@ use Rattle.wire.specs.Cursors.{Inside, left}
 use Rattle.wire.proofs.Left.{span, left-length, left-drop}
 use Rattle.layout.specs.Parts.{wordsOf, itemsOf}
 use Rattle.layout.proofs.StepLaws.{length-words-of}
-use Rattle.b3d_scene.specs.Mask.{mask, vertexHas, vertexMask, keyHas, keyMask}
-use Rattle.b3d_scene.specs.Tables.{width}
-use Rattle.b3d_scene.proofs.Rows.MaskLaws.{mask-length, spread-length}
-use Rattle.b3d_file_rows.specs.Plain.{whole}
+use Rattle.b3d_spec.specs.Mask.{mask, vertexHas, vertexMask, keyHas, keyMask}
+use Rattle.b3d_spec.specs.Tables.{width}
+use Rattle.b3d_spec.proofs.Rows.MaskLaws.{mask-length, spread-length}
+use Rattle.b3d_spec_plain_rows.specs.Plain.{whole}
 use Rattle.b3d_rows_open_items.specs.ItemsLeft.{ItemTable, itemRow, itemRows, Measured}
 use Rattle.b3d_rows_open_items.specs.declared.OpenItems.{OpenItems}
 

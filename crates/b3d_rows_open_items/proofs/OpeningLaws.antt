@@ -14,25 +14,25 @@ use Rattle.wire.specs.declared.Cursor.{Cursor}
 use Rattle.wire.proofs.Left.{span, left-length, left-nil}
 use Rattle.layout.specs.Parts.{wordsOf, itemsOf}
 use Rattle.layout.specs.Rows.{joined}
-use Rattle.b3d_scene.specs.declared.Tag.the-variants.{VRTS}
-use Rattle.b3d_scene.specs.Mask.{ones, spread, vertexMask, keyMask}
-use Rattle.b3d_scene.specs.Rules.{vertexWords}
-use Rattle.b3d_scene.proofs.Rows.MaskLaws.{vertex-words}
-use Rattle.b3d_file_rows.specs.Plain.{whole, plainKeys, plainVertices, plainWeights, plainTriangles, shapeOf}
-use Rattle.b3d_walk.specs.Walks.{BodyAt}
-use Rattle.b3d_walk.specs.Seeks.{seekOf, ahead, Seeks, FirstWord, ThreeWords}
-use Rattle.b3d_walk.specs.declared.Headed.{Headed}
-use Rattle.b3d_walk.specs.declared.Three.{Three}
-use Rattle.b3d_walk.specs.declared.Sought.{Sought}
-use Rattle.b3d_walk.specs.declared.Sought.the-variants as sought
-use Rattle.b3d_walk.proofs.Seeking.{sought-none, sought-is, sought-body}
-use Rattle.b3d_walk.proofs.Meshes.{mesh-inside, mesh-inner}
-use Rattle.b3d_walk.proofs.Heads.{word-inside}
-use Rattle.b3d_widths.specs.Widths.{Clipped}
-use Rattle.b3d_widths.proofs.Clips.{mask-clipped}
-use Rattle.b3d_item_rows.specs.Items.{shapeRows, keyRowsOf}
-use Rattle.b3d_mesh_rows.specs.Meshes.{verticesIn}
-use Rattle.b3d_mesh_rows.proofs.Shapes.{shape-seek}
+use Rattle.b3d_spec.specs.declared.Tag.the-variants.{VRTS}
+use Rattle.b3d_spec.specs.Mask.{ones, spread, vertexMask, keyMask}
+use Rattle.b3d_spec.specs.Rules.{vertexWords}
+use Rattle.b3d_spec.proofs.Rows.MaskLaws.{vertex-words}
+use Rattle.b3d_spec_plain_rows.specs.Plain.{whole, plainKeys, plainVertices, plainWeights, plainTriangles, shapeOf}
+use Rattle.b3d_chunk_walk.specs.Walks.{BodyAt}
+use Rattle.b3d_chunk_walk.specs.Seeks.{seekOf, ahead, Seeks, FirstWord, ThreeWords}
+use Rattle.b3d_chunk_walk.specs.declared.Headed.{Headed}
+use Rattle.b3d_chunk_walk.specs.declared.Three.{Three}
+use Rattle.b3d_chunk_walk.specs.declared.Sought.{Sought}
+use Rattle.b3d_chunk_walk.specs.declared.Sought.the-variants as sought
+use Rattle.b3d_chunk_walk.proofs.Seeking.{sought-none, sought-is, sought-body}
+use Rattle.b3d_chunk_walk.proofs.Meshes.{mesh-inside, mesh-inner}
+use Rattle.b3d_chunk_walk.proofs.Heads.{word-inside}
+use Rattle.b3d_rule_widths.specs.Widths.{Clipped}
+use Rattle.b3d_rule_widths.proofs.Clips.{mask-clipped}
+use Rattle.b3d_read_item_rows.specs.Items.{shapeRows, keyRowsOf}
+use Rattle.b3d_read_mesh_rows.specs.Meshes.{verticesIn}
+use Rattle.b3d_read_mesh_rows.proofs.Shapes.{shape-seek}
 use Rattle.b3d_rows_open_items.specs.ItemsLeft.{itemRow, itemRows, chunkItems, OfVertex, OfKey, Measured, Opens}
 use Rattle.b3d_rows_open_items.specs.declared.OpenItems.{OpenItems}
 

@@ -8,11 +8,11 @@ use lib.Dec.{T, eqb}
 use Rattle.wire.specs.Test.{if}
 use Rattle.wire.specs.Cursors.{Inside, left}
 use Rattle.wire.specs.declared.Cursor.{Cursor}
-use Rattle.b3d_scene.specs.Mask.{ones, spread, vertexMask, keyMask}
-use Rattle.b3d_scene.specs.Rules.{vertexWords}
-use Rattle.b3d_file_rows.specs.Plain.{whole, plainWeights, plainTriangles}
-use Rattle.b3d_item_rows.specs.Items.{keyRowsOf}
-use Rattle.b3d_mesh_rows.specs.Meshes.{verticesIn}
+use Rattle.b3d_spec.specs.Mask.{ones, spread, vertexMask, keyMask}
+use Rattle.b3d_spec.specs.Rules.{vertexWords}
+use Rattle.b3d_spec_plain_rows.specs.Plain.{whole, plainWeights, plainTriangles}
+use Rattle.b3d_read_item_rows.specs.Items.{keyRowsOf}
+use Rattle.b3d_read_mesh_rows.specs.Meshes.{verticesIn}
 use Rattle.b3d_rows_open_items.specs.declared.OpenItems.{OpenItems}
 
 -- a table of items: 5, 7, 8 or 10

@@ -6,10 +6,10 @@ ghost use lib.ListN.{length};
 ghost use lib.Seq.{sets as stored};
 ghost use Rattle.wire.specs.Cursors.{Inside, left};
 ghost use Rattle.layout.specs.Parts.{wordsOf};
-ghost use Rattle.b3d_walk.specs.Walks.{BodyAt};
+ghost use Rattle.b3d_chunk_walk.specs.Walks.{BodyAt};
 ghost use Rattle.b3d_rows_open_items.specs.ItemsLeft.{itemRow, Measured, Opens};
-use b3d_scene::Tag;
-use b3d_walk::Sought;
+use b3d_chunk_walk::Sought;
+use b3d_spec::Tag;
 use wire::Cursor;
 
 // The items of one chunk that are still to come: `rest` is where they stand, an item has `words` words. For vertices `flags`, `sets` and `size` are the
@@ -41,8 +41,8 @@ fn open_vertices(file: &[u8], p: usize, body: Cursor) -> OpenItems
     requires { ⌜ BodyAt (now file) p body ⌝ }
     ensures { λ r. ⌜ Opens 5 (now (file .entry)) p body r ⌝ }
 {
-    let head = b3d_walk::first_word(file, body);
-    match b3d_walk::seek(file, head.rest, Tag::VRTS) {
+    let head = b3d_chunk_walk::first_word(file, body);
+    match b3d_chunk_walk::seek(file, head.rest, Tag::VRTS) {
         Sought::Nothing => {
             let at = body.end;
             OpenItems {
@@ -54,11 +54,11 @@ fn open_vertices(file: &[u8], p: usize, body: Cursor) -> OpenItems
             }
         }
         Sought::Found { body: b, .. } => {
-            let h = b3d_walk::three_words(file, b);
+            let h = b3d_chunk_walk::three_words(file, b);
             let flags = h.first % 4;
-            let sets = b3d_widths::at_most(h.second, 8);
-            let size = b3d_widths::at_most(h.third, 4);
-            let words = b3d_widths::vertex_words(flags, sets, size);
+            let sets = b3d_rule_widths::at_most(h.second, 8);
+            let size = b3d_rule_widths::at_most(h.third, 4);
+            let words = b3d_rule_widths::vertex_words(flags, sets, size);
             let rest = h.rest;
             OpenItems {
                 rest,
@@ -76,9 +76,9 @@ fn open_keys(file: &[u8], p: usize, body: Cursor) -> OpenItems
     requires { ⌜ BodyAt (now file) p body ⌝ }
     ensures { λ r. ⌜ Opens 10 (now (file .entry)) p body r ⌝ }
 {
-    let head = b3d_walk::first_word(file, body);
+    let head = b3d_chunk_walk::first_word(file, body);
     let flags = head.word;
-    let words = b3d_widths::key_words(flags);
+    let words = b3d_rule_widths::key_words(flags);
     let rest = head.rest;
     OpenItems {
         rest,
@@ -102,7 +102,7 @@ pub fn open_items(file: &[u8], k: u32, p: usize, body: Cursor) -> OpenItems
         return open_keys(file, p, body);
     }
     if k == 7 {
-        let head = b3d_walk::first_word(file, body);
+        let head = b3d_chunk_walk::first_word(file, body);
         return plain(head.rest, 3);
     }
     plain(body, 2)
@@ -115,12 +115,12 @@ pub fn put_item(file: &[u8], k: u32, i: OpenItems, row: &mut [u32])
 {
     let rest = i.rest;
     if k == 5 {
-        b3d_vertex_rows::fill_vertices(file, rest, i.flags, i.sets, i.size, 1, 0, row);
+        b3d_read_vertex_rows::fill_vertices(file, rest, i.flags, i.sets, i.size, 1, 0, row);
         return;
     }
     if k == 10 {
-        b3d_key_rows::fill_keys(file, rest, i.flags, i.words, 1, 0, row);
+        b3d_read_key_rows::fill_keys(file, rest, i.flags, i.words, 1, 0, row);
         return;
     }
-    cells::copy_words(file, rest, i.words, 0, row);
+    shared_table_words::copy_words(file, rest, i.words, 0, row);
 }

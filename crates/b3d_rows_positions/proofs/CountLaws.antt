@@ -6,19 +6,19 @@ use lib.ListN.{length}
 use Rattle.wire.specs.Test.{if}
 use Rattle.layout.proofs.Outs.{by-test}
 use Rattle.layout.specs.Chunks.{done, stop, chunk}
-use Rattle.b3d_scene.specs.declared.Counts.{Counts}
-use Rattle.b3d_scene.specs.declared.Tag.{Tag}
-use Rattle.b3d_scene.specs.declared.Tag.the-variants.{NODE, MESH, KEYS}
-use Rattle.b3d_scene.specs.Tables.{triangleRows}
-use Rattle.b3d_scene.specs.Tags.{Chunks, is}
-use Rattle.b3d_file_rows.specs.Plain.{plainMesh, plainKeys}
-use Rattle.b3d_file_rows.specs.Rows.{counted, chunkRows, flatRows, listRow}
-use Rattle.b3d_walk.proofs.Table.{Owns}
-use Rattle.b3d_walk.proofs.Counting.{counted-nodes, counted-meshes, counted-vertices, counted-sets, counted-triangles, counted-keys}
-use Rattle.b3d_mesh_rows.specs.Meshes.{meshCells}
-use Rattle.b3d_set_rows.specs.Sets.{setsIn}
-use Rattle.b3d_fill_meshes.proofs.Tables.{meshes, sets}
-use Rattle.b3d_fill_moves.proofs.Tables.{lists}
+use Rattle.b3d_spec.specs.declared.Counts.{Counts}
+use Rattle.b3d_spec.specs.declared.Tag.{Tag}
+use Rattle.b3d_spec.specs.declared.Tag.the-variants.{NODE, MESH, KEYS}
+use Rattle.b3d_spec.specs.Tables.{triangleRows}
+use Rattle.b3d_spec.specs.Tags.{Chunks, is}
+use Rattle.b3d_spec_plain_rows.specs.Plain.{plainMesh, plainKeys}
+use Rattle.b3d_spec_plain_rows.specs.Rows.{counted, chunkRows, flatRows, listRow}
+use Rattle.b3d_chunk_walk.proofs.Table.{Owns}
+use Rattle.b3d_chunk_walk.proofs.Counting.{counted-nodes, counted-meshes, counted-vertices, counted-sets, counted-triangles, counted-keys}
+use Rattle.b3d_read_mesh_rows.specs.Meshes.{meshCells}
+use Rattle.b3d_read_triangle_rows.specs.Sets.{setsIn}
+use Rattle.b3d_read_meshes.proofs.Tables.{meshes, sets}
+use Rattle.b3d_read_animation.proofs.Tables.{lists}
 
 module _ {k : ℕ} {o : Tag} {f : ℕ → List ℕ → Counts → List (List ℕ)} (owns : Owns k o f) (R : Counts → Counts → Type 0)
     (same : (p : ℕ) (b : List ℕ) (n m : Counts) → R n m → f p b n ≡ f p b m)

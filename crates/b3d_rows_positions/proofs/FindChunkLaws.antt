@@ -11,16 +11,16 @@ use lib.Dec.{T}
 use Rattle.wire.specs.Cursors.{Inside, left}
 use Rattle.wire.specs.declared.Cursor.{Cursor}
 use Rattle.layout.proofs.Outs.{if-yes, if-no}
-use Rattle.b3d_scene.specs.declared.Counts.{Counts}
-use Rattle.b3d_scene.specs.declared.Tag.{Tag}
-use Rattle.b3d_scene.specs.declared.Tag.the-variants.{NODE, MESH, KEYS}
-use Rattle.b3d_scene.specs.Tags.{is}
-use Rattle.b3d_file_rows.specs.Flat.{flatAt}
-use Rattle.b3d_file_rows.specs.Rows.{counted, chunkRows, flatRows}
-use Rattle.b3d_walk.specs.Walks.{ChunkIs, Ends, FlatIs, Steps}
-use Rattle.b3d_walk.specs.declared.Flat.{Flat}
-use Rattle.b3d_walk.specs.declared.Flat.the-variants as run
-use Rattle.b3d_walk.proofs.Counting.{tag-same, counted-nodes, counted-meshes, counted-vertices, counted-sets, counted-triangles, counted-keys}
+use Rattle.b3d_spec.specs.declared.Counts.{Counts}
+use Rattle.b3d_spec.specs.declared.Tag.{Tag}
+use Rattle.b3d_spec.specs.declared.Tag.the-variants.{NODE, MESH, KEYS}
+use Rattle.b3d_spec.specs.Tags.{is}
+use Rattle.b3d_spec_plain_rows.specs.Flat.{flatAt}
+use Rattle.b3d_spec_plain_rows.specs.Rows.{counted, chunkRows, flatRows}
+use Rattle.b3d_chunk_walk.specs.Walks.{ChunkIs, Ends, FlatIs, Steps}
+use Rattle.b3d_chunk_walk.specs.declared.Flat.{Flat}
+use Rattle.b3d_chunk_walk.specs.declared.Flat.the-variants as run
+use Rattle.b3d_chunk_walk.proofs.Counting.{tag-same, counted-nodes, counted-meshes, counted-vertices, counted-sets, counted-triangles, counted-keys}
 use Rattle.b3d_rows_positions.specs.FindChunk.{Only, Later, RowsFound, ChunkFound, NoChunk, ChunkFoundIs, ChunkFinds}
 use Rattle.b3d_rows_positions.specs.declared.FoundChunk.{FoundChunk}
 use Rattle.b3d_rows_positions.specs.declared.FoundChunk.the-variants as met

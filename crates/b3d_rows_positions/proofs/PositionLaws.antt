@@ -14,29 +14,29 @@ use Rattle.wire.specs.Cursors.{Inside, left}
 use Rattle.wire.specs.declared.Cursor.{Cursor}
 use Rattle.layout.proofs.Outs.{by-test}
 use Rattle.layout.specs.Chunks.{done, stop, chunk}
-use Rattle.b3d_scene.specs.declared.Counts.{Counts}
-use Rattle.b3d_scene.specs.declared.Tag.{Tag}
-use Rattle.b3d_scene.specs.declared.Tag.the-variants.{NODE, MESH, TRIS, BONE, KEYS}
-use Rattle.b3d_scene.specs.Tables.{start, triangleRows}
-use Rattle.b3d_scene.specs.Tags.{Chunks, code, is}
-use Rattle.b3d_file_rows.specs.Flat.{flatAt}
-use Rattle.b3d_file_rows.specs.Plain.{plainTriangles, plainWeights, setsOf}
-use Rattle.b3d_file_rows.specs.Rows.{counted, chunkRows, flatRows}
-use Rattle.b3d_walk.specs.Walks.{BodyAt}
-use Rattle.b3d_walk.specs.Seeks.{ahead, inner, Seeks, FirstWord}
-use Rattle.b3d_walk.specs.declared.Headed.{Headed}
-use Rattle.b3d_walk.specs.declared.Sought.{Sought}
-use Rattle.b3d_walk.specs.declared.Sought.the-variants as sought
-use Rattle.b3d_walk.proofs.Table.{Owns}
-use Rattle.b3d_walk.proofs.Seeking.{sought-among, sought-body, sought-next, sought-less}
-use Rattle.b3d_walk.proofs.Meshes.{mesh-inside, mesh-inner, no-set, one-set}
+use Rattle.b3d_spec.specs.declared.Counts.{Counts}
+use Rattle.b3d_spec.specs.declared.Tag.{Tag}
+use Rattle.b3d_spec.specs.declared.Tag.the-variants.{NODE, MESH, TRIS, BONE, KEYS}
+use Rattle.b3d_spec.specs.Tables.{start, triangleRows}
+use Rattle.b3d_spec.specs.Tags.{Chunks, code, is}
+use Rattle.b3d_spec_plain_rows.specs.Flat.{flatAt}
+use Rattle.b3d_spec_plain_rows.specs.Plain.{plainTriangles, plainWeights, setsOf}
+use Rattle.b3d_spec_plain_rows.specs.Rows.{counted, chunkRows, flatRows}
+use Rattle.b3d_chunk_walk.specs.Walks.{BodyAt}
+use Rattle.b3d_chunk_walk.specs.Seeks.{ahead, inner, Seeks, FirstWord}
+use Rattle.b3d_chunk_walk.specs.declared.Headed.{Headed}
+use Rattle.b3d_chunk_walk.specs.declared.Sought.{Sought}
+use Rattle.b3d_chunk_walk.specs.declared.Sought.the-variants as sought
+use Rattle.b3d_chunk_walk.proofs.Table.{Owns}
+use Rattle.b3d_chunk_walk.proofs.Seeking.{sought-among, sought-body, sought-next, sought-less}
+use Rattle.b3d_chunk_walk.proofs.Meshes.{mesh-inside, mesh-inner, no-set, one-set}
 use Rattle.b3d_rows_positions.specs.FindChunk.{Only, Later, RowsFound, ChunkFound, NoChunk, ChunkFinds}
 use Rattle.b3d_rows_positions.specs.declared.FoundChunk.{FoundChunk}
 use Rattle.b3d_rows_positions.specs.declared.FoundChunk.the-variants as met
 use Rattle.b3d_rows_positions.proofs.FindChunkLaws.{chunk-none, chunk-at}
-use Rattle.b3d_set_rows.specs.Sets.{trianglesIn}
-use Rattle.b3d_fill_meshes.proofs.Tables.{vertices, triangles}
-use Rattle.b3d_fill_moves.proofs.Tables.{bones, keys}
+use Rattle.b3d_read_triangle_rows.specs.Sets.{trianglesIn}
+use Rattle.b3d_read_meshes.proofs.Tables.{vertices, triangles}
+use Rattle.b3d_read_animation.proofs.Tables.{bones, keys}
 use Rattle.b3d_rows_open_items.specs.ItemsLeft.{ItemTable, itemRows, chunkItems, Measured, Opens}
 use Rattle.b3d_rows_open_items.specs.declared.OpenItems.{OpenItems}
 use Rattle.b3d_rows_open_items.proofs.ItemsLeftLaws.{by-table}

@@ -7,13 +7,13 @@ use lib.ListN.{length}
 use lib.Dec.{T}
 use Rattle.wire.specs.Cursors.{left}
 use Rattle.wire.specs.declared.Cursor.{Cursor}
-use Rattle.b3d_scene.specs.declared.Counts.{Counts}
-use Rattle.b3d_scene.specs.declared.Tag.{Tag}
-use Rattle.b3d_scene.specs.declared.Tag.the-variants.{NODE, MESH, KEYS}
-use Rattle.b3d_scene.specs.Tags.{is}
-use Rattle.b3d_file_rows.specs.Flat.{flatAt}
-use Rattle.b3d_file_rows.specs.Rows.{counted, chunkRows, flatRows}
-use Rattle.b3d_walk.specs.Walks.{BodyAt}
+use Rattle.b3d_spec.specs.declared.Counts.{Counts}
+use Rattle.b3d_spec.specs.declared.Tag.{Tag}
+use Rattle.b3d_spec.specs.declared.Tag.the-variants.{NODE, MESH, KEYS}
+use Rattle.b3d_spec.specs.Tags.{is}
+use Rattle.b3d_spec_plain_rows.specs.Flat.{flatAt}
+use Rattle.b3d_spec_plain_rows.specs.Rows.{counted, chunkRows, flatRows}
+use Rattle.b3d_chunk_walk.specs.Walks.{BodyAt}
 use Rattle.b3d_rows_positions.specs.declared.FoundChunk.{FoundChunk}
 use Rattle.b3d_rows_positions.specs.declared.FoundChunk.the-variants as met
 

@@ -8,13 +8,13 @@ use lib.Dec.{eqb}
 use Rattle.wire.specs.Test.{if}
 use Rattle.wire.specs.Cursors.{Inside, left}
 use Rattle.wire.specs.declared.Cursor.{Cursor}
-use Rattle.b3d_scene.specs.declared.Tag.{Tag}
-use Rattle.b3d_scene.specs.declared.Tag.the-variants.{MESH, BONE, KEYS}
-use Rattle.b3d_scene.specs.Tables.{start, triangleRows, width}
-use Rattle.b3d_file_rows.specs.Flat.{flatAt}
-use Rattle.b3d_file_rows.specs.Plain.{setsOf}
-use Rattle.b3d_file_rows.specs.Rows.{flatRows}
-use Rattle.b3d_walk.specs.Seeks.{ahead, inner}
+use Rattle.b3d_spec.specs.declared.Tag.{Tag}
+use Rattle.b3d_spec.specs.declared.Tag.the-variants.{MESH, BONE, KEYS}
+use Rattle.b3d_spec.specs.Tables.{start, triangleRows, width}
+use Rattle.b3d_spec_plain_rows.specs.Flat.{flatAt}
+use Rattle.b3d_spec_plain_rows.specs.Plain.{setsOf}
+use Rattle.b3d_spec_plain_rows.specs.Rows.{flatRows}
+use Rattle.b3d_chunk_walk.specs.Seeks.{ahead, inner}
 use Rattle.b3d_rows_positions.specs.FindChunk.{ChunkFound, NoChunk}
 use Rattle.b3d_rows_open_items.specs.ItemsLeft.{itemRows, Measured}
 use Rattle.b3d_rows_positions.specs.declared.Position.{Position}

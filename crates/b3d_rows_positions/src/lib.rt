@@ -6,11 +6,11 @@ ghost use lib.ListN.{length};
 ghost use Rattle.b3d_rows_open_items.specs.ItemsLeft.{ItemTable};
 ghost use Rattle.b3d_rows_positions.specs.FindChunk.{ChunkFinds};
 ghost use Rattle.b3d_rows_positions.specs.Positions.{ownerOf, MeshPosition, MeshOpens, ItemPosition, ItemsMore};
+use b3d_chunk_walk::Flat;
+use b3d_chunk_walk::Sought;
 use b3d_rows_open_items::OpenItems;
-use b3d_scene::Counts;
-use b3d_scene::Tag;
-use b3d_walk::Flat;
-use b3d_walk::Sought;
+use b3d_spec::Counts;
+use b3d_spec::Tag;
 use wire::Cursor;
 
 // The next chunk of a tag: its header is at `at`, the run goes on at `next`, and `nodes` NODE chunks came before it. `End` where there is none.
@@ -32,10 +32,10 @@ pub fn find_chunk(file: &[u8], from: usize, tag: Tag, before: usize) -> FoundChu
     let mut at = from;
     let mut nodes = before;
     loop {
-        let Flat::Chunk(t, p, body, next) = b3d_walk::flat_next(file, at) else {
+        let Flat::Chunk(t, p, body, next) = b3d_chunk_walk::flat_next(file, at) else {
             return FoundChunk::End;
         };
-        if b3d_chunks::same(t, tag) {
+        if b3d_chunk_cursor::same(t, tag) {
             return FoundChunk::Chunk {
                 at: p,
                 body,
@@ -43,7 +43,7 @@ pub fn find_chunk(file: &[u8], from: usize, tag: Tag, before: usize) -> FoundChu
                 nodes,
             };
         }
-        if b3d_chunks::same(t, Tag::NODE) {
+        if b3d_chunk_cursor::same(t, Tag::NODE) {
             nodes += 1;
         }
         at = next;
@@ -79,7 +79,7 @@ pub fn open_mesh(file: &[u8], x: Position) -> NextPosition
             nodes,
             ..
         } => {
-            let head = b3d_walk::first_word(file, body);
+            let head = b3d_chunk_walk::first_word(file, body);
             let inner = head.rest;
             let items = x.items;
             counts.nodes = nodes;
@@ -133,7 +133,7 @@ pub fn more_sets(file: &[u8], x: Position) -> NextPosition
     requires { ⌜ ItemPosition 7 (now file) x ⌝ }
     ensures { λ r. ⌜ ItemsMore 7 (now (file .entry)) x r ⌝ }
 {
-    match b3d_walk::seek(file, x.inner, Tag::TRIS) {
+    match b3d_chunk_walk::seek(file, x.inner, Tag::TRIS) {
         Sought::Nothing => open_mesh(file, x),
         Sought::Found {
             at: p,

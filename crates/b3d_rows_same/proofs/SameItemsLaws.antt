@@ -11,7 +11,7 @@ use Rattle.wire.specs.declared.Cursor.{Cursor}
 use Rattle.wire.proofs.Left.{span, left-length, left-drop}
 use Rattle.layout.specs.Parts.{wordsOf}
 use Rattle.layout.proofs.StepLaws.{word-left}
-use Rattle.b3d_file_rows.specs.Plain.{whole}
+use Rattle.b3d_spec_plain_rows.specs.Plain.{whole}
 use Rattle.b3d_rows_open_items.specs.ItemsLeft.{ItemTable, itemRow, itemRows}
 use Rattle.b3d_rows_open_items.specs.declared.OpenItems.{OpenItems}
 use Rattle.b3d_rows_open_items.proofs.ItemsLeftLaws.{whole-one}

@@ -7,7 +7,7 @@ use lib.ListN.{length}
 use Rattle.wire.specs.Cursors.{Inside, left}
 use Rattle.wire.specs.declared.Cursor.{Cursor}
 use Rattle.layout.specs.Parts.{wordsOf}
-use Rattle.b3d_file_rows.specs.Plain.{whole}
+use Rattle.b3d_spec_plain_rows.specs.Plain.{whole}
 use Rattle.b3d_rows_open_items.specs.ItemsLeft.{ItemTable, itemRows, Measured}
 use Rattle.b3d_rows_open_items.specs.declared.OpenItems.{OpenItems}
 use Rattle.b3d_rows_nodes.specs.declared.RowCursor.{RowCursor}

@@ -10,25 +10,25 @@ use Rattle.wire.specs.Test.{if}
 use Rattle.layout.specs.Parts.{Name}
 use Rattle.layout.proofs.Lists.{All, all-left, all-right, all-from-map, all-zip, all-map}
 use Rattle.layout.specs.Rows.{nameCells}
-use Rattle.b3d_scene.specs.declared.Counts.{Counts}
-use Rattle.b3d_scene.specs.declared.Mode.{Mode}
-use Rattle.b3d_scene.specs.Rebuild.{Lent, Rows, lentRows, textureFrom, brushFrom, together, nodeNames, names, rebuild}
-use Rattle.b3d_scene.specs.Rules.{levels}
-use Rattle.b3d_scene.specs.Scene.{Texture, Brush, Scene}
-use Rattle.b3d_scene.specs.Tables.{width, textureRow, brushRow, rows, tables, nodeTables, nodeWidth}
-use Rattle.b3d_scene.proofs.Fitting.{FitNodes}
-use Rattle.b3d_scene.proofs.Rows.RebuildLaws.{Holds, together-back}
-use Rattle.b3d_scene.proofs.Rows.RowLists.{cut-length}
-use Rattle.b3d_scene.proofs.Rows.RowParts.{Stands}
-use Rattle.b3d_check_rooms.specs.LentRooms.{partCounts, Rooms}
+use Rattle.b3d_spec.specs.declared.Counts.{Counts}
+use Rattle.b3d_spec.specs.declared.Mode.{Mode}
+use Rattle.b3d_spec.specs.Rebuild.{Lent, Rows, lentRows, textureFrom, brushFrom, together, nodeNames, names, rebuild}
+use Rattle.b3d_spec.specs.Rules.{levels}
+use Rattle.b3d_spec.specs.Scene.{Texture, Brush, Scene}
+use Rattle.b3d_spec.specs.Tables.{width, textureRow, brushRow, rows, tables, nodeTables, nodeWidth}
+use Rattle.b3d_spec.proofs.Fitting.{FitNodes}
+use Rattle.b3d_spec.proofs.Rows.RebuildLaws.{Holds, together-back}
+use Rattle.b3d_spec.proofs.Rows.RowLists.{cut-length}
+use Rattle.b3d_spec.proofs.Rows.RowParts.{Stands}
+use Rattle.b3d_check_table_lengths.specs.LentRooms.{partCounts, Rooms}
 use Rattle.b3d_check.specs.Lent.{lentOf}
-use Rattle.b3d_put_rows.specs.Lent.{rowsIn}
-use Rattle.b3d_put_rows.proofs.Cutting.{rows-lent}
-use Rattle.b3d_put_lists.specs.Named.{NamesThere}
-use Rattle.b3d_put_own.specs.Own.{tableRows}
-use Rattle.b3d_put_own.proofs.Trimmed.{trimmed-rows}
-use Rattle.b3d_put_nodes.proofs.TableLaws.{quotient}
-use Rattle.b3d_put_file.specs.Whole.{OfNodes, OfScene}
+use Rattle.b3d_write_row_runs.specs.Lent.{rowsIn}
+use Rattle.b3d_write_row_runs.proofs.Cutting.{rows-lent}
+use Rattle.b3d_write_materials.specs.Named.{NamesThere}
+use Rattle.b3d_write_node.specs.Own.{tableRows}
+use Rattle.b3d_write_node.proofs.Trimmed.{trimmed-rows}
+use Rattle.b3d_write_nodes.proofs.TableLaws.{quotient}
+use Rattle.b3d_write_file.specs.Whole.{OfNodes, OfScene}
 use Rattle.b3d_write.proofs.SoundLaws.{fit, agree, sound-rooms, sound-slots, sound-rows}
 
 -- the names of rows that begin with their cells

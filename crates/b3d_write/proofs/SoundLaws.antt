@@ -8,19 +8,19 @@ use lib.ListN.{length, getD}
 use Rattle.wire.specs.Test.{if}
 use Rattle.layout.specs.Rules.{NONE}
 use Rattle.layout.proofs.Lists.{All}
-use Rattle.b3d_scene.specs.declared.Mode.{Mode}
-use Rattle.b3d_scene.specs.Encode.{encode}
-use Rattle.b3d_scene.specs.Rebuild.{Lent, cut, lentRows, rebuild}
-use Rattle.b3d_scene.specs.Rules.{levels}
-use Rattle.b3d_scene.specs.Scene.{Scene}
-use Rattle.b3d_scene.specs.Tables.{width, start, rows, tables, nodeTables}
-use Rattle.b3d_scene.proofs.Fitting.{Fit, slots-few}
-use Rattle.b3d_scene.proofs.Rows.RebuildLaws.{Agree, rebuild-fine, held-rows}
-use Rattle.b3d_check_rooms.specs.LentRooms.{partCounts, Rooms}
+use Rattle.b3d_spec.specs.declared.Mode.{Mode}
+use Rattle.b3d_spec.specs.Encode.{encode}
+use Rattle.b3d_spec.specs.Rebuild.{Lent, cut, lentRows, rebuild}
+use Rattle.b3d_spec.specs.Rules.{levels}
+use Rattle.b3d_spec.specs.Scene.{Scene}
+use Rattle.b3d_spec.specs.Tables.{width, start, rows, tables, nodeTables}
+use Rattle.b3d_spec.proofs.Fitting.{Fit, slots-few}
+use Rattle.b3d_spec.proofs.Rows.RebuildLaws.{Agree, rebuild-fine, held-rows}
+use Rattle.b3d_check_table_lengths.specs.LentRooms.{partCounts, Rooms}
 use Rattle.b3d_check.specs.Lent.{lentOf}
-use Rattle.b3d_row_size.specs.RowSize.{Sizable}
-use Rattle.b3d_size.specs.LentSize.{NodesSizable, lentSize, fileBytes}
-use Rattle.b3d_size.proofs.SizeLaws.{lent-size, nodes-sizable}
+use Rattle.b3d_write_row_size.specs.RowSize.{Sizable}
+use Rattle.b3d_write_size.specs.LentSize.{NodesSizable, lentSize, fileBytes}
+use Rattle.b3d_write_size.proofs.SizeLaws.{lent-size, nodes-sizable}
 
 module _ (mode : Mode) (v slots : ℕ) (counts t₁ t₂ t₃ t₄ t₅ t₆ t₇ t₈ t₉ t₁₀ ns : List ℕ) where
   abbrev L : Lent

@@ -10,18 +10,18 @@ use borrow.Author.Tests.{not-true, not-false, lt-leb, le-leb}
 use Rattle.wire.specs.Test.{if}
 use Rattle.layout.specs.Out.{got, check}
 use Rattle.layout.specs.Rows.{mostBytes}
-use Rattle.emit.specs.Writing.{Room}
-use Rattle.b3d_scene.specs.declared.Counts.{Counts}
-use Rattle.b3d_scene.specs.declared.Mode.{Mode}
-use Rattle.b3d_scene.specs.Answers.{shortest, roomFor, write, written, outputAfter, writeAnswer, writeOutput}
-use Rattle.b3d_scene.specs.Encode.{encode}
-use Rattle.b3d_scene.specs.Rebuild.{Lent, together, rebuild}
-use Rattle.b3d_scene.specs.Scene.{Scene}
-use Rattle.b3d_check_rooms.specs.LentRooms.{partCounts, Rooms}
+use Rattle.shared_output.specs.Writing.{Room}
+use Rattle.b3d_spec.specs.declared.Counts.{Counts}
+use Rattle.b3d_spec.specs.declared.Mode.{Mode}
+use Rattle.b3d_spec.specs.Answers.{shortest, roomFor, write, written, outputAfter, writeAnswer, writeOutput}
+use Rattle.b3d_spec.specs.Encode.{encode}
+use Rattle.b3d_spec.specs.Rebuild.{Lent, together, rebuild}
+use Rattle.b3d_spec.specs.Scene.{Scene}
+use Rattle.b3d_check_table_lengths.specs.LentRooms.{partCounts, Rooms}
 use Rattle.b3d_check.specs.Lent.{lentOf}
-use Rattle.b3d_size.specs.LentSize.{NodesSizable, fileBytes}
-use Rattle.b3d_put_file.specs.Whole.{Some, Each}
-use Rattle.b3d_put_counted.specs.Counted.{OfCounted}
+use Rattle.b3d_write_size.specs.LentSize.{NodesSizable, fileBytes}
+use Rattle.b3d_write_file.specs.Whole.{Some, Each}
+use Rattle.b3d_write_counted.specs.Counted.{OfCounted}
 use Rattle.b3d_write.specs.Writes.{Writes}
 use Rattle.b3d_write.proofs.SoundLaws.{sound-rooms, sound-slots, sound-sizable, sound-bytes}
 use Rattle.b3d_write.proofs.SceneLaws.{is-scene}

@@ -2,10 +2,10 @@
 use mathlib.Core.Path.{_≡_}
 use Prim.Native.Nat.{ℕ}
 use mathlib.Core.List.{List}
-use Rattle.b3d_scene.specs.declared.Mode.{Mode}
-use Rattle.b3d_scene.specs.declared.Written.{Written}
-use Rattle.b3d_scene.specs.Answers.{writeAnswer, writeOutput}
-use Rattle.b3d_scene.specs.Rebuild.{Lent}
+use Rattle.b3d_spec.specs.declared.Mode.{Mode}
+use Rattle.b3d_spec.specs.declared.Written.{Written}
+use Rattle.b3d_spec.specs.Answers.{writeAnswer, writeOutput}
+use Rattle.b3d_spec.specs.Rebuild.{Lent}
 
 -- what `write` promises for the lent tables T with names in ns, of the output before it (out) and after it (put), and of its answer r
 pub record Writes (mode : Mode) (T : Lent) (ns out put : List ℕ) (r : Written) : Type 0 where

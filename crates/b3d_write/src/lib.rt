@@ -1,8 +1,8 @@
 // The writer: writes the shortest file that has the lent tables and names, and gives the answer of paper 01 for all tables.
 ghost use Rattle.b3d_check.specs.Lent.{lentOf};
 ghost use Rattle.b3d_write.specs.Writes.{Writes};
-use b3d_scene::Mode;
-use b3d_scene::Written;
+use b3d_spec::Mode;
+use b3d_spec::Written;
 
 // Writes the shortest file that has the tables `t1` to `t10`, `counts`, `version` and n_texs (`slots`), with names in `names`, to the start of `out`. Returns
 // 0 and the size written; 12 where no file that `mode` accepts has them; 11 with the size needed where `out` is too short. Where refused `out` stays as it
@@ -53,10 +53,10 @@ pub fn write(
     ) {
         return unsound;
     }
-    let all = b3d_check_rooms::sizes(counts);
+    let all = b3d_check_table_lengths::sizes(counts);
     let textures = wire::size(counts[0]);
     let brushes = wire::size(counts[1]);
-    let size = b3d_size::file_bytes(slots, textures, brushes, all, t1, t2, t3, t4, t9);
+    let size = b3d_write_size::file_bytes(slots, textures, brushes, all, t1, t2, t3, t4, t9);
     if 16777216 < size {
         return unsound;
     }
@@ -67,7 +67,7 @@ pub fn write(
             size: 0,
         };
     }
-    b3d_put_counted::put_counted(
+    b3d_write_counted::put_counted(
         names,
         version,
         slots,

@@ -10,19 +10,19 @@ use Rattle.layout.specs.Out.{Out, got, bad}
 use Rattle.layout.specs.Rows.{eachOf}
 use Rattle.layout.proofs.Lists.{All, all-zip}
 use Rattle.layout.proofs.Outs.{by-got, got-inj, each-got}
-use Rattle.cells.proofs.Joined.{over-all}
-use Rattle.cal3d_scene.specs.Meshes.{Mesh, mesh}
-use Rattle.cal3d_scene.specs.Tables.{meshTables, meshWidth, meshRows}
-use Rattle.cal3d_scene.specs.Answers.{judgeMesh, readMesh, meshAnswer, meshTable}
-use Rattle.cal3d_scene.specs.declared.MeshAnswer.{MeshAnswer}
-use Rattle.cal3d_mesh_rows.specs.Plain.{plainMesh}
-use Rattle.cal3d_mesh_rows.proofs.Readings.{Plainly, mesh-plain}
-use Rattle.cal3d_mesh_rows.proofs.Widths.{tables-wide}
+use Rattle.shared_table_words.proofs.Joined.{over-all}
+use Rattle.cal3d_spec.specs.Meshes.{Mesh, mesh}
+use Rattle.cal3d_spec.specs.Tables.{meshTables, meshWidth, meshRows}
+use Rattle.cal3d_spec.specs.Answers.{judgeMesh, readMesh, meshAnswer, meshTable}
+use Rattle.cal3d_spec.specs.declared.MeshAnswer.{MeshAnswer}
+use Rattle.cal3d_mesh_plain_spec.specs.Plain.{plainMesh}
+use Rattle.cal3d_mesh_plain_spec.proofs.Readings.{Plainly, mesh-plain}
+use Rattle.cal3d_mesh_plain_spec.proofs.Widths.{tables-wide}
 use Rattle.cal3d_mesh_fill.specs.Fills.{fileWords, MeshFit, MeshFilled}
-use Rattle.table_room.specs.Rooms.{numberOf}
-use Rattle.cal3d_mesh_room.specs.Rooms.{WithRoom}
-use Rattle.cal3d_mesh_room.proofs.Refusals.{read-number}
-use Rattle.cal3d_mesh_room.proofs.RoomLaws.{number-of, accepted}
+use Rattle.shared_room.specs.Rooms.{numberOf}
+use Rattle.cal3d_mesh_answer_numbers.specs.Rooms.{WithRoom}
+use Rattle.cal3d_mesh_answer_numbers.proofs.Refusals.{read-number}
+use Rattle.cal3d_mesh_answer_numbers.proofs.RoomLaws.{number-of, accepted}
 use Rattle.cal3d_mesh.specs.Meshes.{readInto, ReadsMesh}
 
 -- ---- what was read

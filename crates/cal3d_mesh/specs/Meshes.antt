@@ -4,10 +4,10 @@ use mathlib.Core.Path.{_≡_}
 use mathlib.Core.List.{List, [], _∷_}
 use lib.ListN.{length}
 use Rattle.layout.specs.Out.{Out}
-use Rattle.cal3d_scene.specs.Meshes.{Mesh}
-use Rattle.cal3d_scene.specs.Answers.{readMesh, meshAnswer, meshTable}
-use Rattle.cal3d_scene.specs.declared.MeshAnswer.{MeshAnswer}
-use Rattle.table_room.specs.Rooms.{numberOf}
+use Rattle.cal3d_spec.specs.Meshes.{Mesh}
+use Rattle.cal3d_spec.specs.Answers.{readMesh, meshAnswer, meshTable}
+use Rattle.cal3d_spec.specs.declared.MeshAnswer.{MeshAnswer}
+use Rattle.shared_room.specs.Rooms.{numberOf}
 
 -- the mesh of the file s, bone ids being below `bones`, lent six tables as long as these
 abbrev pub readInto : List ℕ → List ℕ → List ℕ → List ℕ → List ℕ → List ℕ → ℕ → List ℕ → Out Mesh

@@ -1,6 +1,6 @@
 // The reader of mesh files: six tables into lent slices, with 02's answer to every file, number of bones and tables of every length.
 ghost use Rattle.cal3d_mesh.specs.Meshes.{ReadsMesh};
-use cal3d_scene::MeshAnswer;
+use cal3d_spec::MeshAnswer;
 
 // Reads a mesh file, whose bone ids are below `bone_count`, into six lent tables; words past a table's last row stay as found. If the file is refused (1 to
 // 10), or a table is too short (11, the lowest), each table stays as found.
@@ -18,7 +18,7 @@ pub fn read_mesh(
         (now (submeshes .exit)) (now (vertices .exit)) (now (maps .exit)) (now (influences .exit)) (now (springs .exit)) (now (faces .exit)) r ⌝ }
 {
     let judged = cal3d_mesh_judge::judge(file, bone_count);
-    let answer = cal3d_mesh_room::with_room(
+    let answer = cal3d_mesh_answer_numbers::with_room(
         judged,
         submeshes.len(),
         vertices.len(),

@@ -11,17 +11,17 @@ use Rattle.wire.specs.Test.{if}
 use Rattle.wire.specs.Bytes.{wordAt}
 use Rattle.layout.specs.Rows.{joined}
 use Rattle.layout.proofs.ListLaws.{joined-append}
-use Rattle.cells.proofs.Storing.{Part, part-start, part-done, part-room, part-next}
-use Rattle.cal3d_scene.specs.Meshes.{Vertex, Submesh}
-use Rattle.cal3d_scene.specs.Tables.{submeshRows, vertexRows, verticesOf, meshRows}
-use Rattle.cal3d_mesh_rows.specs.declared.Shape.{Shape}
-use Rattle.cal3d_mesh_rows.specs.Plain.{entriesAt, endAfter, wordRows, shapeAt, verticesAt, verticesEnd, submeshAt, submeshEnd, submeshesAt, submeshesEnd, plainMesh, meshEnd}
-use Rattle.cal3d_mesh_rows.specs.Rows.{mapRows, influenceRows, springRows, faceRows}
-use Rattle.cal3d_mesh_rows.proofs.Entries.{end-grows}
-use Rattle.cal3d_mesh_rows.proofs.Widths.{wide-length, rows-length, rows-words, vertices-wide, maps-wide, influences-wide, vertex-rows-wide, vertex-rows-length}
-use Rattle.cal3d_vertex_rows.specs.declared.Marks.{Marks}
-use Rattle.cal3d_vertex_rows.specs.Vertices.{VerticesFit, VerticesPut}
-use Rattle.cal3d_vertex_rows.proofs.VerticesLaws.{vertices-grow, vertices-many}
+use Rattle.shared_table_words.proofs.Storing.{Part, part-start, part-done, part-room, part-next}
+use Rattle.cal3d_spec.specs.Meshes.{Vertex, Submesh}
+use Rattle.cal3d_spec.specs.Tables.{submeshRows, vertexRows, verticesOf, meshRows}
+use Rattle.cal3d_mesh_plain_spec.specs.declared.Shape.{Shape}
+use Rattle.cal3d_mesh_plain_spec.specs.Plain.{entriesAt, endAfter, wordRows, shapeAt, verticesAt, verticesEnd, submeshAt, submeshEnd, submeshesAt, submeshesEnd, plainMesh, meshEnd}
+use Rattle.cal3d_mesh_plain_spec.specs.Rows.{mapRows, influenceRows, springRows, faceRows}
+use Rattle.cal3d_mesh_plain_spec.proofs.Entries.{end-grows}
+use Rattle.cal3d_mesh_plain_spec.proofs.Widths.{wide-length, rows-length, rows-words, vertices-wide, maps-wide, influences-wide, vertex-rows-wide, vertex-rows-length}
+use Rattle.cal3d_mesh_vertex_rows.specs.declared.Marks.{Marks}
+use Rattle.cal3d_mesh_vertex_rows.specs.Vertices.{VerticesFit, VerticesPut}
+use Rattle.cal3d_mesh_vertex_rows.proofs.VerticesLaws.{vertices-grow, vertices-many}
 use Rattle.cal3d_mesh_fill.specs.declared.Place.{Place}
 use Rattle.cal3d_mesh_fill.specs.Fills.{PlaceFit, fileWords, MeshFit, MeshFilled}
 use Rattle.cal3d_mesh_fill.proofs.SubmeshLaws.{its-vertices, its-springs, its-faces, its-end, row-long, submesh-first, vertices-first, springs-first, faces-first, maps-append, influences-append, vertices-append}

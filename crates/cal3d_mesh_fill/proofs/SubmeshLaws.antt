@@ -7,14 +7,14 @@ use lib.ListN.{length, length-append}
 use lib.Seq.{sets}
 use Rattle.wire.specs.Bytes.{wordAt}
 use Rattle.layout.specs.Rows.{joined}
-use Rattle.cells.specs.Words.{wordsAt}
-use Rattle.cells.proofs.Copying.{length-words}
-use Rattle.cal3d_scene.specs.Meshes.{Vertex, Submesh}
-use Rattle.cal3d_scene.specs.Tables.{submeshRows, vertexRows, verticesOf}
-use Rattle.cal3d_mesh_rows.specs.declared.Shape.{Shape}
-use Rattle.cal3d_mesh_rows.specs.Plain.{wordRows, shapeAt, verticesAt, verticesEnd, submeshAt, submeshEnd}
-use Rattle.cal3d_mesh_rows.specs.Rows.{mapRows, influenceRows, springRows, faceRows}
-use Rattle.cal3d_vertex_rows.proofs.VertexLaws.{cells-behind}
+use Rattle.shared_table_words.specs.Words.{wordsAt}
+use Rattle.shared_table_words.proofs.Copying.{length-words}
+use Rattle.cal3d_spec.specs.Meshes.{Vertex, Submesh}
+use Rattle.cal3d_spec.specs.Tables.{submeshRows, vertexRows, verticesOf}
+use Rattle.cal3d_mesh_plain_spec.specs.declared.Shape.{Shape}
+use Rattle.cal3d_mesh_plain_spec.specs.Plain.{wordRows, shapeAt, verticesAt, verticesEnd, submeshAt, submeshEnd}
+use Rattle.cal3d_mesh_plain_spec.specs.Rows.{mapRows, influenceRows, springRows, faceRows}
+use Rattle.cal3d_mesh_vertex_rows.proofs.VertexLaws.{cells-behind}
 
 -- ---- its counts
 

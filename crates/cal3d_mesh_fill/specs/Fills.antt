@@ -5,8 +5,8 @@ use mathlib.Core.List.{List}
 use lib.ListN.{length}
 use lib.Seq.{sets as stored}
 use Rattle.layout.specs.Rows.{joined}
-use Rattle.cal3d_scene.specs.Tables.{meshRows}
-use Rattle.cal3d_mesh_rows.specs.Plain.{plainMesh, meshEnd}
+use Rattle.cal3d_spec.specs.Tables.{meshRows}
+use Rattle.cal3d_mesh_plain_spec.specs.Plain.{plainMesh, meshEnd}
 use Rattle.cal3d_mesh_fill.specs.declared.Place.{Place}
 
 -- no more rows of each table come before a place than bytes do

@@ -6,11 +6,11 @@ ghost use Prim.Native.Nat.{_+_, _*_, _<_, _≤_};
 ghost use lib.ListN.{length};
 ghost use lib.Seq.{sets as stored};
 ghost use Rattle.layout.specs.Rows.{joined};
-ghost use Rattle.cal3d_scene.specs.Tables.{submeshRows};
-ghost use Rattle.cal3d_mesh_rows.specs.Plain.{shapeAt, submeshAt};
+ghost use Rattle.cal3d_spec.specs.Tables.{submeshRows};
+ghost use Rattle.cal3d_mesh_plain_spec.specs.Plain.{shapeAt, submeshAt};
 ghost use Rattle.cal3d_mesh_fill.specs.Fills.{PlaceFit, MeshFit, MeshFilled};
-use cal3d_mesh_rows::Shape;
-use cal3d_vertex_rows::Marks;
+use cal3d_mesh_plain_spec::Shape;
+use cal3d_mesh_vertex_rows::Marks;
 
 // A place in the file, and how many rows of tables 2 to 6 come before it.
 pub struct Place {
@@ -40,9 +40,9 @@ fn put_submesh(s: &[u8], m: Place, base: usize, out: &mut [u32])
     requires { ⌜ (m .at + 24 ≤ length (now s)) × (length (now s) < 0x100000000) × PlaceFit m × (base + 9 ≤ length (now out)) ⌝ }
     ensures { λ _. ⌜ now (out .exit) ≡ stored (now (out .entry)) base (joined (submeshRows (m .vertices) (m .springs) (m .faces) (submeshAt (now (s .entry)) (m .at) ∷ []))) ⌝ }
 {
-    cal3d_vertex_rows::put_words(s, m.at, 6, base, out);
+    cal3d_mesh_vertex_rows::put_words(s, m.at, 6, base, out);
     let rest = [m.vertices as u32, m.springs as u32, m.faces as u32];
-    cells::put_cells(out, base + 6, &rest);
+    shared_table_words::put_cells(out, base + 6, &rest);
 }
 
 // Returns the place after a submesh of the shape `x` at `m`, whose vertices end at `v`.
@@ -92,9 +92,17 @@ pub fn fill_mesh(
             maps: m.maps,
             influences: m.influences,
         };
-        let v = cal3d_vertex_rows::put_vertices(s, x, from, m.vertices, vertices, maps, influences);
-        cal3d_vertex_rows::put_rows(s, v.at, x.springs, 4, m.springs, springs);
-        cal3d_vertex_rows::put_rows(s, v.at + 16 * x.springs, x.faces, 3, m.faces, faces);
+        let v = cal3d_mesh_vertex_rows::put_vertices(
+            s,
+            x,
+            from,
+            m.vertices,
+            vertices,
+            maps,
+            influences,
+        );
+        cal3d_mesh_vertex_rows::put_rows(s, v.at, x.springs, 4, m.springs, springs);
+        cal3d_mesh_vertex_rows::put_rows(s, v.at + 16 * x.springs, x.faces, 3, m.faces, faces);
         m = pass_submesh(m, x, v);
         i += 1;
     }

@@ -16,23 +16,23 @@ use Rattle.layout.specs.Counted.{times}
 use Rattle.layout.specs.Rows.{eachOf}
 use Rattle.layout.proofs.StepLaws.{length-words-of}
 use Rattle.layout.proofs.CountLaws.{times-moves, times-length}
-use Rattle.id_check.proofs.Ids.{word-at}
-use Rattle.cal3d_scene.specs.Rules.{meshMagic, namedBones}
-use Rattle.cal3d_scene.specs.Meshes.{Submesh, Mesh, readSubmesh, meshFrom, mesh}
-use Rattle.cal3d_scene.specs.Tables.{meshTables, meshRows, mostRows}
-use Rattle.cal3d_scene.specs.Answers.{judgeMesh, meshAnswer}
-use Rattle.cal3d_scene.specs.declared.MeshAnswer.{MeshAnswer}
-use Rattle.cal3d_head.specs.Heads.{readHead, openedOf}
-use Rattle.cal3d_head.specs.declared.Opened.{Opened}
-use Rattle.cal3d_head.specs.declared.Opened.the-variants as opened
-use Rattle.cal3d_head.proofs.HeadLaws.{headOf, HeadAt, head-then, opened-bad, opened-at}
-use Rattle.cal3d_head.proofs.FileEnd.{toEnd, ended-bad, ended-spare, ended-done, left-over}
-use Rattle.cal3d_submesh_lists.specs.Contents.{contentsIn, Contains}
-use Rattle.cal3d_submesh_lists.specs.declared.Contents.{Contents}
-use Rattle.cal3d_submesh_lists.specs.declared.Contained.{Contained}
-use Rattle.cal3d_submesh_lists.specs.declared.Contained.the-variants as contained
-use Rattle.cal3d_submeshes.proofs.SubmeshLaws.{submesh-moves}
-use Rattle.cal3d_submeshes.proofs.TotalLaws.{contained-bad, contained-got}
+use Rattle.shared_ids.proofs.Ids.{word-at}
+use Rattle.cal3d_spec.specs.Rules.{meshMagic, namedBones}
+use Rattle.cal3d_spec.specs.Meshes.{Submesh, Mesh, readSubmesh, meshFrom, mesh}
+use Rattle.cal3d_spec.specs.Tables.{meshTables, meshRows, mostRows}
+use Rattle.cal3d_spec.specs.Answers.{judgeMesh, meshAnswer}
+use Rattle.cal3d_spec.specs.declared.MeshAnswer.{MeshAnswer}
+use Rattle.cal3d_header.specs.Heads.{readHead, openedOf}
+use Rattle.cal3d_header.specs.declared.Opened.{Opened}
+use Rattle.cal3d_header.specs.declared.Opened.the-variants as opened
+use Rattle.cal3d_header.proofs.HeadLaws.{headOf, HeadAt, head-then, opened-bad, opened-at}
+use Rattle.cal3d_header.proofs.FileEnd.{toEnd, ended-bad, ended-spare, ended-done, left-over}
+use Rattle.cal3d_mesh_submesh_lists.specs.Contents.{contentsIn, Contains}
+use Rattle.cal3d_mesh_submesh_lists.specs.declared.Contents.{Contents}
+use Rattle.cal3d_mesh_submesh_lists.specs.declared.Contained.{Contained}
+use Rattle.cal3d_mesh_submesh_lists.specs.declared.Contained.the-variants as contained
+use Rattle.cal3d_mesh_submeshes.proofs.SubmeshLaws.{submesh-moves}
+use Rattle.cal3d_mesh_submeshes.proofs.TotalLaws.{contained-bad, contained-got}
 use Rattle.cal3d_mesh_judge.specs.Limits.{rowCounts, firstOver, acceptedAs, overAs, limitedAs}
 use Rattle.cal3d_mesh_judge.proofs.LimitLaws.{countsOf, counts-are, overOut, limits-are}
 

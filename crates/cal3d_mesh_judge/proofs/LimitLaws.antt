@@ -11,14 +11,14 @@ use Rattle.wire.specs.Test.{if}
 use Rattle.layout.specs.Out.{Out, got, bad, check, _>>=_}
 use Rattle.layout.specs.Rows.{eachOf}
 use Rattle.layout.proofs.Outs.{by-test}
-use Rattle.cal3d_scene.specs.Meshes.{Submesh, Mesh}
-use Rattle.cal3d_scene.specs.Tables.{meshTables, submeshRows, verticesOf, meshRows, mostRows}
-use Rattle.cal3d_scene.specs.Answers.{meshAnswer}
-use Rattle.cal3d_scene.specs.declared.MeshAnswer.{MeshAnswer}
-use Rattle.cal3d_mesh_rows.proofs.Widths.{vertex-rows-length}
-use Rattle.cal3d_vertices.specs.Vertices.{mapsIn, influencesIn}
-use Rattle.cal3d_submesh_lists.specs.Contents.{contentsIn, Within}
-use Rattle.cal3d_submesh_lists.specs.declared.Contents.{Contents}
+use Rattle.cal3d_spec.specs.Meshes.{Submesh, Mesh}
+use Rattle.cal3d_spec.specs.Tables.{meshTables, submeshRows, verticesOf, meshRows, mostRows}
+use Rattle.cal3d_spec.specs.Answers.{meshAnswer}
+use Rattle.cal3d_spec.specs.declared.MeshAnswer.{MeshAnswer}
+use Rattle.cal3d_mesh_plain_spec.proofs.Widths.{vertex-rows-length}
+use Rattle.cal3d_mesh_vertices.specs.Vertices.{mapsIn, influencesIn}
+use Rattle.cal3d_mesh_submesh_lists.specs.Contents.{contentsIn, Within}
+use Rattle.cal3d_mesh_submesh_lists.specs.declared.Contents.{Contents}
 use Rattle.cal3d_mesh_judge.specs.Limits.{rowCounts, firstOver, acceptedAs, overAs, limitedAs}
 
 -- ---- the steps

@@ -4,10 +4,10 @@ use mathlib.Core.List.{List, [], _∷_}
 use lib.Dec.{leb}
 use Rattle.wire.specs.Test.{if}
 use Rattle.layout.specs.Out.{bad}
-use Rattle.cal3d_scene.specs.Answers.{meshAnswer}
-use Rattle.cal3d_scene.specs.declared.MeshAnswer.{MeshAnswer}
-use Rattle.cal3d_scene.specs.Tables.{mostRows}
-use Rattle.cal3d_submesh_lists.specs.declared.Contents.{Contents}
+use Rattle.cal3d_spec.specs.Answers.{meshAnswer}
+use Rattle.cal3d_spec.specs.declared.MeshAnswer.{MeshAnswer}
+use Rattle.cal3d_spec.specs.Tables.{mostRows}
+use Rattle.cal3d_mesh_submesh_lists.specs.declared.Contents.{Contents}
 
 -- the rows of the six tables of a mesh with this number of submeshes, whose other rows are t
 abbrev pub rowCounts : ℕ → Contents → List ℕ

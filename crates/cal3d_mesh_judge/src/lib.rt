@@ -2,14 +2,14 @@
 ghost use mathlib.Core.Path.{_≡_};
 ghost use Prim.Native.Nat.{ℕ};
 ghost use Rattle.layout.specs.Out.{bad};
-ghost use Rattle.cal3d_scene.specs.Rules.{namedBones};
-ghost use Rattle.cal3d_scene.specs.Answers.{judgeMesh, meshAnswer};
-ghost use Rattle.cal3d_submesh_lists.specs.Contents.{Within};
+ghost use Rattle.cal3d_spec.specs.Rules.{namedBones};
+ghost use Rattle.cal3d_spec.specs.Answers.{judgeMesh, meshAnswer};
+ghost use Rattle.cal3d_mesh_submesh_lists.specs.Contents.{Within};
 ghost use Rattle.cal3d_mesh_judge.specs.Limits.{rowCounts, firstOver, acceptedAs, limitedAs};
-use cal3d_head::Opened;
-use cal3d_scene::MeshAnswer;
-use cal3d_submesh_lists::Contained;
-use cal3d_submesh_lists::Contents;
+use cal3d_header::Opened;
+use cal3d_mesh_submesh_lists::Contained;
+use cal3d_mesh_submesh_lists::Contents;
+use cal3d_spec::MeshAnswer;
 use wire::Cursor;
 
 // Returns the answer of a refusal with `number` at `place`.
@@ -94,11 +94,11 @@ fn named_bones(bone_count: u32) -> usize
 pub fn judge(file: &[u8], bone_count: u32) -> MeshAnswer
     ensures { λ r. ⌜ r ≡ meshAnswer (judgeMesh «bone_count» (now (file .entry))) ⌝ }
 {
-    match cal3d_head::entry_count(file, 0x00464D43, 700, 0) {
+    match cal3d_header::entry_count(file, 0x00464D43, 700, 0) {
         Opened::Not(e, p) => refused(e, p),
         Opened::To(submeshes) => {
             let n = file.len();
-            match cal3d_submeshes::judge_submeshes(
+            match cal3d_mesh_submeshes::judge_submeshes(
                 file,
                 Cursor { at: 12, end: n },
                 named_bones(bone_count),

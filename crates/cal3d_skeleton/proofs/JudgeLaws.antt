@@ -10,21 +10,21 @@ use Rattle.wire.specs.declared.Cursor.{Cursor}
 use Rattle.wire.proofs.Left.{span}
 use Rattle.layout.specs.Out.{Out, got, bad, _>>=_}
 use Rattle.layout.proofs.Outs.{by-got, got-inj}
-use Rattle.cal3d_scene.specs.Skeletons.{Bone, Skeleton}
-use Rattle.cal3d_scene.specs.Trees.{trees}
-use Rattle.cal3d_scene.specs.Tables.{boneRows, childRows, skeletonRows}
-use Rattle.cal3d_scene.specs.Answers.{limitedSkeleton, judgeSkeleton, skeletonAnswer}
-use Rattle.cal3d_scene.specs.declared.SkeletonAnswer.{SkeletonAnswer}
-use Rattle.cal3d_bones.specs.Bones.{bonesIn, childrenIn}
-use Rattle.cal3d_limits.specs.Verdicts.{verdictOf}
-use Rattle.cal3d_limits.specs.declared.Summary.{Summary}
-use Rattle.cal3d_limits.specs.declared.Verdict.{Verdict}
-use Rattle.cal3d_limits.specs.declared.Verdict.the-variants as verdict
-use Rattle.cal3d_limits.proofs.FileLaws.{bone-rows}
-use Rattle.cal3d_limits.proofs.GoodLaws.{BonesStand, limited-good}
-use Rattle.cal3d_links.specs.Links.{Good, bonesAt, toldOf}
-use Rattle.cal3d_links.specs.declared.Told.{Told}
-use Rattle.cal3d_links.specs.declared.Told.the-variants as told
+use Rattle.cal3d_spec.specs.Skeletons.{Bone, Skeleton}
+use Rattle.cal3d_spec.specs.Trees.{trees}
+use Rattle.cal3d_spec.specs.Tables.{boneRows, childRows, skeletonRows}
+use Rattle.cal3d_spec.specs.Answers.{limitedSkeleton, judgeSkeleton, skeletonAnswer}
+use Rattle.cal3d_spec.specs.declared.SkeletonAnswer.{SkeletonAnswer}
+use Rattle.cal3d_skeleton_bones.specs.Bones.{bonesIn, childrenIn}
+use Rattle.cal3d_skeleton_limits.specs.Verdicts.{verdictOf}
+use Rattle.cal3d_skeleton_limits.specs.declared.Summary.{Summary}
+use Rattle.cal3d_skeleton_limits.specs.declared.Verdict.{Verdict}
+use Rattle.cal3d_skeleton_limits.specs.declared.Verdict.the-variants as verdict
+use Rattle.cal3d_skeleton_limits.proofs.FileLaws.{bone-rows}
+use Rattle.cal3d_skeleton_limits.proofs.GoodLaws.{BonesStand, limited-good}
+use Rattle.cal3d_skeleton_tree_file.specs.Links.{Good, bonesAt, toldOf}
+use Rattle.cal3d_skeleton_tree_file.specs.declared.Told.{Told}
+use Rattle.cal3d_skeleton_tree_file.specs.declared.Told.the-variants as told
 use Rattle.cal3d_skeleton.specs.Skeletons.{acceptedAs}
 
 verdict-bad : (o : Out Skeleton) (n p : ℕ) → verdict.Bad n p ≡ verdictOf o → o ≡ bad n p

@@ -11,18 +11,18 @@ use Rattle.wire.specs.Test.{if}
 use Rattle.wire.specs.Bytes.{over}
 use Rattle.layout.specs.Out.{Out, got, bad, check, _>>=_}
 use Rattle.layout.specs.Rows.{joined, eachOf}
-use Rattle.cal3d_scene.specs.Skeletons.{Bone, Skeleton}
-use Rattle.cal3d_scene.specs.Tables.{boneRows, childRows, skeletonWidth, skeletonRows}
-use Rattle.cal3d_scene.specs.Answers.{judgeSkeleton, readSkeleton, skeletonRoom, skeletonAnswer, skeletonTable}
-use Rattle.cal3d_scene.specs.declared.SkeletonAnswer.{SkeletonAnswer}
-use Rattle.cal3d_bones.specs.Bones.{bonesIn, childrenIn}
-use Rattle.cal3d_limits.specs.Verdicts.{verdictOf}
-use Rattle.cal3d_limits.specs.declared.Summary.{Summary}
-use Rattle.cal3d_limits.specs.declared.Verdict.{Verdict}
-use Rattle.cal3d_limits.specs.declared.Verdict.the-variants as verdict
-use Rattle.cal3d_limits.proofs.FileLaws.{bone-rows}
-use Rattle.cal3d_limits.proofs.GoodLaws.{BonesStand}
-use Rattle.cal3d_links.specs.Links.{Good, bonesAt}
+use Rattle.cal3d_spec.specs.Skeletons.{Bone, Skeleton}
+use Rattle.cal3d_spec.specs.Tables.{boneRows, childRows, skeletonWidth, skeletonRows}
+use Rattle.cal3d_spec.specs.Answers.{judgeSkeleton, readSkeleton, skeletonRoom, skeletonAnswer, skeletonTable}
+use Rattle.cal3d_spec.specs.declared.SkeletonAnswer.{SkeletonAnswer}
+use Rattle.cal3d_skeleton_bones.specs.Bones.{bonesIn, childrenIn}
+use Rattle.cal3d_skeleton_limits.specs.Verdicts.{verdictOf}
+use Rattle.cal3d_skeleton_limits.specs.declared.Summary.{Summary}
+use Rattle.cal3d_skeleton_limits.specs.declared.Verdict.{Verdict}
+use Rattle.cal3d_skeleton_limits.specs.declared.Verdict.the-variants as verdict
+use Rattle.cal3d_skeleton_limits.proofs.FileLaws.{bone-rows}
+use Rattle.cal3d_skeleton_limits.proofs.GoodLaws.{BonesStand}
+use Rattle.cal3d_skeleton_tree_file.specs.Links.{Good, bonesAt}
 use Rattle.cal3d_skeleton.specs.Skeletons.{acceptedAs, ReadsSkeleton}
 use Rattle.cal3d_skeleton.proofs.JudgeLaws.{bones-good, bones-are, judged-limited, refused-bad, accepted-good, accepted-answer}
 

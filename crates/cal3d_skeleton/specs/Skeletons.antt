@@ -3,9 +3,9 @@ use Prim.Native.Nat.{ℕ}
 use mathlib.Core.Path.{_≡_}
 use mathlib.Core.List.{List, [], _∷_}
 use lib.ListN.{length}
-use Rattle.cal3d_scene.specs.Answers.{readSkeleton, skeletonRoom, skeletonAnswer, skeletonTable}
-use Rattle.cal3d_scene.specs.declared.SkeletonAnswer.{SkeletonAnswer}
-use Rattle.cal3d_limits.specs.declared.Summary.{Summary}
+use Rattle.cal3d_spec.specs.Answers.{readSkeleton, skeletonRoom, skeletonAnswer, skeletonTable}
+use Rattle.cal3d_spec.specs.declared.SkeletonAnswer.{SkeletonAnswer}
+use Rattle.cal3d_skeleton_limits.specs.declared.Summary.{Summary}
 
 -- the answer of an accepted file with the summary x
 abbrev pub acceptedAs : Summary → SkeletonAnswer

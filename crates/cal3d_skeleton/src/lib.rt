@@ -2,13 +2,13 @@
 ghost use mathlib.Core.Path.{_≡_};
 ghost use Prim.Native.Nat.{_≤_};
 ghost use Rattle.layout.specs.Out.{bad};
-ghost use Rattle.cal3d_scene.specs.Answers.{judgeSkeleton, skeletonAnswer};
-ghost use Rattle.cal3d_limits.specs.Verdicts.{verdictOf};
+ghost use Rattle.cal3d_spec.specs.Answers.{judgeSkeleton, skeletonAnswer};
+ghost use Rattle.cal3d_skeleton_limits.specs.Verdicts.{verdictOf};
 ghost use Rattle.cal3d_skeleton.specs.Skeletons.{acceptedAs, ReadsSkeleton};
-use cal3d_limits::Summary;
-use cal3d_limits::Verdict;
-use cal3d_links::Told;
-use cal3d_scene::SkeletonAnswer;
+use cal3d_skeleton_limits::Summary;
+use cal3d_skeleton_limits::Verdict;
+use cal3d_skeleton_tree_file::Told;
+use cal3d_spec::SkeletonAnswer;
 use wire::Cursor;
 
 // Returns the answer of a refusal with `number` at `place`.
@@ -40,12 +40,12 @@ fn accepted(x: Summary) -> SkeletonAnswer
 fn judged(file: &[u8]) -> Verdict
     ensures { λ r. ⌜ r ≡ verdictOf (judgeSkeleton (now (file .entry))) ⌝ }
 {
-    match cal3d_limits::limited(file) {
+    match cal3d_skeleton_limits::limited(file) {
         Verdict::Bad(number, place) => Verdict::Bad(number, place),
         Verdict::Good(x) => {
             let bones = wire::size(x.bones);
             let end = file.len();
-            match cal3d_links::same_trees(file, Cursor { at: 24, end }, bones) {
+            match cal3d_skeleton_tree_file::same_trees(file, Cursor { at: 24, end }, bones) {
                 Told::Not(number, place) => Verdict::Bad(number, place),
                 Told::Same => Verdict::Good(x),
             }
@@ -79,7 +79,7 @@ pub fn read_skeleton(file: &[u8], bones: &mut [u32], children: &mut [u32]) -> Sk
                 return refused(11, 2);
             }
             let end = file.len();
-            cal3d_bone_rows::fill(file, Cursor { at: 24, end }, count, bones, children);
+            cal3d_skeleton_rows::fill(file, Cursor { at: 24, end }, count, bones, children);
             accepted(x)
         }
     }

@@ -2,9 +2,9 @@
 use mathlib.Core.Path.{_≡_, _∙_, ap}
 use Prim.Native.Nat.{ℕ}
 use mathlib.Core.List.{List}
-use Rattle.b3d_scene.specs.declared.Answer.{Answer}
-use Rattle.b3d_scene.specs.declared.Mode.{Mode}
-use Rattle.b3d_scene.specs.Answers.{judge, answer}
+use Rattle.b3d_spec.specs.declared.Answer.{Answer}
+use Rattle.b3d_spec.specs.declared.Mode.{Mode}
+use Rattle.b3d_spec.specs.Answers.{judge, answer}
 use Rattle.b3d_read.specs.Reads.{Reads}
 
 module _ (m k : Mode) (em : m ≡ k) (s : List ℕ) (a : Answer) where

@@ -4,13 +4,13 @@ ghost use mathlib.Core.Path.{_≡_};
 ghost use mathlib.Core.List.{[], _∷_};
 ghost use Prim.Native.Nat.{_+_, _≤_};
 ghost use lib.ListN.{length};
-ghost use Rattle.b3d_scene.specs.Answers.{judge, answer};
+ghost use Rattle.b3d_spec.specs.Answers.{judge, answer};
 ghost use Rattle.b3d_read.specs.Reads.{Reads};
 ghost use Rattle.slip.specs.Slips.{readSlipAnswer};
-ghost use Rattle.b3d_label_walk.specs.Walk.{labelOf};
-ghost use Rattle.kelompuris_mode.specs.Modes.{modeOf};
-use b3d_label_walk::TrayLabel;
-use b3d_scene::Answer;
+ghost use Rattle.b3d_label_spec.specs.Walk.{labelOf};
+ghost use Rattle.kelompuris_c_mode.specs.Modes.{modeOf};
+use b3d_label_spec::TrayLabel;
+use b3d_spec::Answer;
 use slip::Slip;
 
 // Judges `file` in the mode with the number `mode`, without any table: answers 1 to 10, or 0 with version, n_texs and counts.
@@ -18,8 +18,8 @@ use slip::Slip;
 pub extern "C" fn kelompuris_b3d_judge(mode: u32, file: &[u8]) -> Answer
     ensures { λ r. ⌜ r ≡ answer (judge (modeOf mode) (now (file .entry))) ⌝ }
 {
-    let m = kelompuris_mode::mode_of(mode);
-    b3d_answers::judge(m, file)
+    let m = kelompuris_c_mode::mode_of(mode);
+    b3d_read_answer::judge(m, file)
 }
 
 // Reads `file` in the mode with the number `mode` into ten lent tables. Words past a table's last row stay as found; on a refusal all tables do.
@@ -44,7 +44,7 @@ pub extern "C" fn kelompuris_b3d_read(
         (now (t1 .exit) ∷ now (t2 .exit) ∷ now (t3 .exit) ∷ now (t4 .exit) ∷ now (t5 .exit)
         ∷ now (t6 .exit) ∷ now (t7 .exit) ∷ now (t8 .exit) ∷ now (t9 .exit) ∷ now (t10 .exit) ∷ []) r ⌝ }
 {
-    let m = kelompuris_mode::mode_of(mode);
+    let m = kelompuris_c_mode::mode_of(mode);
     b3d_read::read(m, file, t1, t2, t3, t4, t5, t6, t7, t8, t9, t10)
 }
 

@@ -7,11 +7,11 @@ use mathlib.Core.List.{List, [], _++_, append-assoc, append-nil}
 use lib.ListN.{length, take, drop, length-append, length-take, length-drop, drop-of-length-le}
 use lib.Seq.{sets, length-sets, sets-eq, take-all, drop-drop}
 use Rattle.wire.specs.Bytes.{bytes, over}
-use Rattle.cells.proofs.Storing.{sets-append}
-use Rattle.emit.specs.Writing.{Wrote}
-use Rattle.emit.proofs.Joining.{Both}
-use Rattle.groups.specs.Groups.{groups, groupsOf}
-use Rattle.groups.specs.Puts.{PutAt}
+use Rattle.shared_table_words.proofs.Storing.{sets-append}
+use Rattle.shared_output.specs.Writing.{Wrote}
+use Rattle.shared_output.proofs.Joining.{Both}
+use Rattle.shared_seven_bit_groups.specs.Groups.{groups, groupsOf}
+use Rattle.shared_seven_bit_groups.specs.Puts.{PutAt}
 use Rattle.shared_put_or_count.specs.Emits.{written, roomOf, Fits, Emits}
 
 -- ---- one after the other

@@ -4,7 +4,7 @@ ghost use Prim.Native.Nat.{_+_, _≤_};
 ghost use mathlib.Core.List.{[]};
 ghost use lib.ListN.{length, take, drop};
 ghost use Rattle.wire.specs.Bytes.{bytes};
-ghost use Rattle.groups.specs.Groups.{groups};
+ghost use Rattle.shared_seven_bit_groups.specs.Groups.{groups};
 ghost use Rattle.shared_put_or_count.specs.Emits.{Emits, Fits};
 
 // Puts or counts `count` bytes of the file from `from` on, and gives the place after them; none for a count of 0.
@@ -21,7 +21,7 @@ pub fn put_copy(
     ensures { λ r. ⌜ Emits wet (take count (drop from (now (file .entry)))) (now (out .entry)) at (now (out .exit)) r ⌝ }
 {
     if wet {
-        emit::copy_bytes(file, from, count, &mut out[at..]);
+        shared_output::copy_bytes(file, from, count, &mut out[at..]);
         return at + count;
     }
     at + count
@@ -45,7 +45,7 @@ pub fn put_grouped(n: u32, wet: bool, out: &mut [u8], at: usize) -> usize
     ensures { λ r. ⌜ Emits wet (groups n []) (now (out .entry)) at (now (out .exit)) r ⌝ }
 {
     if wet {
-        return groups::put_groups(n, out, at);
+        return shared_seven_bit_groups::put_groups(n, out, at);
     }
-    at + groups::groups_of(n)
+    at + shared_seven_bit_groups::groups_of(n)
 }

@@ -6,10 +6,10 @@ use lib.ListN.{length, replicate}
 use Rattle.wire.specs.Bytes.{over}
 use Rattle.wire.specs.Test.{if}
 use Rattle.layout.specs.Out.{Out, got, bad, check}
-use Rattle.groups.specs.Groups.{frontIn, front, groups, groupsOf, writeNumbers, goesOn, last, readIn, readNumber, readNumbers}
-use Rattle.b3d_scene.specs.Rules.{rowLimit}
-use Rattle.b3d_scene.specs.Answers.{roomFor, written, outputAfter}
-use Rattle.b3d_scene.specs.declared.Written.{Written}
+use Rattle.shared_seven_bit_groups.specs.Groups.{frontIn, front, groups, groupsOf, writeNumbers, goesOn, last, readIn, readNumber, readNumbers}
+use Rattle.b3d_spec.specs.Rules.{rowLimit}
+use Rattle.b3d_spec.specs.Answers.{roomFor, written, outputAfter}
+use Rattle.b3d_spec.specs.declared.Written.{Written}
 use Rattle.slip.specs.Slips.{firstOver, writeSlipAnswer, writeSlipOutput, limitsWithin, readWithin, slipWithin, writeWithin}
 
 -- ---- writing, into an output of so many bytes 9

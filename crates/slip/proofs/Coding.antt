@@ -9,11 +9,11 @@ use lib.Seq.{sets, sets-eq, drop-cons}
 use borrow.Author.Tests.{lt-ltb, le-ltb}
 use Rattle.wire.specs.Bytes.{over}
 use Rattle.wire.specs.Test.{if}
-use Rattle.groups.specs.Groups.{groups, groupsOf, writeNumbers}
-use Rattle.groups.specs.Puts.{PutAt}
-use Rattle.groups.proofs.Fronts.{groups-append, groups-length}
-use Rattle.b3d_scene.specs.Rules.{rowLimit}
-use Rattle.cells.proofs.Storing.{sets-append}
+use Rattle.shared_seven_bit_groups.specs.Groups.{groups, groupsOf, writeNumbers}
+use Rattle.shared_seven_bit_groups.specs.Puts.{PutAt}
+use Rattle.shared_seven_bit_groups.proofs.Fronts.{groups-append, groups-length}
+use Rattle.b3d_spec.specs.Rules.{rowLimit}
+use Rattle.shared_table_words.proofs.Storing.{sets-append}
 use Rattle.slip.specs.Slips.{limits, limitAt, firstOver, limitsWithin}
 
 -- ---- `most`

@@ -10,11 +10,11 @@ use lib.Dec.{leb}
 use borrow.Author.Tests.{le-leb, lt-leb}
 use Rattle.layout.specs.Out.{Out, got, bad, check, _>>=_}
 use Rattle.layout.specs.Parts.{Step}
-use Rattle.groups.specs.Groups.{groupsOf, readNumber, readNumbers, grouped}
-use Rattle.groups.specs.declared.Grouped.{Grouped}
-use Rattle.groups.specs.declared.Grouped.the-variants as number
-use Rattle.groups.proofs.Coding.{word-groups}
-use Rattle.groups.proofs.Places.{Moved, Placed, number-placed}
+use Rattle.shared_seven_bit_groups.specs.Groups.{groupsOf, readNumber, readNumbers, grouped}
+use Rattle.shared_seven_bit_groups.specs.declared.Grouped.{Grouped}
+use Rattle.shared_seven_bit_groups.specs.declared.Grouped.the-variants as number
+use Rattle.shared_seven_bit_groups.proofs.Coding.{word-groups}
+use Rattle.shared_seven_bit_groups.proofs.Places.{Moved, Placed, number-placed}
 use Rattle.slip.specs.Slips.{limits, limitAt, readSlip, slipOf, readSlipAnswer, readWithin}
 use Rattle.slip.specs.declared.Slip.{Slip}
 use Rattle.slip.proofs.Coding.{limit-word, limits-next, limits-end}

@@ -14,13 +14,13 @@ use Rattle.layout.specs.Out.{Out, got, bad, check, _>>=_}
 use Rattle.layout.specs.Parts.{Step}
 use Rattle.layout.specs.Rules.{Rule, upTo}
 use Rattle.layout.proofs.Outs.{by-test, by-check, by-got, bad-got, got-inj, if-yes, if-no}
-use Rattle.groups.specs.Groups.{AtMost, frontIn, front, groups, groupsOf, writeNumbers, readNumbers}
-use Rattle.groups.proofs.Fronts.{count-is, groups-up, groups-length, numbers-bytes}
-use Rattle.groups.proofs.Laws.{numbers-back, Several, numbers-one}
-use Rattle.groups.proofs.Places.{numbers-to}
-use Rattle.groups.proofs.SoFar.{Wrong as Bad, Short, SoFar, numbers-so-far}
-use Rattle.b3d_scene.specs.Rules.{version, slots, rowLimit}
-use Rattle.b3d_scene.specs.Answers.{roomFor}
+use Rattle.shared_seven_bit_groups.specs.Groups.{AtMost, frontIn, front, groups, groupsOf, writeNumbers, readNumbers}
+use Rattle.shared_seven_bit_groups.proofs.Fronts.{count-is, groups-up, groups-length, numbers-bytes}
+use Rattle.shared_seven_bit_groups.proofs.Laws.{numbers-back, Several, numbers-one}
+use Rattle.shared_seven_bit_groups.proofs.Places.{numbers-to}
+use Rattle.shared_seven_bit_groups.proofs.SoFar.{Wrong as Bad, Short, SoFar, numbers-so-far}
+use Rattle.b3d_spec.specs.Rules.{version, slots, rowLimit}
+use Rattle.b3d_spec.specs.Answers.{roomFor}
 use Rattle.slip.specs.Slips.{limitsWithin, limits, firstOver, slipWithin, writeWithin, readWithin}
 use Rattle.slip.specs.OneSlip.{Wrong, Cut, FirstOut, OneSlip}
 use Rattle.slip.specs.Raised.{Raised}

@@ -7,10 +7,10 @@ use lib.ListN.{length}
 use borrow.Author.Tests.{le-leb, lt-leb}
 use Rattle.wire.specs.Bytes.{over}
 use Rattle.layout.specs.Out.{Out, got, bad, check}
-use Rattle.groups.specs.Groups.{writeNumbers}
-use Rattle.b3d_scene.specs.Answers.{roomFor, written, outputAfter}
-use Rattle.b3d_scene.specs.declared.Written.{Written}
-use Rattle.b3d_scene.proofs.AnswerLaws.{of-size}
+use Rattle.shared_seven_bit_groups.specs.Groups.{writeNumbers}
+use Rattle.b3d_spec.specs.Answers.{roomFor, written, outputAfter}
+use Rattle.b3d_spec.specs.declared.Written.{Written}
+use Rattle.b3d_spec.proofs.AnswerLaws.{of-size}
 use Rattle.slip.specs.Slips.{limits, firstOver, writeSlip, writeSlipAnswer, writeSlipOutput, slipWithin, writeWithin}
 
 module _ (ns out : List ℕ) where

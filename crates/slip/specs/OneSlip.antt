@@ -6,8 +6,8 @@ use mathlib.Core.List.{List, _++_}
 use lib.ListN.{length, take, getD}
 use Rattle.wire.specs.Bytes.{AllBytes}
 use Rattle.layout.specs.Out.{got, bad}
-use Rattle.groups.specs.Groups.{AtMost, groupsOf}
-use Rattle.b3d_scene.specs.Answers.{roomFor}
+use Rattle.shared_seven_bit_groups.specs.Groups.{AtMost, groupsOf}
+use Rattle.b3d_spec.specs.Answers.{roomFor}
 use Rattle.slip.specs.Slips.{limitsWithin, limitWithin, slipWithin, writeWithin, readWithin}
 
 -- the bytes s are wrong, whatever comes after them: refused at p

@@ -5,7 +5,7 @@ use mathlib.Core.List.{List}
 use lib.ListN.{length}
 use Rattle.wire.specs.Bytes.{AllBytes}
 use Rattle.layout.specs.Out.{got, bad}
-use Rattle.groups.specs.Groups.{AtMost}
+use Rattle.shared_seven_bit_groups.specs.Groups.{AtMost}
 use Rattle.slip.specs.Slips.{limitsWithin, slipWithin, readWithin}
 
 -- E12's promises about slips of the older limit

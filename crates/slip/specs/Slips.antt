@@ -6,10 +6,10 @@ use lib.ListN.{length, replicate, getD}
 use lib.Dec.{leb, ltb}
 use Rattle.wire.specs.Test.{if}
 use Rattle.layout.specs.Out.{Out, got, bad, check, _>>=_}
-use Rattle.groups.specs.Groups.{writeNumbers, readNumbers}
-use Rattle.b3d_scene.specs.Rules.{rowLimit}
-use Rattle.b3d_scene.specs.Answers.{roomFor, written, outputAfter}
-use Rattle.b3d_scene.specs.declared.Written.{Written}
+use Rattle.shared_seven_bit_groups.specs.Groups.{writeNumbers, readNumbers}
+use Rattle.b3d_spec.specs.Rules.{rowLimit}
+use Rattle.b3d_spec.specs.Answers.{roomFor, written, outputAfter}
+use Rattle.b3d_spec.specs.declared.Written.{Written}
 use Rattle.slip.specs.declared.Slip.{Slip}
 
 -- the most that each of the twelve numbers may be, by 01, where a table has at most `rows` rows; with it goes the most groups that it may take

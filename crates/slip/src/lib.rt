@@ -5,10 +5,10 @@ ghost use Prim.Native.Nat.{_≤_};
 ghost use lib.ListN.{length};
 ghost use Rattle.wire.specs.Bytes.{over};
 ghost use Rattle.layout.specs.Out.{bad};
-ghost use Rattle.groups.specs.Groups.{writeNumbers};
+ghost use Rattle.shared_seven_bit_groups.specs.Groups.{writeNumbers};
 ghost use Rattle.slip.specs.Slips.{limits, limitAt, firstOver, slipOf, writeSlipAnswer, writeSlipOutput, readSlipAnswer};
-use b3d_scene::Written;
-use groups::Grouped;
+use b3d_spec::Written;
+use shared_seven_bit_groups::Grouped;
 
 // The answer of the slip reader: refusal number and place, or 0 and 0 with the twelve numbers.
 #[repr(C)]
@@ -28,7 +28,7 @@ fn most(i: usize) -> u32
     if i == 1 {
         return 8;
     }
-    b3d_scene::ROW_LIMIT as u32
+    b3d_spec::ROW_LIMIT as u32
 }
 
 // Returns the position of the first number that is more than it may be; 12 if none is.
@@ -52,7 +52,7 @@ fn slip_size(numbers: [u32; 12]) -> usize
     let mut size: usize = 0;
     let mut i: usize = 0;
     while i < 12 {
-        size += groups::groups_of(numbers[i]);
+        size += shared_seven_bit_groups::groups_of(numbers[i]);
         i += 1;
     }
     size
@@ -66,7 +66,7 @@ fn put_slip(numbers: [u32; 12], out: &mut [u8])
     let mut at: usize = 0;
     let mut i: usize = 0;
     while i < 12 {
-        at = groups::put_groups(numbers[i], out, at);
+        at = shared_seven_bit_groups::put_groups(numbers[i], out, at);
         i += 1;
     }
 }
@@ -121,7 +121,7 @@ pub fn read_slip(slip: &[u8]) -> Slip
     let mut at: usize = 0;
     let mut i: usize = 0;
     while i < 12 {
-        match groups::read_number(slip, at, most(i)) {
+        match shared_seven_bit_groups::read_number(slip, at, most(i)) {
             Grouped::Not(_, p) => return refused(p),
             Grouped::Is(n, next) => {
                 numbers[i] = n;

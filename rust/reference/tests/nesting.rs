@@ -1,4 +1,4 @@
-//! Holds docs/NESTING.md to the constant of crates/b3d_nesting, and the
+//! Holds docs/NESTING.md to the constant of crates/b3d_rule_nesting_table, and the
 //! independent reader to the page: its table, over every order of a few
 //! chunks, and its examples.
 
@@ -89,9 +89,9 @@ fn entries(source: &str) -> HashMap<&str, Entry> {
     named
 }
 
-/// The constant `NESTING` of crates/b3d_nesting.
+/// The constant `NESTING` of crates/b3d_rule_nesting_table.
 fn constant() -> Table {
-    let source = text("crates/b3d_nesting/src/lib.rt");
+    let source = text("crates/b3d_rule_nesting_table/src/lib.rt");
     let named = entries(&source);
     let lines = between(&source, "const NESTING: [[Entry; 10]; 10] = [", "];");
     let columns: Vec<&str> = lines[0]

@@ -3,10 +3,10 @@ use mathlib.Core.Path.{_≡_}
 use mathlib.Core.Bool.{Bool, false}
 use native.Mathlib.Omega.{arith}
 use lib.ListN.{length}
-use Rattle.b3d_scene.specs.Rebuild.{Lent}
-use Rattle.b3d_sound.specs.Check.{checkIn}
-use Rattle.b3d_check_rooms.specs.LentRooms.{Rooms}
-use Rattle.b3d_check_rooms.proofs.RoomLaws.{rooms-true}
+use Rattle.b3d_spec.specs.Rebuild.{Lent}
+use Rattle.b3d_check_spec.specs.Check.{checkIn}
+use Rattle.b3d_check_table_lengths.specs.LentRooms.{Rooms}
+use Rattle.b3d_check_table_lengths.proofs.RoomLaws.{rooms-true}
 use Rattle.b3d_check.specs.Lent.{lentOf, Says}
 use Rattle.b3d_check.proofs.CheckLaws.{slots-eight, no-rooms, no-version, no-slots, no-textures, no-brushes, no-tree, by-colours}
 use Rattle.b3d_check.proofs.Verdict.{all-words, lent-typed, verdict}

@@ -2,7 +2,7 @@
 use Prim.Native.Nat.{_-_}
 use native.Mathlib.Omega.{arith}
 use mathlib.Core.Path.{refl}
-use Rattle.b3d_check_counts.specs.Parts.{partRows}
+use Rattle.b3d_check_node_counts.specs.Parts.{partRows}
 use Rattle.b3d_check_nodes.proofs.NodesLaws.{NodesFrom, nodes-none, nodes-open, nodes-done, nodes-wrong, nodes-deep, nodes-stop, path-there, ends-there, level-above, level-below, cell-there, nodes-after, nodes-small, bones-grow, bones-small, nodes-less, nodes-next}
 use borrow.Author.Needs.{needs}
 use Rattle.b3d_check_nodes.proofs.nodes_here.Statement.{statement}

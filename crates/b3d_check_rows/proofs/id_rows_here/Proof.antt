@@ -1,6 +1,6 @@
 -- `id_rows_here` looks at each row. The loop has passed those before i; its measure is how many are left.
 use Prim.Native.Nat.{_-_}
-use Rattle.b3d_sound.specs.Check.{keeps}
+use Rattle.b3d_check_spec.specs.Check.{keeps}
 use Rattle.b3d_check_rows.specs.IdRows.{idWidth, idRow}
 use Rattle.b3d_check_rows.proofs.Rows.{row-room}
 use Rattle.b3d_check_rows.proofs.RowLaws.{id-fits, id-next}

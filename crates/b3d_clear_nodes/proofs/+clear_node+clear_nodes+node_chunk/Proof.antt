@@ -10,19 +10,19 @@ use Rattle.b3d_clear_nodes.proofs.+clear_node+clear_nodes+node_chunk.Lt
 use Rattle.b3d_clear_nodes.proofs.node_chunk.Reads as node-chunk
 use Rattle.b3d_clear_nodes.proofs.node_chunk.Kinds as node-chunk-kinds
 use Rattle.b3d_clear_nodes.proofs.+clear_node+clear_nodes+node_chunk.Lts-node_chunk as node-chunk-lts
-use Rattle.b3d_chunks.proofs.named_row.Reads as named-row-reads
+use Rattle.b3d_chunk_cursor.proofs.named_row.Reads as named-row-reads
 use Rattle.b3d_clear_nodes.proofs.clear_own.Reads as clear-own-reads
-use Rattle.b3d_walk.proofs.seek.Reads as seek-reads
-use Rattle.emit.proofs.put_header.Reads as put-header-reads
+use Rattle.b3d_chunk_walk.proofs.seek.Reads as seek-reads
+use Rattle.shared_output.proofs.put_header.Reads as put-header-reads
 use Rattle.b3d_clear_nodes.proofs.+clear_node+clear_nodes+node_chunk.{statement}
 use Rattle.b3d_clear_nodes.proofs.+clear_node+clear_nodes+node_chunk.Tie.{close}
-use Rattle.b3d_scene.specs.declared.Tag.the-variants.{NODE}
-use Rattle.b3d_scene.specs.Tags.{code}
-use Rattle.b3d_copy.specs.Copies.{nodeCopy}
-use Rattle.b3d_clear_copies.proofs.Chunking.{pair-laws, pair-sum-2, pair-sum-3, pair-asks, pair-done}
-use Rattle.b3d_clear_copies.proofs.Each.{EachLeft, each-laws}
+use Rattle.b3d_spec.specs.declared.Tag.the-variants.{NODE}
+use Rattle.b3d_spec.specs.Tags.{code}
+use Rattle.b3d_clear_spec.specs.Copies.{nodeCopy}
+use Rattle.b3d_clear_copied_chunks.proofs.Chunking.{pair-laws, pair-sum-2, pair-sum-3, pair-asks, pair-done}
+use Rattle.b3d_clear_copied_chunks.proofs.Each.{EachLeft, each-laws}
 use Rattle.b3d_clear_nodes.proofs.NodeLaws.{node-laws}
-use Rattle.b3d_inside.proofs.Cycles.{askedAt, askedBelow}
+use Rattle.b3d_spec_chunk_places.proofs.Cycles.{askedAt, askedBelow}
 use borrow.Author.Needs.{needs}
 
 abbrev μ-clear-node : Measures 2 clear-node-kinds.ps ℕ

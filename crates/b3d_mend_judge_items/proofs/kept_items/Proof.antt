@@ -2,8 +2,8 @@
 use Prim.Native.Nat.{_-_}
 use Rattle.wire.specs.Cursors.{left}
 use Rattle.wire.proofs.Left.{span}
-use Rattle.id_check.specs.Ids.{idRow}
-use Rattle.b3d_items.specs.Items.{counted}
+use Rattle.shared_ids.specs.Ids.{idRow}
+use Rattle.b3d_judge_items.specs.Items.{counted}
 use Rattle.b3d_mend_judge_items.specs.Lax.{laxItems}
 use Rattle.b3d_mend_judge_items.proofs.Keeping.{Keeping, keeping}
 use borrow.Author.Needs.{needs}

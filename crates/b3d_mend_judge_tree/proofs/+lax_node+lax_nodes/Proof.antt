@@ -7,17 +7,17 @@ use Rattle.b3d_mend_judge_tree.proofs.+lax_node+lax_nodes.Lts-lax_node 
 use Rattle.b3d_mend_judge_tree.proofs.lax_nodes.Reads as lax-nodes
 use Rattle.b3d_mend_judge_tree.proofs.lax_nodes.Kinds as lax-nodes-kinds
 use Rattle.b3d_mend_judge_tree.proofs.+lax_node+lax_nodes.Lts-lax_nodes as lax-nodes-lts
-use Rattle.b3d_tally.proofs.none.Reads as none-reads
-use Rattle.b3d_tally.proofs.plus.Reads as plus-reads
-use Rattle.b3d_chunks.proofs.next_chunk.Reads as next-chunk-reads
-use Rattle.b3d_enclosed.proofs.next_inside.Reads as next-inside-reads
+use Rattle.b3d_judge_tally.proofs.none.Reads as none-reads
+use Rattle.b3d_judge_tally.proofs.plus.Reads as plus-reads
+use Rattle.b3d_chunk_cursor.proofs.next_chunk.Reads as next-chunk-reads
+use Rattle.b3d_chunk_next_allowed.proofs.next_inside.Reads as next-inside-reads
 use Rattle.b3d_mend_judge_node.proofs.lax_own.Reads as lax-own-reads
 use Rattle.b3d_mend_judge_tree.proofs.+lax_node+lax_nodes.{statement}
 use Rattle.b3d_mend_judge_tree.proofs.+lax_node+lax_nodes.Tie.{close}
 use Rattle.b3d_mend_judge_items.specs.Lax.{laxNode}
 use Rattle.b3d_judge_node.specs.Answers.{aboveOf}
 use Rattle.b3d_mend_judge_tree.proofs.NodeLaws.{node-laws, Noding, noding}
-use Rattle.b3d_inside.proofs.Cycles.{askedAt, askedBelow}
+use Rattle.b3d_spec_chunk_places.proofs.Cycles.{askedAt, askedBelow}
 use borrow.Author.Needs.{needs}
 
 abbrev μ-lax-node : Measures 1 lax-node-kinds.ps ℕ

@@ -10,7 +10,7 @@ use Rattle.b3d_mend_write_chunks.proofs.+walk_body+walk_chunk+walk_insi
 use Rattle.b3d_mend_write_chunks.proofs.walk_inside.Reads as walk-inside
 use Rattle.b3d_mend_write_chunks.proofs.walk_inside.Kinds as walk-inside-kinds
 use Rattle.b3d_mend_write_chunks.proofs.+walk_body+walk_chunk+walk_inside.Lts-walk_inside as walk-inside-lts
-use Rattle.b3d_chunks.proofs.tag_of.Reads as tag-of-reads
+use Rattle.b3d_chunk_cursor.proofs.tag_of.Reads as tag-of-reads
 use Rattle.b3d_mend_write_edits.proofs.put_kept.Reads as put-kept-reads
 use Rattle.b3d_mend_write_scopes.proofs.body_at.Reads as body-at-reads
 use Rattle.b3d_mend_write_scopes.proofs.mesh_scope.Reads as mesh-scope-reads
@@ -24,7 +24,7 @@ use Rattle.b3d_mend_write_leaves.proofs.walk_leaf.Reads as walk-leaf-reads
 use Rattle.wire.proofs.Cursor.header.Reads as header-reads
 use Rattle.b3d_mend_write_chunks.proofs.+walk_body+walk_chunk+walk_inside.{statement}
 use Rattle.b3d_mend_write_chunks.proofs.+walk_body+walk_chunk+walk_inside.Tie.{close}
-use Rattle.b3d_inside.proofs.Cycles.{askedAt, askedBelow}
+use Rattle.b3d_spec_chunk_places.proofs.Cycles.{askedAt, askedBelow}
 use Rattle.b3d_mend_write_chunks.proofs.BodyLaws.{body-laws, node-less, node-inside, node-second, node-done, mesh-less, mesh-inside, mesh-second, mesh-done}
 use Rattle.b3d_mend_write_chunks.proofs.ChunkLaws.{header-laws}
 use Rattle.b3d_mend_write_chunks.proofs.InsideLaws.{Going, inside-laws}

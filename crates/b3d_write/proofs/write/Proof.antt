@@ -1,6 +1,6 @@
 -- `write` answers as the definition, and writes the file where there is one with room.
 use lib.ListN.{length}
-use Rattle.b3d_check_rooms.specs.LentRooms.{Rooms}
+use Rattle.b3d_check_table_lengths.specs.LentRooms.{Rooms}
 use Rattle.b3d_write.proofs.WriteLaws.{write-unsound, asked-rooms, asked-slots, asked-sizable, write-long, write-short, asked-some, write-done}
 use borrow.Author.Needs.{needs}
 use Rattle.b3d_write.proofs.write.Statement.{statement}

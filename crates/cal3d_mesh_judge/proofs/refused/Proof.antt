@@ -1,6 +1,6 @@
 -- `refused` answers a refusal.
 use borrow.Author.Needs.{needs}
-use Rattle.cal3d_scene.specs.Answers.{meshAnswer}
+use Rattle.cal3d_spec.specs.Answers.{meshAnswer}
 use Rattle.cal3d_mesh_judge.proofs.refused.Statement.{statement}
 use Rattle.cal3d_mesh_judge.proofs.refused.Tie as tie
 

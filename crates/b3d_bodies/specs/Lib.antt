@@ -1,3 +1,0 @@
--- What the judge of a body answers, in the terms of b3d_scene's definitions.
-pub mod Answers
-pub mod Colours

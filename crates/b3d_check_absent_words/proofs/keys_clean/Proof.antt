@@ -1,0 +1,32 @@
+-- `keys_clean` looks at each row. The loop has passed those before i; its measure is how many are left.
+use Prim.Native.Nat.{_-_}
+use Rattle.b3d_check_spec.specs.Check.{clean}
+use Rattle.b3d_rule_row_masks.specs.Runs.{runMask}
+use Rattle.b3d_check_rows.proofs.Loops.{AllFrom, all-laws}
+use Rattle.b3d_check_rows.proofs.Rows.{row-room, row-fits}
+use Rattle.b3d_check_absent_words.proofs.Cleaning.{clean-row}
+use borrow.Author.Needs.{needs}
+use Rattle.b3d_check_absent_words.proofs.keys_clean.Statement.{statement}
+use Rattle.b3d_check_absent_words.proofs.keys_clean.Tie as tie
+
+abbrev Inv-loop : tie.InvT-loop
+Inv-loop g t first count end i₀ i = AllFrom (clean (runMask g)) 11 first count t end i
+
+abbrev μ-loop : tie.MeasureT-loop
+μ-loop g t first count end i₀ i = end - i
+
+pub keys-clean-spec : {M : Type 1} → statement M
+keys-clean-spec =
+    tie.close
+    (tie.spec
+    Inv-loop
+    μ-loop
+    (λ c. search (all-laws, clean-row, row-room, row-fits, needs))
+    (λ c. search (all-laws, clean-row, row-room, row-fits, needs))
+    (λ c. search (all-laws, clean-row, row-room, row-fits, needs))
+    (λ c κs. search (all-laws, clean-row, row-room, row-fits, needs))
+    (λ c. search (all-laws, clean-row, row-room, row-fits, needs))
+    (λ c. search (all-laws, clean-row, row-room, row-fits, needs))
+    (λ c. search (all-laws, clean-row, row-room, row-fits, needs))
+    (λ c. search (all-laws, clean-row, row-room, row-fits, needs))
+    (λ c. search (all-laws, clean-row, row-room, row-fits, needs)))

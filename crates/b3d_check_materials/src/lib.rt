@@ -1,0 +1,83 @@
+// Whether the textures and brushes of lent tables keep their rules, and whether n_texs does.
+ghost use mathlib.Core.Path.{_≡_};
+ghost use Prim.Native.Nat.{_+_, _*_, _<_, _≤_};
+ghost use lib.ListN.{length, take, drop};
+ghost use Rattle.layout.specs.Fit.{all};
+ghost use Rattle.layout.specs.Rules.{holds};
+ghost use Rattle.b3d_spec.specs.Rules.{textureId};
+ghost use Rattle.b3d_check_spec.specs.Check.{nameHere, brushHere, slotsHere};
+ghost use Rattle.b3d_check_rows.specs.Rows.{rowAt, rowsAt};
+
+// Returns whether each of the first `count` rows of table 1, `t`, has its name in `names`.
+pub fn textures_here(names: &[u8], t: &[u32], count: usize) -> bool
+    requires { ⌜ 9 * count ≤ length (now t) ⌝ }
+    ensures { λ r. ⌜ r ≡ all (nameHere (now (names .entry))) (rowsAt 9 0 count (now (t .entry))) ⌝ }
+{
+    let mut i: usize = 0;
+    while i < count {
+        let o = 9 * i;
+        if !b3d_check_rows::name_here(names, t[o], t[o + 1]) {
+            return false;
+        }
+        i += 1;
+    }
+    true
+}
+
+// Returns whether each of the `count` cells of `t` from cell `place` on is NONE or below `textures`.
+fn ids_here(t: &[u32], textures: u32, place: usize, count: usize) -> bool
+    requires { ⌜ place + count ≤ length (now t) ⌝ }
+    ensures { λ r. ⌜ r ≡ all (holds (textureId textures)) (take count (drop place (now (t .entry)))) ⌝ }
+{
+    let end = place + count;
+    let mut i = place;
+    while i < end {
+        let one = t[i];
+        if !((one == 0xFFFFFFFF) | (one < textures)) {
+            return false;
+        }
+        i += 1;
+    }
+    true
+}
+
+// Returns whether row `i` of table 2, `t`, is sound: its name is in `names`, its first `slots` ids are NONE or below `textures`, the unused ones NONE.
+fn brush_here(names: &[u8], slots: u32, textures: u32, t: &[u32], i: usize) -> bool
+    requires { ⌜ (slots ≤ 8) × (17 * i + 17 ≤ length (now t)) ⌝ }
+    ensures { λ r. ⌜ r ≡ brushHere (now (names .entry)) slots textures (rowAt 17 i (now (t .entry))) ⌝ }
+{
+    let many = wire::size(slots);
+    let o = 17 * i;
+    if !b3d_check_rows::name_here(names, t[o], t[o + 1]) {
+        return false;
+    }
+    if !ids_here(t, textures, o + 9, many) {
+        return false;
+    }
+    ids_here(t, 0, o + 9 + many, 8 - many)
+}
+
+// Returns whether each of the first `count` rows of table 2, `t`, is sound, with `slots` ids in use and `textures` textures.
+pub fn brushes_here(names: &[u8], slots: u32, textures: u32, t: &[u32], count: usize) -> bool
+    requires { ⌜ (slots ≤ 8) × (17 * count ≤ length (now t)) ⌝ }
+    ensures { λ r. ⌜ r ≡ all (brushHere (now (names .entry)) slots textures) (rowsAt 17 0 count (now (t .entry))) ⌝ }
+{
+    let mut i: usize = 0;
+    while i < count {
+        if !brush_here(names, slots, textures, t, i) {
+            return false;
+        }
+        i += 1;
+    }
+    true
+}
+
+// Returns whether n_texs (`slots`) is sound: 0 without a brush, else at most eight.
+pub fn slots_here(slots: u32, brushes: u32) -> bool
+    ensures { λ r. ⌜ r ≡ slotsHere slots brushes ⌝ }
+{
+    if brushes == 0 {
+        return slots == 0;
+    }
+    slots <= 8
+}

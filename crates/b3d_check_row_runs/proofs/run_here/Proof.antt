@@ -1,0 +1,16 @@
+-- `run_here` answers the test of the row by what the row is.
+use Rattle.b3d_check_row_runs.proofs.ItemLaws.{run-laws}
+use borrow.Author.Needs.{needs}
+use Rattle.b3d_check_row_runs.proofs.run_here.Statement.{statement}
+use Rattle.b3d_check_row_runs.proofs.run_here.Tie as tie
+
+pub run-here-spec : {M : Type 1} → statement M
+run-here-spec =
+    tie.close
+    (tie.spec
+    (λ c. search needs)
+    (λ c κs. search (run-laws, needs))
+    (λ c. search needs)
+    (λ c κs. search (run-laws, needs))
+    (λ c. search (run-laws, needs))
+    (λ c. search (run-laws, needs)))

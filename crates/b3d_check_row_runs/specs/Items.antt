@@ -1,0 +1,17 @@
+-- The test of a row with its group of items, and the words of an item.
+use Prim.Native.Nat.{ℕ}
+use mathlib.Core.Bool.{Bool}
+use mathlib.Core.List.{List}
+use Rattle.b3d_check_spec.specs.Check.{setHere, listHere}
+use Rattle.b3d_check_row_runs.specs.declared.Run.{Run}
+use Rattle.b3d_check_row_runs.specs.declared.Run.the-variants.{Keys, Triangles}
+
+-- the words of an item: 11 of a key, 3 of a triangle
+abbrev pub runWidth : Run → ℕ
+runWidth Keys = 11
+runWidth (Triangles brushes v mesh) = 3
+
+-- the test of a row with its items: that of a key list, or that of a triangle set of mesh number `mesh`, which has v vertices
+abbrev pub runTest : Run → List ℕ → List (List ℕ) → Bool
+runTest Keys = listHere
+runTest (Triangles brushes v mesh) = setHere brushes v mesh

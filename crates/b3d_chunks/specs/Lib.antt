@@ -1,2 +1,0 @@
--- What the steps of a walk find, in the terms of layout and b3d_scene.
-pub mod Chunks

@@ -1,2 +1,0 @@
--- The laws of the mender.
-pub mod MendLaws

@@ -1,2 +1,0 @@
--- An accepted file.
-pub mod Accepted

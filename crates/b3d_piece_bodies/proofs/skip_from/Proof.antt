@@ -1,8 +1,0 @@
--- `skip_from` comes to the machine's state, whatever chunks stand around.
-use Rattle.b3d_piece_bodies.proofs.Entering.{skip-laws}
-use borrow.Author.Needs.{needs}
-use Rattle.b3d_piece_bodies.proofs.skip_from.Statement.{statement}
-use Rattle.b3d_piece_bodies.proofs.skip_from.Tie as tie
-
-pub skip-from-spec : {M : Type 1} → statement M
-skip-from-spec = tie.close (tie.spec (λ c κs. search needs) (λ c. search (skip-laws, needs)) (λ c. search (skip-laws, needs)))

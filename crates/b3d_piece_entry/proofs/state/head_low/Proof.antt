@@ -1,8 +1,0 @@
--- `head_low` holds just where the statement does.
-use Rattle.b3d_piece_entry.proofs.Fining.{low-laws}
-use borrow.Author.Needs.{needs}
-use Rattle.b3d_piece_entry.proofs.state.head_low.Statement.{statement}
-use Rattle.b3d_piece_entry.proofs.state.head_low.Tie as tie
-
-pub head-low-spec : {M : Type 1} → statement M
-head-low-spec = tie.close (tie.spec (λ c κs. search needs) (λ c. search (low-laws, needs)) (λ c κs. search needs) (λ c. search (low-laws, needs)))

@@ -1,8 +1,0 @@
--- `node_bound` holds just where the statement does.
-use Rattle.b3d_piece_loads.proofs.LoadTests.{small-laws}
-use borrow.Author.Needs.{needs}
-use Rattle.b3d_piece_loads.proofs.loads.node_bound.Statement.{statement}
-use Rattle.b3d_piece_loads.proofs.loads.node_bound.Tie as tie
-
-pub node-bound-spec : {M : Type 1} → statement M
-node-bound-spec = tie.close (tie.spec (λ c. search (small-laws, needs)) (λ c. search (small-laws, needs)))

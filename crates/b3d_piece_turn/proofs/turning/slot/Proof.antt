@@ -1,8 +1,0 @@
--- `slot` takes the machine's turn, whatever the row.
-use Rattle.b3d_piece_turn.proofs.TurnLaws.{slot-laws}
-use borrow.Author.Needs.{needs}
-use Rattle.b3d_piece_turn.proofs.turning.slot.Statement.{statement}
-use Rattle.b3d_piece_turn.proofs.turning.slot.Tie as tie
-
-pub slot-spec : {M : Type 1} → statement M
-slot-spec = tie.close (tie.spec (λ c. search (slot-laws, needs)) (λ c. search needs) (λ c. search (slot-laws, needs)))

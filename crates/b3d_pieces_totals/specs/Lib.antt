@@ -1,0 +1,1 @@
+-- No definition beside those of b3d_pieces_spec.

@@ -1,0 +1,88 @@
+// What an open chunk may still add to the totals, and whether it can be open there.
+ghost use mathlib.Core.Path.{_≡_};
+ghost use Prim.Native.Nat.{_+_, _≤_};
+ghost use Rattle.b3d_pieces_spec.specs.Good.{Words, Bound, extra as extraOf};
+ghost use Rattle.b3d_pieces_valid_record.specs.Tests.{Tests, Weighs, OpenFits};
+use b3d_pieces_spec::Kept;
+use b3d_pieces_spec::Open;
+use b3d_spec::Tag;
+
+// Returns whether the numbers of `k` are words of four bytes.
+pub fn words_fine(k: Kept) -> bool
+    ensures { λ r. ⌜ Tests r (Words k) ⌝ }
+{
+    if 4294967295 < k.first {
+        return false;
+    }
+    if 4294967295 < k.second {
+        return false;
+    }
+    k.third <= 4294967295
+}
+
+// Returns whether `n` chunks around and `level` levels of nodes left are at most 16 together.
+pub fn node_bound(level: usize, n: usize) -> bool
+    ensures { λ r. ⌜ Tests r (n + level ≤ 16) ⌝ }
+{
+    if 16 < n {
+        return false;
+    }
+    level <= 16 - n
+}
+
+// Returns whether a chunk of tag `tag` with `level` levels of nodes left may have `n` chunks open around it.
+pub fn bound_fine(tag: Tag, level: usize, n: usize) -> bool
+    ensures { λ r. ⌜ Tests r (Bound tag level n) ⌝ }
+{
+    match tag {
+        Tag::BB3D => node_bound(level, n),
+        Tag::TEXS => n <= 18,
+        Tag::BRUS => n <= 18,
+        Tag::NODE => node_bound(level, n),
+        Tag::MESH => n <= 17,
+        Tag::VRTS => n <= 18,
+        Tag::TRIS => n <= 18,
+        Tag::BONE => n <= 18,
+        Tag::KEYS => n <= 18,
+        Tag::ANIM => n <= 18,
+    }
+}
+
+// Returns the rows allowed for an open chunk beside its items: 0 for BB3D, and for NODE, whose row is counted when it begins; else 1.
+pub fn extra(tag: Tag) -> usize
+    ensures { λ r. ⌜ (r ≡ extraOf tag) × (r ≤ 1) ⌝ }
+{
+    match tag {
+        Tag::BB3D => 0,
+        Tag::TEXS => 1,
+        Tag::BRUS => 1,
+        Tag::NODE => 0,
+        Tag::MESH => 1,
+        Tag::VRTS => 1,
+        Tag::TRIS => 1,
+        Tag::BONE => 1,
+        Tag::KEYS => 1,
+        Tag::ANIM => 1,
+    }
+}
+
+// Returns how many rows the open chunk `f` may still add. Returns 16,777,218 if they are too many, or if a file cannot have it open with `n` chunks around
+// it.
+pub fn open_load(f: Open, n: usize) -> usize
+    ensures { λ r. ⌜ Weighs (OpenFits f n) (f .count + extraOf (f .tag)) r ⌝ }
+{
+    let tag = f.tag;
+    let level = f.level;
+    if bound_fine(tag, level, n) {
+        let kept = f.kept;
+        if words_fine(kept) {
+            let count = f.count;
+            if 16777217 < count {
+                return 16777218;
+            }
+            return count + extra(tag);
+        }
+        return 16777218;
+    }
+    16777218
+}

@@ -1,0 +1,18 @@
+-- `state_fine` holds just where the statement does.
+use Rattle.b3d_pieces_valid_state.proofs.Fining.{fine-laws}
+use borrow.Author.Needs.{needs}
+use Rattle.b3d_pieces_valid_state.proofs.state.state_fine.Statement.{statement}
+use Rattle.b3d_pieces_valid_state.proofs.state.state_fine.Tie as tie
+
+pub state-fine-spec : {M : Type 1} → statement M
+state-fine-spec =
+    tie.close
+    (tie.spec
+    (λ c. search (fine-laws, needs))
+    (λ c. search (fine-laws, needs))
+    (λ c κs. search needs)
+    (λ c. search (fine-laws, needs))
+    (λ c κs. search needs)
+    (λ c. search (fine-laws, needs))
+    (λ c κs. search needs)
+    (λ c. search (fine-laws, needs)))

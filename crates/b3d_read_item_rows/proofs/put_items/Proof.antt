@@ -1,0 +1,18 @@
+-- `put_items` copies the words of the items.
+use Rattle.b3d_read_item_rows.proofs.Items.{items-laws}
+use borrow.Author.Needs.{needs}
+use Rattle.b3d_read_item_rows.proofs.put_items.Statement.{statement}
+use Rattle.b3d_read_item_rows.proofs.put_items.Tie as tie
+
+pub put-items-spec : {M : Type 1} → statement M
+put-items-spec =
+    tie.close
+    (tie.spec
+    (λ c. search (items-laws, needs))
+    (λ c. search (items-laws, needs))
+    (λ c. search (items-laws, needs))
+    (λ c. search (items-laws, needs))
+    (λ c κs. search (items-laws, needs))
+    (λ c. search (items-laws, needs))
+    (λ c. search (items-laws, needs))
+    (λ c. search (items-laws, needs)))

@@ -1,8 +1,0 @@
--- `with_room` looks for the first table that is too short.
-use Rattle.b3d_room.proofs.RoomAnswers.{room-laws}
-use borrow.Author.Needs.{needs}
-use Rattle.b3d_room.proofs.with_room.Statement.{statement}
-use Rattle.b3d_room.proofs.with_room.Tie as tie
-
-pub with-room-spec : {M : Type 1} → statement M
-with-room-spec = tie.close (tie.spec (λ c κs. search (room-laws, needs)) (λ c κs. search (room-laws, needs)) (λ c. search (room-laws, needs)) (λ c κs. search (room-laws, needs)) (λ c. search (room-laws, needs)))

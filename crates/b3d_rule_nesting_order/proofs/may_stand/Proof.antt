@@ -1,0 +1,19 @@
+-- `may_stand` answers what the rule says of the tag: by its entry in the table.
+use borrow.Author.Needs.{needs}
+use Rattle.b3d_rule_nesting_order.proofs.MayStand.{may-stand-laws}
+use Rattle.b3d_rule_nesting_order.proofs.may_stand.Statement.{statement}
+use Rattle.b3d_rule_nesting_order.proofs.may_stand.Tie as tie
+
+pub may-stand-spec : {M : Type 1} → statement M
+may-stand-spec =
+    tie.close
+    (tie.spec
+    (λ c κs. search needs)
+    (λ c κs. search needs)
+    (λ c. search (may-stand-laws, needs))
+    (λ c. search (may-stand-laws, needs))
+    (λ c. search (may-stand-laws, needs))
+    (λ c. search (may-stand-laws, needs))
+    (λ c. search (may-stand-laws, needs))
+    (λ c. search (may-stand-laws, needs))
+    (λ c. search (may-stand-laws, needs)))

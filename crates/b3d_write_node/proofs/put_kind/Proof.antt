@@ -1,0 +1,27 @@
+-- `put_kind` writes the chunk of a kind, if it has one.
+use Rattle.shared_output.proofs.Joining.{same-laws}
+use Rattle.b3d_write_node.proofs.KindLaws.{kind-laws}
+use borrow.Author.Needs.{needs}
+use Rattle.b3d_write_node.proofs.put_kind.Statement.{statement}
+use Rattle.b3d_write_node.proofs.put_kind.Tie as tie
+
+pub put-kind-spec : {M : Type 1} → statement M
+put-kind-spec =
+    tie.close
+    (tie.spec
+    (λ c. search (same-laws, kind-laws, needs))
+    (λ c. search (same-laws, kind-laws, needs))
+    (λ c. search (same-laws, kind-laws, needs))
+    (λ c. search (same-laws, kind-laws, needs))
+    (λ c κs. search (same-laws, kind-laws, needs))
+    (λ c. search (same-laws, kind-laws, needs))
+    (λ c. search (same-laws, kind-laws, needs))
+    (λ c. search (same-laws, kind-laws, needs))
+    (λ c. search (same-laws, kind-laws, needs))
+    (λ c. search (same-laws, kind-laws, needs))
+    (λ c. search (same-laws, kind-laws, needs))
+    (λ c κs. search (same-laws, kind-laws, needs))
+    (λ c κs. search (same-laws, kind-laws, needs))
+    (λ c. search (same-laws, kind-laws, needs))
+    (λ c. search (same-laws, kind-laws, needs))
+    (λ c. search (same-laws, kind-laws, needs)))

@@ -1,0 +1,27 @@
+-- `put_few` writes so many words, by their number.
+use Rattle.shared_output.proofs.Joining.{same-laws}
+use Rattle.b3d_write_row_runs.proofs.Squeezing.{few-laws}
+use Rattle.b3d_write_vertices.proofs.Vertices.{four-laws}
+use borrow.Author.Needs.{needs}
+use Rattle.b3d_write_vertices.proofs.put_few.Statement.{statement}
+use Rattle.b3d_write_vertices.proofs.put_few.Tie as tie
+
+pub put-few-spec : {M : Type 1} → statement M
+put-few-spec =
+    tie.close
+    (tie.spec
+    (λ c κs. search (same-laws, few-laws, four-laws, needs))
+    (λ c κs. search (same-laws, few-laws, four-laws, needs))
+    (λ c κs. search (same-laws, few-laws, four-laws, needs))
+    (λ c κs. search (same-laws, few-laws, four-laws, needs))
+    (λ c κs. search (same-laws, few-laws, four-laws, needs))
+    (λ c. search (same-laws, few-laws, four-laws, needs))
+    (λ c. search (same-laws, few-laws, four-laws, needs))
+    (λ c. search (same-laws, few-laws, four-laws, needs))
+    (λ c. search (same-laws, few-laws, four-laws, needs))
+    (λ c. search (same-laws, few-laws, four-laws, needs))
+    (λ c. search (same-laws, few-laws, four-laws, needs))
+    (λ c. search (same-laws, few-laws, four-laws, needs))
+    (λ c. search (same-laws, few-laws, four-laws, needs))
+    (λ c. search (same-laws, few-laws, four-laws, needs))
+    (λ c. search (same-laws, few-laws, four-laws, needs)))

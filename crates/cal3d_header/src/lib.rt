@@ -1,0 +1,38 @@
+// The header of a cal3d file, skeleton or mesh: its size, its magic, its version and the number of its entries.
+ghost use mathlib.Core.Path.{_≡_};
+ghost use Prim.Native.Nat.{ℕ, _≤_};
+ghost use Rattle.cal3d_header.specs.Heads.{readHead, openedOf};
+
+// The number of entries that the header says, or a refusal and its place.
+pub enum Opened {
+    To(u32),
+    Not(u32, u32),
+}
+
+// Checks size, `magic` and `version`, and returns the number of entries in the header, which has `more` numbers after it.
+pub fn entry_count(file: &[u8], magic: u32, version: u32, more: usize) -> Opened
+    requires { ⌜ more ≤ 64 ⌝ }
+    ensures { λ r. ⌜ r ≡ openedOf (readHead magic version more (now (file .entry))) ⌝ }
+{
+    let n = file.len();
+    if n < 12 {
+        return Opened::Not(1, 0);
+    }
+    if 16777216 < n {
+        return Opened::Not(1, 0);
+    }
+    if wire::number_at(file, 0) != magic {
+        return Opened::Not(2, 0);
+    }
+    if n < 12 + 4 * more {
+        return Opened::Not(5, 4);
+    }
+    if wire::number_at(file, 4) != version {
+        return Opened::Not(6, 4);
+    }
+    let count = wire::number_at(file, 8);
+    if 2147483647 < count {
+        return Opened::Not(6, 8);
+    }
+    Opened::To(count)
+}

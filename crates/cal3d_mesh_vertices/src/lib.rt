@@ -1,0 +1,111 @@
+// The vertices of a submesh by cursor, judged one after the other, and how many influences they have.
+ghost use mathlib.Core.Path.{_≡_};
+ghost use Prim.Native.Nat.{ℕ, _+_, _*_, _≤_};
+ghost use lib.ListN.{length};
+ghost use Rattle.wire.specs.Cursors.{Inside, left};
+ghost use Rattle.layout.specs.Counted.{times};
+ghost use Rattle.shared_counted_lists.specs.Runs.{Runs};
+ghost use Rattle.shared_counted_lists.specs.Sums.{Sums};
+ghost use Rattle.cal3d_spec.specs.Meshes.{readCloth, readVertex};
+ghost use Rattle.cal3d_mesh_vertices.specs.Vertices.{readMapped, readInfluences, rowCount, influenceCount, influencesIn};
+use shared_counted_lists::Ran;
+use shared_counted_lists::Summed;
+use wire::Cursor;
+use wire::Number;
+
+// How many vertices and springs a submesh has, and how many maps each vertex.
+pub struct Sizes {
+    pub vertices: usize,
+    pub springs: usize,
+    pub maps: usize,
+}
+
+// Judges a vertex's numbers and its `maps` maps, in a submesh with this number of vertices. Returns the cursor after them, or a refusal.
+fn pass_mapped(s: &[u8], c: Cursor, vertices: usize, maps: usize) -> Ran
+    requires { ⌜ Inside c (length (now s)) ⌝ }
+    ensures { λ r. ⌜ Runs (readMapped vertices maps (c .at) (left c (now (s .entry)))) c (32 + maps * 8) r ⌝ }
+{
+    match shared_counted_lists::link_row(s, c, 6, 0, vertices) {
+        Ran::Not(e, p) => Ran::Not(e, p),
+        Ran::To(rows) => shared_counted_lists::id_rows(s, rows, maps, 2, 0, 0),
+    }
+}
+
+// Judges a vertex's influences after their number, bone ids being below `bones`. Returns how many there are and the cursor after them, or a refusal.
+fn judge_influences(s: &[u8], c: Cursor, bones: usize) -> Summed
+    requires { ⌜ Inside c (length (now s)) ⌝ }
+    ensures { λ r. ⌜ Sums rowCount (readInfluences bones (c .at) (left c (now (s .entry)))) c 4 r ⌝ }
+{
+    match c.number(s) {
+        Number::Cut => Summed::Not(5, c.at),
+        Number::Is(stored, rows) => {
+            if 2147483647 < stored {
+                return Summed::Not(6, c.at);
+            }
+            let count = wire::size(stored);
+            match shared_counted_lists::id_rows(s, rows, count, 2, 1, bones) {
+                Ran::Not(e, p) => Summed::Not(e, p),
+                Ran::To(next) => Summed::To(count, next),
+            }
+        }
+    }
+}
+
+// Passes the cloth weight of a vertex, which stands only if the submesh has springs. Returns the cursor after it, or 5 if it is cut.
+fn pass_cloth(s: &[u8], c: Cursor, springs: usize) -> Ran
+    requires { ⌜ Inside c (length (now s)) ⌝ }
+    ensures { λ r. ⌜ Runs (readCloth springs (c .at) (left c (now (s .entry)))) c 0 r ⌝ }
+{
+    if 0 < springs {
+        match c.number(s) {
+            Number::Cut => {
+                return Ran::Not(5, c.at);
+            }
+            Number::Is(_, next) => {
+                return Ran::To(next);
+            }
+        }
+    }
+    Ran::To(c)
+}
+
+// Judges one vertex of a submesh of the sizes `n`, bone ids being below `bones`. Returns how many influences it has and the cursor after it, or a refusal.
+fn judge_vertex(s: &[u8], c: Cursor, bones: usize, n: Sizes) -> Summed
+    requires { ⌜ Inside c (length (now s)) ⌝ }
+    ensures { λ r. ⌜ Sums influenceCount (readVertex bones (n .vertices) (n .springs) (n .maps) (c .at) (left c (now (s .entry)))) c (36 + n .maps * 8) r ⌝ }
+{
+    match pass_mapped(s, c, n.vertices, n.maps) {
+        Ran::Not(e, p) => Summed::Not(e, p),
+        Ran::To(number) => match judge_influences(s, number, bones) {
+            Summed::Not(e, p) => Summed::Not(e, p),
+            Summed::To(count, cloth) => match pass_cloth(s, cloth, n.springs) {
+                Ran::Not(e, p) => Summed::Not(e, p),
+                Ran::To(next) => Summed::To(count, next),
+            },
+        },
+    }
+}
+
+// Judges the vertices of a submesh of the sizes `n`, bone ids being below `bones`. Returns how many influences they have and the cursor after them, or the
+// first refusal. Each takes 36 bytes or more, so that the walk ends with the bytes, whatever the number says.
+pub fn judge_vertices(s: &[u8], from: Cursor, bones: usize, n: Sizes) -> Summed
+    requires { ⌜ Inside from (length (now s)) ⌝ }
+    ensures { λ r. ⌜ Sums influencesIn (times (n .vertices) (readVertex bones (n .vertices) (n .springs) (n .maps)) (from .at) (left from (now (s .entry)))) from (n .vertices * (36 + n .maps * 8)) r ⌝ }
+{
+    let mut c = from;
+    let mut more = n.vertices;
+    let mut influences: usize = 0;
+    while 0 < more {
+        match judge_vertex(s, c, bones, n) {
+            Summed::Not(e, p) => {
+                return Summed::Not(e, p);
+            }
+            Summed::To(count, next) => {
+                influences += count;
+                more -= 1;
+                c = next;
+            }
+        }
+    }
+    Summed::To(influences, c)
+}

@@ -1,0 +1,13 @@
+-- `short_or` compares the rows with those that have room.
+use Rattle.shared_room.proofs.Rooms.{short-laws}
+use borrow.Author.Needs.{needs}
+use Rattle.shared_room.proofs.short_or.Statement.{statement}
+use Rattle.shared_room.proofs.short_or.Tie as tie
+
+pub short-or-spec : {M : Type 1} → statement M
+short-or-spec =
+    tie.close
+    (tie.spec
+    (λ c. search (short-laws, needs))
+    (λ c. search (short-laws, needs))
+    (λ c. search (short-laws, needs)))
