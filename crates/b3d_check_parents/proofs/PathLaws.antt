@@ -2,7 +2,7 @@
 use Prim.Native.Nat.{ℕ, zero, suc, _+_, _-_, _≤_, _<_}
 use native.Mathlib.Numerals.{add-one}
 use native.Mathlib.Omega.{arith}
-use mathlib.Core.Path.{_≡_, refl, sym, ap, ap₂, _∙_}
+use mathlib.Core.Path.{_≡_, refl, sym, ap, _∙_}
 use mathlib.Core.Logic.{_≢_}
 use mathlib.Core.Bool.{true, false, not, _&&_}
 use mathlib.Core.List.{List, [], _∷_}
@@ -11,7 +11,7 @@ use lib.Seq.{getD-set-same, getD-set-other}
 use lib.Dec.{eqb}
 use borrow.Author.Tests.{not-true, not-false, eq-eqb, ne-eqb}
 use Rattle.wire.specs.Test.{if}
-use Rattle.b3d_check_spec.specs.Check.{Level, upTo, endHere, toldBy}
+use Rattle.b3d_check_spec.specs.Check.{upTo, endHere, toldBy}
 use Rattle.b3d_check_parents.specs.Path.{pathOf, CutTo, Ending}
 
 -- ---- a path up to one of its nodes

@@ -13,7 +13,7 @@ use Rattle.layout.specs.Parts.{wordsOf}
 use Rattle.layout.proofs.ChunkLaws.{split-none}
 use Rattle.b3d_spec.specs.Tags.{split, tagOf}
 use Rattle.b3d_spec_plain_rows.specs.Plain.{namedIn, namedItems}
-use Rattle.b3d_chunk_walk.specs.Seeks.{ahead, FirstWord, ThreeWords}
+use Rattle.b3d_chunk_walk.specs.Seeks.{FirstWord, ThreeWords}
 use Rattle.b3d_chunk_walk.specs.declared.Headed.{Headed}
 use Rattle.b3d_chunk_walk.specs.declared.Three.{Three}
 

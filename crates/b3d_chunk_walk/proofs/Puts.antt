@@ -1,12 +1,11 @@
 -- Rows of the parts of one chunk, stored one after the other in a loop of their own.
-use mathlib.Core.Path.{_≡_, refl, ap, sym, _∙_}
-use Prim.Native.Nat.{ℕ, _+_, _-_, _<_, _≤_}
-use native.Mathlib.Nat.{add-zero}
+use mathlib.Core.Path.{_≡_, refl, ap}
+use Prim.Native.Nat.{ℕ, _+_, _-_, _≤_}
 use native.Mathlib.Omega.{arith}
 use mathlib.Core.List.{List, [], _++_}
 use lib.ListN.{length, length-append}
 use lib.Seq.{sets}
-use Rattle.shared_table_words.proofs.Storing.{Storing, store-none, store-run, store-done}
+use Rattle.shared_table_words.proofs.Storing.{Storing, store-run, store-done}
 
 -- all was to be stored from word `base` on; what is left is `rest`, from word `at` on
 pub record Putting (out₀ : List ℕ) (base : ℕ) (all out : List ℕ) (at : ℕ) (rest : List ℕ) : Type 0 where

@@ -1,9 +1,9 @@
 -- A law for each way through `flat_next` and `enter`.
 use mathlib.Core.Path.{_≡_, refl, ap, sym, subst, _∙_}
-use Prim.Native.Nat.{ℕ, _+_, _-_, _<_, _≤_}
+use Prim.Native.Nat.{ℕ, _+_, _-_, _≤_}
 use native.Mathlib.Omega.{arith}
 use mathlib.Core.Bool.{Bool, true, false, not}
-use mathlib.Core.List.{List, []}
+use mathlib.Core.List.{List}
 use lib.ListN.{length, drop}
 use lib.Seq.{take-all}
 use lib.Dec.{T}
@@ -11,8 +11,8 @@ use Rattle.wire.specs.Cursors.{Inside, left}
 use Rattle.wire.specs.declared.Cursor.{Cursor}
 use Rattle.wire.proofs.Left.{span, left-length}
 use Rattle.layout.specs.Chunks.{done, stop, chunk}
-use Rattle.layout.specs.Out.{got, bad}
-use Rattle.layout.specs.Parts.{Step, Name, named as namedOf}
+use Rattle.layout.specs.Out.{bad}
+use Rattle.layout.specs.Parts.{named as namedOf}
 use Rattle.layout.proofs.StepLaws.{length-words-of}
 use Rattle.b3d_spec.specs.declared.Tag.{Tag}
 use Rattle.b3d_spec.specs.declared.Tag.the-variants.{NODE}
@@ -28,7 +28,7 @@ use Rattle.b3d_chunk_cursor.proofs.Nexts.{chunk-is, chunk-among, cut-is, done-i
 use Rattle.b3d_spec_plain_rows.specs.Flat.{rest, flatAt}
 use Rattle.b3d_spec_plain_rows.specs.Rows.{nodeRows, nodesBefore, flatRows, kindOf, animOf}
 use Rattle.b3d_spec_plain_rows.proofs.Run.{Here, Laid, rest-laid, run-done, run-stop, run-past, run-into, run-none}
-use Rattle.b3d_chunk_walk.specs.Walks.{BodyAt, NodeAt, ChunkIs, Ends, Steps}
+use Rattle.b3d_chunk_walk.specs.Walks.{BodyAt, NodeAt, Ends, Steps}
 use Rattle.b3d_chunk_walk.specs.declared.Flat.the-variants as flat
 
 -- a chunk that stands first

@@ -1,7 +1,7 @@
 // The walk over a file's chunks in one flat run, into each NODE and past every other chunk; and the search for the first chunk of a tag. Nothing is judged
 // here.
 ghost use mathlib.Core.Path.{_≡_};
-ghost use Prim.Native.Nat.{ℕ, _-_, _≤_};
+ghost use Prim.Native.Nat.{_-_, _≤_};
 ghost use lib.ListN.{length};
 ghost use Rattle.wire.specs.Cursors.{Inside};
 ghost use Rattle.b3d_chunk_walk.specs.Walks.{NodeAt, Steps};

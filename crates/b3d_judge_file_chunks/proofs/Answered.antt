@@ -1,16 +1,14 @@
 -- What the answers say of the phases of a file: a refusal is the refusal, and a tally is that of what was read.
 use mathlib.Core.Path.{_≡_, refl, ap, sym, subst}
-use Prim.Native.Nat.{ℕ, zero, suc}
+use Prim.Native.Nat.{ℕ}
 use native.Mathlib.Omega.{arith}
 use mathlib.Core.List.{List}
-use lib.ListN.{length}
 use Rattle.wire.specs.declared.Cursor.{Cursor}
 use Rattle.layout.specs.Out.{Out, got, bad}
 use Rattle.layout.proofs.Outs.{got-inj}
 use Rattle.b3d_spec.specs.Tags.{Chunks, Found}
-use Rattle.b3d_spec.specs.Scene.{Texture, Brush, Forest}
-use Rattle.b3d_spec.specs.Parse.{slotsOf}
-use Rattle.b3d_judge_tally.specs.Tally.{texsOf, brusOf, noTally, texsTally, brusTally, forestTally, plus}
+use Rattle.b3d_spec.specs.Scene.{Brush, Forest}
+use Rattle.b3d_judge_tally.specs.Tally.{brusTally, forestTally, plus}
 use Rattle.b3d_judge_materials.specs.declared.Slotted.the-variants as slotted
 use Rattle.b3d_judge_tally.specs.declared.Tally.{Tally}
 use Rattle.b3d_judge_file_chunks.specs.Answers.{Phases, brushes, brushedBy, Brushes, rested, tallied, phased}

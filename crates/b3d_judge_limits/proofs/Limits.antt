@@ -5,7 +5,7 @@ use mathlib.Core.List.{List, [], _∷_}
 use lib.Dec.{ltb, leb}
 use borrow.Author.Tests.{lt-ltb, le-ltb}
 use Rattle.wire.specs.Test.{if}
-use Rattle.layout.specs.Out.{Out, got, bad}
+use Rattle.layout.specs.Out.{got, bad}
 use Rattle.layout.specs.Rows.{eachOf}
 use Rattle.b3d_spec.specs.Rules.{rowLimit}
 use Rattle.b3d_spec.specs.Tables.{tables, nodeTables}

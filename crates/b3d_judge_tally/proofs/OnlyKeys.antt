@@ -1,5 +1,5 @@
 -- Each row but a key takes eight bytes of the copy or more, so that no table but that of the keys can pass the row limit within the file size.
-use mathlib.Core.Path.{_≡_, ap, sym, subst}
+use mathlib.Core.Path.{subst}
 use Prim.Native.Nat.{ℕ, zero, suc, _+_, _*_, _≤_}
 use native.Mathlib.Nat.{mul-le-mul-left}
 use native.Mathlib.Omega.{arith}
@@ -15,7 +15,7 @@ use Rattle.b3d_spec.proofs.Modes.{mode-got}
 use Rattle.b3d_spec.proofs.Files.FileLaws.{parse-size}
 use Rattle.b3d_spec.proofs.Files.NameLaws.{cleared-short}
 use Rattle.b3d_judge_tally.specs.OnlyKeys.{OnlyKeys}
-use Rattle.b3d_judge_tally.specs.Tally.{noTally, bytesTally, texsOf, brusOf, headTally, verticesTally, trianglesTally, weightsTally, keysTally, plus, listTally, listsTally, animTally, boneTally, setTally, setsTally, meshTally, kindTally, dataTally, forestTally, texsTally, brusTally, sceneTally, tallyOf}
+use Rattle.b3d_judge_tally.specs.Tally.{noTally, bytesTally, texsOf, brusOf, headTally, verticesTally, trianglesTally, weightsTally, keysTally, plus, listTally, listsTally, animTally, boneTally, setTally, setsTally, meshTally, kindTally, dataTally, forestTally, texsTally, brusTally, sceneTally}
 use Rattle.b3d_judge_tally.specs.declared.Tally.{Tally}
 use Rattle.b3d_judge_tally.proofs.Totals.{total}
 

@@ -6,7 +6,7 @@ use mathlib.Core.List.{List, []}
 use lib.ListN.{length, take, drop}
 use lib.Seq.{take-length}
 use Rattle.wire.specs.Bytes.{AllBytes, over}
-use Rattle.layout.specs.Out.{Out, got, bad, _>>=_}
+use Rattle.layout.specs.Out.{Out, got, bad}
 use Rattle.layout.proofs.Outs.{by-got}
 use Rattle.shared_output.specs.Writing.{Wrote}
 use Rattle.b3d_spec.specs.declared.Mode.the-variants.{Lenient}

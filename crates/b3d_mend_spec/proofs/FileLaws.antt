@@ -9,7 +9,7 @@ use mir.Facts.{and-yes, yes-and, yes-eqb}
 use Rattle.wire.specs.Bytes.{bytes, AllBytes}
 use Rattle.wire.specs.Test.{if}
 use Rattle.layout.specs.Chunks.{done, ended}
-use Rattle.layout.specs.Out.{got, _>>=_}
+use Rattle.layout.specs.Out.{got}
 use Rattle.layout.specs.Parts.{Step, row, number}
 use Rattle.layout.specs.Write.{writeWords}
 use Rattle.layout.specs.Rows.{mostBytes, sizeFits}

@@ -5,7 +5,7 @@ use mathlib.Core.Option.{Option, none}
 use mathlib.Core.List.{List, [], _++_, append-assoc}
 use Rattle.wire.specs.Bytes.{bytes}
 use Rattle.layout.specs.Chunks.{done, stop, chunk}
-use Rattle.layout.specs.Out.{Out, got, _>>=_}
+use Rattle.layout.specs.Out.{Out, got}
 use Rattle.layout.specs.Parts.{named}
 use Rattle.layout.specs.Write.{writeWords, writeText}
 use Rattle.layout.proofs.Outs.{by-got, bad-got, got-inj}

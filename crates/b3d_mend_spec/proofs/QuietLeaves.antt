@@ -11,7 +11,7 @@ use lib.Dec.{leb}
 use Rattle.wire.specs.Bytes.{word}
 use Rattle.wire.specs.Test.{if}
 use Rattle.layout.specs.Chunks.{done, stop, chunk, keep as keepOf, splitIn, split as splitOf}
-use Rattle.layout.specs.Out.{Out, got, bad, _>>=_}
+use Rattle.layout.specs.Out.{Out, got, bad}
 use Rattle.layout.specs.Parts.{Name, row, number, named, items}
 use Rattle.layout.proofs.Lists.{All, all-append}
 use Rattle.b3d_spec.specs.declared.Mode.the-variants.{Lenient}

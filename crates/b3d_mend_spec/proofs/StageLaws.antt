@@ -8,7 +8,7 @@ use lib.ListN.{length, getD, length-append}
 use lib.Dec.{T}
 use Rattle.wire.specs.Bytes.{bytes, AllBytes}
 use Rattle.layout.specs.Chunks.{done, stop, chunk}
-use Rattle.layout.specs.Out.{Out, got, _>>=_}
+use Rattle.layout.specs.Out.{Out, got}
 use Rattle.layout.specs.Write.{writeWords}
 use Rattle.layout.proofs.Lists.{all-append}
 use Rattle.layout.proofs.Outs.{by-got, by-if, bad-got, got-inj, if-yes, if-no}

@@ -7,7 +7,7 @@ use mathlib.Core.Option.{Option, none}
 use mathlib.Core.List.{List, [], _∷_, _++_}
 use lib.ListN.{length, drop}
 use Rattle.layout.specs.Chunks.{done, stop, chunk}
-use Rattle.layout.specs.Out.{Out, got, _>>=_}
+use Rattle.layout.specs.Out.{Out, got}
 use Rattle.layout.specs.Parts.{Step, words, named}
 use Rattle.layout.specs.Write.{writeWords, writeText}
 use Rattle.layout.proofs.PartLaws.{named-fine}

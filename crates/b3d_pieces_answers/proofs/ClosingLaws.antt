@@ -2,14 +2,14 @@
 use mathlib.Core.Path.{_≡_, refl, ap, sym, _∙_}
 use Prim.Native.Nat.{ℕ, _-_, _<_, _≤_}
 use native.Mathlib.Omega.{arith}
-use mathlib.Core.Bool.{Bool, true, false}
+use mathlib.Core.Bool.{false}
 use mathlib.Core.List.{List, [], _∷_}
-use lib.ListN.{getD, replicate}
+use lib.ListN.{replicate}
 use lib.Dec.{leb}
 use borrow.Author.Tests.{le-leb, lt-leb, le-ltb, eq-eqb, ne-eqb}
 use Rattle.wire.specs.Test.{if}
 use Rattle.layout.specs.Out.{Out, got, bad, check, _>>=_}
-use Rattle.layout.specs.Rows.{eachOf, sizeFits}
+use Rattle.layout.specs.Rows.{sizeFits}
 use Rattle.b3d_spec.specs.declared.Answer.{Answer}
 use Rattle.b3d_judge_tally.specs.declared.Tally.{Tally}
 use Rattle.b3d_judge_limits.specs.Limits.{tallied, overLimit}
@@ -17,7 +17,7 @@ use Rattle.b3d_judge_limits.proofs.Limits.{over-none, over-some}
 use Rattle.b3d_pieces_spec.specs.declared.Totals.{Totals}
 use Rattle.b3d_pieces_spec.specs.declared.Open.{Open}
 use Rattle.b3d_pieces_spec.specs.declared.Part.{Part}
-use Rattle.b3d_pieces_spec.specs.Close.{inside, Held, countsOf, ended, wholeEnded, limited, closing}
+use Rattle.b3d_pieces_spec.specs.Close.{inside, Held, ended, wholeEnded, limited, closing}
 use Rattle.b3d_pieces_item_steps.specs.declared.Now.{Now}
 use Rattle.b3d_pieces_item_steps.specs.declared.Now.the-variants.{Live, Push, Pop, Fault, Over}
 use Rattle.b3d_pieces_item_steps.specs.Nows.{stateWith}

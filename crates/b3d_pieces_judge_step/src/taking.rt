@@ -10,7 +10,6 @@ use crate::Taken;
 use b3d_pieces_body_steps::enter;
 use b3d_pieces_byte_steps::bytes::gathered;
 use b3d_pieces_header_steps::fresh;
-use b3d_pieces_item_steps::Now;
 use b3d_pieces_spec::Open;
 use b3d_pieces_spec::Totals;
 use b3d_pieces_step::turning::pending;

@@ -7,16 +7,14 @@ use mathlib.Core.List.{List}
 use lib.ListN.{length, getD}
 use lib.Dec.{ltb, eqb}
 use borrow.Author.Tests.{le-ltb, eqb-true, eqb-false}
-use Rattle.wire.specs.Test.{if}
 use Rattle.b3d_pieces_spec.specs.Close.{closing}
 use Rattle.b3d_pieces_step.specs.Turns.{pends}
 use Rattle.b3d_pieces_step.proofs.TurnLaws.{none}
 use Rattle.b3d_pieces_judge_step.specs.declared.Judge.{Judge}
 use Rattle.b3d_pieces_judge_step.specs.Takes.{heldOf}
-use Rattle.b3d_pieces_judge_step.specs.Runs.{CanRun}
 use Rattle.b3d_pieces_state.specs.declared.OpenRecord.{OpenRecord}
 use Rattle.b3d_pieces_state.specs.declared.PieceState.{PieceState}
-use Rattle.b3d_pieces_state.specs.States.{judgeIn, stateOf}
+use Rattle.b3d_pieces_state.specs.States.{judgeIn}
 use Rattle.b3d_pieces_state.proofs.StateLaws.{state-back}
 use Rattle.b3d_pieces_answers.specs.declared.Closing.the-variants.{Bad}
 use Rattle.b3d_pieces_answers.specs.Closes.{closingOf, answerBy, wordAnswer}

@@ -1,6 +1,6 @@
 -- The loop over rounds with a piece: its invariant holds at first, a round keeps it, and at the end it says what the contract does.
 use mathlib.Core.Path.{_≡_, refl, ap, sym, subst, _∙_}
-use Prim.Native.Nat.{ℕ, _+_, _-_, _<_, _≤_}
+use Prim.Native.Nat.{ℕ, _-_, _<_, _≤_}
 use native.Mathlib.Omega.{arith}
 use mathlib.Core.Bool.{Bool, true, false}
 use mathlib.Core.List.{List}
@@ -8,11 +8,9 @@ use lib.ListN.{length, getD, set, length-set}
 use lib.Seq.{getD-set-same, getD-set-other, set-getD}
 use lib.Dec.{ltb, eqb}
 use borrow.Author.Tests.{ltb-true, ltb-false, eqb-true, eqb-false}
-use Rattle.b3d_pieces_spec.specs.declared.Open.{Open}
 use Rattle.b3d_pieces_spec.specs.Close.{piece}
 use Rattle.b3d_pieces_step.proofs.TurnLaws.{none}
 use Rattle.b3d_pieces_judge_step.specs.declared.Judge.{Judge}
-use Rattle.b3d_pieces_judge_step.specs.declared.Turn.{Turn}
 use Rattle.b3d_pieces_judge_step.specs.Takes.{heldOf}
 use Rattle.b3d_pieces_judge_step.specs.Loops.{leftOf}
 use Rattle.b3d_pieces_judge_step.specs.Runs.{CanRun, RunIs}
@@ -23,13 +21,13 @@ use Rattle.b3d_pieces_state.specs.declared.OpenRecord.{OpenRecord}
 use Rattle.b3d_pieces_state.specs.declared.PieceState.{PieceState}
 use Rattle.b3d_pieces_state.specs.declared.PieceFed.{PieceFed}
 use Rattle.b3d_pieces_state.specs.Records.{openIn}
-use Rattle.b3d_pieces_state.specs.States.{judgeIn, stateOf}
+use Rattle.b3d_pieces_state.specs.States.{judgeIn}
 use Rattle.b3d_pieces_state.proofs.StateLaws.{state-back}
 use Rattle.b3d_pieces_words.specs.Called.{PieceIs}
 use Rattle.b3d_pieces_words.proofs.Calling.{short-piece, shut-piece, other-piece, taken-piece}
 use Rattle.b3d_pieces_records_loop.specs.declared.Round.{Round}
-use Rattle.b3d_pieces_records_loop.specs.Rounds.{blank, opensIn, numbers, FirstIs, TestIs, Turned, ended, stepped, NextReady, NextIs, LastIs}
-use Rattle.b3d_pieces_records_loop.proofs.TestRounds.{roundsOf, turns-left, Tested, tested-first, by-cases, test-room, test-go, test-get, test-ready, test-next, test-less, stop-go, fine-room, fine-open, fine-runs, fine-go, fine-get, not-run}
+use Rattle.b3d_pieces_records_loop.specs.Rounds.{blank, opensIn, numbers, FirstIs, Turned, ended, stepped, NextReady, NextIs, LastIs}
+use Rattle.b3d_pieces_records_loop.proofs.TestRounds.{roundsOf, turns-left, Tested, tested-first, by-cases, test-room, test-go, test-get, test-ready, test-next, test-less, stop-go, fine-open, fine-runs, fine-go, fine-get, not-run}
 
 -- ---- a record is put into the row
 

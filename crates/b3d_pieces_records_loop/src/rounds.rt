@@ -1,5 +1,4 @@
 // A round, and what a piece answers after the last.
-ghost use mathlib.Core.Path.{_≡_};
 ghost use Rattle.b3d_pieces_records_loop.specs.Rounds.{TurnReady, TurnedIs, NextReady, NextIs, LastIs};
 use crate::Round;
 use crate::tests::test;

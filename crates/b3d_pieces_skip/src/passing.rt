@@ -13,7 +13,6 @@ use b3d_pieces_skip_lengths::until_zero;
 use b3d_pieces_skip_numbers::RowPlace;
 use b3d_pieces_skip_rows::judging::row_rules;
 use b3d_pieces_skip_rows::rows::rows;
-use b3d_pieces_spec::Kept;
 use b3d_pieces_spec::Open;
 use b3d_pieces_spec::Part;
 use b3d_pieces_spec::Totals;

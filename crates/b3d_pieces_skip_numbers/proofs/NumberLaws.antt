@@ -1,5 +1,5 @@
 -- The laws of numbers that are passed over, in the words of the code.
-use mathlib.Core.Path.{_≡_, refl, ap, sym, subst, _∙_}
+use mathlib.Core.Path.{_≡_, refl, ap, sym, _∙_}
 use Prim.Native.Nat.{ℕ, zero, suc, _+_, _-_, _*_, _/_, _<_, _≤_}
 use native.Mathlib.Omega.{arith}
 use mathlib.Core.Bool.{Bool, true, false}
@@ -8,7 +8,7 @@ use lib.ListN.{length, getD, take, drop, take-append-drop}
 use lib.Seq.{slice, slice-empty, slice-cons, drop-append-le, take-take, length-take-le}
 use lib.Dec.{ltb}
 use borrow.Author.Tests.{ltb-true}
-use Rattle.wire.specs.Bytes.{IsWord, word, wordAt}
+use Rattle.wire.specs.Bytes.{word, wordAt}
 use Rattle.layout.specs.Rules.{unit, holds}
 use Rattle.b3d_pieces_spec.specs.declared.Totals.{Totals}
 use Rattle.b3d_pieces_spec.specs.declared.Kept.{Kept}
@@ -19,7 +19,6 @@ use Rattle.b3d_pieces_spec.specs.Machine.{State, live, counting, wordDone, rowB
 use Rattle.b3d_pieces_spec.specs.Good.{Words, worth}
 use Rattle.b3d_pieces_spec.proofs.Runs.{run-append}
 use Rattle.b3d_pieces_spec.proofs.Depth.{none-words}
-use Rattle.b3d_pieces_item_steps.specs.declared.Now.{Now}
 use Rattle.b3d_pieces_item_steps.specs.declared.Now.the-variants.{Live}
 use Rattle.b3d_pieces_item_steps.proofs.Edges.{begin-row, edge-stays}
 use Rattle.b3d_pieces_byte_steps.specs.Bytes.{gathers, Adds}
@@ -28,7 +27,7 @@ use Rattle.b3d_pieces_byte_steps.proofs.RowLaws.{done-item, from-end, from-on, 
 use Rattle.b3d_pieces_skip_numbers.specs.declared.RowPlace.{RowPlace}
 use Rattle.b3d_pieces_skip_numbers.specs.declared.Judged.{Judged}
 use Rattle.b3d_pieces_skip_numbers.specs.declared.RowRules.{RowRules}
-use Rattle.b3d_pieces_skip_numbers.specs.Places.{Plain, RulesAre, KeepsIs, rowAt, Sound, Took, NumberReady, Goes, NumberIs, stays, goes, Gathered}
+use Rattle.b3d_pieces_skip_numbers.specs.Places.{Plain, RulesAre, KeepsIs, rowAt, Sound, Took, NumberReady, NumberIs, stays, goes, Gathered}
 
 -- ---- a rule
 

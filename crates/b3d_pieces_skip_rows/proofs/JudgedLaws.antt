@@ -1,12 +1,12 @@
 -- Which numbers of a row are judged: the laws in the words of the code.
 use mathlib.Core.Path.{_≡_, refl, sym, _∙_}
-use Prim.Native.Nat.{ℕ, _+_, _-_, _*_, _/_, _%_, _<_, _≤_}
+use Prim.Native.Nat.{ℕ, _+_, _-_, _*_, _/_, _%_}
 use native.Mathlib.Omega.{arith}
 use mathlib.Core.Bool.{Bool, true, false}
 use lib.ListN.{length}
 use types.Run.{OneOf, hit}
 use denote.Enum.Declared.{tagOf}
-use Rattle.layout.specs.Rules.{unit, names, holds}
+use Rattle.layout.specs.Rules.{names}
 use Rattle.b3d_spec.specs.declared.Tag.{Tag}
 use Rattle.b3d_spec.specs.declared.Tag.the-variants.{NODE, VRTS, TRIS, BONE, ANIM}
 use Rattle.b3d_spec.specs.Rules.{boneVertices}
@@ -15,11 +15,11 @@ use Rattle.b3d_pieces_spec.specs.declared.Totals.{Totals}
 use Rattle.b3d_pieces_spec.specs.declared.Kept.{Kept}
 use Rattle.b3d_pieces_spec.specs.declared.Open.{Open}
 use Rattle.b3d_pieces_spec.specs.Bodies.{above, rulesOf, nests, textItems}
-use Rattle.b3d_pieces_rules.specs.Faults.{faultOf, innerFault, rowFault}
+use Rattle.b3d_pieces_rules.specs.Faults.{innerFault, rowFault}
 use Rattle.b3d_pieces_rules.proofs.FaultLaws.{name-yes, colour-yes, ids-here, ids-past, vertex-low, vertex-colour, vertex-later, fixedFree, fixed-free, innerFree, inner-free, inner-vrts, inner-tris, inner-bone, row-fixed, row-inner}
 use Rattle.b3d_pieces_skip_numbers.specs.declared.Judged.{Judged}
 use Rattle.b3d_pieces_skip_numbers.specs.declared.RowRules.{RowRules}
-use Rattle.b3d_pieces_skip_numbers.specs.Places.{JudgedIs, Plain, RulesAre}
+use Rattle.b3d_pieces_skip_numbers.specs.Places.{JudgedIs, RulesAre}
 use Rattle.b3d_pieces_skip_rows.specs.Items.{idsOf, AnyRow, FixedIs, AgainIs}
 
 -- two booleans that differ

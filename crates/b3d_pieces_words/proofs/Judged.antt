@@ -2,7 +2,7 @@
 use mathlib.Core.Path.{_≡_, refl, ap, sym, subst, _∙_}
 use Prim.Native.Nat.{ℕ, _<_, _≤_}
 use native.Mathlib.Omega.{arith}
-use mathlib.Core.Bool.{true, false}
+use mathlib.Core.Bool.{false}
 use mathlib.Core.List.{List, [], _∷_, map}
 use lib.Dec.{leb}
 use borrow.Author.Tests.{le-leb, lt-leb}
@@ -24,7 +24,6 @@ use Rattle.b3d_pieces_spec.specs.Close.{closing, answerOf}
 use Rattle.b3d_pieces_spec.specs.Calls.{Pieces, freshPieces, allowed, onCall, afterPiece, closeAnswer, calls, taken}
 use Rattle.b3d_pieces_spec.specs.InPieces.{Ample}
 use Rattle.b3d_pieces_spec.proofs.InCalls.{in-calls, ample-reads}
-use Rattle.b3d_pieces_judge_step.specs.declared.Judge.{Judge}
 use Rattle.b3d_pieces_judge_step.specs.Takes.{heldOf}
 use Rattle.b3d_pieces_judge_step.specs.Runs.{CanRun, RunIs}
 use Rattle.b3d_pieces_answers.specs.Closes.{closingOf, asWord, answerBy, wordAnswer}

@@ -10,8 +10,8 @@ use lib.ListN.{length}
 use lib.Seq.{sets}
 use Rattle.wire.specs.Cursors.{Inside, left}
 use Rattle.wire.specs.declared.Cursor.{Cursor}
-use Rattle.wire.proofs.Left.{span, left-length}
-use Rattle.layout.specs.Parts.{wordsOf, itemsOf}
+use Rattle.wire.proofs.Left.{left-length}
+use Rattle.layout.specs.Parts.{wordsOf}
 use Rattle.layout.proofs.StepLaws.{length-words-of}
 use Rattle.layout.specs.Rows.{joined}
 use Rattle.b3d_spec_plain_rows.proofs.ItemLaws.{words-items}

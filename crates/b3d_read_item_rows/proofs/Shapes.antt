@@ -1,23 +1,22 @@
 -- The rows of a VRTS on any bytes: a law for each need of `put_shape`.
-use mathlib.Core.Path.{_≡_, refl, ap, ap₂, sym, subst, _∙_}
-use Prim.Native.Nat.{ℕ, zero, suc, _+_, _-_, _*_, _/_, _%_, _<_, _≤_, _^_}
-use native.Mathlib.Nat.{div-mul-le-self, zero-mul, suc-mul}
+use mathlib.Core.Path.{_≡_, ap, sym, _∙_}
+use Prim.Native.Nat.{ℕ, _+_, _-_, _*_, _/_, _%_, _<_, _≤_, _^_}
+use native.Mathlib.Nat.{div-mul-le-self}
 use native.Mathlib.Omega.{arith}
-use mathlib.Core.Bool.{Bool}
-use mathlib.Core.List.{List, [], _∷_, _++_, map}
+use mathlib.Core.List.{List, map}
 use mir.Syntax.{w64}
 use mir.Val.{Fits}
-use lib.ListN.{length, drop, getD, length-append}
-use lib.Seq.{sets, drop-drop}
+use lib.ListN.{length}
+use lib.Seq.{sets}
 use Rattle.wire.specs.Cursors.{Inside, left}
 use Rattle.wire.specs.declared.Cursor.{Cursor}
 use Rattle.wire.proofs.Left.{left-length}
-use Rattle.layout.specs.Parts.{wordsOf, itemsOf}
+use Rattle.layout.specs.Parts.{itemsOf}
 use Rattle.layout.proofs.StepLaws.{length-items-of}
 use Rattle.b3d_spec.specs.Mask.{mask, ones, spread, vertexHas, vertexMask}
 use Rattle.b3d_spec.specs.Rules.{vertexWords}
 use Rattle.layout.specs.Rows.{joined}
-use Rattle.b3d_spec.proofs.Rows.MaskLaws.{mask-length, spread-length, vertex-words}
+use Rattle.b3d_spec.proofs.Rows.MaskLaws.{mask-length, vertex-words}
 use Rattle.b3d_spec_plain_rows.specs.Plain.{whole, plainVertices}
 use Rattle.b3d_chunk_walk.specs.Seeks.{ThreeWords}
 use Rattle.b3d_chunk_walk.specs.declared.Three.{Three}

@@ -1,15 +1,14 @@
 -- Texts with words, one after the other: what each turn of `fill_named` stores.
-use mathlib.Core.Path.{_≡_, refl, ap, sym, _∙_}
-use Prim.Native.Nat.{ℕ, _+_, _-_, _*_, _<_, _≤_}
+use mathlib.Core.Path.{_≡_, refl, ap, _∙_}
+use Prim.Native.Nat.{ℕ, _+_, _-_, _<_, _≤_}
 use native.Mathlib.Omega.{arith}
-use mathlib.Core.List.{List, [], _∷_, _++_, map}
+use mathlib.Core.List.{List, _∷_, _++_, map}
 use lib.ListN.{length, take, replicate, length-append, length-replicate}
 use lib.Seq.{sets, length-take-le}
 use Rattle.wire.specs.Cursors.{Inside, left}
 use Rattle.wire.specs.declared.Cursor.{Cursor}
 use Rattle.wire.proofs.Left.{left-length}
-use Rattle.layout.specs.Out.{Out, got, bad}
-use Rattle.layout.specs.Parts.{Name, Step, wordsOf, named as namedOf}
+use Rattle.layout.specs.Parts.{Name, wordsOf}
 use Rattle.layout.specs.Rules.{any, NONE}
 use Rattle.layout.proofs.StepLaws.{length-words-of}
 use Rattle.layout.specs.Rows.{nameCells, joined}

@@ -1,6 +1,6 @@
 // Tables 1 and 2, textures and brushes, filled from the first TEXS and the first BRUS of a file: a row for each item.
 ghost use mathlib.Core.Path.{_≡_};
-ghost use Prim.Native.Nat.{ℕ, _+_, _*_, _<_, _≤_};
+ghost use Prim.Native.Nat.{_+_, _*_, _<_, _≤_};
 ghost use mathlib.Core.List.{_∷_, _++_, map};
 ghost use lib.ListN.{length, replicate};
 ghost use lib.Seq.{sets as stored};

@@ -3,7 +3,7 @@ use mathlib.Core.Path.{_≡_, refl, ap, sym, subst, _∙_}
 use Prim.Native.Nat.{ℕ, _+_, _-_, _*_, _<_, _≤_}
 use native.Mathlib.Omega.{arith}
 use mathlib.Core.Bool.{Bool, true, false, not}
-use mathlib.Core.List.{List, [], _∷_}
+use mathlib.Core.List.{List}
 use mir.Syntax.{w64}
 use mir.Val.{Fits}
 use lib.ListN.{length}
@@ -24,7 +24,7 @@ use Rattle.b3d_chunk_walk.specs.Walks.{BodyAt, ChunkIs, Steps}
 use Rattle.b3d_chunk_walk.specs.declared.Flat.{Flat}
 use Rattle.b3d_chunk_walk.specs.declared.Flat.the-variants as run
 use Rattle.b3d_chunk_walk.proofs.Counting.{tag-same, counted-nodes, counted-meshes, counted-vertices, counted-sets, counted-triangles}
-use Rattle.b3d_chunk_walk.proofs.Table.{TableLeft, Any, any-counts, table-start, table-small, table-long, table-done, table-chunk, table-other, table-room, table-own}
+use Rattle.b3d_chunk_walk.proofs.Table.{TableLeft, Any, any-counts, table-start, table-done, table-chunk, table-other, table-room, table-own}
 use Rattle.b3d_read_mesh_rows.specs.Meshes.{verticesIn, meshCells, MeshPut}
 use Rattle.b3d_read_triangle_rows.specs.Sets.{trianglesIn, setsIn, triangleCount, SetsPut}
 use Rattle.b3d_read_triangle_rows.specs.declared.After.{After}

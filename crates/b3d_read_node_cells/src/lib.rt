@@ -1,6 +1,6 @@
 // The last eight cells of a node's row, from the chunks behind its numbers: its kind, first, count, its ANIM, and how many nodes are below it.
 ghost use mathlib.Core.Path.{_≡_};
-ghost use Prim.Native.Nat.{ℕ, _<_, _≤_};
+ghost use Prim.Native.Nat.{_<_, _≤_};
 ghost use lib.ListN.{length};
 ghost use Rattle.b3d_spec.specs.Tables.{kindCells, animCells};
 ghost use Rattle.b3d_spec_plain_rows.specs.Flat.{flatAt};

@@ -5,12 +5,10 @@ use native.Mathlib.Omega.{arith}
 use mathlib.Core.List.{List, [], _∷_, _++_}
 use lib.ListN.{length}
 use lib.Seq.{sets}
-use lib.Dec.{T}
 use Rattle.layout.specs.Chunks.{done, stop, chunk}
 use Rattle.layout.proofs.Outs.{by-test}
 use Rattle.b3d_spec.specs.declared.Counts.{Counts}
 use Rattle.b3d_spec.specs.declared.Tag.{Tag}
-use Rattle.b3d_spec.specs.declared.Tag.the-variants.{MESH, KEYS}
 use Rattle.layout.specs.Rows.{joined}
 use Rattle.b3d_spec.specs.Tables.{start}
 use Rattle.b3d_spec.specs.Tags.{Chunks, is}

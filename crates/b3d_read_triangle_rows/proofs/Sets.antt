@@ -1,9 +1,9 @@
 -- The loop of `put_sets` over the TRIS of a MESH.
-use mathlib.Core.Path.{_≡_, refl, ap, ap₂, sym, _∙_}
+use mathlib.Core.Path.{_≡_, refl, ap, sym, _∙_}
 use Prim.Native.Nat.{ℕ, _+_, _-_, _*_, _<_, _≤_}
 use native.Mathlib.Omega.{arith}
 use mathlib.Core.Bool.{false}
-use mathlib.Core.List.{List, [], _∷_, _++_}
+use mathlib.Core.List.{List, [], _++_}
 use mir.Syntax.{w64}
 use mir.Val.{Fits}
 use lib.ListN.{length, length-append}
@@ -11,7 +11,6 @@ use lib.Seq.{sets}
 use Rattle.wire.specs.Cursors.{Inside, left}
 use Rattle.wire.specs.declared.Cursor.{Cursor}
 use Rattle.wire.proofs.Left.{left-most}
-use Rattle.b3d_chunk_cursor.specs.Chunks.{Among}
 use Rattle.b3d_spec.specs.declared.Tag.the-variants.{TRIS}
 use Rattle.layout.specs.Rows.{joined}
 use Rattle.b3d_spec.specs.Tables.{setRows, triangleRows}

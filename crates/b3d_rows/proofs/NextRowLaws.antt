@@ -1,5 +1,5 @@
 -- The next row by the table: a law for each need.
-use mathlib.Core.Path.{_≡_, refl, ap, ap₂, sym, subst, _∙_}
+use mathlib.Core.Path.{_≡_, sym, subst}
 use Prim.Native.Nat.{ℕ, _+_, _<_, _≤_}
 use native.Mathlib.Omega.{arith}
 use mathlib.Core.Bool.{Bool, true, false, not, _||_}
@@ -9,7 +9,6 @@ use lib.Dec.{T, eqb, leb}
 use borrow.Author.Tests.{eq-eqb, ne-eqb, le-leb, lt-leb}
 use Rattle.wire.specs.Test.{if}
 use Rattle.b3d_rows_open_items.specs.ItemsLeft.{ItemTable}
-use Rattle.b3d_rows_open_items.proofs.ItemsLeftLaws.{by-table}
 use Rattle.b3d_rows_positions.specs.Positions.{itemsAhead, ItemPosition, Comes}
 use Rattle.b3d_rows_positions.specs.declared.Position.{Position}
 use Rattle.b3d_rows_items.specs.NextItem.{ItemNext}

@@ -1,14 +1,14 @@
 -- Before the first row of each table: a law for each need.
 use mathlib.Core.Path.{_≡_, refl, ap, ap₂, sym, subst, _∙_}
-use Prim.Native.Nat.{ℕ, _+_, _-_, _*_, _<_, _≤_}
+use Prim.Native.Nat.{ℕ, _+_, _-_, _<_, _≤_}
 use native.Mathlib.Omega.{arith}
 use mathlib.Core.Bool.{Bool, true, false, not}
 use mathlib.Core.List.{List, [], _++_}
-use lib.ListN.{length, replicate}
-use lib.Dec.{T, eqb, leb, eqb→eq, leb→le, nleb→lt}
+use lib.ListN.{length}
+use lib.Dec.{eqb, leb, eqb→eq, leb→le, nleb→lt}
 use borrow.Author.Tests.{ne-eqb}
 use Rattle.wire.specs.Test.{if}
-use Rattle.wire.specs.Cursors.{Inside, left}
+use Rattle.wire.specs.Cursors.{left}
 use Rattle.wire.proofs.Left.{span, left-nil}
 use Rattle.layout.specs.Chunks.{done}
 use Rattle.layout.proofs.Outs.{by-test}
@@ -21,18 +21,17 @@ use Rattle.b3d_spec_plain_rows.specs.Flat.{flatAt, flat}
 use Rattle.b3d_spec_plain_rows.specs.Plain.{setsOf}
 use Rattle.b3d_spec_plain_rows.specs.Rows.{flatRows, fileRows}
 use Rattle.b3d_chunk_walk.specs.Seeks.{ahead}
-use Rattle.b3d_rows_open_items.specs.ItemsLeft.{ItemTable, itemRows, Measured}
+use Rattle.b3d_rows_open_items.specs.ItemsLeft.{ItemTable, Measured}
 use Rattle.b3d_rows_open_items.specs.declared.OpenItems.{OpenItems}
 use Rattle.b3d_rows_open_items.proofs.ItemsLeftLaws.{by-table, items-none}
-use Rattle.b3d_rows_positions.specs.Positions.{innerRows, itemsLater, itemsAhead, MeshPosition, ItemPosition}
+use Rattle.b3d_rows_positions.specs.Positions.{innerRows, itemsLater, itemsAhead, MeshPosition}
 use Rattle.b3d_rows_positions.specs.declared.Position.{Position}
 use Rattle.b3d_rows_nodes.specs.NodeStack.{stackTo}
-use Rattle.b3d_rows_nodes.specs.declared.OpenNodes.{OpenNodes}
-use Rattle.b3d_rows_chunks.specs.NextChunk.{chunksAhead, ChunkPosition, behindSets, setsAhead, SetPosition}
-use Rattle.b3d_rows_items.specs.NextText.{TextsOpen, TextPosition}
-use Rattle.b3d_rows_nodes.specs.NextNode.{Shallow, nodesAhead, NodePosition}
+use Rattle.b3d_rows_chunks.specs.NextChunk.{chunksAhead, ChunkPosition, behindSets, setsAhead}
+use Rattle.b3d_rows_items.specs.NextText.{TextsOpen}
+use Rattle.b3d_rows_nodes.specs.NextNode.{Shallow, nodesAhead}
 use Rattle.b3d_rows_nodes.specs.declared.RowCursor.{RowCursor}
-use Rattle.b3d_rows.specs.NextRow.{partsFrom, rowsFrom, FirstItems, PartAt, RowCursorAt, Starts}
+use Rattle.b3d_rows.specs.NextRow.{partsFrom, rowsFrom, FirstItems, Starts}
 use Rattle.b3d_rows.proofs.NextRowLaws.{not-items, differs, item-table, from-four, from-six, from-nine, from-items, from-texts, from-nodes, from-parts}
 
 -- ---- the first items

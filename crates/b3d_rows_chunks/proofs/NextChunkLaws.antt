@@ -1,6 +1,6 @@
 -- The next mesh and the next key list: a law for each need.
 use mathlib.Core.Path.{_≡_, refl, ap, ap₂, sym, subst, _∙_}
-use Prim.Native.Nat.{ℕ, _+_, _-_, _*_, _<_, _≤_}
+use Prim.Native.Nat.{ℕ, _+_, _-_, _<_, _≤_}
 use native.Mathlib.Omega.{arith}
 use mathlib.Core.Bool.{true}
 use mathlib.Core.List.{List, [], _∷_, _++_}
@@ -23,13 +23,12 @@ use Rattle.b3d_chunk_walk.proofs.Meshes.{mesh-inside}
 use Rattle.b3d_read_item_rows.proofs.Groups.{group-few}
 use Rattle.b3d_read_mesh_rows.specs.Meshes.{meshCells, MeshPut}
 use Rattle.b3d_read_mesh_rows.specs.declared.Added.{Added}
-use Rattle.b3d_rows_positions.specs.FindChunk.{Later, RowsFound, ChunkFound, ChunkFinds}
+use Rattle.b3d_rows_positions.specs.FindChunk.{ChunkFound, ChunkFinds}
 use Rattle.b3d_rows_positions.specs.declared.FoundChunk.{FoundChunk}
 use Rattle.b3d_rows_positions.specs.declared.FoundChunk.the-variants as met
 use Rattle.b3d_rows_positions.proofs.FindChunkLaws.{chunk-none, chunk-at}
 use Rattle.b3d_read_meshes.proofs.Tables.{meshes}
 use Rattle.b3d_read_animation.proofs.Tables.{lists}
-use Rattle.b3d_rows_positions.specs.Positions.{Comes}
 use Rattle.b3d_rows_positions.specs.declared.Position.{Position}
 use Rattle.b3d_rows_positions.proofs.PositionLaws.{owns-only}
 use Rattle.b3d_rows_positions.proofs.CountLaws.{mesh-alike, list-alike}

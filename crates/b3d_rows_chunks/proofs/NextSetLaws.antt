@@ -1,9 +1,9 @@
 -- The next triangle set: a law for each need.
 use mathlib.Core.Path.{_≡_, refl, ap, ap₂, sym, subst, _∙_}
-use Prim.Native.Nat.{ℕ, _+_, _-_, _*_, _<_, _≤_}
+use Prim.Native.Nat.{ℕ, _+_, _-_, _<_}
 use native.Mathlib.Omega.{arith}
 use mathlib.Core.Bool.{false}
-use mathlib.Core.List.{List, [], _∷_, _++_}
+use mathlib.Core.List.{List, [], _++_}
 use mir.Syntax.{w64}
 use mir.Val.{Fits}
 use lib.ListN.{length, length-append}
@@ -12,9 +12,7 @@ use Rattle.wire.specs.Test.{if}
 use Rattle.wire.specs.Cursors.{Inside, left}
 use Rattle.wire.specs.declared.Cursor.{Cursor}
 use Rattle.wire.proofs.Left.{left-most}
-use Rattle.b3d_spec.specs.declared.Counts.{Counts}
 use Rattle.b3d_spec.specs.declared.Tag.the-variants.{MESH, TRIS}
-use Rattle.b3d_spec.specs.Scene.{TriangleSet}
 use Rattle.b3d_spec.specs.Tables.{width, withMeshes, setRows, triangleRows}
 use Rattle.b3d_spec_plain_rows.specs.Flat.{flatAt}
 use Rattle.b3d_spec_plain_rows.specs.Plain.{plainMesh, meshOf, plainTriangles, setsOf}
@@ -28,7 +26,7 @@ use Rattle.b3d_read_item_rows.specs.Items.{setRow}
 use Rattle.b3d_read_item_rows.proofs.Groups.{group-few}
 use Rattle.b3d_read_triangle_rows.specs.Sets.{setsIn}
 use Rattle.b3d_read_meshes.proofs.Tables.{sets}
-use Rattle.b3d_rows_positions.specs.Positions.{leftOver, MeshPosition, MeshOpened, MeshMore, MeshOpens, Comes}
+use Rattle.b3d_rows_positions.specs.Positions.{leftOver, MeshPosition, MeshOpened, MeshMore, MeshOpens}
 use Rattle.b3d_rows_positions.specs.declared.Position.{Position}
 use Rattle.b3d_rows_positions.specs.declared.NextPosition.{NextPosition}
 use Rattle.b3d_rows_positions.specs.declared.NextPosition.the-variants as more

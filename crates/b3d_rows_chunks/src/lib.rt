@@ -1,5 +1,4 @@
 // The next row of tables that have a row for a chunk: 4, the meshes, 9, the key lists, and 6, the triangle sets of each MESH.
-ghost use mathlib.Core.Path.{_≡_};
 ghost use Prim.Native.Nat.{_<_, _≤_};
 ghost use lib.ListN.{length};
 ghost use Rattle.b3d_rows_chunks.specs.NextChunk.{chunksAhead, ChunkPosition, ChunkNext, setsAhead, SetPosition, SetFound, SetNext};

@@ -1,8 +1,8 @@
 -- From item to item: a law for each need.
-use mathlib.Core.Path.{_≡_, refl, ap, ap₂, sym, subst, _∙_}
+use mathlib.Core.Path.{_≡_, refl, ap, sym, subst, _∙_}
 use Prim.Native.Nat.{ℕ, _+_, _-_, _*_, _<_, _≤_}
 use native.Mathlib.Omega.{arith}
-use mathlib.Core.List.{List, [], _∷_, _++_}
+use mathlib.Core.List.{List, [], _++_}
 use mir.Syntax.{w64}
 use mir.Val.{Fits}
 use lib.ListN.{length}
@@ -12,7 +12,7 @@ use Rattle.wire.proofs.Left.{span}
 use Rattle.layout.specs.Parts.{wordsOf}
 use Rattle.b3d_rows_open_items.specs.ItemsLeft.{ItemTable, itemRow, itemRows, Measured}
 use Rattle.b3d_rows_open_items.proofs.ItemsLeftLaws.{items-none, items-one, item-wide, onward, onward-measured}
-use Rattle.b3d_rows_positions.specs.Positions.{itemsLater, itemsAhead, leftOver, ItemPosition, ItemsOn, NoItems, ItemsMoreIs, ItemsMore, ItemFound, Comes}
+use Rattle.b3d_rows_positions.specs.Positions.{itemsLater, itemsAhead, leftOver, ItemPosition, ItemsOn, NoItems, ItemsMoreIs, ItemsMore, ItemFound}
 use Rattle.b3d_rows_positions.specs.declared.Position.{Position}
 use Rattle.b3d_rows_positions.specs.declared.NextPosition.{NextPosition}
 use Rattle.b3d_rows_positions.specs.declared.NextPosition.the-variants as more

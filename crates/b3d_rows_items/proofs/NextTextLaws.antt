@@ -1,19 +1,17 @@
 -- The next text with its words: a law for each need.
-use mathlib.Core.Path.{_≡_, refl, ap, sym, subst, _∙_}
+use mathlib.Core.Path.{_≡_, ap, sym, subst, _∙_}
 use Prim.Native.Nat.{ℕ, _+_, _-_, _*_, _<_, _≤_}
 use native.Mathlib.Omega.{arith}
-use mathlib.Core.List.{List, [], _∷_, _++_, map}
+use mathlib.Core.List.{List, _∷_, _++_, map}
 use lib.ListN.{length, take, replicate, length-append, length-replicate}
 use lib.Seq.{sets, length-take-le}
 use Rattle.wire.specs.Cursors.{Inside, left}
 use Rattle.wire.specs.declared.Cursor.{Cursor}
 use Rattle.wire.proofs.Left.{left-length}
-use Rattle.layout.specs.Out.{got, bad}
 use Rattle.layout.specs.Parts.{Name, wordsOf}
 use Rattle.layout.specs.Rules.{any, NONE}
 use Rattle.layout.proofs.StepLaws.{length-words-of}
 use Rattle.layout.specs.Rows.{nameCells}
-use Rattle.b3d_spec.specs.Tables.{width}
 use Rattle.b3d_chunk_cursor.specs.Chunks.{namedAt, NamedIn}
 use Rattle.b3d_chunk_cursor.specs.declared.Named.{Named}
 use Rattle.b3d_chunk_cursor.specs.declared.Named.the-variants as named
@@ -21,9 +19,8 @@ use Rattle.b3d_chunk_cursor.proofs.Names.{named-cut, named-any, named-among, ro
 use Rattle.b3d_spec_plain_rows.specs.Plain.{nextItem, namedItems}
 use Rattle.b3d_spec_plain_rows.proofs.Items.{items-from}
 use Rattle.b3d_read_materials.specs.Texts.{namedRow}
-use Rattle.b3d_rows_positions.specs.Positions.{Comes}
 use Rattle.b3d_rows_positions.specs.declared.Position.{Position}
-use Rattle.b3d_rows_items.specs.NextText.{textRows, textsAhead, TextsAt, TextPosition, TextNext}
+use Rattle.b3d_rows_items.specs.NextText.{textRows, TextPosition, TextNext}
 
 module _ (k : ℕ) (s : List ℕ) (x : Position) (v : TextPosition k s x) where
   abbrev c : Cursor

@@ -2,7 +2,7 @@
 use mathlib.Core.Path.{_≡_, refl, ap, sym, _∙_}
 use Prim.Native.Nat.{ℕ, _+_, _-_, _<_, _≤_}
 use native.Mathlib.Omega.{arith}
-use mathlib.Core.List.{List, [], map}
+use mathlib.Core.List.{List, []}
 use lib.ListN.{length}
 use Rattle.wire.specs.Test.{if}
 use Rattle.wire.specs.Cursors.{Inside, left}
@@ -11,16 +11,16 @@ use Rattle.wire.proofs.Left.{span, left-nil}
 use Rattle.b3d_spec.specs.declared.Tag.the-variants.{TEXS, BRUS}
 use Rattle.b3d_spec.specs.Tables.{width}
 use Rattle.b3d_spec_plain_rows.specs.Plain.{namedIn, namedItems}
-use Rattle.b3d_spec_plain_rows.specs.Rows.{fileRows, textureRows, brushRows}
+use Rattle.b3d_spec_plain_rows.specs.Rows.{textureRows, brushRows}
 use Rattle.b3d_chunk_walk.specs.Seeks.{FirstWord}
 use Rattle.b3d_chunk_walk.specs.declared.Headed.{Headed}
 use Rattle.b3d_chunk_walk.specs.declared.Sought.{Sought}
 use Rattle.b3d_chunk_walk.specs.declared.Sought.the-variants as sought
 use Rattle.b3d_chunk_walk.proofs.Heads.{word-inside}
-use Rattle.b3d_read_materials.specs.Texts.{namedRow, FirstIs}
+use Rattle.b3d_read_materials.specs.Texts.{FirstIs}
 use Rattle.b3d_read_materials.proofs.Lists.{file-one, file-two, first-none, no-brushes, rows-are, head-is, texts-are, textures-body, brushes-body, brushes-rest}
 use Rattle.b3d_rows_open_items.specs.declared.OpenItems.{OpenItems}
-use Rattle.b3d_rows_items.specs.NextText.{textRows, TextsAt, TextsOpen}
+use Rattle.b3d_rows_items.specs.NextText.{textRows, TextsOpen}
 
 none-rows : (s : List ℕ) (e free : ℕ) → textRows s (record { rest = span e e; words = 7; flags = 0; sets = 0; size = free }) ≡ []
 unfolding textRows namedItems namedIn

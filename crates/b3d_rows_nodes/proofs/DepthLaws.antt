@@ -1,5 +1,5 @@
 -- In an accepted file no node stands in more than 15 others: table 3 can be read with 16 open nodes.
-use mathlib.Core.Path.{_≡_, refl, ap, ap₂, sym, subst, _∙_}
+use mathlib.Core.Path.{_≡_, refl, ap, sym, subst, _∙_}
 use Prim.Native.Nat.{ℕ, zero, suc, _+_, _-_, _<_, _≤_}
 use native.Mathlib.Omega.{arith}
 use mathlib.Core.Bool.{Bool, true, false, not, _&&_}
@@ -8,7 +8,7 @@ use mathlib.Core.List.{List, [], _∷_}
 use lib.ListN.{length}
 use lib.Dec.{T, leb, ltb, leb→le, nleb→lt, lt→ltb}
 use Rattle.wire.specs.Test.{if}
-use Rattle.layout.specs.Chunks.{done, stop, chunk}
+use Rattle.layout.specs.Chunks.{done, chunk}
 use Rattle.layout.specs.Out.{Out, got}
 use Rattle.layout.specs.Parts.{Name, Step, named}
 use Rattle.layout.proofs.Outs.{by-got, bad-got, by-test, if-no}

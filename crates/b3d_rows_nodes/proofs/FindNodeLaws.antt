@@ -1,33 +1,30 @@
 -- The loop of `find_node`: a law for each need.
 use mathlib.Core.Path.{_≡_, refl, ap, sym, subst, _∙_}
-use Prim.Native.Nat.{ℕ, _+_, _-_, _*_, _/_, _<_, _≤_}
+use Prim.Native.Nat.{ℕ, _+_, _-_, _/_, _<_, _≤_}
 use native.Mathlib.Nat.{div-le-self}
 use native.Mathlib.Omega.{arith}
-use mathlib.Core.Bool.{Bool, true, false, not, _&&_}
-use mathlib.Core.List.{List, [], _∷_}
+use mathlib.Core.Bool.{Bool, true, false, not}
+use mathlib.Core.List.{List}
 use mir.Syntax.{w64}
 use mir.Val.{Fits}
 use lib.ListN.{length}
-use lib.Dec.{T, ltb}
+use lib.Dec.{T}
 use Rattle.wire.specs.Test.{if}
 use Rattle.wire.specs.Cursors.{Inside, left}
 use Rattle.wire.specs.declared.Cursor.{Cursor}
-use Rattle.layout.specs.Parts.{named}
 use Rattle.layout.proofs.Outs.{if-yes, if-no}
 use Rattle.b3d_spec.specs.declared.Counts.{Counts}
 use Rattle.b3d_spec.specs.declared.Tag.{Tag}
 use Rattle.b3d_spec.specs.declared.Tag.the-variants.{NODE, MESH, BONE}
-use Rattle.b3d_spec.specs.Rules.{nodeRow}
 use Rattle.b3d_spec.specs.Tags.{is}
 use Rattle.b3d_spec_plain_rows.specs.Flat.{flatAt}
-use Rattle.b3d_spec_plain_rows.specs.Rows.{Open, parentAt, opened, rowOf, nodeRows, counted}
-use Rattle.b3d_chunk_walk.specs.Walks.{NodeRead, ChunkIs, Ends, FlatIs, Steps}
+use Rattle.b3d_spec_plain_rows.specs.Rows.{Open, nodeRows, counted}
+use Rattle.b3d_chunk_walk.specs.Walks.{ChunkIs, Ends, FlatIs, Steps}
 use Rattle.b3d_chunk_walk.specs.declared.Flat.{Flat}
 use Rattle.b3d_chunk_walk.specs.declared.Flat.the-variants as run
 use Rattle.b3d_chunk_walk.proofs.Counting.{tag-same, counted-nodes, counted-meshes, counted-weights}
 use Rattle.b3d_read_node_cells.proofs.Own.{bone-count}
-use Rattle.b3d_rows_nodes.specs.NodeStack.{openAt}
-use Rattle.b3d_rows_nodes.specs.NextNode.{shallow, NodeRowsFound, NodeFound, NoNode, NodeFinds}
+use Rattle.b3d_rows_nodes.specs.NextNode.{shallow, NodeFinds}
 use Rattle.b3d_rows_nodes.specs.declared.FoundNode.the-variants as met
 
 -- the rows from one place on are those from a later one on, but for counts

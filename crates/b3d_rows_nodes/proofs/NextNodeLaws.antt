@@ -1,16 +1,16 @@
 -- The next row of table 3: a law for each need.
 use mathlib.Core.Path.{_≡_, refl, ap, ap₂, sym, subst, _∙_}
-use Prim.Native.Nat.{ℕ, _+_, _-_, _*_, _<_, _≤_}
+use Prim.Native.Nat.{ℕ, _+_, _-_, _<_, _≤_}
 use native.Mathlib.Omega.{arith}
-use mathlib.Core.Bool.{Bool, true, false, not, _&&_}
-use mathlib.Core.List.{List, [], _∷_}
+use mathlib.Core.Bool.{Bool, true, false, _&&_}
+use mathlib.Core.List.{List, _∷_}
 use mir.Syntax.{w64}
 use mir.Val.{Fits}
 use lib.ListN.{length}
 use lib.Seq.{sets}
 use lib.Dec.{T, ltb, ltb→lt}
 use Rattle.wire.specs.Test.{if}
-use Rattle.wire.specs.Cursors.{Inside, left}
+use Rattle.wire.specs.Cursors.{left}
 use Rattle.wire.specs.declared.Cursor.{Cursor}
 use Rattle.wire.proofs.Left.{left-length}
 use Rattle.layout.specs.Parts.{named}
@@ -27,9 +27,8 @@ use Rattle.b3d_rows_nodes.specs.NodeStack.{openAt, stackOf, OpenNodesAt,
 use Rattle.b3d_rows_nodes.specs.declared.OpenNodes.{OpenNodes}
 use Rattle.b3d_rows_nodes.specs.declared.EnteredNode.{EnteredNode}
 use Rattle.b3d_rows_nodes.proofs.NodeStackLaws.{open-parent}
-use Rattle.b3d_rows_positions.specs.Positions.{Comes}
 use Rattle.b3d_rows_positions.specs.declared.Position.{Position}
-use Rattle.b3d_rows_nodes.specs.NextNode.{shallow, Shallow, NodeRowsFound, NodeFound, NoNode, NodeFoundIs, NodeFinds, nodesAhead, NodePosition, NodeNext}
+use Rattle.b3d_rows_nodes.specs.NextNode.{shallow, NodeFound, NoNode, NodeFoundIs, NodeFinds, nodesAhead, NodePosition, NodeNext}
 use Rattle.b3d_rows_nodes.specs.declared.FoundNode.{FoundNode}
 use Rattle.b3d_rows_nodes.specs.declared.FoundNode.the-variants as met
 use Rattle.b3d_rows_nodes.specs.declared.RowCursor.{RowCursor}

@@ -3,17 +3,13 @@ use mathlib.Core.Path.{_≡_, refl, ap, ap₂, sym, subst, _∙_}
 use Prim.Native.Nat.{ℕ, zero, suc, _+_, _-_, _<_, _≤_}
 use native.Mathlib.Numerals.{add-one}
 use native.Mathlib.Omega.{arith}
-use mathlib.Core.Bool.{Bool, not}
 use mathlib.Core.List.{List, [], _∷_}
-use mir.Syntax.{w64}
-use mir.Val.{Fits}
 use lib.ListN.{length, getD, set, length-set}
 use lib.Seq.{getD-set-same, getD-set-other}
-use lib.Dec.{T, leb, le→leb, leb→le, nleb→lt}
+use lib.Dec.{leb, le→leb, leb→le, nleb→lt}
 use borrow.Author.Tests.{lt-leb, le-leb}
 use Rattle.wire.specs.Test.{if}
-use Rattle.layout.specs.Rules.{NONE}
-use Rattle.layout.proofs.Outs.{if-yes, if-no, by-test}
+use Rattle.layout.proofs.Outs.{if-yes, by-test}
 use Rattle.b3d_spec_plain_rows.specs.Rows.{Open, parentAt}
 use Rattle.b3d_rows_nodes.specs.NodeStack.{openAt, stackTo, stackOf, topOf, OpenNodesAt, Closed, Enters}
 use Rattle.b3d_rows_nodes.specs.declared.OpenNodes.{OpenNodes}

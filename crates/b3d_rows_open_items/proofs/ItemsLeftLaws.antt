@@ -1,6 +1,6 @@
 -- Items that are still to come: the first and those behind it, or none; and how wide a row is.
-use mathlib.Core.Path.{_≡_, refl, ap, ap₂, sym, subst, _∙_}
-use Prim.Native.Nat.{ℕ, suc, _+_, _-_, _*_, _/_, _<_, _≤_}
+use mathlib.Core.Path.{_≡_, refl, ap, sym, subst, _∙_}
+use Prim.Native.Nat.{ℕ, _+_, _-_, _*_, _<_, _≤_}
 use native.Mathlib.Nat.{div-eq-of-lt, div-eq-sub-div}
 use native.Mathlib.Numerals.{add-one}
 use native.Mathlib.Omega.{arith}
@@ -11,7 +11,7 @@ use lib.Dec.{T, eqb, eqb→eq}
 use Rattle.wire.specs.Test.{if}
 use Rattle.wire.specs.Cursors.{Inside, left}
 use Rattle.wire.proofs.Left.{span, left-length, left-drop}
-use Rattle.layout.specs.Parts.{wordsOf, itemsOf}
+use Rattle.layout.specs.Parts.{wordsOf}
 use Rattle.layout.proofs.StepLaws.{length-words-of}
 use Rattle.b3d_spec.specs.Mask.{mask, vertexHas, vertexMask, keyHas, keyMask}
 use Rattle.b3d_spec.specs.Tables.{width}

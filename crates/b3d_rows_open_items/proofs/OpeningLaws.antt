@@ -1,17 +1,16 @@
 -- How the items of a chunk are begun, and the row of one: a law for each need.
-use mathlib.Core.Path.{_≡_, refl, ap, sym, subst, _∙_}
-use Prim.Native.Nat.{ℕ, _+_, _-_, _*_, _/_, _%_, _<_, _≤_}
+use mathlib.Core.Path.{_≡_, refl, ap, sym, _∙_}
+use Prim.Native.Nat.{ℕ, _+_, _-_, _*_, _%_, _≤_}
 use native.Mathlib.Omega.{arith}
-use mathlib.Core.Bool.{Bool, true, false}
-use mathlib.Core.List.{List, [], _∷_, _++_, map, append-nil}
-use lib.ListN.{length, drop, length-drop}
+use mathlib.Core.List.{List, [], _∷_, map, append-nil}
+use lib.ListN.{length}
 use lib.Seq.{sets}
 use lib.Dec.{eqb}
-use borrow.Author.Tests.{eq-eqb, ne-eqb}
+use borrow.Author.Tests.{ne-eqb}
 use Rattle.wire.specs.Test.{if}
 use Rattle.wire.specs.Cursors.{Inside, left}
 use Rattle.wire.specs.declared.Cursor.{Cursor}
-use Rattle.wire.proofs.Left.{span, left-length, left-nil}
+use Rattle.wire.proofs.Left.{span, left-nil}
 use Rattle.layout.specs.Parts.{wordsOf, itemsOf}
 use Rattle.layout.specs.Rows.{joined}
 use Rattle.b3d_spec.specs.declared.Tag.the-variants.{VRTS}
@@ -33,7 +32,7 @@ use Rattle.b3d_rule_widths.proofs.Clips.{mask-clipped}
 use Rattle.b3d_read_item_rows.specs.Items.{shapeRows, keyRowsOf}
 use Rattle.b3d_read_mesh_rows.specs.Meshes.{verticesIn}
 use Rattle.b3d_read_mesh_rows.proofs.Shapes.{shape-seek}
-use Rattle.b3d_rows_open_items.specs.ItemsLeft.{itemRow, itemRows, chunkItems, OfVertex, OfKey, Measured, Opens}
+use Rattle.b3d_rows_open_items.specs.ItemsLeft.{itemRow, itemRows, chunkItems, Measured, Opens}
 use Rattle.b3d_rows_open_items.specs.declared.OpenItems.{OpenItems}
 
 -- ---- items that go into their rows as they are

@@ -12,11 +12,9 @@ use Rattle.b3d_spec.specs.declared.Tag.the-variants.{NODE, MESH, KEYS}
 use Rattle.b3d_spec.specs.Tables.{triangleRows}
 use Rattle.b3d_spec.specs.Tags.{Chunks, is}
 use Rattle.b3d_spec_plain_rows.specs.Plain.{plainMesh, plainKeys}
-use Rattle.b3d_spec_plain_rows.specs.Rows.{counted, chunkRows, flatRows, listRow}
+use Rattle.b3d_spec_plain_rows.specs.Rows.{counted, chunkRows, flatRows}
 use Rattle.b3d_chunk_walk.proofs.Table.{Owns}
 use Rattle.b3d_chunk_walk.proofs.Counting.{counted-nodes, counted-meshes, counted-vertices, counted-sets, counted-triangles, counted-keys}
-use Rattle.b3d_read_mesh_rows.specs.Meshes.{meshCells}
-use Rattle.b3d_read_triangle_rows.specs.Sets.{setsIn}
 use Rattle.b3d_read_meshes.proofs.Tables.{meshes, sets}
 use Rattle.b3d_read_animation.proofs.Tables.{lists}
 

@@ -3,12 +3,12 @@ use mathlib.Core.Path.{_≡_, refl, ap, sym, subst, _∙_}
 use Prim.Native.Nat.{ℕ, _+_, _-_, _*_, _<_, _≤_}
 use native.Mathlib.Omega.{arith}
 use mathlib.Core.Bool.{Bool, true, false, not}
-use mathlib.Core.List.{List, [], _++_}
+use mathlib.Core.List.{List, _++_}
 use mir.Syntax.{w64}
 use mir.Val.{Fits}
 use lib.ListN.{length}
 use lib.Dec.{T}
-use Rattle.wire.specs.Cursors.{Inside, left}
+use Rattle.wire.specs.Cursors.{left}
 use Rattle.wire.specs.declared.Cursor.{Cursor}
 use Rattle.layout.proofs.Outs.{if-yes, if-no}
 use Rattle.b3d_spec.specs.declared.Counts.{Counts}
@@ -21,7 +21,7 @@ use Rattle.b3d_chunk_walk.specs.Walks.{ChunkIs, Ends, FlatIs, Steps}
 use Rattle.b3d_chunk_walk.specs.declared.Flat.{Flat}
 use Rattle.b3d_chunk_walk.specs.declared.Flat.the-variants as run
 use Rattle.b3d_chunk_walk.proofs.Counting.{tag-same, counted-nodes, counted-meshes, counted-vertices, counted-sets, counted-triangles, counted-keys}
-use Rattle.b3d_rows_positions.specs.FindChunk.{Only, Later, RowsFound, ChunkFound, NoChunk, ChunkFoundIs, ChunkFinds}
+use Rattle.b3d_rows_positions.specs.FindChunk.{Only, Later, ChunkFound, NoChunk, ChunkFoundIs, ChunkFinds}
 use Rattle.b3d_rows_positions.specs.declared.FoundChunk.{FoundChunk}
 use Rattle.b3d_rows_positions.specs.declared.FoundChunk.the-variants as met
 

@@ -2,8 +2,8 @@
 use mathlib.Core.Path.{_≡_, refl, ap, ap₂, sym, subst, _∙_}
 use Prim.Native.Nat.{ℕ, _+_, _-_, _*_, _<_, _≤_}
 use native.Mathlib.Omega.{arith}
-use mathlib.Core.Bool.{Bool, true, false, not}
-use mathlib.Core.List.{List, [], _∷_, _++_, append-assoc}
+use mathlib.Core.Bool.{not}
+use mathlib.Core.List.{List, [], _++_, append-assoc}
 use mir.Syntax.{w64}
 use mir.Val.{Fits}
 use lib.ListN.{length}
@@ -20,7 +20,7 @@ use Rattle.b3d_spec.specs.declared.Tag.the-variants.{NODE, MESH, TRIS, BONE, KE
 use Rattle.b3d_spec.specs.Tables.{start, triangleRows}
 use Rattle.b3d_spec.specs.Tags.{Chunks, code, is}
 use Rattle.b3d_spec_plain_rows.specs.Flat.{flatAt}
-use Rattle.b3d_spec_plain_rows.specs.Plain.{plainTriangles, plainWeights, setsOf}
+use Rattle.b3d_spec_plain_rows.specs.Plain.{plainWeights, setsOf}
 use Rattle.b3d_spec_plain_rows.specs.Rows.{counted, chunkRows, flatRows}
 use Rattle.b3d_chunk_walk.specs.Walks.{BodyAt}
 use Rattle.b3d_chunk_walk.specs.Seeks.{ahead, inner, Seeks, FirstWord}
@@ -30,17 +30,17 @@ use Rattle.b3d_chunk_walk.specs.declared.Sought.the-variants as sought
 use Rattle.b3d_chunk_walk.proofs.Table.{Owns}
 use Rattle.b3d_chunk_walk.proofs.Seeking.{sought-among, sought-body, sought-next, sought-less}
 use Rattle.b3d_chunk_walk.proofs.Meshes.{mesh-inside, mesh-inner, no-set, one-set}
-use Rattle.b3d_rows_positions.specs.FindChunk.{Only, Later, RowsFound, ChunkFound, NoChunk, ChunkFinds}
+use Rattle.b3d_rows_positions.specs.FindChunk.{Only, RowsFound, ChunkFound, ChunkFinds}
 use Rattle.b3d_rows_positions.specs.declared.FoundChunk.{FoundChunk}
 use Rattle.b3d_rows_positions.specs.declared.FoundChunk.the-variants as met
 use Rattle.b3d_rows_positions.proofs.FindChunkLaws.{chunk-none, chunk-at}
 use Rattle.b3d_read_triangle_rows.specs.Sets.{trianglesIn}
 use Rattle.b3d_read_meshes.proofs.Tables.{vertices, triangles}
 use Rattle.b3d_read_animation.proofs.Tables.{bones, keys}
-use Rattle.b3d_rows_open_items.specs.ItemsLeft.{ItemTable, itemRows, chunkItems, Measured, Opens}
+use Rattle.b3d_rows_open_items.specs.ItemsLeft.{ItemTable, itemRows, chunkItems, Opens}
 use Rattle.b3d_rows_open_items.specs.declared.OpenItems.{OpenItems}
 use Rattle.b3d_rows_open_items.proofs.ItemsLeftLaws.{by-table}
-use Rattle.b3d_rows_positions.specs.Positions.{innerRows, itemsLater, itemsAhead, leftOver, MeshPosition, MeshOpened, MeshMore, MeshOpens, ownerOf, ItemPosition, ItemsOn, NoItems, ItemsMoreIs, ItemsMore}
+use Rattle.b3d_rows_positions.specs.Positions.{innerRows, itemsLater, itemsAhead, MeshPosition, MeshOpens, ownerOf, ItemPosition, ItemsMore}
 use Rattle.b3d_rows_positions.specs.declared.Position.{Position}
 use Rattle.b3d_rows_positions.specs.declared.NextPosition.{NextPosition}
 use Rattle.b3d_rows_positions.specs.declared.NextPosition.the-variants as more

@@ -1,6 +1,6 @@
 -- The next chunk of a tag in the flat run of a file's chunks: what the tables that have rows of such chunks alone have from a place on.
 use mathlib.Core.Path.{_≡_}
-use Prim.Native.Nat.{ℕ, _+_, _<_, _≤_}
+use Prim.Native.Nat.{ℕ, _+_, _≤_}
 use mathlib.Core.Bool.{not}
 use mathlib.Core.List.{List, [], _++_}
 use lib.ListN.{length}

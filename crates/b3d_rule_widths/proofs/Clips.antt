@@ -3,7 +3,6 @@ use mathlib.Core.Path.{_≡_, refl}
 use Prim.Native.Nat.{ℕ, zero, suc, _+_, _-_, _*_, _/_, _%_, _<_, _≤_}
 use native.Mathlib.Omega.{arith}
 use mathlib.Core.Bool.{Bool, true, false}
-use mathlib.Core.List.{[]}
 use lib.Dec.{T, ltb, ltb→lt, lt→ltb, leb, leb→le, nleb→lt}
 use Rattle.layout.proofs.Outs.{by-test}
 use Rattle.b3d_spec.specs.Mask.{vertexHas, vertexMask}

@@ -2,14 +2,13 @@
 use mathlib.Core.Path.{_≡_, refl}
 use Prim.Native.Nat.{ℕ}
 use mathlib.Core.List.{List, [], _∷_, _++_, map}
-use lib.ListN.{length, replicate, getD}
-use Rattle.layout.specs.Out.{Out, got, bad}
+use lib.ListN.{replicate, getD}
+use Rattle.layout.specs.Out.{got, bad}
 use Rattle.layout.specs.Rules.{NONE}
 use Rattle.b3d_spec.specs.Answers.{readAnswer, shortest, write}
 use Rattle.b3d_spec.specs.Colours.{coloured, passes}
 use Rattle.b3d_spec.specs.Fit.{fits}
 use Rattle.b3d_spec.specs.Rebuild.{Lent, cut, lentRows, roomy, nameFrom, textureFrom, brushFrom, walk, tree, together, same, sameRows, nodeNames, names, stands, sound, rebuild}
-use Rattle.b3d_spec.specs.declared.Answer.{Answer}
 use Rattle.b3d_spec.specs.declared.Mode.{Mode}
 use Rattle.b3d_spec.specs.declared.Mode.the-variants.{Strict, Lenient}
 use Rattle.b3d_spec.specs.declared.Tag.the-variants.{BRUS, MESH, VRTS, TRIS}

@@ -8,7 +8,6 @@ use Rattle.b3d_spec.specs.declared.Mode.the-variants.{Strict}
 use Rattle.b3d_spec.specs.declared.Tag.the-variants.{KEYS}
 use Rattle.b3d_spec.specs.Tags.{code}
 use Rattle.b3d_spec.specs.Answers.{readAnswer}
-use Rattle.b3d_spec.specs.declared.Answer.{Answer}
 use Rattle.b3d_spec.proofs.Computing.{computing}
 use Rattle.b3d_spec.proofs.Cases.{file, aNode}
 

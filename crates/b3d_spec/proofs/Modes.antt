@@ -1,11 +1,10 @@
 -- The two modes: what each reads and writes, by the lenient one and the colours in the tables.
-use mathlib.Core.Logic.{_⊎_, inl, inr}
+use mathlib.Core.Logic.{_⊎_}
 use mathlib.Core.Path.{_≡_, refl, ap, ap₂, sym, _∙_, subst}
 use Prim.Native.Nat.{ℕ}
 use mathlib.Core.Bool.{Bool, true, false, not, _&&_}
-use mathlib.Core.Option.{Option, none, some}
+use mathlib.Core.Option.{none, some}
 use mathlib.Core.List.{List, [], _∷_, map}
-use lib.ListN.{drop}
 use lib.Dec.{T}
 use Rattle.wire.specs.Bytes.{wordAt}
 use Rattle.wire.specs.Test.{if}

@@ -1,10 +1,9 @@
 -- The rules of the format, each said once: ranges, ids, how many words an item has, which vertices a bone may name, limits.
 use Prim.Native.Nat.{ℕ, _+_, _*_, _/_, _%_}
-use mathlib.Core.Bool.{Bool, true, false, _&&_}
+use mathlib.Core.Bool.{Bool, true, false}
 use mathlib.Core.Option.{Option, none, some}
 use mathlib.Core.List.{List, [], _∷_, _++_}
 use lib.ListN.{length, replicate}
-use lib.Dec.{leb}
 use Rattle.layout.specs.Rules.{Rule, any, upTo, names, namesOrNone, unit}
 use Rattle.b3d_spec.specs.declared.Mode.{Mode}
 use Rattle.b3d_spec.specs.declared.Mode.the-variants.{Strict, Lenient}

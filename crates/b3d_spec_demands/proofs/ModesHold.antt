@@ -1,21 +1,15 @@
 -- What is said of the two modes holds.
 use mathlib.Core.Logic.{_⊎_, inl, inr}
-use mathlib.Core.Path.{_≡_, refl, sym, _∙_}
+use mathlib.Core.Path.{_≡_, refl, _∙_}
 use Prim.Native.Nat.{ℕ}
 use mathlib.Core.Bool.{false}
 use mathlib.Core.List.{List}
-use lib.ListN.{length}
-use lib.Dec.{leb}
 use Rattle.wire.specs.Bytes.{wordAt}
-use Rattle.layout.specs.Out.{Out, got, bad, _>>=_}
+use Rattle.layout.specs.Out.{Out, got, bad}
 use Rattle.layout.specs.Rules.{unit, holds}
-use Rattle.layout.proofs.Outs.{by-got}
-use Rattle.layout.specs.Rows.{eachOf}
 use Rattle.b3d_spec.specs.Answers.{judge}
 use Rattle.b3d_spec.specs.Parse.{parse}
-use Rattle.b3d_spec.specs.Rules.{rowLimit}
 use Rattle.b3d_spec.specs.Scene.{Scene}
-use Rattle.b3d_spec.specs.Tables.{rows, tables}
 use Rattle.b3d_spec.specs.declared.Mode.the-variants.{Strict, Lenient}
 use Rattle.b3d_spec.proofs.AnswerLaws.{judge-got, judge-yes}
 use Rattle.b3d_spec.proofs.Laws.{strict, lenient, bad-colour, no-colour}

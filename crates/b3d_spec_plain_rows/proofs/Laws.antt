@@ -4,7 +4,7 @@ use Prim.Native.Nat.{ℕ, _+_, _≤_}
 use native.Mathlib.Omega.{arith}
 use mathlib.Core.Bool.{not}
 use mathlib.Core.Option.{none}
-use mathlib.Core.List.{List, [], _∷_, _++_, append-assoc}
+use mathlib.Core.List.{List, [], _++_, append-assoc}
 use lib.ListN.{length, drop, drop-of-length-le}
 use lib.Dec.{T}
 use Rattle.wire.specs.Test.{if}
@@ -27,10 +27,10 @@ use Rattle.b3d_spec_plain_rows.specs.Flat.{rest, flatAt, flat}
 use Rattle.b3d_spec_plain_rows.specs.Rows.{Open, parentAt, kindOf, animOf, nodeRows, flatRows, fileRows}
 use Rattle.b3d_spec_plain_rows.proofs.Files.{Says, Has, file-flat}
 use Rattle.b3d_spec_plain_rows.proofs.Nodes.{past, node-flat}
-use Rattle.b3d_spec_plain_rows.proofs.Trees.{Clean, done-clean, Went, node-flat as tree-flat}
+use Rattle.b3d_spec_plain_rows.proofs.Trees.{Clean, done-clean, node-flat as tree-flat}
 use Rattle.layout.proofs.Lists.{All}
 use Rattle.b3d_spec.proofs.Rows.Numbers.{ten-tables, table-each}
-use Rattle.b3d_spec_plain_rows.proofs.Run.{Here, run-same, run-done, run-past}
+use Rattle.b3d_spec_plain_rows.proofs.Run.{Here, run-done, run-past}
 
 -- nothing stands at the end of a file
 pub end-done : (s : List ℕ) (at : ℕ) → rest s at ≡ rest s (length s) → flatAt s at ≡ done

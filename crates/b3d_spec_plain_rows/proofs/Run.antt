@@ -20,7 +20,7 @@ use Rattle.b3d_spec.specs.declared.Tag.the-variants.{NODE}
 use Rattle.b3d_spec.specs.Rules.{nodeRow}
 use Rattle.b3d_spec.specs.Tags.{Chunks, split, tagOf, is}
 use Rattle.b3d_spec_plain_rows.specs.Flat.{rest, enter, flatIn, flatAt}
-use Rattle.b3d_spec_plain_rows.proofs.Ahead.{Ahead, named-ahead}
+use Rattle.b3d_spec_plain_rows.proofs.Ahead.{named-ahead}
 
 -- from place `at` of the file the first known chunk is this one, at p
 pub record Here (s : List ℕ) (at : ℕ) (t : Tag) (p : ℕ) (b : List ℕ) : Type 0 where

@@ -3,8 +3,6 @@ use mathlib.Core.Path.{_≡_, refl, ap, sym, _∙_, subst}
 use Prim.Native.Nat.{ℕ, _+_, _-_, _/_, _<_, _≤_}
 use native.Mathlib.Omega.{arith}
 use mathlib.Core.List.{List, [], _∷_, _++_, append-assoc}
-use mir.Syntax.{w64}
-use mir.Val.{Fits}
 use lib.ListN.{length, take, drop}
 use Rattle.wire.specs.Bytes.{bytes}
 use Rattle.shared_output.specs.Writing.{Wrote, Room, Put, head, chunk}
@@ -12,8 +10,8 @@ use Rattle.shared_output.proofs.Appends.{chunks-append}
 use Rattle.shared_output.proofs.Joining.{Both, Begins, both-begins, chunk-fits, two-room, two-inside, two-room-2, two-long, two-small, two-done}
 use Rattle.b3d_spec.specs.declared.Tag.the-variants.{BB3D}
 use Rattle.b3d_spec.specs.Encode.{nodeChunks, textureChunks, brushChunks, writeScene, encode}
-use Rattle.b3d_spec.specs.Rebuild.{Rows, textureFrom, brushFrom}
-use Rattle.b3d_spec.specs.Scene.{Texture, Brush, Forest, Scene}
+use Rattle.b3d_spec.specs.Rebuild.{Rows}
+use Rattle.b3d_spec.specs.Scene.{Texture, Brush, Scene}
 use Rattle.b3d_spec.specs.Tags.{Chunk, writeChunks, code}
 use Rattle.b3d_write_row_runs.specs.Lent.{rowsIn}
 use Rattle.b3d_write_materials.specs.Lists.{texturesBytes, brushesBytes}

@@ -6,7 +6,7 @@ ghost use Rattle.b3d_write_file.specs.Whole.{OfNodes, OfScene, listsByte
 ghost use Rattle.shared_output.specs.Writing.{Room, Put};
 ghost use Rattle.b3d_write_row_runs.specs.Lent.{rowsIn};
 ghost use Rattle.b3d_write_materials.specs.Named.{NamesThere};
-ghost use Prim.Native.Nat.{ℕ, _≤_};
+ghost use Prim.Native.Nat.{_≤_};
 use b3d_spec::Counts;
 use b3d_spec::START;
 use b3d_spec::letters;

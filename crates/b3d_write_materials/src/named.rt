@@ -1,6 +1,6 @@
 // Rows that begin with a name: its place and its length in the bytes that hold the names.
 use b3d_write_items::number;
-ghost use Prim.Native.Nat.{_+_, _*_, _/_, _<_, _≤_};
+ghost use Prim.Native.Nat.{_+_, _*_, _<_, _≤_};
 ghost use lib.ListN.{length};
 ghost use Rattle.shared_output.specs.Writing.{Room, Put};
 ghost use Rattle.b3d_spec.specs.Rebuild.{cut};

@@ -7,7 +7,7 @@ use Rattle.shared_output.proofs.Appends.{chunks-cons}
 use Rattle.shared_output.proofs.Joining.{chunk-is}
 use Rattle.b3d_spec.specs.declared.Tag.the-variants.{NODE}
 use Rattle.b3d_spec.specs.Encode.{writeNode, nodeChunks}
-use Rattle.b3d_spec.specs.Scene.{Data, Forest, leaf, node}
+use Rattle.b3d_spec.specs.Scene.{Data, Forest, node}
 use Rattle.b3d_spec.specs.Tags.{code}
 use Rattle.b3d_write_node.proofs.PartLaws.{node-append}
 use Rattle.b3d_write_nodes.specs.Walk.{nodesBytes, bodyBytes, nodeBytes}

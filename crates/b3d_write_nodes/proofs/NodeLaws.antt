@@ -28,7 +28,7 @@ use Rattle.b3d_write_node.specs.Own.{tableRows, ownBytes, OwnThere}
 use Rattle.b3d_write_nodes.specs.Walk.{nodesBytes, bodyBytes, nodeBytes, Sized, Stand, Placed, Writable, Writes, WritableFirst, WritesFirst}
 use Rattle.b3d_write_nodes.proofs.NodeBytes.{body-both, node-chunk}
 use Rattle.b3d_write_nodes.proofs.Standing.{later, placed-levels, placed-below, placed-fits, placed-name, placed-there}
-use Rattle.b3d_write_nodes.proofs.TableLaws.{first-of, limited, below-all, row-at, counts-same, own-there}
+use Rattle.b3d_write_nodes.proofs.TableLaws.{first-of, limited, below-all, counts-same, own-there}
 
 -- sizes of four bytes can be added
 pub sum-fits : (o size : ℕ) → o < 4294967296 → size < 4294967296 → Fits w64 (o + size)

@@ -1,23 +1,19 @@
 -- The loop of `put_nodes`: a law for each way.
 use mathlib.Core.Path.{_≡_, refl, ap, sym, _∙_, subst}
 use mathlib.Core.Logic.{_≢_, _⊎_, inl, inr}
-use Prim.Native.Nat.{ℕ, suc, _+_, _-_, _*_, _<_, _≤_}
+use Prim.Native.Nat.{ℕ, _+_, _-_, _*_, _<_, _≤_}
 use native.Mathlib.Omega.{arith}
 use mathlib.Core.Option.{Option}
-use mathlib.Core.List.{List, [], _∷_, _++_, append-nil}
-use mir.Syntax.{w64}
-use mir.Val.{Fits}
+use mathlib.Core.List.{List, [], _++_}
 use lib.ListN.{length, take, drop, getD, length-drop}
-use Rattle.wire.specs.Test.{if}
 use Rattle.layout.specs.Rules.{NONE}
-use Rattle.shared_output.specs.Writing.{Room, Put}
+use Rattle.shared_output.specs.Writing.{Room}
 use Rattle.shared_output.proofs.Pieces.{Pieces, pieces-none, piece-room, piece-next, pieces-done}
 use Rattle.b3d_spec.specs.declared.Counts.{Counts}
 use Rattle.b3d_spec.specs.Encode.{nodeChunks}
 use Rattle.b3d_spec.specs.Rebuild.{Rows, cut}
 use Rattle.b3d_spec.specs.Scene.{Data, Forest, leaf, node}
-use Rattle.b3d_spec.specs.Tables.{reached, withNode, withForest, nodeTables, nodeWidth}
-use Rattle.b3d_spec.specs.Tags.{writeChunks}
+use Rattle.b3d_spec.specs.Tables.{withNode, withForest, nodeWidth}
 use Rattle.layout.specs.Write.{writeChunks as writeChunksOf}
 use Rattle.b3d_spec.proofs.Rows.Nodes.{nodes-step}
 use Rattle.b3d_spec.proofs.Rows.Trees.{nodes-rise}
@@ -26,7 +22,7 @@ use Rattle.b3d_check_spec.proofs.Below.{here-more, here-end}
 use Rattle.b3d_check_spec.proofs.Places.{cut-cell}
 use Rattle.b3d_check_node_counts.specs.Parts.{Below}
 use Rattle.b3d_write_node.specs.Own.{tableRows}
-use Rattle.b3d_write_nodes.specs.Walk.{nodesBytes, nodeBytes, Sized, There, Stand, First, Placed, Writable, Writes, WritableFirst, WritesFirst}
+use Rattle.b3d_write_nodes.specs.Walk.{nodesBytes, nodeBytes, Sized, Stand, First, Placed, Writable, Writes, WritableFirst, WritesFirst}
 use Rattle.b3d_write_nodes.proofs.NodeBytes.{nodes-both}
 use Rattle.b3d_write_nodes.proofs.Standing.{stand-first, stand-others, first-placed, placed-there}
 use Rattle.b3d_write_nodes.proofs.TableLaws.{first-of, below-all, rows-3}

@@ -1,21 +1,19 @@
 -- Nodes that stand in tables: the first of them, those below it, those after it, and that no count passes the rows that are there.
-use mathlib.Core.Path.{_≡_, refl, ap, sym, _∙_, subst}
-use mathlib.Core.Logic.{_⊎_, inl, inr}
-use Prim.Native.Nat.{ℕ, zero, suc, _+_, _-_, _*_, _<_, _≤_}
+use mathlib.Core.Path.{_≡_, ap, _∙_, subst}
+use Prim.Native.Nat.{ℕ, zero, suc, _+_, _-_, _≤_}
 use native.Mathlib.Omega.{arith}
-use mathlib.Core.Option.{Option, none}
-use mathlib.Core.List.{List, [], _∷_, _++_}
-use lib.ListN.{length, drop, getD, length-append, length-drop}
-use Rattle.wire.specs.Test.{if}
+use mathlib.Core.Option.{Option}
+use mathlib.Core.List.{List, [], _++_}
+use lib.ListN.{length, drop, length-append, length-drop}
 use Rattle.layout.specs.Parts.{Name}
-use Rattle.layout.proofs.Lists.{All, all-map, all-zip}
+use Rattle.layout.proofs.Lists.{All, all-zip}
 use Rattle.b3d_spec.specs.declared.Counts.{Counts}
 use Rattle.b3d_spec.specs.Rebuild.{Rows, nodeNames}
 use Rattle.b3d_spec.specs.Rules.{bonesBelow, boneVertices}
 use Rattle.b3d_spec.specs.Scene.{Data, Forest, leaf, node}
-use Rattle.b3d_spec.specs.Tables.{reached, nodeRow, ownRows, withNode, withForest, forestRows, nodeTables, nodesIn}
+use Rattle.b3d_spec.specs.Tables.{reached, ownRows, withNode, withForest, forestRows, nodeTables, nodesIn}
 use Rattle.b3d_spec.proofs.Fitting.{FitData, FitNodes}
-use Rattle.b3d_spec.proofs.Rows.Nodes.{From, Step, steps, nodes-step}
+use Rattle.b3d_spec.proofs.Rows.Nodes.{From, steps, nodes-step}
 use Rattle.b3d_spec.proofs.Rows.RebuildLaws.{names-rest}
 use Rattle.b3d_spec.proofs.Rows.RowParts.{Stands}
 use Rattle.b3d_spec.proofs.Rows.Trees.{nodes-rise, from-after}

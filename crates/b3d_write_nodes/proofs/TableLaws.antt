@@ -1,15 +1,14 @@
 -- Tables of just the rows that are counted: their rows, the row of a node, and that what a node names is there.
-use mathlib.Core.Path.{_≡_, refl, ap, ap₂, sym, _∙_, subst}
+use mathlib.Core.Path.{_≡_, ap, sym, _∙_, subst}
 use Prim.Native.Nat.{ℕ, zero, suc, _+_, _-_, _*_, _/_, _<_, _≤_}
 use native.Mathlib.Nat.{mul-div-cancel, mul-comm}
 use native.Mathlib.Omega.{arith}
-use mathlib.Core.List.{List, [], _∷_}
+use mathlib.Core.List.{List, []}
 use lib.ListN.{length, take, drop, getD}
 use lib.Seq.{getD-take, getD-drop, drop-drop}
 use lib.Dec.{eqb}
-use borrow.Author.Tests.{eq-eqb, ne-eqb}
+use borrow.Author.Tests.{eq-eqb}
 use Rattle.wire.specs.Test.{if}
-use Rattle.layout.proofs.Lists.{All}
 use Rattle.b3d_spec.specs.declared.Counts.{Counts}
 use Rattle.b3d_spec.specs.Rebuild.{Rows, cut, mine}
 use Rattle.b3d_spec.specs.Tables.{reached, nodeTables, nodeWidth}
@@ -20,7 +19,6 @@ use Rattle.b3d_check_rows.specs.Rows.{rowAt}
 use Rattle.b3d_check_spec.specs.Rooms.{Limited}
 use Rattle.b3d_check_node_counts.specs.Parts.{partRows, Below}
 use Rattle.b3d_write_row_runs.specs.Lent.{rowsIn}
-use Rattle.b3d_write_materials.specs.Named.{NameThere}
 use Rattle.b3d_write_mesh.specs.Mesh.{MeshThere}
 use Rattle.b3d_write_animation.specs.Moves.{MovesThere}
 use Rattle.b3d_write_node.specs.Own.{tableRows, KindThere, OwnThere}

@@ -1,5 +1,4 @@
 // The NODE chunks of lent tables, written into an output: a node's own part, those below it, those after it.
-ghost use mathlib.Core.Path.{_≡_};
 ghost use Rattle.b3d_write_node.specs.Own.{tableRows};
 ghost use Rattle.b3d_write_nodes.specs.Walk.{Sized, Writable, Writes, WritableFirst, WritesFirst};
 use b3d_spec::Counts;

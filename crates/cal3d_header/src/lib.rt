@@ -1,6 +1,6 @@
 // The header of a cal3d file, skeleton or mesh: its size, its magic, its version and the number of its entries.
 ghost use mathlib.Core.Path.{_≡_};
-ghost use Prim.Native.Nat.{ℕ, _≤_};
+ghost use Prim.Native.Nat.{_≤_};
 ghost use Rattle.cal3d_header.specs.Heads.{readHead, openedOf};
 
 // The number of entries that the header says, or a refusal and its place.

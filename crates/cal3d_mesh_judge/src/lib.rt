@@ -1,6 +1,5 @@
 // The judge of mesh files: 02's answer to every file, without any table.
 ghost use mathlib.Core.Path.{_≡_};
-ghost use Prim.Native.Nat.{ℕ};
 ghost use Rattle.layout.specs.Out.{bad};
 ghost use Rattle.cal3d_spec.specs.Rules.{namedBones};
 ghost use Rattle.cal3d_spec.specs.Answers.{judgeMesh, meshAnswer};

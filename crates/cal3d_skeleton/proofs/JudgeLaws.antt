@@ -1,18 +1,16 @@
 -- A skeleton file with 16: what each way through `judge` says of it.
-use Prim.Native.Nat.{ℕ, _<_, _≤_}
+use Prim.Native.Nat.{ℕ, _≤_}
 use native.Mathlib.Omega.{arith}
 use mathlib.Core.Path.{_≡_, refl, ap, sym, _∙_}
 use mathlib.Core.List.{List, [], _∷_}
 use lib.ListN.{length, getD}
 use Rattle.wire.specs.Test.{if}
-use Rattle.wire.specs.Cursors.{Inside, left}
-use Rattle.wire.specs.declared.Cursor.{Cursor}
 use Rattle.wire.proofs.Left.{span}
 use Rattle.layout.specs.Out.{Out, got, bad, _>>=_}
 use Rattle.layout.proofs.Outs.{by-got, got-inj}
-use Rattle.cal3d_spec.specs.Skeletons.{Bone, Skeleton}
+use Rattle.cal3d_spec.specs.Skeletons.{Skeleton}
 use Rattle.cal3d_spec.specs.Trees.{trees}
-use Rattle.cal3d_spec.specs.Tables.{boneRows, childRows, skeletonRows}
+use Rattle.cal3d_spec.specs.Tables.{skeletonRows}
 use Rattle.cal3d_spec.specs.Answers.{limitedSkeleton, judgeSkeleton, skeletonAnswer}
 use Rattle.cal3d_spec.specs.declared.SkeletonAnswer.{SkeletonAnswer}
 use Rattle.cal3d_skeleton_bones.specs.Bones.{bonesIn, childrenIn}

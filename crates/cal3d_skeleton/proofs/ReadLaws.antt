@@ -1,9 +1,9 @@
 -- The tables of a skeleton file: what each way through `read_skeleton` says of them.
-use Prim.Native.Nat.{ℕ, _+_, _*_, _/_, _<_, _≤_}
+use Prim.Native.Nat.{ℕ, _*_, _/_, _<_, _≤_}
 use native.Mathlib.Omega.{arith}
 use mathlib.Core.Bool.{Bool, true, false}
 use mathlib.Core.Path.{_≡_, refl, ap, sym, _∙_}
-use mathlib.Core.List.{List, [], _∷_}
+use mathlib.Core.List.{List}
 use lib.ListN.{length, getD}
 use lib.Dec.{leb}
 use borrow.Author.Tests.{le-leb, lt-leb}
@@ -15,7 +15,7 @@ use Rattle.cal3d_spec.specs.Skeletons.{Bone, Skeleton}
 use Rattle.cal3d_spec.specs.Tables.{boneRows, childRows, skeletonWidth, skeletonRows}
 use Rattle.cal3d_spec.specs.Answers.{judgeSkeleton, readSkeleton, skeletonRoom, skeletonAnswer, skeletonTable}
 use Rattle.cal3d_spec.specs.declared.SkeletonAnswer.{SkeletonAnswer}
-use Rattle.cal3d_skeleton_bones.specs.Bones.{bonesIn, childrenIn}
+use Rattle.cal3d_skeleton_bones.specs.Bones.{childrenIn}
 use Rattle.cal3d_skeleton_limits.specs.Verdicts.{verdictOf}
 use Rattle.cal3d_skeleton_limits.specs.declared.Summary.{Summary}
 use Rattle.cal3d_skeleton_limits.specs.declared.Verdict.{Verdict}

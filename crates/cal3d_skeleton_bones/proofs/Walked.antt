@@ -1,19 +1,18 @@
 -- A walk over bones that are known to be good, bone by bone: those that are done, and the others.
-use Prim.Native.Nat.{ℕ, suc, _+_, _-_, _*_, _<_, _≤_}
+use Prim.Native.Nat.{ℕ, suc, _+_, _-_, _<_, _≤_}
 use native.Mathlib.Omega.{arith}
 use mathlib.Core.Path.{_≡_, refl, ap, sym, _∙_}
-use mathlib.Core.List.{List, [], _∷_, _++_, append-assoc, append-nil}
+use mathlib.Core.List.{List, [], _∷_, _++_, append-assoc}
 use lib.ListN.{length, length-append}
 use Rattle.wire.specs.Cursors.{Inside, left}
 use Rattle.wire.specs.declared.Cursor.{Cursor}
-use Rattle.layout.specs.Out.{Out, got}
+use Rattle.layout.specs.Out.{got}
 use Rattle.layout.specs.Parts.{Step}
 use Rattle.layout.specs.Counted.{before, times}
 use Rattle.layout.proofs.Outs.{got-inj}
 use Rattle.layout.proofs.CountLaws.{times-none, times-got}
 use Rattle.cal3d_spec.specs.Skeletons.{Bone, readBone}
-use Rattle.cal3d_skeleton_bones.specs.Bones.{LaidAt, NoBone, Lays, Whole, bonesIn}
-use Rattle.cal3d_skeleton_bones.specs.declared.Laid.{Laid}
+use Rattle.cal3d_skeleton_bones.specs.Bones.{LaidAt, NoBone, Whole, bonesIn}
 use Rattle.cal3d_skeleton_bones.specs.declared.Laid.the-variants as laid
 
 -- i of so many bones are passed, up to c: those are `done`, `rest` are the others

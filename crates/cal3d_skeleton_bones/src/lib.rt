@@ -1,6 +1,5 @@
 // The bones of a skeleton file by cursor: judged one after the other, or the parts of one bone for a walk that knows that they are good.
-ghost use mathlib.Core.Path.{_≡_};
-ghost use Prim.Native.Nat.{ℕ, _*_, _≤_};
+ghost use Prim.Native.Nat.{_*_};
 ghost use lib.ListN.{length};
 ghost use Rattle.wire.specs.Cursors.{Inside, left};
 ghost use Rattle.layout.specs.Counted.{times};

@@ -1,6 +1,4 @@
 -- What a skeleton file comes to, as code holds it.
-use Prim.Native.Nat.{ℕ}
-use mathlib.Core.List.{List}
 use lib.ListN.{getD}
 use Rattle.layout.specs.Out.{Out, got, bad}
 use Rattle.cal3d_spec.specs.Skeletons.{Skeleton}

@@ -1,13 +1,12 @@
 -- Up the parents of a bone: what each turn of `climbs` and of `mark` says.
-use Prim.Native.Nat.{ℕ, zero, suc, _+_, _-_, _<_, _≤_}
+use Prim.Native.Nat.{ℕ, zero, suc, _-_, _<_, _≤_}
 use native.Mathlib.Omega.{arith}
-use mathlib.Core.Bool.{Bool, true, false, not}
-use mathlib.Core.Logic.{_⊎_, inl, inr}
+use mathlib.Core.Bool.{true, false}
+use mathlib.Core.Logic.{inl, inr}
 use mathlib.Core.Path.{_≡_, refl, ap, sym, _∙_}
 use mathlib.Core.List.{List}
 use lib.ListN.{length, getD, set, take, replicate, length-set}
 use lib.Seq.{getD-set-other, length-take-le, getD-take}
-use borrow.Author.Tests.{not-false}
 use Rattle.layout.specs.Rules.{NONE}
 use Rattle.cal3d_spec.specs.Trees.{ends}
 use Rattle.cal3d_skeleton_tree_check.specs.Scores.{Named, Kept, Marked, Zeros}

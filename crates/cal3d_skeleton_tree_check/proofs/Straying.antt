@@ -1,16 +1,15 @@
 -- The lowest bone that does not stand right: what each turn of `first_stray` says; and what `note` adds.
 use Prim.Native.Nat.{ℕ, zero, suc, _+_, _-_, _<_, _≤_}
 use native.Mathlib.Omega.{arith}
-use mathlib.Core.Bool.{Bool, true, false, not, _&&_}
+use mathlib.Core.Bool.{Bool, true, false, not}
 use mathlib.Core.Path.{_≡_, refl, ap, sym, _∙_}
 use mathlib.Core.List.{List}
 use lib.ListN.{length, getD, set}
 use lib.Dec.{eqb}
 use borrow.Author.Tests.{eq-eqb, ne-eqb, not-true, not-false}
 use Rattle.wire.specs.Test.{if}
-use Rattle.layout.specs.Rules.{NONE}
 use Rattle.cal3d_spec.specs.Trees.{ends}
-use Rattle.cal3d_skeleton_tree_check.specs.Scores.{weight, wanted, sound, lowest, Named, Kept, Marked}
+use Rattle.cal3d_skeleton_tree_check.specs.Scores.{weight, wanted, sound, lowest, Kept, Marked}
 
 module _ (l : List ℕ) (c v q p : ℕ) where
   pub note-own : p ≡ q → set l c (v + 1) ≡ set l c (v + weight q p)

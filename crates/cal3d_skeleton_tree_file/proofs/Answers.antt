@@ -1,22 +1,19 @@
 -- What the lowest bone that does not stand right says of the trees of good bones.
-use Prim.Native.Nat.{ℕ, zero, suc, _+_, _*_, _<_, _≤_}
+use Prim.Native.Nat.{ℕ, zero, suc, _<_, _≤_}
 use native.Mathlib.Omega.{arith}
-use mathlib.Core.Bool.{true, false}
-use mathlib.Core.Logic.{_⊎_, inl, inr}
+use mathlib.Core.Logic.{_⊎_}
 use mathlib.Core.Path.{_≡_, refl, ap, sym, _∙_}
 use mathlib.Core.List.{List, [], _∷_, map}
-use lib.ListN.{length, take, drop, getD, length-map}
-use lib.Seq.{getD-take}
+use lib.ListN.{length, take, getD, length-map}
 use lib.Dec.{ltb}
 use borrow.Author.Tests.{lt-ltb, le-ltb}
 use Rattle.wire.specs.Test.{if}
 use Rattle.wire.specs.Cursors.{left}
 use Rattle.wire.specs.declared.Cursor.{Cursor}
-use Rattle.layout.specs.Out.{Out, got, bad, _>>=_}
+use Rattle.layout.specs.Out.{got, _>>=_}
 use Rattle.layout.specs.Parts.{Step, row, number}
 use Rattle.layout.specs.Rules.{NONE}
 use Rattle.layout.specs.Counted.{sized, before, times}
-use Rattle.layout.proofs.Lists.{All}
 use Rattle.layout.proofs.Outs.{by-got, got-inj}
 use Rattle.layout.proofs.CountLaws.{times-got, times-length}
 use Rattle.cal3d_spec.specs.Rules.{boneNumbers, childrenAt, childNumbers}
@@ -24,7 +21,7 @@ use Rattle.cal3d_spec.specs.Skeletons.{Bone, parentOf, listOf, readBone}
 use Rattle.cal3d_spec.specs.Trees.{occurs, trees}
 use Rattle.cal3d_skeleton_bones.specs.Bones.{bonesIn}
 use Rattle.cal3d_skeleton_bones.proofs.LinkLaws.{numbers-parent}
-use Rattle.cal3d_skeleton_tree_check.specs.Scores.{weight, score, sound, lowest, Named, Scored, Zeros, placeAt, strayAt}
+use Rattle.cal3d_skeleton_tree_check.specs.Scores.{score, sound, lowest, Named, Scored, Zeros, placeAt, strayAt}
 use Rattle.cal3d_skeleton_tree_scores.proofs.ScoreLaws.{trees-stray}
 use Rattle.cal3d_skeleton_tree_file.specs.Links.{Good, bonesAt, toldOf}
 use Rattle.cal3d_skeleton_tree_file.specs.declared.Told.the-variants as told

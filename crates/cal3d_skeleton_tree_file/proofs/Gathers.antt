@@ -1,7 +1,7 @@
 -- The parents of good bones: what each turn of `gather` stores.
-use Prim.Native.Nat.{ℕ, suc, _+_, _-_, _*_, _<_, _≤_}
+use Prim.Native.Nat.{ℕ, suc, _+_, _-_, _<_, _≤_}
 use native.Mathlib.Omega.{arith}
-use mathlib.Core.Path.{_≡_, refl, ap, sym, _∙_}
+use mathlib.Core.Path.{_≡_, ap, sym, _∙_}
 use mathlib.Core.List.{List, [], _∷_, _++_, map, append-nil}
 use lib.ListN.{length, set, length-map}
 use Rattle.wire.specs.Bytes.{wordAt}
@@ -10,7 +10,7 @@ use Rattle.wire.specs.declared.Cursor.{Cursor}
 use Rattle.layout.specs.Parts.{Step}
 use Rattle.shared_table_words.proofs.Storing.{Storing, store-none, store-one, store-done, store-whole}
 use Rattle.cal3d_spec.specs.Skeletons.{Bone, parentOf, readBone}
-use Rattle.cal3d_skeleton_bones.specs.Bones.{LaidAt, NoBone, Lays, bonesIn}
+use Rattle.cal3d_skeleton_bones.specs.Bones.{LaidAt, NoBone, Lays}
 use Rattle.cal3d_skeleton_bones.specs.declared.Laid.{Laid}
 use Rattle.cal3d_skeleton_bones.specs.declared.Laid.the-variants as laid
 use Rattle.cal3d_skeleton_bones.proofs.Walked.{Walked, walked-start, walked-none, walked-gone, walked-next}

@@ -1,19 +1,19 @@
 -- The first byte of a bone: what each turn of `bone_at` passes.
-use Prim.Native.Nat.{ℕ, zero, suc, _+_, _-_, _*_, _<_, _≤_}
+use Prim.Native.Nat.{ℕ, suc, _+_, _-_, _<_, _≤_}
 use native.Mathlib.Omega.{arith}
 use mathlib.Core.Path.{_≡_, refl, ap, sym, _∙_}
 use mathlib.Core.List.{List, [], _∷_, _++_}
 use lib.ListN.{length}
 use Rattle.wire.specs.Cursors.{Inside, left}
 use Rattle.wire.specs.declared.Cursor.{Cursor}
-use Rattle.layout.specs.Out.{Out, got, _>>=_}
+use Rattle.layout.specs.Out.{got}
 use Rattle.layout.specs.Parts.{Step, row, number}
 use Rattle.layout.specs.Counted.{sized, before, times}
 use Rattle.layout.proofs.Outs.{by-got, got-inj}
 use Rattle.layout.proofs.CountLaws.{times-got}
 use Rattle.cal3d_spec.specs.Rules.{boneNumbers, childrenAt, childNumbers}
 use Rattle.cal3d_spec.specs.Skeletons.{Bone, readBone}
-use Rattle.cal3d_skeleton_bones.specs.Bones.{LaidAt, NoBone, Lays, bonesIn}
+use Rattle.cal3d_skeleton_bones.specs.Bones.{LaidAt, NoBone, Lays}
 use Rattle.cal3d_skeleton_bones.specs.declared.Laid.{Laid}
 use Rattle.cal3d_skeleton_bones.specs.declared.Laid.the-variants as laid
 use Rattle.cal3d_skeleton_bones.proofs.Walked.{Walked, walked-start, walked-gone, walked-next}

@@ -5,7 +5,6 @@ use mathlib.Core.Path.{_≡_, refl, ap, sym, _∙_}
 use mathlib.Core.List.{List, [], _∷_, _++_, map, append-nil}
 use lib.ListN.{length, drop, getD, length-map}
 use lib.Seq.{take-all}
-use Rattle.wire.specs.Bytes.{wordAt}
 use Rattle.wire.specs.Cursors.{Inside, left}
 use Rattle.wire.specs.declared.Cursor.{Cursor}
 use Rattle.wire.proofs.Left.{span, left-length}
@@ -15,7 +14,7 @@ use Rattle.layout.proofs.StepLaws.{length-words-of}
 use Rattle.shared_ids.proofs.Ids.{word-at}
 use Rattle.cal3d_spec.specs.Skeletons.{Bone, listOf, readBone}
 use Rattle.cal3d_spec.specs.Trees.{occurs}
-use Rattle.cal3d_skeleton_bones.specs.Bones.{LaidAt, NoBone, Lays, bonesIn}
+use Rattle.cal3d_skeleton_bones.specs.Bones.{LaidAt, NoBone, Lays}
 use Rattle.cal3d_skeleton_bones.specs.declared.Laid.{Laid}
 use Rattle.cal3d_skeleton_bones.specs.declared.Laid.the-variants as laid
 use Rattle.cal3d_skeleton_bones.proofs.Walked.{Walked, walked-start, walked-none, walked-gone, walked-next}

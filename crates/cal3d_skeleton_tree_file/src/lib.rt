@@ -2,7 +2,7 @@
 // that grows with the file.
 ghost use mathlib.Core.Path.{_≡_};
 ghost use mathlib.Core.List.{[], map};
-ghost use Prim.Native.Nat.{ℕ, _<_, _≤_};
+ghost use Prim.Native.Nat.{_<_, _≤_};
 ghost use lib.ListN.{length};
 ghost use Rattle.cal3d_spec.specs.Skeletons.{parentOf, listOf};
 ghost use Rattle.cal3d_spec.specs.Trees.{trees};

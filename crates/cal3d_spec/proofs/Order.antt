@@ -1,11 +1,10 @@
 -- The order of a skeleton's last refusals, whatever its size: 10, then 16, then 11.
 use Prim.Native.Nat.{ℕ, _<_}
-use mathlib.Core.Path.{_≡_, refl}
+use mathlib.Core.Path.{_≡_}
 use mathlib.Core.List.{List}
 use lib.ListN.{length}
 use borrow.Author.Tests.{lt-leb}
-use Rattle.wire.specs.Test.{if}
-use Rattle.layout.specs.Out.{Out, got, bad, check, _>>=_}
+use Rattle.layout.specs.Out.{got, bad, check}
 use Rattle.layout.specs.Rows.{eachOf}
 use Rattle.cal3d_spec.specs.Skeletons.{Skeleton, skeleton}
 use Rattle.cal3d_spec.specs.Trees.{trees}

@@ -8,7 +8,7 @@ use native.Mathlib.Omega.{arith}
 use mathlib.Core.List.{List, [], _∷_, _++_}
 use lib.ListN.{length, drop, getD, set, length-set, length-append, drop-of-length-le}
 use lib.Seq.{sets, drop-cons}
-use Rattle.layout.specs.Out.{Out, got, bad, check, _>>=_}
+use Rattle.layout.specs.Out.{Out, bad, check, _>>=_}
 use Rattle.layout.specs.Parts.{Step}
 use Rattle.shared_seven_bit_groups.specs.Groups.{front, groups, groupsOf, goesOn, last, readIn, readNumber, grouped}
 use Rattle.shared_seven_bit_groups.specs.Puts.{PutAt}

@@ -3,9 +3,7 @@ use mathlib.Core.Path.{_≡_, refl, ap, sym, _∙_}
 use mathlib.Core.Logic.{_⊎_, inl, inr}
 use Prim.Native.Nat.{ℕ, zero, suc, _+_, _-_, _*_, _/_, _%_, _<_, _≤_}
 use native.Mathlib.Omega.{arith}
-use mathlib.Core.Bool.{true}
-use mathlib.Core.List.{List, [], _∷_, _++_}
-use lib.ListN.{length}
+use mathlib.Core.List.{List, [], _∷_}
 use lib.Dec.{T, leb, ltb, leb→le, ltb→lt, nltb→le}
 use borrow.Author.Tests.{lt-ltb, le-ltb, le-leb, lt-leb}
 use mir.Facts.{and-yes}
@@ -13,7 +11,6 @@ use Rattle.wire.specs.Test.{if}
 use Rattle.wire.specs.Bytes.{AllBytes}
 use Rattle.layout.specs.Out.{Out, got, bad, check, _>>=_}
 use Rattle.layout.specs.Parts.{Step}
-use Rattle.layout.proofs.Lists.{All}
 use Rattle.layout.proofs.Outs.{by-if, by-check, by-got, bad-got}
 use Rattle.shared_seven_bit_groups.specs.Groups.{AtMost, front, groups, groupsOf, writeNumbers, goesOn, last, readIn, readNumber, readNumbers}
 use Rattle.shared_seven_bit_groups.proofs.Fronts.{front-none, front-more, frontOf, count-none, count-more, count-is, groups-up}

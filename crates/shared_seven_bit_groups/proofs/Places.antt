@@ -1,16 +1,16 @@
 -- Where reading leaves off, and that no refusal stands further on than a number's groups.
-use mathlib.Core.Path.{_≡_, refl, ap, sym, subst, _∙_}
+use mathlib.Core.Path.{_≡_, refl, _∙_}
 use Prim.Native.Nat.{ℕ, zero, suc, _+_, _-_, _*_, _≤_}
 use native.Mathlib.Omega.{arith}
 use mathlib.Core.Bool.{Bool, true, false}
 use mathlib.Core.List.{List, [], _∷_}
 use lib.ListN.{length, drop}
-use lib.Dec.{leb, ltb}
+use lib.Dec.{ltb}
 use Rattle.wire.specs.Test.{if}
 use Rattle.layout.specs.Out.{Out, got, bad, check, _>>=_}
 use Rattle.layout.specs.Parts.{Step}
 use Rattle.layout.proofs.Outs.{by-got}
-use Rattle.shared_seven_bit_groups.specs.Groups.{groupsOf, goesOn, last, readIn, readNumber, readNumbers}
+use Rattle.shared_seven_bit_groups.specs.Groups.{groupsOf, last, readIn, readNumber, readNumbers}
 
 -- reading went on from place p over some of the bytes s, at most k of them
 pub record Moved (p k : ℕ) (s : List ℕ) (x : Step ℕ) : Type 0 where

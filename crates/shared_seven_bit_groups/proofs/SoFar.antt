@@ -1,6 +1,6 @@
 -- A number is refused as soon as its bytes so far make it wrong, and no sooner: where they do, no bytes after them help; where a number is cut, there
 -- are bytes after which all is read.
-use mathlib.Core.Path.{_≡_, refl, ap, sym, subst, _∙_}
+use mathlib.Core.Path.{_≡_, refl, sym, subst, _∙_}
 use mathlib.Core.Logic.{_⊎_, inl, inr}
 use Prim.Native.Nat.{ℕ, zero, suc, _+_, _-_, _*_, _<_, _≤_}
 use native.Mathlib.Omega.{arith}

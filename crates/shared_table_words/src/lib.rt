@@ -1,7 +1,7 @@
 // Storing words in a lent table, for any format: given cells, one value again and again, words of the file as they stand. The other words of the table stay
 // as found.
 ghost use mathlib.Core.Path.{_≡_};
-ghost use Prim.Native.Nat.{ℕ, _+_, _*_, _<_, _≤_};
+ghost use Prim.Native.Nat.{_+_, _*_, _<_, _≤_};
 ghost use lib.ListN.{length, replicate};
 ghost use lib.Seq.{sets as stored};
 ghost use Rattle.wire.specs.Cursors.{Inside, left};

@@ -3,22 +3,21 @@ use mathlib.Core.Path.{_≡_, refl, ap, sym, subst, _∙_}
 use mathlib.Core.Logic.{_⊎_, inl, inr}
 use Prim.Native.Nat.{ℕ, zero, suc, _+_, _*_, _<_, _≤_}
 use native.Mathlib.Omega.{arith}
-use mathlib.Core.Bool.{Bool, true, false, not}
-use mathlib.Core.List.{List, [], _∷_, _++_, map, append-nil}
+use mathlib.Core.List.{List, [], _∷_, _++_, map}
 use lib.ListN.{length, take, getD, replicate, length-append}
-use lib.Dec.{T, leb, ltb, leb→le, ltb→lt, nltb→le}
+use lib.Dec.{leb, ltb, leb→le, ltb→lt, nltb→le}
 use borrow.Author.Tests.{le-leb, lt-leb, le-ltb}
 use Rattle.wire.specs.Bytes.{AllBytes}
 use Rattle.wire.specs.Test.{if}
 use Rattle.layout.specs.Out.{Out, got, bad, check, _>>=_}
 use Rattle.layout.specs.Parts.{Step}
-use Rattle.layout.specs.Rules.{Rule, upTo}
+use Rattle.layout.specs.Rules.{upTo}
 use Rattle.layout.proofs.Outs.{by-test, by-check, by-got, bad-got, got-inj, if-yes, if-no}
 use Rattle.shared_seven_bit_groups.specs.Groups.{AtMost, frontIn, front, groups, groupsOf, writeNumbers, readNumbers}
 use Rattle.shared_seven_bit_groups.proofs.Fronts.{count-is, groups-up, groups-length, numbers-bytes}
-use Rattle.shared_seven_bit_groups.proofs.Laws.{numbers-back, Several, numbers-one}
+use Rattle.shared_seven_bit_groups.proofs.Laws.{numbers-back, numbers-one}
 use Rattle.shared_seven_bit_groups.proofs.Places.{numbers-to}
-use Rattle.shared_seven_bit_groups.proofs.SoFar.{Wrong as Bad, Short, SoFar, numbers-so-far}
+use Rattle.shared_seven_bit_groups.proofs.SoFar.{SoFar, numbers-so-far}
 use Rattle.b3d_spec.specs.Rules.{version, slots, rowLimit}
 use Rattle.b3d_spec.specs.Answers.{roomFor}
 use Rattle.slip.specs.Slips.{limitsWithin, limits, firstOver, slipWithin, writeWithin, readWithin}

@@ -1,6 +1,6 @@
 -- What holds of slips when the row limit is raised, in the words of 02's E12: `low` is the older limit, `high` the newer one.
 use mathlib.Core.Path.{_≡_}
-use Prim.Native.Nat.{ℕ, _≤_}
+use Prim.Native.Nat.{ℕ}
 use mathlib.Core.List.{List}
 use lib.ListN.{length}
 use Rattle.wire.specs.Bytes.{AllBytes}

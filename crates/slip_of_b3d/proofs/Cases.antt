@@ -2,7 +2,6 @@
 use mathlib.Core.Path.{_≡_, refl}
 use Prim.Native.Nat.{ℕ}
 use mathlib.Core.List.{List, [], _∷_, _++_, map}
-use lib.ListN.{replicate}
 use Rattle.shared_seven_bit_groups.specs.Groups.{frontIn, front, groups, writeNumbers}
 use Rattle.b3d_spec.specs.declared.Written.{Written}
 use Rattle.b3d_spec.proofs.Computing.{computing}

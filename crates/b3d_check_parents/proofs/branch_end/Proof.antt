@@ -1,6 +1,5 @@
 -- `branch_end` adds what the row says to the node's own row.
 use Prim.Native.Nat.{_+_, _*_}
-use native.Mathlib.Omega.{arith}
 use Rattle.b3d_spec.specs.Tables.{nodeWidth}
 use borrow.Author.Needs.{needs}
 use Rattle.b3d_check_parents.proofs.branch_end.Statement.{statement}

@@ -6,7 +6,7 @@ use mathlib.Core.Bool.{Bool, _&&_}
 use mathlib.Core.List.{List, [], _∷_, _++_, map}
 use lib.ListN.{length, take, drop, getD, replicate, length-drop, length-replicate, take-append-drop}
 use lib.Seq.{drop-at, drop-drop}
-use lib.Dec.{leb→le, eqb, eqb·suc-zero}
+use lib.Dec.{eqb, eqb·suc-zero}
 use Rattle.wire.specs.Bytes.{IsWord, AllBytes}
 use Rattle.wire.specs.Test.{if}
 use Rattle.layout.specs.Fit.{all}

@@ -1,6 +1,5 @@
 -- `put_shape` stores the rows of a VRTS.
 use borrow.Author.Needs.{needs}
-use native.Mathlib.Omega.{arith}
 use Rattle.b3d_read_item_rows.proofs.Shapes.{shape-laws}
 use Rattle.b3d_read_item_rows.proofs.put_shape.Statement.{statement}
 use Rattle.b3d_read_item_rows.proofs.put_shape.Tie as tie

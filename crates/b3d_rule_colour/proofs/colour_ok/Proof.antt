@@ -1,7 +1,4 @@
 -- `colour_ok` answers the rule of a colour.
-use mathlib.Core.Path.{_≡_, refl, sym, _∙_, ap}
-use mathlib.Core.Bool.{Bool, _&&_}
-use native.Mathlib.Omega.{arith}
 use Rattle.b3d_rule_colour.proofs.Unit.{no-nan, law, law-nan}
 use Rattle.b3d_rule_colour.proofs.colour_ok.Statement.{statement}
 use Rattle.b3d_rule_colour.proofs.colour_ok.Tie as tie

@@ -1,6 +1,5 @@
 -- `same_trees` has rows of its own, all zeros.
-use native.Mathlib.Omega.{arith}
-use mathlib.Core.Path.{_≡_, sym}
+use mathlib.Core.Path.{sym}
 use lib.Seq.{length-take-le}
 use borrow.Author.Needs.{needs}
 use Rattle.cal3d_skeleton_tree_file.proofs.Answers.{zeros-front}

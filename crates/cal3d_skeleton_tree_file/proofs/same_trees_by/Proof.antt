@@ -1,7 +1,6 @@
 -- `same_trees_by` answers `trees`, by the scores.
-use mathlib.Core.Path.{_≡_, sym, _∙_}
 use borrow.Author.Needs.{needs}
-use Rattle.cal3d_skeleton_tree_file.proofs.Answers.{answers, parents-many, parents-few, parents-are}
+use Rattle.cal3d_skeleton_tree_file.proofs.Answers.{answers}
 use Rattle.cal3d_skeleton_tree_file.proofs.same_trees_by.Statement.{statement}
 use Rattle.cal3d_skeleton_tree_file.proofs.same_trees_by.Tie as tie
 
