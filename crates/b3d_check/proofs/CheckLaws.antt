@@ -8,16 +8,16 @@ use lib.ListN.{length, getD}
 use lib.Dec.{T, leb, eqb, leb→le, eqb→eq}
 use borrow.Author.Tests.{not-false}
 use Rattle.wire.specs.Test.{if}
-use Rattle.layout.specs.Fit.{all}
+use Rattle.layout.specs.WellFormed.{all}
 use Rattle.layout.proofs.Testing.{and-true, and-assoc}
 use Rattle.layout.proofs.Outs.{if-case}
 use Rattle.b3d_spec.specs.Colours.{passes}
-use Rattle.b3d_spec.specs.Rebuild.{Lent, lentRows, roomy, cut}
+use Rattle.b3d_spec.specs.Rebuild.{Lent, lentRows, hasCountedRows, cut}
 use Rattle.b3d_spec.specs.Tables.{width, tables, nodeTables, nodeWidth}
 use Rattle.b3d_spec.specs.declared.Counts.{Counts}
 use Rattle.b3d_spec.specs.declared.Mode.{Mode}
 use Rattle.b3d_spec.specs.declared.Mode.the-variants.{Strict, Lenient}
-use Rattle.b3d_check_spec.specs.Check.{nameHere, brushHere, slotsHere, treeHere, check, checkIn}
+use Rattle.b3d_check_spec.specs.Check.{nameValid, brushValid, slotsValid, treeValid, check, checkIn}
 use Rattle.b3d_check_rows.specs.Rows.{rowsAt}
 use Rattle.b3d_check_rows.proofs.Ands.{and-stop, and-go}
 use Rattle.b3d_check_rows.proofs.Rows.{rows-whole}
@@ -29,8 +29,8 @@ use Rattle.b3d_check.proofs.SameRows.{Agree, same-tree}
 
 -- ---- what the parts require
 
-pub slots-eight : (slots brushes : ℕ) (r : Bool) → r ≡ slotsHere slots brushes → not r ≡ false → slots ≤ 8
-unfolding slotsHere
+pub slots-eight : (slots brushes : ℕ) (r : Bool) → r ≡ slotsValid slots brushes → not r ≡ false → slots ≤ 8
+unfolding slotsValid
 slots-eight slots brushes r e f =
     if-case (λ (b : Bool). T b → slots ≤ 8) (eqb brushes 0) (eqb slots 0) (leb slots 8) (λ t k. let z = eqb→eq slots 0 k in omega arith) (λ t k. leb→le slots 8 k) (subst T (sym (sym e ∙ not-false r f)) tt)
 
@@ -44,16 +44,16 @@ module _ (mode : Mode) (ns : List ℕ) (v slots : ℕ) (counts : List ℕ) (t₁
   L = lentOf v slots counts t₁ t₂ t₃ t₄ t₅ t₆ t₇ t₈ t₉ t₁₀
 
   abbrev slotsPart : Bool
-  slotsPart = slotsHere slots (getD counts 1 0)
+  slotsPart = slotsValid slots (getD counts 1 0)
 
   abbrev names : Bool
-  names = all (nameHere ns) (cut 9 c₁ t₁)
+  names = all (nameValid ns) (cut 9 c₁ t₁)
 
   abbrev brushes : Bool
-  brushes = all (brushHere ns slots (getD counts 0 0)) (cut 17 c₂ t₂)
+  brushes = all (brushValid ns slots (getD counts 0 0)) (cut 17 c₂ t₂)
 
   abbrev tree : Bool
-  tree = treeHere ns (getD counts 1 0) (partRows a t₄ t₅ t₆ t₇ t₈ t₉ t₁₀) (cut nodeWidth (a .nodes) t₃)
+  tree = treeValid ns (getD counts 1 0) (partRows a t₄ t₅ t₆ t₇ t₈ t₉ t₁₀) (cut nodeWidth (a .nodes) t₃)
 
   abbrev colours : Bool
   colours = coloursPart mode c₂ t₂ (a .vertices) t₅
@@ -65,11 +65,11 @@ module _ (mode : Mode) (ns : List ℕ) (v slots : ℕ) (counts : List ℕ) (t₁
   unfolding lentRows lentOf width partRows partCounts if
   agree = record { meshes = refl; vertices = refl; sets = refl; triangles = refl; weights = refl; lists = refl; keys = refl }
 
-  roomy-all : rooms c₁ c₂ a (length t₁) (length t₂) (length t₃) (length t₄) (length t₅) (length t₆) (length t₇) (length t₈) (length t₉) (length t₁₀) ≡ all (roomy L) tables
-  unfolding rooms fitsIn roomy lentOf width tables nodeTables partCounts if
+  roomy-all : rooms c₁ c₂ a (length t₁) (length t₂) (length t₃) (length t₄) (length t₅) (length t₆) (length t₇) (length t₈) (length t₉) (length t₁₀) ≡ all (hasCountedRows L) tables
+  unfolding rooms fitsIn hasCountedRows lentOf width tables nodeTables partCounts if
   roomy-all = rw (e₁, e₂, ea, and-true)
 
-  rows-all : (all (roomy L) tables && rowsPart) ≡ check L ns
+  rows-all : (all (hasCountedRows L) tables && rowsPart) ≡ check L ns
   unfolding check lentOf lentRows width partCounts if
   rows-all = rw (e₁, e₂, ea, ← same-tree _ _ agree ns (getD counts 1 0) (cut nodeWidth (getD counts 2 0) t₃))
 
@@ -80,7 +80,7 @@ module _ (mode : Mode) (ns : List ℕ) (v slots : ℕ) (counts : List ℕ) (t₁
 
   parts : (rooms c₁ c₂ a (length t₁) (length t₂) (length t₃) (length t₄) (length t₅) (length t₆) (length t₇) (length t₈) (length t₉) (length t₁₀) && (rowsPart && colours)) ≡ checkIn mode L ns
   unfolding checkIn
-  parts = rw roomy-all (sym (and-assoc (all (roomy L) tables) rowsPart colours) ∙ rw (rows-all, colours-all mode))
+  parts = rw roomy-all (sym (and-assoc (all (hasCountedRows L) tables) rowsPart colours) ∙ rw (rows-all, colours-all mode))
 
   module _ (b₀ : Bool) (e₀ : b₀ ≡ rooms c₁ c₂ a (length t₁) (length t₂) (length t₃) (length t₄) (length t₅) (length t₆) (length t₇) (length t₈) (length t₉) (length t₁₀)) where
     pub no-rooms : not b₀ ≡ true → false ≡ checkIn mode L ns
@@ -93,28 +93,28 @@ module _ (mode : Mode) (ns : List ℕ) (v slots : ℕ) (counts : List ℕ) (t₁
       pub no-version : not (leb v 99) ≡ true → false ≡ checkIn mode L ns
       no-version k = from-version false (and-stop (leb v 99) _ _ refl k)
 
-      module _ (k : not (leb v 99) ≡ false) (b : Bool) (eb : b ≡ slotsHere slots (getD counts 1 0)) where
+      module _ (k : not (leb v 99) ≡ false) (b : Bool) (eb : b ≡ slotsValid slots (getD counts 1 0)) where
         pub no-slots : not b ≡ true → false ≡ checkIn mode L ns
         no-slots f = from-version false (and-go (leb v 99) _ _ false refl k (and-stop b _ _ eb f))
 
-        module _ (f : not b ≡ false) (c : Bool) (ec : c ≡ all (nameHere ns) (rowsAt 9 0 c₁ t₁)) where
+        module _ (f : not b ≡ false) (c : Bool) (ec : c ≡ all (nameValid ns) (rowsAt 9 0 c₁ t₁)) where
           from-names : (r : Bool) → r ≡ (names && (brushes && (tree && colours))) → r ≡ checkIn mode L ns
           from-names r e = from-version r (and-go (leb v 99) _ _ r refl k (and-go b _ _ r eb f e))
 
           names-are : c ≡ names
-          names-are = ec ∙ ap (all (nameHere ns)) (sym (rows-whole 9 c₁ t₁))
+          names-are = ec ∙ ap (all (nameValid ns)) (sym (rows-whole 9 c₁ t₁))
 
           pub no-textures : not c ≡ true → false ≡ checkIn mode L ns
           no-textures g = from-names false (and-stop c _ _ names-are g)
 
-          module _ (g : not c ≡ false) (d : Bool) (ed : d ≡ all (brushHere ns slots (getD counts 0 0)) (rowsAt 17 0 c₂ t₂)) where
+          module _ (g : not c ≡ false) (d : Bool) (ed : d ≡ all (brushValid ns slots (getD counts 0 0)) (rowsAt 17 0 c₂ t₂)) where
             brushes-are : d ≡ brushes
-            brushes-are = ed ∙ ap (all (brushHere ns slots (getD counts 0 0))) (sym (rows-whole 17 c₂ t₂))
+            brushes-are = ed ∙ ap (all (brushValid ns slots (getD counts 0 0))) (sym (rows-whole 17 c₂ t₂))
 
             pub no-brushes : not d ≡ true → false ≡ checkIn mode L ns
             no-brushes h = from-names false (and-go c _ _ false names-are g (and-stop d _ _ brushes-are h))
 
-            module _ (h : not d ≡ false) (q : Bool) (eq : q ≡ treeHere ns (getD counts 1 0) (partRows a t₄ t₅ t₆ t₇ t₈ t₉ t₁₀) (cut nodeWidth (a .nodes) t₃)) where
+            module _ (h : not d ≡ false) (q : Bool) (eq : q ≡ treeValid ns (getD counts 1 0) (partRows a t₄ t₅ t₆ t₇ t₈ t₉ t₁₀) (cut nodeWidth (a .nodes) t₃)) where
               from-tree : (r : Bool) → r ≡ (tree && colours) → r ≡ checkIn mode L ns
               from-tree r e = from-names r (and-go c _ _ r names-are g (and-go d _ _ r brushes-are h e))
 

@@ -8,7 +8,7 @@ use lib.ListN.{getD}
 use Rattle.wire.specs.Bytes.{IsWord, AllBytes}
 use Rattle.wire.specs.Test.{if}
 use Rattle.layout.proofs.Lists.{All}
-use Rattle.b3d_spec.specs.Rebuild.{together, rebuild}
+use Rattle.b3d_spec.specs.Rebuild.{assembled, rebuild}
 use Rattle.b3d_spec.specs.Tables.{tables, nodeTables}
 use Rattle.b3d_spec.specs.declared.Mode.{Mode}
 use Rattle.b3d_check_spec.specs.Check.{checkIn}
@@ -36,7 +36,7 @@ lent-typed ns v slots counts t₁ t₂ t₃ t₄ t₅ t₆ t₇ t₈ t₉ t₁�
     record { version = hv; slots = hs; cells = (h₁, (h₂, (h₃, (h₄, (h₅, (h₆, (h₇, (h₈, (h₉, (h₁₀, tt)))))))))); bytes = hn }
 
 pub verdict : (mode : Mode) (ns : List ℕ) (v slots : ℕ) (counts t₁ t₂ t₃ t₄ t₅ t₆ t₇ t₈ t₉ t₁₀ : List ℕ) → Typed (lentOf v slots counts t₁ t₂ t₃ t₄ t₅ t₆ t₇ t₈ t₉ t₁₀) ns → (r : Bool) → r ≡ checkIn mode (lentOf v slots counts t₁ t₂ t₃ t₄ t₅ t₆ t₇ t₈ t₉ t₁₀) ns
-    → rebuild mode (lentOf v slots counts t₁ t₂ t₃ t₄ t₅ t₆ t₇ t₈ t₉ t₁₀) ns ≡ if r (some (together ns (lentOf v slots counts t₁ t₂ t₃ t₄ t₅ t₆ t₇ t₈ t₉ t₁₀))) none
+    → rebuild mode (lentOf v slots counts t₁ t₂ t₃ t₄ t₅ t₆ t₇ t₈ t₉ t₁₀) ns ≡ if r (some (assembled ns (lentOf v slots counts t₁ t₂ t₃ t₄ t₅ t₆ t₇ t₈ t₉ t₁₀))) none
 verdict mode ns v slots counts t₁ t₂ t₃ t₄ t₅ t₆ t₇ t₈ t₉ t₁₀ h r e =
     let T = lentOf v slots counts t₁ t₂ t₃ t₄ t₅ t₆ t₇ t₈ t₉ t₁₀ in
-    rebuild-check-in T ns h mode ∙ ap (λ (b : Bool). if b (some (together ns T)) none) (sym e)
+    rebuild-check-in T ns h mode ∙ ap (λ (b : Bool). if b (some (assembled ns T)) none) (sym e)

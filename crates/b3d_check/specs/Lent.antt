@@ -7,7 +7,7 @@ use mathlib.Core.List.{List, []}
 use lib.ListN.{getD}
 use lib.Dec.{eqb}
 use Rattle.wire.specs.Test.{if}
-use Rattle.b3d_spec.specs.Rebuild.{Lent, together, rebuild}
+use Rattle.b3d_spec.specs.Rebuild.{Lent, assembled, rebuild}
 use Rattle.b3d_spec.specs.declared.Mode.{Mode}
 
 -- version, n_texs (`slots`), ten counts and the words t₁ to t₁₀ of ten tables, as one record of lent tables
@@ -32,4 +32,4 @@ lentOf version slots counts t₁ t₂ t₃ t₄ t₅ t₆ t₇ t₈ t₉ t₁₀
 
 -- r says whether the lent tables L, with names in ns, are those of a scene that the mode accepts: the one put together from them
 abbrev pub Says : Mode → Lent → List ℕ → Bool → Type 0
-Says mode L ns r = rebuild mode L ns ≡ if r (some (together ns L)) none
+Says mode L ns r = rebuild mode L ns ≡ if r (some (assembled ns L)) none

@@ -30,23 +30,37 @@ pub fn sound(
     let n1 = wire::size(textures);
     let n2 = wire::size(brushes);
     let all = b3d_check_table_lengths::sizes(counts);
-    if !b3d_check_table_lengths::rooms_here(n1, n2, all, t1, t2, t3, t4, t5, t6, t7, t8, t9, t10) {
+    if !b3d_check_table_lengths::tables_have_rows(
+        n1,
+        n2,
+        all,
+        t1,
+        t2,
+        t3,
+        t4,
+        t5,
+        t6,
+        t7,
+        t8,
+        t9,
+        t10,
+    ) {
         return false;
     }
     if !(version <= 99) {
         return false;
     }
-    if !b3d_check_materials::slots_here(slots, brushes) {
+    if !b3d_check_materials::slots_valid(slots, brushes) {
         return false;
     }
-    if !b3d_check_materials::textures_here(names, t1, n1) {
+    if !b3d_check_materials::textures_valid(names, t1, n1) {
         return false;
     }
-    if !b3d_check_materials::brushes_here(names, slots, textures, t2, n2) {
+    if !b3d_check_materials::brushes_valid(names, slots, textures, t2, n2) {
         return false;
     }
-    if !b3d_check_root::tree_here(names, brushes, all, t3, t4, t5, t6, t7, t8, t9, t10) {
+    if !b3d_check_root::tree_valid(names, brushes, all, t3, t4, t5, t6, t7, t8, t9, t10) {
         return false;
     }
-    b3d_check_colours::colours_here(mode, n2, t2, all.vertices, t5)
+    b3d_check_colours::colours_valid(mode, n2, t2, all.vertices, t5)
 }

@@ -8,7 +8,7 @@ use mathlib.Core.List.{List, [], _∷_, _++_}
 use lib.ListN.{length, take, drop, getD, replicate}
 use lib.Seq.{drop-cons}
 use lib.Dec.{eqb}
-use Rattle.layout.specs.Fit.{all}
+use Rattle.layout.specs.WellFormed.{all}
 use Rattle.layout.proofs.Testing.{and-true, and-assoc}
 use Rattle.b3d_check_spec.specs.Check.{clean}
 use Rattle.b3d_rule_row_masks.specs.Runs.{run, setRuns, runMask, width, Short, OfKey, OfVertex}

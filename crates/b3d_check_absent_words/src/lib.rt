@@ -3,7 +3,7 @@
 ghost use mathlib.Core.Path.{_≡_};
 ghost use Prim.Native.Nat.{_+_, _*_, _≤_};
 ghost use lib.ListN.{length};
-ghost use Rattle.layout.specs.Fit.{all};
+ghost use Rattle.layout.specs.WellFormed.{all};
 ghost use Rattle.b3d_spec.specs.Mask.{vertexMask, keyMask};
 ghost use Rattle.b3d_check_spec.specs.Check.{clean};
 ghost use Rattle.b3d_rule_row_masks.specs.Runs.{runMask, width, Short, OfKey, OfVertex};
@@ -134,7 +134,7 @@ fn vertices_clean(g: RowRuns, t: &[u32], first: usize, count: usize) -> bool
 }
 
 // Returns whether the cells that `flags`, `sets` and set `size` leave out of `count` vertex rows from row `first` on are 0.
-pub fn vertices_here(
+pub fn vertices_valid(
     t: &[u32],
     flags: u32,
     sets: u32,
@@ -150,7 +150,7 @@ pub fn vertices_here(
 }
 
 // Returns whether the cells that `flags` leave out of `count` key rows from row `first` on are 0.
-pub fn keys_here(t: &[u32], flags: u32, first: usize, count: usize) -> bool
+pub fn keys_valid(t: &[u32], flags: u32, first: usize, count: usize) -> bool
     requires { ⌜ 11 * (first + count) ≤ length (now t) ⌝ }
     ensures { λ r. ⌜ r ≡ all (clean (keyMask flags)) (rowsAt 11 first count (now (t .entry))) ⌝ }
 {

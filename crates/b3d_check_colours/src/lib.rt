@@ -2,7 +2,7 @@
 ghost use mathlib.Core.Path.{_≡_};
 ghost use Prim.Native.Nat.{_+_, _*_, _≤_};
 ghost use lib.ListN.{length};
-ghost use Rattle.layout.specs.Fit.{all};
+ghost use Rattle.layout.specs.WellFormed.{all};
 ghost use Rattle.b3d_spec.specs.Colours.{coloured};
 ghost use Rattle.b3d_check_rows.specs.Rows.{rowAt, rowsAt};
 ghost use Rattle.b3d_check_colours.specs.LentColours.{coloursPart};
@@ -37,7 +37,7 @@ pub fn rows_coloured(t: &[u32], width: usize, word: usize, count: usize) -> bool
 }
 
 // Returns whether `mode` accepts the colours of the first `brushes` rows of `t2` and the first `vertices` rows of `t5`; the lenient mode always does.
-pub fn colours_here(mode: Mode, brushes: usize, t2: &[u32], vertices: usize, t5: &[u32]) -> bool
+pub fn colours_valid(mode: Mode, brushes: usize, t2: &[u32], vertices: usize, t5: &[u32]) -> bool
     requires { ⌜ (17 * brushes ≤ length (now t2)) × (42 * vertices ≤ length (now t5)) ⌝ }
     ensures { λ r. ⌜ r ≡ coloursPart mode brushes (now (t2 .entry)) vertices (now (t5 .entry)) ⌝ }
 {

@@ -9,10 +9,10 @@ use lib.Seq.{drop-drop, take-take}
 use lib.Dec.{leb, eqb}
 use borrow.Author.Tests.{eq-eqb, ne-eqb, le-ltb}
 use Rattle.wire.specs.Test.{if}
-use Rattle.layout.specs.Fit.{all}
+use Rattle.layout.specs.WellFormed.{all}
 use Rattle.layout.specs.Rules.{NONE, Rule, holds}
 use Rattle.b3d_spec.specs.Rules.{textureId}
-use Rattle.b3d_check_spec.specs.Check.{keeps, nameHere, brushHere, slotsHere}
+use Rattle.b3d_check_spec.specs.Check.{keeps, nameValid, brushValid, slotsValid}
 use Rattle.b3d_check_rows.specs.Rows.{rowAt}
 use Rattle.b3d_check_rows.proofs.RowLaws.{name-cells}
 
@@ -62,10 +62,10 @@ module _ (ns : List ℕ) (slots many textures i : ℕ) (ws : List ℕ) (few : sl
       rw ids (ap (λ (k : ℕ). drop many (take k (drop (17 * i + 9) ws))) d ∙ drop-take many (8 - many) (drop (17 * i + 9) ws) ∙ ap (take (8 - many)) (drop-drop many (17 * i + 9) ws))
 
   pub brush-parts : (r : Bool)
-      → r ≡ (nameHere ns (getD ws (17 * i) 0 ∷ getD ws (17 * i + 1) 0 ∷ [])
+      → r ≡ (nameValid ns (getD ws (17 * i) 0 ∷ getD ws (17 * i + 1) 0 ∷ [])
       && (all (holds (textureId textures)) (take many (drop (17 * i + 9) ws)) && all (holds (textureId 0)) (take (8 - many) (drop (17 * i + 9 + many) ws))))
-      → r ≡ brushHere ns slots textures (rowAt 17 i ws)
-  unfolding brushHere
+      → r ≡ brushValid ns slots textures (rowAt 17 i ws)
+  unfolding brushValid
   brush-parts r h =
       rw (← e) (h ∙ ap₂ _&&_ (name-cells ns 17 i ws (omega arith))
       (ap₂ _&&_ (ap (all (holds (textureId textures))) (sym used) ∙ sym (keeps-all (textureId textures) many (drop 9 (rowAt 17 i ws)))) (none-ids (take (8 - many) (drop (17 * i + 9 + many) ws)) ∙ ap (all (λ w. eqb w NONE)) (sym unused))))
@@ -73,12 +73,12 @@ module _ (ns : List ℕ) (slots many textures i : ℕ) (ws : List ℕ) (few : sl
 -- ---- how many slots
 
 module _ (many brushes : ℕ) where
-  pub slots-none : brushes ≡ 0 → eqb many 0 ≡ slotsHere many brushes
-  unfolding slotsHere if
+  pub slots-none : brushes ≡ 0 → eqb many 0 ≡ slotsValid many brushes
+  unfolding slotsValid if
   slots-none e = rw (eq-eqb brushes 0 e)
 
-  pub slots-some : (brushes ≡ 0 → ⊥) → leb many 8 ≡ slotsHere many brushes
-  unfolding slotsHere if
+  pub slots-some : (brushes ≡ 0 → ⊥) → leb many 8 ≡ slotsValid many brushes
+  unfolding slotsValid if
   slots-some h = rw (ne-eqb brushes 0 h)
 
 pub ruleset slots-laws = (slots-none, slots-some)

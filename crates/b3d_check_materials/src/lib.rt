@@ -2,21 +2,21 @@
 ghost use mathlib.Core.Path.{_≡_};
 ghost use Prim.Native.Nat.{_+_, _*_, _<_, _≤_};
 ghost use lib.ListN.{length, take, drop};
-ghost use Rattle.layout.specs.Fit.{all};
+ghost use Rattle.layout.specs.WellFormed.{all};
 ghost use Rattle.layout.specs.Rules.{holds};
 ghost use Rattle.b3d_spec.specs.Rules.{textureId};
-ghost use Rattle.b3d_check_spec.specs.Check.{nameHere, brushHere, slotsHere};
+ghost use Rattle.b3d_check_spec.specs.Check.{nameValid, brushValid, slotsValid};
 ghost use Rattle.b3d_check_rows.specs.Rows.{rowAt, rowsAt};
 
 // Returns whether each of the first `count` rows of table 1, `t`, has its name in `names`.
-pub fn textures_here(names: &[u8], t: &[u32], count: usize) -> bool
+pub fn textures_valid(names: &[u8], t: &[u32], count: usize) -> bool
     requires { ⌜ 9 * count ≤ length (now t) ⌝ }
-    ensures { λ r. ⌜ r ≡ all (nameHere (now (names .entry))) (rowsAt 9 0 count (now (t .entry))) ⌝ }
+    ensures { λ r. ⌜ r ≡ all (nameValid (now (names .entry))) (rowsAt 9 0 count (now (t .entry))) ⌝ }
 {
     let mut i: usize = 0;
     while i < count {
         let o = 9 * i;
-        if !b3d_check_rows::name_here(names, t[o], t[o + 1]) {
+        if !b3d_check_rows::name_valid(names, t[o], t[o + 1]) {
             return false;
         }
         i += 1;
@@ -25,7 +25,7 @@ pub fn textures_here(names: &[u8], t: &[u32], count: usize) -> bool
 }
 
 // Returns whether each of the `count` cells of `t` from cell `place` on is NONE or below `textures`.
-fn ids_here(t: &[u32], textures: u32, place: usize, count: usize) -> bool
+fn ids_valid(t: &[u32], textures: u32, place: usize, count: usize) -> bool
     requires { ⌜ place + count ≤ length (now t) ⌝ }
     ensures { λ r. ⌜ r ≡ all (holds (textureId textures)) (take count (drop place (now (t .entry)))) ⌝ }
 {
@@ -42,29 +42,29 @@ fn ids_here(t: &[u32], textures: u32, place: usize, count: usize) -> bool
 }
 
 // Returns whether row `i` of table 2, `t`, is sound: its name is in `names`, its first `slots` ids are NONE or below `textures`, the unused ones NONE.
-fn brush_here(names: &[u8], slots: u32, textures: u32, t: &[u32], i: usize) -> bool
+fn brush_valid(names: &[u8], slots: u32, textures: u32, t: &[u32], i: usize) -> bool
     requires { ⌜ (slots ≤ 8) × (17 * i + 17 ≤ length (now t)) ⌝ }
-    ensures { λ r. ⌜ r ≡ brushHere (now (names .entry)) slots textures (rowAt 17 i (now (t .entry))) ⌝ }
+    ensures { λ r. ⌜ r ≡ brushValid (now (names .entry)) slots textures (rowAt 17 i (now (t .entry))) ⌝ }
 {
     let many = wire::size(slots);
     let o = 17 * i;
-    if !b3d_check_rows::name_here(names, t[o], t[o + 1]) {
+    if !b3d_check_rows::name_valid(names, t[o], t[o + 1]) {
         return false;
     }
-    if !ids_here(t, textures, o + 9, many) {
+    if !ids_valid(t, textures, o + 9, many) {
         return false;
     }
-    ids_here(t, 0, o + 9 + many, 8 - many)
+    ids_valid(t, 0, o + 9 + many, 8 - many)
 }
 
 // Returns whether each of the first `count` rows of table 2, `t`, is sound, with `slots` ids in use and `textures` textures.
-pub fn brushes_here(names: &[u8], slots: u32, textures: u32, t: &[u32], count: usize) -> bool
+pub fn brushes_valid(names: &[u8], slots: u32, textures: u32, t: &[u32], count: usize) -> bool
     requires { ⌜ (slots ≤ 8) × (17 * count ≤ length (now t)) ⌝ }
-    ensures { λ r. ⌜ r ≡ all (brushHere (now (names .entry)) slots textures) (rowsAt 17 0 count (now (t .entry))) ⌝ }
+    ensures { λ r. ⌜ r ≡ all (brushValid (now (names .entry)) slots textures) (rowsAt 17 0 count (now (t .entry))) ⌝ }
 {
     let mut i: usize = 0;
     while i < count {
-        if !brush_here(names, slots, textures, t, i) {
+        if !brush_valid(names, slots, textures, t, i) {
             return false;
         }
         i += 1;
@@ -73,8 +73,8 @@ pub fn brushes_here(names: &[u8], slots: u32, textures: u32, t: &[u32], count: u
 }
 
 // Returns whether n_texs (`slots`) is sound: 0 without a brush, else at most eight.
-pub fn slots_here(slots: u32, brushes: u32) -> bool
-    ensures { λ r. ⌜ r ≡ slotsHere slots brushes ⌝ }
+pub fn slots_valid(slots: u32, brushes: u32) -> bool
+    ensures { λ r. ⌜ r ≡ slotsValid slots brushes ⌝ }
 {
     if brushes == 0 {
         return slots == 0;

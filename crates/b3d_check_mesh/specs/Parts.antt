@@ -7,7 +7,7 @@ use lib.Dec.{leb, ltb, eqb}
 use Rattle.layout.specs.Rules.{holds}
 use Rattle.b3d_spec.specs.Rules.{vertexFlags, sets, setSize, brushId}
 use Rattle.b3d_spec.specs.declared.Counts.{Counts}
-use Rattle.b3d_check_spec.specs.Check.{runsHere, setHere}
+use Rattle.b3d_check_spec.specs.Check.{groupsValid, setValid}
 use Rattle.b3d_check_spec.specs.Rooms.{KindRoom}
 
 -- mesh row x is of node number `node`, has a brush that is NONE or below `brushes`, numbers in their range, and `first` as its first vertex
@@ -22,9 +22,9 @@ meshRowHere brushes node first x =
 unfoldable pub meshSets : ℕ → ℕ → ℕ → ℕ → List ℕ → List (List ℕ) → List (List ℕ) → Bool
 meshSets brushes i first r x ss ts =
     eqb (getD x 7 0) first
-    && (ltb 0 (getD x 8 0) && (leb (getD x 8 0) (length ss) && runsHere (setHere brushes (getD x 6 0) i) r (take (getD x 8 0) ss) ts))
+    && (ltb 0 (getD x 8 0) && (leb (getD x 8 0) (length ss) && groupsValid (setValid brushes (getD x 6 0) i) r (take (getD x 8 0) ss) ts))
 
--- what `mesh_here` asks: after the counts n a mesh comes, of those that a counts, and tables 4 to 7 have the rows that a counts
+-- what `mesh_valid` asks: after the counts n a mesh comes, of those that a counts, and tables 4 to 7 have the rows that a counts
 pub record MeshAfter (n a : Counts) (words₄ words₅ words₆ words₇ : ℕ) : Type 0 where
   -- one more mesh is counted
   pub one : n .meshes < a .meshes

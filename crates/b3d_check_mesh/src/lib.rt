@@ -5,7 +5,7 @@ ghost use Prim.Native.Nat.{_+_, _-_, _*_, _<_, _≤_};
 ghost use lib.ListN.{length};
 ghost use Rattle.b3d_spec.specs.Mask.{vertexMask};
 ghost use Rattle.b3d_spec.specs.Rules.{weightRow};
-ghost use Rattle.b3d_check_spec.specs.Check.{keeps, clean, rowsHere, meshHere};
+ghost use Rattle.b3d_check_spec.specs.Check.{keeps, clean, rowsValid, meshValid};
 ghost use Rattle.b3d_check_rows.specs.Rows.{rowAt, rowsAt};
 ghost use Rattle.b3d_check_mesh.specs.Parts.{meshRowHere, meshSets, MeshAfter};
 use b3d_check_row_runs::Run;
@@ -25,23 +25,23 @@ fn vertices_left(
     total: usize,
 ) -> bool
     requires { ⌜ (first ≤ total) × (42 * total ≤ length (now t)) ⌝ }
-    ensures { λ r. ⌜ r ≡ rowsHere (clean (vertexMask flags sets size)) count (rowsAt 42 first (total - first) (now (t .entry))) ⌝ }
+    ensures { λ r. ⌜ r ≡ rowsValid (clean (vertexMask flags sets size)) count (rowsAt 42 first (total - first) (now (t .entry))) ⌝ }
 {
     if total - first < count {
         return false;
     }
-    b3d_check_absent_words::vertices_here(t, flags, sets, size, first, count)
+    b3d_check_absent_words::vertices_valid(t, flags, sets, size, first, count)
 }
 
 // Returns whether `count` weights are there from row `first` on, of `total` in all, and each names a vertex below `bones`.
 pub fn weights_left(t: &[u32], bones: u32, count: usize, first: usize, total: usize) -> bool
     requires { ⌜ (first ≤ total) × (2 * total ≤ length (now t)) ⌝ }
-    ensures { λ r. ⌜ r ≡ rowsHere (keeps (weightRow bones)) count (rowsAt 2 first (total - first) (now (t .entry))) ⌝ }
+    ensures { λ r. ⌜ r ≡ rowsValid (keeps (weightRow bones)) count (rowsAt 2 first (total - first) (now (t .entry))) ⌝ }
 {
     if total - first < count {
         return false;
     }
-    b3d_check_rows::id_rows_here(Ids::Weights, t, bones, first, count)
+    b3d_check_rows::id_rows_valid(Ids::Weights, t, bones, first, count)
 }
 
 // ---- meshes
@@ -92,11 +92,11 @@ fn mesh_sets(
     }
     let v = t[o + 6];
     let run = Run::Triangles(brushes, v, i);
-    b3d_check_row_runs::runs_here(run, sets, first, count, triangles, from, all)
+    b3d_check_row_runs::groups_valid(run, sets, first, count, triangles, from, all)
 }
 
 // Returns whether the mesh that comes after the counts `n` is sound in tables 4 to 7, whose rows `all` counts.
-pub fn mesh_here(
+pub fn mesh_valid(
     brushes: u32,
     n: Counts,
     all: Counts,
@@ -106,7 +106,7 @@ pub fn mesh_here(
     t7: &[u32],
 ) -> bool
     requires { ⌜ MeshAfter n all (length (now t4)) (length (now t5)) (length (now t6)) (length (now t7)) ⌝ }
-    ensures { λ r. ⌜ r ≡ meshHere brushes n (rowAt 9 (n .meshes) (now (t4 .entry))) (rowsAt 42 (n .vertices) (all .vertices - n .vertices) (now (t5 .entry)))
+    ensures { λ r. ⌜ r ≡ meshValid brushes n (rowAt 9 (n .meshes) (now (t4 .entry))) (rowsAt 42 (n .vertices) (all .vertices - n .vertices) (now (t5 .entry)))
         (rowsAt 4 (n .sets) (all .sets - n .sets) (now (t6 .entry))) (rowsAt 3 (n .triangles) (all .triangles - n .triangles) (now (t7 .entry))) ⌝ }
 {
     let i = n.meshes;

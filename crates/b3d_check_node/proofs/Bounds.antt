@@ -9,15 +9,15 @@ use lib.Dec.{T, leb, ltb, eqb, leb→le, ltb→lt}
 use borrow.Author.Tests.{not-false}
 use mir.Facts.{and-yes}
 use Rattle.wire.specs.Test.{if}
-use Rattle.layout.specs.Fit.{all}
+use Rattle.layout.specs.WellFormed.{all}
 use Rattle.layout.specs.Rules.{holds}
 use Rattle.b3d_spec.specs.Mask.{vertexMask}
-use Rattle.b3d_spec.specs.Rebuild.{Rows, mine}
+use Rattle.b3d_spec.specs.Rebuild.{Rows, ownedBy}
 use Rattle.b3d_spec.specs.Rules.{vertexFlags, sets, setSize, brushId, weightRow}
 use Rattle.b3d_spec.specs.declared.Counts.{Counts}
 use Rattle.b3d_spec.proofs.Rows.RowLists.{cut-length, mine-length}
 use Rattle.b3d_check_spec.specs.CellCounts.{endOf, meshCounts, weightCounts, kindCounts, nodeCounts, cellCounts}
-use Rattle.b3d_check_spec.specs.Check.{keeps, clean, rowsHere, runsHere, nameHere, setHere, listHere, meshHere, kindHere, nodeHere}
+use Rattle.b3d_check_spec.specs.Check.{keeps, clean, rowsValid, groupsValid, nameValid, setValid, keyListValid, meshValid, kindValid, nodeValid}
 use Rattle.b3d_check_spec.proofs.Check.Testing.{if-both}
 use Rattle.b3d_check_node_counts.specs.Parts.{partRows, Below}
 use Rattle.b3d_check_node_counts.proofs.AfterLaws.{kind-keeps}
@@ -47,8 +47,8 @@ part-sized a t₄ t₅ t₆ t₇ t₈ t₉ t₁₀ =
 
 -- ---- runs
 
-runs-bound : (f : List ℕ → List (List ℕ) → Bool) (r : ℕ) (xs is : List (List ℕ)) → T (runsHere f r xs is) → endOf r xs ≤ r + length is
-unfolding runsHere endOf
+runs-bound : (f : List ℕ → List (List ℕ) → Bool) (r : ℕ) (xs is : List (List ℕ)) → T (groupsValid f r xs is) → endOf r xs ≤ r + length is
+unfolding groupsValid endOf
 runs-bound f r [] is t = omega arith
 runs-bound f r (x ∷ xs) is t =
     let c = getD x 3 0 in
@@ -62,10 +62,10 @@ runs-bound f r (x ∷ xs) is t =
 pub record MeshSays (brushes : ℕ) (n : Counts) (x : List ℕ) (vs ss ts : List (List ℕ)) : Type 0 where
   pub vertices : getD x 6 0 ≤ length vs
   pub sets : getD x 8 0 ≤ length ss
-  pub runs : T (runsHere (setHere brushes (getD x 6 0) (n .meshes)) (n .triangles) (take (getD x 8 0) ss) ts)
+  pub runs : T (groupsValid (setValid brushes (getD x 6 0) (n .meshes)) (n .triangles) (take (getD x 8 0) ss) ts)
 
-pub mesh-says : (brushes : ℕ) (n : Counts) (x : List ℕ) (vs ss ts : List (List ℕ)) → T (meshHere brushes n x vs ss ts) → MeshSays brushes n x vs ss ts
-unfolding meshHere rowsHere
+pub mesh-says : (brushes : ℕ) (n : Counts) (x : List ℕ) (vs ss ts : List (List ℕ)) → T (meshValid brushes n x vs ss ts) → MeshSays brushes n x vs ss ts
+unfolding meshValid rowsValid
 mesh-says brushes n x vs ss ts t =
     let ok = clean (vertexMask (getD x 2 0) (getD x 3 0) (getD x 4 0)) in
     let t₁ = and-yes (eqb (getD x 0 0) (n .nodes)) _ t .1 in
@@ -90,7 +90,7 @@ module _ (brushes bones : ℕ) (R : Rows) (n a : Counts) (s : Sized R a) (h : Be
   left k m c e l = omega (arith, length-drop m (R k))
 
   mesh-bound : (x : List ℕ) → T (ltb 0 (length (drop (n .meshes) (R 4))))
-      → T (meshHere brushes n x (drop (n .vertices) (R 5)) (drop (n .sets) (R 6)) (drop (n .triangles) (R 7))) → Below (meshCounts x (drop (n .sets) (R 6)) n) a
+      → T (meshValid brushes n x (drop (n .vertices) (R 5)) (drop (n .sets) (R 6)) (drop (n .triangles) (R 7))) → Below (meshCounts x (drop (n .sets) (R 6)) n) a
   unfolding meshCounts
   mesh-bound x o t =
       let vs = drop (n .vertices) (R 5) in
@@ -98,7 +98,7 @@ module _ (brushes bones : ℕ) (R : Rows) (n a : Counts) (s : Sized R a) (h : Be
       let ts = drop (n .triangles) (R 7) in
       let m = mesh-says brushes n x vs ss ts t in
       let lm = ltb→lt 0 (length (drop (n .meshes) (R 4))) o in
-      let lt = runs-bound (setHere brushes (getD x 6 0) (n .meshes)) (n .triangles) (take (getD x 8 0) ss) ts (m .runs) in
+      let lt = runs-bound (setValid brushes (getD x 6 0) (n .meshes)) (n .triangles) (take (getD x 8 0) ss) ts (m .runs) in
       let em = left 4 (n .meshes) (a .meshes) (s .meshes) (h .meshes) in
       let ev = left 5 (n .vertices) (a .vertices) (s .vertices) (h .vertices) in
       let es = left 6 (n .sets) (a .sets) (s .sets) (h .sets) in
@@ -114,8 +114,8 @@ module _ (brushes bones : ℕ) (R : Rows) (n a : Counts) (s : Sized R a) (h : Be
         keys = h .keys;
       }
 
-  bone-bound : (c : ℕ) → T (rowsHere (keeps (weightRow bones)) c (drop (n .weights) (R 8))) → Below (weightCounts c n) a
-  unfolding rowsHere weightCounts
+  bone-bound : (c : ℕ) → T (rowsValid (keeps (weightRow bones)) c (drop (n .weights) (R 8))) → Below (weightCounts c n) a
+  unfolding rowsValid weightCounts
   bone-bound c t =
       let l = leb→le c (length (drop (n .weights) (R 8))) (and-yes (leb c (length (drop (n .weights) (R 8)))) _ t .0) in
       let e = left 8 (n .weights) (a .weights) (s .weights) (h .weights) in
@@ -130,8 +130,8 @@ module _ (brushes bones : ℕ) (R : Rows) (n a : Counts) (s : Sized R a) (h : Be
         keys = h .keys;
       }
 
-  kind-bound : (y : List ℕ) → T (kindHere brushes bones R n y) → Below (kindCounts R n y) a
-  unfolding kindHere kindCounts
+  kind-bound : (y : List ℕ) → T (kindValid brushes bones R n y) → Below (kindCounts R n y) a
+  unfolding kindValid kindCounts
   kind-bound y =
       let ok : Bool → Counts → Type 0 = λ b m. T b → Below m a in
       let first = drop (n .meshes) (R 4) in
@@ -141,14 +141,14 @@ module _ (brushes bones : ℕ) (R : Rows) (n a : Counts) (s : Sized R a) (h : Be
 
   -- ---- nodes
 
-  node-bound : (ns x : List ℕ) → n .nodes < a .nodes → T (nodeHere ns brushes bones R x n) → Below (cellCounts R x n) a
-  unfolding nodeHere cellCounts nodeCounts
+  node-bound : (ns x : List ℕ) → n .nodes < a .nodes → T (nodeValid ns brushes bones R x n) → Below (cellCounts R x n) a
+  unfolding nodeValid cellCounts nodeCounts
   node-bound ns x o t =
       let y = drop 13 x in
-      let ls = mine (n .nodes) (drop (n .lists) (R 9)) in
+      let ls = ownedBy (n .nodes) (drop (n .lists) (R 9)) in
       let ks = drop (n .keys) (R 10) in
-      let u = and-yes (kindHere brushes bones R n y) _ (and-yes (nameHere ns x) _ t .1) in
-      let r = runs-bound listHere (n .keys) ls ks (and-yes (runsHere listHere (n .keys) ls ks) _ (u .1) .0) in
+      let u = and-yes (kindValid brushes bones R n y) _ (and-yes (nameValid ns x) _ t .1) in
+      let r = runs-bound keyListValid (n .keys) ls ks (and-yes (groupsValid keyListValid (n .keys) ls ks) _ (u .1) .0) in
       let m = mine-length (n .nodes) (drop (n .lists) (R 9)) in
       let b = kind-bound y (u .0) in
       let k = kind-keeps R n y in
@@ -167,7 +167,7 @@ module _ (brushes bones : ℕ) (R : Rows) (n a : Counts) (s : Sized R a) (h : Be
 
 -- as code has it: the counts need the tables 4, 6 and 9 alone
 pub after-below : (ns : List ℕ) (brushes bones : ℕ) (n a : Counts) (t₃ t₄ t₅ t₆ t₇ t₈ t₉ t₁₀ x : List ℕ) → Below n a → n .nodes < a .nodes → (r : Bool)
-    → r ≡ nodeHere ns brushes bones (partRows a t₄ t₅ t₆ t₇ t₈ t₉ t₁₀) x n → not r ≡ false → Below (cellCounts (partRows a t₄ [] t₆ [] [] t₉ []) x n) a
+    → r ≡ nodeValid ns brushes bones (partRows a t₄ t₅ t₆ t₇ t₈ t₉ t₁₀) x n → not r ≡ false → Below (cellCounts (partRows a t₄ [] t₆ [] [] t₉ []) x n) a
 unfolding cellCounts kindCounts partRows if
 after-below ns brushes bones n a t₃ t₄ t₅ t₆ t₇ t₈ t₉ t₁₀ x h o r e f =
     node-bound brushes bones (partRows a t₄ t₅ t₆ t₇ t₈ t₉ t₁₀) n a (part-sized a t₄ t₅ t₆ t₇ t₈ t₉ t₁₀) h ns x o (subst T (sym (sym e ∙ not-false r f)) tt)

@@ -9,12 +9,12 @@ use lib.Seq.{getD-drop, getD-take}
 use lib.Dec.{eqb}
 use borrow.Author.Tests.{eq-eqb, ne-eqb}
 use Rattle.wire.specs.Test.{if}
-use Rattle.layout.specs.Fit.{all}
+use Rattle.layout.specs.WellFormed.{all}
 use Rattle.layout.proofs.Testing.{and-true}
-use Rattle.b3d_spec.specs.Rebuild.{mine}
+use Rattle.b3d_spec.specs.Rebuild.{ownedBy}
 use Rattle.b3d_spec.specs.declared.Counts.{Counts}
 use Rattle.b3d_spec.specs.Tables.{nodeWidth}
-use Rattle.b3d_check_spec.specs.Check.{runsHere, nameHere, kindHere, listHere, animHere, nodeHere}
+use Rattle.b3d_check_spec.specs.Check.{groupsValid, nameValid, kindValid, keyListValid, animValid, nodeValid}
 use Rattle.b3d_check_spec.proofs.Check.Rows.{cells, cells-are}
 use Rattle.b3d_check_rows.specs.Rows.{rowAt, rowsAt}
 use Rattle.b3d_check_rows.proofs.Rows.{row-length, rows-from}
@@ -26,7 +26,7 @@ use Rattle.b3d_check_node_counts.specs.Parts.{partRows, Below}
 -- ---- key lists
 
 pub lists-mine : (node first total : ℕ) (t : List ℕ) (end : ℕ) → MineTo node first total t end → (r : ℕ) (ks : List (List ℕ)) (b : Bool)
-    → b ≡ runsHere listHere r (rowsAt 4 first (end - first) t) ks → b ≡ runsHere listHere r (mine node (rowsAt 4 first (total - first) t)) ks
+    → b ≡ groupsValid keyListValid r (rowsAt 4 first (end - first) t) ks → b ≡ groupsValid keyListValid r (ownedBy node (rowsAt 4 first (total - first) t)) ks
 lists-mine node first total t end m r ks b e = rw (m .is) e
 
 -- ---- animation
@@ -40,13 +40,13 @@ module _ (i : ℕ) (t : List ℕ) where
       let e : 13 + (3 + j) ≡ 16 + j = omega arith in
       getD-take 4 (drop 3 (drop 13 (rowAt nodeWidth i t))) j 0 h ∙ getD-drop 3 (drop 13 (rowAt nodeWidth i t)) j 0 ∙ kind-cell i (3 + j) t (omega arith) ∙ ap (λ (k : ℕ). getD t (nodeWidth * i + k) 0) e
 
-  pub anim-there : getD t (nodeWidth * i + 16) 0 ≡ 1 → true ≡ animHere (take 4 (drop 3 (drop 13 (rowAt nodeWidth i t))))
-  unfolding animHere if
+  pub anim-there : getD t (nodeWidth * i + 16) 0 ≡ 1 → true ≡ animValid (take 4 (drop 3 (drop 13 (rowAt nodeWidth i t))))
+  unfolding animValid if
   anim-there e = rw (anim-cell 0 (omega arith), eq-eqb (getD t (nodeWidth * i + 16) 0) 1 e)
 
   pub anim-none : nodeWidth * i + nodeWidth ≤ length t → (getD t (nodeWidth * i + 16) 0 ≡ 1 → ⊥)
-      → (eqb (getD t (nodeWidth * i + 16) 0) 0 && (eqb (getD t (nodeWidth * i + 17) 0) 0 && (eqb (getD t (nodeWidth * i + 18) 0) 0 && eqb (getD t (nodeWidth * i + 19) 0) 0))) ≡ animHere (take 4 (drop 3 (drop 13 (rowAt nodeWidth i t))))
-  unfolding animHere if cells
+      → (eqb (getD t (nodeWidth * i + 16) 0) 0 && (eqb (getD t (nodeWidth * i + 17) 0) 0 && (eqb (getD t (nodeWidth * i + 18) 0) 0 && eqb (getD t (nodeWidth * i + 19) 0) 0))) ≡ animValid (take 4 (drop 3 (drop 13 (rowAt nodeWidth i t))))
+  unfolding animValid if cells
   anim-none h e =
       let l : length y ≡ 4 = omega (arith, length-take 4 (drop 3 (drop 13 (rowAt nodeWidth i t))), length-drop 3 (drop 13 (rowAt nodeWidth i t)), length-drop 13 (rowAt nodeWidth i t), row-length nodeWidth i t h) in
       let c₀ = anim-cell 0 (omega arith) in
@@ -62,17 +62,17 @@ module _ (i : ℕ) (t : List ℕ) where
 
 -- a kind needs the tables 4 to 8 alone
 kind-few : (brushes bones : ℕ) (n a : Counts) (y t₄ t₅ t₆ t₇ t₈ t₉ t₁₀ : List ℕ)
-    → kindHere brushes bones (partRows a t₄ t₅ t₆ t₇ t₈ [] []) n y ≡ kindHere brushes bones (partRows a t₄ t₅ t₆ t₇ t₈ t₉ t₁₀) n y
-unfolding kindHere partRows if
+    → kindValid brushes bones (partRows a t₄ t₅ t₆ t₇ t₈ [] []) n y ≡ kindValid brushes bones (partRows a t₄ t₅ t₆ t₇ t₈ t₉ t₁₀) n y
+unfolding kindValid partRows if
 kind-few brushes bones n a y t₄ t₅ t₆ t₇ t₈ t₉ t₁₀ = refl
 
 pub node-parts : (ns : List ℕ) (brushes bones : ℕ) (n a : Counts) (t₃ t₄ t₅ t₆ t₇ t₈ t₉ t₁₀ : List ℕ) → Below n a → (r : Bool)
-    → r ≡ (nameHere ns (getD t₃ (nodeWidth * n .nodes) 0 ∷ getD t₃ (nodeWidth * n .nodes + 1) 0 ∷ [])
-    && (kindHere brushes bones (partRows a t₄ t₅ t₆ t₇ t₈ [] []) n (drop 13 (rowAt nodeWidth (n .nodes) t₃))
-    && (runsHere listHere (n .keys) (mine (n .nodes) (rowsAt 4 (n .lists) (a .lists - n .lists) t₉)) (rowsAt 11 (n .keys) (a .keys - n .keys) t₁₀)
-    && animHere (take 4 (drop 3 (drop 13 (rowAt nodeWidth (n .nodes) t₃)))))))
-    → r ≡ nodeHere ns brushes bones (partRows a t₄ t₅ t₆ t₇ t₈ t₉ t₁₀) (rowAt nodeWidth (n .nodes) t₃) n
-unfolding nodeHere partRows if
+    → r ≡ (nameValid ns (getD t₃ (nodeWidth * n .nodes) 0 ∷ getD t₃ (nodeWidth * n .nodes + 1) 0 ∷ [])
+    && (kindValid brushes bones (partRows a t₄ t₅ t₆ t₇ t₈ [] []) n (drop 13 (rowAt nodeWidth (n .nodes) t₃))
+    && (groupsValid keyListValid (n .keys) (ownedBy (n .nodes) (rowsAt 4 (n .lists) (a .lists - n .lists) t₉)) (rowsAt 11 (n .keys) (a .keys - n .keys) t₁₀)
+    && animValid (take 4 (drop 3 (drop 13 (rowAt nodeWidth (n .nodes) t₃)))))))
+    → r ≡ nodeValid ns brushes bones (partRows a t₄ t₅ t₆ t₇ t₈ t₉ t₁₀) (rowAt nodeWidth (n .nodes) t₃) n
+unfolding nodeValid partRows if
 node-parts ns brushes bones n a t₃ t₄ t₅ t₆ t₇ t₈ t₉ t₁₀ h r e =
     e ∙ ap₂ _&&_ (name-cells ns nodeWidth (n .nodes) t₃ (omega arith))
     (ap₂ _&&_ (kind-few brushes bones n a (drop 13 (rowAt nodeWidth (n .nodes) t₃)) t₄ t₅ t₆ t₇ t₈ t₉ t₁₀)

@@ -10,7 +10,7 @@ use mir.Syntax.{w64}
 use mir.Val.{Fits}
 use Rattle.wire.specs.Test.{if}
 use Rattle.layout.proofs.Outs.{if-case}
-use Rattle.b3d_spec.specs.Rebuild.{Rows, mine}
+use Rattle.b3d_spec.specs.Rebuild.{Rows, ownedBy}
 use Rattle.b3d_spec.specs.declared.Counts.{Counts}
 use Rattle.b3d_spec.specs.Tables.{nodeWidth}
 use Rattle.b3d_check_spec.specs.CellCounts.{endOf, meshCounts, weightCounts, kindCounts, nodeCounts, cellCounts}
@@ -41,7 +41,7 @@ module _ (n a : Counts) (t₃ t₄ t₆ t₉ : List ℕ) (h : Below n a) (count 
   kinds = kindCounts (partRows a t₄ [] t₆ [] [] [] []) n (getD t₃ (nodeWidth * n .nodes + 13) 0 ∷ 0 ∷ count ∷ [])
 
   abbrev ls : List (List ℕ)
-  ls = mine (n .nodes) (rowsAt 4 (n .lists) (a .lists - n .lists) t₉)
+  ls = ownedBy (n .nodes) (rowsAt 4 (n .lists) (a .lists - n .lists) t₉)
 
   abbrev whole : Counts
   whole = cellCounts (partRows a t₄ [] t₆ [] [] t₉ []) (rowAt nodeWidth (n .nodes) t₃) n
@@ -52,7 +52,7 @@ module _ (n a : Counts) (t₃ t₄ t₆ t₉ : List ℕ) (h : Below n a) (count 
 
   parts : whole ≡ nodeCounts (n .lists + length ls) (endOf (n .keys) ls) kinds
   unfolding cellCounts partRows if
-  parts = ap₂ (λ (r : List (List ℕ)) (k : Counts). nodeCounts (n .lists + length (mine (n .nodes) r)) (endOf (n .keys) (mine (n .nodes) r)) k) (rows-from 4 (a .lists) (n .lists) t₉ (h .lists)) same-kind
+  parts = ap₂ (λ (r : List (List ℕ)) (k : Counts). nodeCounts (n .lists + length (ownedBy (n .nodes) r)) (endOf (n .keys) (ownedBy (n .nodes) r)) k) (rows-from 4 (a .lists) (n .lists) t₉ (h .lists)) same-kind
 
   module _ (b : Below (cellCounts (partRows a t₄ [] t₆ [] [] t₉ []) (rowAt nodeWidth (n .nodes) t₃) n) a) where
     after : Below (nodeCounts (n .lists + length ls) (endOf (n .keys) ls) kinds) a

@@ -15,8 +15,8 @@ use Rattle.b3d_spec.specs.Rebuild.{Rows}
 use Rattle.b3d_spec.specs.Rules.{levels}
 use Rattle.b3d_spec.specs.Tables.{nodeWidth}
 use Rattle.b3d_spec.specs.declared.Counts.{Counts}
-use Rattle.b3d_check_spec.specs.CellCounts.{meshCounts, weightCounts, kindCounts, nodeCounts, cellCounts, cellBones}
-use Rattle.b3d_check_spec.specs.Check.{nodeHere, spent, Level, upTo, endFrom, toldBy, nodesHere}
+use Rattle.b3d_check_spec.specs.CellCounts.{meshCounts, weightCounts, kindCounts, nodeCounts, cellCounts, cellBoneLimit}
+use Rattle.b3d_check_spec.specs.Check.{nodeValid, spent, Level, upTo, endFrom, boneLimitOf, nodesValid}
 use Rattle.b3d_check_rows.specs.Rows.{rowAt, rowsAt}
 use Rattle.b3d_check_rows.proofs.Ands.{and-stop, and-go}
 use Rattle.b3d_check_rows.proofs.Rows.{row-cell, rows-none, rows-next}
@@ -59,7 +59,7 @@ cell-there k n a l h r w = omega arith
 
 -- where node n's is sound, so many rows are counted after it
 module _ (ns : List ℕ) (brushes told : ℕ) (a : Counts) (t₃ t₄ t₅ t₆ t₇ t₈ t₉ t₁₀ : List ℕ) (n : Counts) (i : Below n a) (h : n .nodes < a .nodes)
-    (r : Bool) (er : r ≡ nodeHere ns brushes told (partRows a t₄ t₅ t₆ t₇ t₈ t₉ t₁₀) (rowAt nodeWidth (n .nodes) t₃) n) (f : not r ≡ false) where
+    (r : Bool) (er : r ≡ nodeValid ns brushes told (partRows a t₄ t₅ t₆ t₇ t₈ t₉ t₁₀) (rowAt nodeWidth (n .nodes) t₃) n) (f : not r ≡ false) where
   pub nodes-after : Below (cellCounts (partRows a t₄ [] t₆ [] [] t₉ []) (rowAt nodeWidth (n .nodes) t₃) n) a
   nodes-after = after-below ns brushes told n a t₃ t₄ t₅ t₆ t₇ t₈ t₉ t₁₀ (rowAt nodeWidth (n .nodes) t₃) i h r er f
 
@@ -87,8 +87,8 @@ pub record NodesFrom (ns : List ℕ) (brushes root end : ℕ) (R : Rows) (a : Co
   pub bones-long : length bones ≡ length bones₀
   pub bones-room : 16 ≤ length bones₀
   pub deep : depth ≤ 16
-  pub same : nodesHere ns brushes R (pathOf path ends bones depth) (rowsAt nodeWidth (n .nodes) (a .nodes - n .nodes) t₃) n
-      ≡ nodesHere ns brushes R (record { node = 0; end = end; bones = root } ∷ []) (rowsAt nodeWidth (from .nodes) (a .nodes - from .nodes) t₃) from
+  pub same : nodesValid ns brushes R (pathOf path ends bones depth) (rowsAt nodeWidth (n .nodes) (a .nodes - n .nodes) t₃) n
+      ≡ nodesValid ns brushes R (record { node = 0; end = end; bones = root } ∷ []) (rowsAt nodeWidth (from .nodes) (a .nodes - from .nodes) t₃) from
 
 module _ (ns : List ℕ) (brushes root end : ℕ) (a : Counts) (t₃ t₄ t₅ t₆ t₇ t₈ t₉ t₁₀ path₀ ends₀ bones₀ : List ℕ) (from : Counts) where
   abbrev R : Rows
@@ -96,7 +96,7 @@ module _ (ns : List ℕ) (brushes root end : ℕ) (a : Counts) (t₃ t₄ t₅ t
 
   -- what is to be said of all
   abbrev All : Bool
-  All = nodesHere ns brushes R (record { node = 0; end = end; bones = root } ∷ []) (rowsAt nodeWidth (from .nodes) (a .nodes - from .nodes) t₃) from
+  All = nodesValid ns brushes R (record { node = 0; end = end; bones = root } ∷ []) (rowsAt nodeWidth (from .nodes) (a .nodes - from .nodes) t₃) from
 
   pub nodes-none : Below from a → 16 ≤ length path₀ → 16 ≤ length ends₀ → 16 ≤ length bones₀ → getD path₀ 0 0 ≡ 0 → getD ends₀ 0 0 ≡ end → getD bones₀ 0 0 ≡ root
       → NodesFrom ns brushes root end (partRows a t₄ t₅ t₆ t₇ t₈ t₉ t₁₀) a t₃ path₀ ends₀ bones₀ from path₀ ends₀ bones₀ 1 from
@@ -114,17 +114,17 @@ module _ (ns : List ℕ) (brushes root end : ℕ) (a : Counts) (t₃ t₄ t₅ t
     -- no node is left
     module _ (h : a .nodes ≤ n .nodes) (b : Bool) (eb : Ending ends depth (n .nodes) b) where
       last : All ≡ (b && spent R n)
-      unfolding nodesHere
+      unfolding nodesValid
       last =
           let z : a .nodes - n .nodes ≡ 0 = omega arith in
-          sym (i .same) ∙ ap (λ (l : List (List ℕ)). nodesHere ns brushes R (pathOf path ends bones depth) l n) (ap (λ (c : ℕ). rowsAt nodeWidth (n .nodes) c t₃) z ∙ rows-none nodeWidth (n .nodes) t₃)
+          sym (i .same) ∙ ap (λ (l : List (List ℕ)). nodesValid ns brushes R (pathOf path ends bones depth) l n) (ap (λ (c : ℕ). rowsAt nodeWidth (n .nodes) c t₃) z ∙ rows-none nodeWidth (n .nodes) t₃)
           ∙ ap (λ (c : Bool). c && spent R n) (sym (eb .is path bones))
 
-      pub nodes-open : not b ≡ true → false ≡ nodesHere ns brushes (partRows a t₄ t₅ t₆ t₇ t₈ t₉ t₁₀) (record { node = 0; end = end; bones = root } ∷ []) (rowsAt nodeWidth (from .nodes) (a .nodes - from .nodes) t₃) from
+      pub nodes-open : not b ≡ true → false ≡ nodesValid ns brushes (partRows a t₄ t₅ t₆ t₇ t₈ t₉ t₁₀) (record { node = 0; end = end; bones = root } ∷ []) (rowsAt nodeWidth (from .nodes) (a .nodes - from .nodes) t₃) from
       nodes-open f = and-stop b b _ refl f ∙ sym last
 
       pub nodes-done : not b ≡ false → (r : Bool) → r ≡ ended n a
-          → r ≡ nodesHere ns brushes (partRows a t₄ t₅ t₆ t₇ t₈ t₉ t₁₀) (record { node = 0; end = end; bones = root } ∷ []) (rowsAt nodeWidth (from .nodes) (a .nodes - from .nodes) t₃) from
+          → r ≡ nodesValid ns brushes (partRows a t₄ t₅ t₆ t₇ t₈ t₉ t₁₀) (record { node = 0; end = end; bones = root } ∷ []) (rowsAt nodeWidth (from .nodes) (a .nodes - from .nodes) t₃) from
       nodes-done f r e = and-go b b _ r refl f (e ∙ ended-spent n a t₄ t₅ t₆ t₇ t₈ t₉ t₁₀) ∙ sym last
 
     module _ (h : n .nodes < a .nodes) (p : ℕ) (ep : p ≡ getD t₃ (nodeWidth * n .nodes + 2) 0) (d : ℕ) (e : CutTo path ends depth (n .nodes) p d) where
@@ -134,34 +134,34 @@ module _ (ns : List ℕ) (brushes root end : ℕ) (a : Counts) (t₃ t₄ t₅ t
       -- what is said below the level d, by what that says of bones
       abbrev turn : ℕ → Bool
       turn told =
-          nodeHere ns brushes told R x n
-          && nodesHere ns brushes R (record { node = n .nodes; end = endFrom (n .nodes) x; bones = cellBones told R x n } ∷ pathOf path ends bones d) (rowsAt nodeWidth (n .nodes + 1) (a .nodes - (n .nodes + 1)) t₃) (cellCounts R x n)
+          nodeValid ns brushes told R x n
+          && nodesValid ns brushes R (record { node = n .nodes; end = endFrom (n .nodes) x; bones = cellBoneLimit told R x n } ∷ pathOf path ends bones d) (rowsAt nodeWidth (n .nodes + 1) (a .nodes - (n .nodes + 1)) t₃) (cellCounts R x n)
 
-      step : All ≡ (ltb 0 d && (ltb d levels && turn (toldBy (pathOf path ends bones d))))
-      unfolding nodesHere
+      step : All ≡ (ltb 0 d && (ltb d levels && turn (boneLimitOf (pathOf path ends bones d))))
+      unfolding nodesValid
       step =
           let c : a .nodes - n .nodes ≡ suc (a .nodes - (n .nodes + 1)) = omega arith in
           let q : upTo (n .nodes) (getD x 2 0) (pathOf path ends bones depth) ≡ pathOf path ends bones d = ap (λ (j : ℕ). upTo (n .nodes) j (pathOf path ends bones depth)) (row-cell nodeWidth (n .nodes) 2 t₃ (omega arith) ∙ sym ep) ∙ sym (e .is bones) in
           sym (i .same)
-          ∙ ap (λ (l : List (List ℕ)). nodesHere ns brushes R (pathOf path ends bones depth) l n) (ap (λ (k : ℕ). rowsAt nodeWidth (n .nodes) k t₃) c ∙ rows-next nodeWidth (n .nodes) (a .nodes - (n .nodes + 1)) t₃)
-          ∙ ap (λ (l : List Level). ltb 0 (length l) && (ltb (length l) levels && (nodeHere ns brushes (toldBy l) R x n
-          && nodesHere ns brushes R (record { node = n .nodes; end = endFrom (n .nodes) x; bones = cellBones (toldBy l) R x n } ∷ l) (rowsAt nodeWidth (n .nodes + 1) (a .nodes - (n .nodes + 1)) t₃) (cellCounts R x n)))) q
-          ∙ ap (λ (k : ℕ). ltb 0 k && (ltb k levels && turn (toldBy (pathOf path ends bones d)))) (path-length path ends bones d)
+          ∙ ap (λ (l : List (List ℕ)). nodesValid ns brushes R (pathOf path ends bones depth) l n) (ap (λ (k : ℕ). rowsAt nodeWidth (n .nodes) k t₃) c ∙ rows-next nodeWidth (n .nodes) (a .nodes - (n .nodes + 1)) t₃)
+          ∙ ap (λ (l : List Level). ltb 0 (length l) && (ltb (length l) levels && (nodeValid ns brushes (boneLimitOf l) R x n
+          && nodesValid ns brushes R (record { node = n .nodes; end = endFrom (n .nodes) x; bones = cellBoneLimit (boneLimitOf l) R x n } ∷ l) (rowsAt nodeWidth (n .nodes + 1) (a .nodes - (n .nodes + 1)) t₃) (cellCounts R x n)))) q
+          ∙ ap (λ (k : ℕ). ltb 0 k && (ltb k levels && turn (boneLimitOf (pathOf path ends bones d)))) (path-length path ends bones d)
 
-      pub nodes-wrong : d ≤ 0 → false ≡ nodesHere ns brushes (partRows a t₄ t₅ t₆ t₇ t₈ t₉ t₁₀) (record { node = 0; end = end; bones = root } ∷ []) (rowsAt nodeWidth (from .nodes) (a .nodes - from .nodes) t₃) from
+      pub nodes-wrong : d ≤ 0 → false ≡ nodesValid ns brushes (partRows a t₄ t₅ t₆ t₇ t₈ t₉ t₁₀) (record { node = 0; end = end; bones = root } ∷ []) (rowsAt nodeWidth (from .nodes) (a .nodes - from .nodes) t₃) from
       nodes-wrong z = rw (step, le-ltb 0 d z)
 
       module _ (z : 0 < d) where
         -- a bound that is no less than 16
-        pub nodes-deep : (k : ℕ) → k ≤ d → T (leb 16 k) → false ≡ nodesHere ns brushes (partRows a t₄ t₅ t₆ t₇ t₈ t₉ t₁₀) (record { node = 0; end = end; bones = root } ∷ []) (rowsAt nodeWidth (from .nodes) (a .nodes - from .nodes) t₃) from
+        pub nodes-deep : (k : ℕ) → k ≤ d → T (leb 16 k) → false ≡ nodesValid ns brushes (partRows a t₄ t₅ t₆ t₇ t₈ t₉ t₁₀) (record { node = 0; end = end; bones = root } ∷ []) (rowsAt nodeWidth (from .nodes) (a .nodes - from .nodes) t₃) from
         nodes-deep k g t = let l = leb→le 16 k t in rw (step, lt-ltb 0 d z, le-ltb d 16 (omega arith))
 
-        module _ (k : d < 16) (told : ℕ) (et : told ≡ getD bones (d - 1) 0) (r : Bool) (er : r ≡ nodeHere ns brushes told (partRows a t₄ t₅ t₆ t₇ t₈ t₉ t₁₀) (rowAt nodeWidth (n .nodes) t₃) n) where
+        module _ (k : d < 16) (told : ℕ) (et : told ≡ getD bones (d - 1) 0) (r : Bool) (er : r ≡ nodeValid ns brushes told (partRows a t₄ t₅ t₆ t₇ t₈ t₉ t₁₀) (rowAt nodeWidth (n .nodes) t₃) n) where
           on : All ≡ turn told
           on = step ∙ rw (lt-ltb 0 d z, lt-ltb d 16 k) (ap turn (path-told path ends bones d z ∙ sym et))
 
-          pub nodes-stop : not r ≡ true → false ≡ nodesHere ns brushes (partRows a t₄ t₅ t₆ t₇ t₈ t₉ t₁₀) (record { node = 0; end = end; bones = root } ∷ []) (rowsAt nodeWidth (from .nodes) (a .nodes - from .nodes) t₃) from
-          nodes-stop f = and-stop r (nodeHere ns brushes told R x n) _ er f ∙ sym on
+          pub nodes-stop : not r ≡ true → false ≡ nodesValid ns brushes (partRows a t₄ t₅ t₆ t₇ t₈ t₉ t₁₀) (record { node = 0; end = end; bones = root } ∷ []) (rowsAt nodeWidth (from .nodes) (a .nodes - from .nodes) t₃) from
+          nodes-stop f = and-stop r (nodeValid ns brushes told R x n) _ er f ∙ sym on
 
           module _ (f : not r ≡ false) where
             module _ (m : Counts) (em : m ≡ cellCounts (partRows a t₄ [] t₆ [] [] t₉ []) (rowAt nodeWidth (n .nodes) t₃) n) where
@@ -175,8 +175,8 @@ module _ (ns : List ℕ) (brushes root end : ℕ) (a : Counts) (t₃ t₄ t₅ t
                 end-is : u ≡ endFrom (n .nodes) x
                 end-is = eu ∙ ap (λ (c : ℕ). n .nodes + 1 + c) (sym (row-cell nodeWidth (n .nodes) 20 t₃ (omega arith)))
 
-                bones-is : v ≡ cellBones told R x n
-                unfolding cellBones
+                bones-is : v ≡ cellBoneLimit told R x n
+                unfolding cellBoneLimit
                 bones-is = ev ∙ ap₂ (λ (c : ℕ) (q : Counts). if (eqb c 1) (q .vertices - n .vertices) told) (sym (row-cell nodeWidth (n .nodes) 16 t₃ (omega arith))) whole
 
                 pub nodes-next : NodesFrom ns brushes root end (partRows a t₄ t₅ t₆ t₇ t₈ t₉ t₁₀) a t₃ path₀ ends₀ bones₀ from (set path d (n .nodes)) (set ends d u) (set bones d v) (d + 1) m
@@ -191,8 +191,8 @@ module _ (ns : List ℕ) (brushes root end : ℕ) (a : Counts) (t₃ t₄ t₅ t
                       bones-room = i .bones-room;
                       deep = omega arith;
                       same =
-                          ap (λ (l : List Level). nodesHere ns brushes R l (rowsAt nodeWidth (m .nodes) (a .nodes - m .nodes) t₃) m)
+                          ap (λ (l : List Level). nodesValid ns brushes R l (rowsAt nodeWidth (m .nodes) (a .nodes - m .nodes) t₃) m)
                           (path-set path ends bones d (n .nodes) u v (omega (arith, i .path-long, i .path-room)) (omega (arith, i .ends-long, i .ends-room)) (omega (arith, i .bones-long, i .bones-room)))
-                          ∙ (λ j. nodesHere ns brushes R (record { node = n .nodes; end = end-is j; bones = bones-is j } ∷ pathOf path ends bones d) (rowsAt nodeWidth (one j) (a .nodes - one j) t₃) (whole j))
-                          ∙ and-go r (nodeHere ns brushes told R x n) _ _ er f refl ∙ sym on;
+                          ∙ (λ j. nodesValid ns brushes R (record { node = n .nodes; end = end-is j; bones = bones-is j } ∷ pathOf path ends bones d) (rowsAt nodeWidth (one j) (a .nodes - one j) t₃) (whole j))
+                          ∙ and-go r (nodeValid ns brushes told R x n) _ _ er f refl ∙ sym on;
                     }

@@ -4,16 +4,16 @@ ghost use mathlib.Core.List.{[], _∷_};
 ghost use Prim.Native.Nat.{_-_, _*_, _≤_};
 ghost use lib.ListN.{length};
 ghost use Rattle.b3d_spec.specs.Tables.{nodeWidth};
-ghost use Rattle.b3d_check_spec.specs.Check.{nodesHere};
+ghost use Rattle.b3d_check_spec.specs.Check.{nodesValid};
 ghost use Rattle.b3d_check_rows.specs.Rows.{rowsAt};
 ghost use Rattle.b3d_check_spec.specs.Rooms.{Limited, KindRoom, ListRoom};
 ghost use Rattle.b3d_check_node_counts.specs.Parts.{partRows, Below};
-use b3d_check_node::node_here;
+use b3d_check_node::node_valid;
 use b3d_spec::Counts;
 
 // Returns whether the nodes after the root are sound in tables 3 to 10, whose rows `all` counts; `from` are the counts after the root, whose branch ends at
 // row `end` and whose bone limit is its vertices. The names are in `text`. A path of 16 levels holds the open nodes, where each ends and its bone limit.
-pub fn nodes_here(
+pub fn nodes_valid(
     text: &[u8],
     brushes: u32,
     end: usize,
@@ -30,7 +30,7 @@ pub fn nodes_here(
 ) -> bool
     requires { ⌜ Below from all × KindRoom all (length (now t4)) (length (now t5)) (length (now t6)) (length (now t7)) (length (now t8)) ⌝ }
     requires { ⌜ Limited all × (nodeWidth * all .nodes ≤ length (now t3)) × ListRoom all (length (now t9)) (length (now t10)) ⌝ }
-    ensures { λ r. ⌜ r ≡ nodesHere (now (text .entry)) brushes (partRows all (now (t4 .entry)) (now (t5 .entry)) (now (t6 .entry)) (now (t7 .entry)) (now (t8 .entry)) (now (t9 .entry)) (now (t10 .entry)))
+    ensures { λ r. ⌜ r ≡ nodesValid (now (text .entry)) brushes (partRows all (now (t4 .entry)) (now (t5 .entry)) (now (t6 .entry)) (now (t7 .entry)) (now (t8 .entry)) (now (t9 .entry)) (now (t10 .entry)))
         (record { node = 0; end = end; bones = from .vertices } ∷ []) (rowsAt nodeWidth (from .nodes) (all .nodes - from .nodes) (now (t3 .entry))) from ⌝ }
 {
     let mut path: [usize; 16] = [0; 16];
@@ -50,7 +50,7 @@ pub fn nodes_here(
             return false;
         }
         let told = bones[d - 1];
-        if !node_here(text, brushes, told, n, all, t3, t4, t5, t6, t7, t8, t9, t10) {
+        if !node_valid(text, brushes, told, n, all, t3, t4, t5, t6, t7, t8, t9, t10) {
             return false;
         }
         let m = b3d_check_node_counts::node_counts(n, all, t3, t4, t6, t9);

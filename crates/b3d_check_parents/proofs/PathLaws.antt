@@ -11,7 +11,7 @@ use lib.Seq.{getD-set-same, getD-set-other}
 use lib.Dec.{eqb}
 use borrow.Author.Tests.{not-true, not-false, eq-eqb, ne-eqb}
 use Rattle.wire.specs.Test.{if}
-use Rattle.b3d_check_spec.specs.Check.{upTo, endHere, toldBy}
+use Rattle.b3d_check_spec.specs.Check.{upTo, allEnd, boneLimitOf}
 use Rattle.b3d_check_parents.specs.Path.{pathOf, CutTo, Ending}
 
 -- ---- a path up to one of its nodes
@@ -62,7 +62,7 @@ pub ruleset cut-laws = (cut-none, cut-end, cut-found, cut-wrong, cut-next)
 -- the levels from d on end at row i
 pub record EndFrom (e : List ℕ) (depth i d : ℕ) : Type 0 where
   pub within : d ≤ depth
-  pub rest : (a v : List ℕ) → endHere i (pathOf a e v d) ≡ endHere i (pathOf a e v depth)
+  pub rest : (a v : List ℕ) → allEnd i (pathOf a e v d) ≡ allEnd i (pathOf a e v depth)
 
 module _ (e : List ℕ) (depth i : ℕ) where
   pub ends-none : EndFrom e depth i depth
@@ -70,12 +70,12 @@ module _ (e : List ℕ) (depth i : ℕ) where
 
   module _ (d : ℕ) (f : EndFrom e depth i d) where
     pub ends-all : d ≤ 0 → Ending e depth i true
-    unfolding pathOf endHere
+    unfolding pathOf allEnd
     ends-all h = let z : d ≡ 0 = omega arith in record { is = λ a v. rw z at (f .rest a v) }
 
     module _ (h : 0 < d) where
-      ends-step : (a v : List ℕ) → endHere i (pathOf a e v d) ≡ (eqb (getD e (d - 1) 0) i && endHere i (pathOf a e v (d - 1)))
-      unfolding endHere
+      ends-step : (a v : List ℕ) → allEnd i (pathOf a e v d) ≡ (eqb (getD e (d - 1) 0) i && allEnd i (pathOf a e v (d - 1)))
+      unfolding allEnd
       ends-step a v = rw (path-step a e v d h)
 
       pub ends-wrong : not (eqb (getD e (d - 1) 0) i) ≡ true → Ending e depth i false
@@ -93,8 +93,8 @@ unfolding pathOf
 path-length a e v zero = refl
 path-length a e v (suc d) = ap suc (path-length a e v d)
 
-pub path-told : (a e v : List ℕ) (d : ℕ) → 0 < d → toldBy (pathOf a e v d) ≡ getD v (d - 1) 0
-unfolding toldBy
+pub path-told : (a e v : List ℕ) (d : ℕ) → 0 < d → boneLimitOf (pathOf a e v d) ≡ getD v (d - 1) 0
+unfolding boneLimitOf
 path-told a e v d h = rw (path-step a e v d h)
 
 module _ (a e v : List ℕ) (d i k w : ℕ) where

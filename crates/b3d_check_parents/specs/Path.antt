@@ -4,7 +4,7 @@ use Prim.Native.Nat.{ℕ, zero, suc, _≤_}
 use mathlib.Core.Bool.{Bool}
 use mathlib.Core.List.{List, [], _∷_}
 use lib.ListN.{getD}
-use Rattle.b3d_check_spec.specs.Check.{Level, upTo, endHere}
+use Rattle.b3d_check_spec.specs.Check.{Level, upTo, allEnd}
 
 -- the first d levels of the path in the arrays a of nodes, e of ends and v of bone limits, the last level first
 unfoldable pub pathOf : List ℕ → List ℕ → List ℕ → ℕ → List Level
@@ -21,4 +21,4 @@ pub record CutTo (a e : List ℕ) (depth i p r : ℕ) : Type 0 where
 -- what `all_end` promises of its answer r
 pub record Ending (e : List ℕ) (depth i : ℕ) (r : Bool) : Type 0 where
   -- r says whether the first `depth` levels end at row i, whatever their nodes and bone limits
-  pub is : (a v : List ℕ) → r ≡ endHere i (pathOf a e v depth)
+  pub is : (a v : List ℕ) → r ≡ allEnd i (pathOf a e v depth)

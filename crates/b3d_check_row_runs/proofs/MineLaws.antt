@@ -8,7 +8,7 @@ use lib.ListN.{getD}
 use lib.Dec.{eqb}
 use borrow.Author.Tests.{not-true, not-false}
 use Rattle.wire.specs.Test.{if}
-use Rattle.b3d_spec.specs.Rebuild.{mine}
+use Rattle.b3d_spec.specs.Rebuild.{ownedBy}
 use Rattle.b3d_check_rows.specs.Rows.{rowAt, rowsAt}
 use Rattle.b3d_check_rows.proofs.Rows.{row-first, rows-none, rows-next}
 use Rattle.b3d_check_row_runs.specs.Mine.{MineTo}
@@ -17,7 +17,7 @@ use Rattle.b3d_check_row_runs.specs.Mine.{MineTo}
 pub record MineFrom (node first all : ℕ) (t : List ℕ) (i : ℕ) : Type 0 where
   pub low : first ≤ i
   pub high : i ≤ all
-  pub same : mine node (rowsAt 4 first (all - first) t) ≡ rowsAt 4 first (i - first) t ++ mine node (rowsAt 4 i (all - i) t)
+  pub same : ownedBy node (rowsAt 4 first (all - first) t) ≡ rowsAt 4 first (i - first) t ++ ownedBy node (rowsAt 4 i (all - i) t)
 
 -- one row more at the end
 rows-more : (w i c : ℕ) (ws : List ℕ) → rowsAt w i c ws ++ (rowAt w (i + c) ws ∷ []) ≡ rowsAt w i (suc c) ws
@@ -32,14 +32,14 @@ module _ (node first all : ℕ) (t : List ℕ) where
 
   module _ (i : ℕ) (a : MineFrom node first all t i) where
     pub mine-done : all ≤ i → MineTo node first all t i
-    unfolding mine
+    unfolding ownedBy
     mine-done h =
         let e : all - i ≡ 0 = omega arith in
         record { low = a .low; high = a .high; is = a .same ∙ rw (e, rows-none 4 i t) (append-nil (rowsAt 4 first (i - first) t)) }
 
     module _ (h : i < all) (b : ℕ) (eb : b ≡ getD t (4 * i) 0) where
-      left : mine node (rowsAt 4 i (all - i) t) ≡ if (eqb b node) (rowAt 4 i t ∷ mine node (rowsAt 4 (i + 1) (all - (i + 1)) t)) []
-      unfolding mine
+      left : ownedBy node (rowsAt 4 i (all - i) t) ≡ if (eqb b node) (rowAt 4 i t ∷ ownedBy node (rowsAt 4 (i + 1) (all - (i + 1)) t)) []
+      unfolding ownedBy
       left = let n : all - i ≡ suc (all - (i + 1)) = omega arith in rw (n, rows-next 4 i (all - (i + 1)) t, row-first 4 i t (omega arith), ← eb)
 
       pub mine-other : not (eqb b node) ≡ true → MineTo node first all t i
@@ -52,7 +52,7 @@ module _ (node first all : ℕ) (t : List ℕ) where
       mine-next k =
           let d : i ≡ first + (i - first) = omega (arith, a .low) in
           let s : suc (i - first) ≡ i + 1 - first = omega (arith, a .low) in
-          let m = mine node (rowsAt 4 (i + 1) (all - (i + 1)) t) in
+          let m = ownedBy node (rowsAt 4 (i + 1) (all - (i + 1)) t) in
           let g : rowsAt 4 first (i - first) t ++ (rowAt 4 i t ∷ []) ≡ rowsAt 4 first (i + 1 - first) t =
           ap (λ (j : ℕ). rowsAt 4 first (i - first) t ++ (rowAt 4 j t ∷ [])) d ∙ rows-more 4 first (i - first) t ∙ ap (λ (c : ℕ). rowsAt 4 first c t) s in
           record {

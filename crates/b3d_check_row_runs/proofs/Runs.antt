@@ -8,7 +8,7 @@ use mathlib.Core.List.{List}
 use lib.ListN.{take, drop, getD}
 use lib.Dec.{leb, eqb}
 use borrow.Author.Tests.{lt-leb, le-leb}
-use Rattle.b3d_check_spec.specs.Check.{runsHere}
+use Rattle.b3d_check_spec.specs.Check.{groupsValid}
 use Rattle.b3d_check_rows.specs.Rows.{rowAt, rowsAt}
 use Rattle.b3d_check_rows.proofs.Ands.{and-stop, and-go}
 use Rattle.b3d_check_rows.proofs.Rows.{row-cell, rows-none, rows-next, rows-length, rows-take, rows-drop}
@@ -18,18 +18,18 @@ pub record RunsFrom (f : List ℕ → List (List ℕ) → Bool) (w from first co
   pub last : end ≡ first + count
   pub before : i ≤ end
   pub inside : r ≤ all
-  pub same : runsHere f r (rowsAt 4 i (end - i) xs) (rowsAt w r (all - r) is) ≡ runsHere f from (rowsAt 4 first count xs) (rowsAt w from (all - from) is)
+  pub same : groupsValid f r (rowsAt 4 i (end - i) xs) (rowsAt w r (all - r) is) ≡ groupsValid f from (rowsAt 4 first count xs) (rowsAt w from (all - from) is)
 
 module _ (f : List ℕ → List (List ℕ) → Bool) (w from first count : ℕ) (xs : List ℕ) (all : ℕ) (is : List ℕ) where
   abbrev whole : Bool
-  whole = runsHere f from (rowsAt 4 first count xs) (rowsAt w from (all - from) is)
+  whole = groupsValid f from (rowsAt 4 first count xs) (rowsAt w from (all - from) is)
 
   pub runs-none : from ≤ all → RunsFrom f w from first count xs all is (first + count) from first
   runs-none h = let e : first + count - first ≡ count = omega arith in record { last = refl; before = omega arith; inside = h; same = rw e }
 
   module _ (end r i : ℕ) (a : RunsFrom f w from first count xs all is end r i) where
-    pub runs-done : end ≤ i → true ≡ runsHere f from (rowsAt 4 first count xs) (rowsAt w from (all - from) is)
-    unfolding runsHere
+    pub runs-done : end ≤ i → true ≡ groupsValid f from (rowsAt 4 first count xs) (rowsAt w from (all - from) is)
+    unfolding groupsValid
     runs-done h = let e : end - i ≡ 0 = omega arith in rw (← a .same, e, rows-none 4 i xs)
 
     -- the items of the next row are there
@@ -40,31 +40,31 @@ module _ (f : List ℕ → List (List ℕ) → Bool) (w from first count : ℕ) 
 
     module _ (h : i < end) (b c : ℕ) (eb : b ≡ getD xs (4 * i + 2) 0) (ec : c ≡ getD xs (4 * i + 3) 0) where
       abbrev rest : Bool
-      rest = runsHere f (r + c) (rowsAt 4 (i + 1) (end - (i + 1)) xs) (drop c (rowsAt w r (all - r) is))
+      rest = groupsValid f (r + c) (rowsAt 4 (i + 1) (end - (i + 1)) xs) (drop c (rowsAt w r (all - r) is))
 
       step : whole ≡ (eqb b r && (leb c (all - r) && (f (rowAt 4 i xs) (take c (rowsAt w r (all - r) is)) && rest)))
-      unfolding runsHere
+      unfolding groupsValid
       step =
           let n : end - i ≡ suc (end - (i + 1)) = omega arith in
           let x₂ = row-cell 4 i 2 xs (omega arith) in
           let x₃ = row-cell 4 i 3 xs (omega arith) in
           rw (← a .same, n, rows-next 4 i (end - (i + 1)) xs, x₂, x₃, ← eb, ← ec, rows-length w r (all - r) is)
 
-      pub runs-wrong : not (eqb b r) ≡ true → false ≡ runsHere f from (rowsAt 4 first count xs) (rowsAt w from (all - from) is)
+      pub runs-wrong : not (eqb b r) ≡ true → false ≡ groupsValid f from (rowsAt 4 first count xs) (rowsAt w from (all - from) is)
       runs-wrong k = and-stop (eqb b r) (eqb b r) _ refl k ∙ sym step
 
       module _ (k : not (eqb b r) ≡ false) where
-        pub runs-past : all - r < c → false ≡ runsHere f from (rowsAt 4 first count xs) (rowsAt w from (all - from) is)
+        pub runs-past : all - r < c → false ≡ groupsValid f from (rowsAt 4 first count xs) (rowsAt w from (all - from) is)
         runs-past l = and-go (eqb b r) (eqb b r) _ false refl k (rw (lt-leb c (all - r) l)) ∙ sym step
 
         module _ (l : c ≤ all - r) (s : Bool) (e : s ≡ f (rowAt 4 i xs) (rowsAt w r c is)) where
-          turn : whole ≡ (f (rowAt 4 i xs) (rowsAt w r c is) && runsHere f (r + c) (rowsAt 4 (i + 1) (end - (i + 1)) xs) (rowsAt w (r + c) (all - (r + c)) is))
+          turn : whole ≡ (f (rowAt 4 i xs) (rowsAt w r c is) && groupsValid f (r + c) (rowsAt 4 (i + 1) (end - (i + 1)) xs) (rowsAt w (r + c) (all - (r + c)) is))
           turn =
               let d : all - r - c ≡ all - (r + c) = omega arith in
               step ∙ sym (and-go (eqb b r) (eqb b r) _ _ refl k refl)
               ∙ rw (le-leb c (all - r) l, rows-take w r c (all - r) is l, rows-drop w r c (all - r) is l, d)
 
-          pub runs-stop : not s ≡ true → false ≡ runsHere f from (rowsAt 4 first count xs) (rowsAt w from (all - from) is)
+          pub runs-stop : not s ≡ true → false ≡ groupsValid f from (rowsAt 4 first count xs) (rowsAt w from (all - from) is)
           runs-stop n = and-stop s (f (rowAt 4 i xs) (rowsAt w r c is)) _ e n ∙ sym turn
 
           pub runs-next : not s ≡ false → RunsFrom f w from first count xs all is end (r + c) (i + 1)

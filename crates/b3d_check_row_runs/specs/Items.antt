@@ -2,7 +2,7 @@
 use Prim.Native.Nat.{ℕ}
 use mathlib.Core.Bool.{Bool}
 use mathlib.Core.List.{List}
-use Rattle.b3d_check_spec.specs.Check.{setHere, listHere}
+use Rattle.b3d_check_spec.specs.Check.{setValid, keyListValid}
 use Rattle.b3d_check_row_runs.specs.declared.Run.{Run}
 use Rattle.b3d_check_row_runs.specs.declared.Run.the-variants.{Keys, Triangles}
 
@@ -13,5 +13,5 @@ runWidth (Triangles brushes v mesh) = 3
 
 -- the test of a row with its items: that of a key list, or that of a triangle set of mesh number `mesh`, which has v vertices
 abbrev pub runTest : Run → List ℕ → List (List ℕ) → Bool
-runTest Keys = listHere
-runTest (Triangles brushes v mesh) = setHere brushes v mesh
+runTest Keys = keyListValid
+runTest (Triangles brushes v mesh) = setValid brushes v mesh

@@ -4,7 +4,7 @@ ghost use mathlib.Core.Path.{_≡_};
 ghost use Prim.Native.Nat.{_+_, _-_, _*_, _≤_};
 ghost use lib.ListN.{length};
 ghost use Rattle.b3d_check_spec.specs.CellCounts.{endOf};
-ghost use Rattle.b3d_check_spec.specs.Check.{runsHere, setHere, listHere};
+ghost use Rattle.b3d_check_spec.specs.Check.{groupsValid, setValid, keyListValid};
 ghost use Rattle.b3d_check_rows.specs.Rows.{rowAt, rowsAt};
 ghost use Rattle.b3d_check_row_runs.specs.Items.{runWidth, runTest};
 ghost use Rattle.b3d_check_row_runs.specs.Mine.{MineTo};
@@ -18,20 +18,20 @@ pub enum Run {
 }
 
 // Returns whether row `i` of table 9, `t`, has flags in their range and the cells that they leave out of its `count` keys from row `first` on are 0.
-fn list_here(t: &[u32], i: usize, keys: &[u32], first: usize, count: usize) -> bool
+fn key_list_valid(t: &[u32], i: usize, keys: &[u32], first: usize, count: usize) -> bool
     requires { ⌜ (4 * i + 4 ≤ length (now t)) × (11 * (first + count) ≤ length (now keys)) ⌝ }
-    ensures { λ r. ⌜ r ≡ listHere (rowAt 4 i (now (t .entry))) (rowsAt 11 first count (now (keys .entry))) ⌝ }
+    ensures { λ r. ⌜ r ≡ keyListValid (rowAt 4 i (now (t .entry))) (rowsAt 11 first count (now (keys .entry))) ⌝ }
 {
     let flags = t[4 * i + 1];
     if !(flags <= 7) {
         return false;
     }
-    b3d_check_absent_words::keys_here(keys, flags, first, count)
+    b3d_check_absent_words::keys_valid(keys, flags, first, count)
 }
 
 // Returns whether row `i` of table 6, `t`, belongs to mesh `mesh` and has a brush that is NONE or below `brushes`, and its `count` triangles from row `first`
 // on name vertices below `v`.
-fn set_here(
+fn set_valid(
     brushes: u32,
     v: u32,
     mesh: usize,
@@ -42,7 +42,7 @@ fn set_here(
     count: usize,
 ) -> bool
     requires { ⌜ (4 * i + 4 ≤ length (now t)) × (3 * (first + count) ≤ length (now triangles)) ⌝ }
-    ensures { λ r. ⌜ r ≡ setHere brushes v mesh (rowAt 4 i (now (t .entry))) (rowsAt 3 first count (now (triangles .entry))) ⌝ }
+    ensures { λ r. ⌜ r ≡ setValid brushes v mesh (rowAt 4 i (now (t .entry))) (rowsAt 3 first count (now (triangles .entry))) ⌝ }
 {
     let o = 4 * i;
     let own = b3d_check_rows::cell(t, o);
@@ -53,23 +53,23 @@ fn set_here(
     if !((brush == 0xFFFFFFFF) | (brush < brushes)) {
         return false;
     }
-    b3d_check_rows::id_rows_here(Ids::Triangles, triangles, v, first, count)
+    b3d_check_rows::id_rows_valid(Ids::Triangles, triangles, v, first, count)
 }
 
 // Returns whether row `i` of `t`, a key list or a triangle set as `run` says, is sound with its `count` items from row `first` on.
-fn run_here(run: Run, t: &[u32], i: usize, items: &[u32], first: usize, count: usize) -> bool
+fn group_valid(run: Run, t: &[u32], i: usize, items: &[u32], first: usize, count: usize) -> bool
     requires { ⌜ (4 * i + 4 ≤ length (now t)) × (runWidth run * (first + count) ≤ length (now items)) ⌝ }
     ensures { λ r. ⌜ r ≡ runTest run (rowAt 4 i (now (t .entry))) (rowsAt (runWidth run) first count (now (items .entry))) ⌝ }
 {
     match run {
-        Run::Keys => list_here(t, i, items, first, count),
-        Run::Triangles(brushes, v, mesh) => set_here(brushes, v, mesh, t, i, items, first, count),
+        Run::Keys => key_list_valid(t, i, items, first, count),
+        Run::Triangles(brushes, v, mesh) => set_valid(brushes, v, mesh, t, i, items, first, count),
     }
 }
 
 // Returns whether the `count` rows of `t` from row `first` on are sound: their groups of items follow each other from number `from` on, none passes `total`,
 // and each row is sound with its items.
-pub fn runs_here(
+pub fn groups_valid(
     run: Run,
     t: &[u32],
     first: usize,
@@ -79,7 +79,7 @@ pub fn runs_here(
     total: usize,
 ) -> bool
     requires { ⌜ (4 * (first + count) ≤ length (now t)) × (from ≤ total) × (runWidth run * total ≤ length (now items)) ⌝ }
-    ensures { λ r. ⌜ r ≡ runsHere (runTest run) from (rowsAt 4 first count (now (t .entry))) (rowsAt (runWidth run) from (total - from) (now (items .entry))) ⌝ }
+    ensures { λ r. ⌜ r ≡ groupsValid (runTest run) from (rowsAt 4 first count (now (t .entry))) (rowsAt (runWidth run) from (total - from) (now (items .entry))) ⌝ }
 {
     let end = first + count;
     let mut r = from;
@@ -93,7 +93,7 @@ pub fn runs_here(
         if total - r < many {
             return false;
         }
-        if !run_here(run, t, i, items, r, many) {
+        if !group_valid(run, t, i, items, r, many) {
             return false;
         }
         r += many;

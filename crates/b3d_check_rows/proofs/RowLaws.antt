@@ -9,11 +9,11 @@ use lib.Dec.{ltb}
 use borrow.Author.Tests.{lt-leb, le-leb}
 use mir.Syntax.{w64}
 use mir.Val.{Fits}
-use Rattle.layout.specs.Fit.{all}
+use Rattle.layout.specs.WellFormed.{all}
 use Rattle.layout.specs.Rules.{Rule}
 use Rattle.layout.proofs.Testing.{and-true}
 use Rattle.b3d_spec.specs.Rules.{triangleRow, weightRow}
-use Rattle.b3d_check_spec.specs.Check.{keeps, nameHere}
+use Rattle.b3d_check_spec.specs.Check.{keeps, nameValid}
 use Rattle.b3d_check_spec.proofs.Check.Rows.{cells, cells-are}
 use Rattle.b3d_check_rows.specs.declared.Ids.{Ids}
 use Rattle.b3d_check_rows.specs.declared.Ids.the-variants.{Triangles, Weights}
@@ -71,20 +71,20 @@ pub ruleset id-laws = (triangle-room, triangle-id, weight-room, weight-id)
 -- ---- names
 
 module _ (ns : List ℕ) (place size from many : ℕ) (e : from ≡ place) (f : many ≡ size) where
-  pub name-past : length ns < from + many → false ≡ nameHere ns (place ∷ size ∷ [])
-  unfolding nameHere
+  pub name-past : length ns < from + many → false ≡ nameValid ns (place ∷ size ∷ [])
+  unfolding nameValid
   name-past h = rw (← e, ← f, lt-leb (from + many) (length ns) h)
 
-  pub name-bytes : from + many ≤ length ns → (r : Bool) → r ≡ all (λ b. ltb 0 b) (take many (drop from ns)) → r ≡ nameHere ns (place ∷ size ∷ [])
-  unfolding nameHere
+  pub name-bytes : from + many ≤ length ns → (r : Bool) → r ≡ all (λ b. ltb 0 b) (take many (drop from ns)) → r ≡ nameValid ns (place ∷ size ∷ [])
+  unfolding nameValid
   name-bytes h r q = rw (← e, ← f, le-leb (from + many) (length ns) h) q
 
 -- a row that begins with the name's cells
-pub name-cells : (ns : List ℕ) (w i : ℕ) (ws : List ℕ) → 2 ≤ w → nameHere ns (getD ws (w * i) 0 ∷ getD ws (w * i + 1) 0 ∷ []) ≡ nameHere ns (rowAt w i ws)
-unfolding nameHere
+pub name-cells : (ns : List ℕ) (w i : ℕ) (ws : List ℕ) → 2 ≤ w → nameValid ns (getD ws (w * i) 0 ∷ getD ws (w * i + 1) 0 ∷ []) ≡ nameValid ns (rowAt w i ws)
+unfolding nameValid
 name-cells ns w i ws h = rw (row-first w i ws (omega arith), row-cell w i 1 ws (omega arith))
 
-pub name-row : (ns : List ℕ) (w i : ℕ) (ws : List ℕ) → 2 ≤ w → (r : Bool) → r ≡ nameHere ns (getD ws (w * i) 0 ∷ getD ws (w * i + 1) 0 ∷ []) → r ≡ nameHere ns (rowAt w i ws)
+pub name-row : (ns : List ℕ) (w i : ℕ) (ws : List ℕ) → 2 ≤ w → (r : Bool) → r ≡ nameValid ns (getD ws (w * i) 0 ∷ getD ws (w * i + 1) 0 ∷ []) → r ≡ nameValid ns (rowAt w i ws)
 name-row ns w i ws h r e = e ∙ name-cells ns w i ws h
 
 pub ruleset name-laws = (name-past, name-bytes)

@@ -5,9 +5,9 @@ ghost use mathlib.Core.List.{[], _∷_};
 ghost use Prim.Native.Nat.{_+_, _*_, _<_, _≤_};
 ghost use lib.ListN.{length, getD, take, drop};
 ghost use lib.Dec.{ltb};
-ghost use Rattle.layout.specs.Fit.{all};
+ghost use Rattle.layout.specs.WellFormed.{all};
 ghost use Rattle.b3d_spec.specs.Rules.{triangleRow, weightRow};
-ghost use Rattle.b3d_check_spec.specs.Check.{keeps, nameHere};
+ghost use Rattle.b3d_check_spec.specs.Check.{keeps, nameValid};
 ghost use Rattle.b3d_check_rows.specs.IdRows.{idWidth, idRow};
 ghost use Rattle.b3d_check_rows.specs.Rows.{rowAt, rowsAt};
 
@@ -22,7 +22,7 @@ pub fn cell(t: &[u32], at: usize) -> usize
 // ---- names
 
 // Returns whether none of the `count` bytes of `names` from `place` on is zero.
-fn text_here(names: &[u8], place: usize, count: usize) -> bool
+fn text_valid(names: &[u8], place: usize, count: usize) -> bool
     requires { ⌜ place + count ≤ length (now names) ⌝ }
     ensures { λ r. ⌜ r ≡ all (λ b. ltb 0 b) (take count (drop place (now (names .entry)))) ⌝ }
 {
@@ -39,15 +39,15 @@ fn text_here(names: &[u8], place: usize, count: usize) -> bool
 }
 
 // Returns whether the name of `count` bytes at `place` lies in `names`, with no zero inside.
-pub fn name_here(names: &[u8], place: u32, count: u32) -> bool
-    ensures { λ r. ⌜ r ≡ nameHere (now (names .entry)) (place ∷ count ∷ []) ⌝ }
+pub fn name_valid(names: &[u8], place: u32, count: u32) -> bool
+    ensures { λ r. ⌜ r ≡ nameValid (now (names .entry)) (place ∷ count ∷ []) ⌝ }
 {
     let from = wire::size(place);
     let many = wire::size(count);
     if names.len() < from + many {
         return false;
     }
-    text_here(names, from, many)
+    text_valid(names, from, many)
 }
 
 // ---- ids
@@ -59,7 +59,7 @@ pub enum Ids {
 }
 
 // Returns whether row `i` of table 7, `t`, names three vertices below `v`.
-fn triangle_here(t: &[u32], v: u32, i: usize) -> bool
+fn triangle_valid(t: &[u32], v: u32, i: usize) -> bool
     requires { ⌜ 3 * i + 3 ≤ length (now t) ⌝ }
     ensures { λ r. ⌜ r ≡ keeps (triangleRow v) (rowAt 3 i (now (t .entry))) ⌝ }
 {
@@ -68,7 +68,7 @@ fn triangle_here(t: &[u32], v: u32, i: usize) -> bool
 }
 
 // Returns whether row `i` of table 8, `t`, names a vertex below `bones`.
-fn weight_here(t: &[u32], bones: u32, i: usize) -> bool
+fn weight_valid(t: &[u32], bones: u32, i: usize) -> bool
     requires { ⌜ 2 * i + 2 ≤ length (now t) ⌝ }
     ensures { λ r. ⌜ r ≡ keeps (weightRow bones) (rowAt 2 i (now (t .entry))) ⌝ }
 {
@@ -76,25 +76,25 @@ fn weight_here(t: &[u32], bones: u32, i: usize) -> bool
 }
 
 // Returns whether row `i` of `t`, a triangle or a weight as `ids` says, names vertices below `v`.
-fn id_row_here(ids: Ids, t: &[u32], v: u32, i: usize) -> bool
+fn id_row_valid(ids: Ids, t: &[u32], v: u32, i: usize) -> bool
     requires { ⌜ idWidth ids * i + idWidth ids ≤ length (now t) ⌝ }
     ensures { λ r. ⌜ r ≡ keeps (idRow ids v) (rowAt (idWidth ids) i (now (t .entry))) ⌝ }
 {
     match ids {
-        Ids::Triangles => triangle_here(t, v, i),
-        Ids::Weights => weight_here(t, v, i),
+        Ids::Triangles => triangle_valid(t, v, i),
+        Ids::Weights => weight_valid(t, v, i),
     }
 }
 
 // Returns whether each of the `count` rows of `t` from row `first` on, triangles or weights as `ids` says, names vertices below `v`.
-pub fn id_rows_here(ids: Ids, t: &[u32], v: u32, first: usize, count: usize) -> bool
+pub fn id_rows_valid(ids: Ids, t: &[u32], v: u32, first: usize, count: usize) -> bool
     requires { ⌜ idWidth ids * (first + count) ≤ length (now t) ⌝ }
     ensures { λ r. ⌜ r ≡ all (keeps (idRow ids v)) (rowsAt (idWidth ids) first count (now (t .entry))) ⌝ }
 {
     let end = first + count;
     let mut i = first;
     while i < end {
-        if !id_row_here(ids, t, v, i) {
+        if !id_row_valid(ids, t, v, i) {
             return false;
         }
         i += 1;

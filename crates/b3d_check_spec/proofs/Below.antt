@@ -10,8 +10,8 @@ use Rattle.wire.specs.Test.{if}
 use Rattle.layout.specs.Rules.{NONE}
 use Rattle.layout.proofs.Lists.{All, all-map, all-zip}
 use Rattle.layout.specs.Rows.{nameCells}
-use Rattle.b3d_spec.specs.Rebuild.{Rows, mine, dataFrom}
-use Rattle.b3d_spec.specs.Scene.{Keys, Data, Forest, leaf, node}
+use Rattle.b3d_spec.specs.Rebuild.{Rows, ownedBy, dataFrom}
+use Rattle.b3d_spec.specs.Scene.{Keys, Data, Forest, noNodes, node}
 use Rattle.b3d_spec.specs.Tables.{start, reached, nodeRow, listRows, ownRows, withNode, withForest, forestRows, nodeTables, nodesIn}
 use Rattle.b3d_spec.specs.declared.Counts.{Counts}
 use Rattle.b3d_spec.proofs.Fitting.{FitData}
@@ -33,7 +33,7 @@ afterOwn d ch sib p n S k = forestRows k ch (n .nodes) (withNode d n) ++ (forest
 
 above-sib : (p i : ℕ) (t : Forest) (n : Counts) (S : Rows) → p < i ⊎ p ≡ NONE → Above i (S 3) → Above i (forestRows 3 t p n ++ S 3)
 unfolding forestRows ownRows nodeRow nameCells if
-above-sib p i leaf n S h a = a
+above-sib p i noNodes n S h a = a
 above-sib p i (node d ch sib) n S h a = h
 
 above-up : (p i : ℕ) (l : List (List ℕ)) → p ≤ i → Above p l → Above i l
@@ -51,7 +51,7 @@ later-list i j k (x ∷ xs) l le h = le
 
 later-forest : (i : ℕ) (t : Forest) (p : ℕ) (n : Counts) (l : List (List ℕ)) → i ≤ n .nodes → Later i l → Later i (forestRows 9 t p n ++ l)
 unfolding forestRows ownRows if
-later-forest i leaf p n l le h = h
+later-forest i noNodes p n l le h = h
 later-forest i (node d ch sib) p n l le h =
     let m = withNode d n in
     let q = withForest ch m in
@@ -130,7 +130,7 @@ module _ (R : Rows) (d : Data) (ch sib : Forest) (p : ℕ) (n : Counts) (S : Row
       (later-forest (suc (n .nodes)) ch (n .nodes) m l (omega arith) (later-down (suc (n .nodes)) (q .nodes) l (omega arith) later-sib))
 
   -- its key lists are those that name it
-  pub here-lists : mine (n .nodes) (drop (n .lists) (R 9)) ≡ listRows (n .nodes) (n .keys) (d .keys)
+  pub here-lists : ownedBy (n .nodes) (drop (n .lists) (R 9)) ≡ listRows (n .nodes) (n .keys) (d .keys)
   unfolding nodeTables reached ownRows if
   here-lists = rw (here-own .1 .1 .1 .1 .1 .1 .0) (mine-back (n .nodes) (n .keys) (d .keys) (afterOwn d ch sib p n S 9) here-others)
 
@@ -165,17 +165,17 @@ here-scene R t h =
     }
 
 -- the children of its root
-pub here-root : (R : Rows) (d : Data) (ch : Forest) → Here R (node d ch leaf) NONE start (λ k. []) → Here R ch 0 (withNode d start) (λ k. [])
+pub here-root : (R : Rows) (d : Data) (ch : Forest) → Here R (node d ch noNodes) NONE start (λ k. []) → Here R ch 0 (withNode d start) (λ k. [])
 unfolding forestRows start
 here-root R d ch h =
     record {
-      begins = from-after R start d NONE (nodesIn ch) (λ k. forestRows k ch 0 (withNode d start) ++ []) (here-own R d ch leaf NONE start (λ k. []) h);
+      begins = from-after R start d NONE (nodesIn ch) (λ k. forestRows k ch 0 (withNode d start) ++ []) (here-own R d ch noNodes NONE start (λ k. []) h);
       above = tt;
       later = tt;
     }
 
 -- the nodes of p have ended: there is no row left, or the next is not one of p's
-pub here-end : (R : Rows) (p : ℕ) (n : Counts) (S : Rows) → p < NONE → Here R leaf p n S → (drop (n .nodes) (R 3) ≡ []) ⊎ (getD (getD (drop (n .nodes) (R 3)) 0 []) 2 0 ≢ p)
+pub here-end : (R : Rows) (p : ℕ) (n : Counts) (S : Rows) → p < NONE → Here R noNodes p n S → (drop (n .nodes) (R 3) ≡ []) ⊎ (getD (getD (drop (n .nodes) (R 3)) 0 []) 2 0 ≢ p)
 unfolding forestRows nodeTables reached if
 here-end R p n S le h = ended p (drop (n .nodes) (R 3)) le (subst (Above p) (sym (h .begins .0)) (h .above))
   where

@@ -4,7 +4,7 @@ use mathlib.Core.List.{List, [], _∷_}
 use lib.ListN.{length, take, drop, getD}
 use lib.Dec.{eqb}
 use Rattle.wire.specs.Test.{if}
-use Rattle.b3d_spec.specs.Rebuild.{mine, Rows}
+use Rattle.b3d_spec.specs.Rebuild.{ownedBy, Rows}
 use Rattle.b3d_spec.specs.declared.Counts.{Counts}
 
 -- the count r and cell 3 of each row: the number behind the items of these rows
@@ -63,9 +63,9 @@ nodeCounts l k n =
 -- the counts n after node row x: its kind and its key lists
 unfoldable pub cellCounts : Rows → List ℕ → Counts → Counts
 cellCounts R x n =
-    let ls = mine (n .nodes) (drop (n .lists) (R 9)) in
+    let ls = ownedBy (n .nodes) (drop (n .lists) (R 9)) in
     nodeCounts (n .lists + length ls) (endOf (n .keys) ls) (kindCounts R n (drop 13 x))
 
 -- the bone limit that node row x hands down: the vertices of its own mesh if it has an ANIM, else the limit `told` that it got
-unfoldable pub cellBones : ℕ → Rows → List ℕ → Counts → ℕ
-cellBones told R x n = if (eqb (getD x 16 0) 1) ((cellCounts R x n) .vertices - n .vertices) told
+unfoldable pub cellBoneLimit : ℕ → Rows → List ℕ → Counts → ℕ
+cellBoneLimit told R x n = if (eqb (getD x 16 0) 1) ((cellCounts R x n) .vertices - n .vertices) told

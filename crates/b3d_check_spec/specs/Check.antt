@@ -7,16 +7,16 @@ use mathlib.Core.List.{List, [], _∷_}
 use lib.ListN.{length, take, drop, getD}
 use lib.Dec.{leb, ltb, eqb}
 use Rattle.wire.specs.Test.{if}
-use Rattle.layout.specs.Fit.{all}
+use Rattle.layout.specs.WellFormed.{all}
 use Rattle.layout.specs.Rules.{NONE, Rule, holds}
 use Rattle.b3d_spec.specs.Colours.{passes}
 use Rattle.b3d_spec.specs.Mask.{vertexMask, keyMask}
-use Rattle.b3d_spec.specs.Rebuild.{Lent, lentRows, roomy, mine, Rows}
-use Rattle.b3d_spec.specs.Rules.{version, slots, vertexFlags, sets, setSize, keyFlags, brushId, brushIds, triangleRow, weightRow, boneVertices, levels}
+use Rattle.b3d_spec.specs.Rebuild.{Lent, lentRows, hasCountedRows, ownedBy, Rows}
+use Rattle.b3d_spec.specs.Rules.{version, slots, vertexFlags, sets, setSize, keyFlags, brushId, brushIds, triangleRow, weightRow, boneLimit, levels}
 use Rattle.b3d_spec.specs.Tables.{start, reached, partTables, tables}
 use Rattle.b3d_spec.specs.declared.Counts.{Counts}
 use Rattle.b3d_spec.specs.declared.Mode.{Mode}
-use Rattle.b3d_check_spec.specs.CellCounts.{cellCounts, cellBones}
+use Rattle.b3d_check_spec.specs.CellCounts.{cellCounts, cellBoneLimit}
 
 -- ---- rows
 
@@ -34,80 +34,80 @@ clean (true ∷ m) (x ∷ r) = clean m r
 clean (false ∷ m) (x ∷ r) = eqb x 0 && clean m r
 
 -- rs has at least c rows, and f holds of each of the first c
-unfoldable pub rowsHere : (List ℕ → Bool) → ℕ → List (List ℕ) → Bool
-rowsHere f c rs = leb c (length rs) && all f (take c rs)
+unfoldable pub rowsValid : (List ℕ → Bool) → ℕ → List (List ℕ) → Bool
+rowsValid f c rs = leb c (length rs) && all f (take c rs)
 
 -- each row owns a group of items in another table: cell 2 is the group's first row (the groups follow each other from r on), cell 3 its length. True if all
 -- cells say so, `is` has these items, and f holds of each row and its group
-unfoldable pub runsHere : (List ℕ → List (List ℕ) → Bool) → ℕ → List (List ℕ) → List (List ℕ) → Bool
-runsHere f r [] is = true
-runsHere f r (x ∷ xs) is =
+unfoldable pub groupsValid : (List ℕ → List (List ℕ) → Bool) → ℕ → List (List ℕ) → List (List ℕ) → Bool
+groupsValid f r [] is = true
+groupsValid f r (x ∷ xs) is =
     let c = getD x 3 0 in
-    eqb (getD x 2 0) r && (leb c (length is) && (f x (take c is) && runsHere f (r + c) xs (drop c is)))
+    eqb (getD x 2 0) r && (leb c (length is) && (f x (take c is) && groupsValid f (r + c) xs (drop c is)))
 
 -- ---- textures and brushes
 
 -- the name that row x begins with lies in ns, with no zero inside
-unfoldable pub nameHere : List ℕ → List ℕ → Bool
-nameHere ns x = leb (getD x 0 0 + getD x 1 0) (length ns) && all (λ b. ltb 0 b) (take (getD x 1 0) (drop (getD x 0 0) ns))
+unfoldable pub nameValid : List ℕ → List ℕ → Bool
+nameValid ns x = leb (getD x 0 0 + getD x 1 0) (length ns) && all (λ b. ltb 0 b) (take (getD x 1 0) (drop (getD x 0 0) ns))
 
 -- brush row x has its name in ns, `many` slots that are NONE or name one of `textures` textures, and NONE in the unused slots
-unfoldable pub brushHere : List ℕ → ℕ → ℕ → List ℕ → Bool
-brushHere ns many textures x =
+unfoldable pub brushValid : List ℕ → ℕ → ℕ → List ℕ → Bool
+brushValid ns many textures x =
     let ids = drop 9 x in
-    nameHere ns x && (keeps (brushIds many textures) (take many ids) && all (λ i. eqb i NONE) (drop many ids))
+    nameValid ns x && (keeps (brushIds many textures) (take many ids) && all (λ i. eqb i NONE) (drop many ids))
 
 -- n_texs (`many`) is 0 without a brush, else in its range
-unfoldable pub slotsHere : ℕ → ℕ → Bool
-slotsHere many brushes = if (eqb brushes 0) (eqb many 0) (holds slots many)
+unfoldable pub slotsValid : ℕ → ℕ → Bool
+slotsValid many brushes = if (eqb brushes 0) (eqb many 0) (holds slots many)
 
 -- ---- meshes
 
 -- x is the row of a triangle set of mesh i, its brush is NONE or below `brushes`, and its triangles ts name vertices below v
-unfoldable pub setHere : ℕ → ℕ → ℕ → List ℕ → List (List ℕ) → Bool
-setHere brushes v i x ts = eqb (getD x 0 0) i && (holds (brushId brushes) (getD x 1 0) && all (keeps (triangleRow v)) ts)
+unfoldable pub setValid : ℕ → ℕ → ℕ → List ℕ → List (List ℕ) → Bool
+setValid brushes v i x ts = eqb (getD x 0 0) i && (holds (brushId brushes) (getD x 1 0) && all (keeps (triangleRow v)) ts)
 
 -- x is a mesh row that comes after the counts n, with the vertices vs, triangle sets ss and triangles ts from its first ones on
-unfoldable pub meshHere : ℕ → Counts → List ℕ → List (List ℕ) → List (List ℕ) → List (List ℕ) → Bool
-meshHere brushes n x vs ss ts =
+unfoldable pub meshValid : ℕ → Counts → List ℕ → List (List ℕ) → List (List ℕ) → List (List ℕ) → Bool
+meshValid brushes n x vs ss ts =
     eqb (getD x 0 0) (n .nodes)
     && (holds (brushId brushes) (getD x 1 0)
     && (holds vertexFlags (getD x 2 0) && (holds sets (getD x 3 0) && (holds setSize (getD x 4 0)
     && (eqb (getD x 5 0) (n .vertices)
-    && (rowsHere (clean (vertexMask (getD x 2 0) (getD x 3 0) (getD x 4 0))) (getD x 6 0) vs
+    && (rowsValid (clean (vertexMask (getD x 2 0) (getD x 3 0) (getD x 4 0))) (getD x 6 0) vs
     && (eqb (getD x 7 0) (n .sets)
     && (ltb 0 (getD x 8 0)
-    && (leb (getD x 8 0) (length ss) && runsHere (setHere brushes (getD x 6 0) (n .meshes)) (n .triangles) (take (getD x 8 0) ss) ts)))))))))
+    && (leb (getD x 8 0) (length ss) && groupsValid (setValid brushes (getD x 6 0) (n .meshes)) (n .triangles) (take (getD x 8 0) ss) ts)))))))))
 
 -- ---- nodes
 
 -- kind, first and count in y are sound after the counts n; a weight may name a vertex below `bones`
-unfoldable pub kindHere : ℕ → ℕ → Rows → Counts → List ℕ → Bool
-kindHere brushes bones R n y =
+unfoldable pub kindValid : ℕ → ℕ → Rows → Counts → List ℕ → Bool
+kindValid brushes bones R n y =
     if (eqb (getD y 0 0) 1)
     (eqb (getD y 1 0) (n .meshes)
     && (eqb (getD y 2 0) 1
     && (ltb 0 (length (drop (n .meshes) (R 4)))
-    && meshHere brushes n (getD (drop (n .meshes) (R 4)) 0 []) (drop (n .vertices) (R 5)) (drop (n .sets) (R 6)) (drop (n .triangles) (R 7)))))
+    && meshValid brushes n (getD (drop (n .meshes) (R 4)) 0 []) (drop (n .vertices) (R 5)) (drop (n .sets) (R 6)) (drop (n .triangles) (R 7)))))
     (if (eqb (getD y 0 0) 2)
-    (eqb (getD y 1 0) (n .weights) && rowsHere (keeps (weightRow bones)) (getD y 2 0) (drop (n .weights) (R 8)))
+    (eqb (getD y 1 0) (n .weights) && rowsValid (keeps (weightRow bones)) (getD y 2 0) (drop (n .weights) (R 8)))
     (eqb (getD y 0 0) 0 && (eqb (getD y 1 0) 0 && eqb (getD y 2 0) 0)))
 
 -- x is the row of a key list, with flags in their range, and its keys ks are 0 where the flags leave cells out
-unfoldable pub listHere : List ℕ → List (List ℕ) → Bool
-listHere x ks = holds keyFlags (getD x 1 0) && all (clean (keyMask (getD x 1 0))) ks
+unfoldable pub keyListValid : List ℕ → List (List ℕ) → Bool
+keyListValid x ks = holds keyFlags (getD x 1 0) && all (clean (keyMask (getD x 1 0))) ks
 
 -- y holds whether there is an ANIM, 1 or 0, and its three values, which are 0 without it
-unfoldable pub animHere : List ℕ → Bool
-animHere y = if (eqb (getD y 0 0) 1) true (all (λ x. eqb x 0) y)
+unfoldable pub animValid : List ℕ → Bool
+animValid y = if (eqb (getD y 0 0) 1) true (all (λ x. eqb x 0) y)
 
 -- node row x is sound after the counts n, with all rows that are its own; a weight of it may name a vertex below `bones`
-unfoldable pub nodeHere : List ℕ → ℕ → ℕ → Rows → List ℕ → Counts → Bool
-nodeHere ns brushes bones R x n =
+unfoldable pub nodeValid : List ℕ → ℕ → ℕ → Rows → List ℕ → Counts → Bool
+nodeValid ns brushes bones R x n =
     let y = drop 13 x in
-    nameHere ns x
-    && (kindHere brushes bones R n y
-    && (runsHere listHere (n .keys) (mine (n .nodes) (drop (n .lists) (R 9))) (drop (n .keys) (R 10)) && animHere (take 4 (drop 3 y))))
+    nameValid ns x
+    && (kindValid brushes bones R n y
+    && (groupsValid keyListValid (n .keys) (ownedBy (n .nodes) (drop (n .lists) (R 9))) (drop (n .keys) (R 10)) && animValid (take 4 (drop 3 y))))
 
 -- the counts n reach the end of each of tables 4 to 10: no row is left over
 unfoldable pub spent : Rows → Counts → Bool
@@ -130,46 +130,46 @@ upTo i p [] = []
 upTo i p (q ∷ qs) = if (eqb p (q .node)) (q ∷ qs) (if (eqb (q .end) i) (upTo i p qs) [])
 
 -- every node of the path ends at row i
-unfoldable pub endHere : ℕ → List Level → Bool
-endHere i path = all (λ (q : Level). eqb (q .end) i) path
+unfoldable pub allEnd : ℕ → List Level → Bool
+allEnd i path = all (λ (q : Level). eqb (q .end) i) path
 
 -- the row behind node i and the nodes below it, by cell 20 of its row x, the branch word of 02's E4
 abbrev pub endFrom : ℕ → List ℕ → ℕ
 endFrom i x = i + 1 + getD x 20 0
 
 -- the bone limit of the path's first node; 0 where the path is empty
-unfoldable pub toldBy : List Level → ℕ
-toldBy [] = 0
-toldBy (q ∷ qs) = q .bones
+unfoldable pub boneLimitOf : List Level → ℕ
+boneLimitOf [] = 0
+boneLimitOf (q ∷ qs) = q .bones
 
 -- the node rows are sound after the counts n, each with what is its own. Its parent is the node before it or one above that, all of which the path has. A
 -- node that is left, or that no row follows, ends where its row says
-unfoldable pub nodesHere : List ℕ → ℕ → Rows → List Level → List (List ℕ) → Counts → Bool
-nodesHere ns brushes R path [] n = endHere (n .nodes) path && spent R n
-nodesHere ns brushes R path (x ∷ xs) n =
+unfoldable pub nodesValid : List ℕ → ℕ → Rows → List Level → List (List ℕ) → Counts → Bool
+nodesValid ns brushes R path [] n = allEnd (n .nodes) path && spent R n
+nodesValid ns brushes R path (x ∷ xs) n =
     let q = upTo (n .nodes) (getD x 2 0) path in
     ltb 0 (length q)
     && (ltb (length q) levels
-    && (nodeHere ns brushes (toldBy q) R x n && nodesHere ns brushes R (record { node = n .nodes; end = endFrom (n .nodes) x; bones = cellBones (toldBy q) R x n } ∷ q) xs (cellCounts R x n)))
+    && (nodeValid ns brushes (boneLimitOf q) R x n && nodesValid ns brushes R (record { node = n .nodes; end = endFrom (n .nodes) x; bones = cellBoneLimit (boneLimitOf q) R x n } ∷ q) xs (cellCounts R x n)))
 
 -- the node rows are sound: the root first, whose parent is NONE and which hands down its own vertices as the bone limit, then those below it. Without a node
 -- no row of tables 4 to 10 may be left
-unfoldable pub treeHere : List ℕ → ℕ → Rows → List (List ℕ) → Bool
-treeHere ns brushes R [] = spent R start
-treeHere ns brushes R (x ∷ xs) =
+unfoldable pub treeValid : List ℕ → ℕ → Rows → List (List ℕ) → Bool
+treeValid ns brushes R [] = spent R start
+treeValid ns brushes R (x ∷ xs) =
     eqb (getD x 2 0) NONE
-    && (nodeHere ns brushes (boneVertices none) R x start && nodesHere ns brushes R (record { node = 0; end = endFrom 0 x; bones = (cellCounts R x start) .vertices } ∷ []) xs (cellCounts R x start))
+    && (nodeValid ns brushes (boneLimit none) R x start && nodesValid ns brushes R (record { node = 0; end = endFrom 0 x; bones = (cellCounts R x start) .vertices } ∷ []) xs (cellCounts R x start))
 
 -- ---- the verdict
 
 -- the lent tables T with names in ns are those of an accepted file under the lenient mode. Lengths come first, so that the counted rows are there
 unfoldable pub check : Lent → List ℕ → Bool
 check T ns =
-    all (roomy T) tables
+    all (hasCountedRows T) tables
     && (holds version (T .version)
-    && (slotsHere (T .slots) (T .count 2)
-    && (all (nameHere ns) (lentRows T 1)
-    && (all (brushHere ns (T .slots) (T .count 1)) (lentRows T 2) && treeHere ns (T .count 2) (lentRows T) (lentRows T 3)))))
+    && (slotsValid (T .slots) (T .count 2)
+    && (all (nameValid ns) (lentRows T 1)
+    && (all (brushValid ns (T .slots) (T .count 1)) (lentRows T 2) && treeValid ns (T .count 2) (lentRows T) (lentRows T 3)))))
 
 -- the lent tables T with names in ns are those of an accepted file in a mode: the check, then the colours in tables 2 and 5
 unfoldable pub checkIn : Mode → Lent → List ℕ → Bool

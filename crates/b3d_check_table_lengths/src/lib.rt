@@ -18,7 +18,7 @@ fn fits_in(n: usize, width: usize, words: usize) -> bool
 }
 
 // Returns whether the counted rows of each table are there and within the row limit: `textures`, `brushes`, and those that `all` counts.
-pub fn rooms_here(
+pub fn tables_have_rows(
     textures: usize,
     brushes: usize,
     all: Counts,

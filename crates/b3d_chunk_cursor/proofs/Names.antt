@@ -12,7 +12,7 @@ use Rattle.wire.specs.declared.Cursor.{Cursor}
 use Rattle.wire.specs.declared.Text.{Text}
 use Rattle.wire.specs.declared.Text.the-variants as text
 use Rattle.wire.proofs.Found.{texted, text-cut, left-length, left-drop}
-use Rattle.layout.specs.Out.{got, bad}
+use Rattle.layout.specs.Result.{accept, reject}
 use Rattle.layout.specs.Parts.{text as textOf, wordsOf, judged, named as namedOf}
 use Rattle.layout.specs.Rules.{Rule, any}
 use Rattle.layout.proofs.Outs.{if-yes, if-no, by-test}
@@ -50,16 +50,16 @@ pub ruleset naming = (no-text, row-before, short-row, whole-row, row-in)
 
 -- a text that was read at c, as the definition reads it
 pub text-is : (s : List ℕ) (c : Cursor) (len : ℕ) (w : Cursor) → textAt s c ≡ text.Is len w
-    → textOf (c .at) (c .at) (left c s) ≡ got (record { value = take len (left c s); place = w .at; left = left w s })
+    → textOf (c .at) (c .at) (left c s) ≡ accept (record { value = take len (left c s); place = w .at; left = left w s })
 text-is s c len w e =
     let f = texted s c len w e in
     let p : c .at + length (take len (left c s)) + 1 ≡ w .at = omega arith in
-    ap (textOf (c .at) (c .at)) (f .is) ∙ (text-found (c .at) (c .at) (take len (left c s)) (left w s) (f .nonzero) ∙ ap (λ (q : ℕ). got (record { value = take len (left c s); place = q; left = left w s })) p)
+    ap (textOf (c .at) (c .at)) (f .is) ∙ (text-found (c .at) (c .at) (take len (left c s)) (left w s) (f .nonzero) ∙ ap (λ (q : ℕ). accept (record { value = take len (left c s); place = q; left = left w s })) p)
 
 module _ (s : List ℕ) (c : Cursor) (words : ℕ) (i : Inside c (length s)) (rs : List Rule) (l : length rs ≡ words) where
   -- the name that stands at c, the words at w, and what follows those
   abbrev Says : Named → Type 0
-  Says named.Cut = namedOf rs (c .at) (left c s) ≡ bad 5 (c .at)
+  Says named.Cut = namedOf rs (c .at) (left c s) ≡ reject 5 (c .at)
   Says (named.Is len w n) =
       namedOf rs (c .at) (left c s)
       ≡ judged rs (w .at) (wordsOf words (left w s))
@@ -81,7 +81,7 @@ module _ (s : List ℕ) (c : Cursor) (words : ℕ) (i : Inside c (length s)) (rs
           rw (if-no _ _ _ t, text-is s c len w e, l, words-enough (c .at) words (w .at) (left w s) (omega arith), left-drop s w (4 * words) (record { at = w .at + 4 * words; end = w .end }) refl refl))
 
   module _ (r : Named) (e : r ≡ namedAt s c words) where
-    pub named-cut : r ≡ named.Cut → namedOf rs (c .at) (left c s) ≡ bad 5 (c .at)
+    pub named-cut : r ≡ named.Cut → namedOf rs (c .at) (left c s) ≡ reject 5 (c .at)
     named-cut q = subst Says (sym e ∙ q) says
 
     pub named-is : (len : ℕ) (w n : Cursor) → r ≡ named.Is len w n
@@ -93,7 +93,7 @@ module _ (s : List ℕ) (c : Cursor) (words : ℕ) (i : Inside c (length s)) (rs
 -- of words that are not looked at
 pub named-any : (s : List ℕ) (c : Cursor) (words : ℕ) → Inside c (length s) → (r : Named) → r ≡ namedAt s c words → (len : ℕ) (w n : Cursor) → r ≡ named.Is len w n
     → namedOf (replicate words any) (c .at) (left c s)
-    ≡ got (record { value = (record { place = c .at; bytes = take len (left c s) }, wordsOf words (left w s)); place = n .at; left = left n s })
+    ≡ accept (record { value = (record { place = c .at; bytes = take len (left c s) }, wordsOf words (left w s)); place = n .at; left = left n s })
 named-any s c words i r e len w n q =
     named-is s c words i (replicate words any) (length-replicate words any) r e len w n q ∙ judged-any words (w .at) (wordsOf words (left w s)) _
 

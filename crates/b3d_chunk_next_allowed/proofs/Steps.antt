@@ -12,7 +12,7 @@ use Rattle.wire.specs.declared.Cursor.{Cursor}
 use Rattle.layout.specs.Chunks.{done, stop, chunk}
 use Rattle.b3d_spec.specs.declared.Tag.{Tag}
 use Rattle.b3d_spec.specs.Tags.{split}
-use Rattle.b3d_spec.specs.Nesting.{nesting, owed, end, onward, order}
+use Rattle.b3d_spec.specs.Nesting.{nesting, requiredBetween, end, onward, order}
 use Rattle.b3d_spec.specs.Nesting as nest
 use Rattle.b3d_chunk_cursor.specs.Chunks.{NextIs}
 use Rattle.b3d_chunk_cursor.specs.declared.Next.{Next}
@@ -31,7 +31,7 @@ module _ (k : Tag) (q : Reached) (r : Next) where
   pub permit-cut : (p : ℕ) → r ≡ next.Cut p → permit.No ≡ permitFor k q r
   permit-cut p w = ap (permitFor k q) (sym w)
 
-  module _ (w : r ≡ next.Done) (b : Bool) (o : b ≡ owed (nesting k) (q .turn) end) where
+  module _ (w : r ≡ next.Done) (b : Bool) (o : b ≡ requiredBetween (nesting k) (q .turn) end) where
     pub permit-owes : b ≡ true → permit.No ≡ permitFor k q r
     unfolding if
     permit-owes y = ap (λ (z : Bool). if z permit.No (permit.Yes q)) (sym y ∙ o) ∙ ap (permitFor k q) (sym w)
@@ -75,20 +75,20 @@ module _ (s : List ℕ) (k : Tag) (head : ℕ) (q : Reached) (c : Cursor) (i : I
   step-cut p w = record { says = ap (order k head (reachedOf q)) (cut-is s c r x p w); within = cut-before s c r x p w }
 
   module _ (w : r ≡ next.Done) where
-    ends : a ≡ if (owed (nesting k) (q .turn) end) permit.No (permit.Yes q)
+    ends : a ≡ if (requiredBetween (nesting k) (q .turn) end) permit.No (permit.Yes q)
     ends = f ∙ ap (permitFor k q) w
 
     pub step-owes : a ≡ permit.No → EnclosedIs s k head q c (enclosed.Not 8 head)
     unfolding order if
     step-owes y = record {
-      says = ap (order k head (reachedOf q)) (done-is s c r x w) ∙ ap (λ (z : Bool). if z (stop 8 head) done) (no-end (owed (nesting k) (q .turn) end) q (sym y ∙ ends));
+      says = ap (order k head (reachedOf q)) (done-is s c r x w) ∙ ap (λ (z : Bool). if z (stop 8 head) done) (no-end (requiredBetween (nesting k) (q .turn) end) q (sym y ∙ ends));
       within = omega (arith, i .before);
     }
 
     pub step-end : (z : Reached) → a ≡ permit.Yes z → EnclosedIs s k head q c enclosed.End
     unfolding order if
     step-end z y = record {
-      says = ap (order k head (reachedOf q)) (done-is s c r x w) ∙ ap (λ (z : Bool). if z (stop 8 head) done) (at-end (owed (nesting k) (q .turn) end) q z (sym y ∙ ends));
+      says = ap (order k head (reachedOf q)) (done-is s c r x w) ∙ ap (λ (z : Bool). if z (stop 8 head) done) (at-end (requiredBetween (nesting k) (q .turn) end) q z (sym y ∙ ends));
       within = subst (NextIs s c) w x;
     }
 

@@ -24,7 +24,7 @@ use Rattle.b3d_rule_nesting_order.specs.Turns.{reachedOf, permitOf}
 -- what the rule permits of what was found next inside a chunk of tag k, after q: a chunk, or the end of the chunks; of a cut header nothing
 abbrev pub permitFor : Tag → Reached → Next → Permit
 permitFor k q (next.Cut p) = permit.No
-permitFor k q next.Done = if (nest.owed (nest.nesting k) (q .turn) nest.end) permit.No (permit.Yes q)
+permitFor k q next.Done = if (nest.requiredBetween (nest.nesting k) (q .turn) nest.end) permit.No (permit.Yes q)
 permitFor k q (next.Chunk t p b n) = permitOf (nest.next (nest.nesting k) (nest.nesting k) (reachedOf q) t)
 
 -- the chunks that an answer on s stands for: the one found, and those after it, inside a chunk of tag k whose header is at `head`

@@ -45,7 +45,7 @@ fn permit_for(found: Next, enclosing: Tag, reached: Reached) -> Permit
             }
             Permit::Yes(reached)
         }
-        Next::Chunk { tag, .. } => b3d_rule_nesting_order::may_stand(enclosing, reached, tag),
+        Next::Chunk { tag, .. } => b3d_rule_nesting_order::is_permitted(enclosing, reached, tag),
     }
 }
 

@@ -11,7 +11,7 @@ use Rattle.wire.specs.Cursors.{Inside, left}
 use Rattle.wire.specs.declared.Cursor.{Cursor}
 use Rattle.wire.proofs.Left.{span, left-length}
 use Rattle.layout.specs.Chunks.{done, stop, chunk}
-use Rattle.layout.specs.Out.{bad}
+use Rattle.layout.specs.Result.{reject}
 use Rattle.layout.specs.Parts.{named as namedOf}
 use Rattle.layout.proofs.StepLaws.{length-words-of}
 use Rattle.b3d_spec.specs.declared.Tag.{Tag}
@@ -55,7 +55,7 @@ module _ (s : List ℕ) (at p : ℕ) (b : Cursor) (x : NodeAt s at p b) where
   module _ (r : Named) (e : r ≡ namedAt s b 10) (i : NamedIn b 10 r) where
     pub node-cut : r ≡ named.Cut → Steps s at flat.End
     node-cut q =
-        let c : namedOf nodeRow (p + 8) (left b s) ≡ bad 5 (b .at) = ap (λ (k : ℕ). namedOf nodeRow k (left b s)) (sym (x .body .head)) ∙ named-cut s b 10 node-inside nodeRow refl r e q in
+        let c : namedOf nodeRow (p + 8) (left b s) ≡ reject 5 (b .at) = ap (λ (k : ℕ). namedOf nodeRow k (left b s)) (sym (x .body .head)) ∙ named-cut s b 10 node-inside nodeRow refl r e q in
         record { is = subst Ends (sym (run-none s at (x .tag) p (left b s) here 5 (b .at) (x .node) c)) (stop-ends 5 (b .at)) }
 
     pub node-in : (len : ℕ) (w n : Cursor) → r ≡ named.Is len w n → Steps s at (flat.Chunk NODE p b (n .at))

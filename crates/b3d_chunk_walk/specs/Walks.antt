@@ -9,13 +9,13 @@ use Rattle.wire.specs.Bytes.{wordAt}
 use Rattle.wire.specs.Cursors.{left}
 use Rattle.wire.specs.declared.Cursor.{Cursor}
 use Rattle.layout.specs.Chunks.{chunk}
-use Rattle.layout.specs.Out.{got}
+use Rattle.layout.specs.Result.{accept}
 use Rattle.layout.specs.Parts.{Name, Step, named}
 use Rattle.b3d_spec.specs.declared.Counts.{Counts}
 use Rattle.b3d_spec.specs.declared.Tag.{Tag}
 use Rattle.b3d_spec.specs.declared.Tag.the-variants.{NODE}
 use Rattle.b3d_spec.specs.Rules.{nodeRow}
-use Rattle.b3d_spec.specs.Scene.{pivot, still}
+use Rattle.b3d_spec.specs.Scene.{pivot, noAnim}
 use Rattle.b3d_spec.specs.Tags.{Chunks, is}
 use Rattle.b3d_spec_plain_rows.specs.Flat.{rest, flatAt}
 use Rattle.b3d_spec_plain_rows.specs.Rows.{Open, nodeRows, nodesBefore, flatRows, kindOf, animOf}
@@ -51,7 +51,7 @@ pub record NodeRead (s : List ℕ) (p : ℕ) (b : Cursor) : Type 0 where
   -- what was read of it
   pub step : Step (Name × List ℕ)
   -- text and numbers are read without a refusal
-  pub is : named nodeRow (p + 8) (left b s) ≡ got step
+  pub is : named nodeRow (p + 8) (left b s) ≡ accept step
   -- the text begins behind the header
   pub name : step .value .0 .place ≡ p + 8
   -- there are ten numbers
@@ -89,7 +89,7 @@ pub record Ends (cs : Chunks) : Type 0 where
   -- no MESH or BONE comes in it before a NODE
   pub kind : kindOf cs ≡ pivot
   -- no ANIM comes in it before a NODE
-  pub anim : animOf cs ≡ still
+  pub anim : animOf cs ≡ noAnim
 
 -- the answer of `flat_next` at place `at`: the run begins with that chunk, or the run adds nothing
 abbrev pub FlatIs : List ℕ → ℕ → Flat → Type 0

@@ -5,7 +5,7 @@ use native.Mathlib.Omega.{arith}
 use mathlib.Core.List.{List}
 use lib.ListN.{length}
 use Rattle.wire.specs.Bytes.{AllBytes, over}
-use Rattle.layout.specs.Out.{Out, got, bad, _>>=_}
+use Rattle.layout.specs.Result.{Result, accept, reject, _>>=_}
 use Rattle.layout.proofs.Outs.{by-check}
 use Rattle.layout.specs.Rows.{sizeFits, mostBytes}
 use Rattle.shared_output.specs.Writing.{Room, Put}
@@ -33,56 +33,56 @@ use Rattle.b3d_spec_output_answer.proofs.SizeAnswers.{room-short, room-fits, fi
 -- ---- what the judge says
 
 -- a scene was read, and its copy has this size
-record Gave (o : Out Scene) (size : ℕ) : Type 0 where
+record Gave (o : Result Scene) (size : ℕ) : Type 0 where
   scene : Scene
-  is : o ≡ got scene
+  is : o ≡ accept scene
   long : size ≡ length (copy scene)
 
-was-good : (o : Out Scene) (x : Summary) → verdictOf o ≡ verdict.Good x → Gave o (x .tally .copy)
-was-good (got t) x e = let z : x .tally ≡ tallyOf t = cc in record { scene = t; is = refl; long = ap (λ (y : Tally). y .copy) z }
-was-good (bad m q) x e = let z : _≡_ {A = ℕ} 0 1 = cc in absurd (omega arith)
+was-good : (o : Result Scene) (x : Summary) → verdictOf o ≡ verdict.Good x → Gave o (x .tally .copy)
+was-good (accept t) x e = let z : x .tally ≡ tallyOf t = cc in record { scene = t; is = refl; long = ap (λ (y : Tally). y .copy) z }
+was-good (reject m q) x e = let z : _≡_ {A = ℕ} 0 1 = cc in absurd (omega arith)
 
-size-within : (s : List ℕ) (t : Scene) → parse Lenient s ≡ got t → (12 ≤ length s) × (length s ≤ mostBytes)
+size-within : (s : List ℕ) (t : Scene) → parse Lenient s ≡ accept t → (12 ≤ length s) × (length s ≤ mostBytes)
 unfolding parse
 size-within s t e = by-check (sizeFits (length s)) 1 0 _ e (λ z _. (size-low (length s) z, size-bound (length s) z))
 
 -- ---- answers
 
 module _ (s out : List ℕ) where
-  answered : (o : Out (List ℕ)) → clear s (length out) ≡ o → (w : Written) → w ≡ written o → w ≡ clearAnswer s out
+  answered : (o : Result (List ℕ)) → clear s (length out) ≡ o → (w : Written) → w ≡ written o → w ≡ clearAnswer s out
   unfolding clearAnswer
   answered o e w h = h ∙ ap written (sym e)
 
-  left-so : (o : Out (List ℕ)) → clear s (length out) ≡ o → (ys : List ℕ) → ys ≡ outputAfter o out → ys ≡ clearOutput s out
+  left-so : (o : Result (List ℕ)) → clear s (length out) ≡ o → (ys : List ℕ) → ys ≡ outputAfter o out → ys ≡ clearOutput s out
   unfolding clearOutput
-  left-so o e ys h = h ∙ ap (λ (x : Out (List ℕ)). outputAfter x out) (sym e)
+  left-so o e ys h = h ∙ ap (λ (x : Result (List ℕ)). outputAfter x out) (sym e)
 
   module _ (r : Verdict) (e : r ≡ verdictOf (judge Lenient s)) where
     -- refused
     module _ (n p : ℕ) (z : r ≡ verdict.Bad n p) where
-      refused : judge Lenient s ≡ bad n p
+      refused : judge Lenient s ≡ reject n p
       refused = was-bad (judge Lenient s) n p (sym e ∙ z)
 
       pub clear-place : p < 0x100000000
       clear-place = omega (arith, judge-place Lenient s n p refused)
 
-      stopped : clear s (length out) ≡ bad n p
+      stopped : clear s (length out) ≡ reject n p
       stopped = clear-first s n p refused (length out)
 
       pub clear-refused : (q : ℕ) → q ≡ p → record { number = n; place = q; size = 0 } ≡ clearAnswer s out
       unfolding written
-      clear-refused q h = answered (bad n p) stopped (record { number = n; place = q; size = 0 }) (rw h)
+      clear-refused q h = answered (reject n p) stopped (record { number = n; place = q; size = 0 }) (rw h)
 
       pub clear-untouched : out ≡ clearOutput s out
       unfolding outputAfter
-      clear-untouched = left-so (bad n p) stopped out refl
+      clear-untouched = left-so (reject n p) stopped out refl
 
     -- accepted
     module _ (x : Summary) (z : r ≡ verdict.Good x) (all : AllBytes s) where
       gave : Gave (judge Lenient s) (x .tally .copy)
       gave = was-good (judge Lenient s) x (sym e ∙ z)
 
-      parsed : parse Lenient s ≡ got (gave .scene)
+      parsed : parse Lenient s ≡ accept (gave .scene)
       parsed = judge-got Lenient s (gave .scene) (gave .is) .0
 
       pub clear-low : 12 ≤ length s
@@ -97,7 +97,7 @@ module _ (s out : List ℕ) where
 
       room-for : clear s (length out) ≡ roomFor (length out) (copy (gave .scene))
       unfolding clear
-      room-for = ap (λ (o : Out Scene). o >>= λ t. roomFor (length out) (copy t)) (gave .is)
+      room-for = ap (λ (o : Result Scene). o >>= λ t. roomFor (length out) (copy t)) (gave .is)
 
       -- the answer by the size of the copy
       module _ (w : Written) (h : OfSize (x .tally .copy) (length out) w) where
@@ -110,7 +110,7 @@ module _ (s out : List ℕ) where
         -- the output is too short
         pub clear-kept : (w .number ≡ 0 → ⊥) → out ≡ clearOutput s out
         unfolding outputAfter
-        clear-kept d = left-so (bad 11 (length (copy (gave .scene)))) (room-for ∙ room-short (length out) (copy (gave .scene)) (short-where (length out) (copy (gave .scene)) w of-copy d)) out refl
+        clear-kept d = left-so (reject 11 (length (copy (gave .scene)))) (room-for ∙ room-short (length out) (copy (gave .scene)) (short-where (length out) (copy (gave .scene)) w of-copy d)) out refl
 
         -- it is long enough
         module _ (y : w .number ≡ 0) where
@@ -125,6 +125,6 @@ module _ (s out : List ℕ) where
 
           pub clear-output : (ys : List ℕ) (n : ℕ) → Put (fileCopy s) out ys n → ys ≡ clearOutput s out
           unfolding outputAfter
-          clear-output ys n p = left-so (got (copy (gave .scene))) (room-for ∙ room-fits (length out) (copy (gave .scene)) fits) ys (p .wrote .is ∙ ap (λ (b : List ℕ). over b out) same)
+          clear-output ys n p = left-so (accept (copy (gave .scene))) (room-for ∙ room-fits (length out) (copy (gave .scene)) fits) ys (p .wrote .is ∙ ap (λ (b : List ℕ). over b out) same)
 
 pub ruleset clear-laws = (clear-place, clear-refused, clear-untouched, clear-low, clear-high, clear-size, clear-answered, clear-kept, clear-room, clear-output)

@@ -5,7 +5,7 @@ use native.Mathlib.Omega.{arith}
 use mathlib.Core.List.{List, [], _∷_}
 use lib.ListN.{length, take, getD}
 use Rattle.wire.specs.Bytes.{word, bytes, AllBytes}
-use Rattle.layout.specs.Out.{got}
+use Rattle.layout.specs.Result.{accept}
 use Rattle.layout.specs.Parts.{Step, words, wordsOf, row, number, itemsIn, items}
 use Rattle.layout.specs.Rules.{Rule}
 use Rattle.layout.specs.Write.{writeWords, writeItems}
@@ -30,7 +30,7 @@ bytes-of a b c d r ha hb hc hd =
     let e₄ : d % 256 ≡ d = omega arith in
     rw (q₁, q₂, q₃, e₁, e₂, e₃, e₄)
 
-words-exact : (start n p : ℕ) (s : List ℕ) (x : Step (List ℕ)) → AllBytes s → words start n p s ≡ got x → writeWords (x .value) (x .left) ≡ s
+words-exact : (start n p : ℕ) (s : List ℕ) (x : Step (List ℕ)) → AllBytes s → words start n p s ≡ accept x → writeWords (x .value) (x .left) ≡ s
 unfolding words
 words-exact start zero p s x h e = ap (λ (y : Step (List ℕ)). writeWords (y .value) (y .left)) (sym (got-inj e))
 words-exact start (suc n) p [] x h e = bad-got e
@@ -57,13 +57,13 @@ words-of-exact (suc n) (a ∷ b ∷ c ∷ d ∷ s) h le =
 
 -- ---- rows and items
 
-pub row-exact : (rs : List Rule) (p : ℕ) (s : List ℕ) (x : Step (List ℕ)) → AllBytes s → row rs p s ≡ got x → writeWords (x .value) (x .left) ≡ s
+pub row-exact : (rs : List Rule) (p : ℕ) (s : List ℕ) (x : Step (List ℕ)) → AllBytes s → row rs p s ≡ accept x → writeWords (x .value) (x .left) ≡ s
 unfolding row
 row-exact rs p s x h e =
     by-got (words p (length rs) p s) _ e (λ y ey e₁.
     ap (λ (z : Step (List ℕ)). writeWords (z .value) (z .left)) (sym (judged-got rs p (y .value) y x e₁)) ∙ words-exact p (length rs) p s y h ey)
 
-items-in : (rs : List Rule) (f p : ℕ) (s : List ℕ) (l : List (List ℕ)) → AllBytes s → itemsIn f (row rs) p s ≡ got l → writeItems writeWords l ≡ s
+items-in : (rs : List Rule) (f p : ℕ) (s : List ℕ) (l : List (List ℕ)) → AllBytes s → itemsIn f (row rs) p s ≡ accept l → writeItems writeWords l ≡ s
 unfolding itemsIn
 items-in rs zero p [] l h e = ap (writeItems writeWords) (sym (got-inj e))
 items-in rs zero p (c ∷ s) l h e = bad-got e
@@ -75,17 +75,17 @@ items-in rs (suc f) p (c ∷ s) l h e =
     ∙ ap (writeWords (x .value)) (items-in rs f (x .place) (x .left) m (row-fine rs p (c ∷ s) x h ex .bytes) em)
     ∙ row-exact rs p (c ∷ s) x h ex))
 
-pub items-exact : (rs : List Rule) (p : ℕ) (s : List ℕ) (l : List (List ℕ)) → AllBytes s → items (row rs) p s ≡ got l → writeItems writeWords l ≡ s
+pub items-exact : (rs : List Rule) (p : ℕ) (s : List ℕ) (l : List (List ℕ)) → AllBytes s → items (row rs) p s ≡ accept l → writeItems writeWords l ≡ s
 unfolding items
 items-exact rs p s l h e = items-in rs (length s) p s l h e
 
 -- ---- fixed data of one number and of three
 
 module _ (p : ℕ) (s : List ℕ) (h : Step (List ℕ)) (all : AllBytes s) where
-  long : (rs : List Rule) → row rs p s ≡ got h → length (h .value) ≡ length rs
+  long : (rs : List Rule) → row rs p s ≡ accept h → length (h .value) ≡ length rs
   long rs e = length-fits rs (h .value) (row-fine rs p s h all e .ok)
 
-  pub one-exact : (r : Rule) → row (r ∷ []) p s ≡ got h → writeWords (number h 0 ∷ []) (h .left) ≡ s
+  pub one-exact : (r : Rule) → row (r ∷ []) p s ≡ accept h → writeWords (number h 0 ∷ []) (h .left) ≡ s
   one-exact r e = ap (λ (ws : List ℕ). writeWords ws (h .left)) (one-is (h .value) (long (r ∷ []) e)) ∙ row-exact (r ∷ []) p s h all e
     where
       one-is : (ws : List ℕ) → length ws ≡ 1 → getD ws 0 0 ∷ [] ≡ ws
@@ -93,6 +93,6 @@ module _ (p : ℕ) (s : List ℕ) (h : Step (List ℕ)) (all : AllBytes s) where
       one-is (a ∷ []) l = refl
       one-is (a ∷ b ∷ ws) l = absurd (omega arith)
 
-  pub three-exact : (q r t : Rule) → row (q ∷ r ∷ t ∷ []) p s ≡ got h → writeWords (number h 0 ∷ number h 1 ∷ number h 2 ∷ []) (h .left) ≡ s
+  pub three-exact : (q r t : Rule) → row (q ∷ r ∷ t ∷ []) p s ≡ accept h → writeWords (number h 0 ∷ number h 1 ∷ number h 2 ∷ []) (h .left) ≡ s
   three-exact q r t e =
       ap (λ (ws : List ℕ). writeWords ws (h .left)) (three-cells (h .value) (long (q ∷ r ∷ t ∷ []) e)) ∙ row-exact (q ∷ r ∷ t ∷ []) p s h all e

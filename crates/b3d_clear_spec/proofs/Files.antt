@@ -12,7 +12,7 @@ use Rattle.wire.specs.Cursors.{left}
 use Rattle.wire.specs.declared.Cursor.{Cursor}
 use Rattle.wire.proofs.Words.{drop-bytes}
 use Rattle.layout.specs.Chunks.{done, chunk}
-use Rattle.layout.specs.Out.{got}
+use Rattle.layout.specs.Result.{accept}
 use Rattle.layout.specs.Parts.{wordsOf}
 use Rattle.layout.specs.Write.{writeChunks as writeChunksOf}
 use Rattle.layout.proofs.ChunkLaws.{Of, split-fine}
@@ -24,7 +24,7 @@ use Rattle.b3d_spec.specs.Encode.{nodeChunks, writeScene, encode}
 use Rattle.b3d_spec.specs.Names.{renameForest, noName, rename, cleared}
 use Rattle.b3d_spec.specs.Parse.{readTextures, readBrushes, readNode, readRoot, slotsOf, parse}
 use Rattle.b3d_spec.specs.Rules.{levels}
-use Rattle.b3d_spec.specs.Scene.{Texture, Brush, Forest, leaf, Scene}
+use Rattle.b3d_spec.specs.Scene.{Texture, Brush, Forest, noNodes, Scene}
 use Rattle.b3d_spec.specs.Tags.{Chunks, split, tagOf, code}
 use Rattle.shared_ids.proofs.Ids.{word-at}
 use Rattle.b3d_spec_chunk_places.proofs.Files.{ByChunks, parse-low, file-read}
@@ -39,11 +39,11 @@ record Has (cs : Chunks) (ts : List Texture) (slots : ℕ) (bs : List Brush) (f 
   brus : each BRUS brusCopy cs ≡ brusBytes slots bs
   nodes : each NODE (nodeCopy levels) cs ≡ nodesBytes f
 
-leaf-none : nodesBytes leaf ≡ []
+leaf-none : nodesBytes noNodes ≡ []
 unfolding nodesBytes nodeChunks writeChunksOf
 leaf-none = refl
 
-nothing : Has done [] 0 [] leaf
+nothing : Has done [] 0 [] noNodes
 unfolding each texsBytes brusBytes
 nothing = record { texs = refl; brus = refl; nodes = sym leaf-none }
 
@@ -51,7 +51,7 @@ nothing = record { texs = refl; brus = refl; nodes = sym leaf-none }
 abbrev Copied : Chunks → List Texture → ℕ → List Brush → Forest → Type 0
 Copied cs ts slots bs f = (n : ℕ) → Of n cs → Has cs ts slots bs f
 
-one-root : (brushes p : ℕ) (b : List ℕ) (f : Forest) → readRoot Lenient brushes p b ≡ got f → Copied (chunk NODE p b done) [] 0 [] f
+one-root : (brushes p : ℕ) (b : List ℕ) (f : Forest) → readRoot Lenient brushes p b ≡ accept f → Copied (chunk NODE p b done) [] 0 [] f
 unfolding readRoot each if
 one-root brushes p b f e n h =
     by-got (readNode Lenient levels brushes none p b) _ e (λ x ex e₁.
@@ -59,17 +59,17 @@ one-root brushes p b f e n h =
       texs = nothing .texs;
       brus = nothing .brus;
       nodes =
-          ap₂ _++_ (node-copied levels brushes none p b x (h .0) ex) (nothing .nodes) ∙ sym (node-written (x .self) (x .below) leaf) ∙ ap nodesBytes (got-inj e₁);
+          ap₂ _++_ (node-copied levels brushes none p b x (h .0) ex) (nothing .nodes) ∙ sym (node-written (x .self) (x .below) noNodes) ∙ ap nodesBytes (got-inj e₁);
     })
 
-one-brus : (textures p : ℕ) (b : List ℕ) (r : Chunks) (f : Forest) (v : ℕ × List Brush) → readBrushes Lenient textures p b ≡ got v → Copied r [] 0 [] f
+one-brus : (textures p : ℕ) (b : List ℕ) (r : Chunks) (f : Forest) (v : ℕ × List Brush) → readBrushes Lenient textures p b ≡ accept v → Copied r [] 0 [] f
     → Copied (chunk BRUS p b r) [] (slotsOf (v .0) (v .1)) (v .1) f
 unfolding each if brusBytes
 one-brus textures p b r f v e more n h =
     let rest = more (n - (8 + length b)) (h .2) in
     record { texs = rest .texs; brus = ap₂ _++_ (brus-copied textures p b v (h .0) e) (rest .brus) ∙ append-nil _; nodes = rest .nodes }
 
-one-texs : (p : ℕ) (b : List ℕ) (r : Chunks) (slots : ℕ) (bs : List Brush) (f : Forest) (l : List Texture) → readTextures p b ≡ got l → Copied r [] slots bs f
+one-texs : (p : ℕ) (b : List ℕ) (r : Chunks) (slots : ℕ) (bs : List Brush) (f : Forest) (l : List Texture) → readTextures p b ≡ accept l → Copied r [] slots bs f
     → Copied (chunk TEXS p b r) l slots bs f
 unfolding each if texsBytes
 one-texs p b r slots bs f l e more n h =
@@ -95,7 +95,7 @@ from-left : (at : ℕ) (s : List ℕ) → left (from at s) s ≡ drop at s
 unfolding left
 from-left at s = ap (drop at) (take-all (length s) s (omega arith))
 
-pub file-copied : (s : List ℕ) (t : Scene) → AllBytes s → parse Lenient s ≡ got t → fileCopy s ≡ copy t
+pub file-copied : (s : List ℕ) (t : Scene) → AllBytes s → parse Lenient s ≡ accept t → fileCopy s ≡ copy t
 unfolding copy encode
 file-copied s t all e =
     let lo = parse-low Lenient s t e in

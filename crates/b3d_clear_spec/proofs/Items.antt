@@ -5,7 +5,7 @@ use native.Mathlib.Omega.{arith}
 use mathlib.Core.List.{List, [], _∷_, _++_}
 use lib.ListN.{length, replicate}
 use Rattle.wire.specs.Bytes.{bytes, AllBytes}
-use Rattle.layout.specs.Out.{Out, got, bad, _>>=_}
+use Rattle.layout.specs.Result.{Result, accept, reject, _>>=_}
 use Rattle.layout.specs.Parts.{Name, Step, text, named, itemsIn, items}
 use Rattle.layout.specs.Rules.{Rule, any}
 use Rattle.layout.specs.Write.{writeWords, writeItems}
@@ -16,10 +16,10 @@ use Rattle.b3d_clear_spec.specs.Copies.{itemOf, unnamedIn, unnamedItems}
 
 -- ---- one by one
 
-item-same : (r q : ℕ → List ℕ → List ℕ) (o : Out (Step (Name × List ℕ))) → ((x : Step (Name × List ℕ)) → o ≡ got x → r (x .place) (x .left) ≡ q (x .place) (x .left)) → itemOf r o ≡ itemOf q o
+item-same : (r q : ℕ → List ℕ → List ℕ) (o : Result (Step (Name × List ℕ))) → ((x : Step (Name × List ℕ)) → o ≡ accept x → r (x .place) (x .left) ≡ q (x .place) (x .left)) → itemOf r o ≡ itemOf q o
 unfolding itemOf
-item-same r q (got x) h = ap (λ (l : List ℕ). 0 ∷ (writeWords (x .value .1) [] ++ l)) (h x refl)
-item-same r q (bad n p) h = refl
+item-same r q (accept x) h = ap (λ (l : List ℕ). 0 ∷ (writeWords (x .value .1) [] ++ l)) (h x refl)
+item-same r q (reject n p) h = refl
 
 module _ (n : ℕ) where
   fuel : (f g p : ℕ) (s : List ℕ) → length s ≤ f → length s ≤ g → unnamedIn f n p s ≡ unnamedIn g n p s
@@ -45,10 +45,10 @@ module _ (n : ℕ) where
 -- items made of a text and words that keep rules; each is written, its name empty, as an empty text and its words
 module _ {A : Type 0} (make : Name × List ℕ → A) (rs : List Rule) (write : A → List ℕ → List ℕ)
     (one : (x : Name × List ℕ) (r : List ℕ) → length (x .1) ≡ length rs → write (make x) r ≡ 0 ∷ (writeWords (x .1) [] ++ r)) where
-  abbrev readBy : ℕ → List ℕ → Out (Step A)
-  readBy p s = named rs p s >>= λ x. got (record { value = make (x .value); place = x .place; left = x .left })
+  abbrev readBy : ℕ → List ℕ → Result (Step A)
+  readBy p s = named rs p s >>= λ x. accept (record { value = make (x .value); place = x .place; left = x .left })
 
-  read-in : (f p : ℕ) (s : List ℕ) (l : List A) → AllBytes s → itemsIn f readBy p s ≡ got l → unnamedIn f (length rs) p s ≡ writeItems write l
+  read-in : (f p : ℕ) (s : List ℕ) (l : List A) → AllBytes s → itemsIn f readBy p s ≡ accept l → unnamedIn f (length rs) p s ≡ writeItems write l
   unfolding itemsIn unnamedIn itemOf named text
   read-in zero p [] l h e = ap (writeItems write) (got-inj e)
   read-in zero p (c ∷ s) l h e = bad-got e
@@ -67,17 +67,17 @@ module _ {A : Type 0} (make : Name × List ℕ → A) (rs : List Rule) (write : 
       ∙ ap (λ (a : Step A). write (a .value) (writeItems write m)) g
       ∙ ap (writeItems write) (got-inj e₂))))
 
-  pub items-read : (p : ℕ) (s : List ℕ) (l : List A) → AllBytes s → items readBy p s ≡ got l → unnamedItems (length rs) p s ≡ writeItems write l
+  pub items-read : (p : ℕ) (s : List ℕ) (l : List A) → AllBytes s → items readBy p s ≡ accept l → unnamedItems (length rs) p s ≡ writeItems write l
   unfolding items unnamedItems
   items-read p s l h e = read-in (length s) p s l h e
 
 -- no item from no bytes, and one at least from some
-module _ {A : Type 0} (read : ℕ → List ℕ → Out (Step A)) where
-  pub none-read : (p : ℕ) (l : List A) → items read p [] ≡ got l → l ≡ []
+module _ {A : Type 0} (read : ℕ → List ℕ → Result (Step A)) where
+  pub none-read : (p : ℕ) (l : List A) → items read p [] ≡ accept l → l ≡ []
   unfolding items itemsIn
   none-read p l e = sym (got-inj e)
 
-  pub some-read : (p c : ℕ) (s : List ℕ) (l : List A) → items read p (c ∷ s) ≡ got l → 0 < length l
+  pub some-read : (p c : ℕ) (s : List ℕ) (l : List A) → items read p (c ∷ s) ≡ accept l → 0 < length l
   unfolding items itemsIn
   some-read p c s l e =
       by-got (read p (c ∷ s)) _ e (λ x ex e₁.

@@ -5,7 +5,7 @@ use native.Mathlib.Omega.{arith}
 use mathlib.Core.List.{List, [], _∷_, _++_, map}
 use lib.ListN.{length, take, drop, length-append, length-replicate, take-append-drop}
 use Rattle.wire.specs.Bytes.{bytes, AllBytes}
-use Rattle.layout.specs.Out.{got}
+use Rattle.layout.specs.Result.{accept}
 use Rattle.layout.specs.Parts.{row, number, items}
 use Rattle.layout.specs.Write.{writeWords, writeItems}
 use Rattle.layout.proofs.Outs.{by-got, got-inj}
@@ -33,13 +33,13 @@ items-map write f (a ∷ l) = ap (write (f a)) (items-map write f l)
 
 -- ---- textures
 
-textures-items : (p : ℕ) (s : List ℕ) (l : List Texture) → AllBytes s → items readTexture p s ≡ got l → unnamedItems 7 p s ≡ writeItems writeTexture (map (renameTexture noName) l)
+textures-items : (p : ℕ) (s : List ℕ) (l : List Texture) → AllBytes s → items readTexture p s ≡ accept l → unnamedItems 7 p s ≡ writeItems writeTexture (map (renameTexture noName) l)
 unfolding readTexture
 textures-items p s l h e =
     items-read textureOf textureRow (λ t. writeTexture (renameTexture noName t)) (λ x r n. ap (λ (y : List ℕ). 0 ∷ y) (words-append (x .1) r)) p s l h e
     ∙ items-map writeTexture (renameTexture noName) l
 
-pub texs-copied : (p : ℕ) (b : List ℕ) (l : List Texture) → AllBytes b → readTextures p b ≡ got l → texsCopy p b ≡ texsBytes l
+pub texs-copied : (p : ℕ) (b : List ℕ) (l : List Texture) → AllBytes b → readTextures p b ≡ accept l → texsCopy p b ≡ texsBytes l
 unfolding readTextures texsCopy ifAny texsBytes
 texs-copied p [] l h e = ap texsBytes (sym (none-read readTexture (p + 8) l e))
 texs-copied p (c ∷ s) [] h e = absurd (omega (arith, some-read readTexture (p + 8) c s [] e))
@@ -47,7 +47,7 @@ texs-copied p (c ∷ s) (t ∷ l) h e = ap (chunkOf (code TEXS)) (textures-items
 
 -- ---- brushes
 
-brushes-items : (slots textures p : ℕ) (s : List ℕ) (l : List Brush) → AllBytes s → items (readBrush Lenient slots textures) p s ≡ got l
+brushes-items : (slots textures p : ℕ) (s : List ℕ) (l : List Brush) → AllBytes s → items (readBrush Lenient slots textures) p s ≡ accept l
     → unnamedItems (7 + slots) p s ≡ writeItems writeBrush (map (renameBrush noName) l)
 unfolding readBrush
 brushes-items slots textures p s l h e =
@@ -58,14 +58,14 @@ brushes-items slots textures p s l h e =
     (λ x r m. ap (λ (y : List ℕ). 0 ∷ y) (words-then (take 7 (x .1)) (drop 7 (x .1)) r ∙ ap (λ (ws : List ℕ). writeWords ws r) (take-append-drop 7 (x .1)) ∙ words-append (x .1) r)) p s l h e
     ∙ items-map writeBrush (renameBrush noName) l
 
-brus-some : (slots textures p : ℕ) (s : List ℕ) (l : List Brush) → AllBytes s → items (readBrush Lenient slots textures) p s ≡ got l
+brus-some : (slots textures p : ℕ) (s : List ℕ) (l : List Brush) → AllBytes s → items (readBrush Lenient slots textures) p s ≡ accept l
     → ifAny s (chunkOf (code BRUS) (bytes slots (unnamedItems (7 + slots) p s))) ≡ brusBytes (slotsOf slots l) l
 unfolding ifAny brusBytes slotsOf
 brus-some slots textures p [] l h e = ap (λ (x : List Brush). brusBytes (slotsOf slots x) x) (sym (none-read (readBrush Lenient slots textures) p l e))
 brus-some slots textures p (c ∷ s) [] h e = absurd (omega (arith, some-read (readBrush Lenient slots textures) p c s [] e))
 brus-some slots textures p (c ∷ s) (b ∷ l) h e = ap (λ (y : List ℕ). chunkOf (code BRUS) (bytes slots y)) (brushes-items slots textures p (c ∷ s) (b ∷ l) h e)
 
-pub brus-copied : (textures p : ℕ) (b : List ℕ) (x : ℕ × List Brush) → AllBytes b → readBrushes Lenient textures p b ≡ got x → brusCopy p b ≡ brusBytes (slotsOf (x .0) (x .1)) (x .1)
+pub brus-copied : (textures p : ℕ) (b : List ℕ) (x : ℕ × List Brush) → AllBytes b → readBrushes Lenient textures p b ≡ accept x → brusCopy p b ≡ brusBytes (slotsOf (x .0) (x .1)) (x .1)
 unfolding readBrushes brusCopy brusOf
 brus-copied textures p b x all e =
     by-got (row brushesHead (p + 8) b) _ e (λ h eh e₁.

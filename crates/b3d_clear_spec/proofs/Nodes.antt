@@ -7,7 +7,7 @@ use lib.ListN.{length}
 use Rattle.wire.specs.Test.{if}
 use Rattle.wire.specs.Bytes.{AllBytes}
 use Rattle.layout.specs.Chunks.{done, chunk}
-use Rattle.layout.specs.Out.{Out, got}
+use Rattle.layout.specs.Result.{Result, accept}
 use Rattle.layout.specs.Parts.{named}
 use Rattle.layout.specs.Write.{writeWords, writeChunks as writeChunksOf}
 use Rattle.layout.proofs.ChunkLaws.{Of, split-fine}
@@ -17,9 +17,9 @@ use Rattle.b3d_spec.specs.declared.Mode.the-variants.{Lenient}
 use Rattle.b3d_spec.specs.declared.Tag.the-variants.{NODE, MESH, BONE, KEYS, ANIM}
 use Rattle.b3d_spec.specs.Encode.{nodeChunks}
 use Rattle.b3d_spec.specs.Nesting.{inside}
-use Rattle.b3d_spec.specs.Parse.{readMesh, readBone, readKeys, readAnim, readKind, readMoves, Inner, readNodes, readBelow, readNode}
-use Rattle.b3d_spec.specs.Rules.{nodeRow, boneVertices, bonesBelow}
-use Rattle.b3d_spec.specs.Scene.{Mesh, Kind, pivot, mesh, bone, Keys, Anim, still, anim, Data, Forest, leaf, node}
+use Rattle.b3d_spec.specs.Parse.{readMesh, readBone, readKeys, readAnim, readKind, readAnimation, Inner, readNodes, readBelow, readNode}
+use Rattle.b3d_spec.specs.Rules.{nodeRow, boneLimit, boneLimitBelow}
+use Rattle.b3d_spec.specs.Scene.{Mesh, Kind, pivot, mesh, bone, Keys, Anim, noAnim, anim, Data, Forest, noNodes, node}
 use Rattle.b3d_spec.specs.Tags.{Chunks, split, tagOf, code}
 use Rattle.b3d_spec_chunk_places.proofs.Nodes.{ByParts, parts-read}
 use Rattle.b3d_clear_spec.specs.Copies.{chunkOf, each, asIs, meshCopy, ownCopy, nodeOf, nodeCopy}
@@ -40,12 +40,12 @@ module _ (one : ℕ → List ℕ → List ℕ) where
   abbrev Copied : Chunks → Kind → List Keys → Anim → Forest → Type 0
   Copied cs k ks a f = (n : ℕ) → Of n cs → Has one cs k ks a f
 
-  none-copied : Copied done pivot [] still leaf
+  none-copied : Copied done pivot [] noAnim noNodes
   unfolding each meshBytes boneBytes keysBytes animBytes nodesBytes nodeChunks writeChunksOf
   none-copied n h = record { meshes = refl; bones = refl; keys = refl; anims = refl; nodes = refl }
 
-  node-before : (p : ℕ) (b : List ℕ) (r : Chunks) (x : Inner) (f : Forest) → (AllBytes b → one p b ≡ nodeBytes (x .self) (x .below)) → Copied r pivot [] still f
-      → Copied (chunk NODE p b r) pivot [] still (node (x .self) (x .below) f)
+  node-before : (p : ℕ) (b : List ℕ) (r : Chunks) (x : Inner) (f : Forest) → (AllBytes b → one p b ≡ nodeBytes (x .self) (x .below)) → Copied r pivot [] noAnim f
+      → Copied (chunk NODE p b r) pivot [] noAnim (node (x .self) (x .below) f)
   unfolding each if
   node-before p b r x f same more n h =
       let rest = more (n - (8 + length b)) (h .2) in
@@ -57,7 +57,7 @@ module _ (one : ℕ → List ℕ → List ℕ) where
         nodes = ap₂ _++_ (same (h .0)) (rest .nodes) ∙ sym (node-written (x .self) (x .below) f);
       }
 
-  keys-before : (p : ℕ) (b : List ℕ) (r : Chunks) (k : Keys) (ks : List Keys) (a : Anim) (f : Forest) → readKeys p b ≡ got k → Copied r pivot ks a f → Copied (chunk KEYS p b r) pivot (k ∷ ks) a f
+  keys-before : (p : ℕ) (b : List ℕ) (r : Chunks) (k : Keys) (ks : List Keys) (a : Anim) (f : Forest) → readKeys p b ≡ accept k → Copied r pivot ks a f → Copied (chunk KEYS p b r) pivot (k ∷ ks) a f
   unfolding each keysBytes if
   keys-before p b r k ks a f e more n h =
       let rest = more (n - (8 + length b)) (h .2) in
@@ -69,7 +69,7 @@ module _ (one : ℕ → List ℕ → List ℕ) where
         nodes = rest .nodes;
       }
 
-  anim-before : (p : ℕ) (b : List ℕ) (r : Chunks) (ws : List ℕ) (ks : List Keys) (f : Forest) → readAnim p b ≡ got ws → Copied r pivot ks still f → Copied (chunk ANIM p b r) pivot ks (anim ws) f
+  anim-before : (p : ℕ) (b : List ℕ) (r : Chunks) (ws : List ℕ) (ks : List Keys) (f : Forest) → readAnim p b ≡ accept ws → Copied r pivot ks noAnim f → Copied (chunk ANIM p b r) pivot ks (anim ws) f
   unfolding each animBytes if
   anim-before p b r ws ks f e more n h =
       let rest = more (n - (8 + length b)) (h .2) in
@@ -81,7 +81,7 @@ module _ (one : ℕ → List ℕ → List ℕ) where
         nodes = rest .nodes;
       }
 
-  mesh-before : (brushes p : ℕ) (b : List ℕ) (r : Chunks) (m : Mesh) (ks : List Keys) (a : Anim) (f : Forest) → readMesh Lenient brushes p b ≡ got m → Copied r pivot ks a f → Copied (chunk MESH p b r) (mesh m) ks a f
+  mesh-before : (brushes p : ℕ) (b : List ℕ) (r : Chunks) (m : Mesh) (ks : List Keys) (a : Anim) (f : Forest) → readMesh Lenient brushes p b ≡ accept m → Copied r pivot ks a f → Copied (chunk MESH p b r) (mesh m) ks a f
   unfolding each meshBytes boneBytes if
   mesh-before brushes p b r m ks a f e more n h =
       let rest = more (n - (8 + length b)) (h .2) in
@@ -93,7 +93,7 @@ module _ (one : ℕ → List ℕ → List ℕ) where
         nodes = rest .nodes;
       }
 
-  bone-before : (vertices p : ℕ) (b : List ℕ) (r : Chunks) (ws : List (List ℕ)) (ks : List Keys) (a : Anim) (f : Forest) → readBone vertices p b ≡ got ws → Copied r pivot ks a f → Copied (chunk BONE p b r) (bone ws) ks a f
+  bone-before : (vertices p : ℕ) (b : List ℕ) (r : Chunks) (ws : List (List ℕ)) (ks : List Keys) (a : Anim) (f : Forest) → readBone vertices p b ≡ accept ws → Copied r pivot ks a f → Copied (chunk BONE p b r) (bone ws) ks a f
   unfolding each meshBytes boneBytes if
   bone-before vertices p b r ws ks a f e more n h =
       let rest = more (n - (8 + length b)) (h .2) in
@@ -105,7 +105,7 @@ module _ (one : ℕ → List ℕ → List ℕ) where
         nodes = rest .nodes;
       }
 
-  copied : (brushes vertices : ℕ) (read : ℕ → List ℕ → Out Inner) → ((p : ℕ) (b : List ℕ) (x : Inner) → AllBytes b → read p b ≡ got x → one p b ≡ nodeBytes (x .self) (x .below))
+  copied : (brushes vertices : ℕ) (read : ℕ → List ℕ → Result Inner) → ((p : ℕ) (b : List ℕ) (x : Inner) → AllBytes b → read p b ≡ accept x → one p b ≡ nodeBytes (x .self) (x .below))
       → ByParts Lenient brushes vertices read Copied
   copied brushes vertices read same = record {
     none = none-copied;
@@ -133,20 +133,20 @@ own-written one cs d f h =
     (ap₂ _++_ (h .meshes) (ap₂ _++_ (h .bones) (ap₂ _++_ (h .keys) (h .anims)))) (h .nodes)
     ∙ joined (d .words) (meshBytes (d .kind)) (boneBytes (d .kind)) (keysBytes (d .keys)) (animBytes (d .anim)) (nodesBytes f))
 
-pub node-copied : (l brushes : ℕ) (above : Option ℕ) (p : ℕ) (b : List ℕ) (x : Inner) → AllBytes b → readNode Lenient l brushes above p b ≡ got x → nodeCopy l p b ≡ nodeBytes (x .self) (x .below)
+pub node-copied : (l brushes : ℕ) (above : Option ℕ) (p : ℕ) (b : List ℕ) (x : Inner) → AllBytes b → readNode Lenient l brushes above p b ≡ accept x → nodeCopy l p b ≡ nodeBytes (x .self) (x .below)
 unfolding readNode readBelow inside nodeCopy nodeOf
 node-copied zero brushes above p b x all e = bad-got e
 node-copied (suc l) brushes above p b x all e =
     by-got (named nodeRow (p + 8) b) _ e (λ h eh e₁.
-    by-got (readKind Lenient brushes (boneVertices above) (inside NODE p (h .place) (h .left))) _ e₁ (λ k ek e₂.
-    by-got (readMoves still (k .rest)) _ e₂ (λ m em e₃.
+    by-got (readKind Lenient brushes (boneLimit above) (inside NODE p (h .place) (h .left))) _ e₁ (λ k ek e₂.
+    by-got (readAnimation noAnim (k .rest)) _ e₂ (λ m em e₃.
     let d : Data = record { name = h .value .0; words = h .value .1; kind = k .value; keys = m .value .keys; anim = m .value .anim } in
-    by-got (readNodes (readNode Lenient l brushes (bonesBelow above d)) (m .rest)) _ e₃ (λ f ef e₄.
+    by-got (readNodes (readNode Lenient l brushes (boneLimitBelow above d)) (m .rest)) _ e₃ (λ f ef e₄.
     let cs = split (h .place) (h .left) in
     let fine = split-fine tagOf (h .place) (h .left) (named-fine nodeRow (p + 8) b h all eh .bytes) in
-    let read = readNode Lenient l brushes (bonesBelow above d) in
-    let parts = copied (nodeCopy l) brushes (boneVertices above) read (λ q c y. node-copied l brushes (bonesBelow above d) q c y) in
-    let has = parts-read Lenient brushes (boneVertices above) read (Copied (nodeCopy l)) parts p cs k ek m em f ef (length (h .left)) fine in
+    let read = readNode Lenient l brushes (boneLimitBelow above d) in
+    let parts = copied (nodeCopy l) brushes (boneLimit above) read (λ q c y. node-copied l brushes (boneLimitBelow above d) q c y) in
+    let has = parts-read Lenient brushes (boneLimit above) read (Copied (nodeCopy l)) parts p cs k ek m em f ef (length (h .left)) fine in
     ap (nodeOf (nodeCopy l)) eh
     ∙ own-written (nodeCopy l) cs d f has
     ∙ ap (λ (y : Inner). nodeBytes (y .self) (y .below)) (got-inj e₄)))))

@@ -7,7 +7,7 @@ use Rattle.layout.specs.Write.{writeWords, writeItems, writeChunks as writeChun
 use Rattle.b3d_spec.specs.declared.Tag.the-variants.{TEXS, BRUS, NODE, MESH, TRIS, BONE, KEYS, ANIM}
 use Rattle.b3d_spec.specs.Encode.{writeTexture, writeBrush, writeTriangles, setChunks, writeMesh, kindChunks, writeKeys, keyChunks, animChunks, writeNode, nodeChunks, textureChunks, brushChunks}
 use Rattle.b3d_spec.specs.Names.{renameTexture, renameBrush, renameForest, noName}
-use Rattle.b3d_spec.specs.Scene.{Texture, Brush, TriangleSet, Kind, pivot, mesh, bone, Keys, Anim, still, anim, Data, Forest, node}
+use Rattle.b3d_spec.specs.Scene.{Texture, Brush, TriangleSet, Kind, pivot, mesh, bone, Keys, Anim, noAnim, anim, Data, Forest, node}
 use Rattle.b3d_spec.specs.Tags.{Chunk, writeChunks, code}
 use Rattle.b3d_clear_spec.specs.Copies.{chunkOf}
 
@@ -50,12 +50,12 @@ keys-written (k ∷ l) r =
     ∙ sym (append-assoc (chunkOf (code KEYS) (writeKeys k)) (keysBytes l) (writeChunks r))
 
 unfoldable pub animBytes : Anim → List ℕ
-animBytes still = []
+animBytes noAnim = []
 animBytes (anim ws) = chunkOf (code ANIM) (writeWords ws [])
 
 pub anim-written : (a : Anim) (r : List Chunk) → writeChunks (animChunks a r) ≡ animBytes a ++ writeChunks r
 unfolding writeChunksOf animBytes
-anim-written still r = refl
+anim-written noAnim r = refl
 anim-written (anim ws) r = refl
 
 -- nodes with their names empty

@@ -8,7 +8,7 @@ use Rattle.wire.specs.Bytes.{bytes, wordAt}
 use Rattle.wire.specs.Cursors.{left}
 use Rattle.wire.specs.declared.Cursor.{Cursor}
 use Rattle.layout.specs.Chunks.{done, stop, chunk}
-use Rattle.layout.specs.Out.{Out, got, bad}
+use Rattle.layout.specs.Result.{Result, accept, reject}
 use Rattle.layout.specs.Parts.{Name, Step, row, number, named}
 use Rattle.layout.specs.Rules.{any}
 use Rattle.layout.specs.Write.{writeWords}
@@ -42,9 +42,9 @@ abbrev pub inMesh : Chunks → List ℕ
 inMesh cs = each VRTS (asIs VRTS) cs ++ each TRIS (asIs TRIS) cs
 
 -- a MESH by its fixed data: the brush, and the chunks inside; empty where the brush is cut
-unfoldable pub meshOf : Out (Step (List ℕ)) → List ℕ
-meshOf (got h) = chunkOf (code MESH) (bytes (number h 0) (inMesh (split (h .place) (h .left))))
-meshOf (bad n p) = []
+unfoldable pub meshOf : Result (Step (List ℕ)) → List ℕ
+meshOf (accept h) = chunkOf (code MESH) (bytes (number h 0) (inMesh (split (h .place) (h .left))))
+meshOf (reject n p) = []
 
 -- what the MESH with header place p and body b becomes
 unfoldable pub meshCopy : ℕ → List ℕ → List ℕ
@@ -57,9 +57,9 @@ abbrev pub unnamed : List ℕ → List ℕ
 unnamed ws = 0 ∷ writeWords ws []
 
 -- the item without its name, then what `rest` makes of what follows; empty where the item is not all there
-unfoldable pub itemOf : (ℕ → List ℕ → List ℕ) → Out (Step (Name × List ℕ)) → List ℕ
-itemOf rest (got x) = unnamed (x .value .1) ++ rest (x .place) (x .left)
-itemOf rest (bad n p) = []
+unfoldable pub itemOf : (ℕ → List ℕ → List ℕ) → Result (Step (Name × List ℕ)) → List ℕ
+itemOf rest (accept x) = unnamed (x .value .1) ++ rest (x .place) (x .left)
+itemOf rest (reject n p) = []
 
 -- the items of a text and `words` words in s, which begins at place p, without their names, up to the first that is not all there; at most f items
 unfoldable pub unnamedIn : ℕ → ℕ → ℕ → List ℕ → List ℕ
@@ -81,9 +81,9 @@ unfoldable pub texsCopy : ℕ → List ℕ → List ℕ
 texsCopy p b = ifAny b (chunkOf (code TEXS) (unnamedItems 7 (p + 8) b))
 
 -- a BRUS by its fixed data; nothing where n_texs is cut or out of range, or it has no item
-unfoldable pub brusOf : Out (Step (List ℕ)) → List ℕ
-brusOf (got h) = ifAny (h .left) (chunkOf (code BRUS) (bytes (number h 0) (unnamedItems (7 + number h 0) (h .place) (h .left))))
-brusOf (bad n p) = []
+unfoldable pub brusOf : Result (Step (List ℕ)) → List ℕ
+brusOf (accept h) = ifAny (h .left) (chunkOf (code BRUS) (bytes (number h 0) (unnamedItems (7 + number h 0) (h .place) (h .left))))
+brusOf (reject n p) = []
 
 -- what the BRUS with header place p and body b becomes
 unfoldable pub brusCopy : ℕ → List ℕ → List ℕ
@@ -115,9 +115,9 @@ abbrev pub ownCopy : List ℕ → Chunks → List ℕ
 ownCopy ws cs = unnamed ws ++ inNode cs
 
 -- a NODE by its text and words, the nodes below it as `one` makes them; nothing where text or words are cut
-unfoldable pub nodeOf : (ℕ → List ℕ → List ℕ) → Out (Step (Name × List ℕ)) → List ℕ
-nodeOf one (got x) = chunkOf (code NODE) (ownCopy (x .value .1) (split (x .place) (x .left)) ++ each NODE one (split (x .place) (x .left)))
-nodeOf one (bad n p) = []
+unfoldable pub nodeOf : (ℕ → List ℕ → List ℕ) → Result (Step (Name × List ℕ)) → List ℕ
+nodeOf one (accept x) = chunkOf (code NODE) (ownCopy (x .value .1) (split (x .place) (x .left)) ++ each NODE one (split (x .place) (x .left)))
+nodeOf one (reject n p) = []
 
 -- what the NODE with header place p and body b becomes, with l levels left; nothing where none is left
 unfoldable pub nodeCopy : ℕ → ℕ → List ℕ → List ℕ

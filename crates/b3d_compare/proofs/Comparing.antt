@@ -101,16 +101,16 @@ module _ (a b out : List ℕ) where
 
   module _ (x : Answer) (ex : x ≡ answer (judge Lenient a)) where
     module _ (d : x .number ≡ 0 → ⊥) where
-      first-bad : compare a b (length out) ≡ refused (x .number) (x .place) 1
-      first-bad = compares a b (length out) .first (x .number) (x .place) (refused-as a [] (judge Lenient a) refl x ex d .is)
+      first-invalid : compare a b (length out) ≡ refused (x .number) (x .place) 1
+      first-invalid = compares a b (length out) .first (x .number) (x .place) (refused-as a [] (judge Lenient a) refl x ex d .is)
 
       pub first-refused : record { number = x .number; place = x .place; which = 1; size = 0 } ≡ compareAnswer a b out
       unfolding compared
-      first-refused = answered (refused (x .number) (x .place) 1) first-bad _ refl
+      first-refused = answered (refused (x .number) (x .place) 1) first-invalid _ refl
 
       pub first-kept : out ≡ compareOutput a b out
       unfolding outputAfter
-      first-kept = left-so (refused (x .number) (x .place) 1) first-bad out refl
+      first-kept = left-so (refused (x .number) (x .place) 1) first-invalid out refl
 
     module _ (z : x .number ≡ 0) where
       module _ (y : Answer) (ey : y ≡ answer (judge Lenient b)) where

@@ -5,7 +5,7 @@ use native.Mathlib.Omega.{arith}
 use mathlib.Core.List.{List, [], _∷_, _++_}
 use lib.ListN.{length, getD}
 use Rattle.layout.proofs.Lists.{All}
-use Rattle.layout.specs.Out.{got}
+use Rattle.layout.specs.Result.{accept}
 use Rattle.b3d_spec.specs.declared.Mode.the-variants.{Lenient}
 use Rattle.b3d_spec.specs.Answers.{judge}
 use Rattle.b3d_spec.specs.Scene.{Scene}
@@ -60,7 +60,7 @@ from-end k h = let e : 11 - k ≡ 0 = omega arith in rw e
 
 -- ---- the list
 
-module _ (a b : List ℕ) (t u : Scene) (e : judge Lenient a ≡ got t) (f : judge Lenient b ≡ got u) where
+module _ (a b : List ℕ) (t u : Scene) (e : judge Lenient a ≡ accept t) (f : judge Lenient b ≡ accept u) where
   table-is : (k : ℕ) → 1 ≤ k → k ≤ 10 → tableBytes k a b ≡ listBytes (tableChanges k a b 0 (rows k t) (rows k u))
   unfolding tableBytes
   table-is k lo hi = ap₂ (λ (p q : List (List ℕ)). listBytes (tableChanges k a b 0 p q)) (rows-law a t e k lo hi) (rows-law b u f k lo hi)

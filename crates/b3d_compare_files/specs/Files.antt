@@ -2,7 +2,7 @@
 use mathlib.Core.Path.{_≡_}
 use Prim.Native.Nat.{ℕ}
 use mathlib.Core.List.{List, [], _∷_, _++_}
-use Rattle.layout.specs.Out.{got}
+use Rattle.layout.specs.Result.{accept}
 use Rattle.b3d_spec.specs.declared.Mode.the-variants.{Lenient}
 use Rattle.b3d_spec.specs.Answers.{judge}
 use Rattle.b3d_spec.specs.Scene.{Scene}
@@ -16,7 +16,7 @@ pub record Judged (s x : List ℕ) : Type 0 where
   -- what it holds
   pub scene : Scene
   -- it is accepted under the lenient mode
-  pub is : judge Lenient s ≡ got scene
+  pub is : judge Lenient s ≡ accept scene
   -- version, n_texs and the ten counts
   pub numbers : x ≡ twelve scene
 

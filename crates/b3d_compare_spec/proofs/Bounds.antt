@@ -7,7 +7,7 @@ use mathlib.Core.List.{List, [], _∷_, _++_, map}
 use lib.ListN.{length, take, drop, getD, length-append, length-map, length-take}
 use Rattle.wire.specs.Bytes.{AllBytes, IsWord}
 use Rattle.wire.specs.Test.{if}
-use Rattle.layout.specs.Out.{got}
+use Rattle.layout.specs.Result.{accept}
 use Rattle.layout.specs.Parts.{Name}
 use Rattle.layout.specs.Rules.{NONE}
 use Rattle.layout.proofs.Lists.{All, all-map, all-of-map}
@@ -16,10 +16,10 @@ use Rattle.shared_seven_bit_groups.proofs.Fronts.{groups-most}
 use Rattle.b3d_spec.specs.declared.Mode.the-variants.{Lenient}
 use Rattle.b3d_spec.specs.declared.Counts.{Counts}
 use Rattle.b3d_spec.specs.Answers.{judge}
-use Rattle.b3d_spec.specs.Mask.{spread, keyMask}
+use Rattle.b3d_spec.specs.Mask.{padded, keyMask}
 use Rattle.b3d_spec.specs.Rebuild.{nameFrom, nodeNames, names}
 use Rattle.b3d_spec.specs.Rules.{vertexWords, keyWords}
-use Rattle.b3d_spec.specs.Scene.{Texture, Brush, TriangleSet, Kind, pivot, mesh, bone, Keys, Data, Forest, leaf, node, Scene}
+use Rattle.b3d_spec.specs.Scene.{Texture, Brush, TriangleSet, Kind, pivot, mesh, bone, Keys, Data, Forest, noNodes, node, Scene}
 use Rattle.b3d_spec.specs.Sizes.{textureSize, texsSize, brushSize, brusSize, setsSize, kindSize, keysSize, nodesSize, sizeOf}
 use Rattle.b3d_spec.specs.Tables.{start, reached, meshesOf, weightsOf, textureRow, brushRow, triangleRows, keyRows, withMeshes, withNode, withForest, rows, tables, nodeTables, partTables, counts}
 use Rattle.b3d_spec.proofs.AnswerLaws.{judge-got}
@@ -90,8 +90,8 @@ keys-heavy (x ∷ l) =
     omega (
       arith,
       keys-heavy l,
-      length-append (map (spread (keyMask (x .flags))) (x .items)) (keyRows l),
-      length-map (x .items) (spread (keyMask (x .flags))),
+      length-append (map (padded (keyMask (x .flags))) (x .items)) (keyRows l),
+      length-map (x .items) (padded (keyMask (x .flags))),
       mul-le-mul-left (length (x .items)) one,
     )
 
@@ -111,7 +111,7 @@ node-heavy d n = omega (arith, kind-heavy (d .kind) n, keys-heavy (d .keys))
 
 nodes-heavy : (f : Forest) (n : Counts) (r : List Name) → weigh (withForest f n) + 53 * namesLong (nodeNames f r) ≤ weigh n + 53 * nodesSize f + 53 * namesLong r
 unfolding nodeNames withForest
-nodes-heavy leaf n r = omega arith
+nodes-heavy noNodes n r = omega arith
 nodes-heavy (node d f g) n r =
     let m = withNode d n in
     omega (arith, node-heavy d n, nodes-heavy f m (nodeNames g r), nodes-heavy g (withForest f m) r)
@@ -147,7 +147,7 @@ scene-heavy t =
     )
 
 -- an accepted file is as long as its scene at least
-file-heavy : (s : List ℕ) (t : Scene) → AllBytes s → judge Lenient s ≡ got t → rowsWeight t + 53 * namesLong (names t) + 636 ≤ 53 * length s
+file-heavy : (s : List ℕ) (t : Scene) → AllBytes s → judge Lenient s ≡ accept t → rowsWeight t + 53 * namesLong (names t) + 636 ≤ 53 * length s
 file-heavy s t b e =
     let f = fine Lenient s t b (judge-got Lenient s t e .0) in
     omega (arith, scene-heavy t, f .1, file-length t (f .0))
@@ -156,7 +156,7 @@ file-heavy s t b e =
 abbrev rowNames : List ℕ → List (List ℕ) → ℕ
 rowNames s l = namesLong (map (nameFrom s) l)
 
-row-names : (s : List ℕ) (t : Scene) → judge Lenient s ≡ got t → rowNames s (rows 1 t) + (rowNames s (rows 2 t) + rowNames s (rows 3 t)) ≡ namesLong (names t)
+row-names : (s : List ℕ) (t : Scene) → judge Lenient s ≡ accept t → rowNames s (rows 1 t) + (rowNames s (rows 2 t) + rowNames s (rows 3 t)) ≡ namesLong (names t)
 row-names s t e =
     let one = ap namesLong (map-append (nameFrom s) (rows 1 t) (rows 2 t ++ rows 3 t)) ∙ long-append (map (nameFrom s) (rows 1 t)) (map (nameFrom s) (rows 2 t ++ rows 3 t)) in
     let two = ap namesLong (map-append (nameFrom s) (rows 2 t) (rows 3 t)) ∙ long-append (map (nameFrom s) (rows 2 t)) (map (nameFrom s) (rows 3 t)) in
@@ -284,7 +284,7 @@ module _ (s : List ℕ) where
   no-texts = ((λ x. refl), ((λ x. refl), ((λ x. refl), ((λ x. refl), ((λ x. refl), ((λ x. refl), ((λ x. refl), ((λ x. refl), tt))))))))
 
   -- the texts of all tables are the names of the file
-  texts-are : (t : Scene) → judge Lenient s ≡ got t → sumOf (λ k. tableTexts k s (rows k t)) tables ≡ namesLong (names t)
+  texts-are : (t : Scene) → judge Lenient s ≡ accept t → sumOf (λ k. tableTexts k s (rows k t)) tables ≡ namesLong (names t)
   unfolding tables nodeTables
   texts-are t e =
       let n = no-texts .1 in
@@ -305,7 +305,7 @@ module _ (s : List ℕ) where
 
 -- ---- the list
 
-twelve-words : (s : List ℕ) (t : Scene) → AllBytes s → judge Lenient s ≡ got t → Words (twelve t)
+twelve-words : (s : List ℕ) (t : Scene) → AllBytes s → judge Lenient s ≡ accept t → Words (twelve t)
 unfolding twelve counts
 twelve-words s t b e =
     let g = judge-got Lenient s t e in
@@ -318,7 +318,7 @@ unfolding firstOr
 first-most most [] m h i = i
 first-most most (c ∷ l) m h i = h
 
-module _ (a b : List ℕ) (t u : Scene) (ha : AllBytes a) (hb : AllBytes b) (e : judge Lenient a ≡ got t) (f : judge Lenient b ≡ got u) where
+module _ (a b : List ℕ) (t u : Scene) (ha : AllBytes a) (hb : AllBytes b) (e : judge Lenient a ≡ accept t) (f : judge Lenient b ≡ accept u) where
   abbrev Known : ℕ → Type 0
   Known k = (0 < k) × (k ≤ 10) × (length (rows k t) ≤ 2097151)
 

@@ -10,7 +10,7 @@ use lib.Dec.{eqb}
 use Rattle.wire.specs.Bytes.{AllBytes, IsWord}
 use Rattle.wire.specs.Test.{if}
 use Rattle.layout.specs.Fitting.{Fits}
-use Rattle.layout.specs.Out.{got}
+use Rattle.layout.specs.Result.{accept}
 use Rattle.layout.specs.Parts.{Name}
 use Rattle.layout.specs.Rows.{nameCells}
 use Rattle.layout.specs.Rules.{Rule, NONE}
@@ -21,9 +21,9 @@ use Rattle.b3d_spec.specs.declared.Counts.{Counts}
 use Rattle.b3d_spec.specs.declared.Mode.the-variants.{Lenient}
 use Rattle.b3d_spec.specs.Answers.{judge}
 use Rattle.b3d_spec.specs.Fitting.{FitTexture, FitBrush, FitTriangles, FitKeys, FitKind, FitAnim, FitData, FitNodes}
-use Rattle.b3d_spec.specs.Mask.{spread, vertexMask, keyMask}
-use Rattle.b3d_spec.specs.Rules.{textureRow as textureRule, brushRow as brushRule, brushIds, nodeRow as nodeRule, vertexRow as vertexRule, triangleRow as triangleRule, weightRow as weightRule, keyRow as keyRule, animRow as animRule, boneVertices, bonesBelow, levels}
-use Rattle.b3d_spec.specs.Scene.{Texture, Brush, TriangleSet, Mesh, Kind, pivot, mesh, bone, Keys, Anim, still, anim, Data, Forest, leaf, node, Scene}
+use Rattle.b3d_spec.specs.Mask.{padded, vertexMask, keyMask}
+use Rattle.b3d_spec.specs.Rules.{textureRow as textureRule, brushRow as brushRule, brushIds, nodeRow as nodeRule, vertexRow as vertexRule, triangleRow as triangleRule, weightRow as weightRule, keyRow as keyRule, animRow as animRule, boneLimit, boneLimitBelow, levels}
+use Rattle.b3d_spec.specs.Scene.{Texture, Brush, TriangleSet, Mesh, Kind, pivot, mesh, bone, Keys, Anim, noAnim, anim, Data, Forest, noNodes, node, Scene}
 use Rattle.b3d_spec.specs.Tables.{start, reached, meshesOf, weightsOf, textureRow, brushRow, kindCells, animCells, nodeRow, meshRow, vertexRows, setRows, triangleRows, listRows, keyRows, nodesIn, meshRows, ownRows, withMeshes, withNode, withForest, forestRows, rows, tables, nodeTables}
 use Rattle.b3d_spec.proofs.AnswerLaws.{Small, judge-got}
 use Rattle.b3d_spec.proofs.Files.FileLaws.{parse-size}
@@ -43,8 +43,8 @@ fits-words [] (w ∷ ws) h = absurd h
 fits-words (r ∷ rs) [] h = absurd h
 fits-words (r ∷ rs) (w ∷ ws) h = (h .0, fits-words rs ws (h .2))
 
-spread-words : (m : List Bool) (ws : List ℕ) → Words ws → Words (spread m ws)
-unfolding spread
+spread-words : (m : List Bool) (ws : List ℕ) → Words ws → Words (padded m ws)
+unfolding padded
 spread-words [] ws h = tt
 spread-words (true ∷ m) [] h = (omega arith, spread-words m [] tt)
 spread-words (true ∷ m) (w ∷ ws) h = (h .0, spread-words m ws (h .1))
@@ -53,8 +53,8 @@ spread-words (false ∷ m) ws h = (omega arith, spread-words m ws h)
 rows-of : (rs : List Rule) (l : List (List ℕ)) → All (Fits rs) l → All Words l
 rows-of rs l h = all-map (Fits rs) Words (fits-words rs) l h
 
-spread-rows : (m : List Bool) (rs : List Rule) (l : List (List ℕ)) → All (Fits rs) l → All Words (map (spread m) l)
-spread-rows m rs l h = all-of-map Words (spread m) l (all-map Words (λ x. Words (spread m x)) (spread-words m) l (rows-of rs l h))
+spread-rows : (m : List Bool) (rs : List Rule) (l : List (List ℕ)) → All (Fits rs) l → All Words (map (padded m) l)
+spread-rows m rs l h = all-of-map Words (padded m) l (all-map Words (λ x. Words (padded m x)) (spread-words m) l (rows-of rs l h))
 
 none-words : (n : ℕ) → Words (replicate n NONE)
 none-words zero = tt
@@ -108,7 +108,7 @@ low-node d n h = low-meshes (meshesOf (d .kind)) n (low-mesh d n h)
 
 low-forest : (f : Forest) (n : Counts) → Low (withForest f n) → Low n
 unfolding withForest
-low-forest leaf n h = h
+low-forest noNodes n h = h
 low-forest (node d ch sib) n h = low-node d n (low-forest ch (withNode d n) (low-forest sib (withForest ch (withNode d n)) h))
 
 mesh-nodes : (l : List Mesh) (n : Counts) → (withMeshes l n) .nodes ≡ n .nodes
@@ -122,7 +122,7 @@ node-one d n = ap (λ (k : ℕ). k + 1) (mesh-nodes (meshesOf (d .kind)) n)
 
 nodes-after : (f : Forest) (n : Counts) → (withForest f n) .nodes ≡ n .nodes + nodesIn f
 unfolding withForest nodesIn
-nodes-after leaf n = omega arith
+nodes-after noNodes n = omega arith
 nodes-after (node d ch sib) n =
     let m = withNode d n in
     omega (arith, nodes-after sib (withForest ch m), nodes-after ch m, node-one d n)
@@ -147,7 +147,7 @@ kind-words (bone ws) n l w = (omega arith, (l .weights, (omega arith, tt)))
 
 anim-words : (a : Anim) → FitAnim a → Words (animCells a)
 unfolding animCells
-anim-words still h = (omega arith, (omega arith, (omega arith, (omega arith, tt))))
+anim-words noAnim h = (omega arith, (omega arith, (omega arith, (omega arith, tt))))
 anim-words (anim ws) h = (omega arith, fits-words animRule ws h)
 
 weight-rows : (brushes n : ℕ) (k : Kind) → FitKind brushes n k → All Words (weightsOf k)
@@ -160,14 +160,14 @@ list-rows : (l : List Keys) (i k : ℕ) → IsWord i → All FitKeys l → k + l
 unfolding listRows keyRows
 list-rows [] i k hi h b = tt
 list-rows (x ∷ l) i k hi h b =
-    let e = length-append (map (spread (keyMask (x .flags))) (x .items)) (keyRows l) in
-    let m = length-map (x .items) (spread (keyMask (x .flags))) in
+    let e = length-append (map (padded (keyMask (x .flags))) (x .items)) (keyRows l) in
+    let m = length-map (x .items) (padded (keyMask (x .flags))) in
     ((hi, (h .0 .0 .0, (omega (arith, e, m), (omega (arith, e, m), tt)))), list-rows l i (k + length (x .items)) hi (h .1) (omega (arith, e, m)))
 
 key-rows : (l : List Keys) → All FitKeys l → All Words (keyRows l)
 unfolding keyRows
 key-rows [] h = tt
-key-rows (x ∷ l) h = all-append Words (map (spread (keyMask (x .flags))) (x .items)) (keyRows l) (spread-rows (keyMask (x .flags)) (keyRule (x .flags)) (x .items) (h .0 .1)) (key-rows l (h .1))
+key-rows (x ∷ l) h = all-append Words (map (padded (keyMask (x .flags))) (x .items)) (keyRows l) (spread-rows (keyMask (x .flags)) (keyRule (x .flags)) (x .items) (h .0 .1)) (key-rows l (h .1))
 
 set-rows : (brushes n : ℕ) (l : List TriangleSet) (i r : ℕ) → IsWord i → All (FitTriangles brushes n) l → r + length (triangleRows l) < 4294967296 → All Words (setRows i r l)
 unfolding setRows triangleRows
@@ -219,16 +219,16 @@ module _ (s : List ℕ) (small : length s < 4294967296) where
   forest-words : (k l brushes : ℕ) (above : Option ℕ) (f : Forest) (p : ℕ) (n : Counts) → IsWord p → FitNodes l brushes above f → NodeNames s f → Low (withForest f n)
       → All Words (forestRows k f p n)
   unfolding forestRows withForest
-  forest-words k zero brushes above leaf p n hp h i b = tt
+  forest-words k zero brushes above noNodes p n hp h i b = tt
   forest-words k zero brushes above (node d ch sib) p n hp h i b = absurd h
-  forest-words k (suc l) brushes above leaf p n hp h i b = tt
+  forest-words k (suc l) brushes above noNodes p n hp h i b = tt
   forest-words k (suc l) brushes above (node d ch sib) p n hp h i b =
       let m = withNode d n in
       let c = low-forest sib (withForest ch m) b in
       let a = low-forest ch m c in
       let below : nodesIn ch < 4294967296 = omega (arith, c .nodes, nodes-after ch m) in
-      all-append Words (ownRows k d p (nodesIn ch) n) _ (own-words k brushes (boneVertices above) d p (nodesIn ch) n hp below (h .0) (i .0) a)
-      (all-append Words (forestRows k ch (n .nodes) m) _ (forest-words k l brushes (bonesBelow above d) ch (n .nodes) m (low-node d n a .nodes) (h .1) (i .1) c)
+      all-append Words (ownRows k d p (nodesIn ch) n) _ (own-words k brushes (boneLimit above) d p (nodesIn ch) n hp below (h .0) (i .0) a)
+      (all-append Words (forestRows k ch (n .nodes) m) _ (forest-words k l brushes (boneLimitBelow above d) ch (n .nodes) m (low-node d n a .nodes) (h .1) (i .1) c)
       (forest-words k (suc l) brushes above sib p (withForest ch m) hp (h .2) (i .2) b))
 
   texture-words : (x : Texture) → FitTexture x → NameIn s (x .name) → Words (textureRow x)
@@ -258,7 +258,7 @@ low-end t h =
       keys = omega (arith, r .1 .1 .1 .1 .1 .1 .1 .0, h .1 .1 .1 .1 .1 .1 .1 .1 .1 .0);
     }
 
-pub cell-words : (s : List ℕ) (t : Scene) → AllBytes s → judge Lenient s ≡ got t → (k : ℕ) → All Words (rows k t)
+pub cell-words : (s : List ℕ) (t : Scene) → AllBytes s → judge Lenient s ≡ accept t → (k : ℕ) → All Words (rows k t)
 unfolding rows
 cell-words s t b e k =
     let g = judge-got Lenient s t e in

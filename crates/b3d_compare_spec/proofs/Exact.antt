@@ -12,7 +12,7 @@ use lib.Dec.{T, T-not, not-T, eqb, ltb, eqb→eq, eqb-refl, ltb→lt}
 use borrow.Author.Tests.{ne-eqb}
 use mir.Facts.{and-yes}
 use Rattle.wire.specs.Test.{if}
-use Rattle.layout.specs.Fit.{all}
+use Rattle.layout.specs.WellFormed.{all}
 use Rattle.layout.proofs.Lists.{All, cons-head, cons-tail}
 use Rattle.layout.proofs.Outs.{if-case, if-no, by-test}
 use Rattle.b3d_spec.specs.Scene.{Scene}

@@ -3,7 +3,7 @@ use mathlib.Core.Path.{_≡_, refl, ap, ap₂, sym, _∙_}
 use Prim.Native.Nat.{ℕ}
 use mathlib.Core.List.{List, [], _∷_, _++_, map, append-assoc, append-nil}
 use Rattle.wire.specs.Test.{if}
-use Rattle.layout.specs.Out.{got}
+use Rattle.layout.specs.Result.{accept}
 use Rattle.layout.specs.Parts.{Name}
 use Rattle.layout.specs.Rows.{nameCells}
 use Rattle.layout.specs.Rules.{NONE}
@@ -14,7 +14,7 @@ use Rattle.b3d_spec.specs.declared.Mode.the-variants.{Lenient}
 use Rattle.b3d_spec.specs.Answers.{judge}
 use Rattle.b3d_spec.specs.Fitting.{Stands}
 use Rattle.b3d_spec.specs.Rebuild.{nameFrom, nodeNames, names}
-use Rattle.b3d_spec.specs.Scene.{Texture, Brush, Forest, leaf, node, Scene}
+use Rattle.b3d_spec.specs.Scene.{Texture, Brush, Forest, noNodes, node, Scene}
 use Rattle.b3d_spec.specs.Tables.{start, textureRow, brushRow, nodeRow, ownRows, withNode, withForest, forestRows, rows}
 use Rattle.b3d_spec.proofs.AnswerLaws.{judge-got}
 use Rattle.b3d_spec.proofs.Join.{stand, all-in}
@@ -42,12 +42,12 @@ module _ (s : List ℕ) where
 
   rest-stands : (f : Forest) (r : List Name) → All (Stands s) (nodeNames f r) → All (Stands s) r
   unfolding nodeNames
-  rest-stands leaf r h = h
+  rest-stands noNodes r h = h
   rest-stands (node d ch sib) r h = rest-stands sib r (rest-stands ch (nodeNames sib r) (h .1))
 
   nodes-back : (f : Forest) (p : ℕ) (n : Counts) (r : List Name) → All (Stands s) (nodeNames f r) → map (nameFrom s) (forestRows 3 f p n) ++ r ≡ nodeNames f r
   unfolding nodeNames forestRows ownRows nodeRow if
-  nodes-back leaf p n r h = refl
+  nodes-back noNodes p n r h = refl
   nodes-back (node d ch sib) p n r h =
       let m = withNode d n in
       let a = forestRows 3 ch (n .nodes) m in
@@ -57,7 +57,7 @@ module _ (s : List ℕ) where
       ∙ ap (λ (l : List Name). map (nameFrom s) a ++ l) (nodes-back sib p (withForest ch m) r (rest-stands ch (nodeNames sib r) (h .1)))
       ∙ nodes-back ch (n .nodes) m (nodeNames sib r) (h .1))
 
-  pub names-told : (t : Scene) → judge Lenient s ≡ got t → map (nameFrom s) (rows 1 t ++ (rows 2 t ++ rows 3 t)) ≡ names t
+  pub names-told : (t : Scene) → judge Lenient s ≡ accept t → map (nameFrom s) (rows 1 t ++ (rows 2 t ++ rows 3 t)) ≡ names t
   unfolding names rows if
   names-told t e =
       let all = all-map (NameIn s) (Stands s) (stand s) (names t) (all-in s t (names-stand Lenient s t (judge-got Lenient s t e .0))) in

@@ -7,7 +7,7 @@ use lib.ListN.{length}
 use lib.Dec.{leb}
 use borrow.Author.Tests.{le-leb, lt-leb}
 use Rattle.wire.specs.Test.{if}
-use Rattle.layout.specs.Out.{got, bad}
+use Rattle.layout.specs.Result.{accept, reject}
 use Rattle.layout.proofs.Outs.{by-if}
 use Rattle.b3d_spec.specs.declared.Mode.the-variants.{Lenient}
 use Rattle.b3d_spec.specs.Answers.{judge}
@@ -46,15 +46,15 @@ list-none [] e = refl
 list-none (c ∷ l) e = absurd (omega (arith, some-byte c (listBytes l), ap length e))
 
 module _ (a b : List ℕ) (room : ℕ) where
-  pub both : (t u : Scene) → judge Lenient a ≡ got t → judge Lenient b ≡ got u → compare a b room ≡ roomFor room (listBytes (changes a b t u))
+  pub both : (t u : Scene) → judge Lenient a ≡ accept t → judge Lenient b ≡ accept u → compare a b room ≡ roomFor room (listBytes (changes a b t u))
   unfolding compare ofFile
   both t u e f = rw (e, f)
 
-  not-first : (n p : ℕ) → judge Lenient a ≡ bad n p → compare a b room ≡ refused n p 1
+  not-first : (n p : ℕ) → judge Lenient a ≡ reject n p → compare a b room ≡ refused n p 1
   unfolding compare ofFile
   not-first n p e = rw e
 
-  not-second : (t : Scene) (n p : ℕ) → judge Lenient a ≡ got t → judge Lenient b ≡ bad n p → compare a b room ≡ refused n p 2
+  not-second : (t : Scene) (n p : ℕ) → judge Lenient a ≡ accept t → judge Lenient b ≡ reject n p → compare a b room ≡ refused n p 2
   unfolding compare ofFile
   not-second t n p e f = rw (e, f)
 

@@ -6,7 +6,7 @@ use lib.ListN.{length}
 use lib.Dec.{leb}
 use Rattle.wire.specs.Bytes.{over}
 use Rattle.wire.specs.Test.{if}
-use Rattle.layout.specs.Out.{Out, got, bad}
+use Rattle.layout.specs.Result.{Result, accept, reject}
 use Rattle.b3d_spec.specs.declared.Mode.the-variants.{Lenient}
 use Rattle.b3d_spec.specs.Answers.{judge}
 use Rattle.b3d_spec.specs.Scene.{Scene}
@@ -21,9 +21,9 @@ pub data Comparison : Type 0 where
   refused : ℕ → ℕ → ℕ → Comparison
 
 -- go on with the scene of file i, else refuse
-unfoldable pub ofFile : ℕ → Out Scene → (Scene → Comparison) → Comparison
-ofFile i (got t) go = go t
-ofFile i (bad n p) go = refused n p i
+unfoldable pub ofFile : ℕ → Result Scene → (Scene → Comparison) → Comparison
+ofFile i (accept t) go = go t
+ofFile i (reject n p) go = refused n p i
 
 unfoldable pub roomFor : ℕ → List ℕ → Comparison
 roomFor room b = if (leb (length b) room) (listed b) (refused 11 (length b) 0)

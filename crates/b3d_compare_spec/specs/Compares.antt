@@ -7,7 +7,7 @@ use mathlib.Core.List.{List, [], _∷_, _++_, map}
 use lib.ListN.{length, getD}
 use Rattle.wire.specs.Bytes.{AllBytes}
 use Rattle.layout.specs.Lists.{All}
-use Rattle.layout.specs.Out.{got, bad}
+use Rattle.layout.specs.Result.{accept, reject}
 use Rattle.b3d_spec.specs.declared.Mode.the-variants.{Lenient}
 use Rattle.b3d_spec.specs.Answers.{judge}
 use Rattle.b3d_spec.specs.Rebuild.{nameFrom, names}
@@ -106,27 +106,27 @@ module _ (a b : List ℕ) (t u : Scene) where
 -- two files that are compared, the output having so much room
 pub record Compares (a b : List ℕ) (room : ℕ) : Type 0 where
   -- the first file's 1 to 10
-  pub first : (n p : ℕ) → judge Lenient a ≡ bad n p → compare a b room ≡ refused n p 1
+  pub first : (n p : ℕ) → judge Lenient a ≡ reject n p → compare a b room ≡ refused n p 1
   -- then the second's
-  pub second : (t : Scene) (n p : ℕ) → judge Lenient a ≡ got t → judge Lenient b ≡ bad n p → compare a b room ≡ refused n p 2
+  pub second : (t : Scene) (n p : ℕ) → judge Lenient a ≡ accept t → judge Lenient b ≡ reject n p → compare a b room ≡ refused n p 2
   -- then 11, exactly where the output is shorter than the list, with the size that is needed
-  pub short : (t u : Scene) → judge Lenient a ≡ got t → judge Lenient b ≡ got u → room < length (listBytes (changes a b t u))
+  pub short : (t u : Scene) → judge Lenient a ≡ accept t → judge Lenient b ≡ accept u → room < length (listBytes (changes a b t u))
       → compare a b room ≡ refused 11 (length (listBytes (changes a b t u))) 0
   -- otherwise the list
-  pub list : (t u : Scene) → judge Lenient a ≡ got t → judge Lenient b ≡ got u → length (listBytes (changes a b t u)) ≤ room
+  pub list : (t u : Scene) → judge Lenient a ≡ accept t → judge Lenient b ≡ accept u → length (listBytes (changes a b t u)) ≤ room
       → compare a b room ≡ listed (listBytes (changes a b t u))
   -- of two accepted files the list has what differs
-  pub says : (t u : Scene) → judge Lenient a ≡ got t → judge Lenient b ≡ got u → Listed a b t u
+  pub says : (t u : Scene) → judge Lenient a ≡ accept t → judge Lenient b ≡ accept u → Listed a b t u
   -- and its bytes can be read
-  pub reads : (t u : Scene) → judge Lenient a ≡ got t → judge Lenient b ≡ got u → Readable a b t u
+  pub reads : (t u : Scene) → judge Lenient a ≡ accept t → judge Lenient b ≡ accept u → Readable a b t u
   -- it has at most 53 bytes for each of the first file's, and one for each of the second's
-  pub most : AllBytes a → AllBytes b → (t u : Scene) → judge Lenient a ≡ got t → judge Lenient b ≡ got u
+  pub most : AllBytes a → AllBytes b → (t u : Scene) → judge Lenient a ≡ accept t → judge Lenient b ≡ accept u
       → length (listBytes (changes a b t u)) ≤ 53 * length a + length b
   -- the texts that are compared are the names of the first file: of textures, brushes and nodes
-  pub first-names : (t : Scene) → judge Lenient a ≡ got t → map (nameFrom a) (rows 1 t ++ (rows 2 t ++ rows 3 t)) ≡ names t
+  pub first-names : (t : Scene) → judge Lenient a ≡ accept t → map (nameFrom a) (rows 1 t ++ (rows 2 t ++ rows 3 t)) ≡ names t
   -- of the second
-  pub second-names : (u : Scene) → judge Lenient b ≡ got u → map (nameFrom b) (rows 1 u ++ (rows 2 u ++ rows 3 u)) ≡ names u
+  pub second-names : (u : Scene) → judge Lenient b ≡ accept u → map (nameFrom b) (rows 1 u ++ (rows 2 u ++ rows 3 u)) ≡ names u
   -- no byte is listed when nothing differs
-  pub same : (t u : Scene) → judge Lenient a ≡ got t → judge Lenient b ≡ got u → Agree a b t u → compare a b room ≡ listed []
+  pub same : (t u : Scene) → judge Lenient a ≡ accept t → judge Lenient b ≡ accept u → Agree a b t u → compare a b room ≡ listed []
   -- and only then
-  pub differs : compare a b room ≡ listed [] → (t u : Scene) → judge Lenient a ≡ got t → judge Lenient b ≡ got u → Agree a b t u
+  pub differs : compare a b room ≡ listed [] → (t u : Scene) → judge Lenient a ≡ accept t → judge Lenient b ≡ accept u → Agree a b t u

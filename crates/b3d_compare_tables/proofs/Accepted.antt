@@ -4,7 +4,7 @@ use Prim.Native.Nat.{ℕ, _<_, _≤_}
 use native.Mathlib.Omega.{arith}
 use mathlib.Core.List.{List}
 use lib.ListN.{length}
-use Rattle.layout.specs.Out.{got}
+use Rattle.layout.specs.Result.{accept}
 use Rattle.layout.specs.Rows.{sizeFits}
 use Rattle.layout.proofs.Outs.{by-check}
 use Rattle.b3d_spec.specs.declared.Mode.the-variants.{Lenient}
@@ -19,11 +19,11 @@ use Rattle.b3d_spec_plain_rows.proofs.Laws.{rows-law}
 use Rattle.b3d_rows_nodes.proofs.DepthLaws.{accepted-shallow}
 use Rattle.b3d_compare_tables.specs.Tables.{Comparable}
 
-small : (s : List ℕ) (t : Scene) → parse Lenient s ≡ got t → length s < 0x100000000
+small : (s : List ℕ) (t : Scene) → parse Lenient s ≡ accept t → length s < 0x100000000
 unfolding parse
 small s t e = by-check (sizeFits (length s)) 1 0 _ e (λ z _. omega (arith, size-bound (length s) z))
 
-pub comparable : (s : List ℕ) (t : Scene) → judge Lenient s ≡ got t → (k : ℕ) → 1 ≤ k → k ≤ 10 → Comparable k (length (rows k t)) s
+pub comparable : (s : List ℕ) (t : Scene) → judge Lenient s ≡ accept t → (k : ℕ) → 1 ≤ k → k ≤ 10 → Comparable k (length (rows k t)) s
 comparable s t e k lo hi = record {
   low = lo;
   high = hi;

@@ -8,7 +8,7 @@ use lib.ListN.{length, drop, getD, length-drop}
 use lib.Dec.{leb}
 use borrow.Author.Tests.{lt-leb, le-leb, eq-eqb, ne-eqb}
 use Rattle.wire.specs.Bytes.{wordAt, AllBytes}
-use Rattle.layout.specs.Out.{Out, got, bad, check, _>>=_}
+use Rattle.layout.specs.Result.{Result, accept, reject, check, _>>=_}
 use Rattle.layout.specs.Parts.{wordsOf}
 use Rattle.layout.proofs.StepLaws.{word-of}
 use Rattle.b3d_spec.specs.declared.Mode.{Mode}
@@ -55,22 +55,22 @@ size-high n h = rw (le-leb 12 n (omega arith), lt-leb n 16777216 h)
 size-good : (n : ℕ) → 12 ≤ n → n ≤ 16777216 → sizeFits n ≡ true
 size-good n a b = rw (le-leb 12 n a, le-leb n 16777216 b)
 
-walked-bad : (o : Out Scene) (e q : ℕ) → walked o ≡ verdict.Bad e q → o ≡ bad e q
-walked-bad (got t) e q h = let z : _≡_ {A = ℕ} 0 1 = cc in absurd (omega arith)
-walked-bad (bad n p) e q h = cc
+walked-bad : (o : Result Scene) (e q : ℕ) → walked o ≡ verdict.Bad e q → o ≡ reject e q
+walked-bad (accept t) e q h = let z : _≡_ {A = ℕ} 0 1 = cc in absurd (omega arith)
+walked-bad (reject n p) e q h = cc
 
-record GaveScene (o : Out Scene) (x : Summary) : Type 0 where
+record GaveScene (o : Result Scene) (x : Summary) : Type 0 where
   value : Scene
-  is : o ≡ got value
+  is : o ≡ accept value
   version : x .version ≡ value .version
   slots : x .«n_texs» ≡ value .slots
   has : x .tally ≡ sceneTally value
 
-walked-good : (o : Out Scene) (x : Summary) → walked o ≡ verdict.Good x → GaveScene o x
-walked-good (got t) x h =
+walked-good : (o : Result Scene) (x : Summary) → walked o ≡ verdict.Good x → GaveScene o x
+walked-good (accept t) x h =
     let e : record { version = t .version; «n_texs» = t .slots; tally = sceneTally t } ≡ x = cc in
     record { value = t; is = refl; version = sym (ap (λ (y : Summary). y .version) e); slots = sym (ap (λ (y : Summary). y .«n_texs») e); has = sym (ap (λ (y : Summary). y .tally) e) }
-walked-good (bad n p) x h = let z : _≡_ {A = ℕ} 0 1 = cc in absurd (omega arith)
+walked-good (reject n p) x h = let z : _≡_ {A = ℕ} 0 1 = cc in absurd (omega arith)
 
 module _ (mode : Mode) (s : List ℕ) where
   pub judge-low : length s < 12 → verdict.Bad 1 0 ≡ verdictOf (judge mode s)
@@ -107,7 +107,7 @@ module _ (mode : Mode) (s : List ℕ) where
 
         module _ (b : AllBytes s) (x : Summary) (z : j ≡ verdict.Good x) where
           gave : GaveScene (parse mode s) x
-          gave = subst (λ (o : Out Scene). GaveScene o x) (sym parsed) (walked-good (readBody mode 8 (drop 8 s)) x (sym (hj .is) ∙ z))
+          gave = subst (λ (o : Result Scene). GaveScene o x) (sym parsed) (walked-good (readBody mode 8 (drop 8 s)) x (sym (hj .is) ∙ z))
 
           tally-is : x .tally ≡ tallyOf (gave .value)
           tally-is = gave .has ∙ total (gave .value) (fine mode s (gave .value) b (gave .is) .0)
@@ -121,8 +121,8 @@ module _ (mode : Mode) (s : List ℕ) where
             judge-over d = finish (parse mode s) (gave .value) (gave .is)
                 (over-some (λ k. length (rows k (gave .value))) (tallyOf (gave .value) .copy) n over-at d)
               where
-                finish : (o : Out Scene) (t : Scene) → o ≡ got t → eachOf 10 (λ k. leb (length (rows k t)) rowLimit) tables ≡ bad 10 n
-                    → verdict.Bad 10 n ≡ verdictOf (o >>= λ t. eachOf 10 (λ k. leb (length (rows k t)) rowLimit) tables >>= λ _. got t)
+                finish : (o : Result Scene) (t : Scene) → o ≡ accept t → eachOf 10 (λ k. leb (length (rows k t)) rowLimit) tables ≡ reject 10 n
+                    → verdict.Bad 10 n ≡ verdictOf (o >>= λ t. eachOf 10 (λ k. leb (length (rows k t)) rowLimit) tables >>= λ _. accept t)
                 finish o t e h = rw (e, h)
 
             pub judge-good : n ≡ 0 → verdict.Good x ≡ verdictOf (judge mode s)
@@ -130,9 +130,9 @@ module _ (mode : Mode) (s : List ℕ) where
             judge-good q = finish (parse mode s) (gave .value) (gave .is) (over-none (λ k. length (rows k (gave .value))) (tallyOf (gave .value) .copy) n over-at q)
                 (λ i. record { version = gave .version i; «n_texs» = gave .slots i; tally = tally-is i })
               where
-                finish : (o : Out Scene) (t : Scene) → o ≡ got t → eachOf 10 (λ k. leb (length (rows k t)) rowLimit) tables ≡ got tt
+                finish : (o : Result Scene) (t : Scene) → o ≡ accept t → eachOf 10 (λ k. leb (length (rows k t)) rowLimit) tables ≡ accept tt
                     → x ≡ record { version = t .version; «n_texs» = t .slots; tally = tallyOf t }
-                    → verdict.Good x ≡ verdictOf (o >>= λ t. eachOf 10 (λ k. leb (length (rows k t)) rowLimit) tables >>= λ _. got t)
+                    → verdict.Good x ≡ verdictOf (o >>= λ t. eachOf 10 (λ k. leb (length (rows k t)) rowLimit) tables >>= λ _. accept t)
                 finish o t e h k = ap verdict.Good k ∙ sym (rw (e, h))
 
 pub ruleset judge-laws = (judge-low, judge-high, judge-tag, judge-length, judge-refused, judge-over, judge-good)

@@ -2,7 +2,7 @@
 use mathlib.Core.Path.{_≡_, refl}
 use Prim.Native.Nat.{ℕ}
 use native.Mathlib.Omega.{arith}
-use Rattle.layout.specs.Out.{Out, got, bad}
+use Rattle.layout.specs.Result.{Result, accept, reject}
 use Rattle.b3d_spec.specs.Scene.{Scene}
 use Rattle.b3d_judge_tally.specs.Tally.{tallyOf}
 use Rattle.b3d_judge.specs.Answers.{verdictOf}
@@ -12,15 +12,15 @@ use Rattle.b3d_judge_file_body.specs.declared.Verdict.the-variants as verdict
 abbrev pub summaryOf : Scene → Summary
 summaryOf t = record { version = t .version; «n_texs» = t .slots; tally = tallyOf t }
 
-pub record Good (o : Out Scene) (x : Summary) : Type 0 where
+pub record Good (o : Result Scene) (x : Summary) : Type 0 where
   pub scene : Scene
-  pub is : o ≡ got scene
+  pub is : o ≡ accept scene
   pub same : x ≡ summaryOf scene
 
-pub was-bad : (o : Out Scene) (e p : ℕ) → verdictOf o ≡ verdict.Bad e p → o ≡ bad e p
-was-bad (got t) e p h = let z : _≡_ {A = ℕ} 0 1 = cc in absurd (omega arith)
-was-bad (bad n q) e p h = cc
+pub was-bad : (o : Result Scene) (e p : ℕ) → verdictOf o ≡ verdict.Bad e p → o ≡ reject e p
+was-bad (accept t) e p h = let z : _≡_ {A = ℕ} 0 1 = cc in absurd (omega arith)
+was-bad (reject n q) e p h = cc
 
-pub was-good : (o : Out Scene) (x : Summary) → verdictOf o ≡ verdict.Good x → Good o x
-was-good (got t) x h = record { scene = t; is = refl; same = cc }
-was-good (bad n p) x h = let z : _≡_ {A = ℕ} 0 1 = cc in absurd (omega arith)
+pub was-good : (o : Result Scene) (x : Summary) → verdictOf o ≡ verdict.Good x → Good o x
+was-good (accept t) x h = record { scene = t; is = refl; same = cc }
+was-good (reject n p) x h = let z : _≡_ {A = ℕ} 0 1 = cc in absurd (omega arith)

@@ -1,4 +1,4 @@
--- The loop of `judge_moves`: what it has come to, and a law for each way on.
+-- The loop of `judge_animation`: what it has come to, and a law for each way on.
 use mathlib.Core.Path.{refl, ap, sym, subst, _≡_, _∙_}
 use Prim.Native.Nat.{ℕ, _≤_, _+_, _-_}
 use native.Mathlib.Omega.{arith}
@@ -14,22 +14,22 @@ use Rattle.wire.specs.Test.{if}
 use Rattle.wire.specs.Cursors.{left}
 use Rattle.wire.specs.declared.Cursor.{Cursor}
 use Rattle.wire.proofs.Left.{left-length}
-use Rattle.layout.specs.Out.{Out, got, bad, _>>=_}
+use Rattle.layout.specs.Result.{Result, accept, reject, _>>=_}
 use Rattle.layout.specs.Parts.{wordsOf}
 use Rattle.layout.specs.Rows.{mostBytes}
 use Rattle.b3d_spec.specs.declared.Tag.{Tag}
 use Rattle.b3d_spec.specs.declared.Tag.the-variants.{NODE, KEYS, ANIM}
 use Rattle.b3d_spec.specs.Tags.{Chunks, Found, is}
-use Rattle.b3d_spec.specs.Scene.{Keys, still, anim}
+use Rattle.b3d_spec.specs.Scene.{Keys, noAnim, anim}
 use Rattle.b3d_spec.specs.Rules.{animated}
 use Rattle.b3d_spec.specs.Nesting.{nesting, Reached, next as nextTurn, onward, order, reachedAt}
-use Rattle.b3d_spec.specs.Parse.{Moves, readKeys, readAnim, readMoves, withKeys}
+use Rattle.b3d_spec.specs.Parse.{Animation, readKeys, readAnim, readAnimation, withKeys}
 use Rattle.b3d_spec.proofs.Tag.{the-type}
 use Rattle.b3d_spec.proofs.Files.TagCodes.{by-tag}
 use Rattle.b3d_spec.proofs.Files.LeafLaws.{anim-whole, anim-other}
 use Rattle.b3d_chunk_cursor.specs.Chunks.{Among as Chunked}
 use Rattle.b3d_chunk_cursor.specs.declared.Next.the-variants as next
-use Rattle.b3d_judge_tally.specs.Tally.{noTally, bytesTally, listTally, listsTally, animTally, movesTally, plus, Within}
+use Rattle.b3d_judge_tally.specs.Tally.{noTally, bytesTally, listTally, listsTally, animTally, animationTally, plus, Within}
 use Rattle.b3d_spec_chunk_places.specs.Places.{restIn, Among}
 use Rattle.b3d_judge_tally.specs.Answers.{Judges}
 use Rattle.b3d_judge_tally.specs.declared.Tally.{Tally}
@@ -52,18 +52,18 @@ use Rattle.b3d_spec_chunk_places.proofs.TagTests.{ten, one-of, never, some-inj}
 use Rattle.b3d_judge_animation.proofs.MoveLaws.{keys-first, anim-same, moved-first}
 
 -- what the moves of a node come to
-abbrev whole : List ℕ → ℕ → Cursor → Out (Bool × Tally × Chunks)
-whole s at from = moved (readMoves still (restIn s NODE at (reachedAt 2 false) from))
+abbrev whole : List ℕ → ℕ → Cursor → Result (Bool × Tally × Chunks)
+whole s at from = moved (readAnimation noAnim (restIn s NODE at (reachedAt 2 false) from))
 
 -- the answers that are right
 abbrev Right : List ℕ → ℕ → Cursor → Motion → Type 0
-Right s at from r = Motions (readMoves still (restIn s NODE at (reachedAt 2 false) from)) (restIn s NODE at (reachedAt 3 false)) from r
+Right s at from r = Motions (readAnimation noAnim (restIn s NODE at (reachedAt 2 false) from)) (restIn s NODE at (reachedAt 3 false)) from r
 
 -- at c, after q, which is at the turn of KEYS and ANIM and is spent where an ANIM was seen, with the tally m of keys
 pub record Moving (s : List ℕ) (at : ℕ) (from c : Cursor) (q : State) (m : Tally) : Type 0 where
   pub turn : q .turn ≡ 2
   pub going : Going s at from c (plus m (animTally (animOf (q .spent))))
-  pub so-far : whole s at from ≡ movedFrom m (readMoves (animOf (q .spent)) (restIn s NODE at (reachedOf q) c))
+  pub so-far : whole s at from ≡ movedFrom m (readAnimation (animOf (q .spent)) (restIn s NODE at (reachedOf q) c))
 
 within-left : (a b : Tally) (n : ℕ) → Within (plus a b) n → Within a n
 unfolding plus
@@ -73,10 +73,10 @@ seen-anim : (b : Bool) → animated (animOf b) ≡ b
 seen-anim true = refl
 seen-anim false = refl
 
-keys-on : (o : Out Keys) (k : Tally) → Gave listTally o k → (m y : Tally) → y ≡ plus m k → (rest : Out (Found Moves))
-    → movedFrom m (o >>= λ a. rest >>= λ z. got (withKeys a z)) ≡ movedFrom y rest
+keys-on : (o : Result Keys) (k : Tally) → Gave listTally o k → (m y : Tally) → y ≡ plus m k → (rest : Result (Found Animation))
+    → movedFrom m (o >>= λ a. rest >>= λ z. accept (withKeys a z)) ≡ movedFrom y rest
 keys-on o k g m y e rest =
-    ap (λ (i : Out Keys). movedFrom m (i >>= λ a. rest >>= λ z. got (withKeys a z))) (g .is)
+    ap (λ (i : Result Keys). movedFrom m (i >>= λ a. rest >>= λ z. accept (withKeys a z))) (g .is)
     ∙ keys-first m (g .value) rest ∙ ap (λ (t : Tally). movedFrom t rest) (ap (plus m) (sym (g .has)) ∙ sym e)
 
 swapped : (a k d : Tally) (i j n : ℕ) → Within (plus a d) i → Within k j → i + j ≤ n → Within (plus (plus a k) d) n
@@ -125,20 +125,20 @@ module _ (s : List ℕ) (at : ℕ) (from : Cursor) where
   moving-start g m e = record {
     turn = refl;
     going = going-start s at from _ g (rw e (none-plus noTally));
-    so-far = rw e (moved-first (readMoves still (restIn s NODE at (reachedAt 2 false) from)));
+    so-far = rw e (moved-first (readAnimation noAnim (restIn s NODE at (reachedAt 2 false) from)));
   }
 
   module _ (c : Cursor) (q : State) (m : Tally) (v : Moving s at from c q m) where
     pub moving-small : Within m mostBytes
     moving-small = within-left m (animTally (animOf (q .spent))) mostBytes (going-small s at from c _ (v .going))
 
-    refuse : (e i : ℕ) → movedFrom m (readMoves (animOf (q .spent)) (restIn s NODE at (reachedOf q) c)) ≡ bad e i → i ≤ c .end → Right s at from (motion.Not e i)
+    refuse : (e i : ℕ) → movedFrom m (readAnimation (animOf (q .spent)) (restIn s NODE at (reachedOf q) c)) ≡ reject e i → i ≤ c .end → Right s at from (motion.Not e i)
     refuse e i h le = record { is = sym (v .so-far ∙ h); within = omega (arith, v .going .same) }
 
     finish : (t : Tally) → t ≡ plus m (animTally (animOf (q .spent)))
-        → readMoves (animOf (q .spent)) (restIn s NODE at (reachedOf q) c) ≡ got (record { value = record { keys = []; anim = animOf (q .spent) }; rest = restIn s NODE at (reachedAt 3 false) c })
+        → readAnimation (animOf (q .spent)) (restIn s NODE at (reachedOf q) c) ≡ accept (record { value = record { keys = []; anim = animOf (q .spent) }; rest = restIn s NODE at (reachedAt 3 false) c })
         → Right s at from (motion.To (q .spent) t c)
-    unfolding movesTally listsTally
+    unfolding animationTally listsTally
     finish t e h = record {
       is = sym (v .so-far ∙ rw (h, none-plus, e, seen-anim (q .spent)));
       within = record { from-at = v .going .from-at; room = v .going .among .room; same = v .going .same; within = rw e (v .going .within) };
@@ -146,11 +146,11 @@ module _ (s : List ℕ) (at : ℕ) (from : Cursor) where
 
     module _ (r : Enclosed) (x : EnclosedIs s NODE at q c r) where
       pub moving-stop : (e p : ℕ) → r ≡ enclosed.Not e p → Right s at from (motion.Not e p)
-      unfolding readMoves
+      unfolding readAnimation
       moving-stop e p w = refuse e p (rw (rest-stop s NODE at q c r x e p w)) (stop-before s NODE at q c r x e p w)
 
       pub moving-end : r ≡ enclosed.End → (t : Tally) → t ≡ plus m (animTally (animOf (q .spent))) → Right s at from (motion.To (q .spent) t c)
-      unfolding readMoves order if
+      unfolding readAnimation order if
       moving-end w t e = finish t e (rw (rest-end s NODE at q c r x w, rest-done s c next.Done (end-next s NODE at q c r x w) NODE at (reachedAt 3 false) refl))
 
       module _ (t : Tag) (p : ℕ) (b n : Cursor) (z : State) (w : r ≡ enclosed.Chunk t p b n z) where
@@ -168,7 +168,7 @@ module _ (s : List ℕ) (at : ℕ) (from : Cursor) where
         moving-room = among .room
 
         pub moving-node : (ks : List ℕ) → OneOf ks (tagOf the-type t) → T (unmoved ks) → (u : Tally) → u ≡ plus m (animTally (animOf (q .spent))) → Right s at from (motion.To (q .spent) u c)
-        unfolding unmoved readMoves nextTurn onward if
+        unfolding unmoved readAnimation nextTurn onward if
         moving-node ks o h u e =
             let (k, y) = node-turn (q .spent) (reachedOf z) t goes (one-of (λ t. not (is t KEYS || is t ANIM)) ks h t o) in
             finish u e (rw (rest-step s NODE at q c r x t p b n z w, rest-chunk s c (next.Chunk t p b n) (step-next s NODE at q c r x t p b n z w) NODE at (reachedAt 3 false) t p b n refl, k, y))
@@ -176,9 +176,9 @@ module _ (s : List ℕ) (at : ℕ) (from : Cursor) where
         -- KEYS
 
         module _ (k : t ≡ KEYS) (j : Judged) (h : Judges listTally (readKeys p (left b s)) p (b .end) j) where
-          keys-read : readMoves (animOf (q .spent)) (restIn s NODE at (reachedOf q) c)
-              ≡ (readKeys p (left b s) >>= λ l. readMoves (animOf (q .spent)) (restIn s NODE at (reachedOf z) n) >>= λ y. got (withKeys l y))
-          unfolding readMoves if
+          keys-read : readAnimation (animOf (q .spent)) (restIn s NODE at (reachedOf q) c)
+              ≡ (readKeys p (left b s) >>= λ l. readAnimation (animOf (q .spent)) (restIn s NODE at (reachedOf z) n) >>= λ y. accept (withKeys l y))
+          unfolding readAnimation if
           keys-read = rw (rest-step s NODE at q c r x t p b n z w, k)
 
           pub moving-keys-bad : (e i : ℕ) → j ≡ judge.Bad e i → Right s at from (motion.Not e i)
@@ -196,8 +196,8 @@ module _ (s : List ℕ) (at : ℕ) (from : Cursor) where
                 going = to _ (rw (e, l .1) (swapped m u (animTally (animOf (q .spent))) (c .at - from .at) (b .end - p) (n .at - from .at) (v .going .within) i (omega (arith, v .going .from-at))));
                 so-far =
                     v .so-far ∙ ap (movedFrom m) keys-read
-                    ∙ keys-on (readKeys p (left b s)) u g m a e (readMoves (animOf (q .spent)) (restIn s NODE at (reachedOf z) n))
-                    ∙ ap (λ (d : Bool). movedFrom a (readMoves (animOf d) (restIn s NODE at (reachedOf z) n))) (sym (l .1));
+                    ∙ keys-on (readKeys p (left b s)) u g m a e (readAnimation (animOf (q .spent)) (restIn s NODE at (reachedOf z) n))
+                    ∙ ap (λ (d : Bool). movedFrom a (readAnimation (animOf d) (restIn s NODE at (reachedOf z) n))) (sym (l .1));
               }
 
         -- ANIM
@@ -206,8 +206,8 @@ module _ (s : List ℕ) (at : ℕ) (from : Cursor) where
           once : (q .spent ≡ false) × (z .turn ≡ 2) × (z .spent ≡ true)
           once = anim-turn (q .spent) z (subst (λ (t : Tag). nextTurn (nesting NODE) (nesting NODE) (reachedAt 2 (q .spent)) t ≡ some (reachedOf z)) k goes)
 
-          anim-read : readMoves (animOf (q .spent)) (restIn s NODE at (reachedOf q) c) ≡ (readAnim p (left b s) >>= λ ws. readMoves (anim ws) (restIn s NODE at (reachedOf z) n))
-          unfolding readMoves if
+          anim-read : readAnimation (animOf (q .spent)) (restIn s NODE at (reachedOf q) c) ≡ (readAnim p (left b s) >>= λ ws. readAnimation (anim ws) (restIn s NODE at (reachedOf z) n))
+          unfolding readAnimation if
           anim-read = rw (rest-step s NODE at q c r x t p b n z w, k)
 
           size : length (left b s) ≡ b .end - b .at
@@ -230,7 +230,7 @@ module _ (s : List ℕ) (at : ℕ) (from : Cursor) where
                     (twenty m (c .at - from .at) (n .at - from .at) (subst (λ (d : Bool). Within (plus m (animTally (animOf d))) (c .at - from .at)) first (v .going .within)) (omega (arith, v .going .from-at, f .body, f .from))));
                 so-far =
                     v .so-far ∙ rw (anim-read, anim-whole p (left b s) (size ∙ d)) (anim-same (restIn s NODE at (reachedOf z) n) m (wordsOf 3 (left b s)) [])
-                    ∙ ap (λ (d : Bool). movedFrom m (readMoves (animOf d) (restIn s NODE at (reachedOf z) n))) (sym spent);
+                    ∙ ap (λ (d : Bool). movedFrom m (readAnimation (animOf d) (restIn s NODE at (reachedOf z) n))) (sym spent);
               }
 
 pub ruleset moving-laws = (not-moves, moving-start, moving-small, moving-stop, moving-end, moving-room, moving-node, moving-keys-bad, moving-keys, moving-anim-short, moving-anim, going)

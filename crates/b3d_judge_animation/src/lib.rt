@@ -4,8 +4,8 @@ ghost use mathlib.Core.Bool.{false};
 ghost use lib.ListN.{length};
 ghost use Rattle.layout.specs.Rows.{mostBytes};
 ghost use Rattle.b3d_spec.specs.declared.Tag.the-variants.{NODE};
-ghost use Rattle.b3d_spec.specs.Scene.{still};
-ghost use Rattle.b3d_spec.specs.Parse.{readMoves};
+ghost use Rattle.b3d_spec.specs.Scene.{noAnim};
+ghost use Rattle.b3d_spec.specs.Parse.{readAnimation};
 ghost use Rattle.b3d_judge_tally.specs.Tally.{plus, animTally, Within};
 ghost use Rattle.b3d_spec.specs.Nesting.{reachedAt};
 ghost use Rattle.b3d_spec_chunk_places.specs.Places.{restIn, Among};
@@ -42,9 +42,9 @@ fn with_anim(m: Tally, seen: bool) -> Tally
 
 // Judges KEYS and ANIM, in any mix, from the cursor `from` up to the first NODE or the end of the NODE whose header is at `at`. Returns whether there is an
 // ANIM, their tally and the cursor after them, or the first refusal: 5 at the body of an ANIM whose length is not 12.
-pub fn judge_moves(s: &[u8], at: usize, from: Cursor) -> Motion
+pub fn judge_animation(s: &[u8], at: usize, from: Cursor) -> Motion
     requires { ⌜ Among at from (length (now s)) ⌝ }
-    ensures { λ r. ⌜ Motions (readMoves still (restIn (now (s .entry)) NODE at (reachedAt 2 false) from)) (restIn (now (s .entry)) NODE at (reachedAt 3 false)) from r ⌝ }
+    ensures { λ r. ⌜ Motions (readAnimation noAnim (restIn (now (s .entry)) NODE at (reachedAt 2 false) from)) (restIn (now (s .entry)) NODE at (reachedAt 3 false)) from r ⌝ }
 {
     let mut c = from;
     let mut q = KIND_READ;

@@ -6,7 +6,7 @@ use mathlib.Core.List.{List}
 use lib.ListN.{length}
 use Rattle.wire.specs.Cursors.{Inside}
 use Rattle.wire.specs.declared.Cursor.{Cursor}
-use Rattle.layout.specs.Out.{Out, got, bad}
+use Rattle.layout.specs.Result.{Result, accept, reject}
 use Rattle.layout.specs.Rows.{mostBytes}
 use Rattle.b3d_spec.specs.declared.Tag.{Tag}
 use Rattle.b3d_rule_nesting_order.specs.declared.Reached.{Reached as State}
@@ -50,11 +50,11 @@ module _ (s : List ℕ) (at : ℕ) (from c : Cursor) (m : Tally) (g : Going s at
   going-small = within-more (c .at - from .at) mostBytes (g .within) (omega (arith, g .among .room, g .among .within, g .among .small))
 
   -- the answer where the chunks that are left are refused, or there are none: `whole` is what all of them make, `rest` what those that are left do
-  module _ {A : Type 0} (tally : A → Tally) (whole rest : Out A) (so-far : judged tally whole ≡ judgedFrom m tally rest) where
-    pub going-refused : (e i : ℕ) → rest ≡ bad e i → i ≤ c .end → Judges tally whole (from .at) (from .end) (judge.Bad e i)
+  module _ {A : Type 0} (tally : A → Tally) (whole rest : Result A) (so-far : judged tally whole ≡ judgedFrom m tally rest) where
+    pub going-refused : (e i : ℕ) → rest ≡ reject e i → i ≤ c .end → Judges tally whole (from .at) (from .end) (judge.Bad e i)
     going-refused e i h le = record { is = sym (so-far ∙ rw h); within = omega (arith, g .same) }
 
-    pub going-done : (a : A) → rest ≡ got a → tally a ≡ noTally → Judges tally whole (from .at) (from .end) (judge.Good m)
+    pub going-done : (a : A) → rest ≡ accept a → tally a ≡ noTally → Judges tally whole (from .at) (from .end) (judge.Good m)
     going-done a h e = record {
       is = sym (so-far ∙ rw h (judged-end tally m a e));
       within = within-more (c .at - from .at) (from .end - from .at) (g .within) (omega (arith, g .among .room, g .same));
@@ -76,7 +76,7 @@ module _ (s : List ℕ) (at : ℕ) (from c : Cursor) (m : Tally) (g : Going s at
         }
 
     -- by what is answered of it
-    module _ {A : Type 0} (tally : A → Tally) (o : Out A) (j : Judged) (h : Judges tally o p (b .end) j) where
+    module _ {A : Type 0} (tally : A → Tally) (o : Result A) (j : Judged) (h : Judges tally o p (b .end) j) where
       pub going-place : (e i : ℕ) → j ≡ judge.Bad e i → i ≤ c .end
       going-place e i y =
           let f = step-among s k at q c r x t p b n z w in

@@ -7,7 +7,7 @@ use mathlib.Core.List.{List}
 use lib.ListN.{length}
 use Rattle.wire.specs.Cursors.{Inside}
 use Rattle.wire.specs.declared.Cursor.{Cursor}
-use Rattle.layout.specs.Out.{Out, got, bad}
+use Rattle.layout.specs.Result.{Result, accept, reject}
 use Rattle.layout.specs.Rows.{mostBytes}
 use Rattle.b3d_judge_items.specs.Items.{counted, CountedIn}
 use Rattle.b3d_judge_items.specs.declared.Counted.{Counted}
@@ -18,19 +18,19 @@ use Rattle.b3d_judge_tally.specs.Tally.{Within}
 use Rattle.b3d_judge_tally.specs.declared.Judged.the-variants as judge
 use Rattle.b3d_judge_tally.specs.declared.Tally.{Tally}
 
-module _ {A : Type 0} (tally : A → Tally) (o : Out A) (from to : ℕ) where
-  pub judges-bad : (n p : ℕ) → o ≡ bad n p → p ≤ to → Judges tally o from to (judge.Bad n p)
+module _ {A : Type 0} (tally : A → Tally) (o : Result A) (from to : ℕ) where
+  pub judges-bad : (n p : ℕ) → o ≡ reject n p → p ≤ to → Judges tally o from to (judge.Bad n p)
   judges-bad n p e h = record { is = rw e; within = h }
 
-  pub judges-good : (a : A) (t : Tally) → o ≡ got a → t ≡ tally a → Within t (to - from) → Judges tally o from to (judge.Good t)
+  pub judges-good : (a : A) (t : Tally) → o ≡ accept a → t ≡ tally a → Within t (to - from) → Judges tally o from to (judge.Good t)
   judges-good a t e f h = record { is = rw (e, f); within = h }
 
   -- by the count of the items i that it is made of
-  module _ (i : Out (List (List ℕ))) (x : Counted) (y : x ≡ counted i) where
-    pub items-bad : (n p : ℕ) → x ≡ counts.Not n p → (i ≡ bad n p → o ≡ bad n p) → p ≤ to → Judges tally o from to (judge.Bad n p)
+  module _ (i : Result (List (List ℕ))) (x : Counted) (y : x ≡ counted i) where
+    pub items-bad : (n p : ℕ) → x ≡ counts.Not n p → (i ≡ reject n p → o ≡ reject n p) → p ≤ to → Judges tally o from to (judge.Bad n p)
     items-bad n p q f h = judges-bad n p (f (counted-bad i n p (sym y ∙ q))) h
 
-    pub items-good : (k : ℕ) → x ≡ counts.Is k → (make : List (List ℕ) → A) → ((l : List (List ℕ)) → i ≡ got l → o ≡ got (make l)) → (t : Tally)
+    pub items-good : (k : ℕ) → x ≡ counts.Is k → (make : List (List ℕ) → A) → ((l : List (List ℕ)) → i ≡ accept l → o ≡ accept (make l)) → (t : Tally)
         → ((l : List (List ℕ)) → length l ≡ k → t ≡ tally (make l)) → Within t (to - from) → Judges tally o from to (judge.Good t)
     items-good k q make f t g h = let a = counted-got i k (sym y ∙ q) in judges-good (make (a .0)) t (f (a .0) (a .1)) (g (a .0) (a .2)) h
 

@@ -9,7 +9,7 @@ use Rattle.wire.specs.Cursors.{left, numberAt}
 use Rattle.wire.specs.declared.Cursor.{Cursor}
 use Rattle.wire.specs.declared.Number.{Number}
 use Rattle.wire.specs.declared.Number.the-variants as number
-use Rattle.layout.specs.Out.{Out}
+use Rattle.layout.specs.Result.{Result}
 use Rattle.layout.specs.Parts.{row, items}
 use Rattle.b3d_spec.specs.Parse.{readKeys}
 use Rattle.b3d_spec.specs.Rules.{keyFlags, keyRow, keyWords}
@@ -27,7 +27,7 @@ use Rattle.b3d_judge_bodies.proofs.Judging.{judges-bad, items-bad, item
 use Rattle.b3d_judge_tally.proofs.Tallies.{within-keys}
 
 -- the keys from a cursor on
-abbrev keysAt : List ℕ → Cursor → ℕ → Out (List (List ℕ))
+abbrev keysAt : List ℕ → Cursor → ℕ → Result (List (List ℕ))
 keysAt s c flags = items (row (keyRow flags)) (c .at) (left c s)
 
 module _ (s : List ℕ) (at : ℕ) (b : Cursor) (body : Body at b (length s)) (r : Number) (e : r ≡ numberAt s b) where

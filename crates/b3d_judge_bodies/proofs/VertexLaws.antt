@@ -9,7 +9,7 @@ use Rattle.wire.specs.Bytes.{wordAt}
 use Rattle.wire.specs.Cursors.{Inside, left}
 use Rattle.wire.specs.declared.Cursor.{Cursor}
 use Rattle.wire.proofs.Left.{span, left-length, left-drop}
-use Rattle.layout.specs.Out.{Out, got, bad, check}
+use Rattle.layout.specs.Result.{Result, accept, reject, check}
 use Rattle.layout.specs.Parts.{wordsOf, judged, row, items}
 use Rattle.layout.specs.Rules.{Rule, any, unit}
 use Rattle.layout.proofs.StepLaws.{row-enough, row-short, three-left}
@@ -24,7 +24,7 @@ use Rattle.b3d_judge_items.proofs.Divided.{divided-is, counted-room, counted-be
 use Rattle.b3d_spec_chunk_places.specs.Places.{Body}
 use Rattle.b3d_judge_bodies.specs.Answers.{Shapes}
 use Rattle.b3d_judge_bodies.specs.Colours.{beforeColour, coloursOf}
-use Rattle.b3d_judge_bodies.specs.declared.Shaped.the-variants as shape
+use Rattle.b3d_judge_bodies.specs.declared.VerticesSummary.the-variants as shape
 use Rattle.b3d_spec_chunk_places.proofs.Heads.{body-inside}
 
 -- ---- a vertex's rules: words that are not looked at, the colours that the mode looks at, and others
@@ -80,10 +80,10 @@ abbrev after : Cursor → Cursor
 after b = span (b .at + 12) (b .end)
 
 -- the vertices from a cursor on
-abbrev verticesAt : Mode → List ℕ → Cursor → ℕ → ℕ → ℕ → Out (List (List ℕ))
+abbrev verticesAt : Mode → List ℕ → Cursor → ℕ → ℕ → ℕ → Result (List (List ℕ))
 verticesAt mode s c flags sets size = items (row (vertexRow mode flags sets size)) (c .at) (left c s)
 
-refuses : (o : Out Vertices) (b : Cursor) (n p : ℕ) → o ≡ bad n p → p ≤ b .end → Shapes o b (shape.Not n p)
+refuses : (o : Result Vertices) (b : Cursor) (n p : ℕ) → o ≡ reject n p → p ≤ b .end → Shapes o b (shape.Not n p)
 refuses o b n p e h = record { is = rw e; within = h }
 
 module _ (mode : Mode) (s : List ℕ) (at : ℕ) (b : Cursor) (body : Body at b (length s)) where
@@ -131,7 +131,7 @@ module _ (mode : Mode) (s : List ℕ) (at : ℕ) (b : Cursor) (body : Body at b 
             (x : Counted)
             (y : x ≡ counted (colourItems (beforeColour flags) (coloursOf mode flags) (words - (beforeColour flags + coloursOf mode flags)) (after b .at) (left (after b) s)))
             (z : CountedIn (after b) words x) where
-          whole : row verticesHead (at + 8) (left b s) ≡ got (record { value = flags ∷ sets ∷ size ∷ []; place = b .at + 12; left = left (after b) s })
+          whole : row verticesHead (at + 8) (left b s) ≡ accept (record { value = flags ∷ sets ∷ size ∷ []; place = b .at + 12; left = left (after b) s })
           unfolding judged check
           whole = rw (head, le-leb _ _ f3, le-leb _ _ s8, le-leb _ _ s4)
 

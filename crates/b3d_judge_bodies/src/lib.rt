@@ -19,7 +19,7 @@ use wire::Cursor;
 use wire::Number;
 
 // How many vertices there are and how many words each has, or a refusal and its place.
-pub enum Shaped {
+pub enum VerticesSummary {
     Is(usize, usize),
     Not(u32, usize),
 }
@@ -84,26 +84,26 @@ fn vertex_items(s: &[u8], items: Cursor, words: usize, flags: u32, mode: Mode) -
 
 // Judges the `body` of a VRTS whose header is at `at`: flags, sets and set size, then vertices to the end. Returns how many vertices and words of each; 5
 // where these numbers or a vertex is cut, 6 at a number out of its range or, in strict `mode`, a colour that does not pass.
-pub fn judge_vertices(s: &[u8], at: usize, body: Cursor, mode: Mode) -> Shaped
+pub fn judge_vertices(s: &[u8], at: usize, body: Cursor, mode: Mode) -> VerticesSummary
     requires { ⌜ Body at body (length (now s)) ⌝ }
     ensures { λ r. ⌜ Shapes (readVertices mode at (left body (now (s .entry)))) body r ⌝ }
 {
     let start = body.at;
     let end = body.end;
     if end - start < 12 {
-        return Shaped::Not(5, start);
+        return VerticesSummary::Not(5, start);
     }
     let flags = wire::number_at(s, start);
     let sets = wire::number_at(s, start + 4);
     let size = wire::number_at(s, start + 8);
     if 3 < flags {
-        return Shaped::Not(6, start);
+        return VerticesSummary::Not(6, start);
     }
     if 8 < sets {
-        return Shaped::Not(6, start + 4);
+        return VerticesSummary::Not(6, start + 4);
     }
     if 4 < size {
-        return Shaped::Not(6, start + 8);
+        return VerticesSummary::Not(6, start + 8);
     }
     let words = b3d_rule_widths::vertex_words(flags, sets, size);
     let items = Cursor {
@@ -111,8 +111,8 @@ pub fn judge_vertices(s: &[u8], at: usize, body: Cursor, mode: Mode) -> Shaped
         end,
     };
     match vertex_items(s, items, words, flags, mode) {
-        Counted::Not(n, p) => Shaped::Not(n, p),
-        Counted::Is(count) => Shaped::Is(count, words),
+        Counted::Not(n, p) => VerticesSummary::Not(n, p),
+        Counted::Is(count) => VerticesSummary::Is(count, words),
     }
 }
 
@@ -125,7 +125,7 @@ pub fn judge_triangles(s: &[u8], at: usize, body: Cursor, brushes: usize, vertic
     match body.number(s) {
         Number::Cut => Judged::Bad(5, body.at),
         Number::Is(brush, items) => {
-            if !shared_ids::id_named(brush, brushes, true) {
+            if !shared_ids::id_valid(brush, brushes, true) {
                 return Judged::Bad(7, body.at);
             }
             match b3d_judge_items::id_items(s, items, 3, 3, vertices) {

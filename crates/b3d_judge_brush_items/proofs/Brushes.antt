@@ -9,7 +9,7 @@ use mir.Syntax.{w64}
 use Rattle.wire.specs.Cursors.{Inside, left}
 use Rattle.wire.specs.declared.Cursor.{Cursor}
 use Rattle.wire.proofs.Left.{span, left-length, left-drop}
-use Rattle.layout.specs.Out.{Out, got, bad}
+use Rattle.layout.specs.Result.{Result, accept, reject}
 use Rattle.layout.specs.Parts.{wordsOf, judged, items}
 use Rattle.layout.specs.Rules.{Rule, any, unit}
 use Rattle.layout.proofs.StepLaws.{length-words-of, words-add}
@@ -33,9 +33,9 @@ use Rattle.b3d_judge_brush_items.proofs.Counting.{countedFrom, Counting
 abbrev pub Brushes : Mode → ℕ → ℕ → List ℕ → Cursor → Cursor → ℕ → Type 0
 Brushes mode slots textures s from c count = Counting (readBrush mode slots textures) (29 + 4 * slots) s from c count
 
-from-none : (o : Out (List Brush)) (x : Counted) → countedFrom 0 o ≡ x → x ≡ countedBrushes o
-from-none (got l) x e = let z : 0 + length l ≡ length l = omega arith in sym e ∙ ap counts.Is z
-from-none (bad n p) x e = sym e
+from-none : (o : Result (List Brush)) (x : Counted) → countedFrom 0 o ≡ x → x ≡ countedBrushes o
+from-none (accept l) x e = let z : 0 + length l ≡ length l = omega arith in sym e ∙ ap counts.Is z
+from-none (reject n p) x e = sym e
 
 brush-long : (mode : Mode) (n t : ℕ) → length (brushRow mode ++ brushIds n t) ≡ 7 + n
 brush-long Strict n t = simp length-replicate (omega arith)
@@ -50,7 +50,7 @@ module _ (mode : Mode) (slots textures : ℕ) (s : List ℕ) (from : Cursor) whe
   abbrev rules : List Rule
   rules = brushRow mode ++ brushIds slots textures
 
-  abbrev all : Out (List Brush)
+  abbrev all : Result (List Brush)
   all = items (readBrush mode slots textures) (from .at) (left from s)
 
   long : length rules ≡ 7 + slots

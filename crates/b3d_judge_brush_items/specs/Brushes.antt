@@ -3,7 +3,7 @@ use Prim.Native.Nat.{ℕ, _≤_, _+_, _-_, _*_}
 use mathlib.Core.List.{List}
 use lib.ListN.{length}
 use Rattle.wire.specs.declared.Cursor.{Cursor}
-use Rattle.layout.specs.Out.{Out, got, bad}
+use Rattle.layout.specs.Result.{Result, accept, reject}
 use Rattle.b3d_spec.specs.Scene.{Brush}
 use Rattle.b3d_judge_items.specs.declared.Counted.{Counted}
 use Rattle.b3d_judge_items.specs.declared.Counted.the-variants as counts
@@ -16,9 +16,9 @@ brushColours Strict = 4
 brushColours Lenient = 0
 
 -- how many brushes were read, or the refusal
-abbrev pub countedBrushes : Out (List Brush) → Counted
-countedBrushes (got l) = counts.Is (length l)
-countedBrushes (bad n p) = counts.Not n p
+abbrev pub countedBrushes : Result (List Brush) → Counted
+countedBrushes (accept l) = counts.Is (length l)
+countedBrushes (reject n p) = counts.Not n p
 
 -- k brushes have room in what c has left, each the zero of a text, seven words and `slots` ids at least; a refusal's place is not past its end
 abbrev pub BrushesIn : Cursor → ℕ → Counted → Type 0

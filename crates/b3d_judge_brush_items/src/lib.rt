@@ -44,7 +44,7 @@ pub fn brush_items(s: &[u8], from: Cursor, slots: usize, textures: usize, mode: 
                     at: row.at + 28,
                     end: row.end,
                 };
-                let good = shared_ids::first_bad(s, ids, slots, textures, true);
+                let good = shared_ids::first_invalid(s, ids, slots, textures, true);
                 if good < slots {
                     return Counted::Not(7, ids.at + 4 * good);
                 }

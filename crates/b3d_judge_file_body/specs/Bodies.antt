@@ -3,7 +3,7 @@ use mathlib.Core.Path.{_≡_}
 use Prim.Native.Nat.{ℕ, _≤_}
 use mathlib.Core.List.{[]}
 use lib.ListN.{length}
-use Rattle.layout.specs.Out.{Out, got, bad, _>>=_}
+use Rattle.layout.specs.Result.{Result, accept, reject, _>>=_}
 use Rattle.b3d_spec.specs.declared.Mode.{Mode}
 use Rattle.b3d_spec.specs.declared.Tag.the-variants.{TEXS}
 use Rattle.b3d_spec.specs.Tags.{Chunks}
@@ -15,16 +15,16 @@ use Rattle.b3d_judge_file_body.specs.declared.Verdict.the-variants as ve
 use Rattle.b3d_judge_file_chunks.specs.Answers.{readRest}
 
 -- the scene of a file of this version, from the chunks cs inside its BB3D
-unfoldable pub readChunks : Mode → ℕ → Chunks → Out Scene
+unfoldable pub readChunks : Mode → ℕ → Chunks → Result Scene
 readChunks mode version cs = do
   t ← readOne TEXS [] readTextures cs
   x ← readRest mode (length (t .value)) (t .rest)
-  got (record { version = version; textures = t .value; slots = x .0 .0; brushes = x .0 .1; nodes = x .1 })
+  accept (record { version = version; textures = t .value; slots = x .0 .0; brushes = x .0 .1; nodes = x .1 })
 
 -- the answer before the row limit is looked at: version, n_texs and the tally of the walk; or the refusal
-abbrev pub walked : Out Scene → Verdict
-walked (got t) = verdict.Good (record { version = t .version; «n_texs» = t .slots; tally = sceneTally t })
-walked (bad n p) = verdict.Bad n p
+abbrev pub walked : Result Scene → Verdict
+walked (accept t) = verdict.Good (record { version = t .version; «n_texs» = t .slots; tally = sceneTally t })
+walked (reject n p) = verdict.Bad n p
 
 -- bounds of an answer on n bytes: the tally is of no more bytes than that; a refusal's place is not past them
 abbrev pub WalkedIn : ℕ → Verdict → Type 0
@@ -32,7 +32,7 @@ WalkedIn n (verdict.Good x) = Within (x .tally) n
 WalkedIn n (verdict.Bad k p) = p ≤ n
 
 -- r is the answer on the scene o of a file of `to` bytes, before the row limit is looked at
-pub record Walks (o : Out Scene) (to : ℕ) (r : Verdict) : Type 0 where
+pub record Walks (o : Result Scene) (to : ℕ) (r : Verdict) : Type 0 where
   -- it is what was read, or the refusal
   pub is : r ≡ walked o
   -- it keeps its bounds

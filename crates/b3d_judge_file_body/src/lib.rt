@@ -10,7 +10,7 @@ ghost use Rattle.b3d_spec_chunk_places.specs.Places.{restIn, Among};
 ghost use Rattle.b3d_judge_file_body.specs.Bodies.{readChunks, Walks};
 ghost use Rattle.layout.specs.Rows.{mostBytes};
 use b3d_judge_file_chunks::Phase;
-use b3d_judge_materials::Slotted;
+use b3d_judge_materials::BrushesSummary;
 use b3d_judge_tally::Tally;
 use b3d_spec::Mode;
 use wire::Cursor;
@@ -45,11 +45,11 @@ fn judge_chunks(s: &[u8], version: u32, from: Cursor, mode: Mode) -> Verdict
     requires { ⌜ Among 0 from (length (now s)) × (from .at ≡ 12) ⌝ }
     ensures { λ r. ⌜ Walks (readChunks mode version (restIn (now (s .entry)) BB3D 0 start from)) (from .end) r ⌝ }
 {
-    match b3d_judge_file_chunks::judge_texs(s, from) {
+    match b3d_judge_file_chunks::judge_texs_chunk(s, from) {
         Phase::Not(e, p) => Verdict::Bad(e, p),
         Phase::To(t, c) => match b3d_judge_file_chunks::judge_rest(s, c, t.textures, mode) {
-            Slotted::Not(e, p) => Verdict::Bad(e, p),
-            Slotted::Is(slots, r) => Verdict::Good(Summary {
+            BrushesSummary::Not(e, p) => Verdict::Bad(e, p),
+            BrushesSummary::Is(slots, r) => Verdict::Good(Summary {
                 version,
                 n_texs: slots,
                 tally: file_rows(t, r),

@@ -3,7 +3,7 @@ ghost use mathlib.Core.Bool.{true};
 ghost use mathlib.Core.List.{[]};
 ghost use lib.ListN.{length};
 ghost use Rattle.b3d_spec.specs.declared.Tag.the-variants.{BB3D, TEXS, BRUS, NODE};
-ghost use Rattle.b3d_spec.specs.Scene.{leaf};
+ghost use Rattle.b3d_spec.specs.Scene.{noNodes};
 ghost use Rattle.b3d_spec.specs.Nesting.{start, reachedAt};
 ghost use Rattle.b3d_spec.specs.Parse.{readOne, readTextures, readBrushes, readRoot};
 ghost use Rattle.b3d_judge_tally.specs.Tally.{texsTally, forestTally};
@@ -11,7 +11,7 @@ ghost use Rattle.b3d_judge_tally.specs.Answers.{Judges};
 ghost use Rattle.b3d_spec_chunk_places.specs.Places.{restIn, Among};
 ghost use Rattle.b3d_judge_file_chunks.specs.Answers.{readLast, readRest, Phases, Brushes, Rests};
 use b3d_chunk_next_allowed::Enclosed;
-use b3d_judge_materials::Slotted;
+use b3d_judge_materials::BrushesSummary;
 use b3d_judge_node::Above;
 use b3d_judge_tally::Judged;
 use b3d_judge_tally::Tally;
@@ -27,7 +27,7 @@ pub enum Phase {
 }
 
 // n_texs, 0 without a brush, the tally of the brushes, and the cursor after them; or a refusal and its place.
-pub enum Brushed {
+pub enum BrusSummary {
     To(u32, Tally, Cursor),
     Not(u32, usize),
 }
@@ -52,7 +52,7 @@ const ROOT_READ: Reached = Reached {
 
 // Judges the TEXS of a file, if it comes first from the cursor `from` on. Returns its tally and the cursor after it, or the first refusal; without a TEXS no
 // rows, and `from`.
-pub fn judge_texs(s: &[u8], from: Cursor) -> Phase
+pub fn judge_texs_chunk(s: &[u8], from: Cursor) -> Phase
     requires { ⌜ Among 0 from (length (now s)) ⌝ }
     ensures { λ r. ⌜ Phases texsTally (readOne TEXS [] readTextures (restIn (now (s .entry)) BB3D 0 start from)) (restIn (now (s .entry)) BB3D 0 (reachedAt 1 true)) from r ⌝ }
 {
@@ -78,14 +78,14 @@ pub fn judge_texs(s: &[u8], from: Cursor) -> Phase
 
 // Judges the BRUS of a file with this number of `textures`, if it comes first from the cursor `from` on. Returns n_texs, its tally and the cursor after it,
 // or the first refusal; without a BRUS 0, no rows, and `from`.
-pub fn judge_brus(s: &[u8], from: Cursor, textures: usize, mode: Mode) -> Brushed
+pub fn judge_brus_chunk(s: &[u8], from: Cursor, textures: usize, mode: Mode) -> BrusSummary
     requires { ⌜ Among 0 from (length (now s)) ⌝ }
     ensures { λ r. ⌜ Brushes (readOne BRUS (0, []) (readBrushes mode textures) (restIn (now (s .entry)) BB3D 0 (reachedAt 1 true) from)) (restIn (now (s .entry)) BB3D 0 (reachedAt 2 true)) from r ⌝ }
 {
     let found = b3d_chunk_cursor::next_chunk(s, from);
     match b3d_chunk_next_allowed::next_inside(s, from, found, Tag::BB3D, 0, TEXS_READ) {
-        Enclosed::End => Brushed::To(0, b3d_judge_tally::none(), from),
-        Enclosed::Not(e, p) => Brushed::Not(e, p),
+        Enclosed::End => BrusSummary::To(0, b3d_judge_tally::none(), from),
+        Enclosed::Not(e, p) => BrusSummary::Not(e, p),
         Enclosed::Chunk {
             tag,
             at,
@@ -94,10 +94,10 @@ pub fn judge_brus(s: &[u8], from: Cursor, textures: usize, mode: Mode) -> Brushe
             ..
         } => match tag {
             Tag::BRUS => match b3d_judge_materials::judge_brushes(s, at, body, textures, mode) {
-                Slotted::Not(e, p) => Brushed::Not(e, p),
-                Slotted::Is(slots, t) => Brushed::To(slots, t, next),
+                BrushesSummary::Not(e, p) => BrusSummary::Not(e, p),
+                BrushesSummary::Is(slots, t) => BrusSummary::To(slots, t, next),
             },
-            _ => Brushed::To(0, b3d_judge_tally::none(), from),
+            _ => BrusSummary::To(0, b3d_judge_tally::none(), from),
         },
     }
 }
@@ -106,7 +106,7 @@ pub fn judge_brus(s: &[u8], from: Cursor, textures: usize, mode: Mode) -> Brushe
 // after it, or the first refusal; without a NODE no rows, and `from`.
 fn judge_root(s: &[u8], from: Cursor, brushes: usize, mode: Mode) -> Phase
     requires { ⌜ Among 0 from (length (now s)) ⌝ }
-    ensures { λ r. ⌜ Phases forestTally (readOne NODE leaf (readRoot mode brushes) (restIn (now (s .entry)) BB3D 0 (reachedAt 2 true) from)) (restIn (now (s .entry)) BB3D 0 (reachedAt 3 true)) from r ⌝ }
+    ensures { λ r. ⌜ Phases forestTally (readOne NODE noNodes (readRoot mode brushes) (restIn (now (s .entry)) BB3D 0 (reachedAt 2 true) from)) (restIn (now (s .entry)) BB3D 0 (reachedAt 3 true)) from r ⌝ }
 {
     let found = b3d_chunk_cursor::next_chunk(s, from);
     match b3d_chunk_next_allowed::next_inside(s, from, found, Tag::BB3D, 0, BRUS_READ) {
@@ -143,15 +143,15 @@ fn judge_last(s: &[u8], from: Cursor, brushes: usize, mode: Mode) -> Judged
 
 // Judges the chunks of a file with this number of `textures` behind its TEXS, from the cursor `from` on: BRUS and NODE. Returns n_texs and their tally, or
 // the first refusal.
-pub fn judge_rest(s: &[u8], from: Cursor, textures: usize, mode: Mode) -> Slotted
+pub fn judge_rest(s: &[u8], from: Cursor, textures: usize, mode: Mode) -> BrushesSummary
     requires { ⌜ Among 0 from (length (now s)) ⌝ }
     ensures { λ r. ⌜ Rests (readRest mode textures (restIn (now (s .entry)) BB3D 0 (reachedAt 1 true) from)) (from .at) (from .end) r ⌝ }
 {
-    match judge_brus(s, from, textures, mode) {
-        Brushed::Not(e, p) => Slotted::Not(e, p),
-        Brushed::To(slots, b, c) => match judge_last(s, c, b.brushes, mode) {
-            Judged::Bad(e, p) => Slotted::Not(e, p),
-            Judged::Good(f) => Slotted::Is(slots, b3d_judge_tally::plus(b, f)),
+    match judge_brus_chunk(s, from, textures, mode) {
+        BrusSummary::Not(e, p) => BrushesSummary::Not(e, p),
+        BrusSummary::To(slots, b, c) => match judge_last(s, c, b.brushes, mode) {
+            Judged::Bad(e, p) => BrushesSummary::Not(e, p),
+            Judged::Good(f) => BrushesSummary::Is(slots, b3d_judge_tally::plus(b, f)),
         },
     }
 }

@@ -12,7 +12,7 @@ use Rattle.wire.specs.Test.{if}
 use Rattle.wire.specs.Cursors.{Inside, left}
 use Rattle.wire.specs.declared.Cursor.{Cursor}
 use Rattle.wire.proofs.Found.{left-length}
-use Rattle.layout.specs.Out.{Out, got, bad}
+use Rattle.layout.specs.Result.{Result, accept, reject}
 use Rattle.layout.specs.Parts.{row, items}
 use Rattle.layout.specs.Rules.{any}
 use Rattle.layout.proofs.Outs.{by-test}
@@ -66,10 +66,10 @@ module _ (c : Cursor) (words : ℕ) (r : Counted) (b : CountedIn c words r) wher
 
 pub ruleset counteds = (counted-room, counted-before)
 
-pub counted-got : (o : Out (List (List ℕ))) (k : ℕ) → counted o ≡ counts.Is k → (l : List (List ℕ)) × (o ≡ got l) × (length l ≡ k)
-counted-got (got l) k e = (l, refl, cc)
-counted-got (bad n p) k e = let z : _≡_ {A = ℕ} 0 1 = cc in absurd (omega arith)
+pub counted-got : (o : Result (List (List ℕ))) (k : ℕ) → counted o ≡ counts.Is k → (l : List (List ℕ)) × (o ≡ accept l) × (length l ≡ k)
+counted-got (accept l) k e = (l, refl, cc)
+counted-got (reject n p) k e = let z : _≡_ {A = ℕ} 0 1 = cc in absurd (omega arith)
 
-pub counted-bad : (o : Out (List (List ℕ))) (n p : ℕ) → counted o ≡ counts.Not n p → o ≡ bad n p
-counted-bad (got l) n p e = let z : _≡_ {A = ℕ} 0 1 = cc in absurd (omega arith)
-counted-bad (bad m q) n p e = cc
+pub counted-bad : (o : Result (List (List ℕ))) (n p : ℕ) → counted o ≡ counts.Not n p → o ≡ reject n p
+counted-bad (accept l) n p e = let z : _≡_ {A = ℕ} 0 1 = cc in absurd (omega arith)
+counted-bad (reject m q) n p e = cc

@@ -8,7 +8,7 @@ use lib.ListN.{length, drop, replicate, length-append, length-replicate, length-
 use Rattle.wire.specs.Cursors.{Inside, left}
 use Rattle.wire.specs.declared.Cursor.{Cursor}
 use Rattle.wire.proofs.Left.{span, left-length, left-nil, left-drop}
-use Rattle.layout.specs.Out.{Out, got, bad, _>>=_}
+use Rattle.layout.specs.Result.{Result, accept, reject, _>>=_}
 use Rattle.layout.specs.Parts.{wordsOf, judged, row}
 use Rattle.layout.specs.Rules.{Rule, any, names, unit, refusal}
 use Rattle.layout.proofs.StepLaws.{length-words-of, judged-any, row-enough, row-short, row-shrinks, items-none, items-step, Shrinks, words-add}
@@ -32,28 +32,28 @@ module _ {A : Type 0} (r : Rule) (k n j p : ℕ) (l : List ℕ) (a : A) (h : 4 *
       rw (words-add k (n + j) l (omega arith), words-add n j here room)
       (any-pass k p (wordsOf k l) (wordsOf n here ++ wordsOf j (drop (4 * n) here)) (replicate n r ++ replicate j any) a (length-words-of k l (omega arith)))
 
-  part-good : firstBad r (wordsOf n here) ≡ n → judged (partRow r k n j) p (wordsOf (k + (n + j)) l) a ≡ got a
+  part-good : firstBad r (wordsOf n here) ≡ n → judged (partRow r k n j) p (wordsOf (k + (n + j)) l) a ≡ accept a
   part-good e =
       before ∙ ids-pass r n (p + 4 * k) (wordsOf n here) (wordsOf j (drop (4 * n) here)) (replicate j any) a (length-words-of n here room) e
       ∙ judged-any j (p + 4 * k + 4 * n) (wordsOf j (drop (4 * n) here)) a
 
-  part-bad : firstBad r (wordsOf n here) < n → judged (partRow r k n j) p (wordsOf (k + (n + j)) l) a ≡ bad (refusal r) (p + 4 * k + 4 * firstBad r (wordsOf n here))
+  part-bad : firstBad r (wordsOf n here) < n → judged (partRow r k n j) p (wordsOf (k + (n + j)) l) a ≡ reject (refusal r) (p + 4 * k + 4 * firstBad r (wordsOf n here))
   part-bad e = before ∙ ids-stop r n (p + 4 * k) (wordsOf n here) (wordsOf j (drop (4 * n) here)) (replicate j any) a (length-words-of n here room) e
 
 -- ---- items
 
 -- so many items before others
-abbrev countedFrom : ℕ → Out (List (List ℕ)) → Counted
-countedFrom k (got l) = counts.Is (k + length l)
-countedFrom k (bad n p) = counts.Not n p
+abbrev countedFrom : ℕ → Result (List (List ℕ)) → Counted
+countedFrom k (accept l) = counts.Is (k + length l)
+countedFrom k (reject n p) = counts.Not n p
 
-from-none : (o : Out (List (List ℕ))) → counted o ≡ countedFrom 0 o
-from-none (got l) = let e : length l ≡ 0 + length l = omega arith in ap counts.Is e
-from-none (bad n p) = refl
+from-none : (o : Result (List (List ℕ))) → counted o ≡ countedFrom 0 o
+from-none (accept l) = let e : length l ≡ 0 + length l = omega arith in ap counts.Is e
+from-none (reject n p) = refl
 
-from-one : (k : ℕ) (v : List ℕ) (o : Out (List (List ℕ))) → countedFrom k (o >>= λ l. got (v ∷ l)) ≡ countedFrom (k + 1) o
-from-one k v (got l) = let e : k + length (v ∷ l) ≡ k + 1 + length l = omega arith in ap counts.Is e
-from-one k v (bad n p) = refl
+from-one : (k : ℕ) (v : List ℕ) (o : Result (List (List ℕ))) → countedFrom k (o >>= λ l. accept (v ∷ l)) ≡ countedFrom (k + 1) o
+from-one k v (accept l) = let e : k + length (v ∷ l) ≡ k + 1 + length l = omega arith in ap counts.Is e
+from-one k v (reject n p) = refl
 
 -- so many items have been passed, from `from` up to a place; x is the answer
 pub record Counting (s : List ℕ) (words : ℕ) (r : Rule) (k n j : ℕ) (from : Cursor) (x : Counted) (at count : ℕ) : Type 0 where
@@ -96,7 +96,7 @@ module _ (s : List ℕ) (words : ℕ) (r : Rule) (k n j : ℕ) (from : Cursor) (
 
     module _ (h : at < from .end) where
       step : partItems r k n j at (left (span at (from .end)) s)
-          ≡ (row (partRow r k n j) at (left (span at (from .end)) s) >>= λ v. partItems r k n j (v .place) (v .left) >>= λ l. got (v .value ∷ l))
+          ≡ (row (partRow r k n j) at (left (span at (from .end)) s) >>= λ v. partItems r k n j (v .place) (v .left) >>= λ l. accept (v .value ∷ l))
       step = items-step (row (partRow r k n j)) (less words r k n j pos sum) at (left (span at (from .end)) s) (omega (arith, left-here))
 
       count-cut : from .end - at < 4 * words → counts.Not 5 at ≡ x

@@ -5,7 +5,7 @@ use lib.ListN.{length, replicate}
 use lib.Dec.{eqb}
 use Rattle.wire.specs.Test.{if}
 use Rattle.wire.specs.declared.Cursor.{Cursor}
-use Rattle.layout.specs.Out.{Out, got, bad}
+use Rattle.layout.specs.Result.{Result, accept, reject}
 use Rattle.layout.specs.Rules.{Rule, any, names, unit}
 use Rattle.layout.specs.Parts.{row, items}
 use Rattle.b3d_judge_items.specs.declared.Counted.{Counted}
@@ -16,21 +16,21 @@ abbrev pub partRow : Rule → ℕ → ℕ → ℕ → List Rule
 partRow r before n after = replicate before any ++ (replicate n r ++ replicate after any)
 
 -- items with n words under the rule r behind `before` others and before `after` others, from place p to the end of s
-abbrev pub partItems : Rule → ℕ → ℕ → ℕ → ℕ → List ℕ → Out (List (List ℕ))
+abbrev pub partItems : Rule → ℕ → ℕ → ℕ → ℕ → List ℕ → Result (List (List ℕ))
 partItems r before n after p s = items (row (partRow r before n after)) p s
 
 -- items with `ids` ids below `limit`, none absent, then `others` words that are not looked at, from place p to the end of s
-abbrev pub idItems : ℕ → ℕ → ℕ → ℕ → List ℕ → Out (List (List ℕ))
+abbrev pub idItems : ℕ → ℕ → ℕ → ℕ → List ℕ → Result (List (List ℕ))
 idItems ids others limit p s = partItems (names limit) 0 ids others p s
 
 -- items with n colours behind `before` words and before `after` words that are not looked at, from place p to the end of s
-abbrev pub colourItems : ℕ → ℕ → ℕ → ℕ → List ℕ → Out (List (List ℕ))
+abbrev pub colourItems : ℕ → ℕ → ℕ → ℕ → List ℕ → Result (List (List ℕ))
 colourItems before n after p s = partItems unit before n after p s
 
 -- how many items were read, or the refusal
-abbrev pub counted : Out (List (List ℕ)) → Counted
-counted (got l) = counts.Is (length l)
-counted (bad n p) = counts.Not n p
+abbrev pub counted : Result (List (List ℕ)) → Counted
+counted (accept l) = counts.Is (length l)
+counted (reject n p) = counts.Not n p
 
 -- how many items of `words` words the cursor c has left, by one division; 5 at an item that is cut
 unfoldable pub dividedAt : Cursor → ℕ → Counted

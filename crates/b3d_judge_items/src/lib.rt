@@ -42,7 +42,7 @@ pub fn id_items(s: &[u8], from: Cursor, words: usize, ids: usize, limit: usize) 
         if end - at < size {
             return Counted::Not(5, at);
         }
-        let good = shared_ids::first_bad(s, Cursor { at, end }, ids, limit, false);
+        let good = shared_ids::first_invalid(s, Cursor { at, end }, ids, limit, false);
         if good < ids {
             return Counted::Not(7, at + 4 * good);
         }

@@ -5,7 +5,7 @@ use mathlib.Core.List.{List, [], _∷_}
 use lib.Dec.{ltb, leb}
 use borrow.Author.Tests.{lt-ltb, le-ltb}
 use Rattle.wire.specs.Test.{if}
-use Rattle.layout.specs.Out.{got, bad}
+use Rattle.layout.specs.Result.{accept, reject}
 use Rattle.layout.specs.Rows.{eachOf}
 use Rattle.b3d_spec.specs.Rules.{rowLimit}
 use Rattle.b3d_spec.specs.Tables.{tables, nodeTables}
@@ -56,8 +56,8 @@ module _ (f : ℕ → ℕ) (copy n : ℕ) (e : n ≡ overLimit (tallied f copy))
   unfolding overLimit over tables nodeTables
   is-first = e ∙ over-first f tables
 
-  pub over-none : n ≡ 0 → eachOf 10 (λ (k : ℕ). leb (f k) rowLimit) tables ≡ got tt
+  pub over-none : n ≡ 0 → eachOf 10 (λ (k : ℕ). leb (f k) rowLimit) tables ≡ accept tt
   over-none z = first-none 10 (λ k. leb (f k) rowLimit) tables (each-table (λ k. 0 < k) (λ k a b. a)) (sym is-first ∙ z)
 
-  pub over-some : (n ≡ 0 → ⊥) → eachOf 10 (λ (k : ℕ). leb (f k) rowLimit) tables ≡ bad 10 n
-  over-some z = first-some 10 (λ k. leb (f k) rowLimit) tables (λ q. z (is-first ∙ q)) ∙ ap (λ (i : ℕ). bad 10 i) (sym is-first)
+  pub over-some : (n ≡ 0 → ⊥) → eachOf 10 (λ (k : ℕ). leb (f k) rowLimit) tables ≡ reject 10 n
+  over-some z = first-some 10 (λ k. leb (f k) rowLimit) tables (λ q. z (is-first ∙ q)) ∙ ap (λ (i : ℕ). reject 10 i) (sym is-first)

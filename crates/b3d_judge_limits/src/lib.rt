@@ -12,7 +12,7 @@ use b3d_judge_tally::Tally;
 use b3d_spec::NODE_WIDTH;
 
 // Returns `k` if `rows` is more than the row limit, else `later`.
-fn over_or(k: usize, rows: usize, later: usize) -> usize
+fn long_table_or(k: usize, rows: usize, later: usize) -> usize
     ensures { λ r. ⌜ r ≡ if (ltb rowLimit rows) k later ⌝ }
 {
     if b3d_spec::ROW_LIMIT < rows {
@@ -25,11 +25,11 @@ fn over_or(k: usize, rows: usize, later: usize) -> usize
 pub fn over_limit(t: Tally) -> usize
     ensures { λ r. ⌜ r ≡ overLimit t ⌝ }
 {
-    let from9 = over_or(9, t.lists, over_or(10, t.keys, 0));
-    let from7 = over_or(7, t.triangles, over_or(8, t.weights, from9));
-    let from5 = over_or(5, t.vertices, over_or(6, t.sets, from7));
-    let from3 = over_or(3, t.nodes, over_or(4, t.meshes, from5));
-    over_or(1, t.textures, over_or(2, t.brushes, from3))
+    let from9 = long_table_or(9, t.lists, long_table_or(10, t.keys, 0));
+    let from7 = long_table_or(7, t.triangles, long_table_or(8, t.weights, from9));
+    let from5 = long_table_or(5, t.vertices, long_table_or(6, t.sets, from7));
+    let from3 = long_table_or(3, t.nodes, long_table_or(4, t.meshes, from5));
+    long_table_or(1, t.textures, long_table_or(2, t.brushes, from3))
 }
 
 // Returns the number of the first of ten tables, of `l1` to `l10` words, that is too short for its rows in `t`, or 0 where there is none.
@@ -48,14 +48,14 @@ pub fn first_short(
 ) -> usize
     ensures { λ r. ⌜ r ≡ firstShort width (numberOf (countsIn t)) (numberOf (l1 ∷ l2 ∷ l3 ∷ l4 ∷ l5 ∷ l6 ∷ l7 ∷ l8 ∷ l9 ∷ l10 ∷ [])) tables ⌝ }
 {
-    let from10 = shared_room::short_or(10, 11, t.keys, l10, 0);
-    let from9 = shared_room::short_or(9, 4, t.lists, l9, from10);
-    let from8 = shared_room::short_or(8, 2, t.weights, l8, from9);
-    let from7 = shared_room::short_or(7, 3, t.triangles, l7, from8);
-    let from6 = shared_room::short_or(6, 4, t.sets, l6, from7);
-    let from5 = shared_room::short_or(5, 42, t.vertices, l5, from6);
-    let from4 = shared_room::short_or(4, 9, t.meshes, l4, from5);
-    let from3 = shared_room::short_or(3, NODE_WIDTH, t.nodes, l3, from4);
-    let from2 = shared_room::short_or(2, 17, t.brushes, l2, from3);
-    shared_room::short_or(1, 9, t.textures, l1, from2)
+    let from10 = shared_room::short_table_or(10, 11, t.keys, l10, 0);
+    let from9 = shared_room::short_table_or(9, 4, t.lists, l9, from10);
+    let from8 = shared_room::short_table_or(8, 2, t.weights, l8, from9);
+    let from7 = shared_room::short_table_or(7, 3, t.triangles, l7, from8);
+    let from6 = shared_room::short_table_or(6, 4, t.sets, l6, from7);
+    let from5 = shared_room::short_table_or(5, 42, t.vertices, l5, from6);
+    let from4 = shared_room::short_table_or(4, 9, t.meshes, l4, from5);
+    let from3 = shared_room::short_table_or(3, NODE_WIDTH, t.nodes, l3, from4);
+    let from2 = shared_room::short_table_or(2, 17, t.brushes, l2, from3);
+    shared_room::short_table_or(1, 9, t.textures, l1, from2)
 }

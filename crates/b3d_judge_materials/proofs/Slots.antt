@@ -13,7 +13,7 @@ use Rattle.wire.specs.declared.Number.{Number}
 use Rattle.wire.specs.declared.Number.the-variants as number
 use Rattle.wire.proofs.Left.{left-length, left-four}
 use Rattle.wire.proofs.Found.{numbered, number-cut}
-use Rattle.layout.specs.Out.{Out, got, bad, check, _>>=_}
+use Rattle.layout.specs.Result.{Result, accept, reject, check, _>>=_}
 use Rattle.layout.specs.Parts.{words, judged, row, items}
 use Rattle.layout.specs.Rules.{Rule, holds, refusal}
 use Rattle.layout.proofs.StepLaws.{row-short}
@@ -29,18 +29,18 @@ use Rattle.b3d_spec_chunk_places.specs.Places.{Body}
 use Rattle.b3d_judge_materials.specs.Answers.{slotted, SlotsAre}
 use Rattle.b3d_judge_brush_items.specs.Brushes.{countedBrushes, BrushesIn}
 use Rattle.b3d_judge_tally.specs.declared.Tally.{Tally}
-use Rattle.b3d_judge_materials.specs.declared.Slotted.{Slotted}
-use Rattle.b3d_judge_materials.specs.declared.Slotted.the-variants as slot
+use Rattle.b3d_judge_materials.specs.declared.BrushesSummary.{BrushesSummary}
+use Rattle.b3d_judge_materials.specs.declared.BrushesSummary.the-variants as slot
 use Rattle.b3d_judge_tally.proofs.Tallies.{within-none}
 
 -- ---- a head of one number
 
 module _ (s : List ℕ) (c : Cursor) (i : Inside c (length s)) (rule : Rule) (r : Number) (e : r ≡ numberAt s c) where
-  head-short : r ≡ number.Cut → row (rule ∷ []) (c .at) (left c s) ≡ bad 5 (c .at)
+  head-short : r ≡ number.Cut → row (rule ∷ []) (c .at) (left c s) ≡ reject 5 (c .at)
   head-short q = row-short (rule ∷ []) (c .at) (left c s) (omega (arith, left-length s c i, number-cut s c (sym e ∙ q)))
 
   head-is : (k : ℕ) (n : Cursor) → r ≡ number.Is k n
-      → row (rule ∷ []) (c .at) (left c s) ≡ (check (holds rule k) (refusal rule) (c .at) >>= λ _. got (record { value = k ∷ []; place = n .at; left = left n s }))
+      → row (rule ∷ []) (c .at) (left c s) ≡ (check (holds rule k) (refusal rule) (c .at) >>= λ _. accept (record { value = k ∷ []; place = n .at; left = left n s }))
   unfolding row words judged wordAt
   head-is k n q = let f = numbered s c k n (sym e ∙ q) in rw (left-four s c n i (f .room) (f .to) (f .same), f .is, f .to)
 
@@ -55,25 +55,25 @@ within-brus slots (suc k) n le =
     record { rows = omega arith; copy = omega arith }
 
 module _ (k : ℕ) where
-  slots-not : (o : Out (List Brush)) (x p : ℕ) → counts.Not x p ≡ countedBrushes o → slot.Not x p ≡ slotted (o >>= λ l. got (k, l))
-  slots-not (got l) x p e = let z : _≡_ {A = ℕ} 0 1 = cc in absurd (omega arith)
-  slots-not (bad n q) x p e = cc
+  slots-not : (o : Result (List Brush)) (x p : ℕ) → counts.Not x p ≡ countedBrushes o → slot.Not x p ≡ slotted (o >>= λ l. accept (k, l))
+  slots-not (accept l) x p e = let z : _≡_ {A = ℕ} 0 1 = cc in absurd (omega arith)
+  slots-not (reject n q) x p e = cc
 
   -- without a brushOf there are no slots
-  slots-none : (o : Out (List Brush)) → counts.Is 0 ≡ countedBrushes o → slot.Is 0 noTally ≡ slotted (o >>= λ l. got (k, l))
+  slots-none : (o : Result (List Brush)) → counts.Is 0 ≡ countedBrushes o → slot.Is 0 noTally ≡ slotted (o >>= λ l. accept (k, l))
   unfolding slotsOf brusTally brusOf
-  slots-none (got []) e = refl
-  slots-none (got (b ∷ l)) e = let z : 0 ≡ suc (length l) = cc in absurd (omega arith)
-  slots-none (bad n q) e = let z : _≡_ {A = ℕ} 0 1 = cc in absurd (omega arith)
+  slots-none (accept []) e = refl
+  slots-none (accept (b ∷ l)) e = let z : 0 ≡ suc (length l) = cc in absurd (omega arith)
+  slots-none (reject n q) e = let z : _≡_ {A = ℕ} 0 1 = cc in absurd (omega arith)
 
-  slots-some : (o : Out (List Brush)) (count : ℕ) → (count ≡ 0 → ⊥) → counts.Is count ≡ countedBrushes o → slot.Is k (brusOf k count) ≡ slotted (o >>= λ l. got (k, l))
+  slots-some : (o : Result (List Brush)) (count : ℕ) → (count ≡ 0 → ⊥) → counts.Is count ≡ countedBrushes o → slot.Is k (brusOf k count) ≡ slotted (o >>= λ l. accept (k, l))
   unfolding slotsOf brusTally
-  slots-some (got []) count h e = let z : count ≡ 0 = cc in absurd (h z)
-  slots-some (got (b ∷ l)) count h e = let z : count ≡ suc (length l) = cc in ap (λ (i : ℕ). slot.Is k (brusOf k i)) z
-  slots-some (bad n q) count h e = let z : _≡_ {A = ℕ} 0 1 = cc in absurd (omega arith)
+  slots-some (accept []) count h e = let z : count ≡ 0 = cc in absurd (h z)
+  slots-some (accept (b ∷ l)) count h e = let z : count ≡ suc (length l) = cc in ap (λ (i : ℕ). slot.Is k (brusOf k i)) z
+  slots-some (reject n q) count h e = let z : _≡_ {A = ℕ} 0 1 = cc in absurd (omega arith)
 
 module _ (mode : Mode) (textures at : ℕ) (s : List ℕ) (body : Cursor) (b : Body at body (length s)) (r : Number) (e : r ≡ numberAt s body) where
-  abbrev Answer : Slotted → Type 0
+  abbrev Answer : BrushesSummary → Type 0
   Answer x = SlotsAre (readBrushes mode textures at (left body s)) at (body .end) x
 
   inside : Inside body (length s)
@@ -89,10 +89,10 @@ module _ (mode : Mode) (textures at : ℕ) (s : List ℕ) (body : Cursor) (b : B
     head-over h = record { is = rw (← b .head, head-is s body inside slots r e k n q, lt-leb _ _ h); within = b .room }
 
     module _ (h : k ≤ 8) (m : ℕ) (y : m ≡ k) (t : Counted) (f : t ≡ countedBrushes (items (readBrush mode m textures) (n .at) (left n s))) (w : BrushesIn n m t) where
-      abbrev all-k : Out (List Brush)
+      abbrev all-k : Result (List Brush)
       all-k = items (readBrush mode k textures) (n .at) (left n s)
 
-      after-head : readBrushes mode textures at (left body s) ≡ (all-k >>= λ l. got (k, l))
+      after-head : readBrushes mode textures at (left body s) ≡ (all-k >>= λ l. accept (k, l))
       unfolding readBrushes check
       after-head = rw (← b .head, head-is s body inside slots r e k n q, le-leb _ _ h)
 

@@ -6,7 +6,7 @@ use mathlib.Core.List.{List}
 use lib.ListN.{length}
 use Rattle.wire.specs.Cursors.{left}
 use Rattle.wire.specs.declared.Cursor.{Cursor}
-use Rattle.layout.specs.Out.{Out, got, bad}
+use Rattle.layout.specs.Result.{Result, accept, reject}
 use Rattle.layout.specs.Parts.{wordsOf, items}
 use Rattle.layout.proofs.StepLaws.{judged-any}
 use Rattle.b3d_spec.specs.Scene.{Texture}
@@ -32,17 +32,17 @@ unfolding texsOf
 within-texs zero n le = within-none n
 within-texs (suc k) n le = record { rows = omega arith; copy = omega arith }
 
-texs-good : (o : Out (List Texture)) (k : ℕ) → countedFrom 0 o ≡ counts.Is k → judge.Good (texsOf k) ≡ judged texsTally o
+texs-good : (o : Result (List Texture)) (k : ℕ) → countedFrom 0 o ≡ counts.Is k → judge.Good (texsOf k) ≡ judged texsTally o
 unfolding texsTally
-texs-good (got l) k e =
+texs-good (accept l) k e =
     let z : 0 + length l ≡ k = cc in
     let q : k ≡ length l = omega arith in
     ap (λ (i : ℕ). judge.Good (texsOf i)) q
-texs-good (bad n p) k e = let z : _≡_ {A = ℕ} 0 1 = cc in absurd (omega arith)
+texs-good (reject n p) k e = let z : _≡_ {A = ℕ} 0 1 = cc in absurd (omega arith)
 
-texs-bad : (o : Out (List Texture)) (n p : ℕ) → countedFrom 0 o ≡ counts.Not n p → judge.Bad n p ≡ judged texsTally o
-texs-bad (got l) n p e = let z : _≡_ {A = ℕ} 0 1 = cc in absurd (omega arith)
-texs-bad (bad m q) n p e = cc
+texs-bad : (o : Result (List Texture)) (n p : ℕ) → countedFrom 0 o ≡ counts.Not n p → judge.Bad n p ≡ judged texsTally o
+texs-bad (accept l) n p e = let z : _≡_ {A = ℕ} 0 1 = cc in absurd (omega arith)
+texs-bad (reject m q) n p e = cc
 
 -- ---- the loop
 

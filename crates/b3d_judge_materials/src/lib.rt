@@ -15,7 +15,7 @@ use wire::Cursor;
 use wire::Number;
 
 // n_texs, 0 without a brush, and a tally; or a refusal and its place.
-pub enum Slotted {
+pub enum BrushesSummary {
     Is(u32, Tally),
     Not(u32, usize),
 }
@@ -44,24 +44,30 @@ pub fn judge_textures(s: &[u8], at: usize, body: Cursor) -> Judged
 // Judges the `body` of a BRUS whose header is at `at`: n_texs, then brushes to the end, whose texture ids are -1 or below `textures`. Returns n_texs, 0
 // without a brush, and its tally; 5 at n_texs or a brush that is cut, 6 at n_texs over 8 or a colour that does not pass in the `mode`, 7 at an id that names
 // nothing.
-pub fn judge_brushes(s: &[u8], at: usize, body: Cursor, textures: usize, mode: Mode) -> Slotted
+pub fn judge_brushes(
+    s: &[u8],
+    at: usize,
+    body: Cursor,
+    textures: usize,
+    mode: Mode,
+) -> BrushesSummary
     requires { ⌜ Body at body (length (now s)) ⌝ }
     ensures { λ r. ⌜ SlotsAre (readBrushes mode textures at (left body (now (s .entry)))) at (body .end) r ⌝ }
 {
     match body.number(s) {
-        Number::Cut => Slotted::Not(5, body.at),
+        Number::Cut => BrushesSummary::Not(5, body.at),
         Number::Is(slots, items) => {
             if 8 < slots {
-                return Slotted::Not(6, body.at);
+                return BrushesSummary::Not(6, body.at);
             }
             let n = wire::size(slots);
             match b3d_judge_brush_items::brush_items(s, items, n, textures, mode) {
-                Counted::Not(e, p) => Slotted::Not(e, p),
+                Counted::Not(e, p) => BrushesSummary::Not(e, p),
                 Counted::Is(count) => {
                     if count == 0 {
-                        return Slotted::Is(0, b3d_judge_tally::none());
+                        return BrushesSummary::Is(0, b3d_judge_tally::none());
                     }
-                    Slotted::Is(slots, b3d_judge_tally::brus(n, count))
+                    BrushesSummary::Is(slots, b3d_judge_tally::brus(n, count))
                 }
             }
         }

@@ -9,7 +9,7 @@ use Rattle.wire.specs.Cursors.{Inside, left, numberAt}
 use Rattle.wire.specs.declared.Cursor.{Cursor}
 use Rattle.wire.specs.declared.Number.{Number}
 use Rattle.wire.specs.declared.Number.the-variants as number
-use Rattle.layout.specs.Out.{Out, got, bad, _>>=_}
+use Rattle.layout.specs.Result.{Result, accept, reject, _>>=_}
 use Rattle.layout.specs.Rules.{holds}
 use Rattle.b3d_spec.specs.declared.Mode.{Mode}
 use Rattle.b3d_spec.specs.declared.Tag.the-variants.{MESH, VRTS}
@@ -22,26 +22,26 @@ use Rattle.b3d_judge_tally.specs.Tally.{meshTally}
 use Rattle.b3d_spec_chunk_places.specs.Places.{Body, restIn, Among}
 use Rattle.b3d_spec_chunk_places.proofs.Heads.{head-cut, head-numbered, head-refused, head-kept, body-inside}
 use Rattle.b3d_judge_mesh.specs.Answers.{readAfter, readInside, meshed, MeshedIn, Meshes}
-use Rattle.b3d_judge_mesh.specs.declared.Meshed.{Meshed}
-use Rattle.b3d_judge_mesh.specs.declared.Meshed.the-variants as meshes
+use Rattle.b3d_judge_mesh.specs.declared.MeshSummary.{MeshSummary}
+use Rattle.b3d_judge_mesh.specs.declared.MeshSummary.the-variants as meshes
 
 -- a mesh's brush is not counted
 brush-free : (mode : Mode) (brushes x y : ℕ) (cs : Chunks) → meshed (readInside mode brushes x cs) ≡ meshed (readInside mode brushes y cs)
 unfolding readInside readAfter meshTally
 brush-free mode brushes x y cs = go (readOne VRTS noVertices (readVertices mode) cs)
   where
-    sets : (v : Vertices) (o : Out (List TriangleSet))
-        → meshed (o >>= λ l. got (record { brush = x; flags = v .flags; sets = v .sets; size = v .size; vertices = v .items; triangleSets = l }))
-        ≡ meshed (o >>= λ l. got (record { brush = y; flags = v .flags; sets = v .sets; size = v .size; vertices = v .items; triangleSets = l }))
-    sets v (got l) = refl
-    sets v (bad n p) = refl
+    sets : (v : Vertices) (o : Result (List TriangleSet))
+        → meshed (o >>= λ l. accept (record { brush = x; flags = v .flags; sets = v .sets; size = v .size; vertices = v .items; triangleSets = l }))
+        ≡ meshed (o >>= λ l. accept (record { brush = y; flags = v .flags; sets = v .sets; size = v .size; vertices = v .items; triangleSets = l }))
+    sets v (accept l) = refl
+    sets v (reject n p) = refl
 
-    go : (o : Out (Found Vertices)) → meshed (o >>= λ v. readAfter brushes x (got (v .value)) (v .rest)) ≡ meshed (o >>= λ v. readAfter brushes y (got (v .value)) (v .rest))
-    go (got v) = sets (v .value) (readSets brushes (length (v .value .items)) (v .rest))
-    go (bad n p) = refl
+    go : (o : Result (Found Vertices)) → meshed (o >>= λ v. readAfter brushes x (accept (v .value)) (v .rest)) ≡ meshed (o >>= λ v. readAfter brushes y (accept (v .value)) (v .rest))
+    go (accept v) = sets (v .value) (readSets brushes (length (v .value .items)) (v .rest))
+    go (reject n p) = refl
 
 module _ (mode : Mode) (s : List ℕ) (at : ℕ) (body : Cursor) (g : Body at body (length s)) (brushes : ℕ) (r : Number) (e : r ≡ numberAt s body) where
-  abbrev Right : Meshed → Type 0
+  abbrev Right : MeshSummary → Type 0
   Right y = Meshes (readMesh mode brushes at (left body s)) at (body .end) y
 
   pub mesh-inside : Inside body (length s)
@@ -64,7 +64,7 @@ module _ (mode : Mode) (s : List ℕ) (at : ℕ) (body : Cursor) (g : Body at bo
     pub mesh-far : at + 12 ≤ c .at
     mesh-far = let f = head-numbered s at body g r e k c w in omega (arith, g .head)
 
-    pub mesh-inner : not ok ≡ false → (j : Meshed) → Meshes (readInside mode brushes 0 (restIn s MESH at start c)) at (c .end) j → Right j
+    pub mesh-inner : not ok ≡ false → (j : MeshSummary) → Meshes (readInside mode brushes 0 (restIn s MESH at start c)) at (c .end) j → Right j
     unfolding readMesh readInside readAfter restIn inside
     mesh-inner h j hj =
         let f = head-numbered s at body g r e k c w in

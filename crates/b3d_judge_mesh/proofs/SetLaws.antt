@@ -10,7 +10,7 @@ use lib.ListN.{length}
 use Rattle.wire.specs.Test.{if}
 use Rattle.wire.specs.Cursors.{left}
 use Rattle.wire.specs.declared.Cursor.{Cursor}
-use Rattle.layout.specs.Out.{Out, got, bad, _>>=_}
+use Rattle.layout.specs.Result.{Result, accept, reject, _>>=_}
 use Rattle.layout.specs.Chunks.{done, stop}
 use Rattle.layout.proofs.Outs.{bind-bind}
 use Rattle.layout.specs.Rows.{mostBytes}
@@ -31,8 +31,8 @@ use Rattle.b3d_judge_bodies.specs.Answers.{shaped, ShapedIn, Shapes}
 use Rattle.b3d_judge_tally.specs.declared.Tally.{Tally}
 use Rattle.b3d_judge_tally.specs.declared.Judged.{Judged}
 use Rattle.b3d_judge_tally.specs.declared.Judged.the-variants as judge
-use Rattle.b3d_judge_bodies.specs.declared.Shaped.{Shaped}
-use Rattle.b3d_judge_bodies.specs.declared.Shaped.the-variants as shape
+use Rattle.b3d_judge_bodies.specs.declared.VerticesSummary.{VerticesSummary}
+use Rattle.b3d_judge_bodies.specs.declared.VerticesSummary.the-variants as shape
 use Rattle.b3d_judge_tally.proofs.Tallies.{within-more, within-plus, within-vertices}
 use Rattle.b3d_rule_nesting_order.specs.declared.Reached.{Reached as State}
 use Rattle.b3d_chunk_next_allowed.specs.declared.Enclosed.{Enclosed}
@@ -42,8 +42,8 @@ use Rattle.b3d_chunk_next_allowed.specs.Steps.{EnclosedIs}
 use Rattle.b3d_chunk_next_allowed.proofs.Stepping.{step-among, step-turn, stop-before, end-next}
 use Rattle.b3d_judge_bodies.proofs.Going.{Going, going-start, going-refused, going-done, going-place, going-more, going}
 use Rattle.b3d_judge_mesh.specs.Answers.{readAfter, readInside, meshed, MeshedIn, Meshes}
-use Rattle.b3d_judge_mesh.specs.declared.Meshed.{Meshed}
-use Rattle.b3d_judge_mesh.specs.declared.Meshed.the-variants as meshes
+use Rattle.b3d_judge_mesh.specs.declared.MeshSummary.{MeshSummary}
+use Rattle.b3d_judge_mesh.specs.declared.MeshSummary.the-variants as meshes
 use Rattle.b3d_judge_tally.proofs.Answered.{judged-bad, judged-good}
 use Rattle.b3d_judge_tally.proofs.Chains.{judged-start, judged-more}
 use Rattle.b3d_chunk_next_allowed.proofs.Rests.{rest-done, rest-step, rest-stop, rest-end, step-body, among-inside, among-head}
@@ -68,7 +68,7 @@ module _ (s : List ℕ) (at brushes vertices : ℕ) (from : Cursor) where
   setting-start g m e = record { going = going-start s at from m g e; so-far = rw e (judged-start setsTally (readSets brushes vertices (restIn s MESH at (reachedAt 1 true) from))) }
 
   module _ (c : Cursor) (q : State) (m : Tally) (v : Setting s at brushes vertices from c q m) (r : Enclosed) (x : EnclosedIs s MESH at q c r) where
-    refuse : (e i : ℕ) → readSets brushes vertices (restIn s MESH at (reachedOf q) c) ≡ bad e i → i ≤ c .end → Sets (judge.Bad e i)
+    refuse : (e i : ℕ) → readSets brushes vertices (restIn s MESH at (reachedOf q) c) ≡ reject e i → i ≤ c .end → Sets (judge.Bad e i)
     refuse = going-refused s at from c m (v .going) setsTally _ _ (v .so-far)
 
     pub setting-stop : (e p : ℕ) → r ≡ enclosed.Not e p → Sets (judge.Bad e p)
@@ -78,12 +78,12 @@ module _ (s : List ℕ) (at brushes vertices : ℕ) (from : Cursor) where
     pub setting-end : r ≡ enclosed.End → Sets (judge.Good m)
     unfolding readSets setsTally
     setting-end w =
-        let none : readSets brushes vertices (restIn s MESH at (reachedOf q) c) ≡ got [] = rw (rest-end s MESH at q c r x w) in
+        let none : readSets brushes vertices (restIn s MESH at (reachedOf q) c) ≡ accept [] = rw (rest-end s MESH at q c r x w) in
         going-done s at from c m (v .going) setsTally _ _ (v .so-far) [] none refl
 
     module _ (t : Tag) (p : ℕ) (b n : Cursor) (z : State) (w : r ≡ enclosed.Chunk t p b n z) (j : Judged) (h : Judges setTally (readTriangles brushes vertices p (left b s)) p (b .end) j) where
       more : readSets brushes vertices (restIn s MESH at (reachedOf q) c)
-          ≡ (readTriangles brushes vertices p (left b s) >>= λ i. readSets brushes vertices (restIn s MESH at (reachedOf z) n) >>= λ l. got (i ∷ l))
+          ≡ (readTriangles brushes vertices p (left b s) >>= λ i. readSets brushes vertices (restIn s MESH at (reachedOf z) n) >>= λ l. accept (i ∷ l))
       unfolding readSets
       more = rw (rest-step s MESH at q c r x t p b n z w)
 
@@ -104,27 +104,27 @@ pub ruleset setting = (setting-start, setting-stop, setting-end, setting-bad, se
 
 -- ---- the chunks inside a mesh
 
-shaped-bad : (o : Out Vertices) (e q : ℕ) → shaped o ≡ shape.Not e q → o ≡ bad e q
-shaped-bad (got v) e q h = let z : _≡_ {A = ℕ} 0 1 = cc in absurd (omega arith)
-shaped-bad (bad n p) e q h = cc
+shaped-bad : (o : Result Vertices) (e q : ℕ) → shaped o ≡ shape.Not e q → o ≡ reject e q
+shaped-bad (accept v) e q h = let z : _≡_ {A = ℕ} 0 1 = cc in absurd (omega arith)
+shaped-bad (reject n p) e q h = cc
 
-record GaveShape (o : Out Vertices) (k words : ℕ) : Type 0 where
+record GaveShape (o : Result Vertices) (k words : ℕ) : Type 0 where
   value : Vertices
-  is : o ≡ got value
+  is : o ≡ accept value
   many : k ≡ length (value .items)
   wide : words ≡ vertexWords (value .flags) (value .sets) (value .size)
 
-shaped-good : (o : Out Vertices) (k words : ℕ) → shaped o ≡ shape.Is k words → GaveShape o k words
-shaped-good (got v) k words h = record { value = v; is = refl; many = cc; wide = cc }
-shaped-good (bad n p) k words h = let z : _≡_ {A = ℕ} 0 1 = cc in absurd (omega arith)
+shaped-good : (o : Result Vertices) (k words : ℕ) → shaped o ≡ shape.Is k words → GaveShape o k words
+shaped-good (accept v) k words h = record { value = v; is = refl; many = cc; wide = cc }
+shaped-good (reject n p) k words h = let z : _≡_ {A = ℕ} 0 1 = cc in absurd (omega arith)
 
 -- what is made of sets, by a shape
-abbrev madeOf : Vertices → Out (List TriangleSet) → Out Mesh
-madeOf v o = o >>= λ l. got (record { brush = 0; flags = v .flags; sets = v .sets; size = v .size; vertices = v .items; triangleSets = l })
+abbrev madeOf : Vertices → Result (List TriangleSet) → Result Mesh
+madeOf v o = o >>= λ l. accept (record { brush = 0; flags = v .flags; sets = v .sets; size = v .size; vertices = v .items; triangleSets = l })
 
 module _ (mode : Mode) (s : List ℕ) (at brushes p : ℕ) (b n : Cursor) (gb : Body p b (length s)) (gn : Among at n (length s)) (far : at + 12 ≤ p) (join : b .end ≡ n .at)
-    (j : Shaped) (h : Shapes (readVertices mode p (left b s)) b j) where
-  abbrev Shape-right : Meshed → Type 0
+    (j : VerticesSummary) (h : Shapes (readVertices mode p (left b s)) b j) where
+  abbrev Shape-right : MeshSummary → Type 0
   Shape-right y = Meshes (readAfter brushes 0 (readVertices mode p (left b s)) (restIn s MESH at (reachedAt 1 true) n)) at (n .end) y
 
   pub shape-bad : (e i : ℕ) → j ≡ shape.Not e i → Shape-right (meshes.Not e i)
@@ -154,7 +154,7 @@ module _ (mode : Mode) (s : List ℕ) (at brushes p : ℕ) (b n : Cursor) (gb : 
       unfolding readAfter
       sets-read =
           let v = gave in
-          ap (λ (o : Out Vertices). o >>= λ v. madeOf v (readSets brushes (length (v .items)) (restIn s MESH at (reachedAt 1 true) n))) (v .is)
+          ap (λ (o : Result Vertices). o >>= λ v. madeOf v (readSets brushes (length (v .items)) (restIn s MESH at (reachedAt 1 true) n))) (v .is)
           ∙ ap (λ (m : ℕ). madeOf (v .value) (readSets brushes m (restIn s MESH at (reachedAt 1 true) n))) (sym (v .many))
 
       pub shape-sets-bad : (e c : ℕ) → i ≡ judge.Bad e c → Shape-right (meshes.Not e c)
@@ -182,13 +182,13 @@ module _ (mode : Mode) (s : List ℕ) (at brushes p : ℕ) (b n : Cursor) (gb : 
             let v = gave in
             let l = judged-good setsTally (readSets brushes k (restIn s MESH at (reachedAt 1 true) n)) u (sym (hi .is) ∙ y) in
             let M : Mesh = record { brush = 0; flags = v .value .flags; sets = v .value .sets; size = v .value .size; vertices = v .value .items; triangleSets = l .value } in
-            let to : readAfter brushes 0 (readVertices mode p (left b s)) (restIn s MESH at (reachedAt 1 true) n) ≡ got M = sets-read ∙ ap (madeOf (v .value)) (l .is) in
+            let to : readAfter brushes 0 (readVertices mode p (left b s)) (restIn s MESH at (reachedAt 1 true) n) ≡ accept M = sets-read ∙ ap (madeOf (v .value)) (l .is) in
             record {
               is = made M (v .many) (e ∙ ap₂ plus (ap₂ verticesTally (v .many) (v .wide)) (l .has)) ∙ ap meshed (sym to);
               within = rw e (within-plus (verticesTally k words) u (n .at - at) (n .end - n .at) (n .end - at) first tail (omega (arith, gn .head, gn .room)));
             }
           where
-            made : (q : Mesh) → k ≡ length (q .vertices) → m ≡ plus (verticesTally (length (q .vertices)) (vertexWords (q .flags) (q .sets) (q .size))) (setsTally (q .triangleSets)) → meshes.Is k m ≡ meshed (got q)
+            made : (q : Mesh) → k ≡ length (q .vertices) → m ≡ plus (verticesTally (length (q .vertices)) (vertexWords (q .flags) (q .sets) (q .size))) (setsTally (q .triangleSets)) → meshes.Is k m ≡ meshed (accept q)
             made q ek em = ap₂ meshes.Is ek em
 
 -- the rows of a mesh: of its vertices and of its sets
@@ -211,7 +211,7 @@ first-turn t z =
     (never, never, never, never, never, (λ h. (refl, some-inj h)), never, never, never, never) t
 
 module _ (mode : Mode) (s : List ℕ) (at brushes : ℕ) (from : Cursor) (g : Among at from (length s)) (far : at + 12 ≤ from .at) (r : Enclosed) (x : EnclosedIs s MESH at (record { turn = 0; spent = false }) from r) where
-  abbrev Inside-mesh : Meshed → Type 0
+  abbrev Inside-mesh : MeshSummary → Type 0
   Inside-mesh y = Meshes (readInside mode brushes 0 (restIn s MESH at start from)) at (from .end) y
 
   pub inside-stop : (e p : ℕ) → r ≡ enclosed.Not e p → Inside-mesh (meshes.Not e p)
@@ -222,7 +222,7 @@ module _ (mode : Mode) (s : List ℕ) (at brushes : ℕ) (from : Cursor) (g : Am
   }
 
   -- it owes its VRTS
-  pub inside-end : r ≡ enclosed.End → (y : Meshed) → Inside-mesh y
+  pub inside-end : r ≡ enclosed.End → (y : MeshSummary) → Inside-mesh y
   unfolding order if
   inside-end w y =
       let n = end-next s MESH at (record { turn = 0; spent = false }) from r x w in
@@ -245,7 +245,7 @@ module _ (mode : Mode) (s : List ℕ) (at brushes : ℕ) (from : Cursor) (g : Am
     pub inside-join : b .end ≡ n .at
     inside-join = sym (among .after)
 
-    pub inside-shape : (y : Meshed) → Meshes (readAfter brushes 0 (readVertices mode p (left b s)) (restIn s MESH at (reachedAt 1 true) n)) at (n .end) y → Inside-mesh y
+    pub inside-shape : (y : MeshSummary) → Meshes (readAfter brushes 0 (readVertices mode p (left b s)) (restIn s MESH at (reachedAt 1 true) n)) at (n .end) y → Inside-mesh y
     unfolding readInside readAfter readOne if
     inside-shape y m =
         let f = among in

@@ -13,7 +13,7 @@ ghost use Rattle.b3d_judge_tally.specs.Answers.{Judges};
 ghost use Rattle.b3d_spec.specs.Nesting.{start, reachedAt};
 ghost use Rattle.b3d_judge_mesh.specs.Answers.{readAfter, readInside, Meshes};
 use b3d_chunk_next_allowed::Enclosed;
-use b3d_judge_bodies::Shaped;
+use b3d_judge_bodies::VerticesSummary;
 use b3d_judge_tally::Judged;
 use b3d_judge_tally::Tally;
 use b3d_rule_nesting_order::Reached;
@@ -23,7 +23,7 @@ use wire::Cursor;
 use wire::Number;
 
 // How many vertices a mesh has, and its tally; or a refusal and its place.
-pub enum Meshed {
+pub enum MeshSummary {
     Is(usize, Tally),
     Not(u32, usize),
 }
@@ -90,30 +90,30 @@ fn judge_shape(
     next: Cursor,
     brushes: usize,
     mode: Mode,
-) -> Meshed
+) -> MeshSummary
     requires { ⌜ Body p body (length (now s)) × Among at next (length (now s)) × (at + 12 ≤ p) × (body .end ≡ next .at) ⌝ }
     ensures { λ r. ⌜ Meshes (readAfter brushes 0 (readVertices mode p (left body (now (s .entry)))) (restIn (now (s .entry)) MESH at (reachedAt 1 true) next)) at (next .end) r ⌝ }
 {
     match b3d_judge_bodies::judge_vertices(s, p, body, mode) {
-        Shaped::Not(e, q) => Meshed::Not(e, q),
-        Shaped::Is(n, words) => match judge_sets(s, at, next, brushes, n) {
-            Judged::Bad(e, q) => Meshed::Not(e, q),
-            Judged::Good(t) => Meshed::Is(n, mesh_rows(n, words, t)),
+        VerticesSummary::Not(e, q) => MeshSummary::Not(e, q),
+        VerticesSummary::Is(n, words) => match judge_sets(s, at, next, brushes, n) {
+            Judged::Bad(e, q) => MeshSummary::Not(e, q),
+            Judged::Good(t) => MeshSummary::Is(n, mesh_rows(n, words, t)),
         },
     }
 }
 
 // Judges the chunks inside a MESH whose header is at `at`, from the cursor `from` on: its VRTS, then its TRIS. Returns the mesh's vertices and tally, or the
 // first refusal.
-fn judge_inside(s: &[u8], at: usize, from: Cursor, brushes: usize, mode: Mode) -> Meshed
+fn judge_inside(s: &[u8], at: usize, from: Cursor, brushes: usize, mode: Mode) -> MeshSummary
     requires { ⌜ Among at from (length (now s)) × (at + 12 ≤ from .at) ⌝ }
     ensures { λ r. ⌜ Meshes (readInside mode brushes 0 (restIn (now (s .entry)) MESH at start from)) at (from .end) r ⌝ }
 {
     let found = b3d_chunk_cursor::next_chunk(s, from);
     match b3d_chunk_next_allowed::first_inside(s, from, found, Tag::MESH, at) {
         // No mesh ends here: it owes its VRTS.
-        Enclosed::End => Meshed::Is(0, b3d_judge_tally::none()),
-        Enclosed::Not(e, p) => Meshed::Not(e, p),
+        Enclosed::End => MeshSummary::Is(0, b3d_judge_tally::none()),
+        Enclosed::Not(e, p) => MeshSummary::Not(e, p),
         Enclosed::Chunk {
             at: p,
             body,
@@ -125,15 +125,15 @@ fn judge_inside(s: &[u8], at: usize, from: Cursor, brushes: usize, mode: Mode) -
 
 // Judges the `body` of a MESH whose header is at `at`: its brush id, -1 or below `brushes`, then the chunks inside it. Returns its vertices and tally, or the
 // first refusal.
-pub fn judge_mesh(s: &[u8], at: usize, body: Cursor, brushes: usize, mode: Mode) -> Meshed
+pub fn judge_mesh(s: &[u8], at: usize, body: Cursor, brushes: usize, mode: Mode) -> MeshSummary
     requires { ⌜ Body at body (length (now s)) ⌝ }
     ensures { λ r. ⌜ Meshes (readMesh mode brushes at (left body (now (s .entry)))) at (body .end) r ⌝ }
 {
     match body.number(s) {
-        Number::Cut => Meshed::Not(5, body.at),
+        Number::Cut => MeshSummary::Not(5, body.at),
         Number::Is(brush, c) => {
-            if !shared_ids::id_named(brush, brushes, true) {
-                return Meshed::Not(7, body.at);
+            if !shared_ids::id_valid(brush, brushes, true) {
+                return MeshSummary::Not(7, body.at);
             }
             judge_inside(s, at, c, brushes, mode)
         }

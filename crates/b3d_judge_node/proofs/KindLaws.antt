@@ -11,7 +11,7 @@ use denote.Enum.Declared.{tagOf}
 use Rattle.wire.specs.Test.{if}
 use Rattle.wire.specs.Cursors.{left}
 use Rattle.wire.specs.declared.Cursor.{Cursor}
-use Rattle.layout.specs.Out.{Out, got, bad, _>>=_}
+use Rattle.layout.specs.Result.{Result, accept, reject, _>>=_}
 use Rattle.layout.specs.Chunks.{chunk}
 use Rattle.b3d_spec.specs.declared.Mode.{Mode}
 use Rattle.b3d_spec.specs.declared.Tag.{Tag}
@@ -41,9 +41,9 @@ use Rattle.b3d_chunk_next_allowed.specs.Steps.{EnclosedIs}
 use Rattle.b3d_chunk_next_allowed.proofs.Stepping.{step-next, step-turn, stop-before, end-next}
 use Rattle.b3d_judge_mesh.specs.Answers.{MeshedIn, Meshes}
 use Rattle.b3d_judge_node.specs.Answers.{Kinds}
-use Rattle.b3d_judge_mesh.specs.declared.Meshed.{Meshed}
-use Rattle.b3d_judge_mesh.specs.declared.Meshed.the-variants as meshes
-use Rattle.b3d_judge_node.specs.declared.Kinded.the-variants as kind
+use Rattle.b3d_judge_mesh.specs.declared.MeshSummary.{MeshSummary}
+use Rattle.b3d_judge_mesh.specs.declared.MeshSummary.the-variants as meshes
+use Rattle.b3d_judge_node.specs.declared.KindSummary.the-variants as kind
 use Rattle.b3d_judge_tally.proofs.Answered.{judged-bad, judged-good, onward-none}
 use Rattle.b3d_judge_mesh.proofs.Answered.{meshed-bad, meshed-good}
 use Rattle.b3d_chunk_next_allowed.proofs.Rests.{rest-chunk, rest-done, rest-stop, step-body, among-inside, among-head}
@@ -95,12 +95,12 @@ module _ (mode : Mode) (s : List ℕ) (at : ℕ) (from : Cursor) (g : Among at f
         record { is = rw (e₁, e₂, if-no (is t MESH) _ _ (not-either .0), if-no (is t BONE) _ _ (not-either .1), e); within = onward-none from m (g .room) e }
 
     -- a MESH or a BONE that was read as o, and then the chunks after it
-    module _ {A : Type 0} (o : Out A) (wrap : A → Kind)
-        (h : readKind mode brushes bones (restIn s NODE at start from) ≡ (o >>= λ a. got (record { value = wrap a; rest = restIn s NODE at (reachedAt 1 true) n }))) where
-      taken-bad : (e q : ℕ) → o ≡ bad e q → q ≤ b .end → Kinds (readKind mode brushes bones (restIn s NODE at start from)) (restIn s NODE at (reachedAt 2 false)) from (kind.Not e q)
+    module _ {A : Type 0} (o : Result A) (wrap : A → Kind)
+        (h : readKind mode brushes bones (restIn s NODE at start from) ≡ (o >>= λ a. accept (record { value = wrap a; rest = restIn s NODE at (reachedAt 1 true) n }))) where
+      taken-bad : (e q : ℕ) → o ≡ reject e q → q ≤ b .end → Kinds (readKind mode brushes bones (restIn s NODE at start from)) (restIn s NODE at (reachedAt 2 false)) from (kind.Not e q)
       taken-bad e q k le = record { is = rw (h, k); within = let f = chunk-among s from (next.Chunk t p b n) found t p b n refl in omega arith }
 
-      taken : (a : A) (own : ℕ) (m : Tally) → o ≡ got a → own ≡ ownVertices (wrap a) → m ≡ kindTally (wrap a) → Within m (b .end - p)
+      taken : (a : A) (own : ℕ) (m : Tally) → o ≡ accept a → own ≡ ownVertices (wrap a) → m ≡ kindTally (wrap a) → Within m (b .end - p)
           → Kinds (readKind mode brushes bones (restIn s NODE at start from)) (restIn s NODE at (reachedAt 2 false)) from (kind.To own m n)
       taken a own m k eo em i = record {
         is = rw (h, k, eo, em, ← after-kind s at n);
@@ -109,8 +109,8 @@ module _ (mode : Mode) (s : List ℕ) (at : ℕ) (from : Cursor) (g : Among at f
             record { from-at = omega arith; room = f .to; same = f .same; within = within-more (b .end - p) (n .at - from .at) i (omega arith) };
       }
 
-    module _ (e : t ≡ MESH) (j : Meshed) (h : Meshes (readMesh mode brushes p (left b s)) p (b .end) j) where
-      mesh-read : readKind mode brushes bones (restIn s NODE at start from) ≡ (readMesh mode brushes p (left b s) >>= λ a. got (record { value = mesh a; rest = restIn s NODE at (reachedAt 1 true) n }))
+    module _ (e : t ≡ MESH) (j : MeshSummary) (h : Meshes (readMesh mode brushes p (left b s)) p (b .end) j) where
+      mesh-read : readKind mode brushes bones (restIn s NODE at start from) ≡ (readMesh mode brushes p (left b s) >>= λ a. accept (record { value = mesh a; rest = restIn s NODE at (reachedAt 1 true) n }))
       unfolding readKind aMesh nextTurn onward if
       mesh-read = rw (rest-chunk s from (next.Chunk t p b n) found NODE at start t p b n refl, e)
 
@@ -125,7 +125,7 @@ module _ (mode : Mode) (s : List ℕ) (at : ℕ) (from : Cursor) (g : Among at f
           taken (readMesh mode brushes p (left b s)) mesh mesh-read (v .value) own m (v .is) (v .own-is) (v .has) (subst (MeshedIn p (b .end)) y (h .within))
 
     module _ (e : t ≡ BONE) (j : Judged) (h : Judges boneTally (readBone bones p (left b s)) p (b .end) j) where
-      bone-read : readKind mode brushes bones (restIn s NODE at start from) ≡ (readBone bones p (left b s) >>= λ a. got (record { value = bone a; rest = restIn s NODE at (reachedAt 1 true) n }))
+      bone-read : readKind mode brushes bones (restIn s NODE at start from) ≡ (readBone bones p (left b s) >>= λ a. accept (record { value = bone a; rest = restIn s NODE at (reachedAt 1 true) n }))
       unfolding readKind aBone nextTurn onward if
       bone-read = rw (rest-chunk s from (next.Chunk t p b n) found NODE at start t p b n refl, e)
 

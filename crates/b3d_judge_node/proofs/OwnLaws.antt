@@ -8,22 +8,22 @@ use mathlib.Core.List.{List}
 use lib.ListN.{length, take}
 use Rattle.wire.specs.Cursors.{left}
 use Rattle.wire.specs.declared.Cursor.{Cursor}
-use Rattle.layout.specs.Out.{Out, got, bad, _>>=_}
+use Rattle.layout.specs.Result.{Result, accept, reject, _>>=_}
 use Rattle.layout.specs.Parts.{wordsOf}
 use Rattle.layout.specs.Rows.{mostBytes}
 use Rattle.b3d_spec.specs.declared.Mode.{Mode}
 use Rattle.b3d_spec.specs.declared.Tag.the-variants.{NODE}
 use Rattle.b3d_spec.specs.Tags.{Chunks, Found}
-use Rattle.b3d_spec.specs.Scene.{Kind, still, Data}
-use Rattle.b3d_spec.specs.Rules.{nodeRow, ownVertices, boneVertices, animated, bonesFrom}
+use Rattle.b3d_spec.specs.Scene.{Kind, noAnim, Data}
+use Rattle.b3d_spec.specs.Rules.{nodeRow, ownVertices, boneLimit, animated, boneLimitFrom}
 use Rattle.b3d_spec.specs.Nesting.{start, inside, reachedAt}
-use Rattle.b3d_spec.specs.Parse.{Moves, readKind, readMoves}
+use Rattle.b3d_spec.specs.Parse.{Animation, readKind, readAnimation}
 use Rattle.b3d_chunk_cursor.specs.Chunks.{namedAt, NamedIn}
 use Rattle.b3d_chunk_cursor.specs.declared.Named.{Named}
 use Rattle.b3d_chunk_cursor.specs.declared.Named.the-variants as named
 use Rattle.b3d_chunk_cursor.proofs.Names.{named-cut, named-any, named-among}
 use Rattle.b3d_judge_tally.proofs.Answered.{GaveBeside, beside-bad, beside-good}
-use Rattle.b3d_judge_tally.specs.Tally.{headTally, kindTally, movesTally, dataTally, plus, Within}
+use Rattle.b3d_judge_tally.specs.Tally.{headTally, kindTally, animationTally, dataTally, plus, Within}
 use Rattle.b3d_spec_chunk_places.specs.Places.{Body, restIn, Among}
 use Rattle.b3d_spec_chunk_places.proofs.Heads.{body-inside}
 use Rattle.b3d_judge_tally.specs.declared.Tally.{Tally}
@@ -32,33 +32,33 @@ use Rattle.b3d_judge_node.specs.Answers.{readParts, readOwn, kinded, kin
 use Rattle.b3d_judge_tally.specs.Answers.{Onward}
 use Rattle.b3d_judge_animation.specs.Answers.{moved, movedBy, MovedIn, Motions}
 use Rattle.b3d_judge_node.specs.declared.Above.{Above}
-use Rattle.b3d_judge_node.specs.declared.Kinded.{Kinded}
-use Rattle.b3d_judge_node.specs.declared.Kinded.the-variants as kind
+use Rattle.b3d_judge_node.specs.declared.KindSummary.{KindSummary}
+use Rattle.b3d_judge_node.specs.declared.KindSummary.the-variants as kind
 use Rattle.b3d_judge_animation.specs.declared.Motion.{Motion}
 use Rattle.b3d_judge_animation.specs.declared.Motion.the-variants as motion
-use Rattle.b3d_judge_node.specs.declared.Owned.{Owned}
-use Rattle.b3d_judge_node.specs.declared.Owned.the-variants as own
+use Rattle.b3d_judge_node.specs.declared.NodeSummary.{NodeSummary}
+use Rattle.b3d_judge_node.specs.declared.NodeSummary.the-variants as own
 use Rattle.b3d_judge_node.specs.declared.Above.the-variants as above
 
 -- ---- what the answers say
 
-kinds-at : (o : Out (Found Kind)) (rest : Cursor → Chunks) (from : Cursor) (k : Kinded) → Kinds o rest from k → {x : Kinded} → k ≡ x → kindedBy rest x ≡ kinded o
-kinds-at o rest from k h z = subst (λ (x : Kinded). kindedBy rest x ≡ kinded o) z (h .is)
+kinds-at : (o : Result (Found Kind)) (rest : Cursor → Chunks) (from : Cursor) (k : KindSummary) → Kinds o rest from k → {x : KindSummary} → k ≡ x → kindedBy rest x ≡ kinded o
+kinds-at o rest from k h z = subst (λ (x : KindSummary). kindedBy rest x ≡ kinded o) z (h .is)
 
-motions-at : (o : Out (Found Moves)) (rest : Cursor → Chunks) (from : Cursor) (k : Motion) → Motions o rest from k → {x : Motion} → k ≡ x → movedBy rest x ≡ moved o
+motions-at : (o : Result (Found Animation)) (rest : Cursor → Chunks) (from : Cursor) (k : Motion) → Motions o rest from k → {x : Motion} → k ≡ x → movedBy rest x ≡ moved o
 motions-at o rest from k h z = subst (λ (x : Motion). movedBy rest x ≡ moved o) z (h .is)
 
 -- ---- the ways of `bones_below`
 
 module _ (a : Above) (own : ℕ) where
-  pub below-root : a ≡ above.Root → (seen : Bool) → aboveOf (above.Of own) ≡ bonesFrom (aboveOf a) seen own
+  pub below-root : a ≡ above.Root → (seen : Bool) → aboveOf (above.Of own) ≡ boneLimitFrom (aboveOf a) seen own
   below-root e seen = rw e
 
   module _ (n : ℕ) (e : a ≡ above.Of n) (seen : Bool) where
-    pub below-own : seen ≡ true → aboveOf (above.Of own) ≡ bonesFrom (aboveOf a) seen own
+    pub below-own : seen ≡ true → aboveOf (above.Of own) ≡ boneLimitFrom (aboveOf a) seen own
     below-own q = rw (e, q)
 
-    pub below-told : seen ≡ false → aboveOf (above.Of n) ≡ bonesFrom (aboveOf a) seen own
+    pub below-told : seen ≡ false → aboveOf (above.Of n) ≡ boneLimitFrom (aboveOf a) seen own
     below-told q = rw (e, q)
 
 pub ruleset below-laws = (below-root, below-own, below-told)
@@ -79,17 +79,17 @@ pub ruleset own-rows-laws = (own-head-small, own-rows-small, own-rows-are)
 
 -- ---- the ways of `judge_parts`
 
-module _ (mode : Mode) (s : List ℕ) (at : ℕ) (from : Cursor) (g : Among at from (length s)) (far : at + 49 ≤ from .at) (brushes : ℕ) (a : Option ℕ) (bones : ℕ) (eb : bones ≡ boneVertices a)
-    (k : Kinded) (hk : Kinds (readKind mode brushes bones (restIn s NODE at start from)) (restIn s NODE at (reachedAt 2 false)) from k) where
-  abbrev Right-parts : Owned → Type 0
-  Right-parts x = Parted a (readParts mode brushes (boneVertices a) (restIn s NODE at start from)) (restIn s NODE at (reachedAt 3 false)) at from x
+module _ (mode : Mode) (s : List ℕ) (at : ℕ) (from : Cursor) (g : Among at from (length s)) (far : at + 49 ≤ from .at) (brushes : ℕ) (a : Option ℕ) (bones : ℕ) (eb : bones ≡ boneLimit a)
+    (k : KindSummary) (hk : Kinds (readKind mode brushes bones (restIn s NODE at start from)) (restIn s NODE at (reachedAt 2 false)) from k) where
+  abbrev Right-parts : NodeSummary → Type 0
+  Right-parts x = Parted a (readParts mode brushes (boneLimit a) (restIn s NODE at start from)) (restIn s NODE at (reachedAt 3 false)) at from x
 
   -- the moves after a kind
-  abbrev made : Kind → Out (Found Moves) → Out (Found (Kind × Moves))
-  made v o = o >>= λ m. got (record { value = (v, m .value); rest = m .rest })
+  abbrev made : Kind → Result (Found Animation) → Result (Found (Kind × Animation))
+  made v o = o >>= λ m. accept (record { value = (v, m .value); rest = m .rest })
 
-  abbrev go : Out (Found Kind) → Out (Found (Kind × Moves))
-  go o = o >>= λ v. made (v .value) (readMoves still (v .rest))
+  abbrev go : Result (Found Kind) → Result (Found (Kind × Animation))
+  go o = o >>= λ v. made (v .value) (readAnimation noAnim (v .rest))
 
   pub parts-kind-bad : (e q : ℕ) → k ≡ kind.Not e q → Right-parts (own.Not e q)
   unfolding readParts
@@ -118,13 +118,13 @@ module _ (mode : Mode) (s : List ℕ) (at : ℕ) (from : Cursor) (g : Among at f
     pub parts-first-small : Within (plus headTally t) mostBytes
     parts-first-small = let q = parts-among in within-more (c .at - at) mostBytes first-within (omega (arith, q .room, q .within, g .small))
 
-    module _ (j : Motion) (hj : Motions (readMoves still (restIn s NODE at (reachedAt 2 false) c)) (restIn s NODE at (reachedAt 3 false)) c j) where
+    module _ (j : Motion) (hj : Motions (readAnimation noAnim (restIn s NODE at (reachedAt 2 false) c)) (restIn s NODE at (reachedAt 3 false)) c j) where
       pub parts-moves-bad : (e q : ℕ) → j ≡ motion.Not e q → Right-parts (own.Not e q)
       unfolding readParts
       parts-moves-bad e q y =
           let o = on in
           let v = gave in
-          let b = beside-bad (λ x. animated (x .anim)) movesTally (readMoves still (restIn s NODE at (reachedAt 2 false) c)) e q (motions-at (readMoves still (restIn s NODE at (reachedAt 2 false) c)) (restIn s NODE at (reachedAt 3 false)) c j hj y) in
+          let b = beside-bad (λ x. animated (x .anim)) animationTally (readAnimation noAnim (restIn s NODE at (reachedAt 2 false) c)) e q (motions-at (readAnimation noAnim (restIn s NODE at (reachedAt 2 false) c)) (restIn s NODE at (reachedAt 3 false)) c j hj y) in
           let le : q ≤ c .end = subst (MovedIn c) y (hj .within) in
           record { is = rw (← eb, v .is, b); within = omega (arith, o .same) }
 
@@ -135,19 +135,19 @@ module _ (mode : Mode) (s : List ℕ) (at : ℕ) (from : Cursor) (g : Among at f
         pub parts-moves-small : Within u mostBytes
         parts-moves-small = let q = parts-among in let m = after-moves in within-more (d .at - c .at) mostBytes (m .within) (omega (arith, m .room, m .same, q .within, g .small))
 
-        pub parts-good : (x : Tally) → x ≡ plus (plus headTally t) u → (below : Above) → aboveOf below ≡ bonesFrom a seen have → Right-parts (own.To below x d)
+        pub parts-good : (x : Tally) → x ≡ plus (plus headTally t) u → (below : Above) → aboveOf below ≡ boneLimitFrom a seen have → Right-parts (own.To below x d)
         unfolding readParts
         parts-good x ex below e-below =
             let o = on in
             let m = after-moves in
             let kd = gave in
-            let mv = beside-good (λ x. animated (x .anim)) movesTally (readMoves still (restIn s NODE at (reachedAt 2 false) c)) seen u (restIn s NODE at (reachedAt 3 false) d) (motions-at (readMoves still (restIn s NODE at (reachedAt 2 false) c)) (restIn s NODE at (reachedAt 3 false)) c j hj y) in
-            let to : readParts mode brushes bones (restIn s NODE at start from) ≡ got (record { value = (kd .value, mv .value); rest = restIn s NODE at (reachedAt 3 false) d }) =
+            let mv = beside-good (λ x. animated (x .anim)) animationTally (readAnimation noAnim (restIn s NODE at (reachedAt 2 false) c)) seen u (restIn s NODE at (reachedAt 3 false) d) (motions-at (readAnimation noAnim (restIn s NODE at (reachedAt 2 false) c)) (restIn s NODE at (reachedAt 3 false)) c j hj y) in
+            let to : readParts mode brushes bones (restIn s NODE at start from) ≡ accept (record { value = (kd .value, mv .value); rest = restIn s NODE at (reachedAt 3 false) d }) =
             ap go (kd .is) ∙ ap (made (kd .value)) (mv .is) in
-            let eq-below : aboveOf below ≡ bonesFrom a (animated (mv .value .anim)) (ownVertices (kd .value)) = e-below ∙ ap₂ (bonesFrom a) (mv .first) (kd .first) in
-            let eq-tally : x ≡ plus (plus headTally (kindTally (kd .value))) (movesTally (mv .value)) = ex ∙ ap (λ (q : Tally). plus q u) (ap (plus headTally) (kd .has)) ∙ ap (plus (plus headTally (kindTally (kd .value)))) (mv .has) in
+            let eq-below : aboveOf below ≡ boneLimitFrom a (animated (mv .value .anim)) (ownVertices (kd .value)) = e-below ∙ ap₂ (boneLimitFrom a) (mv .first) (kd .first) in
+            let eq-tally : x ≡ plus (plus headTally (kindTally (kd .value))) (animationTally (mv .value)) = ex ∙ ap (λ (q : Tally). plus q u) (ap (plus headTally) (kd .has)) ∙ ap (plus (plus headTally (kindTally (kd .value)))) (mv .has) in
             record {
-              is = rw (← eb, to) (λ i. got (eq-below i, eq-tally i, restIn s NODE at (reachedAt 3 false) d));
+              is = rw (← eb, to) (λ i. accept (eq-below i, eq-tally i, restIn s NODE at (reachedAt 3 false) d));
               within = (
                 record {
                   from-at = omega (arith, far, o .from-at, m .from-at);
@@ -163,7 +163,7 @@ pub ruleset parts-laws = (parts-kind-bad, parts-among, parts-kind-small, parts-f
 
 -- ---- the ways of `judge_own`
 
-owned-in : (at : ℕ) (n body : Cursor) → n .end ≡ body .end → (k : Owned) → OwnedIn at n k → OwnedIn at body k
+owned-in : (at : ℕ) (n body : Cursor) → n .end ≡ body .end → (k : NodeSummary) → OwnedIn at n k → OwnedIn at body k
 owned-in at n body e (own.To b t c) h = subst (λ (z : ℕ). Onward (record { at = at; end = z }) c t × (at + 8 ≤ c .at)) e h
 owned-in at n body e (own.Not i p) h = rw (← e) h
 
@@ -178,7 +178,7 @@ module _ (s : List ℕ) (at : ℕ) (body : Cursor) (g : Body at body (length s))
 
 module _ (mode : Mode) (s : List ℕ) (at : ℕ) (body : Cursor) (g : Body at body (length s)) (brushes : ℕ) (a : Option ℕ) (r : Named) (er : r ≡ namedAt s body 10) where
   -- the answers that are right
-  abbrev Right : Owned → Type 0
+  abbrev Right : NodeSummary → Type 0
   Right x = Owns a (readOwn mode brushes a at (left body s)) (restIn s NODE at (reachedAt 3 false)) at body x
 
   pub own-cut : r ≡ named.Cut → Right (own.Not 5 (body .at))
@@ -186,37 +186,37 @@ module _ (mode : Mode) (s : List ℕ) (at : ℕ) (body : Cursor) (g : Body at bo
   own-cut w = record { is = rw (← g .head, named-cut s body 10 (body-inside s at body g) nodeRow refl r er w); within = g .room }
 
   module _ (ir : NamedIn body 10 r) (len : ℕ) (v n : Cursor) (w : r ≡ named.Is len v n) where
-    abbrev dataOf : Kind × Moves → Data
+    abbrev dataOf : Kind × Animation → Data
     dataOf x = record { name = record { place = body .at; bytes = take len (left body s) }; words = wordsOf 10 (left v s); kind = x .0; keys = x .1 .keys; anim = x .1 .anim }
 
-    abbrev within-name : Out (Found (Kind × Moves)) → Out (Found Data)
-    within-name o = o >>= λ x. got (record { value = dataOf (x .value); rest = x .rest })
+    abbrev within-name : Result (Found (Kind × Animation)) → Result (Found Data)
+    within-name o = o >>= λ x. accept (record { value = dataOf (x .value); rest = x .rest })
 
-    opened : readOwn mode brushes a at (left body s) ≡ within-name (readParts mode brushes (boneVertices a) (restIn s NODE at start n))
+    opened : readOwn mode brushes a at (left body s) ≡ within-name (readParts mode brushes (boneLimit a) (restIn s NODE at start n))
     unfolding readOwn readParts inside restIn
-    opened = rw (← g .head, named-any s body 10 (body-inside s at body g) r er len v n w) (kinds (readKind mode brushes (boneVertices a) (restIn s NODE at start n)))
+    opened = rw (← g .head, named-any s body 10 (body-inside s at body g) r er len v n w) (kinds (readKind mode brushes (boneLimit a) (restIn s NODE at start n)))
       where
-        moves : (k : Kind) (o : Out (Found Moves))
-            → (o >>= λ m. got (record { value = dataOf (k, m .value); rest = m .rest })) ≡ within-name (o >>= λ m. got (record { value = (k, m .value); rest = m .rest }))
-        moves k (got m) = refl
-        moves k (bad n p) = refl
+        moves : (k : Kind) (o : Result (Found Animation))
+            → (o >>= λ m. accept (record { value = dataOf (k, m .value); rest = m .rest })) ≡ within-name (o >>= λ m. accept (record { value = (k, m .value); rest = m .rest }))
+        moves k (accept m) = refl
+        moves k (reject n p) = refl
 
-        kinds : (o : Out (Found Kind))
-            → (o >>= λ k. readMoves still (k .rest) >>= λ m. got (record { value = dataOf (k .value, m .value); rest = m .rest }))
-            ≡ within-name (o >>= λ k. readMoves still (k .rest) >>= λ m. got (record { value = (k .value, m .value); rest = m .rest }))
-        kinds (got k) = moves (k .value) (readMoves still (k .rest))
-        kinds (bad n p) = refl
+        kinds : (o : Result (Found Kind))
+            → (o >>= λ k. readAnimation noAnim (k .rest) >>= λ m. accept (record { value = dataOf (k .value, m .value); rest = m .rest }))
+            ≡ within-name (o >>= λ k. readAnimation noAnim (k .rest) >>= λ m. accept (record { value = (k .value, m .value); rest = m .rest }))
+        kinds (accept k) = moves (k .value) (readAnimation noAnim (k .rest))
+        kinds (reject n p) = refl
 
-    owned-parted : (o : Out (Found (Kind × Moves))) → owned a (within-name o) ≡ parted a o
-    unfolding dataTally movesTally
-    owned-parted (got x) = refl
-    owned-parted (bad e q) = refl
+    owned-parted : (o : Result (Found (Kind × Animation))) → owned a (within-name o) ≡ parted a o
+    unfolding dataTally animationTally
+    owned-parted (accept x) = refl
+    owned-parted (reject e q) = refl
 
-    pub own-parts : (k : Owned) → Parted a (readParts mode brushes (boneVertices a) (restIn s NODE at start n)) (restIn s NODE at (reachedAt 3 false)) at n k → Right k
+    pub own-parts : (k : NodeSummary) → Parted a (readParts mode brushes (boneLimit a) (restIn s NODE at start n)) (restIn s NODE at (reachedAt 3 false)) at n k → Right k
     own-parts k h =
         let f = named-among body 10 r ir len v n w in
         record {
-          is = h .is ∙ sym (ap (owned a) opened ∙ owned-parted (readParts mode brushes (boneVertices a) (restIn s NODE at start n)));
+          is = h .is ∙ sym (ap (owned a) opened ∙ owned-parted (readParts mode brushes (boneLimit a) (restIn s NODE at start n)));
           within = owned-in at n body (f .same) k (h .within);
         }
 

@@ -6,7 +6,7 @@ ghost use lib.ListN.{length};
 ghost use Rattle.wire.specs.Cursors.{left};
 ghost use Rattle.layout.specs.Rows.{mostBytes};
 ghost use Rattle.b3d_spec.specs.declared.Tag.the-variants.{NODE};
-ghost use Rattle.b3d_spec.specs.Rules.{boneVertices, bonesFrom};
+ghost use Rattle.b3d_spec.specs.Rules.{boneLimit, boneLimitFrom};
 ghost use Rattle.b3d_spec.specs.Nesting.{start, reachedAt};
 ghost use Rattle.b3d_spec.specs.Parse.{readKind};
 ghost use Rattle.b3d_judge_tally.specs.Tally.{plus, headTally, Within};
@@ -15,7 +15,7 @@ ghost use Rattle.b3d_judge_node.specs.Answers.{readParts, readOwn, Kinds
 use b3d_chunk_cursor::Named;
 use b3d_chunk_next_allowed::Enclosed;
 use b3d_judge_animation::Motion;
-use b3d_judge_mesh::Meshed;
+use b3d_judge_mesh::MeshSummary;
 use b3d_judge_tally::Judged;
 use b3d_judge_tally::Tally;
 use b3d_spec::Mode;
@@ -23,7 +23,7 @@ use b3d_spec::Tag;
 use wire::Cursor;
 
 // How many vertices a node's own mesh has, the tally of its kind, and the cursor after it; or a refusal and its place.
-pub enum Kinded {
+pub enum KindSummary {
     To(usize, Tally, Cursor),
     Not(u32, usize),
 }
@@ -35,14 +35,14 @@ pub enum Above {
 }
 
 // How many vertices a bone below a node may name, the node's own tally, and the cursor at its children; or a refusal and its place.
-pub enum Owned {
+pub enum NodeSummary {
     To(Above, Tally, Cursor),
     Not(u32, usize),
 }
 
 // Returns how many vertices a bone of a node may name, `a` being what holds above it: 0 for the root.
 pub fn bone_vertices(a: Above) -> usize
-    ensures { λ r. ⌜ r ≡ boneVertices (aboveOf a) ⌝ }
+    ensures { λ r. ⌜ r ≡ boneLimit (aboveOf a) ⌝ }
 {
     match a {
         Above::Root => 0,
@@ -52,7 +52,7 @@ pub fn bone_vertices(a: Above) -> usize
 
 // Returns how many vertices a bone below a node may name (E3): the node's `own` if it is the root or has an ANIM (`anim`), else what holds above it, `a`.
 pub fn bones_below(a: Above, anim: bool, own: usize) -> Above
-    ensures { λ r. ⌜ aboveOf r ≡ bonesFrom (aboveOf a) anim own ⌝ }
+    ensures { λ r. ⌜ aboveOf r ≡ boneLimitFrom (aboveOf a) anim own ⌝ }
 {
     match a {
         Above::Root => Above::Of(own),
@@ -74,14 +74,14 @@ pub fn judge_kind(
     brushes: usize,
     bones: usize,
     mode: Mode,
-) -> Kinded
+) -> KindSummary
     requires { ⌜ Among at from (length (now s)) ⌝ }
     ensures { λ r. ⌜ Kinds (readKind mode brushes bones (restIn (now (s .entry)) NODE at start from)) (restIn (now (s .entry)) NODE at (reachedAt 2 false)) from r ⌝ }
 {
     let found = b3d_chunk_cursor::next_chunk(s, from);
     match b3d_chunk_next_allowed::first_inside(s, from, found, Tag::NODE, at) {
-        Enclosed::End => Kinded::To(0, b3d_judge_tally::none(), from),
-        Enclosed::Not(e, p) => Kinded::Not(e, p),
+        Enclosed::End => KindSummary::To(0, b3d_judge_tally::none(), from),
+        Enclosed::Not(e, p) => KindSummary::Not(e, p),
         Enclosed::Chunk {
             tag,
             at: p,
@@ -90,14 +90,14 @@ pub fn judge_kind(
             ..
         } => match tag {
             Tag::MESH => match b3d_judge_mesh::judge_mesh(s, p, body, brushes, mode) {
-                Meshed::Not(e, q) => Kinded::Not(e, q),
-                Meshed::Is(own, t) => Kinded::To(own, t, next),
+                MeshSummary::Not(e, q) => KindSummary::Not(e, q),
+                MeshSummary::Is(own, t) => KindSummary::To(own, t, next),
             },
             Tag::BONE => match b3d_judge_bodies::judge_bone(s, p, body, bones) {
-                Judged::Bad(e, q) => Kinded::Not(e, q),
-                Judged::Good(t) => Kinded::To(0, t, next),
+                Judged::Bad(e, q) => KindSummary::Not(e, q),
+                Judged::Good(t) => KindSummary::To(0, t, next),
             },
-            _ => Kinded::To(0, b3d_judge_tally::none(), from),
+            _ => KindSummary::To(0, b3d_judge_tally::none(), from),
         },
     }
 }
@@ -112,15 +112,26 @@ pub fn own_rows(kind: Tally, moves: Tally) -> Tally
 
 // Judges the chunks inside a NODE whose header is at `at`, from the cursor `from` up to the nodes below it. Returns what holds for bones below it, its tally
 // and the cursor at its children, or the first refusal.
-fn judge_parts(s: &[u8], at: usize, from: Cursor, brushes: usize, above: Above, mode: Mode) -> Owned
+fn judge_parts(
+    s: &[u8],
+    at: usize,
+    from: Cursor,
+    brushes: usize,
+    above: Above,
+    mode: Mode,
+) -> NodeSummary
     requires { ⌜ Among at from (length (now s)) × (at + 49 ≤ from .at) ⌝ }
-    ensures { λ r. ⌜ Parted (aboveOf above) (readParts mode brushes (boneVertices (aboveOf above)) (restIn (now (s .entry)) NODE at start from)) (restIn (now (s .entry)) NODE at (reachedAt 3 false)) at from r ⌝ }
+    ensures { λ r. ⌜ Parted (aboveOf above) (readParts mode brushes (boneLimit (aboveOf above)) (restIn (now (s .entry)) NODE at start from)) (restIn (now (s .entry)) NODE at (reachedAt 3 false)) at from r ⌝ }
 {
     match judge_kind(s, at, from, brushes, bone_vertices(above), mode) {
-        Kinded::Not(e, q) => Owned::Not(e, q),
-        Kinded::To(own, k, c) => match b3d_judge_animation::judge_moves(s, at, c) {
-            Motion::Not(e, q) => Owned::Not(e, q),
-            Motion::To(anim, m, d) => Owned::To(bones_below(above, anim, own), own_rows(k, m), d),
+        KindSummary::Not(e, q) => NodeSummary::Not(e, q),
+        KindSummary::To(own, k, c) => match b3d_judge_animation::judge_animation(s, at, c) {
+            Motion::Not(e, q) => NodeSummary::Not(e, q),
+            Motion::To(anim, m, d) => NodeSummary::To(
+                bones_below(above, anim, own),
+                own_rows(k, m),
+                d,
+            ),
         },
     }
 }
@@ -134,12 +145,12 @@ pub fn judge_own(
     brushes: usize,
     above: Above,
     mode: Mode,
-) -> Owned
+) -> NodeSummary
     requires { ⌜ Body at body (length (now s)) ⌝ }
     ensures { λ r. ⌜ Owns (aboveOf above) (readOwn mode brushes (aboveOf above) at (left body (now (s .entry)))) (restIn (now (s .entry)) NODE at (reachedAt 3 false)) at body r ⌝ }
 {
     match b3d_chunk_cursor::named_row(s, body, 10) {
-        Named::Cut => Owned::Not(5, body.at),
+        Named::Cut => NodeSummary::Not(5, body.at),
         Named::Is { next, .. } => judge_parts(s, at, next, brushes, above, mode),
     }
 }

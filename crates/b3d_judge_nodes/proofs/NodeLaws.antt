@@ -8,7 +8,7 @@ use mathlib.Core.List.{List}
 use lib.ListN.{length}
 use Rattle.wire.specs.Cursors.{left}
 use Rattle.wire.specs.declared.Cursor.{Cursor}
-use Rattle.layout.specs.Out.{Out, got, bad, _>>=_}
+use Rattle.layout.specs.Result.{Result, accept, reject, _>>=_}
 use Rattle.layout.specs.Parts.{named}
 use Rattle.layout.proofs.Outs.{bind-cong, bind-bind}
 use Rattle.layout.specs.Rows.{mostBytes}
@@ -16,10 +16,10 @@ use Rattle.b3d_spec.specs.declared.Mode.{Mode}
 use Rattle.b3d_spec.specs.declared.Tag.{Tag}
 use Rattle.b3d_spec.specs.declared.Tag.the-variants.{NODE}
 use Rattle.b3d_spec.specs.Tags.{Chunks, Found}
-use Rattle.b3d_spec.specs.Scene.{Data, Forest, leaf, node, still}
-use Rattle.b3d_spec.specs.Rules.{nodeRow, boneVertices, bonesBelow}
+use Rattle.b3d_spec.specs.Scene.{Data, Forest, noNodes, node, noAnim}
+use Rattle.b3d_spec.specs.Rules.{nodeRow, boneLimit, boneLimitBelow}
 use Rattle.b3d_spec.specs.Nesting.{inside, reachedAt}
-use Rattle.b3d_spec.specs.Parse.{Inner, readKind, readMoves, readNodes, readBelow, readNode}
+use Rattle.b3d_spec.specs.Parse.{Inner, readKind, readAnimation, readNodes, readBelow, readNode}
 use Rattle.b3d_judge_tally.specs.Tally.{noTally, dataTally, forestTally, innerTally, plus, Within}
 use Rattle.b3d_spec_chunk_places.specs.Places.{Body, restIn, Among}
 use Rattle.b3d_judge_tally.specs.Answers.{judged, JudgedIn, Judges, Onward, judgedFrom}
@@ -35,8 +35,8 @@ use Rattle.b3d_chunk_next_allowed.specs.Steps.{EnclosedIs}
 use Rattle.b3d_chunk_next_allowed.proofs.Stepping.{stop-before}
 use Rattle.b3d_judge_node.specs.Answers.{readOwn, aboveOf, owned, ownedBy, OwnedIn, Owns}
 use Rattle.b3d_judge_node.specs.declared.Above.{Above}
-use Rattle.b3d_judge_node.specs.declared.Owned.{Owned}
-use Rattle.b3d_judge_node.specs.declared.Owned.the-variants as own
+use Rattle.b3d_judge_node.specs.declared.NodeSummary.{NodeSummary}
+use Rattle.b3d_judge_node.specs.declared.NodeSummary.the-variants as own
 use Rattle.b3d_judge_tally.proofs.Answered.{GaveBeside, beside-bad, beside-good, judged-bad, judged-good}
 use Rattle.b3d_judge_tally.proofs.Chains.{judged-start, judged-more}
 use Rattle.b3d_chunk_next_allowed.proofs.Rests.{rest-step, rest-stop, rest-end}
@@ -45,8 +45,8 @@ use Rattle.b3d_judge_bodies.proofs.Going.{Going, going-start, going-refused, go
 -- ---- a node: its own, then the nodes below
 
 -- the nodes below, after a node's own
-abbrev pub below : Mode → ℕ → ℕ → Option ℕ → Found Data → Out Inner
-below mode l brushes a d = readNodes (readNode mode l brushes (bonesBelow a (d .value))) (d .rest) >>= λ f. got (record { self = d .value; below = f })
+abbrev pub below : Mode → ℕ → ℕ → Option ℕ → Found Data → Result Inner
+below mode l brushes a d = readNodes (readNode mode l brushes (boneLimitBelow a (d .value))) (d .rest) >>= λ f. accept (record { self = d .value; below = f })
 
 pub node-open : (mode : Mode) (l brushes : ℕ) (a : Option ℕ) (p : ℕ) (b : List ℕ) → (l ≡ 0 → ⊥) → readNode mode l brushes a p b ≡ (readOwn mode brushes a p b >>= below mode (l - 1) brushes a)
 unfolding readNode readOwn readBelow
@@ -55,17 +55,17 @@ node-open mode (suc l) brushes a p b d =
     let e : suc l - 1 ≡ l = omega arith in
     rw e
     (sym (bind-bind (named nodeRow (p + 8) b) _ (below mode l brushes a)
-    ∙ bind-cong (named nodeRow (p + 8) b) (λ h _. bind-bind (readKind mode brushes (boneVertices a) (inside NODE p (h .place) (h .left))) _ (below mode l brushes a)
-    ∙ bind-cong (readKind mode brushes (boneVertices a) (inside NODE p (h .place) (h .left))) (λ k _. bind-bind (readMoves still (k .rest)) _ (below mode l brushes a)))))
+    ∙ bind-cong (named nodeRow (p + 8) b) (λ h _. bind-bind (readKind mode brushes (boneLimit a) (inside NODE p (h .place) (h .left))) _ (below mode l brushes a)
+    ∙ bind-cong (readKind mode brushes (boneLimit a) (inside NODE p (h .place) (h .left))) (λ k _. bind-bind (readAnimation noAnim (k .rest)) _ (below mode l brushes a)))))
 
 -- ---- what `judge_own` says
 
-pub owns-at : (a : Option ℕ) (o : Out (Found Data)) (rest : Cursor → Chunks) (at : ℕ) (body : Cursor) (k : Owned) → Owns a o rest at body k → {x : Owned} → k ≡ x → ownedBy rest x ≡ owned a o
-owns-at a o rest at body k h z = subst (λ (x : Owned). ownedBy rest x ≡ owned a o) z (h .is)
+pub owns-at : (a : Option ℕ) (o : Result (Found Data)) (rest : Cursor → Chunks) (at : ℕ) (body : Cursor) (k : NodeSummary) → Owns a o rest at body k → {x : NodeSummary} → k ≡ x → ownedBy rest x ≡ owned a o
+owns-at a o rest at body k h z = subst (λ (x : NodeSummary). ownedBy rest x ≡ owned a o) z (h .is)
 
 -- ---- the ways through a node
 
-module _ (mode : Mode) (s : List ℕ) (at : ℕ) (body : Cursor) (g : Body at body (length s)) (brushes : ℕ) (a : Option ℕ) (j : Owned)
+module _ (mode : Mode) (s : List ℕ) (at : ℕ) (body : Cursor) (g : Body at body (length s)) (brushes : ℕ) (a : Option ℕ) (j : NodeSummary)
     (h : Owns a (readOwn mode brushes a at (left body s)) (restIn s NODE at (reachedAt 3 false)) at body j) (b : Above) (t : Tally) (c : Cursor) (z : j ≡ own.To b t c) where
   own-on : Onward (record { at = at; end = body .end }) c t × (at + 8 ≤ c .at)
   own-on = subst (OwnedIn at body) z (h .within)
@@ -84,10 +84,10 @@ module _ (mode : Mode) (s : List ℕ) (at : ℕ) (body : Cursor) (g : Body at bo
   unfolding readNode
   node-deep e = record { is = rw e; within = omega (arith, g .head, g .room) }
 
-  module _ (d : l ≡ 0 → ⊥) (j : Owned) (h : Owns a (readOwn mode brushes a at (left body s)) (restIn s NODE at (reachedAt 3 false)) at body j) where
+  module _ (d : l ≡ 0 → ⊥) (j : NodeSummary) (h : Owns a (readOwn mode brushes a at (left body s)) (restIn s NODE at (reachedAt 3 false)) at body j) where
     pub node-own-bad : (e q : ℕ) → j ≡ own.Not e q → Node (judge.Bad e q)
     node-own-bad e q z =
-        let b = beside-bad (bonesBelow a) dataTally (readOwn mode brushes a at (left body s)) e q (owns-at a (readOwn mode brushes a at (left body s)) (restIn s NODE at (reachedAt 3 false)) at body j h z) in
+        let b = beside-bad (boneLimitBelow a) dataTally (readOwn mode brushes a at (left body s)) e q (owns-at a (readOwn mode brushes a at (left body s)) (restIn s NODE at (reachedAt 3 false)) at body j h z) in
         record { is = rw (node-open mode l brushes a at (left body s) d, b); within = subst (OwnedIn at body) z (h .within) }
 
     module _ (b : Above) (t : Tally) (c : Cursor) (z : j ≡ own.To b t c) where
@@ -97,15 +97,15 @@ module _ (mode : Mode) (s : List ℕ) (at : ℕ) (body : Cursor) (g : Body at bo
       among : Among at c (length s)
       among = node-among mode s at body g brushes a j h b t c z
 
-      gave : GaveBeside (bonesBelow a) dataTally (readOwn mode brushes a at (left body s)) (aboveOf b) t (restIn s NODE at (reachedAt 3 false) c)
-      gave = beside-good (bonesBelow a) dataTally (readOwn mode brushes a at (left body s)) (aboveOf b) t (restIn s NODE at (reachedAt 3 false) c) (owns-at a (readOwn mode brushes a at (left body s)) (restIn s NODE at (reachedAt 3 false)) at body j h z)
+      gave : GaveBeside (boneLimitBelow a) dataTally (readOwn mode brushes a at (left body s)) (aboveOf b) t (restIn s NODE at (reachedAt 3 false) c)
+      gave = beside-good (boneLimitBelow a) dataTally (readOwn mode brushes a at (left body s)) (aboveOf b) t (restIn s NODE at (reachedAt 3 false) c) (owns-at a (readOwn mode brushes a at (left body s)) (restIn s NODE at (reachedAt 3 false)) at body j h z)
 
       opened : readNode mode l brushes a at (left body s)
-          ≡ (readNodes (readNode mode (l - 1) brushes (aboveOf b)) (restIn s NODE at (reachedAt 3 false) c) >>= λ f. got (record { self = gave .value; below = f }))
+          ≡ (readNodes (readNode mode (l - 1) brushes (aboveOf b)) (restIn s NODE at (reachedAt 3 false) c) >>= λ f. accept (record { self = gave .value; below = f }))
       opened =
           let v = gave in
-          node-open mode l brushes a at (left body s) d ∙ ap (λ (o : Out (Found Data)). o >>= below mode (l - 1) brushes a) (v .is)
-          ∙ ap (λ (q : Option ℕ). readNodes (readNode mode (l - 1) brushes q) (restIn s NODE at (reachedAt 3 false) c) >>= λ f. got (record { self = v .value; below = f })) (sym (v .first))
+          node-open mode l brushes a at (left body s) d ∙ ap (λ (o : Result (Found Data)). o >>= below mode (l - 1) brushes a) (v .is)
+          ∙ ap (λ (q : Option ℕ). readNodes (readNode mode (l - 1) brushes q) (restIn s NODE at (reachedAt 3 false) c) >>= λ f. accept (record { self = v .value; below = f })) (sym (v .first))
 
       module _ (k : Judged) (hk : Judges forestTally (readNodes (readNode mode (l - 1) brushes (aboveOf b)) (restIn s NODE at (reachedAt 3 false) c)) (c .at) (c .end) k) where
         pub node-below-bad : (e q : ℕ) → k ≡ judge.Bad e q → Node (judge.Bad e q)
@@ -125,14 +125,14 @@ module _ (mode : Mode) (s : List ℕ) (at : ℕ) (body : Cursor) (g : Body at bo
             let o = on in
             let v = judged-good forestTally (readNodes (readNode mode (l - 1) brushes (aboveOf b)) (restIn s NODE at (reachedAt 3 false) c)) f (sym (hk .is) ∙ y) in
             let i : Within f (c .end - c .at) = subst (JudgedIn (c .at) (c .end)) y (hk .within) in
-            let to : readNode mode l brushes a at (left body s) ≡ got (record { self = gave .value; below = v .value }) =
-            opened ∙ ap (λ (q : Out Forest). q >>= λ f. got (record { self = gave .value; below = f })) (v .is) in
+            let to : readNode mode l brushes a at (left body s) ≡ accept (record { self = gave .value; below = v .value }) =
+            opened ∙ ap (λ (q : Result Forest). q >>= λ f. accept (record { self = gave .value; below = f })) (v .is) in
             record {
               is = ap judge.Good (e ∙ ap₂ plus (gave .has) (v .has)) ∙ inner (gave .value) (v .value) ∙ ap (judged innerTally) (sym to);
               within = rw e (within-plus t f (c .at - at) (c .end - c .at) (body .end - at) (o .0 .within) i (omega (arith, o .0 .from-at, o .0 .room, o .0 .same)));
             }
           where
-            inner : (d : Data) (f : Forest) → judge.Good (plus (dataTally d) (forestTally f)) ≡ judged innerTally (got (record { self = d; below = f }))
+            inner : (d : Data) (f : Forest) → judge.Good (plus (dataTally d) (forestTally f)) ≡ judged innerTally (accept (record { self = d; below = f }))
             inner d f = refl
 
 pub ruleset node-laws = (node-deep, node-own-bad, node-among, node-own-small, node-below-bad, node-below-small, node-good)
@@ -140,7 +140,7 @@ pub ruleset node-laws = (node-deep, node-own-bad, node-among, node-own-small, no
 -- ---- the loop over nodes
 
 -- at c, after q, with the tally m of the nodes before
-pub record Noding (s : List ℕ) (at : ℕ) (one : ℕ → List ℕ → Out Inner) (from c : Cursor) (q : State) (m : Tally) : Type 0 where
+pub record Noding (s : List ℕ) (at : ℕ) (one : ℕ → List ℕ → Result Inner) (from c : Cursor) (q : State) (m : Tally) : Type 0 where
   pub going : Going s at from c m
   pub so-far : judged forestTally (readNodes one (restIn s NODE at (reachedAt 3 false) from)) ≡ judgedFrom m forestTally (readNodes one (restIn s NODE at (reachedOf q) c))
 
@@ -149,7 +149,7 @@ unfolding forestTally innerTally
 forest-more x f = refl
 
 module _ (mode : Mode) (s : List ℕ) (at l brushes : ℕ) (a : Option ℕ) (from : Cursor) where
-  abbrev one : ℕ → List ℕ → Out Inner
+  abbrev one : ℕ → List ℕ → Result Inner
   one = readNode mode l brushes a
 
   abbrev Nodes : Judged → Type 0
@@ -159,7 +159,7 @@ module _ (mode : Mode) (s : List ℕ) (at l brushes : ℕ) (a : Option ℕ) (fro
   noding-start g m e = record { going = going-start s at from m g e; so-far = rw e (judged-start forestTally (readNodes one (restIn s NODE at (reachedAt 3 false) from))) }
 
   module _ (c : Cursor) (q : State) (m : Tally) (v : Noding s at (readNode mode l brushes a) from c q m) (r : Enclosed) (x : EnclosedIs s NODE at q c r) where
-    refuse : (e i : ℕ) → readNodes one (restIn s NODE at (reachedOf q) c) ≡ bad e i → i ≤ c .end → Nodes (judge.Bad e i)
+    refuse : (e i : ℕ) → readNodes one (restIn s NODE at (reachedOf q) c) ≡ reject e i → i ≤ c .end → Nodes (judge.Bad e i)
     refuse = going-refused s at from c m (v .going) forestTally _ _ (v .so-far)
 
     pub noding-stop : (e p : ℕ) → r ≡ enclosed.Not e p → Nodes (judge.Bad e p)
@@ -169,11 +169,11 @@ module _ (mode : Mode) (s : List ℕ) (at l brushes : ℕ) (a : Option ℕ) (fro
     pub noding-end : r ≡ enclosed.End → Nodes (judge.Good m)
     unfolding readNodes forestTally
     noding-end w =
-        let none : readNodes one (restIn s NODE at (reachedOf q) c) ≡ got leaf = rw (rest-end s NODE at q c r x w) in
-        going-done s at from c m (v .going) forestTally _ _ (v .so-far) leaf none refl
+        let none : readNodes one (restIn s NODE at (reachedOf q) c) ≡ accept noNodes = rw (rest-end s NODE at q c r x w) in
+        going-done s at from c m (v .going) forestTally _ _ (v .so-far) noNodes none refl
 
     module _ (t : Tag) (p : ℕ) (b n : Cursor) (z : State) (w : r ≡ enclosed.Chunk t p b n z) (j : Judged) (h : Judges innerTally (readNode mode l brushes a p (left b s)) p (b .end) j) where
-      more : readNodes one (restIn s NODE at (reachedOf q) c) ≡ (one p (left b s) >>= λ i. readNodes one (restIn s NODE at (reachedOf z) n) >>= λ f. got (node (i .self) (i .below) f))
+      more : readNodes one (restIn s NODE at (reachedOf q) c) ≡ (one p (left b s) >>= λ i. readNodes one (restIn s NODE at (reachedOf z) n) >>= λ f. accept (node (i .self) (i .below) f))
       unfolding readNodes
       more = rw (rest-step s NODE at q c r x t p b n z w)
 

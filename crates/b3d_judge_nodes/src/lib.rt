@@ -11,7 +11,7 @@ ghost use Rattle.b3d_judge_tally.specs.Answers.{Judges};
 ghost use Rattle.b3d_judge_node.specs.Answers.{aboveOf};
 use b3d_chunk_next_allowed::Enclosed;
 use b3d_judge_node::Above;
-use b3d_judge_node::Owned;
+use b3d_judge_node::NodeSummary;
 use b3d_judge_tally::Judged;
 use b3d_rule_nesting_order::Reached;
 use b3d_spec::Mode;
@@ -42,8 +42,16 @@ pub fn judge_node(
         return Judged::Bad(9, at);
     }
     match b3d_judge_node::judge_own(s, at, body, brushes, above, mode) {
-        Owned::Not(e, p) => Judged::Bad(e, p),
-        Owned::To(below, t, c) => match judge_nodes(s, at, c, levels - 1, brushes, below, mode) {
+        NodeSummary::Not(e, p) => Judged::Bad(e, p),
+        NodeSummary::To(below, t, c) => match judge_nodes(
+            s,
+            at,
+            c,
+            levels - 1,
+            brushes,
+            below,
+            mode,
+        ) {
             Judged::Bad(e, p) => Judged::Bad(e, p),
             Judged::Good(f) => Judged::Good(b3d_judge_tally::plus(t, f)),
         },

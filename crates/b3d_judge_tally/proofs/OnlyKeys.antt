@@ -9,7 +9,7 @@ use Rattle.wire.specs.Bytes.{AllBytes}
 use Rattle.b3d_spec.specs.declared.Mode.{Mode}
 use Rattle.b3d_spec.specs.Answers.{copy}
 use Rattle.b3d_spec.specs.Rules.{vertexWords}
-use Rattle.b3d_spec.specs.Scene.{TriangleSet, Kind, pivot, mesh, bone, Keys, Anim, still, anim, Forest, leaf, node, Scene}
+use Rattle.b3d_spec.specs.Scene.{TriangleSet, Kind, pivot, mesh, bone, Keys, Anim, noAnim, anim, Forest, noNodes, node, Scene}
 use Rattle.b3d_spec.proofs.Laws.{fine}
 use Rattle.b3d_spec.proofs.Modes.{mode-got}
 use Rattle.b3d_spec.proofs.Files.FileLaws.{parse-size}
@@ -60,7 +60,7 @@ eight-sets (x ∷ l) = eight-plus _ (setsTally l) (omega arith) (eight-sets l)
 
 eight-anim : (a : Anim) → Eight (animTally a)
 unfolding animTally noTally bytesTally
-eight-anim still = omega arith
+eight-anim noAnim = omega arith
 eight-anim (anim ws) = omega arith
 
 eight-kind : (k : Kind) → Eight (kindTally k)
@@ -75,7 +75,7 @@ eight-head = omega arith
 
 eight-forest : (f : Forest) → Eight (forestTally f)
 unfolding forestTally noTally dataTally
-eight-forest leaf = omega arith
+eight-forest noNodes = omega arith
 eight-forest (node d f g) =
     eight-plus _ (forestTally g)
     (eight-plus _ (forestTally f)

@@ -7,14 +7,14 @@ use mathlib.Core.List.{List, [], map, _∷_}
 use lib.ListN.{length, length-append, length-map}
 use Rattle.layout.specs.Rules.{NONE}
 use Rattle.wire.specs.Test.{if}
-use Rattle.b3d_spec.specs.Scene.{Texture, Brush, TriangleSet, Kind, pivot, mesh, bone, Keys, Anim, still, anim, Data, Forest, leaf, node, Scene}
+use Rattle.b3d_spec.specs.Scene.{Texture, Brush, TriangleSet, Kind, pivot, mesh, bone, Keys, Anim, noAnim, anim, Data, Forest, noNodes, node, Scene}
 use Rattle.b3d_spec.specs.Names.{renameTexture, renameBrush, renameForest, noName, rename, cleared}
 use Rattle.b3d_spec.specs.Sizes.{textureSize, texsSize, brushSize, brusSize, setsSize, kindSize, keysSize, animSize, nodesSize, sizeOf}
-use Rattle.b3d_spec.specs.Mask.{spread, keyMask}
+use Rattle.b3d_spec.specs.Mask.{padded, keyMask}
 use Rattle.b3d_spec.specs.Tables.{start, reached, meshesOf, weightsOf, textureRow, brushRow, triangleRows, keyRows, withMeshes, withNode, withForest, rows, nodeTables}
 use Rattle.b3d_spec.specs.declared.Counts.{Counts}
 use Rattle.b3d_spec.specs.Answers.{copy}
-use Rattle.b3d_spec.proofs.Fitting.{Fit}
+use Rattle.b3d_spec.proofs.Fitting.{WellFormed}
 use Rattle.b3d_spec.proofs.Files.NameLaws.{cleared-fits}
 use Rattle.b3d_spec.proofs.Files.SizeLaws.{encode-size}
 use Rattle.b3d_spec.proofs.Rows.CountLaws.{rises, same-counts}
@@ -57,8 +57,8 @@ unfolding listsTally noTally plus listTally keysTally keyRows
 lists-are [] = record { nodes = refl; meshes = refl; vertices = refl; sets = refl; triangles = refl; weights = refl; lists = refl; keys = refl }
 lists-are (k ∷ l) =
     let h = lists-are l in
-    let e = length-append (map (spread (keyMask (k .flags))) (k .items)) (keyRows l) in
-    let m = length-map (k .items) (spread (keyMask (k .flags))) in
+    let e = length-append (map (padded (keyMask (k .flags))) (k .items)) (keyRows l) in
+    let m = length-map (k .items) (padded (keyMask (k .flags))) in
     record { nodes = omega arith; meshes = omega arith; vertices = omega arith; sets = omega arith; triangles = omega arith; weights = omega arith; lists = omega arith; keys = omega arith }
 
 sets-are : (l : List TriangleSet) → Rows (setsTally l) 0 0 0 (length l) (length (triangleRows l)) 0 0 0
@@ -71,7 +71,7 @@ sets-are (x ∷ l) =
 
 anim-is : (a : Anim) → Rows (animTally a) 0 0 0 0 0 0 0 0
 unfolding animTally noTally bytesTally
-anim-is still = record { nodes = refl; meshes = refl; vertices = refl; sets = refl; triangles = refl; weights = refl; lists = refl; keys = refl }
+anim-is noAnim = record { nodes = refl; meshes = refl; vertices = refl; sets = refl; triangles = refl; weights = refl; lists = refl; keys = refl }
 anim-is (anim ws) = record { nodes = refl; meshes = refl; vertices = refl; sets = refl; triangles = refl; weights = refl; lists = refl; keys = refl }
 
 none-with : (n : Counts) → n ≡ with noTally n
@@ -90,7 +90,7 @@ node-adds d n = kind-adds d (d .kind) (d .keys) (d .anim) n
 
 pub forest-adds : (f : Forest) (n : Counts) → withForest f n ≡ with (forestTally f) n
 unfolding withForest forestTally
-forest-adds leaf n = none-with n
+forest-adds noNodes n = none-with n
 forest-adds (node d f g) n =
     ap (λ (x : Counts). withForest g (withForest f x)) (node-adds d n)
     ∙ ap (withForest g) (forest-adds f (with (dataTally d) n) ∙ with-plus (dataTally d) (forestTally f) n)
@@ -110,7 +110,7 @@ sets-copy (x ∷ l) = omega (arith, sets-copy l)
 
 anim-copy : (a : Anim) → (animTally a) .copy ≡ animSize a
 unfolding animTally noTally bytesTally
-anim-copy still = refl
+anim-copy noAnim = refl
 anim-copy (anim ws) = refl
 
 kind-copy : (k : Kind) → (kindTally k) .copy ≡ kindSize k
@@ -121,7 +121,7 @@ kind-copy (bone ws) = refl
 
 nodes-copy : (f : Forest) → (forestTally f) .copy ≡ nodesSize (renameForest noName f)
 unfolding forestTally noTally plus dataTally headTally
-nodes-copy leaf = refl
+nodes-copy noNodes = refl
 nodes-copy (node d f g) = omega (arith, kind-copy (d .kind), keys-copy (d .keys), anim-copy (d .anim), nodes-copy f, nodes-copy g)
 
 textures-copy : (l : List Texture) → textureSize (map (renameTexture noName) l) ≡ length l * 29
@@ -162,7 +162,7 @@ sets-headless (x ∷ l) = let h = sets-headless l in (omega arith, omega arith)
 
 anim-headless : (a : Anim) → Headless (animTally a)
 unfolding animTally noTally bytesTally
-anim-headless still = (refl, refl)
+anim-headless noAnim = (refl, refl)
 anim-headless (anim ws) = (refl, refl)
 
 kind-headless : (k : Kind) → Headless (kindTally k)
@@ -173,7 +173,7 @@ kind-headless (bone ws) = (refl, refl)
 
 forest-headless : (f : Forest) → Headless (forestTally f)
 unfolding forestTally noTally plus dataTally headTally
-forest-headless leaf = (refl, refl)
+forest-headless noNodes = (refl, refl)
 forest-headless (node d f g) =
     let a = kind-headless (d .kind) in
     let b = lists-headless (d .keys) in
@@ -234,11 +234,11 @@ scene-brushes t =
     let B = brus-are (t .slots) (length (t .brushes)) in
     omega (arith, T .2, B .2, forest-headless (t .nodes) .1, length-map (t .brushes) brushRow)
 
-copy-size : (t : Scene) → Fit t → length (copy t) ≡ sizeOf (cleared t)
+copy-size : (t : Scene) → WellFormed t → length (copy t) ≡ sizeOf (cleared t)
 unfolding copy
 copy-size t f = encode-size (cleared t) (cleared-fits t f)
 
-pub total : (t : Scene) → Fit t → sceneTally t ≡ tallyOf t
+pub total : (t : Scene) → WellFormed t → sceneTally t ≡ tallyOf t
 total t f =
     same-parts (sceneTally t) (tallyOf t) (sym (forest-rows t) ∙ sym (forest-adds (t .nodes) start) ∙ rows-are t) (scene-textures t) (scene-brushes t)
     (scene-copy t ∙ sym (copy-size t f))

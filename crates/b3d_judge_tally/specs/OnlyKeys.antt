@@ -4,7 +4,7 @@ use Prim.Native.Nat.{ℕ, _≤_}
 use mathlib.Core.List.{List, [], _∷_}
 use lib.ListN.{length}
 use Rattle.layout.specs.Lists.{All}
-use Rattle.layout.specs.Out.{got}
+use Rattle.layout.specs.Result.{accept}
 use Rattle.b3d_spec.specs.declared.Mode.{Mode}
 use Rattle.b3d_spec.specs.Parse.{parse}
 use Rattle.b3d_spec.specs.Rules.{rowLimit}
@@ -17,4 +17,4 @@ otherTables = 1 ∷ 2 ∷ 3 ∷ 4 ∷ 5 ∷ 6 ∷ 7 ∷ 8 ∷ 9 ∷ []
 
 -- E12: in no file s that keeps the layout rules does a table other than that of the keys have more rows than the limit
 abbrev pub OnlyKeys : Mode → List ℕ → Type 0
-OnlyKeys mode s = (t : Scene) → parse mode s ≡ got t → All (λ k. length (rows k t) ≤ rowLimit) otherTables
+OnlyKeys mode s = (t : Scene) → parse mode s ≡ accept t → All (λ k. length (rows k t) ≤ rowLimit) otherTables

@@ -2,9 +2,9 @@
 use Prim.Native.Nat.{ℕ, zero, suc, _≤_, _+_, _*_}
 use mathlib.Core.List.{List, [], _∷_}
 use lib.ListN.{length}
-use Rattle.b3d_spec.specs.Scene.{Texture, Brush, TriangleSet, Mesh, Kind, pivot, mesh, bone, Keys, Anim, still, anim, Data, Forest, leaf, node, Scene}
+use Rattle.b3d_spec.specs.Scene.{Texture, Brush, TriangleSet, Mesh, Kind, pivot, mesh, bone, Keys, Anim, noAnim, anim, Data, Forest, noNodes, node, Scene}
 use Rattle.b3d_spec.specs.Rules.{vertexWords, keyWords}
-use Rattle.b3d_spec.specs.Parse.{Moves, Inner}
+use Rattle.b3d_spec.specs.Parse.{Animation, Inner}
 use Rattle.b3d_spec.specs.Tables.{rows}
 use Rattle.b3d_spec.specs.Answers.{copy}
 use Rattle.b3d_judge_tally.specs.declared.Tally.{Tally}
@@ -66,12 +66,12 @@ listsTally (k ∷ l) = plus (listTally k) (listsTally l)
 
 -- what an ANIM adds: header and three words, no row; nothing where there is none
 unfoldable pub animTally : Anim → Tally
-animTally still = noTally
+animTally noAnim = noTally
 animTally (anim ws) = bytesTally 20
 
 -- what the KEYS and ANIM of a node add
-unfoldable pub movesTally : Moves → Tally
-movesTally m = plus (listsTally (m .keys)) (animTally (m .anim))
+unfoldable pub animationTally : Animation → Tally
+animationTally m = plus (listsTally (m .keys)) (animTally (m .anim))
 
 -- what a BONE with the weights ws adds
 unfoldable pub boneTally : List (List ℕ) → Tally
@@ -102,7 +102,7 @@ dataTally d = plus (plus headTally (kindTally (d .kind))) (plus (listsTally (d .
 
 -- what the nodes of a forest add, at all depths
 unfoldable pub forestTally : Forest → Tally
-forestTally leaf = noTally
+forestTally noNodes = noTally
 forestTally (node d f g) = plus (plus (dataTally d) (forestTally f)) (forestTally g)
 
 -- what a node with the nodes below it adds

@@ -17,7 +17,7 @@ use Rattle.wire.specs.declared.Header.{Header}
 use Rattle.wire.specs.declared.Header.the-variants as header
 use Rattle.wire.proofs.Found.{Framed, framed, header-end, header-cut}
 use Rattle.wire.proofs.Left.{span, left-take}
-use Rattle.layout.specs.Out.{check}
+use Rattle.layout.specs.Result.{check}
 use Rattle.layout.specs.Parts.{wordsOf}
 use Rattle.layout.proofs.Outs.{by-test}
 use Rattle.layout.proofs.StepLaws.{word-of, row-any, any-short}

@@ -7,7 +7,7 @@ use Rattle.wire.specs.Cursors.{Inside, left, numberAt}
 use Rattle.wire.specs.declared.Cursor.{Cursor}
 use Rattle.wire.specs.declared.Number.{Number}
 use Rattle.wire.specs.declared.Number.the-variants as number
-use Rattle.layout.specs.Out.{got, bad}
+use Rattle.layout.specs.Result.{accept, reject}
 use Rattle.layout.specs.Parts.{row}
 use Rattle.b3d_chunk_cursor_answers.specs.Answers.{numberSays}
 use Rattle.b3d_chunk_cursor_answers.proofs.Told.{answered}
@@ -17,8 +17,8 @@ module _ (s : List ℕ) (b : Cursor) (i : Inside b (length s)) (r : Number) (e :
   told : (n : Number) → r ≡ n → row oneNumber (b .at) (left b s) ≡ numberSays s b n
   told n w = answered s b i .number ∙ ap (numberSays s b) (sym e ∙ w)
 
-  pub one-cut : r ≡ number.Cut → row oneNumber (b .at) (left b s) ≡ bad 5 (b .at)
+  pub one-cut : r ≡ number.Cut → row oneNumber (b .at) (left b s) ≡ reject 5 (b .at)
   one-cut = told number.Cut
 
-  pub one-got : (k : ℕ) (c : Cursor) → r ≡ number.Is k c → row oneNumber (b .at) (left b s) ≡ got (record { value = k ∷ []; place = c .at; left = left c s })
+  pub one-got : (k : ℕ) (c : Cursor) → r ≡ number.Is k c → row oneNumber (b .at) (left b s) ≡ accept (record { value = k ∷ []; place = c .at; left = left c s })
   one-got k c = told (number.Is k c)

@@ -11,7 +11,7 @@ use Rattle.wire.specs.declared.Number.{Number}
 use Rattle.wire.specs.declared.Number.the-variants as number
 use Rattle.wire.proofs.Found.{number-inside}
 use Rattle.wire.proofs.Left.{left-length}
-use Rattle.layout.specs.Out.{Out, got, bad, _>>=_}
+use Rattle.layout.specs.Result.{Result, accept, reject, _>>=_}
 use Rattle.b3d_spec.specs.declared.Tag.the-variants.{NODE}
 use Rattle.b3d_spec.specs.Tags.{split}
 use Rattle.b3d_spec.specs.Rules.{nodeRow}
@@ -32,22 +32,22 @@ use Rattle.b3d_label.proofs.Heads.{one-cut, one-got}
 use Rattle.b3d_label.proofs.Seeking.{first-not, first-found}
 
 -- a refusal has no label
-pub label-none : (o : Out Printed) (n : ℕ) → Refused o → (l : TrayLabel) → l ≡ noLabel → Labels o n l
+pub label-none : (o : Result Printed) (n : ℕ) → Refused o → (l : TrayLabel) → l ≡ noLabel → Labels o n l
 unfolding labelled
 label-none o n h l e = record { is = e ∙ rw (h .2); within = rw e (omega arith) }
 
-refused-then : {A B : Type 0} (o : Out A) (f : A → Out B) → Refused o → Refused (o >>= f)
+refused-then : {A B : Type 0} (o : Result A) (f : A → Result B) → Refused o → Refused (o >>= f)
 refused-then o f h = (h .0, h .1, rw (h .2))
 
 -- ---- what vertices say
 
-many-not : (o : Out ℕ) → onLabel o ≡ bad 14 0 → Refused o
-many-not (got k) e = let z : _≡_ {A = ℕ} 0 1 = cc in absurd (omega arith)
-many-not (bad n p) e = (n, p, refl)
+many-not : (o : Result ℕ) → onLabel o ≡ reject 14 0 → Refused o
+many-not (accept k) e = let z : _≡_ {A = ℕ} 0 1 = cc in absurd (omega arith)
+many-not (reject n p) e = (n, p, refl)
 
-many-are : (o : Out ℕ) (k : ℕ) → onLabel o ≡ got k → o ≡ got k
-many-are (got j) k e = cc
-many-are (bad n p) k e = let z : _≡_ {A = ℕ} 0 1 = cc in absurd (omega arith)
+many-are : (o : Result ℕ) (k : ℕ) → onLabel o ≡ accept k → o ≡ accept k
+many-are (accept j) k e = cc
+many-are (reject n p) k e = let z : _≡_ {A = ℕ} 0 1 = cc in absurd (omega arith)
 
 -- ---- a root
 
@@ -63,12 +63,12 @@ module _ (s : List ℕ) (b : Cursor) (i : Inside b (length s)) (r : Named) (e : 
     pub root-after : Inside n (length s)
     root-after = after-inside b 10 r f len row n w (length s) i
 
-    abbrev Inside-root : Out ℕ
+    abbrev Inside-root : Result ℕ
     Inside-root = rootVertices (split (n .at) (left n s))
 
     -- the name, with so many vertices
-    abbrev named-with : ℕ → Out Printed
-    named-with k = got (record { name = record { place = b .at; bytes = take len (left b s) }; vertices = k })
+    abbrev named-with : ℕ → Result Printed
+    named-with k = accept (record { name = record { place = b .at; bytes = take len (left b s) }; vertices = k })
 
     opened : rootIn (b .at) (left b s) ≡ (Inside-root >>= named-with)
     unfolding rootIn

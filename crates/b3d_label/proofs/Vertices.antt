@@ -14,7 +14,7 @@ use Rattle.wire.specs.declared.Number.{Number}
 use Rattle.wire.specs.declared.Number.the-variants as number
 use Rattle.wire.proofs.Found.{number-inside}
 use Rattle.wire.proofs.Left.{span, left-length, left-drop}
-use Rattle.layout.specs.Out.{Out, got, bad, check, _>>=_}
+use Rattle.layout.specs.Result.{Result, accept, reject, check, _>>=_}
 use Rattle.layout.specs.Parts.{wordsOf, judged, row}
 use Rattle.layout.proofs.StepLaws.{row-enough, row-short, three-left}
 use Rattle.b3d_spec.specs.declared.Tag.{Tag}
@@ -46,11 +46,11 @@ abbrev after : Cursor → Cursor
 after b = span (b .at + 12) (b .end)
 
 -- how many items, if they were counted
-abbrev saysCounted : Counted → Out ℕ
-saysCounted (counts.Is k) = got k
-saysCounted (counts.Not n p) = bad 14 0
+abbrev saysCounted : Counted → Result ℕ
+saysCounted (counts.Is k) = accept k
+saysCounted (counts.Not n p) = reject 14 0
 
-many-counted : (t : Bool) (k n p : ℕ) → onLabel (check t 14 0 >>= λ _. got k) ≡ saysCounted (if t (counts.Is k) (counts.Not n p))
+many-counted : (t : Bool) (k n p : ℕ) → onLabel (check t 14 0 >>= λ _. accept k) ≡ saysCounted (if t (counts.Is k) (counts.Not n p))
 unfolding check if
 many-counted true k n p = refl
 many-counted false k n p = refl
@@ -88,7 +88,7 @@ module _ (s : List ℕ) (b : Cursor) (i : Inside b (length s)) where
         vrts-size o = rw (head, le-leb _ _ f3, le-leb _ _ s8, lt-leb _ _ o)
 
         module _ (s4 : size ≤ 4) (words : ℕ) (v : words ≡ vertexWords flags sets size) (x : Counted) (y : x ≡ dividedAt (after b) words) where
-          whole : row verticesHead (b .at) (left b s) ≡ got (record { value = flags ∷ sets ∷ size ∷ []; place = b .at + 12; left = left (after b) s })
+          whole : row verticesHead (b .at) (left b s) ≡ accept (record { value = flags ∷ sets ∷ size ∷ []; place = b .at + 12; left = left (after b) s })
           unfolding judged check
           whole = rw (head, le-leb _ _ f3, le-leb _ _ s8, le-leb _ _ s4)
 

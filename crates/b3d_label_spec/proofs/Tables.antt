@@ -7,12 +7,12 @@ use mathlib.Core.List.{List, [], _∷_, _++_}
 use lib.ListN.{length, getD}
 use lib.Dec.{eqb}
 use Rattle.wire.specs.Test.{if}
-use Rattle.layout.specs.Out.{Out, got}
+use Rattle.layout.specs.Result.{Result, accept}
 use Rattle.layout.specs.Rules.{NONE}
 use Rattle.layout.specs.Rows.{nameCells}
 use Rattle.b3d_spec.specs.declared.Mode.the-variants.{Lenient}
 use Rattle.b3d_spec.specs.Rules.{ownVertices}
-use Rattle.b3d_spec.specs.Scene.{Kind, pivot, mesh, bone, Data, Forest, leaf, node, Scene}
+use Rattle.b3d_spec.specs.Scene.{Kind, pivot, mesh, bone, Data, Forest, noNodes, node, Scene}
 use Rattle.b3d_spec.specs.Tables.{start, meshesOf, kindCells, animCells, nodeRow, meshRow, meshRows, ownRows, withNode, withForest, forestRows, rows, nodesIn}
 use Rattle.b3d_spec.specs.Answers.{judge}
 use Rattle.b3d_spec.proofs.AnswerLaws.{judge-got}
@@ -42,7 +42,7 @@ module _ (ws : List ℕ) (w : length ws ≡ 10) (a : List ℕ) (p l : ℕ) (othe
   vertices-cell (bone b) = rw (cell (bone b) 0)
 
 -- the tables of a scene with a node tell what the label has of it
-tables-tell : (d : Data) (f g : Forest) → length (d .words) ≡ 10 → labelled (got (printedOf d)) ≡ labelIn (nodeRow d NONE (nodesIn f) start) (forestRows 4 (node d f g) NONE start)
+tables-tell : (d : Data) (f g : Forest) → length (d .words) ≡ 10 → labelled (accept (printedOf d)) ≡ labelIn (nodeRow d NONE (nodesIn f) start) (forestRows 4 (node d f g) NONE start)
 unfolding labelled labelIn nodeRow nameCells forestRows ownRows if
 tables-tell d f g w =
     let others = forestRows 4 f (start .nodes) (withNode d start) ++ forestRows 4 g NONE (withForest f (withNode d start)) in
@@ -50,18 +50,18 @@ tables-tell d f g w =
     (vertices-cell (d .words) w (animCells (d .anim) ++ (nodesIn f ∷ [])) (d .name .place) (length (d .name .bytes)) others (d .kind))
 
 -- by the nodes of an accepted file
-of-nodes : (o : Out Printed) (n : Forest) → Tells o n → (root : List ℕ) (others : List (List ℕ)) → forestRows 3 n NONE start ≡ root ∷ others
+of-nodes : (o : Result Printed) (n : Forest) → Tells o n → (root : List ℕ) (others : List (List ℕ)) → forestRows 3 n NONE start ≡ root ∷ others
     → labelled o ≡ labelIn root (forestRows 4 n NONE start)
 unfolding forestRows ownRows if
-of-nodes o leaf h root others q = let z : _≡_ {A = ℕ} 0 1 = cc in absurd (omega arith)
+of-nodes o noNodes h root others q = let z : _≡_ {A = ℕ} 0 1 = cc in absurd (omega arith)
 of-nodes o (node d f g) h root others q = let z : nodeRow d NONE (nodesIn f) start ≡ root = cc in rw (h .is, ← z) (tables-tell d f g (h .ten))
 
-of-none : (o : Out Printed) (n : Forest) → Tells o n → forestRows 3 n NONE start ≡ [] → labelled o ≡ noLabel
+of-none : (o : Result Printed) (n : Forest) → Tells o n → forestRows 3 n NONE start ≡ [] → labelled o ≡ noLabel
 unfolding forestRows ownRows if labelled
-of-none o leaf h q = rw (h .2)
+of-none o noNodes h q = rw (h .2)
 of-none o (node d f g) h q = let z : _≡_ {A = ℕ} 0 1 = cc in absurd (omega arith)
 
-module _ (s : List ℕ) (t : Scene) (e : judge Lenient s ≡ got t) where
+module _ (s : List ℕ) (t : Scene) (e : judge Lenient s ≡ accept t) where
   tells : Tells (labelWalk s) (t .nodes)
   tells = walk-same s t (judge-got Lenient s t e .0)
 

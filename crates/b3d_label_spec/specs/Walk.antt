@@ -7,7 +7,7 @@ use lib.ListN.{length, take, drop, getD}
 use lib.Dec.{eqb, leb}
 use Rattle.wire.specs.Test.{if}
 use Rattle.layout.specs.Chunks.{done, stop, chunk}
-use Rattle.layout.specs.Out.{Out, got, bad, check, _>>=_}
+use Rattle.layout.specs.Result.{Result, accept, reject, check, _>>=_}
 use Rattle.layout.specs.Parts.{Name, row, number, named}
 use Rattle.layout.specs.Rules.{Rule, any}
 use Rattle.b3d_spec.specs.declared.Tag.the-variants.{BB3D, NODE, MESH, VRTS}
@@ -16,8 +16,8 @@ use Rattle.b3d_spec.specs.Rules.{header, nodeRow, verticesHead, vertexWords}
 use Rattle.b3d_label_spec.specs.declared.TrayLabel.{TrayLabel}
 
 -- o is a refusal, whichever it is
-abbrev pub Refused : {A : Type 0} → Out A → Type 0
-Refused {A} o = (n : ℕ) × (p : ℕ) × (o ≡ bad n p)
+abbrev pub Refused : {A : Type 0} → Result A → Type 0
+Refused {A} o = (n : ℕ) × (p : ℕ) × (o ≡ reject n p)
 
 -- fixed data of one number that is not looked at: BB3D's version, a MESH's brush
 abbrev pub oneNumber : List Rule
@@ -25,31 +25,31 @@ oneNumber = any ∷ []
 
 -- the place of the body and the body of the first chunk with these letters, others stepped over; a cut header or a length past the end before it is 3, and
 -- there being none is 14
-unfoldable pub firstWith : ℕ → Chunks → Out (ℕ × List ℕ)
-firstWith letters done = bad 14 0
-firstWith letters (stop n p) = bad n p
-firstWith letters (chunk t p b r) = if (eqb (code t) letters) (got (p + 8, b)) (firstWith letters r)
+unfoldable pub firstWith : ℕ → Chunks → Result (ℕ × List ℕ)
+firstWith letters done = reject 14 0
+firstWith letters (stop n p) = reject n p
+firstWith letters (chunk t p b r) = if (eqb (code t) letters) (accept (p + 8, b)) (firstWith letters r)
 
 -- how many vertices the VRTS with the body b at p has: flags, sets and set size in their ranges, then items that fill it
-unfoldable pub vrtsVertices : ℕ → List ℕ → Out ℕ
+unfoldable pub vrtsVertices : ℕ → List ℕ → Result ℕ
 vrtsVertices p b = do
   h ← row verticesHead p b
   let size = 4 * vertexWords (number h 0) (number h 1) (number h 2)
   _ ← check (eqb (length (h .left) % size) 0) 14 0
-  got (length (h .left) / size)
+  accept (length (h .left) / size)
 
 -- how many vertices the MESH with the body b at p has: its brush, then its first VRTS
-unfoldable pub meshVertices : ℕ → List ℕ → Out ℕ
+unfoldable pub meshVertices : ℕ → List ℕ → Result ℕ
 meshVertices p b = do
   h ← row oneNumber p b
   v ← firstWith (code VRTS) (split (h .place) (h .left))
   vrtsVertices (v .0) (v .1)
 
 -- how many vertices a root with these chunks has: those of its first known chunk if that is a MESH, else 0
-unfoldable pub rootVertices : Chunks → Out ℕ
-rootVertices done = got 0
-rootVertices (stop n p) = bad n p
-rootVertices (chunk t p b r) = if (is t MESH) (meshVertices (p + 8) b) (got 0)
+unfoldable pub rootVertices : Chunks → Result ℕ
+rootVertices done = accept 0
+rootVertices (stop n p) = reject n p
+rootVertices (chunk t p b r) = if (is t MESH) (meshVertices (p + 8) b) (accept 0)
 
 -- what a label is printed from: the root's name, and the vertices of its mesh
 pub record Printed : Type 0 where
@@ -57,21 +57,21 @@ pub record Printed : Type 0 where
   pub vertices : ℕ
 
 -- the label of the NODE with the body b at p: its name and ten numbers, then its first known chunk
-unfoldable pub rootIn : ℕ → List ℕ → Out Printed
+unfoldable pub rootIn : ℕ → List ℕ → Result Printed
 rootIn p b = do
   h ← named nodeRow p b
   n ← rootVertices (split (h .place) (h .left))
-  got (record { name = h .value .0; vertices = n })
+  accept (record { name = h .value .0; vertices = n })
 
 -- the label of the BB3D with the body b at p: its version, then its first NODE
-unfoldable pub fileIn : ℕ → List ℕ → Out Printed
+unfoldable pub fileIn : ℕ → List ℕ → Result Printed
 fileIn p b = do
   h ← row oneNumber p b
   n ← firstWith (code NODE) (split (h .place) (h .left))
   rootIn (n .0) (n .1)
 
 -- the label of the file s: its first tag BB3D, with a length that is not past the file; what stands after that chunk is not looked at
-unfoldable pub labelWalk : List ℕ → Out Printed
+unfoldable pub labelWalk : List ℕ → Result Printed
 labelWalk s = do
   h ← row header 0 s
   _ ← check (eqb (number h 0) (code BB3D)) 2 0
@@ -85,9 +85,9 @@ abbrev pub noLabel : TrayLabel
 noLabel = record { number = 14; place = 0; «name_place» = 0; «name_length» = 0; vertices = 0 }
 
 -- the label by what the walk found; every refusal is 14
-unfoldable pub labelled : Out Printed → TrayLabel
-labelled (got x) = record { number = 0; place = 0; «name_place» = x .name .place; «name_length» = length (x .name .bytes); vertices = x .vertices }
-labelled (bad n p) = noLabel
+unfoldable pub labelled : Result Printed → TrayLabel
+labelled (accept x) = record { number = 0; place = 0; «name_place» = x .name .place; «name_length» = length (x .name .bytes); vertices = x .vertices }
+labelled (reject n p) = noLabel
 
 -- the label of the file s
 unfoldable pub labelOf : List ℕ → TrayLabel

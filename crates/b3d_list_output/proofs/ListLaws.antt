@@ -3,7 +3,7 @@ use mathlib.Core.Path.{_≡_, ap, ap₂, sym, _∙_}
 use Prim.Native.Nat.{ℕ, _<_, _≤_}
 use mathlib.Core.List.{List, [], _∷_, _++_, append-assoc}
 use lib.ListN.{length}
-use Rattle.layout.specs.Out.{Out, got}
+use Rattle.layout.specs.Result.{Result, accept}
 use Rattle.b3d_spec.specs.declared.Mode.the-variants.{Strict}
 use Rattle.b3d_spec.specs.Answers.{judge}
 use Rattle.b3d_spec.specs.Scene.{Scene}
@@ -22,7 +22,7 @@ use Rattle.b3d_list_output_parts.specs.Parts.{headLines, nodeLinesOf, Listable}
 use Rattle.b3d_list_spec.proofs.Lengths.{listing-over, listing-short}
 
 -- the text of what the judge has accepted
-accepted-lines : (t : Scene) → headLines (summaryOf t) ++ nodeLines (t .nodes) ≡ listed (got t)
+accepted-lines : (t : Scene) → headLines (summaryOf t) ++ nodeLines (t .nodes) ≡ listed (accept t)
 unfolding headLines listed countsIn counts tables nodeTables
 accepted-lines t = simp append-assoc
 
@@ -42,7 +42,7 @@ module _ (s xs ys : List ℕ) (p : ℕ) where
       listing-lines : headLines x ++ nodeLinesOf (judge Strict s) ≡ listing s
       unfolding nodeLinesOf
       listing-lines =
-          ap₂ (λ (y : Summary) (o : Out Scene). headLines y ++ nodeLinesOf o) (good .same) (good .is)
+          ap₂ (λ (y : Summary) (o : Result Scene). headLines y ++ nodeLinesOf o) (good .same) (good .is)
           ∙ accepted-lines (good .scene) ∙ sym (listing-short s h ∙ ap listed (good .is))
 
       pub listing-good : Puts (headLines x) xs 0 ys p → (zs : List ℕ) (q : ℕ) → Puts (nodeLinesOf (judge Strict s)) ys p zs q → Puts (listing s) xs 0 zs q

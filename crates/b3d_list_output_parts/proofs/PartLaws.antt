@@ -6,7 +6,7 @@ use mathlib.Core.List.{List, [], _∷_}
 use lib.ListN.{length}
 use lib.Seq.{sets, length-sets}
 use Rattle.wire.specs.Bytes.{AllBytes}
-use Rattle.layout.specs.Out.{Out, got}
+use Rattle.layout.specs.Result.{Result, accept}
 use Rattle.b3d_spec.specs.declared.Mode.the-variants.{Strict}
 use Rattle.b3d_spec.specs.Answers.{judge, tableAfter}
 use Rattle.b3d_spec.specs.Parse.{parse}
@@ -40,7 +40,7 @@ pub ruleset heads-laws = (heads-done, put-inside)
 -- ---- `put_nodes`
 
 module _ (s : List ℕ) (n : ℕ) (l : Listable s n) (b : AllBytes s) where
-  parsed : parse Strict s ≡ got (l .scene)
+  parsed : parse Strict s ≡ accept (l .scene)
   parsed = judge-got Strict s (l .scene) (l .accepted) .0
 
   pub nodes-small : length s < 0x100000000
@@ -63,7 +63,7 @@ module _ (s : List ℕ) (n : ℕ) (l : Listable s n) (b : AllBytes s) where
   lines-are : (xs ws : List ℕ) → ws ≡ tableAfter 3 (judge Strict s) xs → rowLines s ws n ≡ nodeLinesOf (judge Strict s)
   unfolding tableAfter nodeLinesOf
   lines-are xs ws e =
-      ap₂ (rowLines s) (e ∙ ap (λ (o : Out Scene). tableAfter 3 o xs) (l .accepted)) (l .count)
+      ap₂ (rowLines s) (e ∙ ap (λ (o : Result Scene). tableAfter 3 o xs) (l .accepted)) (l .count)
       ∙ table-lines s (l .scene) b parsed xs ∙ sym (ap nodeLinesOf (l .accepted))
 
   pub nodes-done : (xs ws : List ℕ) → 28077 ≡ length xs → ws ≡ sets xs 0 (joined (fileRows 3 s)) → (out : List ℕ) (at : ℕ) (ys : List ℕ) (p : ℕ) → Puts (rowLines s ws n) out at ys p
@@ -72,7 +72,7 @@ module _ (s : List ℕ) (n : ℕ) (l : Listable s n) (b : AllBytes s) where
   nodes-done xs ws e f out at ys p h =
       let r = table-room s (l .scene) b parsed (l .short) in
       let g : ws ≡ tableAfter 3 (judge Strict s) xs =
-      f ∙ ap (sets xs 0) rows-are ∙ stored-over (table 3 (l .scene)) xs (omega arith) ∙ sym (ap (λ (o : Out Scene). tableAfter 3 o xs) (l .accepted)) in
+      f ∙ ap (sets xs 0) rows-are ∙ stored-over (table 3 (l .scene)) xs (omega arith) ∙ sym (ap (λ (o : Result Scene). tableAfter 3 o xs) (l .accepted)) in
       rw (← lines-are xs ws g) h
 
 pub ruleset nodes-laws = (nodes-small, table-ready, table-rows, nodes-done)

@@ -3,7 +3,7 @@ use mathlib.Core.Path.{_≡_}
 use Prim.Native.Nat.{ℕ, _≤_}
 use mathlib.Core.List.{List, [], _∷_, _++_}
 use lib.ListN.{length}
-use Rattle.layout.specs.Out.{Out, got, bad}
+use Rattle.layout.specs.Result.{Result, accept, reject}
 use Rattle.b3d_spec.specs.Answers.{judge}
 use Rattle.b3d_spec.specs.declared.Mode.the-variants.{Strict}
 use Rattle.b3d_spec.specs.Scene.{Scene}
@@ -18,16 +18,16 @@ unfoldable pub headLines : Summary → List ℕ
 headLines x = numberLine (0 ∷ 0 ∷ []) ++ (numberLine (x .version ∷ x .«n_texs» ∷ []) ++ numberLine (countsIn (x .tally)))
 
 -- the lines of the nodes of what was judged; nothing where refused
-unfoldable pub nodeLinesOf : Out Scene → List ℕ
-nodeLinesOf (got t) = nodeLines (t .nodes)
-nodeLinesOf (bad n p) = []
+unfoldable pub nodeLinesOf : Result Scene → List ℕ
+nodeLinesOf (accept t) = nodeLines (t .nodes)
+nodeLinesOf (reject n p) = []
 
 -- what `put_nodes` asks of the file s
 pub record Listable (s : List ℕ) (nodes : ℕ) : Type 0 where
   -- what the file holds
   pub scene : Scene
   -- the file is accepted under the strict mode
-  pub accepted : judge Strict s ≡ got scene
+  pub accepted : judge Strict s ≡ accept scene
   -- it has `nodes` nodes
   pub count : nodes ≡ length (rows 3 scene)
   -- it is no longer than the lister reads

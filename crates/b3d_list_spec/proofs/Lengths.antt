@@ -10,7 +10,7 @@ use lib.Dec.{leb, ltb, ltb→lt, nltb→le}
 use borrow.Author.Tests.{lt-ltb, le-ltb}
 use Rattle.wire.specs.Test.{if}
 use Rattle.wire.specs.Bytes.{AllBytes, IsWord, over}
-use Rattle.layout.specs.Out.{Out, got, bad, check, _>>=_}
+use Rattle.layout.specs.Result.{Result, accept, reject, check, _>>=_}
 use Rattle.layout.proofs.Lists.{All, all-map}
 use Rattle.layout.proofs.RefusalLaws.{OneToNine}
 use Rattle.layout.proofs.Outs.{by-test, bad-got}
@@ -19,7 +19,7 @@ use Rattle.b3d_spec.specs.Answers.{judge}
 use Rattle.b3d_spec.specs.declared.Mode.the-variants.{Strict}
 use Rattle.b3d_spec.specs.Parse.{parse}
 use Rattle.b3d_spec.specs.Rules.{rowLimit}
-use Rattle.b3d_spec.specs.Scene.{Brush, Forest, leaf, node, Scene}
+use Rattle.b3d_spec.specs.Scene.{Brush, Forest, noNodes, node, Scene}
 use Rattle.b3d_spec.specs.Sizes.{nodesSize}
 use Rattle.b3d_spec.specs.Tables.{counts, tables, nodeTables, rows}
 use Rattle.b3d_spec.proofs.AnswerLaws.{judge-got}
@@ -47,7 +47,7 @@ line-length w = omega (arith, length-append (map shown w) (10 ∷ []), length-ma
 -- a node's line is no longer than the node in the file
 nodes-length : (f : Forest) → length (nodeLines f) ≤ nodesSize f
 unfolding nodeLines
-nodes-length leaf = omega arith
+nodes-length noNodes = omega arith
 nodes-length (node d f g) =
     let w = nameOrWord (d .name .bytes) in
     omega (
@@ -71,27 +71,27 @@ unfolding counts tables nodeTables
 counts-words t h = all-map (λ k. length (rows k t) ≤ rowLimit) (λ k. IsWord (length (rows k t))) (λ k l. omega arith) tables h
 
 -- a refusal has a number from 1 to 10
-each-step : (b : Bool) (o : Out (Unit {0})) (t : Scene) (n k m p : ℕ) → ((o >>= λ _. got t) ≡ bad m p → m ≡ n) → ((check b n k >>= λ _. o) >>= λ _. got t) ≡ bad m p → m ≡ n
+each-step : (b : Bool) (o : Result (Unit {0})) (t : Scene) (n k m p : ℕ) → ((o >>= λ _. accept t) ≡ reject m p → m ≡ n) → ((check b n k >>= λ _. o) >>= λ _. accept t) ≡ reject m p → m ≡ n
 unfolding check
 each-step true o t n k m p f e = f e
 each-step false o t n k m p f e = cc
 
-each-number : (n : ℕ) (ok : ℕ → Bool) (t : Scene) (ks : List ℕ) (m p : ℕ) → (eachOf n ok ks >>= λ _. got t) ≡ bad m p → m ≡ n
+each-number : (n : ℕ) (ok : ℕ → Bool) (t : Scene) (ks : List ℕ) (m p : ℕ) → (eachOf n ok ks >>= λ _. accept t) ≡ reject m p → m ≡ n
 unfolding eachOf
 each-number n ok t [] m p e = bad-got (sym e)
 each-number n ok t (k ∷ ks) m p e = each-step (ok k) (eachOf n ok ks) t n k m p (each-number n ok t ks m p) e
 
-judge-number : (s : List ℕ) (n p : ℕ) → judge Strict s ≡ bad n p → n ≤ 10
+judge-number : (s : List ℕ) (n p : ℕ) → judge Strict s ≡ reject n p → n ≤ 10
 unfolding judge
 judge-number s n p e = go (parse Strict s) (refused Strict s) e
   where
-    go : (o : Out Scene) → ((m q : ℕ) → o ≡ bad m q → OneToNine m) → (o >>= λ t. eachOf 10 (λ k. leb (length (rows k t)) rowLimit) tables >>= λ _. got t) ≡ bad n p → n ≤ 10
-    go (got t) h e = omega (arith, each-number 10 (λ k. leb (length (rows k t)) rowLimit) t tables n p e)
-    go (bad m q) h e = let z : n ≡ m = cc in omega (arith, h m q refl .1)
+    go : (o : Result Scene) → ((m q : ℕ) → o ≡ reject m q → OneToNine m) → (o >>= λ t. eachOf 10 (λ k. leb (length (rows k t)) rowLimit) tables >>= λ _. accept t) ≡ reject n p → n ≤ 10
+    go (accept t) h e = omega (arith, each-number 10 (λ k. leb (length (rows k t)) rowLimit) t tables n p e)
+    go (reject m q) h e = let z : n ≡ m = cc in omega (arith, h m q refl .1)
 
 -- ---- the whole text
 
-accepted-length : (s : List ℕ) (t : Scene) → AllBytes s → judge Strict s ≡ got t → length (listed (got t)) ≤ length s + 142
+accepted-length : (s : List ℕ) (t : Scene) → AllBytes s → judge Strict s ≡ accept t → length (listed (accept t)) ≤ length s + 142
 unfolding listed counts tables nodeTables
 accepted-length s t b e =
     let j = judge-got Strict s t e in
@@ -111,13 +111,13 @@ accepted-length s t b e =
       length-append third (nodeLines (t .nodes)),
     )
 
-refused-length : (n p : ℕ) → n ≤ 10 → p ≤ mostBytes → length (listed (bad n p)) ≤ 22
+refused-length : (n p : ℕ) → n ≤ 10 → p ≤ mostBytes → length (listed (reject n p)) ≤ 22
 unfolding listed
 refused-length n p h k = numbers-length (n ∷ p ∷ []) (omega arith, (omega arith, tt))
 
-listed-length : (s : List ℕ) (o : Out Scene) → AllBytes s → judge Strict s ≡ o → length (listed o) ≤ length s + 142
-listed-length s (got t) b e = accepted-length s t b e
-listed-length s (bad n p) b e = omega (arith, refused-length n p (judge-number s n p e) (judge-place Strict s n p e))
+listed-length : (s : List ℕ) (o : Result Scene) → AllBytes s → judge Strict s ≡ o → length (listed o) ≤ length s + 142
+listed-length s (accept t) b e = accepted-length s t b e
+listed-length s (reject n p) b e = omega (arith, refused-length n p (judge-number s n p e) (judge-place Strict s n p e))
 
 -- of a file that is too long, and of any other
 pub listing-over : (s : List ℕ) → mostListed < length s → listing s ≡ numberLine (1 ∷ 0 ∷ [])

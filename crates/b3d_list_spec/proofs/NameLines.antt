@@ -9,19 +9,19 @@ use lib.Seq.{take-append-seam, drop-at}
 use borrow.Author.Tests.{le-leb, lt-ltb}
 use Rattle.wire.specs.Test.{if}
 use Rattle.wire.specs.Bytes.{AllBytes, over}
-use Rattle.layout.specs.Out.{got}
+use Rattle.layout.specs.Result.{accept}
 use Rattle.layout.specs.Rules.{NONE}
 use Rattle.layout.proofs.PlaceLaws.{At, NameIn}
 use Rattle.layout.proofs.ListLaws.{joined-append}
 use Rattle.layout.specs.Rows.{nameCells, joined}
 use Rattle.b3d_spec.specs.Parse.{parse}
 use Rattle.b3d_spec.specs.declared.Mode.the-variants.{Strict}
-use Rattle.b3d_spec.specs.Rules.{boneVertices, bonesBelow, levels}
-use Rattle.b3d_spec.specs.Scene.{Data, Forest, leaf, node, Scene}
+use Rattle.b3d_spec.specs.Rules.{boneLimit, boneLimitBelow, levels}
+use Rattle.b3d_spec.specs.Scene.{Data, Forest, noNodes, node, Scene}
 use Rattle.b3d_spec.specs.Sizes.{nodesSize, sizeOf}
 use Rattle.b3d_spec.specs.Tables.{width, tables, nodeTables, nodeRow, start, ownRows, withNode, withForest, forestRows, rows, table, nodeWidth, nodesIn}
 use Rattle.b3d_spec.specs.declared.Counts.{Counts}
-use Rattle.b3d_spec.proofs.Fitting.{Fit, FitNodes}
+use Rattle.b3d_spec.proofs.Fitting.{WellFormed, FitNodes}
 use Rattle.b3d_spec.proofs.Laws.{fine, file-length, names-stand}
 use Rattle.b3d_spec.proofs.Files.PlaceLaws.{NodeNames}
 use Rattle.b3d_spec.proofs.Rows.CountLaws.{table-length}
@@ -53,9 +53,9 @@ lines-next s r more k e = rw (drop-at r more nodeWidth e)
 forest-lines : (s : List ℕ) (l brushes : ℕ) (above : Option ℕ) (f : Forest) (p : ℕ) (n : Counts) (rest : List ℕ) (m : ℕ) → NodeNames s f → FitNodes l brushes above f
     → rowLines s (joined (forestRows 3 f p n) ++ rest) (length (forestRows 3 f p n) + m) ≡ nodeLines f ++ rowLines s rest m
 unfolding forestRows ownRows if joined nodeLines
-forest-lines s zero brushes above leaf p n rest m h k = let z : 0 + m ≡ m = omega arith in rw z
+forest-lines s zero brushes above noNodes p n rest m h k = let z : 0 + m ≡ m = omega arith in rw z
 forest-lines s zero brushes above (node d f g) p n rest m h k = absurd k
-forest-lines s (suc l) brushes above leaf p n rest m h k = let z : 0 + m ≡ m = omega arith in rw z
+forest-lines s (suc l) brushes above noNodes p n rest m h k = let z : 0 + m ≡ m = omega arith in rw z
 forest-lines s (suc l) brushes above (node d f g) p n rest m h k =
     let r = nodeRow d p (nodesIn f) n in
     let a = forestRows 3 f (n .nodes) (withNode d n) in
@@ -64,23 +64,23 @@ forest-lines s (suc l) brushes above (node d f g) p n rest m h k =
     let e : (r ++ joined (a ++ b)) ++ rest ≡ r ++ more = rw joined-append (simp append-assoc) in
     let c : suc (length (a ++ b)) + m ≡ suc (length a + (length b + m)) = omega (arith, length-append a b) in
     ap₂ (rowLines s) e c
-    ∙ lines-next s r more (length a + (length b + m)) (node-wide brushes (boneVertices above) d p (nodesIn f) n (k .0))
+    ∙ lines-next s r more (length a + (length b + m)) (node-wide brushes (boneLimit above) d p (nodesIn f) n (k .0))
     ∙ ap₂ _++_ (row-first s d p (nodesIn f) n more (h .0))
-    (forest-lines s l brushes (bonesBelow above d) f (n .nodes) (withNode d n) (joined b ++ rest) (length b + m) (h .1) (k .1)
+    (forest-lines s l brushes (boneLimitBelow above d) f (n .nodes) (withNode d n) (joined b ++ rest) (length b + m) (h .1) (k .1)
     ∙ ap (λ (w : List ℕ). nodeLines f ++ w) (forest-lines s (suc l) brushes above g p (withForest f (withNode d n)) rest m (h .2) (k .2)))
     ∙ simp append-assoc
 
 -- a node takes 49 bytes of the file or more, and those of its name
 forest-count : (f : Forest) (p : ℕ) (n : Counts) → 49 * length (forestRows 3 f p n) ≤ nodesSize f
 unfolding forestRows ownRows if
-forest-count leaf p n = omega arith
+forest-count noNodes p n = omega arith
 forest-count (node d f g) p n =
     let a = forestRows 3 f (n .nodes) (withNode d n) in
     let b = forestRows 3 g p (withForest f (withNode d n)) in
     omega (arith, length-append a b, forest-count f (n .nodes) (withNode d n), forest-count g p (withForest f (withNode d n)))
 
-module _ (s : List ℕ) (t : Scene) (h : AllBytes s) (e : parse Strict s ≡ got t) where
-  pub fits : Fit t
+module _ (s : List ℕ) (t : Scene) (h : AllBytes s) (e : parse Strict s ≡ accept t) where
+  pub fits : WellFormed t
   fits = fine Strict s t h e .0
 
   -- the nodes in bytes of the file

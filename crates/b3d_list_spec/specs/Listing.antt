@@ -6,10 +6,10 @@ use lib.ListN.{length, take}
 use lib.Dec.{ltb}
 use Rattle.wire.specs.Bytes.{over}
 use Rattle.wire.specs.Test.{if}
-use Rattle.layout.specs.Out.{Out, got, bad}
+use Rattle.layout.specs.Result.{Result, accept, reject}
 use Rattle.b3d_spec.specs.Answers.{judge}
 use Rattle.b3d_spec.specs.declared.Mode.the-variants.{Strict}
-use Rattle.b3d_spec.specs.Scene.{Forest, leaf, node, Scene}
+use Rattle.b3d_spec.specs.Scene.{Forest, noNodes, node, Scene}
 use Rattle.b3d_spec.specs.Tables.{counts}
 use Rattle.b3d_list_text.specs.Text.{numberLine, textLine}
 use Rattle.b3d_list_lines.specs.Lines.{unnamed}
@@ -30,13 +30,13 @@ nameOrWord (b ∷ bs) = b ∷ bs
 
 -- a line for each node, in file order
 unfoldable pub nodeLines : Forest → List ℕ
-nodeLines leaf = []
+nodeLines noNodes = []
 nodeLines (node d f g) = textLine (nameOrWord (d .name .bytes)) ++ (nodeLines f ++ nodeLines g)
 
 -- the lines for what was judged: number and place; where accepted, version and n_texs, the ten counts, and the nodes' names
-unfoldable pub listed : Out Scene → List ℕ
-listed (got t) = numberLine (0 ∷ 0 ∷ []) ++ (numberLine (t .version ∷ t .slots ∷ []) ++ (numberLine (counts t) ++ nodeLines (t .nodes)))
-listed (bad n p) = numberLine (n ∷ p ∷ [])
+unfoldable pub listed : Result Scene → List ℕ
+listed (accept t) = numberLine (0 ∷ 0 ∷ []) ++ (numberLine (t .version ∷ t .slots ∷ []) ++ (numberLine (counts t) ++ nodeLines (t .nodes)))
+listed (reject n p) = numberLine (n ∷ p ∷ [])
 
 -- what 01's lister prints for the input s: the lines of its verdict under the strict mode; `1 0` where it is over 65,536 bytes
 unfoldable pub listing : List ℕ → List ℕ

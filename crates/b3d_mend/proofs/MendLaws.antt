@@ -6,7 +6,7 @@ use mathlib.Core.List.{List, []}
 use lib.ListN.{length, take, drop}
 use lib.Seq.{take-length}
 use Rattle.wire.specs.Bytes.{AllBytes, over}
-use Rattle.layout.specs.Out.{Out, got, bad}
+use Rattle.layout.specs.Result.{Result, accept, reject}
 use Rattle.layout.proofs.Outs.{by-got}
 use Rattle.shared_output.specs.Writing.{Wrote}
 use Rattle.b3d_spec.specs.declared.Mode.the-variants.{Lenient}
@@ -32,19 +32,19 @@ use Rattle.b3d_mend.specs.Accepted.{Accepted}
 
 -- ---- what the judges say
 
-was-bad : (o : Out (Mended Scene)) (n p : ℕ) → mendedVerdict o ≡ verdict.Bad n p → o ≡ bad n p
-was-bad (got m) n p h = let z : _≡_ {A = ℕ} 0 1 = cc in absurd (omega arith)
-was-bad (bad m q) n p h = cc
+was-bad : (o : Result (Mended Scene)) (n p : ℕ) → mendedVerdict o ≡ verdict.Bad n p → o ≡ reject n p
+was-bad (accept m) n p h = let z : _≡_ {A = ℕ} 0 1 = cc in absurd (omega arith)
+was-bad (reject m q) n p h = cc
 
-was-good : (o : Out (Mended Scene)) (v : Summary) → mendedVerdict o ≡ verdict.Good v → (x : Mended Scene) × (o ≡ got x)
-was-good (got m) v h = (m, refl)
-was-good (bad n p) v h = let z : _≡_ {A = ℕ} 0 1 = cc in absurd (omega arith)
+was-good : (o : Result (Mended Scene)) (v : Summary) → mendedVerdict o ≡ verdict.Good v → (x : Mended Scene) × (o ≡ accept x)
+was-good (accept m) v h = (m, refl)
+was-good (reject n p) v h = let z : _≡_ {A = ℕ} 0 1 = cc in absurd (omega arith)
 
-was-accepted : (o : Out Scene) (v : Summary) → verdictOf o ≡ verdict.Good v → (t : Scene) × (o ≡ got t)
-was-accepted (got t) v h = (t, refl)
-was-accepted (bad n p) v h = let z : _≡_ {A = ℕ} 0 1 = cc in absurd (omega arith)
+was-accepted : (o : Result Scene) (v : Summary) → verdictOf o ≡ verdict.Good v → (t : Scene) × (o ≡ accept t)
+was-accepted (accept t) v h = (t, refl)
+was-accepted (reject n p) v h = let z : _≡_ {A = ℕ} 0 1 = cc in absurd (omega arith)
 
-accepted-small : (s : List ℕ) (t : Scene) → judge Lenient s ≡ got t → length s < 0x100000000
+accepted-small : (s : List ℕ) (t : Scene) → judge Lenient s ≡ accept t → length s < 0x100000000
 unfolding judge
 accepted-small s t e = by-got (parse Lenient s) _ e (λ u eu _. omega (arith, parse-size s u eu))
 
@@ -64,20 +64,20 @@ module _ (s out report : List ℕ) where
       pub mend-place : Placed r → p < 0x100000000
       mend-place h = omega (arith, h .most n p z)
 
-      stopped : mendInto (length out) (length report) s ≡ bad n p
+      stopped : mendInto (length out) (length report) s ≡ reject n p
       stopped = is-first s n p (was-bad (mendJudged s) n p (sym e ∙ z)) (length out) (length report)
 
       pub mend-refused : (q : ℕ) → q ≡ p → record { number = n; place = q; size = 0; «report_size» = 0 } ≡ mendAnswer s out report
       unfolding writtenBoth
-      mend-refused q h = answered s out report (bad n p) stopped (record { number = n; place = q; size = 0; «report_size» = 0 }) (rw h)
+      mend-refused q h = answered s out report (reject n p) stopped (record { number = n; place = q; size = 0; «report_size» = 0 }) (rw h)
 
       pub mend-file-kept : out ≡ mendOutput s out report
       unfolding fileAfter
-      mend-file-kept = file-so s out report (bad n p) stopped out refl
+      mend-file-kept = file-so s out report (reject n p) stopped out refl
 
       pub mend-report-kept : report ≡ mendReport s out report
       unfolding reportAfter
-      mend-report-kept = report-so s out report (bad n p) stopped report refl
+      mend-report-kept = report-so s out report (reject n p) stopped report refl
 
   -- accepted
   module _ (a : Accepted s) where
@@ -101,11 +101,11 @@ module _ (s out report : List ℕ) where
       module _ (d : w .number ≡ 0 → ⊥) where
         pub copy-short-file : out ≡ mendOutput s out report
         unfolding fileAfter
-        copy-short-file = let q = short-both (length out) (length report) M w of-both d in file-so s out report (bad 11 (q .0)) (as-it-was ∙ q .1) out refl
+        copy-short-file = let q = short-both (length out) (length report) M w of-both d in file-so s out report (reject 11 (q .0)) (as-it-was ∙ q .1) out refl
 
         pub copy-short-report : report ≡ mendReport s out report
         unfolding reportAfter
-        copy-short-report = let q = short-both (length out) (length report) M w of-both d in report-so s out report (bad 11 (q .0)) (as-it-was ∙ q .1) report refl
+        copy-short-report = let q = short-both (length out) (length report) M w of-both d in report-so s out report (reject 11 (q .0)) (as-it-was ∙ q .1) report refl
 
       -- both are long enough
       module _ (y : w .number ≡ 0) where
@@ -115,16 +115,16 @@ module _ (s out report : List ℕ) where
         pub copy-room : length s ≤ length out
         copy-room = fits-both (length out) (length report) M w of-both y .0
 
-        done : mendInto (length out) (length report) s ≡ got M
+        done : mendInto (length out) (length report) s ≡ accept M
         done = as-it-was ∙ room-yes (length out) (length report) M copy-room (omega arith)
 
         pub copy-file : (ys : List ℕ) → Wrote out (take (length s) (drop 0 s)) ys → ys ≡ mendOutput s out report
         unfolding fileAfter
-        copy-file ys p = file-so s out report (got M) done ys (p .is ∙ ap (λ (l : List ℕ). over l out) (take-length s))
+        copy-file ys p = file-so s out report (accept M) done ys (p .is ∙ ap (λ (l : List ℕ). over l out) (take-length s))
 
         pub copy-report : report ≡ mendReport s out report
         unfolding reportAfter over
-        copy-report = report-so s out report (got M) done report refl
+        copy-report = report-so s out report (accept M) done report refl
 
 pub ruleset mend-laws = (mend-place, mend-can, mend-refused, mend-file-kept, mend-report-kept)
 

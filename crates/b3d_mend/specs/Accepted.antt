@@ -5,7 +5,7 @@ use mathlib.Core.List.{List}
 use lib.ListN.{length}
 use Prim.Native.Nat.{ℕ}
 use Rattle.wire.specs.Bytes.{AllBytes}
-use Rattle.layout.specs.Out.{got}
+use Rattle.layout.specs.Result.{accept}
 use Rattle.b3d_spec.specs.declared.Mode.the-variants.{Lenient}
 use Rattle.b3d_spec.specs.Answers.{judge}
 use Rattle.b3d_spec.specs.Scene.{Scene}
@@ -14,5 +14,5 @@ use Rattle.b3d_spec.specs.Scene.{Scene}
 pub record Accepted (s : List ℕ) : Type 0 where
   pub bytes : AllBytes s
   pub scene : Scene
-  pub is : judge Lenient s ≡ got scene
+  pub is : judge Lenient s ≡ accept scene
   pub small : length s < 0x100000000

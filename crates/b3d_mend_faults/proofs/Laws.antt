@@ -7,7 +7,7 @@ use mathlib.Core.Bool.{Bool, true, false}
 use mathlib.Core.List.{List, [], _∷_}
 use lib.ListN.{length}
 use lib.Dec.{leb}
-use Rattle.layout.specs.Out.{Out, got, bad, check, _>>=_}
+use Rattle.layout.specs.Result.{Result, accept, reject, check, _>>=_}
 use Rattle.layout.specs.Rows.{eachOf}
 use Rattle.layout.proofs.Outs.{bad-got}
 use Rattle.b3d_spec.specs.declared.Mode.the-variants.{Lenient}
@@ -30,67 +30,67 @@ use Rattle.b3d_mend_faults.proofs.Threes.{Each, Three, file-each}
 -- ---- the list
 
 -- who refuses all refuses the first
-first-of : {A B : Type 0} (m : Reading A) (o : Out B) → Agrees false Any m o → refusalOf o ≡ refusalBy (listed m)
+first-of : {A B : Type 0} (m : Reading A) (o : Result B) → Agrees false Any m o → refusalOf o ≡ refusalBy (listed m)
 unfolding refusalOf refusalBy listed
-first-of (gives a) (got b) h = refl
-first-of (gives a) (bad n p) h = absurd h
+first-of (gives a) (accept b) h = refl
+first-of (gives a) (reject n p) h = absurd h
 first-of (ends n p) o h = ap refusalOf h
 first-of (passes k n p m) o h = ap refusalOf h
 
 -- who passes the four refuses the first other
-other-of : {A B : Type 0} (m : Reading A) (o : Out B) → Agrees true Any m o → refusalOf o ≡ refusalBy (others (listed m))
+other-of : {A B : Type 0} (m : Reading A) (o : Result B) → Agrees true Any m o → refusalOf o ≡ refusalBy (others (listed m))
 unfolding refusalOf refusalBy others listed
-other-of (gives a) (got b) h = refl
-other-of (gives a) (bad n p) h = absurd h
+other-of (gives a) (accept b) h = refl
+other-of (gives a) (reject n p) h = absurd h
 other-of (ends n p) o h = ap refusalOf h
 other-of (passes k n p m) o h = other-of m o h
 
 -- ---- answers
 
-whole : {A : Type 0} (o : Out A) (n p : ℕ) → refusalOf o ≡ bad n p → o ≡ bad n p
+whole : {A : Type 0} (o : Result A) (n p : ℕ) → refusalOf o ≡ reject n p → o ≡ reject n p
 unfolding refusalOf
-whole (got a) n p e = bad-got (sym e)
-whole {A} (bad i q) n p e = let en : i ≡ n = cc in let ep : q ≡ p = cc in ap₂ {C = Out A} bad en ep
+whole (accept a) n p e = bad-got (sym e)
+whole {A} (reject i q) n p e = let en : i ≡ n = cc in let ep : q ≡ p = cc in ap₂ {C = Result A} reject en ep
 
 -- where the rest refuses with other numbers, it was refused before
-before : {A B : Type 0} (m : Out A) (k : A → Out B) (n p : ℕ) → ((a : A) → k a ≡ bad n p → ⊥) → (m >>= k) ≡ bad n p → m ≡ bad n p
-before (got a) k n p f e = absurd (f a e)
-before {A} (bad i q) k n p f e = let en : i ≡ n = cc in let ep : q ≡ p = cc in ap₂ {C = Out A} bad en ep
+before : {A B : Type 0} (m : Result A) (k : A → Result B) (n p : ℕ) → ((a : A) → k a ≡ reject n p → ⊥) → (m >>= k) ≡ reject n p → m ≡ reject n p
+before (accept a) k n p f e = absurd (f a e)
+before {A} (reject i q) k n p f e = let en : i ≡ n = cc in let ep : q ≡ p = cc in ap₂ {C = Result A} reject en ep
 
-each-not : {A : Type 0} (i : ℕ) (ok : ℕ → Bool) (ks : List ℕ) (a : A) (n p : ℕ) → (i ≡ n → ⊥) → (eachOf i ok ks >>= λ _. got a) ≡ bad n p → ⊥
+each-not : {A : Type 0} (i : ℕ) (ok : ℕ → Bool) (ks : List ℕ) (a : A) (n p : ℕ) → (i ≡ n → ⊥) → (eachOf i ok ks >>= λ _. accept a) ≡ reject n p → ⊥
 unfolding eachOf check
 each-not i ok [] a n p f e = bad-got (sym e)
 each-not {A} i ok (k ∷ ks) a n p f e = by (ok k) (each-not i ok ks a n p f) e
   where
-    by : (b : Bool) → ((eachOf i ok ks >>= λ _. got a) ≡ bad n p → ⊥) → ((check b i k >>= λ _. eachOf i ok ks) >>= λ _. got a) ≡ bad n p → ⊥
+    by : (b : Bool) → ((eachOf i ok ks >>= λ _. accept a) ≡ reject n p → ⊥) → ((check b i k >>= λ _. eachOf i ok ks) >>= λ _. accept a) ≡ reject n p → ⊥
     by true g e = g e
     by false g e = let z : i ≡ n = cc in f z
 
-check-not : {A : Type 0} (b : Bool) (i q : ℕ) (o : Out A) (n p : ℕ) → (i ≡ n → ⊥) → (o ≡ bad n p → ⊥) → (check b i q >>= λ _. o) ≡ bad n p → ⊥
+check-not : {A : Type 0} (b : Bool) (i q : ℕ) (o : Result A) (n p : ℕ) → (i ≡ n → ⊥) → (o ≡ reject n p → ⊥) → (check b i q >>= λ _. o) ≡ reject n p → ⊥
 unfolding check
 check-not true i q o n p f g e = g e
 check-not false i q o n p f g e = let z : i ≡ n = cc in f z
 
-room-not : (room reportRoom : ℕ) (m : Mending) (n p : ℕ) → (11 ≡ n → ⊥) → roomForBoth room reportRoom m ≡ bad n p → ⊥
+room-not : (room reportRoom : ℕ) (m : Mending) (n p : ℕ) → (11 ≡ n → ⊥) → roomForBoth room reportRoom m ≡ reject n p → ⊥
 unfolding roomForBoth
 room-not room reportRoom m n p f e =
     check-not (leb (length (m .file)) room) 11 (length (m .file)) _ n p f
-    (λ e₁. check-not (leb (length (m .report)) reportRoom) 11 (length (m .report)) (got m) n p f (λ e₂. bad-got (sym e₂)) e₁) e
+    (λ e₁. check-not (leb (length (m .report)) reportRoom) 11 (length (m .report)) (accept m) n p f (λ e₂. bad-got (sym e₂)) e₁) e
 
-judge-stays : (s : List ℕ) (n p : ℕ) → parse Lenient s ≡ bad n p → judge Lenient s ≡ bad n p
+judge-stays : (s : List ℕ) (n p : ℕ) → parse Lenient s ≡ reject n p → judge Lenient s ≡ reject n p
 unfolding judge
-judge-stays s n p e = ap (λ (o : Out Scene). o >>= λ t. eachOf 10 (λ k. leb (length (rows k t)) rowLimit) tables >>= λ _. got t) e
+judge-stays s n p e = ap (λ (o : Result Scene). o >>= λ t. eachOf 10 (λ k. leb (length (rows k t)) rowLimit) tables >>= λ _. accept t) e
 
-judge-before : (s : List ℕ) (n p : ℕ) → n ≤ 9 → judge Lenient s ≡ bad n p → parse Lenient s ≡ bad n p
+judge-before : (s : List ℕ) (n p : ℕ) → n ≤ 9 → judge Lenient s ≡ reject n p → parse Lenient s ≡ reject n p
 unfolding judge
 judge-before s n p l e = before (parse Lenient s) _ n p (λ t e₁. each-not 10 (λ k. leb (length (rows k t)) rowLimit) tables t n p (λ z. omega arith) e₁) e
 
-mend-stays : (s : List ℕ) (n p room reportRoom : ℕ) → mendFile s ≡ bad n p → mendInto room reportRoom s ≡ bad n p
+mend-stays : (s : List ℕ) (n p room reportRoom : ℕ) → mendFile s ≡ reject n p → mendInto room reportRoom s ≡ reject n p
 unfolding mendInto mendJudged
 mend-stays s n p room reportRoom e =
-    ap (λ (o : Out (Mended Scene)). o >>= (λ x. eachOf 10 (λ k. leb (length (rows k (x .value))) rowLimit) tables >>= λ _. got x) >>= λ y. roomForBoth room reportRoom (mending (y .edits))) e
+    ap (λ (o : Result (Mended Scene)). o >>= (λ x. eachOf 10 (λ k. leb (length (rows k (x .value))) rowLimit) tables >>= λ _. accept x) >>= λ y. roomForBoth room reportRoom (mending (y .edits))) e
 
-mend-before : (s : List ℕ) (n p room reportRoom : ℕ) → n ≤ 9 → mendInto room reportRoom s ≡ bad n p → mendFile s ≡ bad n p
+mend-before : (s : List ℕ) (n p room reportRoom : ℕ) → n ≤ 9 → mendInto room reportRoom s ≡ reject n p → mendFile s ≡ reject n p
 unfolding mendInto mendJudged
 mend-before s n p room reportRoom l e =
     before (mendFile s) _ n p (λ x e₁. each-not 10 (λ k. leb (length (rows k (x .value))) rowLimit) tables x n p (λ z. omega arith) e₁)
@@ -98,17 +98,17 @@ mend-before s n p room reportRoom l e =
 
 -- ---- the two kinds of 3
 
-same-refusal : {A : Type 0} {i q n p : ℕ} → _≡_ {A = Out A} (bad i q) (bad n p) → (i ≡ n) × (q ≡ p)
+same-refusal : {A : Type 0} {i q n p : ℕ} → _≡_ {A = Result A} (reject i q) (reject n p) → (i ≡ n) × (q ≡ p)
 same-refusal e = (cc, cc)
 
 -- a 3 that comes first is spare bytes, or a length past what encloses it, which comes first of the others too
-first-three : {A : Type 0} (s : List ℕ) (R : A → Type 0) (m : Reading A) (p : ℕ) → Each (Three s) R m → refusalBy (listed m) ≡ bad 3 p → Spare s p ⊎ (Past s p × (refusalBy (others (listed m)) ≡ bad 3 p))
+first-three : {A : Type 0} (s : List ℕ) (R : A → Type 0) (m : Reading A) (p : ℕ) → Each (Three s) R m → refusalBy (listed m) ≡ reject 3 p → Spare s p ⊎ (Past s p × (refusalBy (others (listed m)) ≡ reject 3 p))
 unfolding refusalBy others listed
 first-three s R (gives a) p h e = bad-got (sym e)
 first-three s R (ends n q) p h e = let z = same-refusal e in inr (subst (Past s) (z .1) (h (z .0)), e)
 first-three s R (passes k n q m) p h e = let z = same-refusal e in inl (subst (Spare s) (z .1) (h .0 (z .0)))
 
-other-three : {A : Type 0} (s : List ℕ) (R : A → Type 0) (m : Reading A) (p : ℕ) → Each (Three s) R m → refusalBy (others (listed m)) ≡ bad 3 p → Past s p
+other-three : {A : Type 0} (s : List ℕ) (R : A → Type 0) (m : Reading A) (p : ℕ) → Each (Three s) R m → refusalBy (others (listed m)) ≡ reject 3 p → Past s p
 unfolding refusalBy others listed
 other-three s R (gives a) p h e = bad-got (sym e)
 other-three s R (ends n q) p h e = let z = same-refusal e in subst (Past s) (z .1) (h (z .0))
@@ -121,7 +121,7 @@ unfolding faults refusalBy others refusalOf
 first-fault s =
     let reader = first-of (fileFaults s) (parse Lenient s) (file-read s) in
     let mender = other-of (fileFaults s) (mendFile s) (file-mend s) in
-    let by-three : (p : ℕ) → judge Lenient s ≡ bad 3 p → Spare s p ⊎ (Past s p × (refusalBy (others (listed (fileFaults s))) ≡ bad 3 p)) = λ p e. first-three s _ (fileFaults s) p (file-each s) (sym reader ∙ ap refusalOf (judge-before s 3 p (omega arith) e)) in
+    let by-three : (p : ℕ) → judge Lenient s ≡ reject 3 p → Spare s p ⊎ (Past s p × (refusalBy (others (listed (fileFaults s))) ≡ reject 3 p)) = λ p e. first-three s _ (fileFaults s) p (file-each s) (sym reader ∙ ap refusalOf (judge-before s 3 p (omega arith) e)) in
     record {
       reader = reader;
       mender = mender;

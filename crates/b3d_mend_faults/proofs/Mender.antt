@@ -7,7 +7,7 @@ use mathlib.Core.Option.{Option, none}
 use mathlib.Core.List.{List, [], _∷_, _++_}
 use lib.ListN.{length, length-append}
 use lib.Dec.{eqb}
-use Rattle.layout.specs.Out.{Out, got, bad, check, _>>=_ as _>>>_}
+use Rattle.layout.specs.Result.{Result, accept, reject, check, _>>=_ as _>>>_}
 use Rattle.layout.specs.Parts.{Step, text, words, row, number, named, items}
 use Rattle.layout.specs.Rows.{sizeFits}
 use Rattle.layout.specs.Rules.{Rule, holds}
@@ -17,8 +17,8 @@ use Rattle.b3d_spec.specs.declared.Tag.{Tag}
 use Rattle.b3d_spec.specs.declared.Tag.the-variants.{BB3D, TEXS, BRUS, NODE, MESH, VRTS, BONE, KEYS, ANIM}
 use Rattle.b3d_spec.specs.Nesting.{start, order}
 use Rattle.b3d_spec.specs.Parse.{readTextures, Vertices, noVertices, readVertices, readKeys, readAnim, Inner}
-use Rattle.b3d_spec.specs.Rules.{brushRow, brushIds, nodeRow, triangleRow, weightRow, animated, boneVertices, bonesFrom, bonesBelow, levels, header, fileHead, brushesHead, meshHead, trianglesHead}
-use Rattle.b3d_spec.specs.Scene.{Texture, Brush, Mesh, Anim, still, anim, leaf}
+use Rattle.b3d_spec.specs.Rules.{brushRow, brushIds, nodeRow, triangleRow, weightRow, animated, boneLimit, boneLimitFrom, boneLimitBelow, levels, header, fileHead, brushesHead, meshHead, trianglesHead}
+use Rattle.b3d_spec.specs.Scene.{Texture, Brush, Mesh, Anim, noAnim, anim, noNodes}
 use Rattle.b3d_spec.specs.Tags.{code, is, Chunks}
 use Rattle.b3d_mend_spec.specs.Edits.{keep}
 use Rattle.b3d_mend_spec.specs.Mend.{Mended, mayBeNone, mendWord, andWords, mendWords, mendRow, mendNamed, mendItem, gathered, mendItems, asRead, oneBrush, mendBrush, mendBrushes, mendTriangles, mendBone, Taken, found, mendOne, mendSets, meshOf, mendMesh, mendKind, withKeys, withAnim, mendMoves, mendNodes, dataOf, mendNode, mendRoot, mendBody, mendFile}
@@ -58,13 +58,13 @@ named-mend rs p s =
     (words-mend _ rs (n .place) (x .value) x (λ v. (refl, refl))) (λ y v h. h)))
 
 -- the ids of a triangle or a weight refuse nothing
-ids-mend : {A B : Type 0} (R : A → B → Type 0) (rs : List Rule) (p : ℕ) (ws : List ℕ) (a : A) (b : B) → R a b → Agrees true R (numberFaults itemFault rs p ws a) (got b)
+ids-mend : {A B : Type 0} (R : A → B → Type 0) (rs : List Rule) (p : ℕ) (ws : List ℕ) (a : A) (b : B) → R a b → Agrees true R (numberFaults itemFault rs p ws a) (accept b)
 unfolding numberFaults itemFault
 ids-mend R [] p ws a b h = h
 ids-mend R (r ∷ rs) p [] a b h = h
 ids-mend {A} {B} R (r ∷ rs) p (w ∷ ws) a b h =
     let go : Unit {0} → Reading A = λ u. numberFaults itemFault rs (p + 4) ws a in
-    if-case (λ m. Agrees true R (m >>= go) (got b)) (holds r w) _ _ (λ t. ids-mend R rs (p + 4) ws a b h) (λ t. ids-mend R rs (p + 4) ws a b h)
+    if-case (λ m. Agrees true R (m >>= go) (accept b)) (holds r w) _ _ (λ t. ids-mend R rs (p + 4) ws a b h) (λ t. ids-mend R rs (p + 4) ws a b h)
 
 item-mend : (rs : List Rule) (p : ℕ) (s : List ℕ) → Agrees true At (rowFaults itemFault rs p s) (mendItem rs p s)
 unfolding rowFaults mendItem
@@ -73,7 +73,7 @@ item-mend rs p s = same-agrees true At (words p (length rs) p s) _ _ (λ x. ids-
 -- ---- chunks that hold items only
 
 -- triangles and weights, however many are taken out
-module _ {A B : Type 0} (item : ℕ → List ℕ → Reading (Step A)) (fix : ℕ → List ℕ → Out (Step (Mended (List B)))) (one : (p : ℕ) (s : List ℕ) → Agrees true At (item p s) (fix p s)) where
+module _ {A B : Type 0} (item : ℕ → List ℕ → Reading (Step A)) (fix : ℕ → List ℕ → Result (Step (Mended (List B)))) (one : (p : ℕ) (s : List ℕ) → Agrees true At (item p s) (fix p s)) where
   items-mend : (p : ℕ) (s : List ℕ) → Agrees true Any (itemFaults item p s) (mendItems fix p s)
   unfolding mendItems
   items-mend p s =
@@ -81,7 +81,7 @@ module _ {A B : Type 0} (item : ℕ → List ℕ → Reading (Step A)) (fix : �
       (items-agree true item fix (λ b. Unit {0}) Any tt (λ n b l u v. tt) (λ q t. weak-agrees true At _ (item q t) (fix q t) (one q t) (λ x y h. (h, tt))) p s) (λ n l u. tt)
 
 -- a chunk with nothing to mend, of which `f` is kept
-module _ {A C : Type 0} (read : ℕ → List ℕ → Out A) (f : A → C) where
+module _ {A C : Type 0} (read : ℕ → List ℕ → Result A) (f : A → C) where
   as-read-mend : (p : ℕ) (b : List ℕ) → Agrees true (λ (c : C) (m : Mended A). c ≡ f (m .value)) (plainly (read p b) >>= λ a. gives (f a)) (asRead read p b)
   unfolding asRead
   as-read-mend p b =
@@ -150,7 +150,7 @@ bone-mend vertices p b = items-mend (rowFaults itemFault (weightRow vertices)) (
 abbrev Beside : {A B : Type 0} → (A → B → Type 0) → Part A → Taken B → Type 0
 Beside R x y = R (x .value) (y .value) × (y .rest ≡ seen true (x .rest))
 
-module _ {A B : Type 0} (k : Tag) (a : A) (b : B) (one : ℕ → List ℕ → Reading A) (fix : ℕ → List ℕ → Out (Mended B)) (R : A → B → Type 0) (absent : R a b)
+module _ {A B : Type 0} (k : Tag) (a : A) (b : B) (one : ℕ → List ℕ → Reading A) (fix : ℕ → List ℕ → Result (Mended B)) (R : A → B → Type 0) (absent : R a b)
     (h : (p : ℕ) (s : List ℕ) → Agrees true (λ (x : A) (m : Mended B). R x (m .value)) (one p s) (fix p s)) where
   one-of : (l : Within) → Agrees true (Beside R) (oneFaults k a one l) (mendOne k b fix (seen true l))
   unfolding oneFaults mendOne found
@@ -204,14 +204,14 @@ kind-of brushes vertices (chunkAt t p s r) =
     (refl, refl))
 
 -- a chunk with nothing to mend, of which nothing is kept
-module _ {A C D : Type 0} (S : C → D → Type 0) (read : ℕ → List ℕ → Out A) where
-  step-mend : (p : ℕ) (b : List ℕ) (m : Reading C) (j : Mended A → Out D) → ((x : Mended A) → Agrees true S m (j x)) → Agrees true S (plainly (read p b) >>= λ a. m) (asRead read p b >>> j)
+module _ {A C D : Type 0} (S : C → D → Type 0) (read : ℕ → List ℕ → Result A) where
+  step-mend : (p : ℕ) (b : List ℕ) (m : Reading C) (j : Mended A → Result D) → ((x : Mended A) → Agrees true S m (j x)) → Agrees true S (plainly (read p b) >>= λ a. m) (asRead read p b >>> j)
   unfolding asRead plainly
   step-mend p b m j h = go (read p b)
     where
-      go : (o : Out A) → Agrees true S (plainly o >>= λ a. m) ((o >>> λ v. got (record { value = v; edits = keep b ∷ [] })) >>> j)
-      go (got a) = h _
-      go (bad n q) = refl
+      go : (o : Result A) → Agrees true S (plainly o >>= λ a. m) ((o >>> λ v. accept (record { value = v; edits = keep b ∷ [] })) >>> j)
+      go (accept a) = h _
+      go (reject n q) = refl
 
 moves-of : (b : Bool) (before : Anim) → b ≡ animated before → (l : Within) → Agrees true (Beside Moving) (moveFaults b l) (mendMoves before (seen true l))
 unfolding moveFaults mendMoves withKeys withAnim
@@ -227,7 +227,7 @@ moves-of b before e (chunkAt t p s r) =
 
 -- ---- nodes
 
-module _ (one : ℕ → List ℕ → Reading (Unit {0})) (fix : ℕ → List ℕ → Out (Mended Inner)) (h : (p : ℕ) (s : List ℕ) → Agrees true Any (one p s) (fix p s)) where
+module _ (one : ℕ → List ℕ → Reading (Unit {0})) (fix : ℕ → List ℕ → Result (Mended Inner)) (h : (p : ℕ) (s : List ℕ) → Agrees true Any (one p s) (fix p s)) where
   nodes-of : (l : Within) → Agrees true Any (nodesFaults one l) (mendNodes fix (seen true l))
   unfolding nodesFaults mendNodes
   nodes-of finished = tt
@@ -243,14 +243,14 @@ node-mend (suc l) brushes above p b =
     same-agrees true Any (named nodeRow (p + 8) b) _ _ (λ h.
     let w = within NODE p (h .place) (h .left) in
     let c = order NODE p start (chunksOf (pieces (h .place) (h .left))) in
-    bind-agrees true (Beside Own) Any (kindFaults brushes (boneVertices above) w) (mendKind brushes (boneVertices above) c) _ _
-    (subst (λ (z : Chunks). Agrees true (Beside Own) (kindFaults brushes (boneVertices above) w) (mendKind brushes (boneVertices above) z)) (sym (chunks-seen NODE p (h .place) (h .left)))
-    (kind-of brushes (boneVertices above) w)) (λ k k′ g.
-    bind-agrees true (Beside Moving) Any (moveFaults false (k .rest)) (mendMoves still (k′ .rest)) _ _
-    (subst (λ (z : Chunks). Agrees true (Beside Moving) (moveFaults false (k .rest)) (mendMoves still z)) (sym (g .1)) (moves-of false still refl (k .rest))) (λ m m′ i.
-    let told = bonesFrom above (m .value) (k .value) in
-    let told′ = bonesBelow above (dataOf (h .value) (k′ .value) (m′ .value)) in
-    let et : told ≡ told′ = ap₂ (bonesFrom above) (i .0) (g .0) in
+    bind-agrees true (Beside Own) Any (kindFaults brushes (boneLimit above) w) (mendKind brushes (boneLimit above) c) _ _
+    (subst (λ (z : Chunks). Agrees true (Beside Own) (kindFaults brushes (boneLimit above) w) (mendKind brushes (boneLimit above) z)) (sym (chunks-seen NODE p (h .place) (h .left)))
+    (kind-of brushes (boneLimit above) w)) (λ k k′ g.
+    bind-agrees true (Beside Moving) Any (moveFaults false (k .rest)) (mendMoves noAnim (k′ .rest)) _ _
+    (subst (λ (z : Chunks). Agrees true (Beside Moving) (moveFaults false (k .rest)) (mendMoves noAnim z)) (sym (g .1)) (moves-of false noAnim refl (k .rest))) (λ m m′ i.
+    let told = boneLimitFrom above (m .value) (k .value) in
+    let told′ = boneLimitBelow above (dataOf (h .value) (k′ .value) (m′ .value)) in
+    let et : told ≡ told′ = ap₂ (boneLimitFrom above) (i .0) (g .0) in
     more-agrees true Any Any (nodesFaults (nodeFaults l brushes told) (m .rest)) (mendNodes (mendNode l brushes told′) (m′ .rest)) _
     (subst (λ (z : Chunks). Agrees true Any (nodesFaults (nodeFaults l brushes told) (m .rest)) (mendNodes (mendNode l brushes told′) z)) (sym (i .1))
     (subst (λ (o : Option ℕ). Agrees true Any (nodesFaults (nodeFaults l brushes told) (m .rest)) (mendNodes (mendNode l brushes o) (seen true (m .rest)))) et
@@ -270,14 +270,14 @@ body-mend p b =
     bind-agrees true (Beside (λ (n : ℕ) (v : ℕ × List Brush). n ≡ length (v .1))) Any (oneFaults BRUS 0 (brushesFaults (t .value)) (t .rest)) (mendOne BRUS (0, []) (mendBrushes (length (t′ .value))) (t′ .rest)) _ _
     (one-mend BRUS 0 (0, []) (brushesFaults (t .value)) (mendBrushes (length (t′ .value))) _ refl
     (subst (λ (n : ℕ). (q : ℕ) (s : List ℕ) → Agrees true Brushes (brushesFaults (t .value) q s) (mendBrushes n q s)) (gt .0) (brushes-mend (t .value))) (t .rest) (t′ .rest) (gt .1)) (λ u u′ gu.
-    bind-agrees true (Beside Any) Any (oneFaults NODE tt (nodeFaults levels (u .value) none) (u .rest)) (mendOne NODE leaf (mendRoot (length (u′ .value .1))) (u′ .rest)) _ _
-    (one-mend NODE tt leaf (nodeFaults levels (u .value) none) (mendRoot (length (u′ .value .1))) Any tt
+    bind-agrees true (Beside Any) Any (oneFaults NODE tt (nodeFaults levels (u .value) none) (u .rest)) (mendOne NODE noNodes (mendRoot (length (u′ .value .1))) (u′ .rest)) _ _
+    (one-mend NODE tt noNodes (nodeFaults levels (u .value) none) (mendRoot (length (u′ .value .1))) Any tt
     (subst (λ (n : ℕ). (q : ℕ) (s : List ℕ) → Agrees true Any (nodeFaults levels (u .value) none q s) (mendRoot n q s)) (gu .0)
     (λ q s. more-agrees true Any Any (nodeFaults levels (u .value) none q s) (mendNode levels (u .value) none q s) _ (node-mend levels (u .value) none q s) (λ i j v. tt))) (u .rest) (u′ .rest) (gu .1)) (λ n n′ gn.
     end-agrees true (n .rest) (n′ .rest) _ (gn .1)))))
 
 -- whatever BB3D's length says
-length-mend : {A B : Type 0} (R : A → B → Type 0) (b : Bool) (m : Reading A) (o : Out B) → Agrees true R m o → Agrees true R (lengthFault b >>= λ u. m) o
+length-mend : {A B : Type 0} (R : A → B → Type 0) (b : Bool) (m : Reading A) (o : Result B) → Agrees true R m o → Agrees true R (lengthFault b >>= λ u. m) o
 unfolding lengthFault
 length-mend R true m o h = h
 length-mend R false m o h = h

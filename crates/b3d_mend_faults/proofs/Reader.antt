@@ -7,7 +7,7 @@ use mathlib.Core.List.{List, [], _∷_, _++_}
 use lib.ListN.{length}
 use lib.Dec.{eqb}
 use Rattle.wire.specs.Test.{if}
-use Rattle.layout.specs.Out.{Out, bad, check}
+use Rattle.layout.specs.Result.{Result, reject, check}
 use Rattle.layout.specs.Parts.{Step, text, words, judged, row, number, named, items}
 use Rattle.layout.specs.Rows.{sizeFits}
 use Rattle.layout.specs.Rules.{Rule, holds, refusal}
@@ -15,9 +15,9 @@ use Rattle.b3d_spec.specs.declared.Mode.the-variants.{Lenient}
 use Rattle.b3d_spec.specs.declared.Tag.{Tag}
 use Rattle.b3d_spec.specs.declared.Tag.the-variants.{BB3D, TEXS, BRUS, NODE, MESH, VRTS, BONE, KEYS, ANIM}
 use Rattle.b3d_spec.specs.Nesting.{inside}
-use Rattle.b3d_spec.specs.Parse.{readOne, readTextures, readBrush, readBrushes, Vertices, noVertices, readVertices, readTriangles, readSets, readMesh, readBone, readKeys, readAnim, aMesh, aBone, readKind, withKeys, readMoves, Inner, readNodes, readBelow, readNode, readRoot, readBody, parse}
-use Rattle.b3d_spec.specs.Rules.{brushRow, brushIds, nodeRow, triangleRow, weightRow, animated, boneVertices, bonesFrom, bonesBelow, levels, header, fileHead, brushesHead, meshHead, trianglesHead}
-use Rattle.b3d_spec.specs.Scene.{Brush, Mesh, Anim, still, anim, Data, leaf}
+use Rattle.b3d_spec.specs.Parse.{readOne, readTextures, readBrush, readBrushes, Vertices, noVertices, readVertices, readTriangles, readSets, readMesh, readBone, readKeys, readAnim, aMesh, aBone, readKind, withKeys, readAnimation, Inner, readNodes, readBelow, readNode, readRoot, readBody, parse}
+use Rattle.b3d_spec.specs.Rules.{brushRow, brushIds, nodeRow, triangleRow, weightRow, animated, boneLimit, boneLimitFrom, boneLimitBelow, levels, header, fileHead, brushesHead, meshHead, trianglesHead}
+use Rattle.b3d_spec.specs.Scene.{Brush, Mesh, Anim, noAnim, anim, Data, noNodes}
 use Rattle.b3d_spec.specs.Tags.{code, is, Chunks, Found}
 use Rattle.b3d_mend_spec.specs.Mend.{mayBeNone}
 use Rattle.b3d_mend_faults.specs.Faults.{Reading, gives, numberFault, itemFault, numberFaults, rowFaults, brushFaults, itemFaults, textureFaults, brushesFaults, vertexFaults, triangleFaults, boneFaults, Within, finished, refused, spareAt, chunkAt, within, Part, oneFaults, setFaults, meshFaults, kindFaults, moveFaults, nodesFaults, nodeFaults, bodyFaults, lengthFault, fileFaults}
@@ -30,14 +30,14 @@ use Rattle.b3d_mend_faults.proofs.Shared.{items-agree, Own, Moving, see
 abbrev Refused : (Rule → ℕ → ℕ → Reading (Unit {0})) → Type 0
 Refused one = (r : Rule) (p w : ℕ) → Agrees false Any (one r p w) (check (holds r w) (refusal r) p)
 
-checked : (b : Bool) (n p : ℕ) (m : Reading (Unit {0})) → Agrees {B = Unit {0}} false Any m (bad n p) → Agrees false Any (if b (gives tt) m) (check b n p)
+checked : (b : Bool) (n p : ℕ) (m : Reading (Unit {0})) → Agrees {B = Unit {0}} false Any m (reject n p) → Agrees false Any (if b (gives tt) m) (check b n p)
 unfolding check if
 checked true n p m h = tt
 checked false n p m h = h
 
 number-read : Refused numberFault
 unfolding numberFault
-number-read r p w = checked (holds r w) (refusal r) p (if (mayBeNone r) _ _) (either-agrees false Any (mayBeNone r) _ _ (bad (refusal r) p) refl refl)
+number-read r p w = checked (holds r w) (refusal r) p (if (mayBeNone r) _ _) (either-agrees false Any (mayBeNone r) _ _ (reject (refusal r) p) refl refl)
 
 item-read : Refused itemFault
 unfolding itemFault
@@ -67,7 +67,7 @@ abbrev Many : {B : Type 0} → ℕ → List B → Type 0
 Many n l = n ≡ length l
 
 -- items that leave off where they do in the file
-module _ {A B : Type 0} (item : ℕ → List ℕ → Reading (Step A)) (read : ℕ → List ℕ → Out (Step B)) (one : (p : ℕ) (s : List ℕ) → Agrees false At (item p s) (read p s)) where
+module _ {A B : Type 0} (item : ℕ → List ℕ → Reading (Step A)) (read : ℕ → List ℕ → Result (Step B)) (one : (p : ℕ) (s : List ℕ) → Agrees false At (item p s) (read p s)) where
   many-read : (p : ℕ) (s : List ℕ) → Agrees false Many (itemFaults item p s) (items read p s)
   many-read = items-agree false item read (λ b. Unit {0}) Many refl (λ n b l u e. ap suc e) (λ p s. weak-agrees false At _ (item p s) (read p s) (one p s) (λ x y h. (h, tt)))
 
@@ -112,7 +112,7 @@ bone-read vertices p b = many-read (rowFaults itemFault (weightRow vertices)) (r
 abbrev Beside : {A B : Type 0} → (A → B → Type 0) → Part A → Found B → Type 0
 Beside R x y = R (x .value) (y .value) × (y .rest ≡ seen false (x .rest))
 
-module _ {A B : Type 0} (k : Tag) (a : A) (b : B) (one : ℕ → List ℕ → Reading A) (read : ℕ → List ℕ → Out B) (R : A → B → Type 0) (absent : R a b)
+module _ {A B : Type 0} (k : Tag) (a : A) (b : B) (one : ℕ → List ℕ → Reading A) (read : ℕ → List ℕ → Result B) (R : A → B → Type 0) (absent : R a b)
     (h : (p : ℕ) (s : List ℕ) → Agrees false R (one p s) (read p s)) where
   one-of : (l : Within) → Agrees false (Beside R) (oneFaults k a one l) (readOne k b read (seen false l))
   unfolding oneFaults readOne
@@ -163,19 +163,19 @@ kind-of brushes vertices (chunkAt t p s r) =
     (if-agrees false (Beside Own) (is t BONE) _ _ _ _ (bind-agrees false Many (Beside Own) (boneFaults vertices p s) (readBone vertices p s) _ _ (bone-read vertices p s) (λ n m e. (refl, refl)))
     (refl, refl))
 
-moves-of : (b : Bool) (before : Anim) → b ≡ animated before → (l : Within) → Agrees false (Beside Moving) (moveFaults b l) (readMoves before (seen false l))
-unfolding moveFaults readMoves withKeys
+moves-of : (b : Bool) (before : Anim) → b ≡ animated before → (l : Within) → Agrees false (Beside Moving) (moveFaults b l) (readAnimation before (seen false l))
+unfolding moveFaults readAnimation withKeys
 moves-of b before e finished = (e, refl)
 moves-of b before e (refused n p) = refl
 moves-of b before e (spareAt p l) = refl
 moves-of b before e (chunkAt t p s r) =
     if-agrees false (Beside Moving) (is t KEYS) _ _ _ _
-    (same-agrees false (Beside Moving) (readKeys p s) _ _ (λ k. more-agrees false (Beside Moving) (Beside Moving) (moveFaults b r) (readMoves before (seen false r)) _ (moves-of b before e r) (λ x y h. h)))
+    (same-agrees false (Beside Moving) (readKeys p s) _ _ (λ k. more-agrees false (Beside Moving) (Beside Moving) (moveFaults b r) (readAnimation before (seen false r)) _ (moves-of b before e r) (λ x y h. h)))
     (if-agrees false (Beside Moving) (is t ANIM) _ _ _ _ (same-agrees false (Beside Moving) (readAnim p s) _ _ (λ ws. moves-of true (anim ws) refl r)) (e, refl))
 
 -- ---- nodes
 
-module _ (one : ℕ → List ℕ → Reading (Unit {0})) (read : ℕ → List ℕ → Out Inner) (h : (p : ℕ) (s : List ℕ) → Agrees false Any (one p s) (read p s)) where
+module _ (one : ℕ → List ℕ → Reading (Unit {0})) (read : ℕ → List ℕ → Result Inner) (h : (p : ℕ) (s : List ℕ) → Agrees false Any (one p s) (read p s)) where
   nodes-of : (l : Within) → Agrees false Any (nodesFaults one l) (readNodes read (seen false l))
   unfolding nodesFaults readNodes
   nodes-of finished = tt
@@ -190,16 +190,16 @@ node-read zero brushes above p b = refl
 node-read (suc l) brushes above p b =
     same-agrees false Any (named nodeRow (p + 8) b) _ _ (λ h.
     let w = within NODE p (h .place) (h .left) in
-    bind-agrees false (Beside Own) Any (kindFaults brushes (boneVertices above) w) (readKind Lenient brushes (boneVertices above) (inside NODE p (h .place) (h .left))) _ _
-    (subst (λ (z : Chunks). Agrees false (Beside Own) (kindFaults brushes (boneVertices above) w) (readKind Lenient brushes (boneVertices above) z)) (sym (inside-seen NODE p (h .place) (h .left)))
-    (kind-of brushes (boneVertices above) w)) (λ k k′ g.
-    bind-agrees false (Beside Moving) Any (moveFaults false (k .rest)) (readMoves still (k′ .rest)) _ _
-    (subst (λ (z : Chunks). Agrees false (Beside Moving) (moveFaults false (k .rest)) (readMoves still z)) (sym (g .1)) (moves-of false still refl (k .rest))) (λ m m′ i.
-    let told = bonesFrom above (m .value) (k .value) in
+    bind-agrees false (Beside Own) Any (kindFaults brushes (boneLimit above) w) (readKind Lenient brushes (boneLimit above) (inside NODE p (h .place) (h .left))) _ _
+    (subst (λ (z : Chunks). Agrees false (Beside Own) (kindFaults brushes (boneLimit above) w) (readKind Lenient brushes (boneLimit above) z)) (sym (inside-seen NODE p (h .place) (h .left)))
+    (kind-of brushes (boneLimit above) w)) (λ k k′ g.
+    bind-agrees false (Beside Moving) Any (moveFaults false (k .rest)) (readAnimation noAnim (k′ .rest)) _ _
+    (subst (λ (z : Chunks). Agrees false (Beside Moving) (moveFaults false (k .rest)) (readAnimation noAnim z)) (sym (g .1)) (moves-of false noAnim refl (k .rest))) (λ m m′ i.
+    let told = boneLimitFrom above (m .value) (k .value) in
     let d : Data = record { name = h .value .0; words = h .value .1; kind = k′ .value; keys = m′ .value .keys; anim = m′ .value .anim } in
-    let et : told ≡ bonesBelow above d = ap₂ (bonesFrom above) (i .0) (g .0) in
-    more-agrees false Any Any (nodesFaults (nodeFaults l brushes told) (m .rest)) (readNodes (readNode Lenient l brushes (bonesBelow above d)) (m′ .rest)) _
-    (subst (λ (z : Chunks). Agrees false Any (nodesFaults (nodeFaults l brushes told) (m .rest)) (readNodes (readNode Lenient l brushes (bonesBelow above d)) z)) (sym (i .1))
+    let et : told ≡ boneLimitBelow above d = ap₂ (boneLimitFrom above) (i .0) (g .0) in
+    more-agrees false Any Any (nodesFaults (nodeFaults l brushes told) (m .rest)) (readNodes (readNode Lenient l brushes (boneLimitBelow above d)) (m′ .rest)) _
+    (subst (λ (z : Chunks). Agrees false Any (nodesFaults (nodeFaults l brushes told) (m .rest)) (readNodes (readNode Lenient l brushes (boneLimitBelow above d)) z)) (sym (i .1))
     (subst (λ (o : Option ℕ). Agrees false Any (nodesFaults (nodeFaults l brushes told) (m .rest)) (readNodes (readNode Lenient l brushes o) (seen false (m .rest)))) et
     (nodes-of (nodeFaults l brushes told) (readNode Lenient l brushes told) (node-read l brushes told) (m .rest))))
     (λ u f t. tt))))
@@ -216,8 +216,8 @@ body-read p b =
     bind-agrees false (Beside Brushes) Any (oneFaults BRUS 0 (brushesFaults (t .value)) (t .rest)) (readOne BRUS (0, []) (readBrushes Lenient (length (t′ .value))) (t′ .rest)) _ _
     (one-read BRUS 0 (0, []) (brushesFaults (t .value)) (readBrushes Lenient (length (t′ .value))) Brushes refl
     (subst (λ (n : ℕ). (q : ℕ) (s : List ℕ) → Agrees false Brushes (brushesFaults (t .value) q s) (readBrushes Lenient n q s)) (gt .0) (brushes-read (t .value))) (t .rest) (t′ .rest) (gt .1)) (λ u u′ gu.
-    bind-agrees false (Beside Any) Any (oneFaults NODE tt (nodeFaults levels (u .value) none) (u .rest)) (readOne NODE leaf (readRoot Lenient (length (u′ .value .1))) (u′ .rest)) _ _
-    (one-read NODE tt leaf (nodeFaults levels (u .value) none) (readRoot Lenient (length (u′ .value .1))) Any tt
+    bind-agrees false (Beside Any) Any (oneFaults NODE tt (nodeFaults levels (u .value) none) (u .rest)) (readOne NODE noNodes (readRoot Lenient (length (u′ .value .1))) (u′ .rest)) _ _
+    (one-read NODE tt noNodes (nodeFaults levels (u .value) none) (readRoot Lenient (length (u′ .value .1))) Any tt
     (subst (λ (n : ℕ). (q : ℕ) (s : List ℕ) → Agrees false Any (nodeFaults levels (u .value) none q s) (readRoot Lenient n q s)) (gu .0)
     (λ q s. more-agrees false Any Any (nodeFaults levels (u .value) none q s) (readNode Lenient levels (u .value) none q s) _ (node-read levels (u .value) none q s) (λ i j v. tt))) (u .rest) (u′ .rest) (gu .1)) (λ n n′ gn.
     end-agrees false (n .rest) (n′ .rest) _ (gn .1)))))

@@ -7,11 +7,11 @@ use mathlib.Core.List.{List, [], _∷_}
 use lib.ListN.{length}
 use Rattle.wire.specs.Test.{if}
 use Rattle.layout.specs.Chunks.{done, stop, chunk, ended}
-use Rattle.layout.specs.Out.{Out}
+use Rattle.layout.specs.Result.{Result}
 use Rattle.layout.specs.Parts.{Step, itemsIn, items}
 use Rattle.b3d_spec.specs.declared.Tag.{Tag}
-use Rattle.b3d_spec.specs.Nesting.{nesting, Reached, start, owed, end, next, onward, order, inside}
-use Rattle.b3d_spec.specs.Parse.{Moves}
+use Rattle.b3d_spec.specs.Nesting.{nesting, Reached, start, requiredBetween, end, next, onward, order, inside}
+use Rattle.b3d_spec.specs.Parse.{Animation}
 use Rattle.b3d_spec.specs.Rules.{ownVertices, animated}
 use Rattle.b3d_spec.specs.Scene.{Kind}
 use Rattle.b3d_spec.specs.Tags.{Chunks}
@@ -22,7 +22,7 @@ use Rattle.b3d_mend_faults.proofs.Agreeing.{Agrees, Any, bind-agrees, m
 
 -- ---- items, of which each has `Each`, and a list of n has `Count`
 
-module _ {A B : Type 0} (mends : Bool) (item : ℕ → List ℕ → Reading (Step A)) (read : ℕ → List ℕ → Out (Step B)) (Each : B → Type 0) (Count : ℕ → List B → Type 0)
+module _ {A B : Type 0} (mends : Bool) (item : ℕ → List ℕ → Reading (Step A)) (read : ℕ → List ℕ → Result (Step B)) (Each : B → Type 0) (Count : ℕ → List B → Type 0)
     (none-yet : Count 0 []) (one-more : (n : ℕ) (b : B) (l : List B) → Each b → Count n l → Count (suc n) (b ∷ l))
     (one : (p : ℕ) (s : List ℕ) → Agrees mends (λ (x : Step A) (y : Step B). At x y × Each (y .value)) (item p s) (read p s)) where
   in-agrees : (f p : ℕ) (s : List ℕ) → Agrees mends Count (itemFaultsIn f item p s) (itemsIn f read p s)
@@ -47,7 +47,7 @@ abbrev pub Own : ℕ → Kind → Type 0
 Own n k = n ≡ ownVertices k
 
 -- b says whether there is an ANIM
-abbrev pub Moving : Bool → Moves → Type 0
+abbrev pub Moving : Bool → Animation → Type 0
 Moving b m = b ≡ animated (m .anim)
 
 -- ---- the chunks inside a chunk
@@ -73,7 +73,7 @@ onward-seen mends (some q) t p b f g h = ap (λ (z : Chunks). chunk t p b z) (h 
 
 order-seen : (mends : Bool) (k : Tag) (head : ℕ) (r : Reached) (l : Within) → order k head r (seen mends l) ≡ seen mends (inOrder k head r l)
 unfolding order inOrder
-order-seen mends k head r finished = end-seen mends (owed (nesting k) (r .turn) end) head
+order-seen mends k head r finished = end-seen mends (requiredBetween (nesting k) (r .turn) end) head
 order-seen mends k head r (refused n p) = refl
 order-seen true k head r (spareAt p l) = order-seen true k head r l
 order-seen false k head r (spareAt p l) = refl

@@ -11,7 +11,7 @@ use lib.Dec.{eqb, leb}
 use borrow.Author.Tests.{leb-true, leb-false}
 use Rattle.wire.specs.Bytes.{word, wordAt}
 use Rattle.wire.specs.Test.{if}
-use Rattle.layout.specs.Out.{Out, got, bad, check}
+use Rattle.layout.specs.Result.{Result, accept, reject, check}
 use Rattle.layout.specs.Parts.{Step, text, words, row, number, named}
 use Rattle.layout.specs.Rows.{sizeFits}
 use Rattle.layout.specs.Rules.{Rule, any, upTo, exactly, names, namesOrNone, unit, holds, refusal}
@@ -22,9 +22,9 @@ use Rattle.layout.proofs.StepLaws.{judged-got}
 use Rattle.b3d_spec.specs.declared.Mode.the-variants.{Lenient}
 use Rattle.b3d_spec.specs.declared.Tag.{Tag}
 use Rattle.b3d_spec.specs.declared.Tag.the-variants.{BB3D, TEXS, BRUS, NODE, MESH, VRTS, KEYS, ANIM}
-use Rattle.b3d_spec.specs.Nesting.{nesting, Reached, start, reachedAt, owed, end, next}
+use Rattle.b3d_spec.specs.Nesting.{nesting, Reached, start, reachedAt, requiredBetween, end, next}
 use Rattle.b3d_spec.specs.Parse.{readTextures, readVertices, readKeys, readAnim}
-use Rattle.b3d_spec.specs.Rules.{brushRow, brushIds, nodeRow, triangleRow, weightRow, boneVertices, bonesFrom, levels, header, fileHead, brushesHead, meshHead, trianglesHead}
+use Rattle.b3d_spec.specs.Rules.{brushRow, brushIds, nodeRow, triangleRow, weightRow, boneLimit, boneLimitFrom, levels, header, fileHead, brushesHead, meshHead, trianglesHead}
 use Rattle.b3d_spec.specs.Tags.{code, is, tagOf}
 use Rattle.b3d_spec.proofs.Files.BodyRefusals as refusals
 use Rattle.b3d_spec.proofs.Files.Entries.{Either, same-tag}
@@ -72,9 +72,9 @@ ruled (namesOrNone n) e = omega arith
 ruled unit e = omega arith
 
 -- what was read as a row was read as words
-row-words : (rs : List Rule) (p : ℕ) (s : List ℕ) (x : Step (List ℕ)) → row rs p s ≡ got x → words p (length rs) p s ≡ got x
+row-words : (rs : List Rule) (p : ℕ) (s : List ℕ) (x : Step (List ℕ)) → row rs p s ≡ accept x → words p (length rs) p s ≡ accept x
 unfolding row
-row-words rs p s x e = by-got (words p (length rs) p s) _ e (λ y ey e₁. ey ∙ ap got (judged-got rs p (y .value) y x e₁))
+row-words rs p s x e = by-got (words p (length rs) p s) _ e (λ y ey e₁. ey ∙ ap accept (judged-got rs p (y .value) y x e₁))
 
 module _ (s : List ℕ) where
   -- what is said of each fault
@@ -82,13 +82,13 @@ module _ (s : List ℕ) where
   Three (mendable k n p) = n ≡ 3 → Spare s p
   Three (other n p) = n ≡ 3 → Past s p
 
-  plain-each : {A : Type 0} (R : A → Type 0) (o : Out A) → refusals.Low NotThree R o → Each Three (λ (a : A). o ≡ got a) (plainly o)
+  plain-each : {A : Type 0} (R : A → Type 0) (o : Result A) → refusals.Low NotThree R o → Each Three (λ (a : A). o ≡ accept a) (plainly o)
   unfolding plainly
-  plain-each R (got a) h = refl
-  plain-each R (bad n p) h = λ e. absurd (h e)
+  plain-each R (accept a) h = refl
+  plain-each R (reject n p) h = λ e. absurd (h e)
 
   -- of a value no more is kept
-  some-each : {A C : Type 0} (R : A → Type 0) (f : A → C) (o : Out A) → refusals.Low NotThree R o → Each Three Any (plainly o >>= λ a. gives (f a))
+  some-each : {A C : Type 0} (R : A → Type 0) (f : A → C) (o : Result A) → refusals.Low NotThree R o → Each Three Any (plainly o >>= λ a. gives (f a))
   some-each R f o h = bind-each Three _ Any (plainly o) _ (plain-each R o h) (λ a e. tt)
 
   number-each : (r : Rule) (p w : ℕ) → Each Three Any (numberFault r p w)
@@ -106,7 +106,7 @@ module _ (s : List ℕ) where
     numbers-each R (r ∷ rs) p [] a h = h
     numbers-each R (r ∷ rs) p (w ∷ ws) a h = bind-each Three Any R (one r p w) _ (ok r p w) (λ u t. numbers-each R rs (p + 4) ws a h)
 
-    row-each : (rs : List Rule) (p : ℕ) (b : List ℕ) → Each Three (λ (x : Step (List ℕ)). words p (length rs) p b ≡ got x) (rowFaults one rs p b)
+    row-each : (rs : List Rule) (p : ℕ) (b : List ℕ) → Each Three (λ (x : Step (List ℕ)). words p (length rs) p b ≡ accept x) (rowFaults one rs p b)
     unfolding rowFaults
     row-each rs p b =
         bind-each Three _ _ (plainly (words p (length rs) p b)) _ (plain-each _ (words p (length rs) p b) (refusals.words-low (p + length b) NotThree (λ q l e. omega arith) (λ r q l. ruled r) p (length rs) p b (omega arith) (omega arith)))
@@ -220,7 +220,7 @@ module _ (s : List ℕ) where
 
   order-met : (last : ℕ) (k : Tag) (head : ℕ) (r : Reached) (l : Within) → Met last l → Met last (inOrder k head r l)
   unfolding inOrder onwardFrom if
-  order-met last k head r finished h = go (owed (nesting k) (r .turn) end)
+  order-met last k head r finished h = go (requiredBetween (nesting k) (r .turn) end)
     where
       go : (b : Bool) → Met last (if b (refused 8 head) finished)
       go true = λ e. absurd (omega arith)
@@ -382,9 +382,9 @@ module _ (s : List ℕ) where
       let ends : h .place + length (h .left) ≡ to = omega (arith, o .same, c .size) in
       let met = found-met (length (h .left)) (h .place) to (h .left) (named-at s nodeRow (p + 8) b h (c .stands) eh .0) ends
       (inside (h .place) to p last NODE (c .due) (c .fits) (c .tag) (h, ap (named nodeRow (p + 8)) (part-is s (p + 8) to b (c .stands) (sym (c .size))) ∙ eh, refl) refl) in
-      bind-each Three (Left to Late) Any (kindFaults brushes (boneVertices above) (within NODE p (h .place) (h .left))) _ (kind-each to brushes (boneVertices above) p (found (pieces (h .place) (h .left))) met) (λ k mk.
+      bind-each Three (Left to Late) Any (kindFaults brushes (boneLimit above) (within NODE p (h .place) (h .left))) _ (kind-each to brushes (boneLimit above) p (found (pieces (h .place) (h .left))) met) (λ k mk.
       bind-each Three (Left to Nodes) Any (moveFaults false (k .rest)) _ (moves-each to false (k .rest) (mk .0) (mk .1)) (λ v mv.
-      nodes-each to (nodeFaults l brushes (bonesFrom above (v .value) (k .value))) (node-each l brushes (bonesFrom above (v .value) (k .value)) to) (v .rest) (mv .0) (mv .1))))
+      nodes-each to (nodeFaults l brushes (boneLimitFrom above (v .value) (k .value))) (node-each l brushes (boneLimitFrom above (v .value) (k .value)) to) (v .rest) (mv .0) (mv .1))))
 
   -- ---- the file
 

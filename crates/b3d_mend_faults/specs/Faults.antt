@@ -8,16 +8,16 @@ use mathlib.Core.List.{List, [], _∷_, _++_}
 use lib.ListN.{length}
 use lib.Dec.{eqb}
 use Rattle.wire.specs.Test.{if}
-use Rattle.layout.specs.Out.{Out, got, bad, check}
+use Rattle.layout.specs.Result.{Result, accept, reject, check}
 use Rattle.layout.specs.Parts.{Step, text, words, row, number, named}
 use Rattle.layout.specs.Rows.{sizeFits}
 use Rattle.layout.specs.Rules.{Rule, holds, refusal}
 use Rattle.b3d_spec.specs.declared.Mode.the-variants.{Lenient}
 use Rattle.b3d_spec.specs.declared.Tag.{Tag}
 use Rattle.b3d_spec.specs.declared.Tag.the-variants.{BB3D, TEXS, BRUS, NODE, MESH, VRTS, BONE, KEYS, ANIM}
-use Rattle.b3d_spec.specs.Nesting.{nesting, Reached, start, owed, end, next}
+use Rattle.b3d_spec.specs.Nesting.{nesting, Reached, start, requiredBetween, end, next}
 use Rattle.b3d_spec.specs.Parse.{readTextures, readVertices, readKeys, readAnim}
-use Rattle.b3d_spec.specs.Rules.{brushRow, brushIds, nodeRow, triangleRow, weightRow, boneVertices, bonesFrom, levels, header, fileHead, brushesHead, meshHead, trianglesHead}
+use Rattle.b3d_spec.specs.Rules.{brushRow, brushIds, nodeRow, triangleRow, weightRow, boneLimit, boneLimitFrom, levels, header, fileHead, brushesHead, meshHead, trianglesHead}
 use Rattle.b3d_spec.specs.Tags.{code, is}
 use Rattle.b3d_mend_spec.specs.Mend.{mayBeNone}
 use Rattle.b3d_mend_spec.specs.Pieces.{Pieces, none-left, spare, past, other as unknown, known, pieces}
@@ -54,9 +54,9 @@ listed (ends n p) = other n p ∷ []
 listed (passes k n p m) = mendable k n p ∷ listed m
 
 -- a reading `o` in which nothing is mended: its refusal is of another kind
-unfoldable pub plainly : {A : Type 0} → Out A → Reading A
-plainly (got a) = gives a
-plainly (bad n p) = ends n p
+unfoldable pub plainly : {A : Type 0} → Result A → Reading A
+plainly (accept a) = gives a
+plainly (reject n p) = ends n p
 
 -- ---- numbers
 
@@ -162,7 +162,7 @@ onwardFrom (some r) p go = go r
 -- the chunks inside a chunk of tag k whose header is at `head`, after chunks that came to r: 4 at the first that may not stand where it does, 8
 -- at `head` where one that must stand is missing, behind spare bytes too
 unfoldable pub inOrder : Tag → ℕ → Reached → Within → Within
-inOrder k head r finished = if (owed (nesting k) (r .turn) end) (refused 8 head) finished
+inOrder k head r finished = if (requiredBetween (nesting k) (r .turn) end) (refused 8 head) finished
 inOrder k head r (refused n p) = refused n p
 inOrder k head r (spareAt p l) = spareAt p (inOrder k head r l)
 inOrder k head r (chunkAt t p b l) = onwardFrom (next (nesting k) (nesting k) r t) p (λ q. chunkAt t p b (inOrder k head q l))
@@ -245,9 +245,9 @@ unfoldable pub nodeFaults : ℕ → ℕ → Option ℕ → ℕ → List ℕ → 
 nodeFaults zero brushes above p b = ends 9 p
 nodeFaults (suc l) brushes above p b = do
   h ← plainly (named nodeRow (p + 8) b)
-  k ← kindFaults brushes (boneVertices above) (within NODE p (h .place) (h .left))
+  k ← kindFaults brushes (boneLimit above) (within NODE p (h .place) (h .left))
   m ← moveFaults false (k .rest)
-  nodesFaults (nodeFaults l brushes (bonesFrom above (m .value) (k .value))) (m .rest)
+  nodesFaults (nodeFaults l brushes (boneLimitFrom above (m .value) (k .value))) (m .rest)
 
 -- ---- the file
 

@@ -3,7 +3,7 @@ use mathlib.Core.Logic.{_⊎_}
 use mathlib.Core.Path.{_≡_}
 use Prim.Native.Nat.{ℕ, _≤_}
 use mathlib.Core.List.{List, [], _∷_}
-use Rattle.layout.specs.Out.{Out, got, bad}
+use Rattle.layout.specs.Result.{Result, accept, reject}
 use Rattle.b3d_spec.specs.declared.Mode.the-variants.{Lenient}
 use Rattle.b3d_spec.specs.Answers.{judge}
 use Rattle.b3d_spec.specs.Parse.{parse}
@@ -13,10 +13,10 @@ use Rattle.b3d_mend_faults.specs.Faults.{Fault, mendable, other, faults}
 use Rattle.b3d_mend_faults.specs.Headers.{Spare, Past}
 
 -- the refusal that the first fault of a list has; none where there is no fault
-unfoldable pub refusalBy : List Fault → Out (Unit {0})
-refusalBy [] = got tt
-refusalBy (mendable k n p ∷ l) = bad n p
-refusalBy (other n p ∷ l) = bad n p
+unfoldable pub refusalBy : List Fault → Result (Unit {0})
+refusalBy [] = accept tt
+refusalBy (mendable k n p ∷ l) = reject n p
+refusalBy (other n p ∷ l) = reject n p
 
 -- a list of faults with the four left out
 unfoldable pub others : List Fault → List Fault
@@ -25,9 +25,9 @@ others (mendable k n p ∷ l) = others l
 others (other n p ∷ l) = other n p ∷ others l
 
 -- a refusal, and nothing of what was read
-unfoldable pub refusalOf : {A : Type 0} → Out A → Out (Unit {0})
-refusalOf (got a) = got tt
-refusalOf (bad n p) = bad n p
+unfoldable pub refusalOf : {A : Type 0} → Result A → Result (Unit {0})
+refusalOf (accept a) = accept tt
+refusalOf (reject n p) = reject n p
 
 -- For every list of bytes s. `faults s` are its faults in 01's order, 1 to 9, up to the first that is not mended.
 pub record FirstFault (s : List ℕ) : Type 0 where
@@ -36,21 +36,21 @@ pub record FirstFault (s : List ℕ) : Type 0 where
   -- the mender refuses at the first of the faults with the four left out, and mends s exactly where none is left
   pub mender : refusalOf (mendFile s) ≡ refusalBy (others (faults s))
   -- the reader's answer is the first fault
-  pub judged : (n p : ℕ) → refusalBy (faults s) ≡ bad n p → judge Lenient s ≡ bad n p
+  pub judged : (n p : ℕ) → refusalBy (faults s) ≡ reject n p → judge Lenient s ≡ reject n p
   -- an answer 1 to 9 of the reader is the first fault: 10 comes only where there is no fault
-  pub judged-by : (n p : ℕ) → n ≤ 9 → judge Lenient s ≡ bad n p → refusalBy (faults s) ≡ bad n p
+  pub judged-by : (n p : ℕ) → n ≤ 9 → judge Lenient s ≡ reject n p → refusalBy (faults s) ≡ reject n p
   -- the mender's answer is the first fault of another kind, whatever room its outputs have
-  pub refused : (n p : ℕ) → refusalBy (others (faults s)) ≡ bad n p → (room reportRoom : ℕ) → mendInto room reportRoom s ≡ bad n p
+  pub refused : (n p : ℕ) → refusalBy (others (faults s)) ≡ reject n p → (room reportRoom : ℕ) → mendInto room reportRoom s ≡ reject n p
   -- an answer 1 to 9 of the mender is the first fault of another kind: 10 and 11 come only where none is left
-  pub refused-by : (n p : ℕ) → n ≤ 9 → (room reportRoom : ℕ) → mendInto room reportRoom s ≡ bad n p → refusalBy (others (faults s)) ≡ bad n p
+  pub refused-by : (n p : ℕ) → n ≤ 9 → (room reportRoom : ℕ) → mendInto room reportRoom s ≡ reject n p → refusalBy (others (faults s)) ≡ reject n p
   -- where the first fault is of another kind, reader and mender both answer it
   pub same : (n p : ℕ) (l : List Fault) → faults s ≡ other n p ∷ l
-      → (room reportRoom : ℕ) → (judge Lenient s ≡ bad n p) × (mendInto room reportRoom s ≡ bad n p)
+      → (room reportRoom : ℕ) → (judge Lenient s ≡ reject n p) × (mendInto room reportRoom s ≡ reject n p)
   -- a 3 of the reader stands where 1 to 7 bytes are left for a header, or at a length past what encloses it
-  pub three : (p : ℕ) → judge Lenient s ≡ bad 3 p → Spare s p ⊎ Past s p
+  pub three : (p : ℕ) → judge Lenient s ≡ reject 3 p → Spare s p ⊎ Past s p
   -- no place has both kinds of 3
   pub apart : (p : ℕ) → Spare s p → Past s p → ⊥
   -- a 3 at a length past what encloses it is the mender's answer too
-  pub past : (p : ℕ) → judge Lenient s ≡ bad 3 p → Past s p → (room reportRoom : ℕ) → mendInto room reportRoom s ≡ bad 3 p
+  pub past : (p : ℕ) → judge Lenient s ≡ reject 3 p → Past s p → (room reportRoom : ℕ) → mendInto room reportRoom s ≡ reject 3 p
   -- the mender answers 3 only at such a length: spare bytes are mended
-  pub only-past : (p room reportRoom : ℕ) → mendInto room reportRoom s ≡ bad 3 p → Past s p
+  pub only-past : (p room reportRoom : ℕ) → mendInto room reportRoom s ≡ reject 3 p → Past s p

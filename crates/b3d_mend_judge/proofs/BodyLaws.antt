@@ -8,14 +8,14 @@ use Rattle.wire.specs.Cursors.{Inside, numberAt}
 use Rattle.wire.specs.declared.Cursor.{Cursor}
 use Rattle.wire.specs.declared.Number.{Number}
 use Rattle.wire.specs.declared.Number.the-variants as number
-use Rattle.layout.specs.Out.{Out, got, _>>=_}
+use Rattle.layout.specs.Result.{Result, accept, _>>=_}
 use Rattle.layout.proofs.Outs.{bind-cong, bind-bind}
 use Rattle.b3d_spec.specs.declared.Mode.the-variants.{Lenient}
 use Rattle.b3d_spec.specs.declared.Tag.the-variants.{BB3D, TEXS, BRUS, NODE}
 use Rattle.layout.specs.Chunks.{done, stop, chunk, ended}
 use Rattle.layout.specs.Rows.{mostBytes}
 use Rattle.b3d_spec.specs.Tags.{Chunks, Found}
-use Rattle.b3d_spec.specs.Scene.{Texture, Brush, Forest, leaf, Scene}
+use Rattle.b3d_spec.specs.Scene.{Texture, Brush, Forest, noNodes, Scene}
 use Rattle.b3d_spec.specs.Rules.{version}
 use Rattle.b3d_spec.specs.Nesting.{start}
 use Rattle.b3d_spec.specs.Parse.{readOne, readTextures, readBrushes, slotsOf}
@@ -32,17 +32,17 @@ use Rattle.b3d_judge_file_body.specs.declared.Verdict.{Verdict}
 use Rattle.b3d_judge_file_body.specs.declared.Verdict.the-variants as verdict
 
 -- the end of the file is looked at before the scene is made, or after
-ended-made : {A B : Type 0} (cs : Chunks) (f : A → B) (a : A) → ended cs (f a) ≡ (ended cs a >>= λ x. got (f x))
+ended-made : {A B : Type 0} (cs : Chunks) (f : A → B) (a : A) → ended cs (f a) ≡ (ended cs a >>= λ x. accept (f x))
 unfolding ended
 ended-made done f a = refl
 ended-made (stop n p) f a = refl
 ended-made (chunk t p b r) f a = ended-made r f a
 
 -- a BB3D's body after its version, as the definition has it
-abbrev body : ℕ → Chunks → Out Scene
+abbrev body : ℕ → Chunks → Result Scene
 body v cs =
     readOne TEXS [] readTextures cs >>= λ t. readOne BRUS (0, []) (readBrushes Lenient every) (t .rest)
-    >>= λ u. readOne NODE leaf (laxRoot) (u .rest)
+    >>= λ u. readOne NODE noNodes (laxRoot) (u .rest)
     >>= λ n. ended (n .rest) (record { version = v; textures = t .value; slots = slotsOf (u .value .0) (u .value .1); brushes = u .value .1; nodes = n .value })
 
 -- a scene of textures, brushes and nodes
@@ -52,29 +52,29 @@ sceneOf v t u f = record { version = v; textures = t; slots = u .0; brushes = u 
 abbrev slotted : ℕ × List Brush → ℕ × List Brush
 slotted u = (slotsOf (u .0) (u .1), u .1)
 
-abbrev lastOf : ℕ → List Texture → ℕ × List Brush → Out (Found Forest) → Out Scene
+abbrev lastOf : ℕ → List Texture → ℕ × List Brush → Result (Found Forest) → Result Scene
 lastOf v t u o = o >>= λ n. ended (n .rest) (sceneOf v t (slotted u) (n .value))
 
-abbrev restOf : ℕ × List Brush → Out Forest → Out ((ℕ × List Brush) × Forest)
-restOf u o = o >>= λ f. got (slotted u, f)
+abbrev restOf : ℕ × List Brush → Result Forest → Result ((ℕ × List Brush) × Forest)
+restOf u o = o >>= λ f. accept (slotted u, f)
 
-abbrev wholeOf : ℕ → List Texture → Out ((ℕ × List Brush) × Forest) → Out Scene
-wholeOf v t o = o >>= λ x. got (sceneOf v t (x .0) (x .1))
+abbrev wholeOf : ℕ → List Texture → Result ((ℕ × List Brush) × Forest) → Result Scene
+wholeOf v t o = o >>= λ x. accept (sceneOf v t (x .0) (x .1))
 
 last-made : (v : ℕ) (t : List Texture) (u : ℕ × List Brush) (cs : Chunks)
-    → lastOf v t u (readOne NODE leaf (laxRoot) cs) ≡ wholeOf v t (restOf u (laxLast cs))
+    → lastOf v t u (readOne NODE noNodes (laxRoot) cs) ≡ wholeOf v t (restOf u (laxLast cs))
 unfolding laxLast
 last-made v t u cs =
-    bind-cong (readOne NODE leaf (laxRoot) cs) (λ n _. ended-made (n .rest) (sceneOf v t (slotted u)) (n .value))
-    ∙ sym (bind-bind (readOne NODE leaf (laxRoot) cs) (λ n. ended (n .rest) (n .value)) (λ f. got (sceneOf v t (slotted u) f)))
-    ∙ sym (bind-bind (laxLast cs) (λ f. got (slotted u, f)) (λ x. got (sceneOf v t (x .0) (x .1))))
+    bind-cong (readOne NODE noNodes (laxRoot) cs) (λ n _. ended-made (n .rest) (sceneOf v t (slotted u)) (n .value))
+    ∙ sym (bind-bind (readOne NODE noNodes (laxRoot) cs) (λ n. ended (n .rest) (n .value)) (λ f. accept (sceneOf v t (slotted u) f)))
+    ∙ sym (bind-bind (laxLast cs) (λ f. accept (slotted u, f)) (λ x. accept (sceneOf v t (x .0) (x .1))))
 
 pub regroup : (v : ℕ) (cs : Chunks) → body v cs ≡ laxChunks v cs
 unfolding laxChunks laxRest
 regroup v cs =
     bind-cong (readOne TEXS [] readTextures cs) (λ t _.
     bind-cong (readOne BRUS (0, []) (readBrushes Lenient every) (t .rest)) (λ u _. last-made v (t .value) (u .value) (u .rest))
-    ∙ sym (bind-bind (readOne BRUS (0, []) (readBrushes Lenient every) (t .rest)) (λ u. restOf (u .value) (laxLast (u .rest))) (λ x. got (sceneOf v (t .value) (x .0) (x .1)))))
+    ∙ sym (bind-bind (readOne BRUS (0, []) (readBrushes Lenient every) (t .rest)) (λ u. restOf (u .value) (laxLast (u .rest))) (λ x. accept (sceneOf v (t .value) (x .0) (x .1)))))
 
 -- the same answer in more bytes
 wider : (n more : ℕ) (y : Verdict) → n ≤ more → WalkedIn n y → WalkedIn more y

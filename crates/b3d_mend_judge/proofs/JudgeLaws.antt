@@ -10,7 +10,7 @@ use borrow.Author.Tests.{eq-eqb, ne-eqb, lt-leb, le-leb}
 use Rattle.wire.specs.Bytes.{bytes, wordAt, AllBytes}
 use Rattle.wire.proofs.Words.{drop-bytes}
 use Rattle.wire.specs.Test.{if}
-use Rattle.layout.specs.Out.{Out, got, bad, check, _>>=_}
+use Rattle.layout.specs.Result.{Result, accept, reject, check, _>>=_}
 use Rattle.layout.specs.Parts.{wordsOf}
 use Rattle.layout.specs.Rows.{eachOf, sizeFits}
 use Rattle.b3d_spec.specs.Scene.{Scene}
@@ -38,24 +38,24 @@ use Rattle.b3d_mend_judge_items.proofs.Counts.{counts-are}
 use Rattle.b3d_mend_judge.specs.Answers.{mendedVerdict, Placed}
 
 -- the answer of the walk is that of the mending read
-same-verdict : (o : Out Scene) (u : Out (Mended Scene)) → Alike SameScene o u → walked o ≡ mendedVerdict u
-same-verdict (got t) (got m) h = λ i. verdict.Good (record { version = h .version i; «n_texs» = h .slots i; tally = h .tally i })
-same-verdict (got t) (bad n p) h = absurd h
-same-verdict (bad n p) (got m) h = absurd h
-same-verdict (bad n p) (bad m q) h = λ i. verdict.Bad (h .0 i) (h .1 i)
+same-verdict : (o : Result Scene) (u : Result (Mended Scene)) → Alike SameScene o u → walked o ≡ mendedVerdict u
+same-verdict (accept t) (accept m) h = λ i. verdict.Good (record { version = h .version i; «n_texs» = h .slots i; tally = h .tally i })
+same-verdict (accept t) (reject n p) h = absurd h
+same-verdict (reject n p) (accept m) h = absurd h
+same-verdict (reject n p) (reject m q) h = λ i. verdict.Bad (h .0 i) (h .1 i)
 
-verdict-bad : (u : Out (Mended Scene)) (e p : ℕ) → mendedVerdict u ≡ verdict.Bad e p → u ≡ bad e p
-verdict-bad (got m) e p h = let z : _≡_ {A = ℕ} 0 1 = cc in absurd (omega arith)
-verdict-bad (bad n q) e p h = cc
+verdict-bad : (u : Result (Mended Scene)) (e p : ℕ) → mendedVerdict u ≡ verdict.Bad e p → u ≡ reject e p
+verdict-bad (accept m) e p h = let z : _≡_ {A = ℕ} 0 1 = cc in absurd (omega arith)
+verdict-bad (reject n q) e p h = cc
 
-record Gave (u : Out (Mended Scene)) (x : Summary) : Type 0 where
+record Gave (u : Result (Mended Scene)) (x : Summary) : Type 0 where
   value : Mended Scene
-  is : u ≡ got value
+  is : u ≡ accept value
   same : x ≡ record { version = value .value .version; «n_texs» = value .value .slots; tally = sceneTally (value .value) }
 
-verdict-good : (u : Out (Mended Scene)) (x : Summary) → mendedVerdict u ≡ verdict.Good x → Gave u x
-verdict-good (got m) x h = record { value = m; is = refl; same = cc }
-verdict-good (bad n p) x h = let z : _≡_ {A = ℕ} 0 1 = cc in absurd (omega arith)
+verdict-good : (u : Result (Mended Scene)) (x : Summary) → mendedVerdict u ≡ verdict.Good x → Gave u x
+verdict-good (accept m) x h = record { value = m; is = refl; same = cc }
+verdict-good (reject n p) x h = let z : _≡_ {A = ℕ} 0 1 = cc in absurd (omega arith)
 
 size-low : (n : ℕ) → n < 12 → sizeFits n ≡ false
 size-low n h = rw (lt-leb 12 n h)
@@ -67,8 +67,8 @@ size-good : (n : ℕ) → 12 ≤ n → n ≤ 16777216 → sizeFits n ≡ true
 size-good n a b = rw (le-leb 12 n a, le-leb n 16777216 b)
 
 -- by the body alone
-abbrev limited : Mended Scene → Out (Mended Scene)
-limited x = eachOf 10 (λ k. leb (length (rows k (x .value))) rowLimit) tables >>= λ _. got x
+abbrev limited : Mended Scene → Result (Mended Scene)
+limited x = eachOf 10 (λ k. leb (length (rows k (x .value))) rowLimit) tables >>= λ _. accept x
 
 module _ (s : List ℕ) where
   pub mended-low : length s < 12 → verdict.Bad 1 0 ≡ mendedVerdict (mendJudged s)
@@ -92,7 +92,7 @@ module _ (s : List ℕ) where
       body = hj .is ∙ same-verdict (laxBody 8 (drop 8 s)) (mendBody 8 (drop 8 s)) (body-alike 8 (drop 8 s) (drop-bytes 8 s b))
 
       -- what the file gives, by what its body gives
-      opened-bad : (e q : ℕ) → mendBody 8 (drop 8 s) ≡ bad e q → mendJudged s ≡ bad e q
+      opened-bad : (e q : ℕ) → mendBody 8 (drop 8 s) ≡ reject e q → mendJudged s ≡ reject e q
       unfolding mendJudged mendFile check
       opened-bad e q h = rw (size-good (length s) lo hi, head-is s eight, first-word s eight, ← et, eq-eqb tag 0x44334242 letters, h)
 
@@ -101,7 +101,7 @@ module _ (s : List ℕ) where
         value : whole .value ≡ m .value
         is : mendJudged s ≡ limited whole
 
-      opened : (m : Mended Scene) → mendBody 8 (drop 8 s) ≡ got m → Opened m
+      opened : (m : Mended Scene) → mendBody 8 (drop 8 s) ≡ accept m → Opened m
       unfolding mendJudged mendFile check
       opened m h = record { whole = record { value = m .value; edits = keep (bytes (code BB3D) []) ∷ fileLength (getD (wordsOf 2 s) 1 0) (length (drop 8 s)) (length (after (m .edits))) ∷ m .edits }; value = refl; is = rw (size-good (length s) lo hi, head-is s eight, first-word s eight, ← et, eq-eqb tag 0x44334242 letters, h) }
 
@@ -123,12 +123,12 @@ module _ (s : List ℕ) where
 
         pub mended-over : (n ≡ 0 → ⊥) → verdict.Bad 10 n ≡ mendedVerdict (mendJudged s)
         mended-over d =
-            ap mendedVerdict (sym (file .is ∙ ap (λ (o : Out (Unit {0})). o >>= λ _. got (file .whole)) (over-some (λ k. length (rows k (file .whole .value))) (sceneTally (file .whole .value) .copy) n over-at d)))
+            ap mendedVerdict (sym (file .is ∙ ap (λ (o : Result (Unit {0})). o >>= λ _. accept (file .whole)) (over-some (λ k. length (rows k (file .whole .value))) (sceneTally (file .whole .value) .copy) n over-at d)))
 
         pub mended-good : n ≡ 0 → verdict.Good x ≡ mendedVerdict (mendJudged s)
         mended-good q =
             ap verdict.Good (gave .same ∙ ap (λ (v : Scene). record { version = v .version; «n_texs» = v .slots; tally = sceneTally v }) (sym (file .value)))
-            ∙ ap mendedVerdict (sym (file .is ∙ ap (λ (o : Out (Unit {0})). o >>= λ _. got (file .whole)) (over-none (λ k. length (rows k (file .whole .value))) (sceneTally (file .whole .value) .copy) n over-at q)))
+            ∙ ap mendedVerdict (sym (file .is ∙ ap (λ (o : Result (Unit {0})). o >>= λ _. accept (file .whole)) (over-none (λ k. length (rows k (file .whole .value))) (sceneTally (file .whole .value) .copy) n over-at q)))
 
 -- ---- places
 

@@ -2,16 +2,16 @@
 use mathlib.Core.Path.{_≡_}
 use Prim.Native.Nat.{ℕ, _≤_}
 use Rattle.layout.specs.Rows.{mostBytes}
-use Rattle.layout.specs.Out.{Out, got, bad}
+use Rattle.layout.specs.Result.{Result, accept, reject}
 use Rattle.b3d_spec.specs.Scene.{Scene}
 use Rattle.b3d_judge_tally.specs.Tally.{sceneTally}
 use Rattle.b3d_judge_file_body.specs.declared.Verdict.{Verdict}
 use Rattle.b3d_judge_file_body.specs.declared.Verdict.the-variants as verdict
 use Rattle.b3d_mend_spec.specs.Mend.{Mended}
 
-abbrev pub mendedVerdict : Out (Mended Scene) → Verdict
-mendedVerdict (got x) = verdict.Good (record { version = x .value .version; «n_texs» = x .value .slots; tally = sceneTally (x .value) })
-mendedVerdict (bad n p) = verdict.Bad n p
+abbrev pub mendedVerdict : Result (Mended Scene) → Verdict
+mendedVerdict (accept x) = verdict.Good (record { version = x .value .version; «n_texs» = x .value .slots; tally = sceneTally (x .value) })
+mendedVerdict (reject n p) = verdict.Bad n p
 
 -- a refusal's place is one of the file, or a table's number
 pub record Placed (r : Verdict) : Type 0 where

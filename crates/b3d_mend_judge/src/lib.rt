@@ -15,7 +15,7 @@ ghost use Rattle.b3d_mend_judge.specs.Answers.{mendedVerdict, Placed};
 use b3d_judge_file_body::Summary;
 use b3d_judge_file_body::Verdict;
 use b3d_judge_file_chunks::Phase;
-use b3d_judge_materials::Slotted;
+use b3d_judge_materials::BrushesSummary;
 use b3d_spec::letters;
 use wire::Cursor;
 use wire::Number;
@@ -25,11 +25,11 @@ fn lax_chunks(s: &[u8], version: u32, from: Cursor) -> Verdict
     requires { ⌜ Among 0 from (length (now s)) × (from .at ≡ 12) ⌝ }
     ensures { λ r. ⌜ Walks (laxChunks version (restIn (now (s .entry)) BB3D 0 start from)) (from .end) r ⌝ }
 {
-    match b3d_judge_file_chunks::judge_texs(s, from) {
+    match b3d_judge_file_chunks::judge_texs_chunk(s, from) {
         Phase::Not(e, p) => Verdict::Bad(e, p),
         Phase::To(t, c) => match b3d_mend_judge_file::lax_rest(s, c) {
-            Slotted::Not(e, p) => Verdict::Bad(e, p),
-            Slotted::Is(slots, r) => Verdict::Good(Summary {
+            BrushesSummary::Not(e, p) => Verdict::Bad(e, p),
+            BrushesSummary::Is(slots, r) => Verdict::Good(Summary {
                 version,
                 n_texs: slots,
                 tally: b3d_judge_file_body::file_rows(t, r),

@@ -2,7 +2,7 @@
 ghost use mathlib.Core.Bool.{true};
 ghost use lib.ListN.{length};
 ghost use Rattle.b3d_spec.specs.declared.Tag.the-variants.{BB3D, NODE};
-ghost use Rattle.b3d_spec.specs.Scene.{leaf};
+ghost use Rattle.b3d_spec.specs.Scene.{noNodes};
 ghost use Rattle.b3d_spec.specs.Nesting.{reachedAt};
 ghost use Rattle.b3d_spec.specs.Parse.{readOne};
 ghost use Rattle.b3d_judge_tally.specs.Tally.{forestTally};
@@ -12,9 +12,9 @@ ghost use Rattle.b3d_judge_file_chunks.specs.Answers.{Phases, Rests};
 ghost use Rattle.b3d_mend_judge_items.specs.Lax.{laxRoot};
 ghost use Rattle.b3d_mend_judge_file.specs.Phases.{laxLast, laxRest};
 use b3d_chunk_next_allowed::Enclosed;
-use b3d_judge_file_chunks::Brushed;
+use b3d_judge_file_chunks::BrusSummary;
 use b3d_judge_file_chunks::Phase;
-use b3d_judge_materials::Slotted;
+use b3d_judge_materials::BrushesSummary;
 use b3d_judge_node::Above;
 use b3d_judge_tally::Judged;
 use b3d_rule_nesting_order::Reached;
@@ -39,7 +39,7 @@ const EVERY: usize = 4294967296;
 // Judges the root with the nodes below it, if NODE comes first.
 fn lax_root(s: &[u8], from: Cursor) -> Phase
     requires { ⌜ Among 0 from (length (now s)) ⌝ }
-    ensures { λ r. ⌜ Phases forestTally (readOne NODE leaf laxRoot (restIn (now (s .entry)) BB3D 0 (reachedAt 2 true) from))
+    ensures { λ r. ⌜ Phases forestTally (readOne NODE noNodes laxRoot (restIn (now (s .entry)) BB3D 0 (reachedAt 2 true) from))
         (restIn (now (s .entry)) BB3D 0 (reachedAt 3 true)) from r ⌝ }
 {
     let found = b3d_chunk_cursor::next_chunk(s, from);
@@ -75,15 +75,15 @@ fn lax_last(s: &[u8], from: Cursor) -> Judged
 }
 
 // Judges BRUS, whatever its texture ids, and NODE.
-pub fn lax_rest(s: &[u8], from: Cursor) -> Slotted
+pub fn lax_rest(s: &[u8], from: Cursor) -> BrushesSummary
     requires { ⌜ Among 0 from (length (now s)) ⌝ }
     ensures { λ r. ⌜ Rests (laxRest (restIn (now (s .entry)) BB3D 0 (reachedAt 1 true) from)) (from .at) (from .end) r ⌝ }
 {
-    match b3d_judge_file_chunks::judge_brus(s, from, EVERY, Mode::Lenient) {
-        Brushed::Not(e, p) => Slotted::Not(e, p),
-        Brushed::To(slots, b, c) => match lax_last(s, c) {
-            Judged::Bad(e, p) => Slotted::Not(e, p),
-            Judged::Good(f) => Slotted::Is(slots, b3d_judge_tally::plus(b, f)),
+    match b3d_judge_file_chunks::judge_brus_chunk(s, from, EVERY, Mode::Lenient) {
+        BrusSummary::Not(e, p) => BrushesSummary::Not(e, p),
+        BrusSummary::To(slots, b, c) => match lax_last(s, c) {
+            Judged::Bad(e, p) => BrushesSummary::Not(e, p),
+            Judged::Good(f) => BrushesSummary::Is(slots, b3d_judge_tally::plus(b, f)),
         },
     }
 }

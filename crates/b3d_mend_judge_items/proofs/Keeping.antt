@@ -10,7 +10,7 @@ use Rattle.wire.specs.Test.{if}
 use Rattle.wire.specs.Cursors.{Inside, left}
 use Rattle.wire.specs.declared.Cursor.{Cursor}
 use Rattle.wire.proofs.Left.{span, left-length, left-nil, left-drop}
-use Rattle.layout.specs.Out.{Out, got, bad, _>>=_}
+use Rattle.layout.specs.Result.{Result, accept, reject, _>>=_}
 use Rattle.layout.specs.Parts.{wordsOf, row, items}
 use Rattle.layout.specs.Rules.{Rule, any, names, holds}
 use Rattle.layout.proofs.StepLaws.{length-words-of, row-any, any-short, row-shrinks, items-none, items-step, Shrinks, words-add}
@@ -81,13 +81,13 @@ pub ruleset one-laws = (one-out, one-kept)
 -- ---- items
 
 -- so many items before others
-abbrev countedFrom : ℕ → Out (List (List ℕ)) → Counted
-countedFrom k (got l) = counts.Is (k + length l)
-countedFrom k (bad n p) = counts.Not n p
+abbrev countedFrom : ℕ → Result (List (List ℕ)) → Counted
+countedFrom k (accept l) = counts.Is (k + length l)
+countedFrom k (reject n p) = counts.Not n p
 
-from-none : (o : Out (List (List ℕ))) → counted o ≡ countedFrom 0 o
-from-none (got l) = let e : length l ≡ 0 + length l = omega arith in ap counts.Is e
-from-none (bad n p) = refl
+from-none : (o : Result (List (List ℕ))) → counted o ≡ countedFrom 0 o
+from-none (accept l) = let e : length l ≡ 0 + length l = omega arith in ap counts.Is e
+from-none (reject n p) = refl
 
 kept-more : (rs : List Rule) (v : List ℕ) (l : List (List ℕ)) → length (kept rs (v ∷ l)) ≡ oneIf (allHold rs v) + length (kept rs l)
 unfolding kept if
@@ -97,13 +97,13 @@ kept-more rs v l = go (allHold rs v)
     go true = omega arith
     go false = omega arith
 
-from-one : (k : ℕ) (rs : List Rule) (v : List ℕ) (o : Out (List (List ℕ)))
-    → countedFrom k (o >>= (λ l. got (v ∷ l)) >>= λ l. got (kept rs l)) ≡ countedFrom (k + oneIf (allHold rs v)) (o >>= λ l. got (kept rs l))
-from-one k rs v (got l) =
+from-one : (k : ℕ) (rs : List Rule) (v : List ℕ) (o : Result (List (List ℕ)))
+    → countedFrom k (o >>= (λ l. accept (v ∷ l)) >>= λ l. accept (kept rs l)) ≡ countedFrom (k + oneIf (allHold rs v)) (o >>= λ l. accept (kept rs l))
+from-one k rs v (accept l) =
     let q = kept-more rs v l in
     let e : k + length (kept rs (v ∷ l)) ≡ k + oneIf (allHold rs v) + length (kept rs l) = omega arith in
     ap counts.Is e
-from-one k rs v (bad n p) = refl
+from-one k rs v (reject n p) = refl
 
 one-times : (g k : ℕ) → g ≤ 1 → g * k ≤ k
 one-times zero k h = omega (arith, zero-mul k)
@@ -143,7 +143,7 @@ module _ (s : List ℕ) (words : ℕ) (rs : List Rule) (from : Cursor) (x : Coun
 
     module _ (h : at < from .end) where
       step : items (row (replicate (length rs) any)) at (left (span at (from .end)) s)
-          ≡ (row (replicate (length rs) any) at (left (span at (from .end)) s) >>= λ v. items (row (replicate (length rs) any)) (v .place) (v .left) >>= λ l. got (v .value ∷ l))
+          ≡ (row (replicate (length rs) any) at (left (span at (from .end)) s) >>= λ v. items (row (replicate (length rs) any)) (v .place) (v .left) >>= λ l. accept (v .value ∷ l))
       step = items-step (row (replicate (length rs) any)) less at (left (span at (from .end)) s) (omega (arith, left-here))
 
       pub keep-cut : from .end - at < 4 * words → counts.Not 5 at ≡ x

@@ -12,7 +12,7 @@ use Rattle.wire.specs.Bytes.{bytes, AllBytes, IsWord}
 use Rattle.wire.specs.Test.{if}
 use Rattle.layout.specs.Chunks.{done, stop, chunk, ended}
 use Rattle.layout.specs.Lists.{All}
-use Rattle.layout.specs.Out.{Out, got, bad, check, _>>=_}
+use Rattle.layout.specs.Result.{Result, accept, reject, check, _>>=_}
 use Rattle.layout.specs.Parts.{Name, Step, text, words, row, judged, number, named, itemsIn, items}
 use Rattle.layout.specs.Rules.{Rule, any, upTo, exactly, names, namesOrNone, unit, NONE, holds}
 use Rattle.layout.proofs.Outs.{by-got}
@@ -20,10 +20,10 @@ use Rattle.layout.proofs.StepLaws.{judged-got}
 use Rattle.b3d_spec.specs.declared.Mode.the-variants.{Lenient}
 use Rattle.b3d_spec.specs.declared.Tag.{Tag}
 use Rattle.b3d_spec.specs.declared.Tag.the-variants.{BB3D, TEXS, BRUS, NODE}
-use Rattle.b3d_spec.specs.Nesting.{Reached, nesting, start, owed, end, next, onward, order}
+use Rattle.b3d_spec.specs.Nesting.{Reached, nesting, start, requiredBetween, end, next, onward, order}
 use Rattle.b3d_spec.specs.Parse.{readOne, readTextures, readBrush, readBrushes, slotsOf}
 use Rattle.b3d_spec.specs.Rules.{brushRow, brushIds, brushesHead, fileHead}
-use Rattle.b3d_spec.specs.Scene.{Texture, Brush, Forest, leaf, Scene}
+use Rattle.b3d_spec.specs.Scene.{Texture, Brush, Forest, noNodes, Scene}
 use Rattle.b3d_spec.specs.Tags.{is, Chunks, Found}
 use Rattle.b3d_judge_tally.specs.Tally.{plus, bytesTally, texsTally, brusOf, brusTally, forestTally, sceneTally}
 use Rattle.b3d_judge_tally.specs.declared.Tally.{Tally}
@@ -59,7 +59,7 @@ taken (namesOrNone n) w t h = rw t (go (eqb w NONE) (lt-ltb w every h))
     go false e = e
 taken unit w t h = absurd t
 
-taking : {A : Type 0} (rs : List Rule) (p : ℕ) (ws : List ℕ) (a : A) → All Taking rs → All IsWord ws → judged rs p ws a ≡ got a
+taking : {A : Type 0} (rs : List Rule) (p : ℕ) (ws : List ℕ) (a : A) → All Taking rs → All IsWord ws → judged rs p ws a ≡ accept a
 unfolding judged check
 taking [] p ws a t h = refl
 taking (r ∷ rs) p [] a t h = refl
@@ -130,7 +130,7 @@ brushes-in slots textures (suc f) p (c ∷ s) h =
     (rw (e .place, e .left) (brushes-in slots textures f (y .place) (y .left) (e .bytes)))
     (λ l m g. omega (arith, length-append (y .value .value) (gathered m .value), e .one)))
 
-row-bytes : (rs : List Rule) (p : ℕ) (s : List ℕ) (x : Step (List ℕ)) → AllBytes s → row rs p s ≡ got x → AllBytes (x .left)
+row-bytes : (rs : List Rule) (p : ℕ) (s : List ℕ) (x : Step (List ℕ)) → AllBytes s → row rs p s ≡ accept x → AllBytes (x .left)
 unfolding row
 row-bytes rs p s x h e = by-got (words p (length rs) p s) _ e (λ y ey e₁. subst (λ (z : Step (List ℕ)). AllBytes (z .left)) (judged-got rs p (y .value) y x e₁) (words-read p (length rs) p s y h ey .bytes))
 
@@ -144,13 +144,13 @@ brus-alike textures p b hb =
     many h (itemsIn (length (h .left)) (readBrush Lenient (number h 0) every) (h .place) (h .left)) (itemsIn (length (h .left)) (mendBrush (number h 0) textures) (h .place) (h .left))
     (brushes-in (number h 0) textures (length (h .left)) (h .place) (h .left) (row-bytes brushesHead (p + 8) b h hb eh)))
   where
-    many : (h : Step (List ℕ)) (o : Out (List Brush)) (u : Out (List (Mended (List Brush)))) → Alike SameMany o u
-        → Alike (λ (x : ℕ × List Brush) (m : Mended (ℕ × List Brush)). SameBrushes x (m .value)) (o >>= λ l. got (number h 0, l))
-        (u >>= (λ l. got (gathered l)) >>= λ l. got (record { value = (number h 0, l .value); edits = keep (bytes (number h 0) []) ∷ l .edits }))
-    many h (got l) (got m) g = (refl, g)
-    many h (got l) (bad n q) g = absurd g
-    many h (bad n q) (got m) g = absurd g
-    many h (bad n q) (bad i j) g = g
+    many : (h : Step (List ℕ)) (o : Result (List Brush)) (u : Result (List (Mended (List Brush)))) → Alike SameMany o u
+        → Alike (λ (x : ℕ × List Brush) (m : Mended (ℕ × List Brush)). SameBrushes x (m .value)) (o >>= λ l. accept (number h 0, l))
+        (u >>= (λ l. accept (gathered l)) >>= λ l. accept (record { value = (number h 0, l .value); edits = keep (bytes (number h 0) []) ∷ l .edits }))
+    many h (accept l) (accept m) g = (refl, g)
+    many h (accept l) (reject n q) g = absurd g
+    many h (reject n q) (accept m) g = absurd g
+    many h (reject n q) (reject i j) g = g
 
 -- ---- chunks of bytes
 
@@ -179,7 +179,7 @@ onward-bytes (some q) p go h = h q
 
 order-bytes : (k : Tag) (head : ℕ) (r : Reached) (cs : Chunks) → BytesIn cs → BytesIn (order k head r cs)
 unfolding order
-order-bytes k head r done h = if-bytes (owed (nesting k) (r .turn) end) head
+order-bytes k head r done h = if-bytes (requiredBetween (nesting k) (r .turn) end) head
 order-bytes k head r (stop n p) h = tt
 order-bytes k head r (chunk t p b l) h = onward-bytes (next (nesting k) (nesting k) r t) p (λ q. chunk t p b (order k head q l)) (λ q. (h .0, order-bytes k head q l (h .1)))
 
@@ -188,7 +188,7 @@ inside-bytes k head p s h = order-bytes k head start (chunksOf (pieces p s)) (wh
 
 -- ---- one chunk of a file
 
-module _ {A B : Type 0} (R : A → B → Type 0) (k : Tag) (a : A) (a′ : B) (h : R a a′) (one : ℕ → List ℕ → Out A) (two : ℕ → List ℕ → Out (Mended B))
+module _ {A B : Type 0} (R : A → B → Type 0) (k : Tag) (a : A) (a′ : B) (h : R a a′) (one : ℕ → List ℕ → Result A) (two : ℕ → List ℕ → Result (Mended B))
     (t : (p : ℕ) (b : List ℕ) → AllBytes b → Alike (λ (x : A) (m : Mended B). R x (m .value)) (one p b) (two p b)) where
   record SameOne (x : Found A) (y : Taken B) : Type 0 where
     value : R (x .value) (y .value)
@@ -261,9 +261,9 @@ body-alike p b hb =
     (subst (λ (z : Chunks). Alike (SameOne SameBrushes BRUS (0, []) (0, []) (refl, refl) (readBrushes Lenient every) (mendBrushes (length (t′ .value))) (brus-alike (length (t′ .value)))) (readOne BRUS (0, []) (readBrushes Lenient every) z) (mendOne BRUS (0, []) (mendBrushes (length (t′ .value))) (t′ .rest))) (sym (et .rest))
     (one-of SameBrushes BRUS (0, []) (0, []) (refl, refl) (readBrushes Lenient every) (mendBrushes (length (t′ .value))) (brus-alike (length (t′ .value))) (t′ .rest) (et .bytes)))
     (λ u u′ eu.
-    alike-bind (SameOne SameNodes NODE leaf leaf refl laxRoot (mendRoot (length (u′ .value .1))) (λ q c _. root-alike (length (u′ .value .1)) q c)) SameScene
-    (readOne NODE leaf laxRoot (u .rest)) (mendOne NODE leaf (mendRoot (length (u′ .value .1))) (u′ .rest)) _ _
-    (subst (λ (z : Chunks). Alike (SameOne SameNodes NODE leaf leaf refl laxRoot (mendRoot (length (u′ .value .1))) (λ q c _. root-alike (length (u′ .value .1)) q c)) (readOne NODE leaf laxRoot z) (mendOne NODE leaf (mendRoot (length (u′ .value .1))) (u′ .rest))) (sym (eu .rest))
-    (one-of SameNodes NODE leaf leaf refl laxRoot (mendRoot (length (u′ .value .1))) (λ q c _. root-alike (length (u′ .value .1)) q c) (u′ .rest) (eu .bytes)))
+    alike-bind (SameOne SameNodes NODE noNodes noNodes refl laxRoot (mendRoot (length (u′ .value .1))) (λ q c _. root-alike (length (u′ .value .1)) q c)) SameScene
+    (readOne NODE noNodes laxRoot (u .rest)) (mendOne NODE noNodes (mendRoot (length (u′ .value .1))) (u′ .rest)) _ _
+    (subst (λ (z : Chunks). Alike (SameOne SameNodes NODE noNodes noNodes refl laxRoot (mendRoot (length (u′ .value .1))) (λ q c _. root-alike (length (u′ .value .1)) q c)) (readOne NODE noNodes laxRoot z) (mendOne NODE noNodes (mendRoot (length (u′ .value .1))) (u′ .rest))) (sym (eu .rest))
+    (one-of SameNodes NODE noNodes noNodes refl laxRoot (mendRoot (length (u′ .value .1))) (λ q c _. root-alike (length (u′ .value .1)) q c) (u′ .rest) (eu .bytes)))
     (λ n n′ en.
     last (number h 0) (t .value) (t′ .value) (u .value) (u′ .value) (n .value) (n′ .value) _ (n .rest) (n′ .rest) (et .value) (eu .value) (en .value) (en .rest)))))

@@ -7,7 +7,7 @@ use lib.ListN.{length, replicate, length-replicate}
 use Rattle.wire.specs.Bytes.{bytes}
 use Rattle.wire.specs.Test.{if}
 use Rattle.layout.specs.Chunks.{done, stop, chunk}
-use Rattle.layout.specs.Out.{Out, got, bad, _>>=_}
+use Rattle.layout.specs.Result.{Result, accept, reject, _>>=_}
 use Rattle.layout.specs.Parts.{Step, words, row, judged, itemsIn, items}
 use Rattle.layout.specs.Lists.{All}
 use Rattle.layout.specs.Rules.{Rule, any, upTo, exactly, names, namesOrNone, unit, NONE, holds}
@@ -40,17 +40,17 @@ row-words : (n p : ℕ) (s : List ℕ) → row (replicate n any) p s ≡ words p
 unfolding row
 row-words n p s = rw (length-replicate n any) (go (words p n p s))
   where
-    go : (o : Out (Step (List ℕ))) → (o >>= λ x. judged (replicate n any) p (x .value) x) ≡ o
-    go (got x) = judged-any n p (x .value) x
-    go (bad m q) = refl
+    go : (o : Result (Step (List ℕ))) → (o >>= λ x. judged (replicate n any) p (x .value) x) ≡ o
+    go (accept x) = judged-any n p (x .value) x
+    go (reject m q) = refl
 
 item-alike : (rs : List Rule) (p : ℕ) (s : List ℕ) → Alike (SameItem rs) (row (replicate (length rs) any) p s) (mendItem rs p s)
 unfolding mendItem
 item-alike rs p s = rw (row-words (length rs) p s) (go (words p (length rs) p s))
   where
-    go : (o : Out (Step (List ℕ))) → Alike (SameItem rs) o (o >>= λ x. got (record { value = stays (allHold rs (x .value)) (x .value); place = x .place; left = x .left }))
-    go (got x) = record { value = refl; place = refl; left = refl }
-    go (bad m q) = (refl, refl)
+    go : (o : Result (Step (List ℕ))) → Alike (SameItem rs) o (o >>= λ x. accept (record { value = stays (allHold rs (x .value)) (x .value); place = x .place; left = x .left }))
+    go (accept x) = record { value = refl; place = refl; left = refl }
+    go (reject m q) = (refl, refl)
 
 kept-one : (rs : List Rule) (ws : List ℕ) (l l′ : List (List ℕ)) → kept rs l ≡ l′ → kept rs (ws ∷ l) ≡ stays (allHold rs ws) ws .value ++ l′
 unfolding kept stays if
@@ -94,7 +94,7 @@ Mild (names n) = ⊥
 Mild (namesOrNone n) = Unit {0}
 Mild unit = ⊥
 
-mild-word : (r : Rule) → Mild r → (p w : ℕ) → (v : Mended ℕ) × (mendWord r p w ≡ got v)
+mild-word : (r : Rule) → Mild r → (p w : ℕ) → (v : Mended ℕ) × (mendWord r p w ≡ accept v)
 unfolding mendWord if
 mild-word any h p w = (_, refl)
 mild-word (upTo m) h p w = absurd h
@@ -102,12 +102,12 @@ mild-word (exactly m) h p w = absurd h
 mild-word (names n) h p w = absurd h
 mild-word (namesOrNone n) h p w = go (holds (namesOrNone n) w)
   where
-    go : (b : Bool) → (v : Mended ℕ) × (if b (got (record { value = w; edits = keep (bytes w []) ∷ [] })) (got (record { value = NONE; edits = idSet w NONE ∷ [] })) ≡ got v)
+    go : (b : Bool) → (v : Mended ℕ) × (if b (accept (record { value = w; edits = keep (bytes w []) ∷ [] })) (accept (record { value = NONE; edits = idSet w NONE ∷ [] })) ≡ accept v)
     go true = (_, refl)
     go false = (_, refl)
 mild-word unit h p w = absurd h
 
-pub mild-words : (rs : List Rule) → All Mild rs → (p : ℕ) (ws : List ℕ) → (v : Mended (List ℕ)) × (mendWords rs p ws ≡ got v)
+pub mild-words : (rs : List Rule) → All Mild rs → (p : ℕ) (ws : List ℕ) → (v : Mended (List ℕ)) × (mendWords rs p ws ≡ accept v)
 unfolding mendWords
 mild-words [] h p ws = (_, refl)
 mild-words (r ∷ rs) h p [] = (_, refl)
@@ -120,10 +120,10 @@ pub head-alike : (n p : ℕ) (s : List ℕ) → Alike (λ (x : Step (List ℕ)) 
 unfolding mendRow
 head-alike n p s = rw (row-words 1 p s) (go (words p 1 p s))
   where
-    go : (o : Out (Step (List ℕ)))
-        → Alike (λ (x : Step (List ℕ)) (y : Step (Mended (List ℕ))). SameStep x y) o (o >>= λ x. mendWords (namesOrNone n ∷ []) p (x .value) >>= λ v. got (record { value = v; place = x .place; left = x .left }))
-    go (got x) = let v = mild-words (namesOrNone n ∷ []) (tt, tt) p (x .value) in rw (v .1) (refl, refl)
-    go (bad m q) = (refl, refl)
+    go : (o : Result (Step (List ℕ)))
+        → Alike (λ (x : Step (List ℕ)) (y : Step (Mended (List ℕ))). SameStep x y) o (o >>= λ x. mendWords (namesOrNone n ∷ []) p (x .value) >>= λ v. accept (record { value = v; place = x .place; left = x .left }))
+    go (accept x) = let v = mild-words (namesOrNone n ∷ []) (tt, tt) p (x .value) in rw (v .1) (refl, refl)
+    go (reject m q) = (refl, refl)
 
 -- ---- TRIS and BONE
 
@@ -143,15 +143,15 @@ bone-alike vertices p b = items-alike (weightRow vertices) (p + 8) b
 
 -- ---- one chunk
 
-pub read-alike : {A : Type 0} (read : ℕ → List ℕ → Out A) (p : ℕ) (b : List ℕ) → Alike (λ (a : A) (m : Mended A). a ≡ m .value) (read p b) (asRead read p b)
+pub read-alike : {A : Type 0} (read : ℕ → List ℕ → Result A) (p : ℕ) (b : List ℕ) → Alike (λ (a : A) (m : Mended A). a ≡ m .value) (read p b) (asRead read p b)
 unfolding asRead
 read-alike {A} read p b = go (read p b)
   where
-    go : (o : Out A) → Alike (λ (a : A) (m : Mended A). a ≡ m .value) o (o >>= λ v. got (record { value = v; edits = keep b ∷ [] }))
-    go (got a) = refl
-    go (bad n q) = (refl, refl)
+    go : (o : Result A) → Alike (λ (a : A) (m : Mended A). a ≡ m .value) o (o >>= λ v. accept (record { value = v; edits = keep b ∷ [] }))
+    go (accept a) = refl
+    go (reject n q) = (refl, refl)
 
-module _ {A B : Type 0} (R : A → B → Type 0) (k : Tag) (a : A) (a′ : B) (h : R a a′) (one : ℕ → List ℕ → Out A) (two : ℕ → List ℕ → Out (Mended B))
+module _ {A B : Type 0} (R : A → B → Type 0) (k : Tag) (a : A) (a′ : B) (h : R a a′) (one : ℕ → List ℕ → Result A) (two : ℕ → List ℕ → Result (Mended B))
     (t : (p : ℕ) (b : List ℕ) → Alike (λ (x : A) (m : Mended B). R x (m .value)) (one p b) (two p b)) where
   abbrev pub SameFound : Found A → Taken B → Type 0
   SameFound x y = R (x .value) (y .value) × (x .rest ≡ y .rest)

@@ -53,7 +53,7 @@ pub fn kept_one(s: &[u8], c: Cursor, words: usize, ids: usize, limit: usize) -> 
     requires { ⌜ Inside c (length (now s)) × (c .at + 4 * words ≤ c .end) × (words ≤ 64) × (ids ≤ words) ⌝ }
     ensures { λ r. ⌜ (r ≡ oneIf (allHold (idRow ids (words - ids) limit) (wordsOf words (left c (now (s .entry)))))) × (r ≤ 1) ⌝ }
 {
-    let good = shared_ids::first_bad(s, c, ids, limit, false);
+    let good = shared_ids::first_invalid(s, c, ids, limit, false);
     if good < ids {
         return 0;
     }

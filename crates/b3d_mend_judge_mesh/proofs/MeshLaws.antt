@@ -8,7 +8,7 @@ use Rattle.wire.specs.Cursors.{Inside, left, numberAt}
 use Rattle.wire.specs.declared.Cursor.{Cursor}
 use Rattle.wire.specs.declared.Number.{Number}
 use Rattle.wire.specs.declared.Number.the-variants as number
-use Rattle.layout.specs.Out.{Out, got, bad, _>>=_}
+use Rattle.layout.specs.Result.{Result, accept, reject, _>>=_}
 use Rattle.layout.specs.Rules.{any}
 use Rattle.b3d_spec.specs.declared.Mode.the-variants.{Lenient}
 use Rattle.b3d_spec.specs.declared.Tag.the-variants.{MESH, VRTS}
@@ -21,8 +21,8 @@ use Rattle.b3d_judge_tally.proofs.Tallies.{within-more}
 use Rattle.b3d_spec_chunk_places.specs.Places.{Body, restIn, Among}
 use Rattle.b3d_spec_chunk_places.proofs.Heads.{head-cut, head-numbered, head-got, body-inside}
 use Rattle.b3d_judge_mesh.specs.Answers.{meshed, MeshedIn, Meshes}
-use Rattle.b3d_judge_mesh.specs.declared.Meshed.{Meshed}
-use Rattle.b3d_judge_mesh.specs.declared.Meshed.the-variants as meshes
+use Rattle.b3d_judge_mesh.specs.declared.MeshSummary.{MeshSummary}
+use Rattle.b3d_judge_mesh.specs.declared.MeshSummary.the-variants as meshes
 use Rattle.b3d_mend_judge_items.specs.Lax.{laxInside, laxSets, laxMesh}
 use Rattle.b3d_mend_judge_items.specs.Trimmed.{Trimmed}
 use Rattle.b3d_mend_judge_mesh.specs.Parts.{laxAfter, laxWithin}
@@ -32,23 +32,23 @@ brush-free : (x y : ℕ) (cs : Chunks) → meshed (laxWithin x cs) ≡ meshed (l
 unfolding laxWithin laxAfter meshTally
 brush-free x y cs = go (readOne VRTS noVertices (readVertices Lenient) cs)
   where
-    sets : (v : Vertices) (o : Out (List TriangleSet))
-        → meshed (o >>= λ l. got (record { brush = x; flags = v .flags; sets = v .sets; size = v .size; vertices = v .items; triangleSets = l }))
-        ≡ meshed (o >>= λ l. got (record { brush = y; flags = v .flags; sets = v .sets; size = v .size; vertices = v .items; triangleSets = l }))
-    sets v (got l) = refl
-    sets v (bad n p) = refl
+    sets : (v : Vertices) (o : Result (List TriangleSet))
+        → meshed (o >>= λ l. accept (record { brush = x; flags = v .flags; sets = v .sets; size = v .size; vertices = v .items; triangleSets = l }))
+        ≡ meshed (o >>= λ l. accept (record { brush = y; flags = v .flags; sets = v .sets; size = v .size; vertices = v .items; triangleSets = l }))
+    sets v (accept l) = refl
+    sets v (reject n p) = refl
 
-    go : (o : Out (Found Vertices)) → meshed (o >>= λ v. laxAfter x (got (v .value)) (v .rest)) ≡ meshed (o >>= λ v. laxAfter y (got (v .value)) (v .rest))
-    go (got v) = sets (v .value) (laxSets (length (v .value .items)) (v .rest))
-    go (bad n p) = refl
+    go : (o : Result (Found Vertices)) → meshed (o >>= λ v. laxAfter x (accept (v .value)) (v .rest)) ≡ meshed (o >>= λ v. laxAfter y (accept (v .value)) (v .rest))
+    go (accept v) = sets (v .value) (laxSets (length (v .value .items)) (v .rest))
+    go (reject n p) = refl
 
 -- the same answer in more bytes
-wider : (from to more : ℕ) (j : Meshed) → to ≤ more → MeshedIn from to j → MeshedIn from more j
+wider : (from to more : ℕ) (j : MeshSummary) → to ≤ more → MeshedIn from to j → MeshedIn from more j
 wider from to more (meshes.Is k t) le h = within-more (to - from) (more - from) h (omega arith)
 wider from to more (meshes.Not n p) le h = omega arith
 
 module _ (s : List ℕ) (at : ℕ) (body : Cursor) (g : Body at body (length s)) (r : Number) (e : r ≡ numberAt s body) where
-  abbrev Right : Meshed → Type 0
+  abbrev Right : MeshSummary → Type 0
   Right y = Meshes (laxMesh at (left body s)) at (body .end) y
 
   pub mesh-inside : Inside body (length s)
@@ -71,7 +71,7 @@ module _ (s : List ℕ) (at : ℕ) (body : Cursor) (g : Body at body (length s))
       pub mesh-far : at + 12 ≤ d .at
       mesh-far = let f = head-numbered s at body g r e k c w in omega (arith, g .head, x .same)
 
-      pub mesh-inner : (j : Meshed) → Meshes (laxWithin 0 (restIn s MESH at start d)) at (d .end) j → Right j
+      pub mesh-inner : (j : MeshSummary) → Meshes (laxWithin 0 (restIn s MESH at start d)) at (d .end) j → Right j
       unfolding laxMesh laxWithin laxAfter laxInside restIn
       mesh-inner j hj =
           let f = head-numbered s at body g r e k c w in

@@ -10,7 +10,7 @@ use lib.ListN.{length}
 use Rattle.wire.specs.Test.{if}
 use Rattle.wire.specs.Cursors.{left}
 use Rattle.wire.specs.declared.Cursor.{Cursor}
-use Rattle.layout.specs.Out.{Out, got, bad, _>>=_}
+use Rattle.layout.specs.Result.{Result, accept, reject, _>>=_}
 use Rattle.layout.specs.Chunks.{done, stop}
 use Rattle.layout.proofs.Outs.{bind-bind}
 use Rattle.layout.specs.Rows.{mostBytes}
@@ -31,8 +31,8 @@ use Rattle.b3d_judge_bodies.specs.Answers.{shaped, ShapedIn, Shapes}
 use Rattle.b3d_judge_tally.specs.declared.Tally.{Tally}
 use Rattle.b3d_judge_tally.specs.declared.Judged.{Judged}
 use Rattle.b3d_judge_tally.specs.declared.Judged.the-variants as judge
-use Rattle.b3d_judge_bodies.specs.declared.Shaped.{Shaped}
-use Rattle.b3d_judge_bodies.specs.declared.Shaped.the-variants as shape
+use Rattle.b3d_judge_bodies.specs.declared.VerticesSummary.{VerticesSummary}
+use Rattle.b3d_judge_bodies.specs.declared.VerticesSummary.the-variants as shape
 use Rattle.b3d_judge_tally.proofs.Tallies.{within-more, within-plus, within-vertices}
 use Rattle.b3d_rule_nesting_order.specs.declared.Reached.{Reached as State}
 use Rattle.b3d_chunk_next_allowed.specs.declared.Enclosed.{Enclosed}
@@ -44,8 +44,8 @@ use Rattle.b3d_judge_bodies.proofs.Going.{Going, going-start, going-refused, go
 use Rattle.b3d_judge_mesh.specs.Answers.{meshed, MeshedIn, Meshes}
 use Rattle.b3d_mend_judge_items.specs.Lax.{laxTriangles, laxSets}
 use Rattle.b3d_mend_judge_mesh.specs.Parts.{laxAfter, laxWithin}
-use Rattle.b3d_judge_mesh.specs.declared.Meshed.{Meshed}
-use Rattle.b3d_judge_mesh.specs.declared.Meshed.the-variants as meshes
+use Rattle.b3d_judge_mesh.specs.declared.MeshSummary.{MeshSummary}
+use Rattle.b3d_judge_mesh.specs.declared.MeshSummary.the-variants as meshes
 use Rattle.b3d_judge_tally.proofs.Answered.{judged-bad, judged-good}
 use Rattle.b3d_judge_tally.proofs.Chains.{judged-start, judged-more}
 use Rattle.b3d_chunk_next_allowed.proofs.Rests.{rest-done, rest-step, rest-stop, rest-end, step-body, among-inside, among-head}
@@ -70,7 +70,7 @@ module _ (s : List ℕ) (at vertices : ℕ) (from : Cursor) where
   setting-start g m e = record { going = going-start s at from m g e; so-far = rw e (judged-start setsTally (laxSets vertices (restIn s MESH at (reachedAt 1 true) from))) }
 
   module _ (c : Cursor) (q : State) (m : Tally) (v : Setting s at vertices from c q m) (r : Enclosed) (x : EnclosedIs s MESH at q c r) where
-    refuse : (e i : ℕ) → laxSets vertices (restIn s MESH at (reachedOf q) c) ≡ bad e i → i ≤ c .end → Sets (judge.Bad e i)
+    refuse : (e i : ℕ) → laxSets vertices (restIn s MESH at (reachedOf q) c) ≡ reject e i → i ≤ c .end → Sets (judge.Bad e i)
     refuse = going-refused s at from c m (v .going) setsTally _ _ (v .so-far)
 
     pub setting-stop : (e p : ℕ) → r ≡ enclosed.Not e p → Sets (judge.Bad e p)
@@ -80,12 +80,12 @@ module _ (s : List ℕ) (at vertices : ℕ) (from : Cursor) where
     pub setting-end : r ≡ enclosed.End → Sets (judge.Good m)
     unfolding laxSets setsTally
     setting-end w =
-        let none : laxSets vertices (restIn s MESH at (reachedOf q) c) ≡ got [] = rw (rest-end s MESH at q c r x w) in
+        let none : laxSets vertices (restIn s MESH at (reachedOf q) c) ≡ accept [] = rw (rest-end s MESH at q c r x w) in
         going-done s at from c m (v .going) setsTally _ _ (v .so-far) [] none refl
 
     module _ (t : Tag) (p : ℕ) (b n : Cursor) (z : State) (w : r ≡ enclosed.Chunk t p b n z) (j : Judged) (h : Judges setTally (laxTriangles vertices p (left b s)) p (b .end) j) where
       more : laxSets vertices (restIn s MESH at (reachedOf q) c)
-          ≡ (laxTriangles vertices p (left b s) >>= λ i. laxSets vertices (restIn s MESH at (reachedOf z) n) >>= λ l. got (i ∷ l))
+          ≡ (laxTriangles vertices p (left b s) >>= λ i. laxSets vertices (restIn s MESH at (reachedOf z) n) >>= λ l. accept (i ∷ l))
       unfolding laxSets
       more = rw (rest-step s MESH at q c r x t p b n z w)
 
@@ -106,27 +106,27 @@ pub ruleset setting = (setting-start, setting-stop, setting-end, setting-bad, se
 
 -- ---- the chunks inside a mesh
 
-shaped-bad : (o : Out Vertices) (e q : ℕ) → shaped o ≡ shape.Not e q → o ≡ bad e q
-shaped-bad (got v) e q h = let z : _≡_ {A = ℕ} 0 1 = cc in absurd (omega arith)
-shaped-bad (bad n p) e q h = cc
+shaped-bad : (o : Result Vertices) (e q : ℕ) → shaped o ≡ shape.Not e q → o ≡ reject e q
+shaped-bad (accept v) e q h = let z : _≡_ {A = ℕ} 0 1 = cc in absurd (omega arith)
+shaped-bad (reject n p) e q h = cc
 
-record GaveShape (o : Out Vertices) (k words : ℕ) : Type 0 where
+record GaveShape (o : Result Vertices) (k words : ℕ) : Type 0 where
   value : Vertices
-  is : o ≡ got value
+  is : o ≡ accept value
   many : k ≡ length (value .items)
   wide : words ≡ vertexWords (value .flags) (value .sets) (value .size)
 
-shaped-good : (o : Out Vertices) (k words : ℕ) → shaped o ≡ shape.Is k words → GaveShape o k words
-shaped-good (got v) k words h = record { value = v; is = refl; many = cc; wide = cc }
-shaped-good (bad n p) k words h = let z : _≡_ {A = ℕ} 0 1 = cc in absurd (omega arith)
+shaped-good : (o : Result Vertices) (k words : ℕ) → shaped o ≡ shape.Is k words → GaveShape o k words
+shaped-good (accept v) k words h = record { value = v; is = refl; many = cc; wide = cc }
+shaped-good (reject n p) k words h = let z : _≡_ {A = ℕ} 0 1 = cc in absurd (omega arith)
 
 -- what is made of sets, by a shape
-abbrev madeOf : Vertices → Out (List TriangleSet) → Out Mesh
-madeOf v o = o >>= λ l. got (record { brush = 0; flags = v .flags; sets = v .sets; size = v .size; vertices = v .items; triangleSets = l })
+abbrev madeOf : Vertices → Result (List TriangleSet) → Result Mesh
+madeOf v o = o >>= λ l. accept (record { brush = 0; flags = v .flags; sets = v .sets; size = v .size; vertices = v .items; triangleSets = l })
 
 module _ (s : List ℕ) (at p : ℕ) (b n : Cursor) (gb : Body p b (length s)) (gn : Among at n (length s)) (far : at + 12 ≤ p) (join : b .end ≡ n .at)
-    (j : Shaped) (h : Shapes (readVertices Lenient p (left b s)) b j) where
-  abbrev Shape-right : Meshed → Type 0
+    (j : VerticesSummary) (h : Shapes (readVertices Lenient p (left b s)) b j) where
+  abbrev Shape-right : MeshSummary → Type 0
   Shape-right y = Meshes (laxAfter 0 (readVertices Lenient p (left b s)) (restIn s MESH at (reachedAt 1 true) n)) at (n .end) y
 
   pub shape-bad : (e i : ℕ) → j ≡ shape.Not e i → Shape-right (meshes.Not e i)
@@ -156,7 +156,7 @@ module _ (s : List ℕ) (at p : ℕ) (b n : Cursor) (gb : Body p b (length s)) (
       unfolding laxAfter
       sets-read =
           let v = gave in
-          ap (λ (o : Out Vertices). o >>= λ v. madeOf v (laxSets (length (v .items)) (restIn s MESH at (reachedAt 1 true) n))) (v .is)
+          ap (λ (o : Result Vertices). o >>= λ v. madeOf v (laxSets (length (v .items)) (restIn s MESH at (reachedAt 1 true) n))) (v .is)
           ∙ ap (λ (m : ℕ). madeOf (v .value) (laxSets m (restIn s MESH at (reachedAt 1 true) n))) (sym (v .many))
 
       pub shape-sets-bad : (e c : ℕ) → i ≡ judge.Bad e c → Shape-right (meshes.Not e c)
@@ -184,13 +184,13 @@ module _ (s : List ℕ) (at p : ℕ) (b n : Cursor) (gb : Body p b (length s)) (
             let v = gave in
             let l = judged-good setsTally (laxSets k (restIn s MESH at (reachedAt 1 true) n)) u (sym (hi .is) ∙ y) in
             let M : Mesh = record { brush = 0; flags = v .value .flags; sets = v .value .sets; size = v .value .size; vertices = v .value .items; triangleSets = l .value } in
-            let to : laxAfter 0 (readVertices Lenient p (left b s)) (restIn s MESH at (reachedAt 1 true) n) ≡ got M = sets-read ∙ ap (madeOf (v .value)) (l .is) in
+            let to : laxAfter 0 (readVertices Lenient p (left b s)) (restIn s MESH at (reachedAt 1 true) n) ≡ accept M = sets-read ∙ ap (madeOf (v .value)) (l .is) in
             record {
               is = made M (v .many) (e ∙ ap₂ plus (ap₂ verticesTally (v .many) (v .wide)) (l .has)) ∙ ap meshed (sym to);
               within = rw e (within-plus (verticesTally k words) u (n .at - at) (n .end - n .at) (n .end - at) first tail (omega (arith, gn .head, gn .room)));
             }
           where
-            made : (q : Mesh) → k ≡ length (q .vertices) → m ≡ plus (verticesTally (length (q .vertices)) (vertexWords (q .flags) (q .sets) (q .size))) (setsTally (q .triangleSets)) → meshes.Is k m ≡ meshed (got q)
+            made : (q : Mesh) → k ≡ length (q .vertices) → m ≡ plus (verticesTally (length (q .vertices)) (vertexWords (q .flags) (q .sets) (q .size))) (setsTally (q .triangleSets)) → meshes.Is k m ≡ meshed (accept q)
             made q ek em = ap₂ meshes.Is ek em
 
 pub ruleset shape-laws = (shape-bad, shape-few, shape-wide, shape-sets-bad, shape-sets-small, shape-vertices-small, shape-good)
@@ -203,7 +203,7 @@ first-turn t z =
     (never, never, never, never, never, (λ h. (refl, some-inj h)), never, never, never, never) t
 
 module _ (s : List ℕ) (at : ℕ) (from : Cursor) (g : Among at from (length s)) (far : at + 12 ≤ from .at) (r : Enclosed) (x : EnclosedIs s MESH at (record { turn = 0; spent = false }) from r) where
-  abbrev Inside-mesh : Meshed → Type 0
+  abbrev Inside-mesh : MeshSummary → Type 0
   Inside-mesh y = Meshes (laxWithin 0 (restIn s MESH at start from)) at (from .end) y
 
   pub inside-stop : (e p : ℕ) → r ≡ enclosed.Not e p → Inside-mesh (meshes.Not e p)
@@ -214,7 +214,7 @@ module _ (s : List ℕ) (at : ℕ) (from : Cursor) (g : Among at from (length s)
   }
 
   -- it owes its VRTS
-  pub inside-end : r ≡ enclosed.End → (y : Meshed) → Inside-mesh y
+  pub inside-end : r ≡ enclosed.End → (y : MeshSummary) → Inside-mesh y
   unfolding order if
   inside-end w y =
       let n = end-next s MESH at (record { turn = 0; spent = false }) from r x w in
@@ -237,7 +237,7 @@ module _ (s : List ℕ) (at : ℕ) (from : Cursor) (g : Among at from (length s)
     pub inside-join : b .end ≡ n .at
     inside-join = sym (among .after)
 
-    pub inside-shape : (y : Meshed) → Meshes (laxAfter 0 (readVertices Lenient p (left b s)) (restIn s MESH at (reachedAt 1 true) n)) at (n .end) y → Inside-mesh y
+    pub inside-shape : (y : MeshSummary) → Meshes (laxAfter 0 (readVertices Lenient p (left b s)) (restIn s MESH at (reachedAt 1 true) n)) at (n .end) y → Inside-mesh y
     unfolding laxWithin laxAfter readOne if
     inside-shape y m =
         let f = among in

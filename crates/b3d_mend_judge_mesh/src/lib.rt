@@ -15,8 +15,8 @@ ghost use Rattle.b3d_judge_mesh.specs.Answers.{Meshes};
 ghost use Rattle.b3d_mend_judge_items.specs.Lax.{laxSets, laxMesh};
 ghost use Rattle.b3d_mend_judge_mesh.specs.Parts.{laxAfter, laxWithin};
 use b3d_chunk_next_allowed::Enclosed;
-use b3d_judge_bodies::Shaped;
-use b3d_judge_mesh::Meshed;
+use b3d_judge_bodies::VerticesSummary;
+use b3d_judge_mesh::MeshSummary;
 use b3d_judge_tally::Judged;
 use b3d_rule_nesting_order::Reached;
 use b3d_spec::Mode;
@@ -68,30 +68,30 @@ fn lax_sets(s: &[u8], at: usize, from: Cursor, vertices: usize) -> Judged
 }
 
 // Judges a VRTS whose header is at `p`, and the TRIS chunks from `next` on, of a mesh whose header is at `at`.
-fn lax_shape(s: &[u8], at: usize, p: usize, body: Cursor, next: Cursor) -> Meshed
+fn lax_shape(s: &[u8], at: usize, p: usize, body: Cursor, next: Cursor) -> MeshSummary
     requires { ⌜ Body p body (length (now s)) × Among at next (length (now s)) × (at + 12 ≤ p) × (body .end ≡ next .at) ⌝ }
     ensures { λ r. ⌜ Meshes (laxAfter 0 (readVertices Lenient p (left body (now (s .entry))))
         (restIn (now (s .entry)) MESH at (reachedAt 1 true) next)) at (next .end) r ⌝ }
 {
     match b3d_judge_bodies::judge_vertices(s, p, body, Mode::Lenient) {
-        Shaped::Not(e, q) => Meshed::Not(e, q),
-        Shaped::Is(n, words) => match lax_sets(s, at, next, n) {
-            Judged::Bad(e, q) => Meshed::Not(e, q),
-            Judged::Good(t) => Meshed::Is(n, b3d_judge_mesh::mesh_rows(n, words, t)),
+        VerticesSummary::Not(e, q) => MeshSummary::Not(e, q),
+        VerticesSummary::Is(n, words) => match lax_sets(s, at, next, n) {
+            Judged::Bad(e, q) => MeshSummary::Not(e, q),
+            Judged::Good(t) => MeshSummary::Is(n, b3d_judge_mesh::mesh_rows(n, words, t)),
         },
     }
 }
 
 // Judges the VRTS and the TRIS chunks of a mesh whose header is at `at`, from its first chunk on.
-fn lax_inside(s: &[u8], at: usize, from: Cursor) -> Meshed
+fn lax_inside(s: &[u8], at: usize, from: Cursor) -> MeshSummary
     requires { ⌜ Among at from (length (now s)) × (at + 12 ≤ from .at) ⌝ }
     ensures { λ r. ⌜ Meshes (laxWithin 0 (restIn (now (s .entry)) MESH at start from)) at (from .end) r ⌝ }
 {
     let found = b3d_chunk_cursor::next_chunk(s, from);
     match b3d_chunk_next_allowed::first_inside(s, from, found, Tag::MESH, at) {
         // No mesh ends here: it owes its VRTS.
-        Enclosed::End => Meshed::Is(0, b3d_judge_tally::none()),
-        Enclosed::Not(e, p) => Meshed::Not(e, p),
+        Enclosed::End => MeshSummary::Is(0, b3d_judge_tally::none()),
+        Enclosed::Not(e, p) => MeshSummary::Not(e, p),
         Enclosed::Chunk {
             at: p,
             body,
@@ -102,12 +102,12 @@ fn lax_inside(s: &[u8], at: usize, from: Cursor) -> Meshed
 }
 
 // Judges the MESH whose header is at `at`: its brush id, whatever it is, then the chunks inside it without spare bytes.
-pub fn lax_mesh(s: &[u8], at: usize, body: Cursor) -> Meshed
+pub fn lax_mesh(s: &[u8], at: usize, body: Cursor) -> MeshSummary
     requires { ⌜ Body at body (length (now s)) ⌝ }
     ensures { λ r. ⌜ Meshes (laxMesh at (left body (now (s .entry)))) at (body .end) r ⌝ }
 {
     match body.number(s) {
-        Number::Cut => Meshed::Not(5, body.at),
+        Number::Cut => MeshSummary::Not(5, body.at),
         Number::Is(_, c) => {
             let d = b3d_mend_judge_items::trimmed(s, c);
             lax_inside(s, at, d)

@@ -8,21 +8,21 @@ use mathlib.Core.List.{List}
 use lib.ListN.{length, take}
 use Rattle.wire.specs.Cursors.{Inside, left}
 use Rattle.wire.specs.declared.Cursor.{Cursor}
-use Rattle.layout.specs.Out.{Out, got, bad, _>>=_}
+use Rattle.layout.specs.Result.{Result, accept, reject, _>>=_}
 use Rattle.layout.specs.Parts.{wordsOf}
 use Rattle.layout.specs.Rows.{mostBytes}
 use Rattle.b3d_spec.specs.declared.Tag.the-variants.{NODE}
 use Rattle.b3d_spec.specs.Tags.{Chunks, Found}
-use Rattle.b3d_spec.specs.Scene.{Kind, still, Data}
-use Rattle.b3d_spec.specs.Rules.{nodeRow, ownVertices, boneVertices, animated, bonesFrom}
+use Rattle.b3d_spec.specs.Scene.{Kind, noAnim, Data}
+use Rattle.b3d_spec.specs.Rules.{nodeRow, ownVertices, boneLimit, animated, boneLimitFrom}
 use Rattle.b3d_spec.specs.Nesting.{start, order, reachedAt}
-use Rattle.b3d_spec.specs.Parse.{Moves, readMoves}
+use Rattle.b3d_spec.specs.Parse.{Animation, readAnimation}
 use Rattle.b3d_chunk_cursor.specs.Chunks.{namedAt, NamedIn}
 use Rattle.b3d_chunk_cursor.specs.declared.Named.{Named}
 use Rattle.b3d_chunk_cursor.specs.declared.Named.the-variants as named
 use Rattle.b3d_chunk_cursor.proofs.Names.{named-cut, named-any, named-among}
 use Rattle.b3d_judge_tally.proofs.Answered.{GaveBeside, beside-bad, beside-good}
-use Rattle.b3d_judge_tally.specs.Tally.{headTally, kindTally, movesTally, dataTally, plus, Within}
+use Rattle.b3d_judge_tally.specs.Tally.{headTally, kindTally, animationTally, dataTally, plus, Within}
 use Rattle.b3d_spec_chunk_places.specs.Places.{Body, restIn, Among}
 use Rattle.b3d_spec_chunk_places.proofs.Heads.{body-inside}
 use Rattle.b3d_judge_tally.specs.declared.Tally.{Tally}
@@ -35,34 +35,34 @@ use Rattle.b3d_mend_judge_node.specs.Answers.{laxParts, laxOwn, OwnedIn,
 use Rattle.b3d_judge_tally.specs.Answers.{Onward}
 use Rattle.b3d_judge_animation.specs.Answers.{moved, movedBy, MovedIn, Motions}
 use Rattle.b3d_judge_node.specs.declared.Above.{Above}
-use Rattle.b3d_judge_node.specs.declared.Kinded.{Kinded}
-use Rattle.b3d_judge_node.specs.declared.Kinded.the-variants as kind
+use Rattle.b3d_judge_node.specs.declared.KindSummary.{KindSummary}
+use Rattle.b3d_judge_node.specs.declared.KindSummary.the-variants as kind
 use Rattle.b3d_judge_animation.specs.declared.Motion.{Motion}
 use Rattle.b3d_judge_animation.specs.declared.Motion.the-variants as motion
-use Rattle.b3d_judge_node.specs.declared.Owned.{Owned}
-use Rattle.b3d_judge_node.specs.declared.Owned.the-variants as own
+use Rattle.b3d_judge_node.specs.declared.NodeSummary.{NodeSummary}
+use Rattle.b3d_judge_node.specs.declared.NodeSummary.the-variants as own
 
 -- ---- what the answers say
 
-kinds-at : (o : Out (Found Kind)) (rest : Cursor → Chunks) (from : Cursor) (k : Kinded) → Kinds o rest from k → {x : Kinded} → k ≡ x → kindedBy rest x ≡ kinded o
-kinds-at o rest from k h z = subst (λ (x : Kinded). kindedBy rest x ≡ kinded o) z (h .is)
+kinds-at : (o : Result (Found Kind)) (rest : Cursor → Chunks) (from : Cursor) (k : KindSummary) → Kinds o rest from k → {x : KindSummary} → k ≡ x → kindedBy rest x ≡ kinded o
+kinds-at o rest from k h z = subst (λ (x : KindSummary). kindedBy rest x ≡ kinded o) z (h .is)
 
-motions-at : (o : Out (Found Moves)) (rest : Cursor → Chunks) (from : Cursor) (k : Motion) → Motions o rest from k → {x : Motion} → k ≡ x → movedBy rest x ≡ moved o
+motions-at : (o : Result (Found Animation)) (rest : Cursor → Chunks) (from : Cursor) (k : Motion) → Motions o rest from k → {x : Motion} → k ≡ x → movedBy rest x ≡ moved o
 motions-at o rest from k h z = subst (λ (x : Motion). movedBy rest x ≡ moved o) z (h .is)
 
 -- ---- the ways of `lax_parts`
 
-module _ (s : List ℕ) (at : ℕ) (from : Cursor) (g : Among at from (length s)) (far : at + 49 ≤ from .at) (a : Option ℕ) (bones : ℕ) (eb : bones ≡ boneVertices a)
-    (k : Kinded) (hk : Kinds (laxKind bones (restIn s NODE at start from)) (restIn s NODE at (reachedAt 2 false)) from k) where
-  abbrev Right-parts : Owned → Type 0
-  Right-parts x = Parted a (laxParts (boneVertices a) (restIn s NODE at start from)) (restIn s NODE at (reachedAt 3 false)) at from x
+module _ (s : List ℕ) (at : ℕ) (from : Cursor) (g : Among at from (length s)) (far : at + 49 ≤ from .at) (a : Option ℕ) (bones : ℕ) (eb : bones ≡ boneLimit a)
+    (k : KindSummary) (hk : Kinds (laxKind bones (restIn s NODE at start from)) (restIn s NODE at (reachedAt 2 false)) from k) where
+  abbrev Right-parts : NodeSummary → Type 0
+  Right-parts x = Parted a (laxParts (boneLimit a) (restIn s NODE at start from)) (restIn s NODE at (reachedAt 3 false)) at from x
 
   -- the moves after a kind
-  abbrev made : Kind → Out (Found Moves) → Out (Found (Kind × Moves))
-  made v o = o >>= λ m. got (record { value = (v, m .value); rest = m .rest })
+  abbrev made : Kind → Result (Found Animation) → Result (Found (Kind × Animation))
+  made v o = o >>= λ m. accept (record { value = (v, m .value); rest = m .rest })
 
-  abbrev go : Out (Found Kind) → Out (Found (Kind × Moves))
-  go o = o >>= λ v. made (v .value) (readMoves still (v .rest))
+  abbrev go : Result (Found Kind) → Result (Found (Kind × Animation))
+  go o = o >>= λ v. made (v .value) (readAnimation noAnim (v .rest))
 
   pub parts-kind-bad : (e q : ℕ) → k ≡ kind.Not e q → Right-parts (own.Not e q)
   unfolding laxParts
@@ -91,13 +91,13 @@ module _ (s : List ℕ) (at : ℕ) (from : Cursor) (g : Among at from (length s)
     pub parts-first-small : Within (plus headTally t) mostBytes
     parts-first-small = let q = parts-among in within-more (c .at - at) mostBytes first-within (omega (arith, q .room, q .within, g .small))
 
-    module _ (j : Motion) (hj : Motions (readMoves still (restIn s NODE at (reachedAt 2 false) c)) (restIn s NODE at (reachedAt 3 false)) c j) where
+    module _ (j : Motion) (hj : Motions (readAnimation noAnim (restIn s NODE at (reachedAt 2 false) c)) (restIn s NODE at (reachedAt 3 false)) c j) where
       pub parts-moves-bad : (e q : ℕ) → j ≡ motion.Not e q → Right-parts (own.Not e q)
       unfolding laxParts
       parts-moves-bad e q y =
           let o = on in
           let v = gave in
-          let b = beside-bad (λ x. animated (x .anim)) movesTally (readMoves still (restIn s NODE at (reachedAt 2 false) c)) e q (motions-at (readMoves still (restIn s NODE at (reachedAt 2 false) c)) (restIn s NODE at (reachedAt 3 false)) c j hj y) in
+          let b = beside-bad (λ x. animated (x .anim)) animationTally (readAnimation noAnim (restIn s NODE at (reachedAt 2 false) c)) e q (motions-at (readAnimation noAnim (restIn s NODE at (reachedAt 2 false) c)) (restIn s NODE at (reachedAt 3 false)) c j hj y) in
           let le : q ≤ c .end = subst (MovedIn c) y (hj .within) in
           record { is = rw (← eb, v .is, b); within = omega (arith, o .same) }
 
@@ -108,19 +108,19 @@ module _ (s : List ℕ) (at : ℕ) (from : Cursor) (g : Among at from (length s)
         pub parts-moves-small : Within u mostBytes
         parts-moves-small = let q = parts-among in let m = after-moves in within-more (d .at - c .at) mostBytes (m .within) (omega (arith, m .room, m .same, q .within, g .small))
 
-        pub parts-good : (x : Tally) → x ≡ plus (plus headTally t) u → (below : Above) → aboveOf below ≡ bonesFrom a seen have → Right-parts (own.To below x d)
+        pub parts-good : (x : Tally) → x ≡ plus (plus headTally t) u → (below : Above) → aboveOf below ≡ boneLimitFrom a seen have → Right-parts (own.To below x d)
         unfolding laxParts
         parts-good x ex below e-below =
             let o = on in
             let m = after-moves in
             let kd = gave in
-            let mv = beside-good (λ x. animated (x .anim)) movesTally (readMoves still (restIn s NODE at (reachedAt 2 false) c)) seen u (restIn s NODE at (reachedAt 3 false) d) (motions-at (readMoves still (restIn s NODE at (reachedAt 2 false) c)) (restIn s NODE at (reachedAt 3 false)) c j hj y) in
-            let to : laxParts bones (restIn s NODE at start from) ≡ got (record { value = (kd .value, mv .value); rest = restIn s NODE at (reachedAt 3 false) d }) =
+            let mv = beside-good (λ x. animated (x .anim)) animationTally (readAnimation noAnim (restIn s NODE at (reachedAt 2 false) c)) seen u (restIn s NODE at (reachedAt 3 false) d) (motions-at (readAnimation noAnim (restIn s NODE at (reachedAt 2 false) c)) (restIn s NODE at (reachedAt 3 false)) c j hj y) in
+            let to : laxParts bones (restIn s NODE at start from) ≡ accept (record { value = (kd .value, mv .value); rest = restIn s NODE at (reachedAt 3 false) d }) =
             ap go (kd .is) ∙ ap (made (kd .value)) (mv .is) in
-            let eq-below : aboveOf below ≡ bonesFrom a (animated (mv .value .anim)) (ownVertices (kd .value)) = e-below ∙ ap₂ (bonesFrom a) (mv .first) (kd .first) in
-            let eq-tally : x ≡ plus (plus headTally (kindTally (kd .value))) (movesTally (mv .value)) = ex ∙ ap (λ (q : Tally). plus q u) (ap (plus headTally) (kd .has)) ∙ ap (plus (plus headTally (kindTally (kd .value)))) (mv .has) in
+            let eq-below : aboveOf below ≡ boneLimitFrom a (animated (mv .value .anim)) (ownVertices (kd .value)) = e-below ∙ ap₂ (boneLimitFrom a) (mv .first) (kd .first) in
+            let eq-tally : x ≡ plus (plus headTally (kindTally (kd .value))) (animationTally (mv .value)) = ex ∙ ap (λ (q : Tally). plus q u) (ap (plus headTally) (kd .has)) ∙ ap (plus (plus headTally (kindTally (kd .value)))) (mv .has) in
             record {
-              is = rw (← eb, to) (λ i. got (eq-below i, eq-tally i, restIn s NODE at (reachedAt 3 false) d));
+              is = rw (← eb, to) (λ i. accept (eq-below i, eq-tally i, restIn s NODE at (reachedAt 3 false) d));
               within = (
                 record {
                   from-at = omega (arith, far, o .from-at, m .from-at);
@@ -137,7 +137,7 @@ pub ruleset parts-laws = (parts-kind-bad, parts-among, parts-kind-small, parts-f
 -- ---- the ways of `lax_own`
 
 -- the same answer in more bytes
-owned-in : (at end : ℕ) (d : Cursor) → d .end ≤ end → (k : Owned) → judged.OwnedIn at d k → OwnedIn at end k
+owned-in : (at end : ℕ) (d : Cursor) → d .end ≤ end → (k : NodeSummary) → judged.OwnedIn at d k → OwnedIn at end k
 owned-in at end d le (own.To b t c) h = record { head = h .1; room = h .0 .room; before = omega (arith, h .0 .same); within = h .0 .within }
 owned-in at end d le (own.Not i p) h = omega arith
 
@@ -156,7 +156,7 @@ module _ (s : List ℕ) (at : ℕ) (body : Cursor) (g : Body at body (length s))
 
 module _ (s : List ℕ) (at : ℕ) (body : Cursor) (g : Body at body (length s)) (a : Option ℕ) (r : Named) (er : r ≡ namedAt s body 10) where
   -- the answers that are right
-  abbrev Right : Owned → Type 0
+  abbrev Right : NodeSummary → Type 0
   Right x = Owns a (laxOwn a at (left body s)) (restIn s NODE at (reachedAt 3 false)) at (body .end) x
 
   pub own-cut : r ≡ named.Cut → Right (own.Not 5 (body .at))
@@ -164,41 +164,41 @@ module _ (s : List ℕ) (at : ℕ) (body : Cursor) (g : Body at body (length s))
   own-cut w = record { is = rw (← g .head, named-cut s body 10 (body-inside s at body g) nodeRow refl r er w); within = g .room }
 
   module _ (ir : NamedIn body 10 r) (len : ℕ) (v n : Cursor) (w : r ≡ named.Is len v n) (d : Cursor) (y : Trimmed s n d) where
-    abbrev dataOf : Kind × Moves → Data
+    abbrev dataOf : Kind × Animation → Data
     dataOf x = record { name = record { place = body .at; bytes = take len (left body s) }; words = wordsOf 10 (left v s); kind = x .0; keys = x .1 .keys; anim = x .1 .anim }
 
-    abbrev within-name : Out (Found (Kind × Moves)) → Out (Found Data)
-    within-name o = o >>= λ x. got (record { value = dataOf (x .value); rest = x .rest })
+    abbrev within-name : Result (Found (Kind × Animation)) → Result (Found Data)
+    within-name o = o >>= λ x. accept (record { value = dataOf (x .value); rest = x .rest })
 
     chunks : laxInside NODE at (n .at) (left n s) ≡ restIn s NODE at start d
     unfolding laxInside restIn
     chunks = ap (order NODE at start) (sym (y .chunks))
 
-    opened : laxOwn a at (left body s) ≡ within-name (laxParts (boneVertices a) (restIn s NODE at start d))
+    opened : laxOwn a at (left body s) ≡ within-name (laxParts (boneLimit a) (restIn s NODE at start d))
     unfolding laxOwn laxParts
-    opened = rw (← g .head, named-any s body 10 (body-inside s at body g) r er len v n w, chunks) (kinds (laxKind (boneVertices a) (restIn s NODE at start d)))
+    opened = rw (← g .head, named-any s body 10 (body-inside s at body g) r er len v n w, chunks) (kinds (laxKind (boneLimit a) (restIn s NODE at start d)))
       where
-        moves : (k : Kind) (o : Out (Found Moves))
-            → (o >>= λ m. got (record { value = dataOf (k, m .value); rest = m .rest })) ≡ within-name (o >>= λ m. got (record { value = (k, m .value); rest = m .rest }))
-        moves k (got m) = refl
-        moves k (bad n p) = refl
+        moves : (k : Kind) (o : Result (Found Animation))
+            → (o >>= λ m. accept (record { value = dataOf (k, m .value); rest = m .rest })) ≡ within-name (o >>= λ m. accept (record { value = (k, m .value); rest = m .rest }))
+        moves k (accept m) = refl
+        moves k (reject n p) = refl
 
-        kinds : (o : Out (Found Kind))
-            → (o >>= λ k. readMoves still (k .rest) >>= λ m. got (record { value = dataOf (k .value, m .value); rest = m .rest }))
-            ≡ within-name (o >>= λ k. readMoves still (k .rest) >>= λ m. got (record { value = (k .value, m .value); rest = m .rest }))
-        kinds (got k) = moves (k .value) (readMoves still (k .rest))
-        kinds (bad n p) = refl
+        kinds : (o : Result (Found Kind))
+            → (o >>= λ k. readAnimation noAnim (k .rest) >>= λ m. accept (record { value = dataOf (k .value, m .value); rest = m .rest }))
+            ≡ within-name (o >>= λ k. readAnimation noAnim (k .rest) >>= λ m. accept (record { value = (k .value, m .value); rest = m .rest }))
+        kinds (accept k) = moves (k .value) (readAnimation noAnim (k .rest))
+        kinds (reject n p) = refl
 
-    owned-parted : (o : Out (Found (Kind × Moves))) → owned a (within-name o) ≡ parted a o
-    unfolding dataTally movesTally
-    owned-parted (got x) = refl
-    owned-parted (bad e q) = refl
+    owned-parted : (o : Result (Found (Kind × Animation))) → owned a (within-name o) ≡ parted a o
+    unfolding dataTally animationTally
+    owned-parted (accept x) = refl
+    owned-parted (reject e q) = refl
 
-    pub own-parts : (k : Owned) → Parted a (laxParts (boneVertices a) (restIn s NODE at start d)) (restIn s NODE at (reachedAt 3 false)) at d k → Right k
+    pub own-parts : (k : NodeSummary) → Parted a (laxParts (boneLimit a) (restIn s NODE at start d)) (restIn s NODE at (reachedAt 3 false)) at d k → Right k
     own-parts k h =
         let f = named-among body 10 r ir len v n w in
         record {
-          is = h .is ∙ sym (ap (owned a) opened ∙ owned-parted (laxParts (boneVertices a) (restIn s NODE at start d)));
+          is = h .is ∙ sym (ap (owned a) opened ∙ owned-parted (laxParts (boneLimit a) (restIn s NODE at start d)));
           within = owned-in at (body .end) d (omega (arith, y .within, f .same)) k (h .within);
         }
 

@@ -4,7 +4,7 @@ ghost use mathlib.Core.Bool.{false};
 ghost use lib.ListN.{length};
 ghost use Rattle.wire.specs.Cursors.{left};
 ghost use Rattle.b3d_spec.specs.declared.Tag.the-variants.{NODE};
-ghost use Rattle.b3d_spec.specs.Rules.{boneVertices};
+ghost use Rattle.b3d_spec.specs.Rules.{boneLimit};
 ghost use Rattle.b3d_spec.specs.Nesting.{start, reachedAt};
 ghost use Rattle.b3d_spec_chunk_places.specs.Places.{Body, restIn, Among};
 ghost use Rattle.b3d_judge_node.specs.Answers.{Kinds, Parted, aboveOf};
@@ -13,23 +13,23 @@ ghost use Rattle.b3d_mend_judge_node.specs.Answers.{laxParts, laxOwn, Ow
 use b3d_chunk_cursor::Named;
 use b3d_chunk_next_allowed::Enclosed;
 use b3d_judge_animation::Motion;
-use b3d_judge_mesh::Meshed;
+use b3d_judge_mesh::MeshSummary;
 use b3d_judge_node::Above;
-use b3d_judge_node::Kinded;
-use b3d_judge_node::Owned;
+use b3d_judge_node::KindSummary;
+use b3d_judge_node::NodeSummary;
 use b3d_judge_tally::Judged;
 use b3d_spec::Tag;
 use wire::Cursor;
 
 // Judges a MESH or a BONE, if one comes first in a NODE whose header is at `at`; weights may name `bones` vertices.
-fn lax_kind(s: &[u8], at: usize, from: Cursor, bones: usize) -> Kinded
+fn lax_kind(s: &[u8], at: usize, from: Cursor, bones: usize) -> KindSummary
     requires { ⌜ Among at from (length (now s)) ⌝ }
     ensures { λ r. ⌜ Kinds (laxKind bones (restIn (now (s .entry)) NODE at start from)) (restIn (now (s .entry)) NODE at (reachedAt 2 false)) from r ⌝ }
 {
     let found = b3d_chunk_cursor::next_chunk(s, from);
     match b3d_chunk_next_allowed::first_inside(s, from, found, Tag::NODE, at) {
-        Enclosed::End => Kinded::To(0, b3d_judge_tally::none(), from),
-        Enclosed::Not(e, p) => Kinded::Not(e, p),
+        Enclosed::End => KindSummary::To(0, b3d_judge_tally::none(), from),
+        Enclosed::Not(e, p) => KindSummary::Not(e, p),
         Enclosed::Chunk {
             tag,
             at: p,
@@ -38,29 +38,29 @@ fn lax_kind(s: &[u8], at: usize, from: Cursor, bones: usize) -> Kinded
             ..
         } => match tag {
             Tag::MESH => match b3d_mend_judge_mesh::lax_mesh(s, p, body) {
-                Meshed::Not(e, q) => Kinded::Not(e, q),
-                Meshed::Is(own, t) => Kinded::To(own, t, next),
+                MeshSummary::Not(e, q) => KindSummary::Not(e, q),
+                MeshSummary::Is(own, t) => KindSummary::To(own, t, next),
             },
             Tag::BONE => match b3d_mend_judge_items::lax_bone(s, p, body, bones) {
-                Judged::Bad(e, q) => Kinded::Not(e, q),
-                Judged::Good(t) => Kinded::To(0, t, next),
+                Judged::Bad(e, q) => KindSummary::Not(e, q),
+                Judged::Good(t) => KindSummary::To(0, t, next),
             },
-            _ => Kinded::To(0, b3d_judge_tally::none(), from),
+            _ => KindSummary::To(0, b3d_judge_tally::none(), from),
         },
     }
 }
 
 // Judges the chunks of a NODE whose header is at `at` up to the nodes below it.
-fn lax_parts(s: &[u8], at: usize, from: Cursor, above: Above) -> Owned
+fn lax_parts(s: &[u8], at: usize, from: Cursor, above: Above) -> NodeSummary
     requires { ⌜ Among at from (length (now s)) × (at + 49 ≤ from .at) ⌝ }
-    ensures { λ r. ⌜ Parted (aboveOf above) (laxParts (boneVertices (aboveOf above)) (restIn (now (s .entry)) NODE at start from))
+    ensures { λ r. ⌜ Parted (aboveOf above) (laxParts (boneLimit (aboveOf above)) (restIn (now (s .entry)) NODE at start from))
         (restIn (now (s .entry)) NODE at (reachedAt 3 false)) at from r ⌝ }
 {
     match lax_kind(s, at, from, b3d_judge_node::bone_vertices(above)) {
-        Kinded::Not(e, q) => Owned::Not(e, q),
-        Kinded::To(own, k, c) => match b3d_judge_animation::judge_moves(s, at, c) {
-            Motion::Not(e, q) => Owned::Not(e, q),
-            Motion::To(anim, m, d) => Owned::To(
+        KindSummary::Not(e, q) => NodeSummary::Not(e, q),
+        KindSummary::To(own, k, c) => match b3d_judge_animation::judge_animation(s, at, c) {
+            Motion::Not(e, q) => NodeSummary::Not(e, q),
+            Motion::To(anim, m, d) => NodeSummary::To(
                 b3d_judge_node::bones_below(above, anim, own),
                 b3d_judge_node::own_rows(k, m),
                 d,
@@ -70,13 +70,13 @@ fn lax_parts(s: &[u8], at: usize, from: Cursor, above: Above) -> Owned
 }
 
 // Judges a NODE whose header is at `at`, without spare bytes and without the nodes below it.
-pub fn lax_own(s: &[u8], at: usize, body: Cursor, above: Above) -> Owned
+pub fn lax_own(s: &[u8], at: usize, body: Cursor, above: Above) -> NodeSummary
     requires { ⌜ Body at body (length (now s)) ⌝ }
     ensures { λ r. ⌜ Owns (aboveOf above) (laxOwn (aboveOf above) at (left body (now (s .entry))))
         (restIn (now (s .entry)) NODE at (reachedAt 3 false)) at (body .end) r ⌝ }
 {
     match b3d_chunk_cursor::named_row(s, body, 10) {
-        Named::Cut => Owned::Not(5, body.at),
+        Named::Cut => NodeSummary::Not(5, body.at),
         Named::Is { next, .. } => {
             let d = b3d_mend_judge_items::trimmed(s, next);
             lax_parts(s, at, d, above)

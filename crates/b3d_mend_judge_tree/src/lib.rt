@@ -12,7 +12,7 @@ ghost use Rattle.b3d_judge_node.specs.Answers.{aboveOf};
 ghost use Rattle.b3d_mend_judge_items.specs.Lax.{laxNode};
 use b3d_chunk_next_allowed::Enclosed;
 use b3d_judge_node::Above;
-use b3d_judge_node::Owned;
+use b3d_judge_node::NodeSummary;
 use b3d_judge_tally::Judged;
 use b3d_rule_nesting_order::Reached;
 use b3d_spec::Tag;
@@ -33,8 +33,8 @@ pub fn lax_node(s: &[u8], at: usize, body: Cursor, levels: u32, above: Above) ->
         return Judged::Bad(9, at);
     }
     match b3d_mend_judge_node::lax_own(s, at, body, above) {
-        Owned::Not(e, p) => Judged::Bad(e, p),
-        Owned::To(below, t, c) => match lax_nodes(s, at, c, levels - 1, below) {
+        NodeSummary::Not(e, p) => Judged::Bad(e, p),
+        NodeSummary::To(below, t, c) => match lax_nodes(s, at, c, levels - 1, below) {
             Judged::Bad(e, p) => Judged::Bad(e, p),
             Judged::Good(f) => Judged::Good(b3d_judge_tally::plus(t, f)),
         },

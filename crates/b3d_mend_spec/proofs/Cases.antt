@@ -2,7 +2,7 @@
 use mathlib.Core.Path.{_≡_, refl}
 use Prim.Native.Nat.{ℕ}
 use mathlib.Core.List.{List, [], _∷_, _++_, map}
-use Rattle.layout.specs.Out.{Out, got, bad}
+use Rattle.layout.specs.Result.{Result, accept, reject}
 use Rattle.layout.specs.Rules.{NONE}
 use Rattle.layout.specs.Write.{writeWords}
 use Rattle.b3d_spec.proofs.Cases.{zeros, file, P, aNode, Hall, H-cleared, T-with, T-tris, T}
@@ -16,13 +16,13 @@ pub record Case : Type 0 where
   pub bytes : List ℕ
   pub room : ℕ
   pub reportRoom : ℕ
-  pub gives : Out Mending
+  pub gives : Result Mending
 
-abbrev ample : List ℕ → Out Mending → Case
+abbrev ample : List ℕ → Result Mending → Case
 ample s g = record { bytes = s; room = 400; reportRoom = 100; gives = g }
 
-abbrev as-mended : List ℕ → List ℕ → Out Mending
-as-mended f r = got (record { file = f; report = r })
+abbrev as-mended : List ℕ → List ℕ → Result Mending
+as-mended f r = accept (record { file = f; report = r })
 
 -- a TRIS with no triangle
 abbrev no-tris : List ℕ
@@ -51,16 +51,16 @@ cases =
     ∷ ample (file 49 1 (writeWords (code BRUS ∷ 37 ∷ 1 ∷ []) (zeros 29 ++ writeWords (5 ∷ []) [])))
     (as-mended (file 49 1 (writeWords (code BRUS ∷ 37 ∷ 1 ∷ []) (zeros 29 ++ writeWords (NONE ∷ []) []))) (53 ∷ 2 ∷ 4 ∷ 4 ∷ writeWords (5 ∷ NONE ∷ []) []))
     -- no TRIS, and spare bytes: 3 is mended, and 8 is left
-    ∷ ample (T-with 124 112 63 48 NONE (zeros 3)) (bad 8 61)
+    ∷ ample (T-with 124 112 63 48 NONE (zeros 3)) (reject 8 61)
     -- a length past its NODE is not mended; nor a triangle that is cut, whatever its ids
-    ∷ ample (file 57 1 (aNode 46 Hall [])) (bad 3 12)
-    ∷ ample (T-with 141 129 80 48 NONE (writeWords (code TRIS ∷ 12 ∷ NONE ∷ 9 ∷ 9 ∷ []) [])) (bad 5 141)
+    ∷ ample (file 57 1 (aNode 46 Hall [])) (reject 3 12)
+    ∷ ample (T-with 141 129 80 48 NONE (writeWords (code TRIS ∷ 12 ∷ NONE ∷ 9 ∷ 9 ∷ []) [])) (reject 5 141)
     -- bytes after a length that is too short are inside BB3D, and are judged as chunks
-    ∷ ample (file 4 1 (writeWords (code MESH ∷ 0 ∷ []) [])) (bad 4 12)
+    ∷ ample (file 4 1 (writeWords (code MESH ∷ 0 ∷ []) [])) (reject 4 12)
     -- room: the file first, then the report
-    ∷ record { bytes = T; room = 152; reportRoom = 0; gives = bad 11 153 }
-    ∷ record { bytes = file 7 1 []; room = 11; reportRoom = 0; gives = bad 11 12 }
-    ∷ record { bytes = file 7 1 []; room = 12; reportRoom = 11; gives = bad 11 12 }
+    ∷ record { bytes = T; room = 152; reportRoom = 0; gives = reject 11 153 }
+    ∷ record { bytes = file 7 1 []; room = 11; reportRoom = 0; gives = reject 11 12 }
+    ∷ record { bytes = file 7 1 []; room = 12; reportRoom = 11; gives = reject 11 12 }
     ∷ []
 
 pub worked : map (λ (c : Case). mendInto (c .room) (c .reportRoom) (c .bytes)) cases ≡ map (λ (c : Case). c .gives) cases

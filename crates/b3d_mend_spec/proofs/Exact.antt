@@ -4,7 +4,7 @@ use Prim.Native.Nat.{ℕ, zero, suc, _+_, _*_, _/_, _%_, _<_}
 use native.Mathlib.Omega.{arith}
 use mathlib.Core.List.{List, [], _∷_, _++_}
 use Rattle.wire.specs.Bytes.{word, bytes, AllBytes}
-use Rattle.layout.specs.Out.{got}
+use Rattle.layout.specs.Result.{accept}
 use Rattle.layout.specs.Parts.{Step, text, words}
 use Rattle.layout.specs.Write.{writeWords, writeText}
 use Rattle.layout.proofs.Outs.{by-got, bad-got, got-inj}
@@ -23,7 +23,7 @@ bytes-of a b c d r ha hb hc hd =
     let e₄ : d % 256 ≡ d = omega arith in
     rw (q₁, q₂, q₃, e₁, e₂, e₃, e₄)
 
-pub words-exact : (start n p : ℕ) (s : List ℕ) (x : Step (List ℕ)) → AllBytes s → words start n p s ≡ got x → writeWords (x .value) (x .left) ≡ s
+pub words-exact : (start n p : ℕ) (s : List ℕ) (x : Step (List ℕ)) → AllBytes s → words start n p s ≡ accept x → writeWords (x .value) (x .left) ≡ s
 unfolding words
 words-exact start zero p s x h e = ap (λ (y : Step (List ℕ)). writeWords (y .value) (y .left)) (sym (got-inj e))
 words-exact start (suc n) p [] x h e = bad-got e
@@ -36,7 +36,7 @@ words-exact start (suc n) p (a ∷ b ∷ c ∷ d ∷ s) x h e =
     ∙ ap (λ (l : List ℕ). bytes (word a b c d) l) (words-exact start n (p + 4) s y (h .1 .1 .1 .1) ey)
     ∙ bytes-of a b c d s (h .0) (h .1 .0) (h .1 .1 .0) (h .1 .1 .1 .0))
 
-pub text-exact : (start p : ℕ) (s : List ℕ) (x : Step (List ℕ)) → text start p s ≡ got x → writeText (x .value) (x .left) ≡ s
+pub text-exact : (start p : ℕ) (s : List ℕ) (x : Step (List ℕ)) → text start p s ≡ accept x → writeText (x .value) (x .left) ≡ s
 unfolding text
 text-exact start p [] x e = bad-got e
 text-exact start p (zero ∷ s) x e = ap (λ (y : Step (List ℕ)). writeText (y .value) (y .left)) (sym (got-inj e))

@@ -9,7 +9,7 @@ use mir.Facts.{and-yes, yes-and, yes-eqb}
 use Rattle.wire.specs.Bytes.{bytes, AllBytes}
 use Rattle.wire.specs.Test.{if}
 use Rattle.layout.specs.Chunks.{done, ended}
-use Rattle.layout.specs.Out.{got}
+use Rattle.layout.specs.Result.{accept}
 use Rattle.layout.specs.Parts.{Step, row, number}
 use Rattle.layout.specs.Write.{writeWords}
 use Rattle.layout.specs.Rows.{mostBytes, sizeFits}
@@ -19,11 +19,11 @@ use Rattle.layout.proofs.Outs.{if-case, by-got, by-check, check-yes, by-test, i
 use Rattle.layout.proofs.ChunkLaws.{ended-fine}
 use Rattle.layout.proofs.PartLaws.{words-append, row-back, row-fine}
 use Rattle.b3d_spec.specs.declared.Mode.the-variants.{Lenient}
-use Rattle.b3d_spec.specs.Names.{renameTexture, renameBrush, bareName, rename, bare}
+use Rattle.b3d_spec.specs.Names.{renameTexture, renameBrush, bareName, rename, withoutPlaces}
 use Rattle.b3d_spec.specs.Nesting.{inside}
 use Rattle.b3d_spec.specs.Parse.{readOne, readTextures, readBrushes, readRoot, slotsOf, readBody, parse}
 use Rattle.b3d_spec.specs.Rules.{version, fileHead, header}
-use Rattle.b3d_spec.specs.Scene.{Texture, Brush, Forest, leaf, Scene}
+use Rattle.b3d_spec.specs.Scene.{Texture, Brush, Forest, noNodes, Scene}
 use Rattle.b3d_spec.specs.Tags.{code, Chunks, Found}
 use Rattle.b3d_spec.specs.declared.Tag.the-variants.{BB3D, TEXS, BRUS, NODE}
 use Rattle.b3d_spec.proofs.Files.TagCodes.{code-word}
@@ -48,8 +48,8 @@ slots-same : (u v : ℕ × List Brush) → bareBrushes u ≡ bareBrushes v → s
 slots-same u v e = sym (slots-map (u .0) (u .1)) ∙ ap (λ (x : ℕ × List Brush). slotsOf (x .0) (x .1)) e ∙ slots-map (v .0) (v .1)
 
 scene-same : (n : ℕ) (t t′ : List Texture) (u u′ : ℕ × List Brush) (f f′ : Forest) → bareTextures t ≡ bareTextures t′ → bareBrushes u ≡ bareBrushes u′ → bareForest f ≡ bareForest f′
-    → bare (sceneOf n t u f) ≡ bare (sceneOf n t′ u′ f′)
-unfolding bare rename sceneOf
+    → withoutPlaces (sceneOf n t u f) ≡ withoutPlaces (sceneOf n t′ u′ f′)
+unfolding withoutPlaces rename sceneOf
 scene-same n t t′ u u′ f f′ et eu ef = cc (et, ap (λ (x : ℕ × List Brush). x .1) eu, slots-same u u′ eu, ef)
 
 textures-count : (t t′ : List Texture) → bareTextures t ≡ bareTextures t′ → length t ≡ length t′
@@ -60,9 +60,9 @@ brushes-count u u′ e = sym (length-map (u .1) (renameBrush bareName)) ∙ ap (
 
 -- ---- the body
 
-body-read : (q : ℕ) (b : List ℕ) (h : Step (List ℕ)) (t : Found (List Texture)) (u : Found (ℕ × List Brush)) (r : Found Forest) (nt nb : ℕ) → row fileHead q b ≡ got h
-    → readOne TEXS [] readTextures (inside BB3D 0 (h .place) (h .left)) ≡ got t → length (t .value) ≡ nt → readOne BRUS (0, []) (readBrushes Lenient nt) (t .rest) ≡ got u
-    → length (u .value .1) ≡ nb → readOne NODE leaf (readRoot Lenient nb) (u .rest) ≡ got r → r .rest ≡ done → readBody Lenient q b ≡ got (sceneOf (number h 0) (t .value) (u .value) (r .value))
+body-read : (q : ℕ) (b : List ℕ) (h : Step (List ℕ)) (t : Found (List Texture)) (u : Found (ℕ × List Brush)) (r : Found Forest) (nt nb : ℕ) → row fileHead q b ≡ accept h
+    → readOne TEXS [] readTextures (inside BB3D 0 (h .place) (h .left)) ≡ accept t → length (t .value) ≡ nt → readOne BRUS (0, []) (readBrushes Lenient nt) (t .rest) ≡ accept u
+    → length (u .value .1) ≡ nb → readOne NODE noNodes (readRoot Lenient nb) (u .rest) ≡ accept r → r .rest ≡ done → readBody Lenient q b ≡ accept (sceneOf (number h 0) (t .value) (u .value) (r .value))
 unfolding readBody sceneOf ended
 body-read q b h t u r nt nb eh et lt eu lu er ed = rw (eh, et, lt, eu, lu, er, ed)
 
@@ -70,9 +70,9 @@ pub record BodyMended (b : List ℕ) (m : Mended Scene) : Type 0 where
   pub given : before (m .edits) ≡ b
   pub small : All Small (m .edits)
   pub long : 4 ≤ length (after (m .edits))
-  pub again : (q : ℕ) → (v : Scene) × (readBody Lenient q (after (m .edits)) ≡ got v) × (bare v ≡ bare (m .value))
+  pub again : (q : ℕ) → (v : Scene) × (readBody Lenient q (after (m .edits)) ≡ accept v) × (withoutPlaces v ≡ withoutPlaces (m .value))
 
-pub body-mended : (p : ℕ) (b : List ℕ) (m : Mended Scene) → Fine b → mendBody p b ≡ got m → BodyMended b m
+pub body-mended : (p : ℕ) (b : List ℕ) (m : Mended Scene) → Fine b → mendBody p b ≡ accept m → BodyMended b m
 unfolding mendBody readBody before after was becomes ended sceneOf
 body-mended p b m f e =
     by-got (row fileHead p b) _ e (λ h eh e₁.
@@ -84,11 +84,11 @@ body-mended p b m f e =
     let cs = within BB3D 0 (h .place) (h .left) in
     by-got (mendOne TEXS [] (asRead readTextures) cs) _ e₁ (λ t et e₂.
     by-got (mendOne BRUS (0, []) (mendBrushes (length (t .value))) (t .rest)) _ e₂ (λ u eu e₃.
-    by-got (mendOne NODE leaf (mendRoot (length (u .value .1))) (u .rest)) _ e₃ (λ r er e₄.
+    by-got (mendOne NODE noNodes (mendRoot (length (u .value .1))) (u .rest)) _ e₃ (λ r er e₄.
     let st = one-stage bareTextures TEXS [] readTextures (asRead readTextures) (λ q c x k. textures-mend q c x (k .0)) cs t (within-fine BB3D 0 (h .place) (h .left) fl) et in
     let su = one-stage bareBrushes BRUS (0, []) (readBrushes Lenient (length (t .value))) (mendBrushes (length (t .value))) (λ q c x k. brushes-mend (length (t .value)) q c x (k .0)) (t .rest) u (st .rest-fine) eu in
-    let sr = one-stage bareForest NODE leaf (readRoot Lenient (length (u .value .1))) (mendRoot (length (u .value .1))) (root-mend (length (u .value .1))) (u .rest) r (su .rest-fine) er in
-    let fin = file-end [] (0, []) leaf (asRead readTextures) (mendBrushes (length (t .value))) (mendRoot (length (u .value .1))) _ t u r et eu er _ m e₄ in
+    let sr = one-stage bareForest NODE noNodes (readRoot Lenient (length (u .value .1))) (mendRoot (length (u .value .1))) (root-mend (length (u .value .1))) (u .rest) r (su .rest-fine) er in
+    let fin = file-end [] (0, []) noNodes (asRead readTextures) (mendBrushes (length (t .value))) (mendRoot (length (u .value .1))) _ t u r et eu er _ m e₄ in
     let fr : Fill (r .rest) [] = subst (λ (c : Chunks). Fill c []) (sym fin) tt in
     let ys = r .bodies ++ [] in
     let fy = sr .fill [] fr in
@@ -156,7 +156,7 @@ pub record Opened (s : List ℕ) (h : Step (List ℕ)) : Type 0 where
   pub is-file : bytes (number h 0) (bytes (number h 1) (h .left)) ≡ s
   pub bytes-left : AllBytes (h .left)
 
-pub opened : (s : List ℕ) (h : Step (List ℕ)) → AllBytes s → row header 0 s ≡ got h → Opened s h
+pub opened : (s : List ℕ) (h : Step (List ℕ)) → AllBytes s → row header 0 s ≡ accept h → Opened s h
 opened s h a e =
     let f = row-fine header 0 s h a e in
     record { is-file = ap (λ (ws : List ℕ). writeWords ws (h .left)) (sym (two-are (h .value) (f .ok))) ∙ row-exact header 0 s h a e; bytes-left = f .bytes }
@@ -171,7 +171,7 @@ pub record FileMended (s : List ℕ) (m : Mended Scene) : Type 0 where
   -- the mended file is no longer
   pub shorter : length (after (m .edits)) ≤ length s
   -- and is read as the scene found, name places aside
-  pub again : (v : Scene) × (parse Lenient (after (m .edits)) ≡ got v) × (bare v ≡ bare (m .value))
+  pub again : (v : Scene) × (parse Lenient (after (m .edits)) ≡ accept v) × (withoutPlaces v ≡ withoutPlaces (m .value))
 
 file-length-small : (said is new : ℕ) → Small (fileLength said is new)
 unfolding fileLength
@@ -190,8 +190,8 @@ eqb-same : (n : ℕ) → T (eqb n n)
 eqb-same n = yes-eqb {a = n} refl
 
 -- a BB3D with this body
-parse-of : (b : List ℕ) → 4 ≤ length b → length b ≤ 16777208 → (P : Scene → Type 0) → ((q : ℕ) → (v : Scene) × (readBody Lenient q b ≡ got v) × P v)
-    → (v : Scene) × (parse Lenient (bytes (code BB3D) (bytes (length b) b)) ≡ got v) × P v
+parse-of : (b : List ℕ) → 4 ≤ length b → length b ≤ 16777208 → (P : Scene → Type 0) → ((q : ℕ) → (v : Scene) × (readBody Lenient q b ≡ accept v) × P v)
+    → (v : Scene) × (parse Lenient (bytes (code BB3D) (bytes (length b) b)) ≡ accept v) × P v
 unfolding parse
 parse-of b lo hi P go =
     let n : ℕ = length (bytes (code BB3D) (bytes (length b) b)) in
@@ -205,7 +205,7 @@ parse-of b lo hi P go =
       y .2,
     )
 
-pub file-mended : (s : List ℕ) (m : Mended Scene) → AllBytes s → mendFile s ≡ got m → FileMended s m
+pub file-mended : (s : List ℕ) (m : Mended Scene) → AllBytes s → mendFile s ≡ accept m → FileMended s m
 unfolding mendFile before after
 file-mended s m a e =
     by-check (sizeFits (length s)) 1 0 _ e (λ z e₁.
@@ -225,7 +225,7 @@ file-mended s m a e =
     let was-file : before edits₁ ≡ s =
     ap₂ (λ (u v : List ℕ). u ++ (v ++ before (x .edits))) (kept-was (code BB3D)) (length-was (number h 1) (length (h .left)) (length new))
     ∙ ap₂ (λ (k : ℕ) (l : List ℕ). bytes k (bytes (number h 1) l)) (sym (eqb→eq (number h 0) (code BB3D) t)) (g .given) ∙ o .is-file in
-    let y = parse-of new (g .long) (omega arith) (λ v. bare v ≡ bare (x .value)) (g .again) in
+    let y = parse-of new (g .long) (omega arith) (λ v. withoutPlaces v ≡ withoutPlaces (x .value)) (g .again) in
     subst (FileMended s) (got-inj e₄)
     (record {
       given = was-file;

@@ -5,7 +5,7 @@ use mathlib.Core.Bool.{Bool, true, false}
 use mathlib.Core.List.{List, [], _∷_}
 use Rattle.wire.specs.Test.{if}
 use Rattle.layout.specs.Chunks.{done, stop, chunk, ended}
-use Rattle.layout.specs.Out.{Out, got, _>>=_}
+use Rattle.layout.specs.Result.{Result, accept, _>>=_}
 use Rattle.layout.proofs.Outs.{by-got, bad-got, got-inj}
 use Rattle.b3d_spec.specs.Nesting.{Reached, start, next, onward, order}
 use Rattle.b3d_spec.specs.Tags.{is, Chunks}
@@ -35,14 +35,14 @@ abbrev reached : ℕ → Bool → Reached
 reached n b = record { turn = n; spent = b }
 
 -- what is left after a chunk that may be missing
-one-then : {A : Type 0} (k : Tag) (P : Chunks → Type 0) → P done → (a : A) (one : ℕ → List ℕ → Out (Mended A)) (cs : Chunks) (x : Taken A) → Then k P cs → mendOne k a one cs ≡ got x → P (x .rest)
+one-then : {A : Type 0} (k : Tag) (P : Chunks → Type 0) → P done → (a : A) (one : ℕ → List ℕ → Result (Mended A)) (cs : Chunks) (x : Taken A) → Then k P cs → mendOne k a one cs ≡ accept x → P (x .rest)
 unfolding mendOne found if
 one-then {A} k P d a one done x h e = subst (λ (y : Taken A). P (y .rest)) (got-inj e) d
 one-then k P d a one (stop n p) x h e = bad-got e
 one-then {A} k P d a one (chunk t p b r) x h e = go (is t k) h e
   where
     go : (c : Bool) → pick c (P r) (P (chunk t p b r))
-        → if c (one p b >>= λ m. got (record { value = m .value; bodies = m .edits ∷ []; rest = r })) (got (record { value = a; bodies = []; rest = chunk t p b r })) ≡ got x → P (x .rest)
+        → if c (one p b >>= λ m. accept (record { value = m .value; bodies = m .edits ∷ []; rest = r })) (accept (record { value = a; bodies = []; rest = chunk t p b r })) ≡ accept x → P (x .rest)
     go true h e = by-got (one p b) _ e (λ m em e₁. subst (λ (y : Taken A). P (y .rest)) (got-inj e₁) h)
     go false h e = subst (λ (y : Taken A). P (y .rest)) (got-inj e) h
 
@@ -82,14 +82,14 @@ file-order head (chunk t p b r) =
     by-tag (λ k. Then TEXS Rest (order BB3D head start (chunk k p b r))) (tt, after-textures head r, after-brushes head r, after-root head r, tt, tt, tt, tt, tt, tt) t
 
 -- no chunk and no refusal is the end
-at-end : {A : Type 0} (cs : Chunks) (a b : A) → Nothing cs → ended cs a ≡ got b → cs ≡ done
+at-end : {A : Type 0} (cs : Chunks) (a b : A) → Nothing cs → ended cs a ≡ accept b → cs ≡ done
 unfolding ended
 at-end done a b h e = refl
 at-end (stop n p) a b h e = bad-got e
 at-end (chunk t p c r) a b h e = absurd h
 
-pub file-end : {A B C D : Type 0} (a : A) (b : B) (c : C) (one : ℕ → List ℕ → Out (Mended A)) (two : ℕ → List ℕ → Out (Mended B)) (three : ℕ → List ℕ → Out (Mended C)) (cs : Chunks)
-    (x : Taken A) (y : Taken B) (z : Taken C) → mendOne TEXS a one (order BB3D 0 start cs) ≡ got x → mendOne BRUS b two (x .rest) ≡ got y → mendOne NODE c three (y .rest) ≡ got z
-    → (d e : D) → ended (z .rest) d ≡ got e → z .rest ≡ done
+pub file-end : {A B C D : Type 0} (a : A) (b : B) (c : C) (one : ℕ → List ℕ → Result (Mended A)) (two : ℕ → List ℕ → Result (Mended B)) (three : ℕ → List ℕ → Result (Mended C)) (cs : Chunks)
+    (x : Taken A) (y : Taken B) (z : Taken C) → mendOne TEXS a one (order BB3D 0 start cs) ≡ accept x → mendOne BRUS b two (x .rest) ≡ accept y → mendOne NODE c three (y .rest) ≡ accept z
+    → (d e : D) → ended (z .rest) d ≡ accept e → z .rest ≡ done
 file-end a b c one two three cs x y z ex ey ez d e ed =
     at-end (z .rest) d e (one-then NODE Nothing tt c three (y .rest) z (one-then BRUS Root tt b two (x .rest) y (one-then TEXS Rest tt a one _ x (file-order 0 cs) ex) ey) ez) ed

@@ -6,7 +6,7 @@ use native.Mathlib.Omega.{arith}
 use mathlib.Core.List.{List, [], _∷_, _++_, map, append-assoc, append-nil}
 use lib.ListN.{length, take, drop, getD, take-append-drop}
 use Rattle.wire.specs.Bytes.{bytes, AllBytes}
-use Rattle.layout.specs.Out.{Out, got}
+use Rattle.layout.specs.Result.{Result, accept}
 use Rattle.layout.specs.Parts.{Name, Step, text, words, row, number, named, itemsIn, items}
 use Rattle.layout.specs.Rules.{Rule}
 use Rattle.layout.specs.Write.{writeWords, writeText, writeItems}
@@ -30,35 +30,35 @@ use Rattle.b3d_mend_spec.proofs.Exact.{words-exact, text-exact, text-ap
 use Rattle.b3d_mend_spec.proofs.PartLaws.{text-read, GoodStep, row-good, named-good, item-good, items-good}
 
 -- a body that was mended: its given bytes are these, it does not grow, and at any place it is read as the value found, name places aside
-pub record Body {A : Type 0} (bare : A → A) (read : ℕ → List ℕ → Out A) (b : List ℕ) (m : Mended A) : Type 0 where
+pub record Body {A : Type 0} (withoutPlaces : A → A) (read : ℕ → List ℕ → Result A) (b : List ℕ) (m : Mended A) : Type 0 where
   pub given : before (m .edits) ≡ b
   pub small : All Small (m .edits)
-  pub again : (q : ℕ) → (v : A) × (read q (after (m .edits)) ≡ got v) × (bare v ≡ bare (m .value))
+  pub again : (q : ℕ) → (v : A) × (read q (after (m .edits)) ≡ accept v) × (withoutPlaces v ≡ withoutPlaces (m .value))
 
-abbrev pub Mends : {A : Type 0} → (A → A) → (ℕ → List ℕ → Out A) → (ℕ → List ℕ → Out (Mended A)) → Type 0
-Mends {A} bare read fix = (p : ℕ) (b : List ℕ) (m : Mended A) → AllBytes b → fix p b ≡ got m → Body bare read b m
+abbrev pub Mends : {A : Type 0} → (A → A) → (ℕ → List ℕ → Result A) → (ℕ → List ℕ → Result (Mended A)) → Type 0
+Mends {A} withoutPlaces read fix = (p : ℕ) (b : List ℕ) (m : Mended A) → AllBytes b → fix p b ≡ accept m → Body withoutPlaces read b m
 
 abbrev pub plain : {A : Type 0} → A → A
 plain a = a
 
 -- ---- read again at another place
 
-pub row-exact : (rs : List Rule) (p : ℕ) (s : List ℕ) (x : Step (List ℕ)) → AllBytes s → row rs p s ≡ got x → writeWords (x .value) (x .left) ≡ s
+pub row-exact : (rs : List Rule) (p : ℕ) (s : List ℕ) (x : Step (List ℕ)) → AllBytes s → row rs p s ≡ accept x → writeWords (x .value) (x .left) ≡ s
 unfolding row
 row-exact rs p s x h e =
     by-got (words p (length rs) p s) _ e (λ y ey e₁.
     ap (λ (z : Step (List ℕ)). writeWords (z .value) (z .left)) (sym (judged-got rs p (y .value) y x e₁)) ∙ words-exact p (length rs) p s y h ey)
 
-pub row-again : (rs : List Rule) (p : ℕ) (s : List ℕ) (x : Step (List ℕ)) → AllBytes s → row rs p s ≡ got x → (q : ℕ)
-    → (r : ℕ) × (row rs q s ≡ got (record { value = x .value; place = r; left = x .left }))
+pub row-again : (rs : List Rule) (p : ℕ) (s : List ℕ) (x : Step (List ℕ)) → AllBytes s → row rs p s ≡ accept x → (q : ℕ)
+    → (r : ℕ) × (row rs q s ≡ accept (record { value = x .value; place = r; left = x .left }))
 row-again rs p s x h e q =
     let f = row-fine rs p s x h e in
     let y = row-back rs (x .value) (f .ok) q (x .left) in
     (y .0, ap (row rs q) (sym (row-exact rs p s x h e)) ∙ y .1)
 
-in-exact : {A : Type 0} (read : ℕ → List ℕ → Out (Step A)) (write : A → List ℕ → List ℕ)
-    → ((p : ℕ) (s : List ℕ) (x : Step A) → AllBytes s → read p s ≡ got x → AllBytes (x .left) × (write (x .value) (x .left) ≡ s))
-    → (f p : ℕ) (s : List ℕ) (l : List A) → AllBytes s → itemsIn f read p s ≡ got l → writeItems write l ≡ s
+in-exact : {A : Type 0} (read : ℕ → List ℕ → Result (Step A)) (write : A → List ℕ → List ℕ)
+    → ((p : ℕ) (s : List ℕ) (x : Step A) → AllBytes s → read p s ≡ accept x → AllBytes (x .left) × (write (x .value) (x .left) ≡ s))
+    → (f p : ℕ) (s : List ℕ) (l : List A) → AllBytes s → itemsIn f read p s ≡ accept l → writeItems write l ≡ s
 unfolding itemsIn
 in-exact read write one zero p [] l h e = ap (writeItems write) (sym (got-inj e))
 in-exact read write one zero p (c ∷ s) l h e = bad-got e
@@ -69,14 +69,14 @@ in-exact read write one (suc f) p (c ∷ s) l h e =
     let o = one p (c ∷ s) x h ex in
     ap (writeItems write) (sym (got-inj e₂)) ∙ ap (write (x .value)) (in-exact read write one f (x .place) (x .left) m (o .0) em) ∙ o .1))
 
-rows-exact : (rs : List Rule) (p : ℕ) (s : List ℕ) (l : List (List ℕ)) → AllBytes s → items (row rs) p s ≡ got l → writeItems writeWords l ≡ s
+rows-exact : (rs : List Rule) (p : ℕ) (s : List ℕ) (l : List (List ℕ)) → AllBytes s → items (row rs) p s ≡ accept l → writeItems writeWords l ≡ s
 unfolding items
 rows-exact rs p s l h e = in-exact (row rs) writeWords (λ p s x h e. (row-fine rs p s x h e .bytes, row-exact rs p s x h e)) (length s) p s l h e
 
-pub rows-again : (rs : List Rule) → 0 < length rs → (p : ℕ) (s : List ℕ) (l : List (List ℕ)) → AllBytes s → items (row rs) p s ≡ got l → (q : ℕ) → items (row rs) q s ≡ got l
+pub rows-again : (rs : List Rule) → 0 < length rs → (p : ℕ) (s : List ℕ) (l : List (List ℕ)) → AllBytes s → items (row rs) p s ≡ accept l → (q : ℕ) → items (row rs) q s ≡ accept l
 rows-again rs n p s l h e q = ap (items (row rs) q) (sym (rows-exact rs p s l h e)) ∙ rows-back rs n l (rows-fine rs n p s l h e .0) q
 
-pub named-exact : (rs : List Rule) (p : ℕ) (s : List ℕ) (x : Step (Name × List ℕ)) → AllBytes s → named rs p s ≡ got x → writeText (x .value .0 .bytes) (writeWords (x .value .1) (x .left)) ≡ s
+pub named-exact : (rs : List Rule) (p : ℕ) (s : List ℕ) (x : Step (Name × List ℕ)) → AllBytes s → named rs p s ≡ accept x → writeText (x .value .0 .bytes) (writeWords (x .value .1) (x .left)) ≡ s
 unfolding named
 named-exact rs p s x h e =
     by-got (text p p s) _ e (λ n en e₁.
@@ -86,12 +86,12 @@ named-exact rs p s x h e =
 
 -- ---- chunks with nothing to mend
 
-as-read : {A : Type 0} (bare : A → A) (read : ℕ → List ℕ → Out A)
-    → ((p : ℕ) (b : List ℕ) (v : A) → AllBytes b → read p b ≡ got v → (q : ℕ) → (u : A) × (read q b ≡ got u) × (bare u ≡ bare v)) → Mends bare read (asRead read)
+as-read : {A : Type 0} (withoutPlaces : A → A) (read : ℕ → List ℕ → Result A)
+    → ((p : ℕ) (b : List ℕ) (v : A) → AllBytes b → read p b ≡ accept v → (q : ℕ) → (u : A) × (read q b ≡ accept u) × (withoutPlaces u ≡ withoutPlaces v)) → Mends withoutPlaces read (asRead read)
 unfolding asRead before after was becomes
-as-read {A} bare read again p b m h e =
+as-read {A} withoutPlaces read again p b m h e =
     by-got (read p b) _ e (λ v ev e₁.
-    subst (Body bare read b) (got-inj e₁)
+    subst (Body withoutPlaces read b) (got-inj e₁)
     (record {
       given = append-nil b;
       small = (keep-small b, tt);
@@ -101,7 +101,7 @@ as-read {A} bare read again p b m h e =
 abbrev pub bareTextures : List Texture → List Texture
 bareTextures l = map (renameTexture bareName) l
 
-textures-exact : (p : ℕ) (b : List ℕ) (l : List Texture) → AllBytes b → readTextures p b ≡ got l → writeItems writeTexture l ≡ b
+textures-exact : (p : ℕ) (b : List ℕ) (l : List Texture) → AllBytes b → readTextures p b ≡ accept l → writeItems writeTexture l ≡ b
 unfolding readTextures items readTexture
 textures-exact p b l h e =
     in-exact readTexture writeTexture
@@ -118,7 +118,7 @@ pub vertices-mend : Mends plain (readVertices Lenient) (asRead (readVertices Len
 unfolding readVertices
 vertices-mend = as-read plain (readVertices Lenient) again
   where
-    again : (p : ℕ) (b : List ℕ) (v : Vertices) → AllBytes b → readVertices Lenient p b ≡ got v → (q : ℕ) → (u : Vertices) × (readVertices Lenient q b ≡ got u) × (u ≡ v)
+    again : (p : ℕ) (b : List ℕ) (v : Vertices) → AllBytes b → readVertices Lenient p b ≡ accept v → (q : ℕ) → (u : Vertices) × (readVertices Lenient q b ≡ accept u) × (u ≡ v)
     again p b v h e q =
         by-got (row verticesHead (p + 8) b) _ e (λ x ex e₁.
         let rs = vertexRow Lenient (number x 0) (number x 1) (number x 2) in
@@ -131,7 +131,7 @@ pub keys-mend : Mends plain readKeys (asRead readKeys)
 unfolding readKeys
 keys-mend = as-read plain readKeys again
   where
-    again : (p : ℕ) (b : List ℕ) (v : Keys) → AllBytes b → readKeys p b ≡ got v → (q : ℕ) → (u : Keys) × (readKeys q b ≡ got u) × (u ≡ v)
+    again : (p : ℕ) (b : List ℕ) (v : Keys) → AllBytes b → readKeys p b ≡ accept v → (q : ℕ) → (u : Keys) × (readKeys q b ≡ accept u) × (u ≡ v)
     again p b v h e q =
         by-got (row keysHead (p + 8) b) _ e (λ x ex e₁.
         let rs = keyRow (number x 0) in
@@ -140,7 +140,7 @@ keys-mend = as-read plain readKeys again
         let z = rows-again rs (key-some _) (x .place) (x .left) l (row-fine keysHead (p + 8) b x h ex .bytes) el (y .0) in
         (v, rw (y .1, z) e₂, refl)))
 
-filled-again : (p q : ℕ) (s ws v : List ℕ) → filled p s ws ≡ got v → filled q s ws ≡ got v
+filled-again : (p q : ℕ) (s ws v : List ℕ) → filled p s ws ≡ accept v → filled q s ws ≡ accept v
 unfolding filled
 filled-again p q [] ws v e = e
 filled-again p q (c ∷ s) ws v e = bad-got e
@@ -149,7 +149,7 @@ pub anim-mend : Mends plain readAnim (asRead readAnim)
 unfolding readAnim
 anim-mend = as-read plain readAnim again
   where
-    again : (p : ℕ) (b : List ℕ) (v : List ℕ) → AllBytes b → readAnim p b ≡ got v → (q : ℕ) → (u : List ℕ) × (readAnim q b ≡ got u) × (u ≡ v)
+    again : (p : ℕ) (b : List ℕ) (v : List ℕ) → AllBytes b → readAnim p b ≡ accept v → (q : ℕ) → (u : List ℕ) × (readAnim q b ≡ accept u) × (u ≡ v)
     again p b v h e q =
         by-got (row animRow (p + 8) b) _ e (λ x ex e₁.
         let y = row-again animRow (p + 8) b x h ex (q + 8) in
@@ -211,7 +211,7 @@ brush-joins x r =
     ∙ sym (append-assoc (writeText (x .name .bytes) []) (writeWords (x .words) (writeWords (x .ids) [])) r)
     ∙ ap (λ (l : List ℕ). l ++ r) (sym (text-append (x .name .bytes) (writeWords (x .words) (writeWords (x .ids) []))))
 
-brush-good : (n textures p : ℕ) (s : List ℕ) (x : Step (Mended (List Brush))) → AllBytes s → mendBrush n textures p s ≡ got x → GoodStep (All (FitBrush n textures)) (writeItems writeBrush) s x
+brush-good : (n textures p : ℕ) (s : List ℕ) (x : Step (Mended (List Brush))) → AllBytes s → mendBrush n textures p s ≡ accept x → GoodStep (All (FitBrush n textures)) (writeItems writeBrush) s x
 unfolding mendBrush oneBrush
 brush-good n textures p s x h e =
     by-got (mendNamed (brushRow Lenient ++ brushIds n textures) p s) _ e (λ y ey e₁.

@@ -5,16 +5,16 @@ use mathlib.Core.Option.{Option, none}
 use mathlib.Core.List.{List, [], _++_, append-assoc}
 use Rattle.wire.specs.Bytes.{bytes}
 use Rattle.layout.specs.Chunks.{done, stop, chunk}
-use Rattle.layout.specs.Out.{Out, got}
+use Rattle.layout.specs.Result.{Result, accept}
 use Rattle.layout.specs.Parts.{named}
 use Rattle.layout.specs.Write.{writeWords, writeText}
 use Rattle.layout.proofs.Outs.{by-got, bad-got, got-inj}
 use Rattle.layout.proofs.PartLaws.{words-append, named-back, named-fine}
 use Rattle.b3d_spec.specs.declared.Mode.the-variants.{Lenient}
 use Rattle.b3d_spec.specs.Names.{renameData, renameForest, bareName}
-use Rattle.b3d_spec.specs.Parse.{readKind, Moves, readMoves, Inner, readNodes, readBelow, readNode, readRoot}
-use Rattle.b3d_spec.specs.Rules.{nodeRow, boneVertices, bonesBelow, levels}
-use Rattle.b3d_spec.specs.Scene.{Kind, still, Forest, leaf, node}
+use Rattle.b3d_spec.specs.Parse.{readKind, Animation, readAnimation, Inner, readNodes, readBelow, readNode, readRoot}
+use Rattle.b3d_spec.specs.Rules.{nodeRow, boneLimit, boneLimitBelow, levels}
+use Rattle.b3d_spec.specs.Scene.{Kind, noAnim, Forest, noNodes, node}
 use Rattle.b3d_spec.specs.Tags.{Chunks}
 use Rattle.b3d_spec.specs.declared.Tag.the-variants.{NODE}
 use Rattle.b3d_mend_spec.specs.Edits.{Edit, was, becomes, before, after}
@@ -34,13 +34,13 @@ bareInner x = record { self = renameData bareName (x .self); below = bareForest 
 
 -- ---- nodes to the end
 
-pub record Nodes (read : ℕ → List ℕ → Out Inner) (cs : Chunks) (x : Forest × List (List Edit)) : Type 0 where
+pub record Nodes (read : ℕ → List ℕ → Result Inner) (cs : Chunks) (x : Forest × List (List Edit)) : Type 0 where
   pub fill : Fill cs (x .1)
-  pub again : (place : ℕ → ℕ) → (f : Forest) × (readNodes read (swap cs (x .1) place) ≡ got f) × (bareForest f ≡ bareForest (x .0))
+  pub again : (place : ℕ → ℕ) → (f : Forest) × (readNodes read (swap cs (x .1) place) ≡ accept f) × (bareForest f ≡ bareForest (x .0))
 
-pub nodes-stage : (read : ℕ → List ℕ → Out Inner) (one : ℕ → List ℕ → Out (Mended Inner)) → MendsFine bareInner read one → (cs : Chunks) (x : Forest × List (List Edit)) → FineC cs → mendNodes one cs ≡ got x → Nodes read cs x
+pub nodes-stage : (read : ℕ → List ℕ → Result Inner) (one : ℕ → List ℕ → Result (Mended Inner)) → MendsFine bareInner read one → (cs : Chunks) (x : Forest × List (List Edit)) → FineC cs → mendNodes one cs ≡ accept x → Nodes read cs x
 unfolding mendNodes readNodes
-nodes-stage read one mends done x f e = subst (Nodes read done) (got-inj e) (record { fill = tt; again = λ place. (leaf, refl, refl) })
+nodes-stage read one mends done x f e = subst (Nodes read done) (got-inj e) (record { fill = tt; again = λ place. (noNodes, refl, refl) })
 nodes-stage read one mends (stop n p) x f e = bad-got e
 nodes-stage read one mends (chunk t p b r) x f e =
     by-got (one p b) _ e (λ m em e₁.
@@ -79,12 +79,12 @@ module _ (l brushes : ℕ) (below : (above : Option ℕ) → MendsFine bareInner
       let given₀ : writeText nm (writeWords ws []) ++ h .left ≡ b = sym (named-joins nm ws (h .left)) ∙ ex in
       let fl = left-fine (writeText nm (writeWords ws [])) (h .left) b given₀ (g .bytes) (f .1) in
       let cs = within NODE p (h .place) (h .left) in
-      by-got (mendKind brushes (boneVertices above) cs) _ e₁ (λ k ek e₂.
-      by-got (mendMoves still (k .rest)) _ e₂ (λ v ev e₃.
-      by-got (mendNodes (mendNode l brushes (bonesBelow above (dataOf (h .value) (k .value) (v .value)))) (v .rest)) _ e₃ (λ n en e₄.
-      let sk = kind-stage brushes (boneVertices above) cs k (within-fine NODE p (h .place) (h .left) fl) ek in
-      let sm = moves-stage still (k .rest) v (sk .rest-fine) ev in
-      let told = bonesBelow above (dataOf (h .value) (k .value) (v .value)) in
+      by-got (mendKind brushes (boneLimit above) cs) _ e₁ (λ k ek e₂.
+      by-got (mendMoves noAnim (k .rest)) _ e₂ (λ v ev e₃.
+      by-got (mendNodes (mendNode l brushes (boneLimitBelow above (dataOf (h .value) (k .value) (v .value)))) (v .rest)) _ e₃ (λ n en e₄.
+      let sk = kind-stage brushes (boneLimit above) cs k (within-fine NODE p (h .place) (h .left) fl) ek in
+      let sm = moves-stage noAnim (k .rest) v (sk .rest-fine) ev in
+      let told = boneLimitBelow above (dataOf (h .value) (k .value) (v .value)) in
       let sn = nodes-stage (readNode Lenient l brushes told) (mendNode l brushes told) (below told) (v .rest) n (sm .rest-fine) en in
       let ys = v .bodies ++ n .1 in
       let xs = k .bodies ++ ys in
@@ -99,11 +99,11 @@ module _ (l brushes : ℕ) (below : (above : Option ℕ) → MendsFine bareInner
             let y = named-back nodeRow nm ws (g .ok .0) (g .ok .1) (q + 8) (after in-edits) in
             let i = hd .again q (y .0) in
             let z = sk .again ys fy (i .0) in
-            let ez : (readKind Lenient) brushes (boneVertices above) (swap cs xs (i .0)) ≡ got (record { value = k .value; rest = swap (k .rest) ys (z .1) }) =
-            z .2 ∙ ap (λ (u : Kind). got (record { value = u; rest = swap (k .rest) ys (z .1) })) (z .3) in
+            let ez : (readKind Lenient) brushes (boneLimit above) (swap cs xs (i .0)) ≡ accept (record { value = k .value; rest = swap (k .rest) ys (z .1) }) =
+            z .2 ∙ ap (λ (u : Kind). accept (record { value = u; rest = swap (k .rest) ys (z .1) })) (z .3) in
             let w = sm .again (n .1) (sn .fill) (z .1) in
-            let ew : readMoves still (swap (k .rest) ys (z .1)) ≡ got (record { value = v .value; rest = swap (v .rest) (n .1) (w .1) }) =
-            w .2 ∙ ap (λ (u : Moves). got (record { value = u; rest = swap (v .rest) (n .1) (w .1) })) (w .3) in
+            let ew : readAnimation noAnim (swap (k .rest) ys (z .1)) ≡ accept (record { value = v .value; rest = swap (v .rest) (n .1) (w .1) }) =
+            w .2 ∙ ap (λ (u : Animation). accept (record { value = u; rest = swap (v .rest) (n .1) (w .1) })) (w .3) in
             let t = sn .again (w .1) in (
               record { self = record { name = record { place = q + 8; bytes = nm }; words = ws; kind = k .value; keys = v .value .keys; anim = v .value .anim }; below = t .0 },
               ap (readNode Lenient (suc l) brushes above q) (sym (named-joins nm ws (after in-edits))) ∙ rw (y .1, i .1, ez, ew, t .1),
@@ -125,5 +125,5 @@ root-mend brushes p b m f e =
     (record {
       given = g .given;
       small = g .small;
-      again = λ q. let y = g .again q in (node (y .0 .self) (y .0 .below) leaf, rw (y .1), ap (λ (u : Inner). node (u .self) (u .below) leaf) (y .2));
+      again = λ q. let y = g .again q in (node (y .0 .self) (y .0 .below) noNodes, rw (y .1), ap (λ (u : Inner). node (u .self) (u .below) noNodes) (y .2));
     }))

@@ -11,7 +11,7 @@ use lib.Dec.{T, lit<}
 use mir.Facts.{and-yes}
 use Rattle.wire.specs.Bytes.{bytes, IsWord, AllBytes}
 use Rattle.wire.proofs.Words.{word-fits}
-use Rattle.layout.specs.Out.{Out, got}
+use Rattle.layout.specs.Result.{Result, accept}
 use Rattle.layout.specs.Parts.{Name, Step, text, words, itemsIn, items}
 use Rattle.layout.specs.Rules.{Rule, any, upTo, exactly, names, namesOrNone, unit, NONE, holds}
 use Rattle.layout.specs.Write.{writeWords, writeText, writeItems}
@@ -31,7 +31,7 @@ pub record Read (n : ℕ) (s : List ℕ) (x : Step (List ℕ)) : Type 0 where
   pub count : length (x .value) ≡ n
   pub bytes : AllBytes (x .left)
 
-pub words-read : (start n p : ℕ) (s : List ℕ) (x : Step (List ℕ)) → AllBytes s → words start n p s ≡ got x → Read n s x
+pub words-read : (start n p : ℕ) (s : List ℕ) (x : Step (List ℕ)) → AllBytes s → words start n p s ≡ accept x → Read n s x
 unfolding words
 words-read start zero p s x h e = subst (Read zero s) (got-inj e) (record { all = tt; count = refl; bytes = h })
 words-read start (suc n) p [] x h e = bad-got e
@@ -47,7 +47,7 @@ pub record TextRead (x : Step (List ℕ)) : Type 0 where
   pub fits : FitText (x .value)
   pub bytes : AllBytes (x .left)
 
-pub text-read : (start p : ℕ) (s : List ℕ) (x : Step (List ℕ)) → AllBytes s → text start p s ≡ got x → TextRead x
+pub text-read : (start p : ℕ) (s : List ℕ) (x : Step (List ℕ)) → AllBytes s → text start p s ≡ accept x → TextRead x
 unfolding text
 text-read start p [] x h e = bad-got e
 text-read start p (zero ∷ s) x h e = subst TextRead (got-inj e) (record { fits = tt; bytes = h .1 })
@@ -83,7 +83,7 @@ set-word : (r : Rule) (w : ℕ) → T (mayBeNone r) → Good (FitWord r) (λ v. 
 unfolding before after was becomes
 set-word r w t = record { ok = (lit< tt, none-fits r t); given = refl; mended = refl; small = (id-small w, tt) }
 
-word-good : (r : Rule) (p w : ℕ) (v : Mended ℕ) → IsWord w → mendWord r p w ≡ got v → Good (FitWord r) (λ v. bytes v []) (bytes w []) v
+word-good : (r : Rule) (p w : ℕ) (v : Mended ℕ) → IsWord w → mendWord r p w ≡ accept v → Good (FitWord r) (λ v. bytes v []) (bytes w []) v
 unfolding mendWord
 word-good r p w v h e =
     by-if (holds r w) _ _ e
@@ -102,7 +102,7 @@ and-good r rs w ws v x g h = record {
   small = all-append Small (v .edits) (x .edits) (g .small) (h .small);
 }
 
-pub words-good : (rs : List Rule) (p : ℕ) (ws : List ℕ) (v : Mended (List ℕ)) → All IsWord ws → length ws ≡ length rs → mendWords rs p ws ≡ got v
+pub words-good : (rs : List Rule) (p : ℕ) (ws : List ℕ) (v : Mended (List ℕ)) → All IsWord ws → length ws ≡ length rs → mendWords rs p ws ≡ accept v
     → Good (Fits rs) (λ vs. writeWords vs []) (writeWords ws []) v
 unfolding mendWords before after
 words-good [] p [] v h n e = subst (Good (Fits []) (λ vs. writeWords vs []) []) (got-inj e) (record { ok = tt; given = refl; mended = refl; small = tt })
@@ -123,7 +123,7 @@ pub record GoodStep {A : Type 0} (Ok : A → Type 0) (write : A → List ℕ) (s
   pub small : All Small (x .value .edits)
   pub bytes : AllBytes (x .left)
 
-pub row-good : (rs : List Rule) (p : ℕ) (s : List ℕ) (x : Step (Mended (List ℕ))) → AllBytes s → mendRow rs p s ≡ got x → GoodStep (Fits rs) (λ ws. writeWords ws []) s x
+pub row-good : (rs : List Rule) (p : ℕ) (s : List ℕ) (x : Step (Mended (List ℕ))) → AllBytes s → mendRow rs p s ≡ accept x → GoodStep (Fits rs) (λ ws. writeWords ws []) s x
 unfolding mendRow
 row-good rs p s x h e =
     by-got (words p (length rs) p s) _ e (λ y ey e₁.
@@ -145,7 +145,7 @@ writeNamed x = writeText (x .0 .bytes) (writeWords (x .1) [])
 abbrev pub FitNamed : List Rule → Name × List ℕ → Type 0
 FitNamed rs x = FitText (x .0 .bytes) × Fits rs (x .1)
 
-pub named-good : (rs : List Rule) (p : ℕ) (s : List ℕ) (x : Step (Mended (Name × List ℕ))) → AllBytes s → mendNamed rs p s ≡ got x → GoodStep (FitNamed rs) writeNamed s x
+pub named-good : (rs : List Rule) (p : ℕ) (s : List ℕ) (x : Step (Mended (Name × List ℕ))) → AllBytes s → mendNamed rs p s ≡ accept x → GoodStep (FitNamed rs) writeNamed s x
 unfolding mendNamed withName before after was becomes
 named-good rs p s x h e =
     by-got (text p p s) _ e (λ n en e₁.
@@ -188,7 +188,7 @@ unfolding stays before after was becomes
 stays-good rs ws true i n f = record { ok = (f tt, tt); given = append-nil _; mended = append-nil _; small = (keep-small _, tt) }
 stays-good rs ws false i n f = record { ok = tt; given = append-nil _; mended = refl; small = (item-small (writeWords ws []) (item-bytes (length rs) ws n i), tt) }
 
-pub item-good : (rs : List Rule) → ItemRow rs → (p : ℕ) (s : List ℕ) (x : Step (Mended (List (List ℕ)))) → AllBytes s → mendItem rs p s ≡ got x → GoodStep (FitAll rs) (λ l. writeItems writeWords l) s x
+pub item-good : (rs : List Rule) → ItemRow rs → (p : ℕ) (s : List ℕ) (x : Step (Mended (List (List ℕ)))) → AllBytes s → mendItem rs p s ≡ accept x → GoodStep (FitAll rs) (λ l. writeItems writeWords l) s x
 unfolding mendItem
 item-good rs i p s x h e =
     by-got (words p (length rs) p s) _ e (λ y ey e₁.
@@ -210,8 +210,8 @@ module _ {A : Type 0} (Ok : A → Type 0) (write : A → List ℕ → List ℕ) 
       ap (write a) (items-append l m) ∙ joins a (writeItems write l ++ writeItems write m) ∙ sym (append-assoc (write a []) (writeItems write l) (writeItems write m))
       ∙ ap (λ (r : List ℕ). r ++ writeItems write m) (sym (joins a (writeItems write l)))
 
-  module _ (item : ℕ → List ℕ → Out (Step (Mended (List A)))) (good : (p : ℕ) (s : List ℕ) (x : Step (Mended (List A))) → AllBytes s → item p s ≡ got x → GoodStep (All Ok) (writeItems write) s x) where
-    in-good : (f p : ℕ) (s : List ℕ) (l : List (Mended (List A))) → AllBytes s → itemsIn f item p s ≡ got l → Good (All Ok) (writeItems write) s (gathered l)
+  module _ (item : ℕ → List ℕ → Result (Step (Mended (List A)))) (good : (p : ℕ) (s : List ℕ) (x : Step (Mended (List A))) → AllBytes s → item p s ≡ accept x → GoodStep (All Ok) (writeItems write) s x) where
+    in-good : (f p : ℕ) (s : List ℕ) (l : List (Mended (List A))) → AllBytes s → itemsIn f item p s ≡ accept l → Good (All Ok) (writeItems write) s (gathered l)
     unfolding itemsIn gathered before after
     in-good zero p [] l h e = subst (λ (v : List (Mended (List A))). Good (All Ok) (writeItems write) [] (gathered v)) (got-inj e) (record { ok = tt; given = refl; mended = refl; small = tt })
     in-good zero p (c ∷ s) l h e = bad-got e
@@ -229,7 +229,7 @@ module _ {A : Type 0} (Ok : A → Type 0) (write : A → List ℕ → List ℕ) 
           small = all-append Small (x .value .edits) (gathered k .edits) (a .small) (g .small);
         })))
 
-    pub items-good : (p : ℕ) (s : List ℕ) (m : Mended (List A)) → AllBytes s → mendItems item p s ≡ got m → Good (All Ok) (writeItems write) s m
+    pub items-good : (p : ℕ) (s : List ℕ) (m : Mended (List A)) → AllBytes s → mendItems item p s ≡ accept m → Good (All Ok) (writeItems write) s m
     unfolding mendItems items
     items-good p s m h e =
         by-got (itemsIn (length s) item p s) _ e (λ l el e₁. subst (Good (All Ok) (writeItems write) s) (got-inj e₁) (in-good (length s) p s l h el))

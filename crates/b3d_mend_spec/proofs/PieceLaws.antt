@@ -15,7 +15,7 @@ use Rattle.layout.specs.Chunks.{done, stop, chunk, keep as keepOf}
 use Rattle.layout.proofs.ChunkLaws.{split-step, split-none, split-unknown}
 use Rattle.layout.proofs.Lists.{All, all-append}
 use Rattle.layout.proofs.Outs.{by-test, by-if, if-yes, if-no}
-use Rattle.b3d_spec.specs.Nesting.{nesting, Reached, start, owed, end, next, onward, order, inside}
+use Rattle.b3d_spec.specs.Nesting.{nesting, Reached, start, requiredBetween, end, next, onward, order, inside}
 use Rattle.b3d_spec.specs.Tags.{tagOf, code, Chunks, split}
 use Rattle.b3d_spec.specs.declared.Tag.{Tag}
 use Rattle.b3d_spec.specs.declared.Tag.the-variants.{BB3D, TEXS, BRUS, NODE, MESH, VRTS, TRIS, BONE, KEYS, ANIM}
@@ -238,7 +238,7 @@ one-kept k head r t p b l (x ∷ xs) (some q) e go h =
       swapped = λ hd place. rw (e, g .swapped hd (λ i. place (suc i)));
     }
 
-done-kept : (k : Tag) (head : ℕ) (r : Reached) (xs : List (List Edit)) (b : Bool) → owed (nesting k) (r .turn) end ≡ b → Fill (if b (stop 8 head) done) xs → Kept k head r done xs
+done-kept : (k : Tag) (head : ℕ) (r : Reached) (xs : List (List Edit)) (b : Bool) → requiredBetween (nesting k) (r .turn) end ≡ b → Fill (if b (stop 8 head) done) xs → Kept k head r done xs
 unfolding if order
 done-kept k head r xs true e h = absurd h
 done-kept k head r [] false e h = record { same = rw e; fill = tt; swapped = λ hd place. rw e }
@@ -246,7 +246,7 @@ done-kept k head r (x ∷ xs) false e h = absurd h
 
 pub order-kept : (k : Tag) (head : ℕ) (r : Reached) (cs : Chunks) (xs : List (List Edit)) → Fill (order k head r cs) xs → Kept k head r cs xs
 unfolding order
-order-kept k head r done xs h = done-kept k head r xs (owed (nesting k) (r .turn) end) refl h
+order-kept k head r done xs h = done-kept k head r xs (requiredBetween (nesting k) (r .turn) end) refl h
 order-kept k head r (stop n p) xs h = absurd h
 order-kept k head r (chunk t p b l) xs h = one-kept k head r t p b l xs (Next k r t) refl (λ q ys. order-kept k head q l ys) h
 
@@ -263,7 +263,7 @@ onward-fine (some q) p go h = h q
 
 pub order-fine : (k : Tag) (head : ℕ) (r : Reached) (cs : Chunks) → FineC cs → FineC (order k head r cs)
 unfolding order
-order-fine k head r done h = if-fine (owed (nesting k) (r .turn) end) head
+order-fine k head r done h = if-fine (requiredBetween (nesting k) (r .turn) end) head
 order-fine k head r (stop n p) h = tt
 order-fine k head r (chunk t p b l) h = onward-fine (Next k r t) p (λ q. chunk t p b (order k head q l)) (λ q. (h .0, order-fine k head q l (h .1)))
 

@@ -9,7 +9,7 @@ use lib.ListN.{length}
 use lib.Dec.{T, eqb}
 use Rattle.wire.specs.Bytes.{bytes, AllBytes}
 use Rattle.layout.specs.Chunks.{done, stop, chunk, ended}
-use Rattle.layout.specs.Out.{Out, got, bad, check, _>>=_}
+use Rattle.layout.specs.Result.{Result, accept, reject, check, _>>=_}
 use Rattle.layout.specs.Parts.{Step, row, number}
 use Rattle.layout.specs.Rows.{sizeFits}
 use Rattle.layout.proofs.Outs.{if-yes}
@@ -17,7 +17,7 @@ use Rattle.b3d_spec.specs.declared.Mode.the-variants.{Lenient}
 use Rattle.b3d_spec.specs.Nesting.{inside}
 use Rattle.b3d_spec.specs.Parse.{readOne, readTextures, readBrushes, readRoot, slotsOf, readBody, parse}
 use Rattle.b3d_spec.specs.Rules.{fileHead, header}
-use Rattle.b3d_spec.specs.Scene.{Texture, Brush, Forest, leaf, Scene}
+use Rattle.b3d_spec.specs.Scene.{Texture, Brush, Forest, noNodes, Scene}
 use Rattle.b3d_spec.specs.Tags.{code, Chunks}
 use Rattle.b3d_spec.specs.declared.Tag.the-variants.{BB3D, TEXS, BRUS, NODE}
 use Rattle.b3d_spec.proofs.Files.TagLaws.{Nothing, file-tags}
@@ -35,7 +35,7 @@ use Rattle.b3d_mend_spec.proofs.QuietStages.{Both, one-beside, row-left
 
 ended-beside : {A B : Type 0} (R : A → B → Type 0) (cs c : Chunks) (a : A) (b : B) → Nothing cs → Alike cs c → (Hush cs [] → R a b) → Beside R (ended cs a) (ended c b)
 unfolding ended
-ended-beside {A} {B} R done c a b n h k = subst (λ (z : Chunks). Beside R (got a) (ended z b)) (sym h) (k tt)
+ended-beside {A} {B} R done c a b n h k = subst (λ (z : Chunks). Beside R (accept a) (ended z b)) (sym h) (k tt)
 ended-beside R (stop i p) c a b n h k = elim h [ inl j ↦ inl j | inr e ↦ inr (ap (λ (z : Chunks). ended z b) e) ]
 ended-beside R (chunk t p d r) c a b n h k = absurd n
 
@@ -56,10 +56,10 @@ body-beside p b f =
     bind-beside-eq (Both (t .rest)) Same (readOne BRUS (0, []) (readBrushes Lenient (length (t .value))) (t .rest)) (mendOne BRUS (0, []) (mendBrushes (length (t′ .value))) (t′ .rest)) _ _
     (subst (λ (l : List Texture). Beside (Both (t .rest)) (readOne BRUS (0, []) (readBrushes Lenient (length (t .value))) (t .rest)) (mendOne BRUS (0, []) (mendBrushes (length l)) (t′ .rest))) (sym (gt .value-same))
     (one-beside BRUS (0, []) (readBrushes Lenient (length (t .value))) (mendBrushes (length (t .value))) (brushes-leave (length (t .value))) (t .rest) (t′ .rest) (gt .fine) (gt .alike))) (λ u u′ eu eu′ gu.
-    bind-beside-eq (Both (u .rest)) Same (readOne NODE leaf (readRoot Lenient (length (u .value .1))) (u .rest)) (mendOne NODE leaf (mendRoot (length (u′ .value .1))) (u′ .rest)) _ _
-    (subst (λ (l : ℕ × List Brush). Beside (Both (u .rest)) (readOne NODE leaf (readRoot Lenient (length (u .value .1))) (u .rest)) (mendOne NODE leaf (mendRoot (length (l .1))) (u′ .rest))) (sym (gu .value-same))
-    (one-beside NODE leaf (readRoot Lenient (length (u .value .1))) (mendRoot (length (u .value .1))) (root-leave (length (u .value .1))) (u .rest) (u′ .rest) (gu .fine) (gu .alike))) (λ n n′ en en′ gn.
-    ended-beside Same (n .rest) (n′ .rest) _ _ (file-tags [] (0, []) leaf readTextures (readBrushes Lenient (length (t .value))) (readRoot Lenient (length (u .value .1))) (h .place) (h .left) t u n et eu en) (gn .alike) (λ e. (
+    bind-beside-eq (Both (u .rest)) Same (readOne NODE noNodes (readRoot Lenient (length (u .value .1))) (u .rest)) (mendOne NODE noNodes (mendRoot (length (u′ .value .1))) (u′ .rest)) _ _
+    (subst (λ (l : ℕ × List Brush). Beside (Both (u .rest)) (readOne NODE noNodes (readRoot Lenient (length (u .value .1))) (u .rest)) (mendOne NODE noNodes (mendRoot (length (l .1))) (u′ .rest))) (sym (gu .value-same))
+    (one-beside NODE noNodes (readRoot Lenient (length (u .value .1))) (mendRoot (length (u .value .1))) (root-leave (length (u .value .1))) (u .rest) (u′ .rest) (gu .fine) (gu .alike))) (λ n n′ en en′ gn.
+    ended-beside Same (n .rest) (n′ .rest) _ _ (file-tags [] (0, []) noNodes readTextures (readBrushes Lenient (length (t .value))) (readRoot Lenient (length (u .value .1))) (h .place) (h .left) t u n et eu en) (gn .alike) (λ e. (
       scene-is (number h 0) (t .value) (t′ .value) (u .value) (u′ .value) (n .value) (n′ .value) (gt .value-same) (gu .value-same) (gn .value-same),
       (keep-quiet _, inside-quiet BB3D 0 (h .place) (h .left) (t′ .bodies ++ (u′ .bodies ++ n′ .bodies)) (gt .hush (u′ .bodies ++ n′ .bodies) (gu .hush (n′ .bodies) (subst (Hush (u .rest)) (append-nil (n′ .bodies)) (gn .hush [] e))))),
     ))))))
@@ -72,13 +72,13 @@ length-quiet said is new t e = subst Quiet (sym (if-yes (eqb said is) _ _ t)) (f
 
 -- the body of a file, where the reading looks at its length and the mending does not
 length-beside : (h : Step (List ℕ)) → Fine (h .left) → Beside Same (check (eqb (number h 1) (length (h .left))) 2 4 >>= λ u. readBody Lenient (h .place) (h .left))
-    (mendBody (h .place) (h .left) >>= λ x. got (record { value = x .value; edits = keep (bytes (code BB3D) []) ∷ fileLength (number h 1) (length (h .left)) (length (after (x .edits))) ∷ x .edits }))
+    (mendBody (h .place) (h .left) >>= λ x. accept (record { value = x .value; edits = keep (bytes (code BB3D) []) ∷ fileLength (number h 1) (length (h .left)) (length (after (x .edits))) ∷ x .edits }))
 unfolding check
 length-beside h f = go (eqb (number h 1) (length (h .left))) refl
   where
-    wrap : (o : Out Scene) (q : Out (Mended Scene)) → T (eqb (number h 1) (length (h .left))) → mendBody (h .place) (h .left) ≡ q → Beside Same o q
-        → Beside Same o (q >>= λ x. got (record { value = x .value; edits = keep (bytes (code BB3D) []) ∷ fileLength (number h 1) (length (h .left)) (length (after (x .edits))) ∷ x .edits }))
-    wrap (got v) (got x) t e k = (
+    wrap : (o : Result Scene) (q : Result (Mended Scene)) → T (eqb (number h 1) (length (h .left))) → mendBody (h .place) (h .left) ≡ q → Beside Same o q
+        → Beside Same o (q >>= λ x. accept (record { value = x .value; edits = keep (bytes (code BB3D) []) ∷ fileLength (number h 1) (length (h .left)) (length (after (x .edits))) ∷ x .edits }))
+    wrap (accept v) (accept x) t e k = (
       k .0,
       (
         keep-quiet _,
@@ -89,15 +89,15 @@ length-beside h f = go (eqb (number h 1) (length (h .left))) refl
         ),
       ),
     )
-    wrap (got v) (bad n i) t e k = absurd k
-    wrap (bad n i) q t e k = elim k [ inl j ↦ inl j | inr g ↦ inr (ap (λ (y : Out (Mended Scene)). y >>= λ x. got (record { value = x .value; edits = keep (bytes (code BB3D) []) ∷ fileLength (number h 1) (length (h .left)) (length (after (x .edits))) ∷ x .edits })) g) ]
+    wrap (accept v) (reject n i) t e k = absurd k
+    wrap (reject n i) q t e k = elim k [ inl j ↦ inl j | inr g ↦ inr (ap (λ (y : Result (Mended Scene)). y >>= λ x. accept (record { value = x .value; edits = keep (bytes (code BB3D) []) ∷ fileLength (number h 1) (length (h .left)) (length (after (x .edits))) ∷ x .edits })) g) ]
 
     go : (b : Bool) → eqb (number h 1) (length (h .left)) ≡ b → Beside Same (check b 2 4 >>= λ u. readBody Lenient (h .place) (h .left))
-        (mendBody (h .place) (h .left) >>= λ x. got (record { value = x .value; edits = keep (bytes (code BB3D) []) ∷ fileLength (number h 1) (length (h .left)) (length (after (x .edits))) ∷ x .edits }))
+        (mendBody (h .place) (h .left) >>= λ x. accept (record { value = x .value; edits = keep (bytes (code BB3D) []) ∷ fileLength (number h 1) (length (h .left)) (length (after (x .edits))) ∷ x .edits }))
     go true e = wrap (readBody Lenient (h .place) (h .left)) (mendBody (h .place) (h .left)) (subst T (sym e) tt) refl (body-beside (h .place) (h .left) f)
     go false e = inl (inr (inr (refl, refl)))
 
-by-check-beside : {A B : Type 0} (R : A → B → Type 0) (b : Bool) (n p : ℕ) (x : Out A) (y : Out B) → (T b → Beside R x y) → Beside R (check b n p >>= λ u. x) (check b n p >>= λ u. y)
+by-check-beside : {A B : Type 0} (R : A → B → Type 0) (b : Bool) (n p : ℕ) (x : Result A) (y : Result B) → (T b → Beside R x y) → Beside R (check b n p >>= λ u. x) (check b n p >>= λ u. y)
 unfolding check
 by-check-beside R true n p x y h = h tt
 by-check-beside R false n p x y h = inr refl

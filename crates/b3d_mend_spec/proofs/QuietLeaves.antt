@@ -11,11 +11,11 @@ use lib.Dec.{leb}
 use Rattle.wire.specs.Bytes.{word}
 use Rattle.wire.specs.Test.{if}
 use Rattle.layout.specs.Chunks.{done, stop, chunk, keep as keepOf, splitIn, split as splitOf}
-use Rattle.layout.specs.Out.{Out, got, bad}
+use Rattle.layout.specs.Result.{Result, accept, reject}
 use Rattle.layout.specs.Parts.{Name, row, number, named, items}
 use Rattle.layout.proofs.Lists.{All, all-append}
 use Rattle.b3d_spec.specs.declared.Mode.the-variants.{Lenient}
-use Rattle.b3d_spec.specs.Nesting.{nesting, Reached, start, owed, end, next, onward, order, inside}
+use Rattle.b3d_spec.specs.Nesting.{nesting, Reached, start, requiredBetween, end, next, onward, order, inside}
 use Rattle.b3d_spec.specs.Parse.{readTextures, readBrush, readBrushes, readVertices, readTriangles, readBone, readKeys, readAnim}
 use Rattle.b3d_spec.specs.Rules.{brushRow, brushIds, triangleRow, weightRow, brushesHead, trianglesHead}
 use Rattle.b3d_spec.specs.Scene.{Brush}
@@ -35,18 +35,18 @@ use Rattle.b3d_mend_spec.proofs.StageLaws.{MendsFine}
 abbrev pub Left : {A : Type 0} → List ℕ → A → Mended A → Type 0
 Left b v m = (m .value ≡ v) × All Quiet (m .edits) × (length b ≡ length (after (m .edits)))
 
-abbrev pub Leaves : {A : Type 0} → (ℕ → List ℕ → Out A) → (ℕ → List ℕ → Out (Mended A)) → Type 0
+abbrev pub Leaves : {A : Type 0} → (ℕ → List ℕ → Result A) → (ℕ → List ℕ → Result (Mended A)) → Type 0
 Leaves read fix = (p : ℕ) (b : List ℕ) → Fine b → Beside (Left b) (read p b) (fix p b)
 
-pub with-length : {A : Type 0} (bare : A → A) (read : ℕ → List ℕ → Out A) (fix : ℕ → List ℕ → Out (Mended A)) → MendsFine bare read fix
+pub with-length : {A : Type 0} (withoutPlaces : A → A) (read : ℕ → List ℕ → Result A) (fix : ℕ → List ℕ → Result (Mended A)) → MendsFine withoutPlaces read fix
     → ((p : ℕ) (b : List ℕ) → Fine b → Beside Same (read p b) (fix p b)) → Leaves read fix
-with-length {A} bare read fix mends h p b f = go (read p b) (fix p b) refl (h p b f)
+with-length {A} withoutPlaces read fix mends h p b f = go (read p b) (fix p b) refl (h p b f)
   where
-    go : (o : Out A) (q : Out (Mended A)) → fix p b ≡ q → Beside Same o q → Beside (Left b) o q
-    go (got v) (got m) e k =
+    go : (o : Result A) (q : Result (Mended A)) → fix p b ≡ q → Beside Same o q → Beside (Left b) o q
+    go (accept v) (accept m) e k =
         (k .0, k .1, ap (λ (l : List ℕ). length l) (sym (mends p b m f e .given) ∙ sym (quiet-same (m .edits) (k .1))))
-    go (got v) (bad n i) e k = absurd k
-    go (bad n i) q e k = k
+    go (accept v) (reject n i) e k = absurd k
+    go (reject n i) q e k = k
 
 -- ---- leaves
 
@@ -157,7 +157,7 @@ onward-alike (some q) t p b f g h = (g q, refl, h q)
 
 order-alike : (k : Tag) (head : ℕ) (r : Reached) (cs c : Chunks) → Alike cs c → Alike (order k head r cs) (order k head r c)
 unfolding order
-order-alike k head r done c h = subst (λ (z : Chunks). Alike (order k head r done) (order k head r z)) (sym h) (end-alike (owed (nesting k) (r .turn) end) head)
+order-alike k head r done c h = subst (λ (z : Chunks). Alike (order k head r done) (order k head r z)) (sym h) (end-alike (requiredBetween (nesting k) (r .turn) end) head)
 order-alike k head r (stop n p) c h = elim h [ inl i ↦ inl i | inr e ↦ inr (ap (order k head r) e) ]
 order-alike k head r (chunk t p b l) c h =
     subst (λ (z : Chunks). Alike (order k head r (chunk t p b l)) (order k head r z)) (sym (h .1))
@@ -218,7 +218,7 @@ onward-hush (some q) t p b f r (x ∷ xs) go h = (h .0, h .1, go q xs (h .2))
 
 order-hush : (k : Tag) (head : ℕ) (r : Reached) (cs : Chunks) (xs : List (List Edit)) → Hush (order k head r cs) xs → Hush cs xs
 unfolding order
-order-hush k head r done xs h = end-hush (owed (nesting k) (r .turn) end) head xs h
+order-hush k head r done xs h = end-hush (requiredBetween (nesting k) (r .turn) end) head xs h
 order-hush k head r (stop n p) xs h = absurd h
 order-hush k head r (chunk t p b l) xs h = onward-hush (next (nesting k) (nesting k) r t) t p b (λ q. order k head q l) l xs (λ q ys. order-hush k head q l ys) h
 

@@ -9,7 +9,7 @@ use lib.ListN.{length}
 use lib.Dec.{T, leb}
 use Rattle.wire.specs.Bytes.{bytes}
 use Rattle.wire.specs.Test.{if}
-use Rattle.layout.specs.Out.{Out, got, bad, check, _>>=_}
+use Rattle.layout.specs.Result.{Result, accept, reject, check, _>>=_}
 use Rattle.layout.specs.Parts.{Name, Step, text, words, judged, row, named, itemsIn, items}
 use Rattle.layout.specs.Rules.{Rule, any, upTo, exactly, names, namesOrNone, unit, holds, refusal}
 use Rattle.layout.proofs.Lists.{All, all-append}
@@ -31,12 +31,12 @@ SameStep x y = Same (x .value) (y .value) × (y .place ≡ x .place) × (y .left
 abbrev KeptWord : ℕ → Unit {0} → Mended ℕ → Type 0
 KeptWord w u v = (v .value ≡ w) × All Quiet (v .edits)
 
-strict-word : (b : Bool) (n p w : ℕ) (x : Out (Mended ℕ)) → Beside (KeptWord w) (check b n p) (if b (got (record { value = w; edits = keep (bytes w []) ∷ [] })) (if false x (bad n p)))
+strict-word : (b : Bool) (n p w : ℕ) (x : Result (Mended ℕ)) → Beside (KeptWord w) (check b n p) (if b (accept (record { value = w; edits = keep (bytes w []) ∷ [] })) (if false x (reject n p)))
 unfolding check if
 strict-word true n p w x = (refl, (keep-quiet _, tt))
 strict-word false n p w x = inr refl
 
-loose-word : (b : Bool) (n p w : ℕ) (x : Out (Mended ℕ)) → Mendable n p → Beside (KeptWord w) (check b n p) (if b (got (record { value = w; edits = keep (bytes w []) ∷ [] })) x)
+loose-word : (b : Bool) (n p w : ℕ) (x : Result (Mended ℕ)) → Mendable n p → Beside (KeptWord w) (check b n p) (if b (accept (record { value = w; edits = keep (bytes w []) ∷ [] })) x)
 unfolding check if
 loose-word true n p w x i = (refl, (keep-quiet _, tt))
 loose-word false n p w x i = inl i
@@ -59,13 +59,13 @@ words-beside {A} (r ∷ rs) p (w ∷ ws) a n =
     bind-beside (KeptWord w) _ (check (holds r w) (refusal r) p) (mendWord r p w) _ _ (word-beside r p w) (λ u v hv.
     one-more (judged rs (p + 4) ws a) (mendWords rs (p + 4) ws) v hv (words-beside rs (p + 4) ws a (omega arith)))
   where
-    one-more : (o : Out A) (m : Out (Mended (List ℕ))) (v : Mended ℕ) → (v .value ≡ w) × All Quiet (v .edits) → Beside (λ (b : A) (x : Mended (List ℕ)). (b ≡ a) × Same ws x) o m
-        → Beside (λ (b : A) (x : Mended (List ℕ)). (b ≡ a) × Same (w ∷ ws) x) o (m >>= λ x. got (record { value = v .value ∷ x .value; edits = v .edits ++ x .edits }))
-    one-more (got b) (got x) v hv h = (h .0, (ap₂ _∷_ (hv .0) (h .1 .0), all-append Quiet (v .edits) (x .edits) (hv .1) (h .1 .1)))
-    one-more (got b) (bad i q) v hv h = absurd h
-    one-more (bad i q) m v hv h = elim h [ inl j ↦ inl j | inr e ↦ inr (ap (λ (z : Out (Mended (List ℕ))). z >>= λ x. got (record { value = v .value ∷ x .value; edits = v .edits ++ x .edits })) e) ]
+    one-more : (o : Result A) (m : Result (Mended (List ℕ))) (v : Mended ℕ) → (v .value ≡ w) × All Quiet (v .edits) → Beside (λ (b : A) (x : Mended (List ℕ)). (b ≡ a) × Same ws x) o m
+        → Beside (λ (b : A) (x : Mended (List ℕ)). (b ≡ a) × Same (w ∷ ws) x) o (m >>= λ x. accept (record { value = v .value ∷ x .value; edits = v .edits ++ x .edits }))
+    one-more (accept b) (accept x) v hv h = (h .0, (ap₂ _∷_ (hv .0) (h .1 .0), all-append Quiet (v .edits) (x .edits) (hv .1) (h .1 .1)))
+    one-more (accept b) (reject i q) v hv h = absurd h
+    one-more (reject i q) m v hv h = elim h [ inl j ↦ inl j | inr e ↦ inr (ap (λ (z : Result (Mended (List ℕ))). z >>= λ x. accept (record { value = v .value ∷ x .value; edits = v .edits ++ x .edits })) e) ]
 
-pub words-count : (start n p : ℕ) (s : List ℕ) (x : Step (List ℕ)) → words start n p s ≡ got x → length (x .value) ≡ n
+pub words-count : (start n p : ℕ) (s : List ℕ) (x : Step (List ℕ)) → words start n p s ≡ accept x → length (x .value) ≡ n
 unfolding words
 words-count start zero p s x e = ap (λ (y : Step (List ℕ)). length (y .value)) (sym (got-inj e))
 words-count start (suc n) p [] x e = bad-got e
@@ -78,12 +78,12 @@ words-count start (suc n) p (a ∷ b ∷ c ∷ d ∷ s) x e =
 -- ---- rows and names
 
 -- judged words as a step, beside mended words as a step
-step-of : {A : Type 0} (ws : List ℕ) (a : Step A) (j : Out (Step A)) (m : Out (Mended (List ℕ))) (f : Mended (List ℕ) → Mended A)
+step-of : {A : Type 0} (ws : List ℕ) (a : Step A) (j : Result (Step A)) (m : Result (Mended (List ℕ))) (f : Mended (List ℕ) → Mended A)
     → ((v : Mended (List ℕ)) → Same ws v → Same (a .value) (f v)) → Beside (λ (b : Step A) (v : Mended (List ℕ)). (b ≡ a) × Same ws v) j m
-    → Beside SameStep j (m >>= λ v. got (record { value = f v; place = a .place; left = a .left }))
-step-of ws a (got b) (got v) f k h = subst (λ (z : Step _). SameStep z (record { value = f v; place = a .place; left = a .left })) (sym (h .0)) (k v (h .1), refl, refl)
-step-of ws a (got b) (bad i q) f k h = absurd h
-step-of ws a (bad i q) m f k h = elim h [ inl j ↦ inl j | inr e ↦ inr (ap (λ (z : Out (Mended (List ℕ))). z >>= λ v. got (record { value = f v; place = a .place; left = a .left })) e) ]
+    → Beside SameStep j (m >>= λ v. accept (record { value = f v; place = a .place; left = a .left }))
+step-of ws a (accept b) (accept v) f k h = subst (λ (z : Step _). SameStep z (record { value = f v; place = a .place; left = a .left })) (sym (h .0)) (k v (h .1), refl, refl)
+step-of ws a (accept b) (reject i q) f k h = absurd h
+step-of ws a (reject i q) m f k h = elim h [ inl j ↦ inl j | inr e ↦ inr (ap (λ (z : Result (Mended (List ℕ))). z >>= λ v. accept (record { value = f v; place = a .place; left = a .left })) e) ]
 
 pub row-beside : (rs : List Rule) (p : ℕ) (s : List ℕ) → Beside SameStep (row rs p s) (mendRow rs p s)
 unfolding row mendRow
@@ -114,19 +114,19 @@ IdRule (names n) = Unit {0}
 IdRule (namesOrNone n) = Unit {0}
 IdRule unit = ⊥
 
-ids-judged : {A : Type 0} (rs : List Rule) (p : ℕ) (ws : List ℕ) (a : A) → All IdRule rs → Beside (λ (b : A) (c : Bool). (b ≡ a) × (c ≡ true)) (judged rs p ws a) (got (allHold rs ws))
+ids-judged : {A : Type 0} (rs : List Rule) (p : ℕ) (ws : List ℕ) (a : A) → All IdRule rs → Beside (λ (b : A) (c : Bool). (b ≡ a) × (c ≡ true)) (judged rs p ws a) (accept (allHold rs ws))
 unfolding judged allHold check
 ids-judged [] p ws a h = (refl, refl)
 ids-judged (r ∷ rs) p [] a h = (refl, refl)
 ids-judged {A} (r ∷ rs) p (w ∷ ws) a h = go r (h .0) (judged rs (p + 4) ws a) (allHold rs ws) (ids-judged rs (p + 4) ws a (h .1))
   where
-    both : (c d : Bool) (n : ℕ) (o : Out A) → Mendable n p → Beside (λ (b : A) (c : Bool). (b ≡ a) × (c ≡ true)) o (got d)
-        → Beside (λ (b : A) (c : Bool). (b ≡ a) × (c ≡ true)) (check c n p >>= λ u. o) (got (c && d))
+    both : (c d : Bool) (n : ℕ) (o : Result A) → Mendable n p → Beside (λ (b : A) (c : Bool). (b ≡ a) × (c ≡ true)) o (accept d)
+        → Beside (λ (b : A) (c : Bool). (b ≡ a) × (c ≡ true)) (check c n p >>= λ u. o) (accept (c && d))
     both true d n o i k = k
     both false d n o i k = inl i
 
-    go : (r : Rule) → IdRule r → (o : Out A) (d : Bool) → Beside (λ (b : A) (c : Bool). (b ≡ a) × (c ≡ true)) o (got d)
-        → Beside (λ (b : A) (c : Bool). (b ≡ a) × (c ≡ true)) (check (holds r w) (refusal r) p >>= λ u. o) (got (holds r w && d))
+    go : (r : Rule) → IdRule r → (o : Result A) (d : Bool) → Beside (λ (b : A) (c : Bool). (b ≡ a) × (c ≡ true)) o (accept d)
+        → Beside (λ (b : A) (c : Bool). (b ≡ a) × (c ≡ true)) (check (holds r w) (refusal r) p >>= λ u. o) (accept (holds r w && d))
     go any i o d k = k
     go (upTo m) i o d k = absurd i
     go (exactly m) i o d k = absurd i
@@ -138,22 +138,22 @@ ids-judged {A} (r ∷ rs) p (w ∷ ws) a h = go r (h .0) (judged rs (p + 4) ws a
 abbrev pub SameItem : {A : Type 0} → Step A → Step (Mended (List A)) → Type 0
 SameItem x y = (y .value .value ≡ x .value ∷ []) × All Quiet (y .value .edits) × (y .place ≡ x .place) × (y .left ≡ x .left)
 
-item-of : (x : Step (List ℕ)) (j : Out (Step (List ℕ))) (b : Bool) → Beside (λ (y : Step (List ℕ)) (c : Bool). (y ≡ x) × (c ≡ true)) j (got b)
-    → Beside SameItem j (got (record { value = stays b (x .value); place = x .place; left = x .left }))
+item-of : (x : Step (List ℕ)) (j : Result (Step (List ℕ))) (b : Bool) → Beside (λ (y : Step (List ℕ)) (c : Bool). (y ≡ x) × (c ≡ true)) j (accept b)
+    → Beside SameItem j (accept (record { value = stays b (x .value); place = x .place; left = x .left }))
 unfolding stays
-item-of x (got y) true h = subst (λ (z : Step (List ℕ)). SameItem z (record { value = stays true (x .value); place = x .place; left = x .left })) (sym (h .0)) (refl, (keep-quiet _, tt), refl, refl)
-item-of x (got y) false h = let z : false ≡ true = h .1 in absurd (no-yes z)
+item-of x (accept y) true h = subst (λ (z : Step (List ℕ)). SameItem z (record { value = stays true (x .value); place = x .place; left = x .left })) (sym (h .0)) (refl, (keep-quiet _, tt), refl, refl)
+item-of x (accept y) false h = let z : false ≡ true = h .1 in absurd (no-yes z)
   where
     no-yes : false ≡ true → ⊥
     no-yes e = subst (λ (b : Bool). T (not b)) e tt
-item-of x (bad n p) b h = elim h [ inl i ↦ inl i | inr e ↦ absurd (bad-got (sym e)) ]
+item-of x (reject n p) b h = elim h [ inl i ↦ inl i | inr e ↦ absurd (bad-got (sym e)) ]
 
 pub item-beside : (rs : List Rule) → All IdRule rs → (p : ℕ) (s : List ℕ) → Beside SameItem (row rs p s) (mendItem rs p s)
 unfolding row mendItem
 item-beside rs ids p s =
     same-beside SameItem (words p (length rs) p s) _ _ (λ x ex. item-of x (judged rs p (x .value) x) (allHold rs (x .value)) (ids-judged rs p (x .value) x ids))
 
-module _ {A : Type 0} (read : ℕ → List ℕ → Out (Step A)) (item : ℕ → List ℕ → Out (Step (Mended (List A)))) (one : (p : ℕ) (s : List ℕ) → Beside SameItem (read p s) (item p s)) where
+module _ {A : Type 0} (read : ℕ → List ℕ → Result (Step A)) (item : ℕ → List ℕ → Result (Step (Mended (List A)))) (one : (p : ℕ) (s : List ℕ) → Beside SameItem (read p s) (item p s)) where
   in-beside : (f p : ℕ) (s : List ℕ) → Beside (λ (l : List A) (m : List (Mended (List A))). Same l (gathered m)) (itemsIn f read p s) (itemsIn f item p s)
   unfolding itemsIn gathered
   in-beside zero p [] = (refl, tt)
@@ -172,15 +172,15 @@ module _ {A : Type 0} (read : ℕ → List ℕ → Out (Step A)) (item : ℕ →
   unfolding items mendItems
   items-beside p s = last (itemsIn (length s) read p s) (itemsIn (length s) item p s) (in-beside (length s) p s)
     where
-      last : (o : Out (List A)) (m : Out (List (Mended (List A)))) → Beside (λ (l : List A) (m : List (Mended (List A))). Same l (gathered m)) o m → Beside Same o (m >>= λ l. got (gathered l))
-      last (got l) (got m) h = h
-      last (got l) (bad n q) h = absurd h
-      last (bad n q) m h = elim h [ inl i ↦ inl i | inr e ↦ inr (ap (λ (z : Out (List (Mended (List A)))). z >>= λ l. got (gathered l)) e) ]
+      last : (o : Result (List A)) (m : Result (List (Mended (List A)))) → Beside (λ (l : List A) (m : List (Mended (List A))). Same l (gathered m)) o m → Beside Same o (m >>= λ l. accept (gathered l))
+      last (accept l) (accept m) h = h
+      last (accept l) (reject n q) h = absurd h
+      last (reject n q) m h = elim h [ inl i ↦ inl i | inr e ↦ inr (ap (λ (z : Result (List (Mended (List A)))). z >>= λ l. accept (gathered l)) e) ]
 
-pub as-read-beside : {A : Type 0} (read : ℕ → List ℕ → Out A) (p : ℕ) (b : List ℕ) → Beside Same (read p b) (asRead read p b)
+pub as-read-beside : {A : Type 0} (read : ℕ → List ℕ → Result A) (p : ℕ) (b : List ℕ) → Beside Same (read p b) (asRead read p b)
 unfolding asRead
 as-read-beside {A} read p b = go (read p b)
   where
-    go : (o : Out A) → Beside Same o (o >>= λ v. got (record { value = v; edits = keep b ∷ [] }))
-    go (got v) = (refl, (keep-quiet b, tt))
-    go (bad n q) = inr refl
+    go : (o : Result A) → Beside Same o (o >>= λ v. accept (record { value = v; edits = keep b ∷ [] }))
+    go (accept v) = (refl, (keep-quiet b, tt))
+    go (reject n q) = inr refl

@@ -9,16 +9,16 @@ use lib.ListN.{length, replicate}
 use lib.Dec.{eqb}
 use Rattle.wire.specs.Test.{if}
 use Rattle.layout.specs.Chunks.{done, stop, chunk, ended}
-use Rattle.layout.specs.Out.{Out, got, bad, check, _>>=_}
+use Rattle.layout.specs.Result.{Result, accept, reject, check, _>>=_}
 use Rattle.layout.specs.Parts.{Step, text, words, judged, row, number, named, itemsIn, items}
 use Rattle.layout.specs.Rules.{Rule, any, upTo, exactly, names, namesOrNone, unit, holds, refusal}
 use Rattle.layout.specs.Rows.{sizeFits}
 use Rattle.layout.proofs.Lists.{All}
 use Rattle.b3d_spec.specs.declared.Mode.the-variants.{Lenient}
-use Rattle.b3d_spec.specs.Nesting.{nesting, Reached, start, owed, end, next, onward, order}
+use Rattle.b3d_spec.specs.Nesting.{nesting, Reached, start, requiredBetween, end, next, onward, order}
 use Rattle.b3d_spec.specs.Parse.{readTexture, readTextures, noVertices, readVertices, readKeys, filled, readAnim, Inner}
-use Rattle.b3d_spec.specs.Rules.{textureRow, brushRow, brushIds, textureId, nodeRow, vertexRow, vertexWords, keyRow, keyWords, animRow, header, fileHead, brushesHead, verticesHead, keysHead, meshHead, trianglesHead, triangleRow, weightRow, boneVertices, bonesBelow, levels}
-use Rattle.b3d_spec.specs.Scene.{Anim, still, anim, leaf}
+use Rattle.b3d_spec.specs.Rules.{textureRow, brushRow, brushIds, textureId, nodeRow, vertexRow, vertexWords, keyRow, keyWords, animRow, header, fileHead, brushesHead, verticesHead, keysHead, meshHead, trianglesHead, triangleRow, weightRow, boneLimit, boneLimitBelow, levels}
+use Rattle.b3d_spec.specs.Scene.{Anim, noAnim, anim, noNodes}
 use Rattle.b3d_spec.specs.Tags.{code, is, Chunks}
 use Rattle.b3d_spec.specs.declared.Tag.{Tag}
 use Rattle.b3d_spec.specs.declared.Tag.the-variants.{BB3D, TEXS, BRUS, NODE, MESH, VRTS, BONE, KEYS, ANIM}
@@ -27,9 +27,9 @@ use Rattle.b3d_mend_spec.specs.Pieces.{Pieces, none-left, spare, past, o
 use Rattle.b3d_mend_spec.specs.Mends.{Unmended}
 use Rattle.b3d_mend_spec.proofs.PieceLaws.{within}
 
-abbrev pub Plain : {A : Type 0} → Out A → Type 0
-Plain (got a) = Unit {0}
-Plain (bad n p) = Unmended n p
+abbrev pub Plain : {A : Type 0} → Result A → Type 0
+Plain (accept a) = Unit {0}
+Plain (reject n p) = Unmended n p
 
 one : (p : ℕ) → Unmended 1 p
 one p = ((λ e. omega arith), (λ e q. omega arith), omega arith, omega arith)
@@ -55,16 +55,16 @@ nine p = ((λ e. omega arith), (λ e q. omega arith), omega arith, omega arith)
 two-at-0 : Unmended 2 0
 two-at-0 = ((λ e. omega arith), (λ e q. omega arith), omega arith, omega arith)
 
-bind-plain : {A B : Type 0} (m : Out A) (k : A → Out B) → Plain m → ((a : A) → Plain (k a)) → Plain (m >>= k)
-bind-plain (got a) k h f = f a
-bind-plain (bad n p) k h f = h
+bind-plain : {A B : Type 0} (m : Result A) (k : A → Result B) → Plain m → ((a : A) → Plain (k a)) → Plain (m >>= k)
+bind-plain (accept a) k h f = f a
+bind-plain (reject n p) k h f = h
 
 check-plain : (b : Bool) (n p : ℕ) → Unmended n p → Plain (check b n p)
 unfolding check
 check-plain true n p h = tt
 check-plain false n p h = h
 
-if-plain : {A : Type 0} (b : Bool) (x y : Out A) → Plain x → Plain y → Plain (if b x y)
+if-plain : {A : Type 0} (b : Bool) (x y : Result A) → Plain x → Plain y → Plain (if b x y)
 unfolding if
 if-plain true x y h k = h
 if-plain false x y h k = k
@@ -126,14 +126,14 @@ unfolding named
 named-plain rs h p s =
     bind-plain (text p p s) _ (text-plain p p s) (λ n. bind-plain (words p (length rs) (n .place) (n .left)) _ (words-plain p (length rs) (n .place) (n .left)) (λ x. judged-plain rs (n .place) (x .value) _ h))
 
-in-plain : {A : Type 0} (item : ℕ → List ℕ → Out (Step A)) → ((p : ℕ) (s : List ℕ) → Plain (item p s)) → (f p : ℕ) (s : List ℕ) → Plain (itemsIn f item p s)
+in-plain : {A : Type 0} (item : ℕ → List ℕ → Result (Step A)) → ((p : ℕ) (s : List ℕ) → Plain (item p s)) → (f p : ℕ) (s : List ℕ) → Plain (itemsIn f item p s)
 unfolding itemsIn
 in-plain item h zero p [] = tt
 in-plain item h zero p (c ∷ s) = five p
 in-plain item h (suc f) p [] = tt
 in-plain item h (suc f) p (c ∷ s) = bind-plain (item p (c ∷ s)) _ (h p (c ∷ s)) (λ x. bind-plain (itemsIn f item (x .place) (x .left)) _ (in-plain item h f (x .place) (x .left)) (λ l. tt))
 
-items-plain : {A : Type 0} (item : ℕ → List ℕ → Out (Step A)) → ((p : ℕ) (s : List ℕ) → Plain (item p s)) → (p : ℕ) (s : List ℕ) → Plain (items item p s)
+items-plain : {A : Type 0} (item : ℕ → List ℕ → Result (Step A)) → ((p : ℕ) (s : List ℕ) → Plain (item p s)) → (p : ℕ) (s : List ℕ) → Plain (items item p s)
 unfolding items
 items-plain item h p s = in-plain item h (length s) p s
 
@@ -166,7 +166,7 @@ item-plain : (rs : List Rule) (p : ℕ) (s : List ℕ) → Plain (mendItem rs p 
 unfolding mendItem
 item-plain rs p s = bind-plain (words p (length rs) p s) _ (words-plain p (length rs) p s) (λ x. tt)
 
-mend-items-plain : {A : Type 0} (item : ℕ → List ℕ → Out (Step (Mended (List A)))) → ((p : ℕ) (s : List ℕ) → Plain (item p s)) → (p : ℕ) (s : List ℕ) → Plain (mendItems item p s)
+mend-items-plain : {A : Type 0} (item : ℕ → List ℕ → Result (Step (Mended (List A)))) → ((p : ℕ) (s : List ℕ) → Plain (item p s)) → (p : ℕ) (s : List ℕ) → Plain (mendItems item p s)
 unfolding mendItems
 mend-items-plain item h p s = bind-plain (items item p s) _ (items-plain item h p s) (λ l. tt)
 
@@ -180,7 +180,7 @@ all-both P (x ∷ xs) ys h k = (h .0, all-both P xs ys (h .1) k)
 
 -- ---- chunks that hold items only
 
-as-read-plain : {A : Type 0} (read : ℕ → List ℕ → Out A) → ((p : ℕ) (b : List ℕ) → Plain (read p b)) → (p : ℕ) (b : List ℕ) → Plain (asRead read p b)
+as-read-plain : {A : Type 0} (read : ℕ → List ℕ → Result A) → ((p : ℕ) (b : List ℕ) → Plain (read p b)) → (p : ℕ) (b : List ℕ) → Plain (asRead read p b)
 unfolding asRead
 as-read-plain read h p b = bind-plain (read p b) _ (h p b) (λ v. tt)
 
@@ -238,9 +238,9 @@ PlainC (stop n p) = Unmended n p
 PlainC (chunk t p b r) = PlainC r
 
 -- the rest of what was found is such
-abbrev Rest : {A : Type 0} → Out (Taken A) → Type 0
-Rest (got x) = PlainC (x .rest)
-Rest (bad n p) = Unmended n p
+abbrev Rest : {A : Type 0} → Result (Taken A) → Type 0
+Rest (accept x) = PlainC (x .rest)
+Rest (reject n p) = Unmended n p
 
 pieces-plain : (P : Pieces) → PlainC (chunksOf P)
 unfolding chunksOf
@@ -262,31 +262,31 @@ onward-plain (some q) p go h = h q
 
 order-plain : (k : Tag) (head : ℕ) (r : Reached) (cs : Chunks) → PlainC cs → PlainC (order k head r cs)
 unfolding order
-order-plain k head r done h = end-plain (owed (nesting k) (r .turn) end) head
+order-plain k head r done h = end-plain (requiredBetween (nesting k) (r .turn) end) head
 order-plain k head r (stop n p) h = h
 order-plain k head r (chunk t p b l) h = onward-plain (next (nesting k) (nesting k) r t) p _ (λ q. order-plain k head q l h)
 
 within-plain : (k : Tag) (head p : ℕ) (s : List ℕ) → PlainC (within k head p s)
 within-plain k head p s = order-plain k head start (chunksOf (pieces p s)) (pieces-plain (pieces p s))
 
-rest-bind : {A B : Type 0} (m : Out (Taken A)) (k : Taken A → Out B) → Rest m → ((x : Taken A) → PlainC (x .rest) → Plain (k x)) → Plain (m >>= k)
-rest-bind (got x) k h f = f x h
-rest-bind (bad n p) k h f = h
+rest-bind : {A B : Type 0} (m : Result (Taken A)) (k : Taken A → Result B) → Rest m → ((x : Taken A) → PlainC (x .rest) → Plain (k x)) → Plain (m >>= k)
+rest-bind (accept x) k h f = f x h
+rest-bind (reject n p) k h f = h
 
-rest-of : {A B : Type 0} (m : Out A) (k : A → Out (Taken B)) → Plain m → ((a : A) → Rest (k a)) → Rest (m >>= k)
-rest-of (got a) k h f = f a
-rest-of (bad n p) k h f = h
+rest-of : {A B : Type 0} (m : Result A) (k : A → Result (Taken B)) → Plain m → ((a : A) → Rest (k a)) → Rest (m >>= k)
+rest-of (accept a) k h f = f a
+rest-of (reject n p) k h f = h
 
-rest-more : {A B : Type 0} (m : Out (Taken A)) (k : Taken A → Out (Taken B)) → Rest m → ((x : Taken A) → PlainC (x .rest) → Rest (k x)) → Rest (m >>= k)
-rest-more (got x) k h f = f x h
-rest-more (bad n p) k h f = h
+rest-more : {A B : Type 0} (m : Result (Taken A)) (k : Taken A → Result (Taken B)) → Rest m → ((x : Taken A) → PlainC (x .rest) → Rest (k x)) → Rest (m >>= k)
+rest-more (accept x) k h f = f x h
+rest-more (reject n p) k h f = h
 
-if-rest : {A : Type 0} (b : Bool) (x y : Out (Taken A)) → Rest x → Rest y → Rest (if b x y)
+if-rest : {A : Type 0} (b : Bool) (x y : Result (Taken A)) → Rest x → Rest y → Rest (if b x y)
 unfolding if
 if-rest true x y h k = h
 if-rest false x y h k = k
 
-module _ {A : Type 0} (k : Tag) (a : A) (fix : ℕ → List ℕ → Out (Mended A)) (h : (p : ℕ) (b : List ℕ) → Plain (fix p b)) where
+module _ {A : Type 0} (k : Tag) (a : A) (fix : ℕ → List ℕ → Result (Mended A)) (h : (p : ℕ) (b : List ℕ) → Plain (fix p b)) where
   one-plain : (cs : Chunks) → PlainC cs → Rest (mendOne k a fix cs)
   unfolding mendOne found
   one-plain done c = tt
@@ -324,7 +324,7 @@ moves-plain seen (chunk t p b r) c =
     if-rest (is t KEYS) _ _ (rest-of (asRead readKeys p b) _ (as-read-plain readKeys keys-plain p b) (λ x. rest-more (mendMoves seen r) _ (moves-plain seen r c) (λ l d. d)))
     (if-rest (is t ANIM) _ _ (rest-of (asRead readAnim p b) _ (as-read-plain readAnim anim-plain p b) (λ x. rest-more (mendMoves (anim (x .value)) r) _ (moves-plain (anim (x .value)) r c) (λ l d. d))) c)
 
-nodes-plain : (fix : ℕ → List ℕ → Out (Mended Inner)) → ((p : ℕ) (b : List ℕ) → Plain (fix p b)) → (cs : Chunks) → PlainC cs → Plain (mendNodes fix cs)
+nodes-plain : (fix : ℕ → List ℕ → Result (Mended Inner)) → ((p : ℕ) (b : List ℕ) → Plain (fix p b)) → (cs : Chunks) → PlainC cs → Plain (mendNodes fix cs)
 unfolding mendNodes
 nodes-plain fix h done c = tt
 nodes-plain fix h (stop n p) c = c
@@ -335,9 +335,9 @@ unfolding mendNode
 node-plain zero brushes above p b = nine p
 node-plain (suc l) brushes above p b =
     bind-plain (named nodeRow (p + 8) b) _ (named-plain nodeRow (any-all NoId any tt 10) (p + 8) b) (λ h.
-    rest-bind (mendKind brushes (boneVertices above) (within NODE p (h .place) (h .left))) _ (kind-plain brushes (boneVertices above) (within NODE p (h .place) (h .left)) (within-plain NODE p (h .place) (h .left))) (λ k c.
-    rest-bind (mendMoves still (k .rest)) _ (moves-plain still (k .rest) c) (λ m d.
-    let told = bonesBelow above (dataOf (h .value) (k .value) (m .value)) in
+    rest-bind (mendKind brushes (boneLimit above) (within NODE p (h .place) (h .left))) _ (kind-plain brushes (boneLimit above) (within NODE p (h .place) (h .left)) (within-plain NODE p (h .place) (h .left))) (λ k c.
+    rest-bind (mendMoves noAnim (k .rest)) _ (moves-plain noAnim (k .rest) c) (λ m d.
+    let told = boneLimitBelow above (dataOf (h .value) (k .value) (m .value)) in
     bind-plain (mendNodes (mendNode l brushes told) (m .rest)) _ (nodes-plain (mendNode l brushes told) (node-plain l brushes told) (m .rest) d) (λ f. tt))))
 
 root-plain : (brushes p : ℕ) (b : List ℕ) → Plain (mendRoot brushes p b)
@@ -357,7 +357,7 @@ body-plain p b =
     rest-bind (mendOne TEXS [] (asRead readTextures) (within BB3D 0 (h .place) (h .left))) _
     (one-plain TEXS [] (asRead readTextures) (as-read-plain readTextures textures-plain) (within BB3D 0 (h .place) (h .left)) (within-plain BB3D 0 (h .place) (h .left))) (λ t c.
     rest-bind (mendOne BRUS (0, []) (mendBrushes (length (t .value))) (t .rest)) _ (one-plain BRUS (0, []) (mendBrushes (length (t .value))) (brushes-plain (length (t .value))) (t .rest) c) (λ u d.
-    rest-bind (mendOne NODE leaf (mendRoot (length (u .value .1))) (u .rest)) _ (one-plain NODE leaf (mendRoot (length (u .value .1))) (root-plain (length (u .value .1))) (u .rest) d) (λ n e.
+    rest-bind (mendOne NODE noNodes (mendRoot (length (u .value .1))) (u .rest)) _ (one-plain NODE noNodes (mendRoot (length (u .value .1))) (root-plain (length (u .value .1))) (u .rest) d) (λ n e.
     ended-plain (n .rest) _ e))))
 
 file-plain : (s : List ℕ) → Plain (mendFile s)
@@ -369,5 +369,5 @@ file-plain s =
     bind-plain (mendBody (h .place) (h .left)) _ (body-plain (h .place) (h .left)) (λ x. tt))))
 
 -- a refusal is never of a brush, texture or vertex id, nor of BB3D's length
-pub file-refusal : (s : List ℕ) (n p : ℕ) → mendFile s ≡ bad n p → Unmended n p
+pub file-refusal : (s : List ℕ) (n p : ℕ) → mendFile s ≡ reject n p → Unmended n p
 file-refusal s n p e = subst Plain e (file-plain s)

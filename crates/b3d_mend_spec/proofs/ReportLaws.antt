@@ -14,7 +14,7 @@ use Rattle.shared_seven_bit_groups.proofs.Fronts.{count-is, groups-length, grou
 use Rattle.shared_seven_bit_groups.proofs.Coding.{word-groups}
 use Rattle.shared_seven_bit_groups.proofs.Laws.{numbers-back}
 use Rattle.layout.specs.Counted.{run}
-use Rattle.layout.specs.Out.{Out, got, _>>=_}
+use Rattle.layout.specs.Result.{Result, accept, _>>=_}
 use Rattle.layout.specs.Parts.{Step, itemsIn, items}
 use Rattle.layout.specs.Rules.{NONE}
 use Rattle.layout.proofs.Lists.{All}
@@ -107,19 +107,19 @@ report-least (mend k b a ∷ x) p h n =
 
 -- ---- it can be read
 
-run-all : (b r : List ℕ) (p : ℕ) → run (length b) p (b ++ r) ≡ got (record { value = b; place = p + length b; left = r })
+run-all : (b r : List ℕ) (p : ℕ) → run (length b) p (b ++ r) ≡ accept (record { value = b; place = p + length b; left = r })
 unfolding run
 run-all b r p =
     let n : length b ≤ length (b ++ r) = omega (arith, length-append b r) in
     rw (check-yes (leb (length b) (length (b ++ r))) 5 p (le→leb (length b) (length (b ++ r)) n), take-append-seam b r, drop-append-seam b r)
 
-pub entry-back : (e : Entry) (p : ℕ) (r : List ℕ) → Told e → (q : ℕ) × (readEntry p (entryBytes e r) ≡ got (record { value = e; place = q; left = r }))
+pub entry-back : (e : Entry) (p : ℕ) (r : List ℕ) → Told e → (q : ℕ) × (readEntry p (entryBytes e r) ≡ accept (record { value = e; place = q; left = r }))
 unfolding readEntry entryBytes
 entry-back e p r t =
     let (q, f) = numbers-back mostOf (numbersOf e) t p (e .before ++ (e .after ++ r)) in
     (q + length (e .before) + length (e .after), rw (f, run-all (e .before) (e .after ++ r) q, run-all (e .after) r (q + length (e .before))))
 
-one-more : {A : Type 0} (item : ℕ → List ℕ → Out (Step A)) (f p : ℕ) (s : List ℕ) → 0 < length s → itemsIn (suc f) item p s ≡ (item p s >>= λ x. itemsIn f item (x .place) (x .left) >>= λ l. got (x .value ∷ l))
+one-more : {A : Type 0} (item : ℕ → List ℕ → Result (Step A)) (f p : ℕ) (s : List ℕ) → 0 < length s → itemsIn (suc f) item p s ≡ (item p s >>= λ x. itemsIn f item (x .place) (x .left) >>= λ l. accept (x .value ∷ l))
 unfolding itemsIn
 one-more item f p [] h = absurd (omega arith)
 one-more item f p (c ∷ s) h = refl
@@ -137,7 +137,7 @@ entry-more e r =
     let g₀ = groups-length (e .place) (groups (e .which) (groups (length (e .before)) (groups (length (e .after)) l))) in
     omega (arith, count-is (e .place))
 
-in-back : (l : List Entry) (f p : ℕ) → length (reportBytes l) ≤ f → All Told l → itemsIn f readEntry p (reportBytes l) ≡ got l
+in-back : (l : List Entry) (f p : ℕ) → length (reportBytes l) ≤ f → All Told l → itemsIn f readEntry p (reportBytes l) ≡ accept l
 unfolding reportBytes itemsIn
 in-back [] zero p n h = refl
 in-back [] (suc f) p n h = refl
@@ -147,6 +147,6 @@ in-back (e ∷ l) (suc f) p n h =
     let (q, b) = entry-back e p (reportBytes l) (h .0) in
     one-more readEntry f p (entryBytes e (reportBytes l)) (omega arith) ∙ rw (b, in-back l f q (omega arith) (h .1))
 
-pub report-back : (l : List Entry) → All Told l → readReport (reportBytes l) ≡ got l
+pub report-back : (l : List Entry) → All Told l → readReport (reportBytes l) ≡ accept l
 unfolding readReport items
 report-back l h = in-back l (length (reportBytes l)) 0 (omega arith) h

@@ -8,13 +8,13 @@ use lib.ListN.{length, getD, length-append}
 use lib.Dec.{T}
 use Rattle.wire.specs.Bytes.{bytes, AllBytes}
 use Rattle.layout.specs.Chunks.{done, stop, chunk}
-use Rattle.layout.specs.Out.{Out, got}
+use Rattle.layout.specs.Result.{Result, accept}
 use Rattle.layout.specs.Write.{writeWords}
 use Rattle.layout.proofs.Lists.{all-append}
 use Rattle.layout.proofs.Outs.{by-got, by-if, bad-got, got-inj, if-yes, if-no}
 use Rattle.layout.proofs.PartLaws.{row-back}
 use Rattle.b3d_spec.specs.declared.Mode.the-variants.{Lenient}
-use Rattle.b3d_spec.specs.Parse.{readOne, Vertices, noVertices, readVertices, readTriangles, readSets, readMesh, readBone, readKeys, readAnim, aMesh, aBone, readKind, Moves, withKeys as withKeysRead, readMoves}
+use Rattle.b3d_spec.specs.Parse.{readOne, Vertices, noVertices, readVertices, readTriangles, readSets, readMesh, readBone, readKeys, readAnim, aMesh, aBone, readKind, Animation, withKeys as withKeysRead, readAnimation}
 use Rattle.b3d_spec.specs.Rules.{meshHead, brushId}
 use Rattle.b3d_spec.specs.Scene.{TriangleSet, Kind, pivot, mesh, bone, Keys, Anim, anim}
 use Rattle.b3d_spec.specs.Tags.{is, Chunks, Found}
@@ -29,54 +29,54 @@ use Rattle.b3d_mend_spec.proofs.PartLaws.{row-good}
 use Rattle.b3d_mend_spec.proofs.PieceLaws.{Fine, FineC, Fill, swap, within, within-fine, held}
 
 -- the same for bodies that a length can tell
-abbrev pub MendsFine : {A : Type 0} → (A → A) → (ℕ → List ℕ → Out A) → (ℕ → List ℕ → Out (Mended A)) → Type 0
-MendsFine {A} bare read fix = (p : ℕ) (b : List ℕ) (m : Mended A) → Fine b → fix p b ≡ got m → Body bare read b m
+abbrev pub MendsFine : {A : Type 0} → (A → A) → (ℕ → List ℕ → Result A) → (ℕ → List ℕ → Result (Mended A)) → Type 0
+MendsFine {A} withoutPlaces read fix = (p : ℕ) (b : List ℕ) (m : Mended A) → Fine b → fix p b ≡ accept m → Body withoutPlaces read b m
 
 -- a value without names
-pub exactly : {A : Type 0} (read : ℕ → List ℕ → Out A) (b : List ℕ) (m : Mended A) → Body plain read b m → (q : ℕ) → read q (after (m .edits)) ≡ got (m .value)
-exactly read b m h q = let x = h .again q in x .1 ∙ ap got (x .2)
+pub exactly : {A : Type 0} (read : ℕ → List ℕ → Result A) (b : List ℕ) (m : Mended A) → Body plain read b m → (q : ℕ) → read q (after (m .edits)) ≡ accept (m .value)
+exactly read b m h q = let x = h .again q in x .1 ∙ ap accept (x .2)
 
 -- ---- something, and the chunks after it
 
-abbrev pub Again : {A : Type 0} → (A → A) → (Chunks → Out (Found A)) → Chunks → List (List Edit) → A → Chunks → List (List Edit) → (ℕ → ℕ) → Type 0
-Again {A} bare read cs xs a rest ys place =
-    (v : A) × (to : ℕ → ℕ) × (read (swap cs (xs ++ ys) place) ≡ got (record { value = v; rest = swap rest ys to })) × (bare v ≡ bare a)
+abbrev pub Again : {A : Type 0} → (A → A) → (Chunks → Result (Found A)) → Chunks → List (List Edit) → A → Chunks → List (List Edit) → (ℕ → ℕ) → Type 0
+Again {A} withoutPlaces read cs xs a rest ys place =
+    (v : A) × (to : ℕ → ℕ) × (read (swap cs (xs ++ ys) place) ≡ accept (record { value = v; rest = swap rest ys to })) × (withoutPlaces v ≡ withoutPlaces a)
 
-pub record Stage {A : Type 0} (bare : A → A) (read : Chunks → Out (Found A)) (cs : Chunks) (x : Taken A) : Type 0 where
+pub record Stage {A : Type 0} (withoutPlaces : A → A) (read : Chunks → Result (Found A)) (cs : Chunks) (x : Taken A) : Type 0 where
   pub rest-fine : FineC (x .rest)
   pub fill : (ys : List (List Edit)) → Fill (x .rest) ys → Fill cs (x .bodies ++ ys)
-  pub again : (ys : List (List Edit)) → Fill (x .rest) ys → (place : ℕ → ℕ) → Again bare read cs (x .bodies) (x .value) (x .rest) ys place
+  pub again : (ys : List (List Edit)) → Fill (x .rest) ys → (place : ℕ → ℕ) → Again withoutPlaces read cs (x .bodies) (x .value) (x .rest) ys place
 
-module _ {A : Type 0} (bare : A → A) (k : Tag) (a : A) (read : ℕ → List ℕ → Out A) (one : ℕ → List ℕ → Out (Mended A)) (mends : MendsFine bare read one) where
+module _ {A : Type 0} (withoutPlaces : A → A) (k : Tag) (a : A) (read : ℕ → List ℕ → Result A) (one : ℕ → List ℕ → Result (Mended A)) (mends : MendsFine withoutPlaces read one) where
   none-again : (t : Tag) (p : ℕ) (b : List ℕ) (r : Chunks) → T (not (is t k)) → (ys : List (List Edit)) → Fill (chunk t p b r) ys → (place : ℕ → ℕ)
-      → Again bare (readOne k a read) (chunk t p b r) [] a (chunk t p b r) ys place
+      → Again withoutPlaces (readOne k a read) (chunk t p b r) [] a (chunk t p b r) ys place
   unfolding readOne
   none-again t p b r n [] h place = absurd h
   none-again t p b r n (y ∷ ys) h place = (a, place, if-no (is t k) _ _ n, refl)
 
-  pub one-stage : (cs : Chunks) (x : Taken A) → FineC cs → mendOne k a one cs ≡ got x → Stage bare (readOne k a read) cs x
+  pub one-stage : (cs : Chunks) (x : Taken A) → FineC cs → mendOne k a one cs ≡ accept x → Stage withoutPlaces (readOne k a read) cs x
   unfolding mendOne found readOne
-  one-stage done x f e = subst (Stage bare (readOne k a read) done) (got-inj e) (record { rest-fine = tt; fill = λ ys h. h; again = λ ys h place. (a, place, refl, refl) })
+  one-stage done x f e = subst (Stage withoutPlaces (readOne k a read) done) (got-inj e) (record { rest-fine = tt; fill = λ ys h. h; again = λ ys h place. (a, place, refl, refl) })
   one-stage (stop n p) x f e = bad-got e
   one-stage (chunk t p b r) x f e =
       by-if (is t k) _ _ e
       (λ u e₁. by-got (one p b) _ e₁ (λ m em e₂.
       let g = mends p b m (f .0) em in
-      subst (Stage bare (readOne k a read) (chunk t p b r)) (got-inj e₂)
+      subst (Stage withoutPlaces (readOne k a read) (chunk t p b r)) (got-inj e₂)
       (record {
         rest-fine = f .1;
         fill = λ ys h. (g .given, g .small, h);
         again = λ ys h place. let y = g .again (place 0) in (y .0, (λ i. place (suc i)), if-yes (is t k) _ _ u ∙ rw (y .1), y .2);
       })))
-      (λ u e₁. subst (Stage bare (readOne k a read) (chunk t p b r)) (got-inj e₁) (record { rest-fine = f; fill = λ ys h. h; again = none-again t p b r u }))
+      (λ u e₁. subst (Stage withoutPlaces (readOne k a read) (chunk t p b r)) (got-inj e₁) (record { rest-fine = f; fill = λ ys h. h; again = none-again t p b r u }))
 
 -- ---- TRIS
 
 pub record Sets (brushes vertices : ℕ) (cs : Chunks) (x : List TriangleSet × List (List Edit)) : Type 0 where
   pub fill : Fill cs (x .1)
-  pub again : (place : ℕ → ℕ) → readSets brushes vertices (swap cs (x .1) place) ≡ got (x .0)
+  pub again : (place : ℕ → ℕ) → readSets brushes vertices (swap cs (x .1) place) ≡ accept (x .0)
 
-pub sets-stage : (brushes vertices : ℕ) (cs : Chunks) (x : List TriangleSet × List (List Edit)) → FineC cs → mendSets brushes vertices cs ≡ got x → Sets brushes vertices cs x
+pub sets-stage : (brushes vertices : ℕ) (cs : Chunks) (x : List TriangleSet × List (List Edit)) → FineC cs → mendSets brushes vertices cs ≡ accept x → Sets brushes vertices cs x
 unfolding mendSets readSets
 sets-stage brushes vertices done x f e = subst (Sets brushes vertices done) (got-inj e) (record { fill = tt; again = λ place. refl })
 sets-stage brushes vertices (stop n p) x f e = bad-got e
@@ -121,8 +121,8 @@ mesh-mend brushes p b m f e =
           let y = row-back (meshHead brushes) (w ∷ []) (o .0) (q + 8) (after in-edits) in
           let i = hd .again q (y .0) in
           let z = st .again (l .1) (se .fill) (i .0) in
-          let ez : readOne VRTS noVertices (readVertices Lenient) (swap cs xs (i .0)) ≡ got (record { value = v .value; rest = swap (v .rest) (l .1) (z .1) }) =
-          z .2 ∙ ap (λ (u : Vertices). got (record { value = u; rest = swap (v .rest) (l .1) (z .1) })) (z .3) in (
+          let ez : readOne VRTS noVertices (readVertices Lenient) (swap cs xs (i .0)) ≡ accept (record { value = v .value; rest = swap (v .rest) (l .1) (z .1) }) =
+          z .2 ∙ ap (λ (u : Vertices). accept (record { value = u; rest = swap (v .rest) (l .1) (z .1) })) (z .3) in (
             record { brush = w; flags = v .value .flags; sets = v .value .sets; size = v .value .size; vertices = v .value .items; triangleSets = l .0 },
             rw (new, y .1, i .1, ez, se .again (z .1)),
             refl,
@@ -138,7 +138,7 @@ module _ (brushes vertices : ℕ) where
   no-kind t p b r u n [] h place = absurd h
   no-kind t p b r u n (y ∷ ys) h place = (pivot, place, if-no (is t MESH) _ _ u ∙ if-no (is t BONE) _ _ n, refl)
 
-  pub kind-stage : (cs : Chunks) (x : Taken Kind) → FineC cs → mendKind brushes vertices cs ≡ got x → Stage plain (readKind Lenient brushes vertices) cs x
+  pub kind-stage : (cs : Chunks) (x : Taken Kind) → FineC cs → mendKind brushes vertices cs ≡ accept x → Stage plain (readKind Lenient brushes vertices) cs x
   unfolding mendKind found readKind aMesh aBone
   kind-stage done x f e = subst (Stage plain (readKind Lenient brushes vertices) done) (got-inj e) (record { rest-fine = tt; fill = λ ys h. h; again = λ ys h place. (pivot, place, refl, refl) })
   kind-stage (stop n p) x f e = bad-got e
@@ -166,40 +166,40 @@ module _ (brushes vertices : ℕ) where
 -- ---- KEYS and ANIM
 
 no-move : (seen : Anim) (t : Tag) (p : ℕ) (b : List ℕ) (r : Chunks) → T (not (is t KEYS)) → T (not (is t ANIM)) → (ys : List (List Edit)) → Fill (chunk t p b r) ys → (place : ℕ → ℕ)
-    → Again plain (readMoves seen) (chunk t p b r) [] (record { keys = []; anim = seen }) (chunk t p b r) ys place
-unfolding readMoves
+    → Again plain (readAnimation seen) (chunk t p b r) [] (record { keys = []; anim = seen }) (chunk t p b r) ys place
+unfolding readAnimation
 no-move seen t p b r u n [] h place = absurd h
 no-move seen t p b r u n (y ∷ ys) h place = (record { keys = []; anim = seen }, place, if-no (is t KEYS) _ _ u ∙ if-no (is t ANIM) _ _ n, refl)
 
-keys-again : (seen : Anim) (t : Tag) (p : ℕ) (b : List ℕ) (r : Chunks) (m : Mended Keys) (l : Taken Moves) → T (is t KEYS) → Body plain readKeys b m → Stage plain (readMoves seen) r l
-    → (ys : List (List Edit)) → Fill (l .rest) ys → (place : ℕ → ℕ) → Again plain (readMoves seen) (chunk t p b r) (m .edits ∷ l .bodies) (record { keys = m .value ∷ l .value .keys; anim = l .value .anim }) (l .rest) ys place
-unfolding readMoves withKeysRead
+keys-again : (seen : Anim) (t : Tag) (p : ℕ) (b : List ℕ) (r : Chunks) (m : Mended Keys) (l : Taken Animation) → T (is t KEYS) → Body plain readKeys b m → Stage plain (readAnimation seen) r l
+    → (ys : List (List Edit)) → Fill (l .rest) ys → (place : ℕ → ℕ) → Again plain (readAnimation seen) (chunk t p b r) (m .edits ∷ l .bodies) (record { keys = m .value ∷ l .value .keys; anim = l .value .anim }) (l .rest) ys place
+unfolding readAnimation withKeysRead
 keys-again seen t p b r m l u g k ys h place =
     let y = k .again ys h (λ i. place (suc i)) in
-    (record { keys = m .value ∷ y .0 .keys; anim = y .0 .anim }, y .1, if-yes (is t KEYS) _ _ u ∙ rw (exactly readKeys b m g (place 0), y .2), ap (λ (v : Moves). record { keys = m .value ∷ v .keys; anim = v .anim }) (y .3))
+    (record { keys = m .value ∷ y .0 .keys; anim = y .0 .anim }, y .1, if-yes (is t KEYS) _ _ u ∙ rw (exactly readKeys b m g (place 0), y .2), ap (λ (v : Animation). record { keys = m .value ∷ v .keys; anim = v .anim }) (y .3))
 
-anim-again : (seen : Anim) (t : Tag) (p : ℕ) (b : List ℕ) (r : Chunks) (m : Mended (List ℕ)) (l : Taken Moves) → T (not (is t KEYS)) → T (is t ANIM) → Body plain readAnim b m → Stage plain (readMoves (anim (m .value))) r l
-    → (ys : List (List Edit)) → Fill (l .rest) ys → (place : ℕ → ℕ) → Again plain (readMoves seen) (chunk t p b r) (m .edits ∷ l .bodies) (l .value) (l .rest) ys place
-unfolding readMoves
+anim-again : (seen : Anim) (t : Tag) (p : ℕ) (b : List ℕ) (r : Chunks) (m : Mended (List ℕ)) (l : Taken Animation) → T (not (is t KEYS)) → T (is t ANIM) → Body plain readAnim b m → Stage plain (readAnimation (anim (m .value))) r l
+    → (ys : List (List Edit)) → Fill (l .rest) ys → (place : ℕ → ℕ) → Again plain (readAnimation seen) (chunk t p b r) (m .edits ∷ l .bodies) (l .value) (l .rest) ys place
+unfolding readAnimation
 anim-again seen t p b r m l u w g k ys h place =
     let y = k .again ys h (λ i. place (suc i)) in
     (y .0, y .1, if-no (is t KEYS) _ _ u ∙ if-yes (is t ANIM) _ _ w ∙ rw (exactly readAnim b m g (place 0)) (y .2), y .3)
 
-pub moves-stage : (seen : Anim) (cs : Chunks) (x : Taken Moves) → FineC cs → mendMoves seen cs ≡ got x → Stage plain (readMoves seen) cs x
-unfolding mendMoves withKeys withAnim readMoves
-moves-stage seen done x f e = subst (Stage plain (readMoves seen) done) (got-inj e) (record { rest-fine = tt; fill = λ ys h. h; again = λ ys h place. (record { keys = []; anim = seen }, place, refl, refl) })
+pub moves-stage : (seen : Anim) (cs : Chunks) (x : Taken Animation) → FineC cs → mendMoves seen cs ≡ accept x → Stage plain (readAnimation seen) cs x
+unfolding mendMoves withKeys withAnim readAnimation
+moves-stage seen done x f e = subst (Stage plain (readAnimation seen) done) (got-inj e) (record { rest-fine = tt; fill = λ ys h. h; again = λ ys h place. (record { keys = []; anim = seen }, place, refl, refl) })
 moves-stage seen (stop n p) x f e = bad-got e
 moves-stage seen (chunk t p b r) x f e =
     by-if (is t KEYS) _ _ e
     (λ u e₁. by-got (asRead readKeys p b) _ e₁ (λ m em e₂. by-got (mendMoves seen r) _ e₂ (λ l el e₃.
     let g = keys-mend p b m (f .0 .0) em in
     let k = moves-stage seen r l (f .1) el in
-    subst (Stage plain (readMoves seen) (chunk t p b r)) (got-inj e₃)
+    subst (Stage plain (readAnimation seen) (chunk t p b r)) (got-inj e₃)
     (record { rest-fine = k .rest-fine; fill = λ ys h. (g .given, g .small, k .fill ys h); again = keys-again seen t p b r m l u g k }))))
     (λ u e₁. by-if (is t ANIM) _ _ e₁
     (λ w e₂. by-got (asRead readAnim p b) _ e₂ (λ m em e₃. by-got (mendMoves (anim (m .value)) r) _ e₃ (λ l el e₄.
     let g = anim-mend p b m (f .0 .0) em in
     let k = moves-stage (anim (m .value)) r l (f .1) el in
-    subst (Stage plain (readMoves seen) (chunk t p b r)) (got-inj e₄)
+    subst (Stage plain (readAnimation seen) (chunk t p b r)) (got-inj e₄)
     (record { rest-fine = k .rest-fine; fill = λ ys h. (g .given, g .small, k .fill ys h); again = anim-again seen t p b r m l u w g k }))))
-    (λ w e₂. subst (Stage plain (readMoves seen) (chunk t p b r)) (got-inj e₂) (record { rest-fine = f; fill = λ ys h. h; again = no-move seen t p b r u w })))
+    (λ w e₂. subst (Stage plain (readAnimation seen) (chunk t p b r)) (got-inj e₂) (record { rest-fine = f; fill = λ ys h. h; again = no-move seen t p b r u w })))

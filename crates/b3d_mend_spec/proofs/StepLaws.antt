@@ -11,7 +11,7 @@ use Rattle.wire.specs.Bytes.{word}
 use Rattle.wire.specs.Test.{if}
 use Rattle.shared_seven_bit_groups.specs.Groups.{writeNumbers}
 use Rattle.shared_seven_bit_groups.proofs.Fronts.{numbers-append}
-use Rattle.layout.specs.Out.{Out, got, bad, _>>=_}
+use Rattle.layout.specs.Result.{Result, accept, reject, _>>=_}
 use Rattle.layout.specs.Parts.{Step, words, wordsOf, items}
 use Rattle.layout.specs.Rules.{Rule}
 use Rattle.layout.proofs.Outs.{if-yes, if-no, by-got, bad-got, got-inj, bind-bind, bind-cong}
@@ -95,7 +95,7 @@ module _ (p a b c d e g h i : ℕ) (s : List ℕ) where
 
 -- ---- items
 
-pub left-in : (start n p : ℕ) (s : List ℕ) (x : Step (List ℕ)) → words start n p s ≡ got x → 4 * n + length (x .left) ≡ length s
+pub left-in : (start n p : ℕ) (s : List ℕ) (x : Step (List ℕ)) → words start n p s ≡ accept x → 4 * n + length (x .left) ≡ length s
 unfolding words
 left-in start zero p s x e = let q = ap (λ (v : Step (List ℕ)). length (v .left)) (got-inj e) in omega arith
 left-in start (suc n) p [] x e = bad-got e
@@ -117,28 +117,28 @@ item-shrinks rs n p s x e =
 
 -- an item that is all there, and one that is cut
 pub item-there : (rs : List Rule) (p : ℕ) (s : List ℕ) → 4 * length rs ≤ length s
-    → mendItem rs p s ≡ got (record { value = stays (allHold rs (wordsOf (length rs) s)) (wordsOf (length rs) s); place = p + 4 * length rs; left = drop (4 * length rs) s })
+    → mendItem rs p s ≡ accept (record { value = stays (allHold rs (wordsOf (length rs) s)) (wordsOf (length rs) s); place = p + 4 * length rs; left = drop (4 * length rs) s })
 unfolding mendItem
 item-there rs p s h = rw (words-enough p (length rs) p s h)
 
-pub item-cut : (rs : List Rule) (p : ℕ) (s : List ℕ) → length s < 4 * length rs → mendItem rs p s ≡ bad 5 p
+pub item-cut : (rs : List Rule) (p : ℕ) (s : List ℕ) → length s < 4 * length rs → mendItem rs p s ≡ reject 5 p
 unfolding mendItem
 item-cut rs p s h = rw (words-short p (length rs) p s h)
 
-module _ {A : Type 0} (item : ℕ → List ℕ → Out (Step (Mended (List A)))) (less : Shrinks item) where
-  pub mend-items-none : (p : ℕ) → mendItems item p [] ≡ got (record { value = []; edits = [] })
+module _ {A : Type 0} (item : ℕ → List ℕ → Result (Step (Mended (List A)))) (less : Shrinks item) where
+  pub mend-items-none : (p : ℕ) → mendItems item p [] ≡ accept (record { value = []; edits = [] })
   unfolding mendItems gathered
   mend-items-none p = rw (items-none item less p)
 
   pub mend-items-step : (p : ℕ) (s : List ℕ) → 0 < length s
-      → mendItems item p s ≡ (item p s >>= λ x. mendItems item (x .place) (x .left) >>= λ m. got (record { value = x .value .value ++ m .value; edits = x .value .edits ++ m .edits }))
+      → mendItems item p s ≡ (item p s >>= λ x. mendItems item (x .place) (x .left) >>= λ m. accept (record { value = x .value .value ++ m .value; edits = x .value .edits ++ m .edits }))
   unfolding mendItems gathered
   mend-items-step p s n =
-      ap (λ (o : Out (List (Mended (List A)))). o >>= λ l. got (gathered l)) (items-step item less p s n)
-      ∙ bind-bind (item p s) (λ x. items item (x .place) (x .left) >>= λ l. got (x .value ∷ l)) (λ l. got (gathered l))
+      ap (λ (o : Result (List (Mended (List A)))). o >>= λ l. accept (gathered l)) (items-step item less p s n)
+      ∙ bind-bind (item p s) (λ x. items item (x .place) (x .left) >>= λ l. accept (x .value ∷ l)) (λ l. accept (gathered l))
       ∙ bind-cong (item p s) (λ x e.
-      bind-bind (items item (x .place) (x .left)) (λ l. got (x .value ∷ l)) (λ l. got (gathered l))
-      ∙ sym (bind-bind (items item (x .place) (x .left)) (λ l. got (gathered l)) (λ m. got (record { value = x .value .value ++ m .value; edits = x .value .edits ++ m .edits }))))
+      bind-bind (items item (x .place) (x .left)) (λ l. accept (x .value ∷ l)) (λ l. accept (gathered l))
+      ∙ sym (bind-bind (items item (x .place) (x .left)) (λ l. accept (gathered l)) (λ m. accept (record { value = x .value .value ++ m .value; edits = x .value .edits ++ m .edits }))))
 
 -- ---- the report, one edit after another
 

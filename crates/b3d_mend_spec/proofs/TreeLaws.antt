@@ -7,7 +7,7 @@ use mathlib.Core.Option.{Option, none}
 use mathlib.Core.List.{List, [], _∷_, _++_}
 use lib.ListN.{length, drop}
 use Rattle.layout.specs.Chunks.{done, stop, chunk}
-use Rattle.layout.specs.Out.{Out, got}
+use Rattle.layout.specs.Result.{Result, accept}
 use Rattle.layout.specs.Parts.{Step, words, named}
 use Rattle.layout.specs.Write.{writeWords, writeText}
 use Rattle.layout.proofs.PartLaws.{named-fine}
@@ -15,9 +15,9 @@ use Rattle.layout.proofs.Outs.{by-got, by-if, if-yes, if-no, bad-got, got-inj}
 use Rattle.layout.proofs.StepLaws.{words-enough}
 use Rattle.b3d_spec.specs.declared.Mode.the-variants.{Lenient}
 use Rattle.b3d_spec.specs.Nesting.{start}
-use Rattle.b3d_spec.specs.Parse.{Vertices, noVertices, readVertices, readKeys, readAnim, Moves, Inner, readNode}
-use Rattle.b3d_spec.specs.Rules.{meshHead, nodeRow, boneVertices, animated, bonesFrom, bonesBelow, ownVertices}
-use Rattle.b3d_spec.specs.Scene.{TriangleSet, Mesh, Kind, Anim, still, anim, Forest}
+use Rattle.b3d_spec.specs.Parse.{Vertices, noVertices, readVertices, readKeys, readAnim, Animation, Inner, readNode}
+use Rattle.b3d_spec.specs.Rules.{meshHead, nodeRow, boneLimit, animated, boneLimitFrom, boneLimitBelow, ownVertices}
+use Rattle.b3d_spec.specs.Scene.{TriangleSet, Mesh, Kind, Anim, noAnim, anim, Forest}
 use Rattle.b3d_spec.specs.Tags.{is, Chunks}
 use Rattle.b3d_spec.specs.declared.Tag.the-variants.{NODE, MESH, VRTS, BONE, KEYS, ANIM}
 use Rattle.b3d_mend_spec.specs.Edits.{Edit, keep, before}
@@ -33,7 +33,7 @@ use Rattle.b3d_mend_spec.proofs.StageLaws.{one-stage, sets-stage, kind-
 use Rattle.b3d_mend_spec.proofs.StepLaws.{left-in}
 use Rattle.b3d_mend_spec.proofs.WalkLaws.{word-edits, tris-edits, bone-edits}
 
-set-bodies : (brushes vertices : ℕ) (cs : Chunks) (x : List TriangleSet × List (List Edit)) → mendSets brushes vertices cs ≡ got x → x .1 ≡ setBodies brushes vertices cs
+set-bodies : (brushes vertices : ℕ) (cs : Chunks) (x : List TriangleSet × List (List Edit)) → mendSets brushes vertices cs ≡ accept x → x .1 ≡ setBodies brushes vertices cs
 unfolding mendSets setBodies
 set-bodies brushes vertices done x e = ap (λ (z : List TriangleSet × List (List Edit)). z .1) (sym (got-inj e))
 set-bodies brushes vertices (stop n p) x e = bad-got e
@@ -42,8 +42,8 @@ set-bodies brushes vertices (chunk t p b r) x e =
     by-got (mendSets brushes vertices r) _ e₁ (λ l el e₂.
     ap (λ (z : List TriangleSet × List (List Edit)). z .1) (sym (got-inj e₂)) ∙ ap₂ _∷_ (tris-edits brushes vertices p b m em) (set-bodies brushes vertices r l el)))
 
-mesh-bodies : (brushes : ℕ) (cs : Chunks) (v : Taken Vertices) (l : List TriangleSet × List (List Edit)) → mendOne VRTS noVertices (asRead (readVertices Lenient)) cs ≡ got v
-    → mendSets brushes (length (v .value .items)) (v .rest) ≡ got l → v .bodies ++ l .1 ≡ meshBodies brushes cs
+mesh-bodies : (brushes : ℕ) (cs : Chunks) (v : Taken Vertices) (l : List TriangleSet × List (List Edit)) → mendOne VRTS noVertices (asRead (readVertices Lenient)) cs ≡ accept v
+    → mendSets brushes (length (v .value .items)) (v .rest) ≡ accept l → v .bodies ++ l .1 ≡ meshBodies brushes cs
 unfolding mendOne found asRead meshBodies setBodies verticesOf
 mesh-bodies brushes done v l ev el =
     let q = sym (got-inj ev) in
@@ -61,7 +61,7 @@ mesh-bodies brushes (chunk t p b r) v l ev el =
     (set-bodies brushes (length (v .value .items)) (v .rest) l el
     ∙ ap (λ (z : Taken Vertices). setBodies brushes (length (z .value .items)) (z .rest)) q
     ∙ ap (λ (z : Mended Vertices). setBodies brushes (length (z .value .items)) r) k
-    ∙ ap (λ (o : Out Vertices). setBodies brushes (verticesOf o) r) (sym ew))
+    ∙ ap (λ (o : Result Vertices). setBodies brushes (verticesOf o) r) (sym ew))
     ∙ sym (if-yes (is t VRTS) _ _ u))))
     (λ u e₁.
     let q = sym (got-inj e₁) in
@@ -69,7 +69,7 @@ mesh-bodies brushes (chunk t p b r) v l ev el =
     (set-bodies brushes (length (v .value .items)) (v .rest) l el ∙ ap (λ (z : Taken Vertices). setBodies brushes (length (z .value .items)) (z .rest)) q)
     ∙ sym (if-no (is t VRTS) _ _ u))
 
-pub mesh-edits : (brushes p : ℕ) (b : List ℕ) (m : Mended Mesh) → Fine b → mendMesh brushes p b ≡ got m → m .edits ≡ meshEdits brushes p b
+pub mesh-edits : (brushes p : ℕ) (b : List ℕ) (m : Mended Mesh) → Fine b → mendMesh brushes p b ≡ accept m → m .edits ≡ meshEdits brushes p b
 unfolding mendMesh mendRow meshEdits
 mesh-edits brushes p b m f e =
     by-got (mendRow (meshHead brushes) (p + 8) b) _ e (λ h eh e₁.
@@ -95,8 +95,8 @@ mesh-edits brushes p b m f e =
 
 -- ---- nodes
 
-node-bodies : (fix : ℕ → List ℕ → Out (Mended Inner)) (one : ℕ → List ℕ → List Edit) → ((p : ℕ) (b : List ℕ) (m : Mended Inner) → Fine b → fix p b ≡ got m → m .edits ≡ one p b)
-    → (cs : Chunks) (x : Forest × List (List Edit)) → FineC cs → mendNodes fix cs ≡ got x → x .1 ≡ nodeBodies one cs
+node-bodies : (fix : ℕ → List ℕ → Result (Mended Inner)) (one : ℕ → List ℕ → List Edit) → ((p : ℕ) (b : List ℕ) (m : Mended Inner) → Fine b → fix p b ≡ accept m → m .edits ≡ one p b)
+    → (cs : Chunks) (x : Forest × List (List Edit)) → FineC cs → mendNodes fix cs ≡ accept x → x .1 ≡ nodeBodies one cs
 unfolding mendNodes nodeBodies
 node-bodies fix one h done x f e = ap (λ (z : Forest × List (List Edit)). z .1) (sym (got-inj e))
 node-bodies fix one h (stop n p) x f e = bad-got e
@@ -105,16 +105,16 @@ node-bodies fix one h (chunk t p b r) x f e =
     by-got (mendNodes fix r) _ e₁ (λ l el e₂.
     ap (λ (z : Forest × List (List Edit)). z .1) (sym (got-inj e₂)) ∙ ap₂ _∷_ (h p b m (f .0) em) (node-bodies fix one h r l (f .1) el)))
 
-pub read-edits : {A : Type 0} (read : ℕ → List ℕ → Out A) (p : ℕ) (b : List ℕ) (m : Mended A) → asRead read p b ≡ got m → m .edits ≡ keep b ∷ []
+pub read-edits : {A : Type 0} (read : ℕ → List ℕ → Result A) (p : ℕ) (b : List ℕ) (m : Mended A) → asRead read p b ≡ accept m → m .edits ≡ keep b ∷ []
 unfolding asRead
 read-edits read p b m e = by-got (read p b) _ e (λ v ev e₁. ap (λ (z : Mended _). z .edits) (sym (got-inj e₁)))
 
 module _ (one : Bool → ℕ → List ℕ → List Edit) where
   -- what comes after the moves found is the walk over what is left
-  abbrev Moved : Anim → Chunks → Taken Moves → Type 0
+  abbrev Moved : Anim → Chunks → Taken Animation → Type 0
   Moved seen cs v = (n : List (List Edit)) → n ≡ nodeBodies (one (animated (v .value .anim))) (v .rest) → v .bodies ++ n ≡ moveBodies one (animated seen) cs
 
-  move-bodies : (seen : Anim) (cs : Chunks) (v : Taken Moves) → mendMoves seen cs ≡ got v → Moved seen cs v
+  move-bodies : (seen : Anim) (cs : Chunks) (v : Taken Animation) → mendMoves seen cs ≡ accept v → Moved seen cs v
   unfolding mendMoves withKeys withAnim moveBodies nodeBodies
   move-bodies seen done v e = subst (Moved seen done) (got-inj e) (λ n h. h)
   move-bodies seen (stop i p) v e = bad-got e
@@ -130,25 +130,25 @@ module _ (one : Bool → ℕ → List ℕ → List Edit) where
       (λ w e₂. subst (Moved seen (chunk t p b r)) (got-inj e₂) (λ n h. h ∙ sym (if-no (is t ANIM) _ _ w) ∙ sym (if-no (is t KEYS) _ _ u))))
 
 module _ (brushes vertices : ℕ) (one : ℕ → Bool → ℕ → List ℕ → List Edit) where
-  abbrev Kinded : Chunks → Taken Kind → Type 0
-  Kinded cs k = (n : List (List Edit)) → n ≡ moveBodies (one (ownVertices (k .value))) false (k .rest) → k .bodies ++ n ≡ kindBodies brushes vertices one cs
+  abbrev KindMended : Chunks → Taken Kind → Type 0
+  KindMended cs k = (n : List (List Edit)) → n ≡ moveBodies (one (ownVertices (k .value))) false (k .rest) → k .bodies ++ n ≡ kindBodies brushes vertices one cs
 
-  kind-bodies : (cs : Chunks) (k : Taken Kind) → FineC cs → mendKind brushes vertices cs ≡ got k → Kinded cs k
+  kind-bodies : (cs : Chunks) (k : Taken Kind) → FineC cs → mendKind brushes vertices cs ≡ accept k → KindMended cs k
   unfolding mendKind found kindBodies moveBodies ownOf
-  kind-bodies done k f e = subst (Kinded done) (got-inj e) (λ n h. h)
+  kind-bodies done k f e = subst (KindMended done) (got-inj e) (λ n h. h)
   kind-bodies (stop i p) k f e = bad-got e
   kind-bodies (chunk t p b r) k f e =
       by-if (is t MESH) _ _ e
       (λ u e₁. by-got (mendMesh brushes p b) _ e₁ (λ m em e₂.
-      subst (Kinded (chunk t p b r)) (got-inj e₂) (λ n h.
-      ap₂ _∷_ (mesh-edits brushes p b m (f .0) em) (h ∙ ap (λ (o : Out (Mended Mesh)). moveBodies (one (ownOf o)) false r) (sym em)) ∙ sym (if-yes (is t MESH) _ _ u))))
+      subst (KindMended (chunk t p b r)) (got-inj e₂) (λ n h.
+      ap₂ _∷_ (mesh-edits brushes p b m (f .0) em) (h ∙ ap (λ (o : Result (Mended Mesh)). moveBodies (one (ownOf o)) false r) (sym em)) ∙ sym (if-yes (is t MESH) _ _ u))))
       (λ u e₁. by-if (is t BONE) _ _ e₁
       (λ w e₂. by-got (mendBone vertices p b) _ e₂ (λ m em e₃.
-      subst (Kinded (chunk t p b r)) (got-inj e₃) (λ n h. ap₂ _∷_ (bone-edits vertices p b m em) h ∙ sym (if-yes (is t BONE) _ _ w) ∙ sym (if-no (is t MESH) _ _ u))))
-      (λ w e₂. subst (Kinded (chunk t p b r)) (got-inj e₂) (λ n h. h ∙ sym (if-no (is t BONE) _ _ w) ∙ sym (if-no (is t MESH) _ _ u))))
+      subst (KindMended (chunk t p b r)) (got-inj e₃) (λ n h. ap₂ _∷_ (bone-edits vertices p b m em) h ∙ sym (if-yes (is t BONE) _ _ w) ∙ sym (if-no (is t MESH) _ _ u))))
+      (λ w e₂. subst (KindMended (chunk t p b r)) (got-inj e₂) (λ n h. h ∙ sym (if-no (is t BONE) _ _ w) ∙ sym (if-no (is t MESH) _ _ u))))
 
 abbrev Walked : ℕ → ℕ → Option ℕ → Type 0
-Walked l brushes above = (p : ℕ) (b : List ℕ) (m : Mended Inner) → Fine b → mendNode l brushes above p b ≡ got m → m .edits ≡ nodeEdits l brushes above p b
+Walked l brushes above = (p : ℕ) (b : List ℕ) (m : Mended Inner) → Fine b → mendNode l brushes above p b ≡ accept m → m .edits ≡ nodeEdits l brushes above p b
 
 module _ (l brushes : ℕ) (below : (above : Option ℕ) → Walked l brushes above) where
   node-walked : (above : Option ℕ) → Walked (suc l) brushes above
@@ -159,26 +159,26 @@ module _ (l brushes : ℕ) (below : (above : Option ℕ) → Walked l brushes ab
       let ws = h .value .1 in
       let fl = left-fine (writeText nm (writeWords ws [])) (h .left) b (sym (named-joins nm ws (h .left)) ∙ named-exact nodeRow (p + 8) b h (f .0) eh) (named-fine nodeRow (p + 8) b h (f .0) eh .bytes) (f .1) in
       let cs = within NODE p (h .place) (h .left) in
-      by-got (mendKind brushes (boneVertices above) cs) _ e₁ (λ k ek e₂.
-      by-got (mendMoves still (k .rest)) _ e₂ (λ v ev e₃.
-      let told = bonesBelow above (dataOf (h .value) (k .value) (v .value)) in
+      by-got (mendKind brushes (boneLimit above) cs) _ e₁ (λ k ek e₂.
+      by-got (mendMoves noAnim (k .rest)) _ e₂ (λ v ev e₃.
+      let told = boneLimitBelow above (dataOf (h .value) (k .value) (v .value)) in
       by-got (mendNodes (mendNode l brushes told) (v .rest)) _ e₃ (λ n en e₄.
-      let sk = kind-stage brushes (boneVertices above) cs k (within-fine NODE p (h .place) (h .left) fl) ek in
-      let sm = moves-stage still (k .rest) v (sk .rest-fine) ev in
+      let sk = kind-stage brushes (boneLimit above) cs k (within-fine NODE p (h .place) (h .left) fl) ek in
+      let sm = moves-stage noAnim (k .rest) v (sk .rest-fine) ev in
       let sn = nodes-stage (readNode Lenient l brushes told) (mendNode l brushes told) (node-mend l brushes told) (v .rest) n (sm .rest-fine) en in
       let xs = k .bodies ++ (v .bodies ++ n .1) in
       let kept = order-kept NODE p start (chunksOf (pieces (h .place) (h .left))) xs (sk .fill (v .bodies ++ n .1) (sm .fill (n .1) (sn .fill))) in
-      let one : ℕ → Bool → ℕ → List ℕ → List Edit = (λ own moved. nodeEdits l brushes (bonesFrom above moved own)) in
+      let one : ℕ → Bool → ℕ → List ℕ → List Edit = (λ own moved. nodeEdits l brushes (boneLimitFrom above moved own)) in
       let en₁ : n .1 ≡ nodeBodies (one (ownVertices (k .value)) (animated (v .value .anim))) (v .rest) =
       node-bodies (mendNode l brushes told) (nodeEdits l brushes told) (below told) (v .rest) n (sm .rest-fine) en in
-      let em : v .bodies ++ n .1 ≡ moveBodies (one (ownVertices (k .value))) false (k .rest) = move-bodies (one (ownVertices (k .value))) still (k .rest) v ev (n .1) en₁ ∙ still-false (one (ownVertices (k .value))) (k .rest) in
-      let ex : xs ≡ kindBodies brushes (boneVertices above) one (chunksOf (pieces (h .place) (h .left))) =
-      kind-bodies brushes (boneVertices above) one cs k (within-fine NODE p (h .place) (h .left) fl) ek (v .bodies ++ n .1) em ∙ ap (kindBodies brushes (boneVertices above) one) (kept .same) in
+      let em : v .bodies ++ n .1 ≡ moveBodies (one (ownVertices (k .value))) false (k .rest) = move-bodies (one (ownVertices (k .value))) noAnim (k .rest) v ev (n .1) en₁ ∙ still-false (one (ownVertices (k .value))) (k .rest) in
+      let ex : xs ≡ kindBodies brushes (boneLimit above) one (chunksOf (pieces (h .place) (h .left))) =
+      kind-bodies brushes (boneLimit above) one cs k (within-fine NODE p (h .place) (h .left) fl) ek (v .bodies ++ n .1) em ∙ ap (kindBodies brushes (boneLimit above) one) (kept .same) in
       ap (λ (z : Mended Inner). z .edits) (sym (got-inj e₄))
       ∙ ap (λ (z : List (List Edit)). keep (writeText nm (writeWords ws [])) ∷ woven (pieces (h .place) (h .left)) z) ex
-      ∙ sym (ap (nodeOf brushes (boneVertices above) one) eh)))))
+      ∙ sym (ap (nodeOf brushes (boneLimit above) one) eh)))))
     where
-      still-false : (one : Bool → ℕ → List ℕ → List Edit) (cs : Chunks) → moveBodies one (animated still) cs ≡ moveBodies one false cs
+      still-false : (one : Bool → ℕ → List ℕ → List Edit) (cs : Chunks) → moveBodies one (animated noAnim) cs ≡ moveBodies one false cs
       still-false one cs = refl
 
 -- what becomes of a node and those below it is what the walk over its bytes says

@@ -8,7 +8,7 @@ use lib.ListN.{length, drop, replicate, length-drop, length-replicate}
 use lib.Dec.{leb, leb→le, le→leb, not-T}
 use Rattle.wire.specs.Bytes.{bytes}
 use Rattle.wire.specs.Test.{if}
-use Rattle.layout.specs.Out.{got}
+use Rattle.layout.specs.Result.{accept}
 use Rattle.layout.specs.Parts.{Name, Step, text, words, wordsOf, row, number, named, itemsIn, items}
 use Rattle.layout.specs.Rules.{Rule, any, NONE, holds}
 use Rattle.layout.specs.Write.{writeWords, writeText}
@@ -24,13 +24,13 @@ use Rattle.b3d_mend_spec.proofs.StepLaws.{left-in}
 
 -- ---- words that were read are the first words
 
-pub words-are : (start n p : ℕ) (s : List ℕ) (x : Step (List ℕ)) → words start n p s ≡ got x → (x .value ≡ wordsOf n s) × (x .left ≡ drop (4 * n) s)
+pub words-are : (start n p : ℕ) (s : List ℕ) (x : Step (List ℕ)) → words start n p s ≡ accept x → (x .value ≡ wordsOf n s) × (x .left ≡ drop (4 * n) s)
 words-are start n p s x e =
     let k = left-in start n p s x e in
     let y = got-inj (sym e ∙ words-enough start n p s (omega arith)) in
     (ap (λ (z : Step (List ℕ)). z .value) y, ap (λ (z : Step (List ℕ)). z .left) y)
 
-word-edit : (r : Rule) (p w : ℕ) (v : Mended ℕ) → mendWord r p w ≡ got v → v .edits ≡ wordEdit r w ∷ []
+word-edit : (r : Rule) (p w : ℕ) (v : Mended ℕ) → mendWord r p w ≡ accept v → v .edits ≡ wordEdit r w ∷ []
 unfolding mendWord wordEdit
 word-edit r p w v e =
     by-if (holds r w) _ _ e
@@ -39,7 +39,7 @@ word-edit r p w v e =
     (λ u e₂. ap (λ (z : Mended ℕ). z .edits) (sym (got-inj e₂)) ∙ ap (λ (z : Edit). z ∷ []) (sym (if-no (holds r w) (keep (bytes w [])) (idSet w NONE) t)))
     (λ u e₂. bad-got e₂))
 
-pub word-edits : (rs : List Rule) (p : ℕ) (ws : List ℕ) (v : Mended (List ℕ)) → mendWords rs p ws ≡ got v → v .edits ≡ wordEdits rs ws
+pub word-edits : (rs : List Rule) (p : ℕ) (ws : List ℕ) (v : Mended (List ℕ)) → mendWords rs p ws ≡ accept v → v .edits ≡ wordEdits rs ws
 unfolding mendWords wordEdits andWords
 word-edits [] p ws v e = ap (λ (z : Mended (List ℕ)). z .edits) (sym (got-inj e))
 word-edits (r ∷ rs) p [] v e = ap (λ (z : Mended (List ℕ)). z .edits) (sym (got-inj e))
@@ -56,7 +56,7 @@ stay-edit rs ws = go (allHold rs ws)
     go true = refl
     go false = refl
 
-item-edits-in : (rs : List Rule) (f p : ℕ) (s : List ℕ) (l : List (Mended (List (List ℕ)))) → itemsIn f (mendItem rs) p s ≡ got l → gathered l .edits ≡ itemEditsIn f rs s
+item-edits-in : (rs : List Rule) (f p : ℕ) (s : List ℕ) (l : List (Mended (List (List ℕ)))) → itemsIn f (mendItem rs) p s ≡ accept l → gathered l .edits ≡ itemEditsIn f rs s
 unfolding itemsIn mendItem gathered itemEditsIn
 item-edits-in rs zero p [] l e = ap (λ (z : List (Mended (List (List ℕ)))). gathered z .edits) (sym (got-inj e))
 item-edits-in rs zero p (c ∷ s) l e = bad-got e
@@ -74,12 +74,12 @@ item-edits-in rs (suc f) p (c ∷ s) l e =
     ∙ ap₂ _++_ first (item-edits-in rs f (x .place) (x .left) m em ∙ ap (itemEditsIn f rs) rest)
     ∙ sym (if-yes (leb (4 * length rs) (length (c ∷ s))) _ _ (le→leb _ _ long)))))
 
-pub item-edits : (rs : List Rule) (p : ℕ) (s : List ℕ) (m : Mended (List (List ℕ))) → mendItems (mendItem rs) p s ≡ got m → m .edits ≡ itemEdits rs s
+pub item-edits : (rs : List Rule) (p : ℕ) (s : List ℕ) (m : Mended (List (List ℕ))) → mendItems (mendItem rs) p s ≡ accept m → m .edits ≡ itemEdits rs s
 unfolding mendItems items itemEdits
 item-edits rs p s m e =
     by-got (itemsIn (length s) (mendItem rs) p s) _ e (λ l el e₁. ap (λ (z : Mended (List (List ℕ))). z .edits) (sym (got-inj e₁)) ∙ item-edits-in rs (length s) p s l el)
 
-pub tris-edits : (brushes vertices p : ℕ) (b : List ℕ) (m : Mended TriangleSet) → mendTriangles brushes vertices p b ≡ got m → m .edits ≡ trisEdits brushes vertices b
+pub tris-edits : (brushes vertices p : ℕ) (b : List ℕ) (m : Mended TriangleSet) → mendTriangles brushes vertices p b ≡ accept m → m .edits ≡ trisEdits brushes vertices b
 unfolding mendTriangles mendRow trisEdits
 tris-edits brushes vertices p b m e =
     by-got (mendRow (trianglesHead brushes) (p + 8) b) _ e (λ h eh e₁.
@@ -92,7 +92,7 @@ tris-edits brushes vertices p b m e =
     ∙ ap₂ _++_ (ap (λ (z : Step (Mended (List ℕ))). z .value .edits) q ∙ word-edits (trianglesHead brushes) (p + 8) (y .value) v ev ∙ ap (wordEdits (trianglesHead brushes)) (w .0))
     (item-edits (triangleRow vertices) (h .place) (h .left) l el ∙ ap (itemEdits (triangleRow vertices)) (ap (λ (z : Step (Mended (List ℕ))). z .left) q ∙ w .1))))))
 
-pub bone-edits : (vertices p : ℕ) (b : List ℕ) (m : Mended (List (List ℕ))) → mendBone vertices p b ≡ got m → m .edits ≡ boneEdits vertices b
+pub bone-edits : (vertices p : ℕ) (b : List ℕ) (m : Mended (List (List ℕ))) → mendBone vertices p b ≡ accept m → m .edits ≡ boneEdits vertices b
 unfolding mendBone boneEdits
 bone-edits vertices p b m e = item-edits (weightRow vertices) (p + 8) b m e
 
@@ -133,12 +133,12 @@ edits-step rs n (c ∷ s) h =
 -- a brush that was mended, as it is read where its words are not looked at
 record Seen (rs : List Rule) (p : ℕ) (s : List ℕ) (x : Step (Mended (Name × List ℕ))) : Type 0 where
   as-read : Step (Name × List ℕ)
-  is-read : named (replicate (length rs) any) p s ≡ got as-read
+  is-read : named (replicate (length rs) any) p s ≡ accept as-read
   same-place : as-read .place ≡ x .place
   same-left : as-read .left ≡ x .left
   edits-are : x .value .edits ≡ keep (writeText (as-read .value .0 .bytes) []) ∷ wordEdits rs (as-read .value .1)
 
-seen : (rs : List Rule) (p : ℕ) (s : List ℕ) (x : Step (Mended (Name × List ℕ))) → mendNamed rs p s ≡ got x → Seen rs p s x
+seen : (rs : List Rule) (p : ℕ) (s : List ℕ) (x : Step (Mended (Name × List ℕ))) → mendNamed rs p s ≡ accept x → Seen rs p s x
 unfolding mendNamed withName named
 seen rs p s x e =
     by-got (text p p s) _ e (λ n en e₁.
@@ -153,7 +153,7 @@ seen rs p s x e =
       edits-are = ap (λ (l : List Edit). keep (writeText (n .value) []) ∷ l) (word-edits rs (n .place) (y .value) v ev);
     }))))
 
-brush-edits-in : (slots textures f p : ℕ) (s : List ℕ) (l : List (Mended (List Brush))) → itemsIn f (mendBrush slots textures) p s ≡ got l
+brush-edits-in : (slots textures f p : ℕ) (s : List ℕ) (l : List (Mended (List Brush))) → itemsIn f (mendBrush slots textures) p s ≡ accept l
     → gathered l .edits ≡ brushEditsIn f (brushRow Lenient ++ brushIds slots textures) p s
 unfolding itemsIn mendBrush oneBrush gathered brushEditsIn brushOf
 brush-edits-in slots textures zero p [] l e = ap (λ (z : List (Mended (List Brush))). gathered z .edits) (sym (got-inj e))
@@ -173,7 +173,7 @@ brush-edits-in slots textures (suc f) p (c ∷ s) l e =
     (brush-edits-in slots textures f (x .place) (x .left) m em ∙ ap₂ (brushEditsIn f rs) ep el)
     ∙ sym (ap (brushOf rs (brushEditsIn f rs)) (z .is-read)))))
 
-pub brus-edits : (textures p : ℕ) (b : List ℕ) (m : Mended (ℕ × List Brush)) → mendBrushes textures p b ≡ got m → m .edits ≡ brusEdits textures p b
+pub brus-edits : (textures p : ℕ) (b : List ℕ) (m : Mended (ℕ × List Brush)) → mendBrushes textures p b ≡ accept m → m .edits ≡ brusEdits textures p b
 unfolding mendBrushes mendItems items brusEdits brusOf
 brus-edits textures p b m e =
     by-got (row brushesHead (p + 8) b) _ e (λ h eh e₁.

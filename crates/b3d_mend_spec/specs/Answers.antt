@@ -3,25 +3,25 @@
 use mathlib.Core.List.{List}
 use lib.ListN.{length}
 use Rattle.wire.specs.Bytes.{over}
-use Rattle.layout.specs.Out.{Out, got, bad}
+use Rattle.layout.specs.Result.{Result, accept, reject}
 use Rattle.b3d_mend_spec.specs.Report.{Mending, mendInto}
 use Rattle.b3d_mend_spec.specs.declared.WrittenBoth.{WrittenBoth}
 use Prim.Native.Nat.{ℕ}
 
 -- the mender's answer: number and place, and the sizes written of file and report, 0 where refused
-unfoldable pub writtenBoth : Out Mending → WrittenBoth
-writtenBoth (got m) = record { number = 0; place = 0; size = length (m .file); «report_size» = length (m .report) }
-writtenBoth (bad n p) = record { number = n; place = p; size = 0; «report_size» = 0 }
+unfoldable pub writtenBoth : Result Mending → WrittenBoth
+writtenBoth (accept m) = record { number = 0; place = 0; size = length (m .file); «report_size» = length (m .report) }
+writtenBoth (reject n p) = record { number = n; place = p; size = 0; «report_size» = 0 }
 
 -- the output for the file, `out`, afterwards: what was written, then what stood there; where refused, what stood there
-unfoldable pub fileAfter : Out Mending → List ℕ → List ℕ
-fileAfter (got m) out = over (m .file) out
-fileAfter (bad n p) out = out
+unfoldable pub fileAfter : Result Mending → List ℕ → List ℕ
+fileAfter (accept m) out = over (m .file) out
+fileAfter (reject n p) out = out
 
 -- the output for the report, `out`, afterwards: what was written, then what stood there; where refused, what stood there
-unfoldable pub reportAfter : Out Mending → List ℕ → List ℕ
-reportAfter (got m) out = over (m .report) out
-reportAfter (bad n p) out = out
+unfoldable pub reportAfter : Result Mending → List ℕ → List ℕ
+reportAfter (accept m) out = over (m .report) out
+reportAfter (reject n p) out = out
 
 -- the mender's answer on the file s, with the outputs `out` for the mended file and `report` for the report
 unfoldable pub mendAnswer : List ℕ → List ℕ → List ℕ → WrittenBoth

@@ -5,7 +5,7 @@ use lib.ListN.{length, getD}
 use lib.Dec.{leb}
 use Rattle.layout.specs.Counted.{run}
 use Rattle.layout.specs.Parts.{Step, items}
-use Rattle.layout.specs.Out.{Out, got, check, _>>=_}
+use Rattle.layout.specs.Result.{Result, accept, check, _>>=_}
 use Rattle.shared_seven_bit_groups.specs.Groups.{writeNumbers, readNumbers}
 use Rattle.layout.specs.Rows.{eachOf}
 use Rattle.b3d_spec.specs.Rules.{rowLimit}
@@ -54,15 +54,15 @@ abbrev pub mostOf : List ℕ
 mostOf = 4294967295 ∷ 4 ∷ 12 ∷ 4 ∷ []
 
 -- an entry of a report, read at place p
-unfoldable pub readEntry : ℕ → List ℕ → Out (Step Entry)
+unfoldable pub readEntry : ℕ → List ℕ → Result (Step Entry)
 readEntry p s = do
   x ← readNumbers mostOf p s
   b ← run (getD (x .value) 2 0) (x .place) (x .left)
   a ← run (getD (x .value) 3 0) (b .place) (b .left)
-  got (record { value = record { place = getD (x .value) 0 0; which = getD (x .value) 1 0; before = b .value; after = a .value }; place = a .place; left = a .left })
+  accept (record { value = record { place = getD (x .value) 0 0; which = getD (x .value) 1 0; before = b .value; after = a .value }; place = a .place; left = a .left })
 
 -- the entries of the report s, to its end
-unfoldable pub readReport : List ℕ → Out (List Entry)
+unfoldable pub readReport : List ℕ → Result (List Entry)
 readReport s = items readEntry 0 s
 
 -- ---- the answer
@@ -77,22 +77,22 @@ unfoldable pub mending : List Edit → Mending
 mending x = record { file = after x; report = reportBytes (entries 0 x) }
 
 -- the file s mended, or the refusal: the first fault of another kind, then 10 over the rows that the mended file has
-unfoldable pub mendJudged : List ℕ → Out (Mended Scene)
+unfoldable pub mendJudged : List ℕ → Result (Mended Scene)
 mendJudged s = do
   x ← mendFile s
   _ ← eachOf 10 (λ k. leb (length (rows k (x .value))) rowLimit) tables
-  got x
+  accept x
 
 -- the mended file and the report, if outputs of `room` and `reportRoom` bytes have room for them; else 11 with the size needed, first for the file, then for
 -- the report
-unfoldable pub roomForBoth : ℕ → ℕ → Mending → Out Mending
+unfoldable pub roomForBoth : ℕ → ℕ → Mending → Result Mending
 roomForBoth room reportRoom m = do
   _ ← check (leb (length (m .file)) room) 11 (length (m .file))
   _ ← check (leb (length (m .report)) reportRoom) 11 (length (m .report))
-  got m
+  accept m
 
 -- the mended file and the report of the file s, for outputs of `room` and `reportRoom` bytes; or the refusal
-unfoldable pub mendInto : ℕ → ℕ → List ℕ → Out Mending
+unfoldable pub mendInto : ℕ → ℕ → List ℕ → Result Mending
 mendInto room reportRoom s = do
   x ← mendJudged s
   roomForBoth room reportRoom (mending (x .edits))

@@ -7,12 +7,12 @@ use lib.ListN.{length, drop}
 use Rattle.wire.specs.Bytes.{bytes}
 use Rattle.wire.specs.Test.{if}
 use Rattle.layout.specs.Chunks.{done, stop, chunk}
-use Rattle.layout.specs.Out.{Out, got, bad}
+use Rattle.layout.specs.Result.{Result, accept, reject}
 use Rattle.layout.specs.Parts.{Name, Step, wordsOf, row, number, named}
 use Rattle.layout.specs.Write.{writeWords, writeText}
 use Rattle.b3d_spec.specs.declared.Mode.the-variants.{Lenient}
 use Rattle.b3d_spec.specs.Parse.{Vertices, readVertices, readTextures}
-use Rattle.b3d_spec.specs.Rules.{meshHead, nodeRow, boneVertices, bonesFrom, levels, header, fileHead}
+use Rattle.b3d_spec.specs.Rules.{meshHead, nodeRow, boneLimit, boneLimitFrom, levels, header, fileHead}
 use Rattle.b3d_spec.specs.Scene.{Texture, Brush, Mesh}
 use Rattle.b3d_spec.specs.Tags.{code, is, Chunks}
 use Rattle.b3d_spec.specs.declared.Tag.the-variants.{BB3D, TEXS, BRUS, NODE, MESH, VRTS, BONE, KEYS, ANIM}
@@ -24,9 +24,9 @@ use Rattle.b3d_mend_spec.specs.Walks.{wordEdits, trisEdits, boneEdits, b
 -- ---- meshes
 
 -- how many vertices a VRTS that was read has; 0 where it is refused
-unfoldable pub verticesOf : Out Vertices → ℕ
-verticesOf (got v) = length (v .items)
-verticesOf (bad n p) = 0
+unfoldable pub verticesOf : Result Vertices → ℕ
+verticesOf (accept v) = length (v .items)
+verticesOf (reject n p) = 0
 
 -- the bodies of TRIS chunks to the end, in a file with this number of `brushes` and a mesh with this number of `vertices`
 unfoldable pub setBodies : ℕ → ℕ → Chunks → List (List Edit)
@@ -50,9 +50,9 @@ meshEdits brushes p b =
 -- ---- nodes
 
 -- how many vertices a mesh has as it is mended; 0 where it is refused
-unfoldable pub ownOf : Out (Mended Mesh) → ℕ
-ownOf (got m) = length (m .value .vertices)
-ownOf (bad n p) = 0
+unfoldable pub ownOf : Result (Mended Mesh) → ℕ
+ownOf (accept m) = length (m .value .vertices)
+ownOf (reject n p) = 0
 
 -- the bodies of NODE chunks to the end, each by `one`
 unfoldable pub nodeBodies : (ℕ → List ℕ → List Edit) → Chunks → List (List Edit)
@@ -79,27 +79,27 @@ kindBodies brushes vertices one (chunk t p b r) =
     if (is t MESH) m (if (is t BONE) w (moveBodies (one 0) false (chunk t p b r)))
 
 -- a NODE by its text and words that were read, then the chunks inside it; nothing where these are refused
-unfoldable pub nodeOf : ℕ → ℕ → (ℕ → Bool → ℕ → List ℕ → List Edit) → Out (Step (Name × List ℕ)) → List Edit
-nodeOf brushes vertices one (got h) =
+unfoldable pub nodeOf : ℕ → ℕ → (ℕ → Bool → ℕ → List ℕ → List Edit) → Result (Step (Name × List ℕ)) → List Edit
+nodeOf brushes vertices one (accept h) =
     keep (writeText (h .value .0 .bytes) (writeWords (h .value .1) [])) ∷ woven (pieces (h .place) (h .left)) (kindBodies brushes vertices one (chunksOf (pieces (h .place) (h .left))))
-nodeOf brushes vertices one (bad n p) = []
+nodeOf brushes vertices one (reject n p) = []
 
 -- the body b of a NODE whose header is at p, with l levels left; `above`: how many vertices its bones may name, none for the root
 unfoldable pub nodeEdits : ℕ → ℕ → Option ℕ → ℕ → List ℕ → List Edit
 nodeEdits zero brushes above p b = []
-nodeEdits (suc l) brushes above p b = nodeOf brushes (boneVertices above) (λ own moved. nodeEdits l brushes (bonesFrom above moved own)) (named nodeRow (p + 8) b)
+nodeEdits (suc l) brushes above p b = nodeOf brushes (boneLimit above) (λ own moved. nodeEdits l brushes (boneLimitFrom above moved own)) (named nodeRow (p + 8) b)
 
 -- ---- the file
 
 -- how many textures a TEXS that was read has; 0 where it is refused
-unfoldable pub texturesOf : Out (List Texture) → ℕ
-texturesOf (got l) = length l
-texturesOf (bad n p) = 0
+unfoldable pub texturesOf : Result (List Texture) → ℕ
+texturesOf (accept l) = length l
+texturesOf (reject n p) = 0
 
 -- how many brushes a BRUS has as it is mended; 0 where it is refused
-unfoldable pub brushesOf : Out (Mended (ℕ × List Brush)) → ℕ
-brushesOf (got m) = length (m .value .1)
-brushesOf (bad n p) = 0
+unfoldable pub brushesOf : Result (Mended (ℕ × List Brush)) → ℕ
+brushesOf (accept m) = length (m .value .1)
+brushesOf (reject n p) = 0
 
 -- the body of the root NODE, if it comes first
 unfoldable pub rootBodies : ℕ → Chunks → List (List Edit)
@@ -124,16 +124,16 @@ texsBodies (chunk t p b r) =
     if (is t TEXS) first (brusBodies 0 (chunk t p b r))
 
 -- BB3D's body by its version that was read; nothing where that is refused
-unfoldable pub bodyOf : Out (Step (List ℕ)) → List Edit
-bodyOf (got h) = keep (bytes (number h 0) []) ∷ woven (pieces (h .place) (h .left)) (texsBodies (chunksOf (pieces (h .place) (h .left))))
-bodyOf (bad n p) = []
+unfoldable pub bodyOf : Result (Step (List ℕ)) → List Edit
+bodyOf (accept h) = keep (bytes (number h 0) []) ∷ woven (pieces (h .place) (h .left)) (texsBodies (chunksOf (pieces (h .place) (h .left))))
+bodyOf (reject n p) = []
 
 -- a file by its header that was read; nothing where that is refused
-unfoldable pub fileOf : Out (Step (List ℕ)) → List Edit
-fileOf (got h) =
+unfoldable pub fileOf : Result (Step (List ℕ)) → List Edit
+fileOf (accept h) =
     let x = bodyOf (row fileHead (h .place) (h .left)) in
     keep (bytes (code BB3D) []) ∷ fileLength (number h 1) (length (h .left)) (length (after x)) ∷ x
-fileOf (bad n p) = []
+fileOf (reject n p) = []
 
 -- what becomes of the bytes of the file s
 unfoldable pub fileEdits : List ℕ → List Edit

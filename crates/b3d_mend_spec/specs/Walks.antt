@@ -4,7 +4,7 @@ use Prim.Native.Nat.{ℕ, zero, suc, _+_, _*_}
 use mathlib.Core.List.{List, [], _∷_, _++_}
 use lib.ListN.{length, drop, replicate}
 use lib.Dec.{leb}
-use Rattle.layout.specs.Out.{Out, got, bad}
+use Rattle.layout.specs.Result.{Result, accept, reject}
 use Rattle.wire.specs.Bytes.{bytes}
 use Rattle.wire.specs.Test.{if}
 use Rattle.layout.specs.Parts.{Name, Step, wordsOf, row, number, named}
@@ -50,9 +50,9 @@ unfoldable pub boneEdits : ℕ → List ℕ → List Edit
 boneEdits vertices b = itemEdits (weightRow vertices) b
 
 -- a brush that is all there, its numbers against their rules rs, then what `rest` makes of what follows; nothing where it is cut
-unfoldable pub brushOf : List Rule → (ℕ → List ℕ → List Edit) → Out (Step (Name × List ℕ)) → List Edit
-brushOf rs rest (got x) = keep (writeText (x .value .0 .bytes) []) ∷ (wordEdits rs (x .value .1) ++ rest (x .place) (x .left))
-brushOf rs rest (bad n p) = []
+unfoldable pub brushOf : List Rule → (ℕ → List ℕ → List Edit) → Result (Step (Name × List ℕ)) → List Edit
+brushOf rs rest (accept x) = keep (writeText (x .value .0 .bytes) []) ∷ (wordEdits rs (x .value .1) ++ rest (x .place) (x .left))
+brushOf rs rest (reject n p) = []
 
 -- brushes from place p on, their numbers against their rules rs, up to the first that is not all there, at most f
 unfoldable pub brushEditsIn : ℕ → List Rule → ℕ → List ℕ → List Edit
@@ -61,9 +61,9 @@ brushEditsIn (suc f) rs p [] = []
 brushEditsIn (suc f) rs p (c ∷ s) = brushOf rs (brushEditsIn f rs) (named (replicate (length rs) any) p (c ∷ s))
 
 -- a BRUS by its fixed data that was read, texture ids being -1 or below `textures`; nothing where that is refused
-unfoldable pub brusOf : ℕ → Out (Step (List ℕ)) → List Edit
-brusOf textures (got h) = keep (bytes (number h 0) []) ∷ brushEditsIn (length (h .left)) (brushRow Lenient ++ brushIds (number h 0) textures) (h .place) (h .left)
-brusOf textures (bad n p) = []
+unfoldable pub brusOf : ℕ → Result (Step (List ℕ)) → List Edit
+brusOf textures (accept h) = keep (bytes (number h 0) []) ∷ brushEditsIn (length (h .left)) (brushRow Lenient ++ brushIds (number h 0) textures) (h .place) (h .left)
+brusOf textures (reject n p) = []
 
 -- the body b of a BRUS whose header is at p, texture ids being -1 or below `textures`
 unfoldable pub brusEdits : ℕ → ℕ → List ℕ → List Edit

@@ -5,7 +5,7 @@ use native.Mathlib.Omega.{arith}
 use lib.ListN.{length}
 use lib.Dec.{leb, leb→le, nleb→lt}
 use Rattle.layout.proofs.Outs.{by-test}
-use Rattle.layout.specs.Out.{Out, got, bad}
+use Rattle.layout.specs.Result.{Result, accept, reject}
 use Rattle.b3d_mend_spec.specs.Answers.{writtenBoth}
 use Rattle.b3d_mend_spec.specs.Report.{Mending, roomForBoth}
 use Rattle.b3d_mend_spec.specs.declared.WrittenBoth.{WrittenBoth}
@@ -29,11 +29,11 @@ pub ruleset both-answers = (file-short, report-short, both-fit)
 
 -- the number says whether there is room for both
 module _ (room reportRoom : ℕ) (m : Mending) (r : WrittenBoth) (h : OfSizes (length (m .file)) (length (m .report)) room reportRoom r) where
-  is-number : (o : Out Mending) → roomForBoth room reportRoom m ≡ o → r .number ≡ writtenBoth o .number
+  is-number : (o : Result Mending) → roomForBoth room reportRoom m ≡ o → r .number ≡ writtenBoth o .number
   is-number o e = ap (λ (w : WrittenBoth). w .number) (h .is m refl refl ∙ ap writtenBoth e)
 
   -- written, or refused by 11
-  pub by-room : {P : Type 0} → (length (m .file) ≤ room → length (m .report) ≤ reportRoom → P) → ((n : ℕ) → roomForBoth room reportRoom m ≡ bad 11 n → P) → P
+  pub by-room : {P : Type 0} → (length (m .file) ≤ room → length (m .report) ≤ reportRoom → P) → ((n : ℕ) → roomForBoth room reportRoom m ≡ reject 11 n → P) → P
   by-room fits short =
       by-test (leb (length (m .file)) room)
       (λ t. by-test (leb (length (m .report)) reportRoom) (λ u. fits (leb→le (length (m .file)) room t) (leb→le (length (m .report)) reportRoom u))
@@ -42,8 +42,8 @@ module _ (room reportRoom : ℕ) (m : Mending) (r : WrittenBoth) (h : OfSizes (l
 
   pub fits-both : r .number ≡ 0 → (length (m .file) ≤ room) × (length (m .report) ≤ reportRoom)
   unfolding writtenBoth
-  fits-both z = by-room (λ f g. (f, g)) (λ n e. absurd (omega (arith, sym z ∙ is-number (bad 11 n) e)))
+  fits-both z = by-room (λ f g. (f, g)) (λ n e. absurd (omega (arith, sym z ∙ is-number (reject 11 n) e)))
 
-  pub short-both : (r .number ≡ 0 → ⊥) → (n : ℕ) × (roomForBoth room reportRoom m ≡ bad 11 n)
+  pub short-both : (r .number ≡ 0 → ⊥) → (n : ℕ) × (roomForBoth room reportRoom m ≡ reject 11 n)
   unfolding writtenBoth
-  short-both d = by-room (λ f g. absurd (d (is-number (got m) (room-yes room reportRoom m f g)))) (λ n e. (n, e))
+  short-both d = by-room (λ f g. absurd (d (is-number (accept m) (room-yes room reportRoom m f g)))) (λ n e. (n, e))

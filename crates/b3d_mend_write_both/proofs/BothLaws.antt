@@ -9,7 +9,7 @@ use lib.Dec.{eqb}
 use lib.Seq.{sets, sets-eq}
 use Rattle.wire.specs.Bytes.{AllBytes, bytes, over}
 use Rattle.wire.specs.Test.{if}
-use Rattle.layout.specs.Out.{Out, got, bad}
+use Rattle.layout.specs.Result.{Result, accept, reject}
 use Rattle.layout.specs.Rows.{sizeFits, mostBytes}
 use Rattle.layout.proofs.Outs.{by-check, got-inj}
 use Rattle.b3d_spec.specs.Scene.{Scene}
@@ -33,7 +33,7 @@ use Rattle.b3d_mend_write_both.proofs.BothAnswers.{fits-both, short-bot
 use Rattle.b3d_mend_write_scopes.specs.Shown.{numberOf, walkBody, walkFile}
 use Rattle.b3d_mend_write_scopes.proofs.FileShows.{file-walk}
 
-size-within : (s : List ℕ) (x : Mended Scene) → mendFile s ≡ got x → (12 ≤ length s) × (length s ≤ mostBytes)
+size-within : (s : List ℕ) (x : Mended Scene) → mendFile s ≡ accept x → (12 ≤ length s) × (length s ≤ mostBytes)
 unfolding mendFile
 size-within s x e = by-check (sizeFits (length s)) 1 0 _ e (λ z _. (size-low (length s) z, size-bound (length s) z))
 
@@ -65,17 +65,17 @@ at-start w xs h = sets-eq w xs 0 (omega arith) ∙ ap (λ (k : ℕ). w ++ drop k
 -- ---- the ways
 
 module _ (s out report : List ℕ) where
-  pub answered : (o : Out Mending) → mendInto (length out) (length report) s ≡ o → (w : WrittenBoth) → w ≡ writtenBoth o → w ≡ mendAnswer s out report
+  pub answered : (o : Result Mending) → mendInto (length out) (length report) s ≡ o → (w : WrittenBoth) → w ≡ writtenBoth o → w ≡ mendAnswer s out report
   unfolding mendAnswer
   answered o q w h = h ∙ ap writtenBoth (sym q)
 
-  pub file-so : (o : Out Mending) → mendInto (length out) (length report) s ≡ o → (ys : List ℕ) → ys ≡ fileAfter o out → ys ≡ mendOutput s out report
+  pub file-so : (o : Result Mending) → mendInto (length out) (length report) s ≡ o → (ys : List ℕ) → ys ≡ fileAfter o out → ys ≡ mendOutput s out report
   unfolding mendOutput
-  file-so o q ys h = h ∙ ap (λ (x : Out Mending). fileAfter x out) (sym q)
+  file-so o q ys h = h ∙ ap (λ (x : Result Mending). fileAfter x out) (sym q)
 
-  pub report-so : (o : Out Mending) → mendInto (length out) (length report) s ≡ o → (ys : List ℕ) → ys ≡ reportAfter o report → ys ≡ mendReport s out report
+  pub report-so : (o : Result Mending) → mendInto (length out) (length report) s ≡ o → (ys : List ℕ) → ys ≡ reportAfter o report → ys ≡ mendReport s out report
   unfolding mendReport
-  report-so o q ys h = h ∙ ap (λ (x : Out Mending). reportAfter x report) (sym q)
+  report-so o q ys h = h ∙ ap (λ (x : Result Mending). reportAfter x report) (sym q)
 
   -- can be mended
   module _ (can : CanMend s) where
@@ -191,11 +191,11 @@ module _ (s out report : List ℕ) where
         module _ (d : w .number ≡ 0 → ⊥) where
           pub short-file-kept : out₁ ≡ mendOutput s out report
           unfolding fileAfter
-          short-file-kept = let q = short-both (length out) (length report) M w of-both d in file-so (bad 11 (q .0)) (room-for ∙ q .1) out₁ fo
+          short-file-kept = let q = short-both (length out) (length report) M w of-both d in file-so (reject 11 (q .0)) (room-for ∙ q .1) out₁ fo
 
           pub short-report-kept : rep₁ ≡ mendReport s out report
           unfolding reportAfter
-          short-report-kept = let q = short-both (length out) (length report) M w of-both d in report-so (bad 11 (q .0)) (room-for ∙ q .1) rep₁ fr
+          short-report-kept = let q = short-both (length out) (length report) M w of-both d in report-so (reject 11 (q .0)) (room-for ∙ q .1) rep₁ fr
 
         -- both are long enough
         pub have-room : w .number ≡ 0 → HaveRoom s out₁ rep₁ (n .file)
@@ -216,7 +216,7 @@ module _ (s out report : List ℕ) where
     abbrev N : Mending
     N = mending (h .can .value .edits)
 
-    done : mendInto (length out) (length report) s ≡ got N
+    done : mendInto (length out) (length report) s ≡ accept N
     done = room-for (h .can) ∙ room-yes (length out) (length report) N (h .room) (h .reportRoom)
 
     pub put-low : 12 ≤ length s
@@ -248,11 +248,11 @@ module _ (s out report : List ℕ) where
 
     pub mend-file : (ys : List ℕ) (k : ℕ) → Emits true (walkFile false (n - 12) s) out 0 ys k → ys ≡ mendOutput s out report
     unfolding fileAfter written
-    mend-file ys k p = file-so (got N) done ys (p .is ∙ ap (sets out 0) file-same ∙ at-start (N .file) out (h .room))
+    mend-file ys k p = file-so (accept N) done ys (p .is ∙ ap (sets out 0) file-same ∙ at-start (N .file) out (h .room))
 
     pub mend-report : (ys : List ℕ) (k : ℕ) → Emits true (walkFile true (n - 12) s) report 0 ys k → ys ≡ mendReport s out report
     unfolding reportAfter written
-    mend-report ys k p = report-so (got N) done ys (p .is ∙ ap (sets report 0) report-same ∙ at-start (N .report) report (h .reportRoom))
+    mend-report ys k p = report-so (accept N) done ys (p .is ∙ ap (sets report 0) report-same ∙ at-start (N .report) report (h .reportRoom))
 
 pub ruleset size-laws = (mend-low, mend-high, can-bytes, dry-file, size-twelve, size-small, dry-report, file-left, both-sized, report-left)
 

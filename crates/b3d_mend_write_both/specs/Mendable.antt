@@ -4,7 +4,7 @@ use Prim.Native.Nat.{ℕ, _≤_}
 use mathlib.Core.List.{List}
 use lib.ListN.{length}
 use Rattle.wire.specs.Bytes.{AllBytes}
-use Rattle.layout.specs.Out.{got}
+use Rattle.layout.specs.Result.{accept}
 use Rattle.b3d_spec.specs.Scene.{Scene}
 use Rattle.b3d_mend_spec.specs.Mend.{Mended}
 use Rattle.b3d_mend_spec.specs.Report.{mending, mendJudged}
@@ -14,12 +14,12 @@ use Rattle.b3d_mend_write_both.specs.declared.Sizes.{Sizes}
 pub record CanMend (s : List ℕ) : Type 0 where
   pub bytes : AllBytes s
   pub value : Mended Scene
-  pub is : mendJudged s ≡ got value
+  pub is : mendJudged s ≡ accept value
 
 -- r has the sizes of the mended file and of the report
 pub record Sized (s : List ℕ) (r : Sizes) : Type 0 where
-  pub files : (x : Mended Scene) → mendJudged s ≡ got x → r .file ≡ length (mending (x .edits) .file)
-  pub reports : (x : Mended Scene) → mendJudged s ≡ got x → r .report ≡ length (mending (x .edits) .report)
+  pub files : (x : Mended Scene) → mendJudged s ≡ accept x → r .file ≡ length (mending (x .edits) .file)
+  pub reports : (x : Mended Scene) → mendJudged s ≡ accept x → r .report ≡ length (mending (x .edits) .report)
 
 -- both outputs have room, and the mended file is so long
 pub record HaveRoom (s out report : List ℕ) (size : ℕ) : Type 0 where

@@ -13,7 +13,7 @@ use Rattle.wire.specs.declared.Text.{Text}
 use Rattle.wire.specs.declared.Text.the-variants as text
 use Rattle.wire.proofs.Left.{left-length, left-nil}
 use Rattle.wire.proofs.Found.{texted}
-use Rattle.layout.specs.Out.{Out, got, bad}
+use Rattle.layout.specs.Result.{Result, accept, reject}
 use Rattle.layout.specs.Parts.{Name, Step, wordsOf, named}
 use Rattle.layout.specs.Rules.{Rule, any}
 use Rattle.layout.specs.Write.{writeText}
@@ -36,11 +36,11 @@ use Rattle.b3d_mend_write_brushes.specs.Lists.{brushRules, brushesAt}
 
 -- ---- one brush at a time, without fuel
 
-brush-same : (rs : List Rule) (k k′ : ℕ → List ℕ → List Edit) (o : Out (Step (Name × List ℕ))) → ((x : Step (Name × List ℕ)) → o ≡ got x → k (x .place) (x .left) ≡ k′ (x .place) (x .left))
+brush-same : (rs : List Rule) (k k′ : ℕ → List ℕ → List Edit) (o : Result (Step (Name × List ℕ))) → ((x : Step (Name × List ℕ)) → o ≡ accept x → k (x .place) (x .left) ≡ k′ (x .place) (x .left))
     → brushOf rs k o ≡ brushOf rs k′ o
 unfolding brushOf
-brush-same rs k k′ (got x) h = ap (λ (l : List Edit). keep (writeText (x .value .0 .bytes) []) ∷ (wordEdits rs (x .value .1) ++ l)) (h x refl)
-brush-same rs k k′ (bad n q) h = refl
+brush-same rs k k′ (accept x) h = ap (λ (l : List Edit). keep (writeText (x .value .0 .bytes) []) ∷ (wordEdits rs (x .value .1) ++ l)) (h x refl)
+brush-same rs k k′ (reject n q) h = refl
 
 fuel : (rs : List Rule) (f g p : ℕ) (s : List ℕ) → length s ≤ f → length s ≤ g → brushEditsIn f rs p s ≡ brushEditsIn g rs p s
 unfolding brushEditsIn brushOf
@@ -55,7 +55,7 @@ fuel rs (suc f) (suc g) p (c ∷ s) hf hg =
     let n = named-shrinks (replicate (length rs) any) p (c ∷ s) x e in
     fuel rs f g (x .place) (x .left) (omega arith) (omega arith))
 
-one-brush : (rs : List Rule) (p : ℕ) (s : List ℕ) (x : Step (Name × List ℕ)) → 0 < length s → named (replicate (length rs) any) p s ≡ got x
+one-brush : (rs : List Rule) (p : ℕ) (s : List ℕ) (x : Step (Name × List ℕ)) → 0 < length s → named (replicate (length rs) any) p s ≡ accept x
     → brushEditsIn (length s) rs p s ≡ (keep (writeText (x .value .0 .bytes) []) ∷ wordEdits rs (x .value .1)) ++ brushEditsIn (length (x .left)) rs (x .place) (x .left)
 unfolding brushEditsIn brushOf
 one-brush rs p [] x h e = absurd (omega arith)
@@ -64,7 +64,7 @@ one-brush rs p (c ∷ s) x h e =
     ap (brushOf rs (brushEditsIn (length s) rs)) e
     ∙ ap (λ (l : List Edit). keep (writeText (x .value .0 .bytes) []) ∷ (wordEdits rs (x .value .1) ++ l)) (fuel rs (length s) (length (x .left)) (x .place) (x .left) (omega arith) (omega arith))
 
-no-brush : (rs : List Rule) (p : ℕ) (s : List ℕ) (n q : ℕ) → named (replicate (length rs) any) p s ≡ bad n q → brushEditsIn (length s) rs p s ≡ []
+no-brush : (rs : List Rule) (p : ℕ) (s : List ℕ) (n q : ℕ) → named (replicate (length rs) any) p s ≡ reject n q → brushEditsIn (length s) rs p s ≡ []
 unfolding brushEditsIn brushOf
 no-brush rs p [] n q e = refl
 no-brush rs p (c ∷ s) n q e = ap (brushOf rs (brushEditsIn (length s) rs)) e

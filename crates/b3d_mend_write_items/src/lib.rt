@@ -29,7 +29,7 @@ pub fn put_id(
         (now (out .exit)) r ⌝ }
 {
     let id = wire::number_at(file, from);
-    if shared_ids::id_named(id, limit, true) {
+    if shared_ids::id_valid(id, limit, true) {
         return b3d_mend_write_edits::put_kept(file, from, 4, report, wet, out, at);
     }
     b3d_mend_write_edits::put_set(file, from, 2, 0xFFFFFFFF, report, wet, out, at)

@@ -11,8 +11,8 @@ ghost use Rattle.b3d_mend_write_scopes.specs.Shown.{brushCount, walkLeaf};
 ghost use Rattle.wire.specs.Bytes.{AllBytes};
 ghost use Rattle.shared_put_or_count.specs.Emits.{Emits, Fits};
 ghost use Rattle.b3d_mend_write_leaves.specs.Answers.{leafCount, Walks};
-use b3d_judge_bodies::Shaped;
-use b3d_judge_materials::Slotted;
+use b3d_judge_bodies::VerticesSummary;
+use b3d_judge_materials::BrushesSummary;
 use b3d_judge_tally::Judged;
 use b3d_mend_write_scopes::Scope;
 use b3d_spec::Mode;
@@ -39,8 +39,8 @@ pub fn brushes_in(file: &[u8], p: usize, body: Cursor) -> usize
     ensures { λ r. ⌜ r ≡ brushCount (readBrushes Lenient every p (left body (now (file .entry)))) ⌝ }
 {
     match b3d_judge_materials::judge_brushes(file, p, body, EVERY, Mode::Lenient) {
-        Slotted::Not(_, _) => 0,
-        Slotted::Is(_, t) => t.brushes,
+        BrushesSummary::Not(_, _) => 0,
+        BrushesSummary::Is(_, t) => t.brushes,
     }
 }
 
@@ -50,8 +50,8 @@ pub fn vertices_in(file: &[u8], p: usize, body: Cursor) -> usize
     ensures { λ r. ⌜ r ≡ verticesOf (readVertices Lenient p (left body (now (file .entry)))) ⌝ }
 {
     match b3d_judge_bodies::judge_vertices(file, p, body, Mode::Lenient) {
-        Shaped::Not(_, _) => 0,
-        Shaped::Is(n, _) => n,
+        VerticesSummary::Not(_, _) => 0,
+        VerticesSummary::Is(n, _) => n,
     }
 }
 

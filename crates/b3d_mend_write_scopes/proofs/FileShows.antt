@@ -12,7 +12,7 @@ use Rattle.wire.specs.Bytes.{bytes, AllBytes}
 use Rattle.wire.proofs.Words.{drop-bytes}
 use Rattle.wire.specs.Test.{if}
 use Rattle.layout.specs.Chunks.{done, stop, chunk}
-use Rattle.layout.specs.Out.{Out, got, bad}
+use Rattle.layout.specs.Result.{Result, accept, reject}
 use Rattle.layout.specs.Parts.{Step, words, wordsOf, row, number}
 use Rattle.layout.specs.Rows.{sizeFits, mostBytes}
 use Rattle.layout.proofs.ChunkLaws.{ended-fine}
@@ -24,7 +24,7 @@ use Rattle.b3d_spec.specs.declared.Tag.the-variants.{BB3D, TEXS, BRUS, NODE}
 use Rattle.b3d_spec.specs.Nesting.{start, next, onward, order, reachedAt}
 use Rattle.b3d_spec.specs.Parse.{readTextures, readBrushes, readRoot}
 use Rattle.b3d_spec.specs.Rules.{levels, header, fileHead}
-use Rattle.b3d_spec.specs.Scene.{Texture, Brush, Forest, leaf, Scene}
+use Rattle.b3d_spec.specs.Scene.{Texture, Brush, Forest, noNodes, Scene}
 use Rattle.b3d_spec.specs.Tags.{is, code, Chunks}
 use Rattle.b3d_spec.proofs.Files.Entries.{Either}
 use Rattle.b3d_spec.proofs.Files.TagCodes.{by-tag}
@@ -114,15 +114,15 @@ module _ (report : Bool) where
   nothing-walk e (stop n p) h = refl
   nothing-walk e (chunk t p b r) h = absurd h
 
-  pub root-walk : (textures brushes : ℕ) (cs : Chunks) (n : Taken Forest) (e : Scope) → RootTags cs → FineC cs → Top textures brushes e → mendOne NODE leaf (mendRoot brushes) cs ≡ got n → walk e cs ≡ shownBodies report cs (n .bodies)
+  pub root-walk : (textures brushes : ℕ) (cs : Chunks) (n : Taken Forest) (e : Scope) → RootTags cs → FineC cs → Top textures brushes e → mendOne NODE noNodes (mendRoot brushes) cs ≡ accept n → walk e cs ≡ shownBodies report cs (n .bodies)
   unfolding mendOne mendRoot found walkChunks if
   root-walk textures brushes done n e g f m q = refl
   root-walk textures brushes (stop i p) n e g f m q = bad-got q
   root-walk textures brushes (chunk t p b r) n e g f m q =
-      let P : Tag → Type 0 = λ u. RootTags (chunk u p b r) → mendOne NODE leaf (mendRoot brushes) (chunk u p b r) ≡ got n → walk e (chunk u p b r) ≡ shownBodies report (chunk u p b r) (n .bodies) in
+      let P : Tag → Type 0 = λ u. RootTags (chunk u p b r) → mendOne NODE noNodes (mendRoot brushes) (chunk u p b r) ≡ accept n → walk e (chunk u p b r) ≡ shownBodies report (chunk u p b r) (n .bodies) in
       let nodes : P NODE = λ g q. by-got (mendRoot brushes p b) _ q (λ x ex q₁. by-got (mendNode levels brushes none p b) _ ex (λ y ey q₂.
       let w : walkChunk report 17 e NODE p b ≡ walked (shown report (p + 8) (y .edits)) 0 =
-      node-walk report 16 e none (m .tells) p b y (f .0) (subst (λ (i : ℕ). mendNode 16 i none p b ≡ got y) (sym (m .brush)) ey) in
+      node-walk report 16 e none (m .tells) p b y (f .0) (subst (λ (i : ℕ). mendNode 16 i none p b ≡ accept y) (sym (m .brush)) ey) in
       let ee : (y .edits) ∷ [] ≡ n .bodies = ap (λ (z : Mended Forest). z .edits ∷ []) (got-inj q₂) ∙ ap (λ (z : Taken Forest). z .bodies) (got-inj q₁) in
       ap (λ (z : Walked). z .bytes ∷ walkChunks (walkChunk report 17) (nextScope e NODE (z .count)) r .bodies) w
       ∙ ap (λ (z : List (List ℕ)). shown report (p + 8) (y .edits) ∷ z) (nothing-walk (nextScope e NODE 0) r g)
@@ -136,19 +136,19 @@ module _ (report : Bool) where
     abbrev ShownBrushes : ℕ → Scope → Chunks → Taken (ℕ × List Brush) → Type 0
     ShownBrushes textures e cs u = GoesRoot textures u → walk e cs ≡ shownBodies report cs (u .bodies ++ ys)
 
-    count-same : (o : Out (ℕ × List Brush)) (q : Out (Mended (ℕ × List Brush))) (x : Mended (ℕ × List Brush)) → Alike (λ (a : ℕ × List Brush) (m : Mended (ℕ × List Brush)). SameBrushes a (m .value)) o q → q ≡ got x → brushCount o ≡ length (x .value .1)
+    count-same : (o : Result (ℕ × List Brush)) (q : Result (Mended (ℕ × List Brush))) (x : Mended (ℕ × List Brush)) → Alike (λ (a : ℕ × List Brush) (m : Mended (ℕ × List Brush)). SameBrushes a (m .value)) o q → q ≡ accept x → brushCount o ≡ length (x .value .1)
     unfolding brushCount
-    count-same (got a) (got y) x h e = h .1 ∙ ap (λ (z : Mended (ℕ × List Brush)). length (z .value .1)) (got-inj e)
-    count-same (got a) (bad n p) x h e = absurd h
-    count-same (bad n p) (got y) x h e = absurd h
-    count-same (bad n p) (bad m q) x h e = bad-got e
+    count-same (accept a) (accept y) x h e = h .1 ∙ ap (λ (z : Mended (ℕ × List Brush)). length (z .value .1)) (got-inj e)
+    count-same (accept a) (reject n p) x h e = absurd h
+    count-same (reject n p) (accept y) x h e = absurd h
+    count-same (reject n p) (reject m q) x h e = bad-got e
 
-    pub brus-walk : (textures : ℕ) (cs : Chunks) (u : Taken (ℕ × List Brush)) (e : Scope) → RestTags cs → FineC cs → Top textures 0 e → mendOne BRUS (0, []) (mendBrushes textures) cs ≡ got u → ShownBrushes textures e cs u
+    pub brus-walk : (textures : ℕ) (cs : Chunks) (u : Taken (ℕ × List Brush)) (e : Scope) → RestTags cs → FineC cs → Top textures 0 e → mendOne BRUS (0, []) (mendBrushes textures) cs ≡ accept u → ShownBrushes textures e cs u
     unfolding mendOne found walkChunks walkChunk walkLeaf nextScope if
     brus-walk textures done u e g f m q = subst (ShownBrushes textures e done) (got-inj q) (λ h. h e m tt)
     brus-walk textures (stop i p) u e g f m q = bad-got q
     brus-walk textures (chunk t p b r) u e g f m q =
-        let P : Tag → Type 0 = λ k. RestTags (chunk k p b r) → mendOne BRUS (0, []) (mendBrushes textures) (chunk k p b r) ≡ got u → ShownBrushes textures e (chunk k p b r) u in
+        let P : Tag → Type 0 = λ k. RestTags (chunk k p b r) → mendOne BRUS (0, []) (mendBrushes textures) (chunk k p b r) ≡ accept u → ShownBrushes textures e (chunk k p b r) u in
         let nodes : P NODE = λ g q. subst (ShownBrushes textures e (chunk NODE p b r)) (got-inj q) (λ h. h e m g) in
         let brushes : P BRUS = λ g q. by-got (mendBrushes textures p b) _ q (λ x ex q₁.
         subst (ShownBrushes textures e (chunk BRUS p b r)) (got-inj q₁) (λ h.
@@ -166,19 +166,19 @@ module _ (report : Bool) where
     abbrev ShownTextures : Scope → Chunks → Taken (List Texture) → Type 0
     ShownTextures e cs t = GoesRest t → walk e cs ≡ shownBodies report cs (t .bodies ++ ys)
 
-    pub texs-walk : (cs : Chunks) (t : Taken (List Texture)) (e : Scope) → FileTags cs → Top 0 0 e → mendOne TEXS [] (asRead readTextures) cs ≡ got t → ShownTextures e cs t
+    pub texs-walk : (cs : Chunks) (t : Taken (List Texture)) (e : Scope) → FileTags cs → Top 0 0 e → mendOne TEXS [] (asRead readTextures) cs ≡ accept t → ShownTextures e cs t
     unfolding mendOne found asRead walkChunks walkChunk walkLeaf nextScope texturesOf if
     texs-walk done t e g m q = subst (ShownTextures e done) (got-inj q) (λ h. h e m tt)
     texs-walk (stop i p) t e g m q = bad-got q
     texs-walk (chunk k p b r) t e g m q =
-        let P : Tag → Type 0 = λ u. FileTags (chunk u p b r) → mendOne TEXS [] (asRead readTextures) (chunk u p b r) ≡ got t → ShownTextures e (chunk u p b r) t in
-        let as-it-is : (u : Tag) → RestTags (chunk u p b r) → _≡_ {A = Out (Taken (List Texture))} (got (record { value = []; bodies = []; rest = chunk u p b r })) (got t) → ShownTextures e (chunk u p b r) t =
+        let P : Tag → Type 0 = λ u. FileTags (chunk u p b r) → mendOne TEXS [] (asRead readTextures) (chunk u p b r) ≡ accept t → ShownTextures e (chunk u p b r) t in
+        let as-it-is : (u : Tag) → RestTags (chunk u p b r) → _≡_ {A = Result (Taken (List Texture))} (accept (record { value = []; bodies = []; rest = chunk u p b r })) (accept t) → ShownTextures e (chunk u p b r) t =
         (λ u g q. subst (ShownTextures e (chunk u p b r)) (got-inj q) (λ h. h e m g)) in
         let textures : P TEXS = λ g q. by-got (asRead readTextures p b) _ q (λ x ex q₁. by-got (readTextures p b) _ ex (λ l el q₂.
         subst (ShownTextures e (chunk TEXS p b r)) (got-inj q₁) (λ h.
         let n = length (x .value) in
         let w : walkChunk report 17 e TEXS p b ≡ walked (shown report (p + 8) (x .edits)) n =
-        ap (λ (o : Out (List Texture)). walked (shown report (p + 8) (keep b ∷ [])) (texturesOf o)) el ∙ ap (λ (z : Mended (List Texture)). walked (shown report (p + 8) (z .edits)) (length (z .value))) (got-inj q₂) in
+        ap (λ (o : Result (List Texture)). walked (shown report (p + 8) (keep b ∷ [])) (texturesOf o)) el ∙ ap (λ (z : Mended (List Texture)). walked (shown report (p + 8) (z .edits)) (length (z .value))) (got-inj q₂) in
         ap (λ (z : Walked). z .bytes ∷ walkChunks (walkChunk report 17) (nextScope e TEXS (z .count)) r .bodies) w
         ∙ ap (λ (z : List (List ℕ)). shown report (p + 8) (x .edits) ∷ z) (h (nextScope e TEXS n) (record { texture = refl; brush = m .brush; tells = m .tells }) g)))) in
         by-tag P (never, textures, as-it-is BRUS, as-it-is NODE, never, never, never, never, never, never) k g q
@@ -207,12 +207,12 @@ top-start = record { texture = refl; brush = refl; tells = (refl, refl) }
 -- a body that was mended: the version, and what the walk over its chunks shows
 pub record BodyShown (p : ℕ) (b : List ℕ) (m : Mended Scene) : Type 0 where
   pub head : Step (List ℕ)
-  pub read : row fileHead p b ≡ got head
+  pub read : row fileHead p b ≡ accept head
   pub rest : List Edit
   pub is : m .edits ≡ keep (bytes (number head 0) []) ∷ rest
   pub shows : (report : Bool) → shown report (head .place) rest ≡ walkInside report (walkChunk report walkLevels) fileScope (head .place) (head .left) .bytes
 
-pub body-walk : (p : ℕ) (b : List ℕ) (m : Mended Scene) → Fine b → mendBody p b ≡ got m → BodyShown p b m
+pub body-walk : (p : ℕ) (b : List ℕ) (m : Mended Scene) → Fine b → mendBody p b ≡ accept m → BodyShown p b m
 unfolding mendBody walkInside
 body-walk p b m f e =
     by-got (row fileHead p b) _ e (λ h eh e₁.
@@ -221,11 +221,11 @@ body-walk p b m f e =
     let fc = within-fine BB3D 0 (h .place) (h .left) fl in
     by-got (mendOne TEXS [] (asRead readTextures) cs) _ e₁ (λ t et e₂.
     by-got (mendOne BRUS (0, []) (mendBrushes (length (t .value))) (t .rest)) _ e₂ (λ u eu e₃.
-    by-got (mendOne NODE leaf (mendRoot (length (u .value .1))) (u .rest)) _ e₃ (λ r er e₄.
+    by-got (mendOne NODE noNodes (mendRoot (length (u .value .1))) (u .rest)) _ e₃ (λ r er e₄.
     let st = one-stage bareTextures TEXS [] readTextures (asRead readTextures) (λ q c x k. textures-mend q c x (k .0)) cs t fc et in
     let su = one-stage bareBrushes BRUS (0, []) (readBrushes Lenient (length (t .value))) (mendBrushes (length (t .value))) (λ q c x k. brushes-mend (length (t .value)) q c x (k .0)) (t .rest) u (st .rest-fine) eu in
-    let sr = one-stage bareForest NODE leaf (readRoot Lenient (length (u .value .1))) (mendRoot (length (u .value .1))) (root-mend (length (u .value .1))) (u .rest) r (su .rest-fine) er in
-    let fin = file-end [] (0, []) leaf (asRead readTextures) (mendBrushes (length (t .value))) (mendRoot (length (u .value .1))) _ t u r et eu er _ m e₄ in
+    let sr = one-stage bareForest NODE noNodes (readRoot Lenient (length (u .value .1))) (mendRoot (length (u .value .1))) (root-mend (length (u .value .1))) (u .rest) r (su .rest-fine) er in
+    let fin = file-end [] (0, []) noNodes (asRead readTextures) (mendBrushes (length (t .value))) (mendRoot (length (u .value .1))) _ t u r et eu er _ m e₄ in
     let fr : Fill (u .rest) (r .bodies) = subst (Fill (u .rest)) (append-nil (r .bodies)) (sr .fill [] (subst (λ (c : Chunks). Fill c []) (sym fin) tt)) in
     let xs = t .bodies ++ (u .bodies ++ r .bodies) in
     let P = pieces (h .place) (h .left) in
@@ -257,7 +257,7 @@ three-long : (a v : ℕ) (e : Edit) → length (was e) ≡ 4 → 0 + length (bef
 unfolding before was
 three-long a v e h = omega (arith, length-append (was e) (bytes v [] ++ []))
 
-fixed-head : (s : List ℕ) → 12 ≤ length s → (h : Step (List ℕ)) → row fileHead 8 (drop 8 s) ≡ got h → (number h 0 ≡ getD (wordsOf 1 (drop 8 s)) 0 0) × (h .place ≡ 12) × (h .left ≡ drop 4 (drop 8 s))
+fixed-head : (s : List ℕ) → 12 ≤ length s → (h : Step (List ℕ)) → row fileHead 8 (drop 8 s) ≡ accept h → (number h 0 ≡ getD (wordsOf 1 (drop 8 s)) 0 0) × (h .place ≡ 12) × (h .left ≡ drop 4 (drop 8 s))
 unfolding row
 fixed-head s n h e =
     by-got (words 8 1 8 (drop 8 s)) _ e (λ y ey e₁.
@@ -275,7 +275,7 @@ unfolding shown
 file-is l = refl
 
 -- for a file that can be mended, what the walk shows is its mended file, and its report
-pub file-walk : (s : List ℕ) (m : Mended Scene) → AllBytes s → mendFile s ≡ got m → (report : Bool) → walkFile report (length (walkBody false s)) s ≡ shown report 0 (m .edits)
+pub file-walk : (s : List ℕ) (m : Mended Scene) → AllBytes s → mendFile s ≡ accept m → (report : Bool) → walkFile report (length (walkBody false s)) s ≡ shown report 0 (m .edits)
 unfolding mendFile walkFile walkBody
 file-walk s m a e report =
     by-check (sizeFits (length s)) 1 0 _ e (λ z e₁.
@@ -286,7 +286,7 @@ file-walk s m a e report =
     let hi = high (length s) z in
     let eh₁ = got-inj (sym eh ∙ row-any 2 0 s (omega arith)) in
     let left₁ : h .left ≡ drop 8 s = ap (λ (y : Step (List ℕ)). y .left) eh₁ in
-    let ex₁ : mendBody 8 (drop 8 s) ≡ got x = ap₂ mendBody (sym (ap (λ (y : Step (List ℕ)). y .place) eh₁)) (sym left₁) ∙ ex in
+    let ex₁ : mendBody 8 (drop 8 s) ≡ accept x = ap₂ mendBody (sym (ap (λ (y : Step (List ℕ)). y .place) eh₁)) (sym left₁) ∙ ex in
     let B = body-walk 8 (drop 8 s) x (drop-bytes 8 s a, omega (arith, length-drop 8 s)) ex₁ in
     let F = fixed-head s lo (B .head) (B .read) in
     let N = file-numbers s lo in

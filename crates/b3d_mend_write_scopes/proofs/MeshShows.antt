@@ -7,7 +7,7 @@ use mathlib.Core.List.{List, [], _∷_, _++_}
 use lib.ListN.{length, drop, length-append, length-drop}
 use Rattle.wire.specs.Test.{if}
 use Rattle.layout.specs.Chunks.{done, stop, chunk}
-use Rattle.layout.specs.Out.{Out, got}
+use Rattle.layout.specs.Result.{Result, accept}
 use Rattle.layout.specs.Parts.{Step, words, wordsOf}
 use Rattle.layout.proofs.StepLaws.{words-enough}
 use Rattle.layout.proofs.Outs.{by-got, bad-got, got-inj}
@@ -74,7 +74,7 @@ unfolding walkChunk walkLeaf
 tris-walk report zero c p b = refl
 tris-walk report (suc lv) c p b = refl
 
-pub sets-walk : (report : Bool) (lv : ℕ) (c : Scope) (cs : Chunks) (l : List TriangleSet × List (List Edit)) → Only TRIS cs → mendSets (c .brushes) (c .own) cs ≡ got l
+pub sets-walk : (report : Bool) (lv : ℕ) (c : Scope) (cs : Chunks) (l : List TriangleSet × List (List Edit)) → Only TRIS cs → mendSets (c .brushes) (c .own) cs ≡ accept l
     → walkChunks (walkChunk report lv) c cs ≡ record { bodies = shownBodies report cs (l .1); own = c .own }
 unfolding walkChunks mendSets nextScope
 sets-walk report lv c done l k e = refl
@@ -104,35 +104,35 @@ module _ (report : Bool) (lv : ℕ) (c : Scope) (none : c .own ≡ 0) where
   abbrev Shows : Chunks → Taken Vertices → List TriangleSet × List (List Edit) → Type 0
   Shows cs v l = walkChunks (walkChunk report lv) c cs ≡ record { bodies = shownBodies report cs (v .bodies ++ l .1); own = length (v .value .items) }
 
-  vrts-shows : (p : ℕ) (b : List ℕ) (r : Chunks) (l : List TriangleSet × List (List Edit)) (u : Vertices) → Only TRIS r → readVertices Lenient p b ≡ got u → mendSets (c .brushes) (length (u .items)) r ≡ got l
+  vrts-shows : (p : ℕ) (b : List ℕ) (r : Chunks) (l : List TriangleSet × List (List Edit)) (u : Vertices) → Only TRIS r → readVertices Lenient p b ≡ accept u → mendSets (c .brushes) (length (u .items)) r ≡ accept l
       → walkChunks (walkChunk report lv) c (chunk VRTS p b r) ≡ record { bodies = shown report (p + 8) (keep b ∷ []) ∷ shownBodies report r (l .1); own = length (u .items) }
   unfolding walkChunks nextScope verticesOf
   vrts-shows p b r l u k eu el =
-      let w : walkChunk report lv c VRTS p b ≡ walked (shown report (p + 8) (keep b ∷ [])) (length (u .items)) = vrts-walk report lv c p b ∙ ap (λ (o : Out Vertices). walked (shown report (p + 8) (keep b ∷ [])) (verticesOf o)) eu in
+      let w : walkChunk report lv c VRTS p b ≡ walked (shown report (p + 8) (keep b ∷ [])) (length (u .items)) = vrts-walk report lv c p b ∙ ap (λ (o : Result Vertices). walked (shown report (p + 8) (keep b ∷ [])) (verticesOf o)) eu in
       let s = sets-walk report lv (withOwn c (length (u .items))) r l k el in
       ap (λ (x : Walked). record { bodies = x .bytes ∷ walkChunks (walkChunk report lv) (withOwn c (x .count)) r .bodies; own = walkChunks (walkChunk report lv) (withOwn c (x .count)) r .own }) w
       ∙ ap (λ (x : Within). record { bodies = shown report (p + 8) (keep b ∷ []) ∷ x .bodies; own = x .own }) s
 
-  pub mesh-inside : (cs : Chunks) (v : Taken Vertices) (l : List TriangleSet × List (List Edit)) → MeshTags cs → mendOne VRTS noVertices (asRead (readVertices Lenient)) cs ≡ got v
-      → mendSets (c .brushes) (length (v .value .items)) (v .rest) ≡ got l → Shows cs v l
+  pub mesh-inside : (cs : Chunks) (v : Taken Vertices) (l : List TriangleSet × List (List Edit)) → MeshTags cs → mendOne VRTS noVertices (asRead (readVertices Lenient)) cs ≡ accept v
+      → mendSets (c .brushes) (length (v .value .items)) (v .rest) ≡ accept l → Shows cs v l
   unfolding mendOne found asRead if walkChunks
   mesh-inside done v l k e el = subst (λ (z : Taken Vertices). Shows done z l) (got-inj e) (ap (λ (n : ℕ). record { bodies = []; own = n }) none)
   mesh-inside (stop n p) v l k e el = bad-got e
   mesh-inside (chunk t p b r) v l k e el = go t (k .0) e
     where
-      go : (u : Tag) → u ≡ VRTS → mendOne VRTS noVertices (asRead (readVertices Lenient)) (chunk u p b r) ≡ got v → Shows (chunk u p b r) v l
-      go u q f = subst (λ (y : Tag). mendOne VRTS noVertices (asRead (readVertices Lenient)) (chunk y p b r) ≡ got v → Shows (chunk y p b r) v l) (sym q)
+      go : (u : Tag) → u ≡ VRTS → mendOne VRTS noVertices (asRead (readVertices Lenient)) (chunk u p b r) ≡ accept v → Shows (chunk u p b r) v l
+      go u q f = subst (λ (y : Tag). mendOne VRTS noVertices (asRead (readVertices Lenient)) (chunk y p b r) ≡ accept v → Shows (chunk y p b r) v l) (sym q)
           (λ f. by-got (asRead (readVertices Lenient) p b) _ f (λ x ex f₁. by-got (readVertices Lenient p b) _ ex (λ w ew f₂.
           let ev : found (λ (z : Vertices). z) x r ≡ v = got-inj f₁ in
           let eb : v .bodies ≡ (keep b ∷ []) ∷ [] = ap (λ (z : Taken Vertices). z .bodies) (sym ev) ∙ ap (λ (z : Mended Vertices). z .edits ∷ []) (sym (got-inj f₂)) in
           let ew₁ : v .value ≡ w = ap (λ (z : Taken Vertices). z .value) (sym ev) ∙ ap (λ (z : Mended Vertices). z .value) (sym (got-inj f₂)) in
           let er : v .rest ≡ r = ap (λ (z : Taken Vertices). z .rest) (sym ev) in
-          let el₁ : mendSets (c .brushes) (length (w .items)) r ≡ got l = ap₂ (λ (z : Vertices) (y : Chunks). mendSets (c .brushes) (length (z .items)) y) (sym ew₁) (sym er) ∙ el in
+          let el₁ : mendSets (c .brushes) (length (w .items)) r ≡ accept l = ap₂ (λ (z : Vertices) (y : Chunks). mendSets (c .brushes) (length (z .items)) y) (sym ew₁) (sym er) ∙ el in
           vrts-shows p b r l w (k .1) ew el₁ ∙ sym (ap₂ (λ (z : List (List Edit)) (y : Vertices). record { bodies = shownBodies report (chunk VRTS p b r) (z ++ l .1); own = length (y .items) }) eb ew₁)))) f
 
 -- ---- a MESH
 
-pub mesh-walk : (report : Bool) (lv : ℕ) (c : Scope) (p : ℕ) (b : List ℕ) (m : Mended Mesh) → Fine b → mendMesh (c .brushes) p b ≡ got m
+pub mesh-walk : (report : Bool) (lv : ℕ) (c : Scope) (p : ℕ) (b : List ℕ) (m : Mended Mesh) → Fine b → mendMesh (c .brushes) p b ≡ accept m
     → walkChunk report (suc lv) c MESH p b ≡ walked (shown report (p + 8) (m .edits)) (length (m .value .vertices))
 unfolding mendMesh mendRow meshOf walkChunk walkInside meshScope
 mesh-walk report lv c p b m f e =

@@ -8,7 +8,7 @@ use native.Mathlib.Omega.{arith}
 use lib.ListN.{length, length-append}
 use Rattle.wire.specs.Test.{if}
 use Rattle.layout.specs.Chunks.{done, stop, chunk}
-use Rattle.layout.specs.Out.{Out, got}
+use Rattle.layout.specs.Result.{Result, accept}
 use Rattle.layout.specs.Parts.{Name, Step, text, words, named}
 use Rattle.layout.specs.Rules.{Rule}
 use Rattle.layout.specs.Write.{writeWords, writeText}
@@ -19,9 +19,9 @@ use Rattle.b3d_spec.specs.declared.Mode.the-variants.{Lenient}
 use Rattle.b3d_spec.specs.declared.Tag.{Tag}
 use Rattle.b3d_spec.specs.declared.Tag.the-variants.{NODE, MESH, BONE, KEYS, ANIM}
 use Rattle.b3d_spec.specs.Nesting.{start, next, onward, order, reachedAt}
-use Rattle.b3d_spec.specs.Parse.{Moves, Inner, readKeys, readAnim, readNode}
-use Rattle.b3d_spec.specs.Rules.{nodeRow, boneVertices, bonesFrom, bonesBelow, animated, ownVertices}
-use Rattle.b3d_spec.specs.Scene.{Kind, pivot, Anim, still, anim, Forest}
+use Rattle.b3d_spec.specs.Parse.{Animation, Inner, readKeys, readAnim, readNode}
+use Rattle.b3d_spec.specs.Rules.{nodeRow, boneLimit, boneLimitFrom, boneLimitBelow, animated, ownVertices}
+use Rattle.b3d_spec.specs.Scene.{Kind, pivot, Anim, noAnim, anim, Forest}
 use Rattle.b3d_spec.specs.Tags.{is, Chunks}
 use Rattle.b3d_spec.proofs.Files.Entries.{Either}
 use Rattle.b3d_spec.proofs.Files.TagCodes.{by-tag}
@@ -97,16 +97,16 @@ pub record Mid (above : Option ℕ) (brushes own : ℕ) (moved : Bool) (e : Scop
   pub inner : e .top ≡ false
   pub brush : e .brushes ≡ brushes
   pub owns : e .own ≡ own
-  pub bones : e .bones ≡ boneVertices above
-  pub told : bonesFrom above moved own ≡ some (e .told)
+  pub bones : e .bones ≡ boneLimit above
+  pub told : boneLimitFrom above moved own ≡ some (e .told)
 
-pub mid-tells : (above : Option ℕ) (brushes own : ℕ) (moved : Bool) (e : Scope) → Mid above brushes own moved e → (o : Option ℕ) → o ≡ bonesFrom above moved own → Tells e o
+pub mid-tells : (above : Option ℕ) (brushes own : ℕ) (moved : Bool) (e : Scope) → Mid above brushes own moved e → (o : Option ℕ) → o ≡ boneLimitFrom above moved own → Tells e o
 mid-tells above brushes own moved e m o q = subst (Tells e) (sym (q ∙ m .told)) (m .inner, refl)
 
 -- ---- nodes to the end
 
-pub nodes-walk : (report : Bool) (lv : ℕ) (e : Scope) (fix : ℕ → List ℕ → Out (Mended Inner)) → ((p : ℕ) (b : List ℕ) (m : Mended Inner) → Fine b → fix p b ≡ got m → walkChunk report lv e NODE p b ≡ walked (shown report (p + 8) (m .edits)) 0)
-    → (cs : Chunks) (f : Forest × List (List Edit)) → Only NODE cs → FineC cs → mendNodes fix cs ≡ got f → walkChunks (walkChunk report lv) e cs .bodies ≡ shownBodies report cs (f .1)
+pub nodes-walk : (report : Bool) (lv : ℕ) (e : Scope) (fix : ℕ → List ℕ → Result (Mended Inner)) → ((p : ℕ) (b : List ℕ) (m : Mended Inner) → Fine b → fix p b ≡ accept m → walkChunk report lv e NODE p b ≡ walked (shown report (p + 8) (m .edits)) 0)
+    → (cs : Chunks) (f : Forest × List (List Edit)) → Only NODE cs → FineC cs → mendNodes fix cs ≡ accept f → walkChunks (walkChunk report lv) e cs .bodies ≡ shownBodies report cs (f .1)
 unfolding walkChunks mendNodes nextScope
 nodes-walk report lv e fix h done f k g q = refl
 nodes-walk report lv e fix h (stop n p) f k g q = bad-got q
@@ -130,7 +130,7 @@ unfolding walkChunk walkLeaf
 anim-walk report zero e p b = refl
 anim-walk report (suc lv) e p b = refl
 
-moved-told : (above : Option ℕ) (own : ℕ) → bonesFrom above true own ≡ some own
+moved-told : (above : Option ℕ) (own : ℕ) → boneLimitFrom above true own ≡ some own
 moved-told none own = refl
 moved-told (some n) own = refl
 
@@ -143,18 +143,18 @@ never h a = absurd h
 
 module _ (report : Bool) (lv : ℕ) (above : Option ℕ) (brushes own : ℕ) (ys : List (List Edit)) where
   -- what is left after those found
-  abbrev Goes : Taken Moves → Type 0
+  abbrev Goes : Taken Animation → Type 0
   Goes x = (e : Scope) → Mid above brushes own (animated (x .value .anim)) e → Only NODE (x .rest) → walkChunks (walkChunk report lv) e (x .rest) .bodies ≡ shownBodies report (x .rest) ys
 
-  abbrev Shown : Scope → Chunks → Taken Moves → Type 0
+  abbrev Shown : Scope → Chunks → Taken Animation → Type 0
   Shown e cs x = Goes x → walkChunks (walkChunk report lv) e cs .bodies ≡ shownBodies report cs (x .bodies ++ ys)
 
-  pub moves-walk : (seen : Anim) (cs : Chunks) (x : Taken Moves) (e : Scope) → Late cs → Mid above brushes own (animated seen) e → mendMoves seen cs ≡ got x → Shown e cs x
+  pub moves-walk : (seen : Anim) (cs : Chunks) (x : Taken Animation) (e : Scope) → Late cs → Mid above brushes own (animated seen) e → mendMoves seen cs ≡ accept x → Shown e cs x
   unfolding mendMoves withKeys withAnim walkChunks nextScope if
   moves-walk seen done x e k m q = subst (Shown e done) (got-inj q) (λ h. h e m tt)
   moves-walk seen (stop n p) x e k m q = bad-got q
   moves-walk seen (chunk t p b r) x e k m q =
-      let P : Tag → Type 0 = λ u. Late (chunk u p b r) → mendMoves seen (chunk u p b r) ≡ got x → Shown e (chunk u p b r) x in
+      let P : Tag → Type 0 = λ u. Late (chunk u p b r) → mendMoves seen (chunk u p b r) ≡ accept x → Shown e (chunk u p b r) x in
       let nodes : P NODE = λ k q. subst (Shown e (chunk NODE p b r)) (got-inj q) (λ h. h e m (refl, k)) in
       let keys : P KEYS = λ k q. by-got (asRead readKeys p b) _ q (λ a ea q₁. by-got (mendMoves seen r) _ q₁ (λ y ey q₂.
       subst (Shown e (chunk KEYS p b r)) (got-inj q₂) (λ h.
@@ -181,7 +181,7 @@ Roots e (some n) = e .root ≡ false
 some-inj : {A : Type 0} {a b : A} → some a ≡ some b → a ≡ b
 some-inj e = cc
 
-mesh-told : (above : Option ℕ) (e : Scope) (n : ℕ) → Roots e above → bonesFrom above false 0 ≡ some (e .told) → bonesFrom above false n ≡ some (if (e .root) n (e .told))
+mesh-told : (above : Option ℕ) (e : Scope) (n : ℕ) → Roots e above → boneLimitFrom above false 0 ≡ some (e .told) → boneLimitFrom above false n ≡ some (if (e .root) n (e .told))
 unfolding if
 mesh-told none e n r t = ap (λ (b : Bool). some (if b n (e .told))) (sym r)
 mesh-told (some j) e n r t = ap some (some-inj t) ∙ ap (λ (b : Bool). some (if b n (e .told))) (sym r)
@@ -197,24 +197,24 @@ module _ (report : Bool) (lv : ℕ) (above : Option ℕ) (brushes : ℕ) (ys : L
   abbrev ShownKind : Scope → Chunks → Taken Kind → Type 0
   ShownKind e cs k = GoesOn k → walkChunks (walkChunk report (suc lv)) e cs .bodies ≡ shownBodies report cs (k .bodies ++ ys)
 
-  pub kind-walk : (cs : Chunks) (k : Taken Kind) (e : Scope) → NodeTags cs → FineC cs → Roots e above → Mid above brushes 0 false e → mendKind brushes (boneVertices above) cs ≡ got k → ShownKind e cs k
+  pub kind-walk : (cs : Chunks) (k : Taken Kind) (e : Scope) → NodeTags cs → FineC cs → Roots e above → Mid above brushes 0 false e → mendKind brushes (boneLimit above) cs ≡ accept k → ShownKind e cs k
   unfolding mendKind found walkChunks nextScope if
   kind-walk done k e g f r m q = subst (ShownKind e done) (got-inj q) (λ h. h e m tt)
   kind-walk (stop n p) k e g f r m q = bad-got q
   kind-walk (chunk t p b s) k e g f r m q =
-      let P : Tag → Type 0 = λ u. NodeTags (chunk u p b s) → mendKind brushes (boneVertices above) (chunk u p b s) ≡ got k → ShownKind e (chunk u p b s) k in
-      let as-it-is : (u : Tag) → Late (chunk u p b s) → _≡_ {A = Out (Taken Kind)} (got (record { value = pivot; bodies = []; rest = chunk u p b s })) (got k) → ShownKind e (chunk u p b s) k =
+      let P : Tag → Type 0 = λ u. NodeTags (chunk u p b s) → mendKind brushes (boneLimit above) (chunk u p b s) ≡ accept k → ShownKind e (chunk u p b s) k in
+      let as-it-is : (u : Tag) → Late (chunk u p b s) → _≡_ {A = Result (Taken Kind)} (accept (record { value = pivot; bodies = []; rest = chunk u p b s })) (accept k) → ShownKind e (chunk u p b s) k =
       (λ u g q. subst (ShownKind e (chunk u p b s)) (got-inj q) (λ h. h e m g)) in
       let meshes : P MESH = λ g q. by-got (mendMesh brushes p b) _ q (λ x ex q₁.
       subst (ShownKind e (chunk MESH p b s)) (got-inj q₁) (λ h.
-      let w = mesh-walk report lv e p b x (f .0) (subst (λ (i : ℕ). mendMesh i p b ≡ got x) (sym (m .brush)) ex) in
+      let w = mesh-walk report lv e p b x (f .0) (subst (λ (i : ℕ). mendMesh i p b ≡ accept x) (sym (m .brush)) ex) in
       let n = length (x .value .vertices) in
       ap (λ (z : Walked). z .bytes ∷ walkChunks (walkChunk report (suc lv)) (nextScope e MESH (z .count)) s .bodies) w
       ∙ ap (λ (z : List (List ℕ)). shown report (p + 8) (x .edits) ∷ z) (h (nextScope e MESH n) (mid-mesh above brushes e n r m) g))) in
-      let bones : P BONE = λ g q. by-got (mendBone (boneVertices above) p b) _ q (λ x ex q₁.
+      let bones : P BONE = λ g q. by-got (mendBone (boneLimit above) p b) _ q (λ x ex q₁.
       subst (ShownKind e (chunk BONE p b s)) (got-inj q₁) (λ h.
       let w : walkChunk report (suc lv) e BONE p b ≡ walked (shown report (p + 8) (x .edits)) 0 =
-      bone-walk report (suc lv) e p b ∙ ap (λ (i : ℕ). walked (shown report (p + 8) (boneEdits i b)) 0) (m .bones) ∙ ap (λ (z : List Edit). walked (shown report (p + 8) z) 0) (sym (bone-edits (boneVertices above) p b x ex)) in
+      bone-walk report (suc lv) e p b ∙ ap (λ (i : ℕ). walked (shown report (p + 8) (boneEdits i b)) 0) (m .bones) ∙ ap (λ (z : List Edit). walked (shown report (p + 8) z) 0) (sym (bone-edits (boneLimit above) p b x ex)) in
       ap (λ (z : Walked). z .bytes ∷ walkChunks (walkChunk report (suc lv)) (nextScope e BONE (z .count)) s .bodies) w
       ∙ ap (λ (z : List (List ℕ)). shown report (p + 8) (x .edits) ∷ z) (h (nextScope e BONE 0) (same-bone m) g))) in
       by-tag P (never, never, never, as-it-is NODE, meshes, never, never, bones, as-it-is KEYS, as-it-is ANIM) t g q
@@ -224,7 +224,7 @@ module _ (report : Bool) (lv : ℕ) (above : Option ℕ) (brushes : ℕ) (ys : L
 
 -- ---- where a text and words end
 
-text-place : (start p : ℕ) (s : List ℕ) (x : Step (List ℕ)) → text start p s ≡ got x → x .place + length (x .left) ≡ p + length s
+text-place : (start p : ℕ) (s : List ℕ) (x : Step (List ℕ)) → text start p s ≡ accept x → x .place + length (x .left) ≡ p + length s
 unfolding text
 text-place start p [] x e = bad-got e
 text-place start p (zero ∷ s) x e = let q = ap (λ (y : Step (List ℕ)). y .place + length (y .left)) (got-inj e) in omega arith
@@ -233,7 +233,7 @@ text-place start p (suc c ∷ s) x e =
     let k = text-place start (p + 1) s y ey in
     omega arith)
 
-words-place : (start n p : ℕ) (s : List ℕ) (x : Step (List ℕ)) → words start n p s ≡ got x → x .place + length (x .left) ≡ p + length s
+words-place : (start n p : ℕ) (s : List ℕ) (x : Step (List ℕ)) → words start n p s ≡ accept x → x .place + length (x .left) ≡ p + length s
 unfolding words
 words-place start zero p s x e = let q = ap (λ (y : Step (List ℕ)). y .place + length (y .left)) (got-inj e) in omega arith
 words-place start (suc n) p [] x e = bad-got e
@@ -245,7 +245,7 @@ words-place start (suc n) p (a ∷ b ∷ c ∷ d ∷ s) x e =
     let k = words-place start n (p + 4) s y ey in
     omega arith)
 
-named-place : (rs : List Rule) (p : ℕ) (s : List ℕ) (x : Step (Name × List ℕ)) → named rs p s ≡ got x → x .place + length (x .left) ≡ p + length s
+named-place : (rs : List Rule) (p : ℕ) (s : List ℕ) (x : Step (Name × List ℕ)) → named rs p s ≡ accept x → x .place + length (x .left) ≡ p + length s
 unfolding named
 named-place rs p s x e =
     by-got (text p p s) _ e (λ n en e₁.
@@ -257,11 +257,11 @@ named-place rs p s x e =
 
 -- ---- a NODE
 
-tells-bones : (c : Scope) (above : Option ℕ) → Tells c above → c .told ≡ boneVertices above
+tells-bones : (c : Scope) (above : Option ℕ) → Tells c above → c .told ≡ boneLimit above
 tells-bones c none t = t .1
 tells-bones c (some n) t = t .1
 
-tells-told : (c : Scope) (above : Option ℕ) → Tells c above → bonesFrom above false 0 ≡ some (c .told)
+tells-told : (c : Scope) (above : Option ℕ) → Tells c above → boneLimitFrom above false 0 ≡ some (c .told)
 tells-told c none t = ap some (sym (t .1))
 tells-told c (some n) t = ap some (sym (t .1))
 
@@ -275,7 +275,7 @@ unfolding nodeScope
 mid-start c above t = record { inner = refl; brush = refl; owns = refl; bones = tells-bones c above t; told = tells-told c above t }
 
 abbrev NodeIs : Bool → ℕ → Type 0
-NodeIs report l = (c : Scope) (above : Option ℕ) → Tells c above → (p : ℕ) (b : List ℕ) (m : Mended Inner) → Fine b → mendNode l (c .brushes) above p b ≡ got m
+NodeIs report l = (c : Scope) (above : Option ℕ) → Tells c above → (p : ℕ) (b : List ℕ) (m : Mended Inner) → Fine b → mendNode l (c .brushes) above p b ≡ accept m
     → walkChunk report (suc l) c NODE p b ≡ walked (shown report (p + 8) (m .edits)) 0
 
 node-step : (report : Bool) (l : ℕ) → NodeIs report l → NodeIs report (suc l)
@@ -289,22 +289,22 @@ node-step report l below c above t p b m f e =
     let given₀ : X ++ h .left ≡ b = sym (named-joins nm ws (h .left)) ∙ named-exact nodeRow (p + 8) b h (f .0) eh in
     let fl = left-fine X (h .left) b given₀ (named-fine nodeRow (p + 8) b h (f .0) eh .bytes) (f .1) in
     let cs = within NODE p (h .place) (h .left) in
-    by-got (mendKind brushes (boneVertices above) cs) _ e₁ (λ k ek e₂.
-    by-got (mendMoves still (k .rest)) _ e₂ (λ v ev e₃.
-    let told = bonesBelow above (dataOf (h .value) (k .value) (v .value)) in
+    by-got (mendKind brushes (boneLimit above) cs) _ e₁ (λ k ek e₂.
+    by-got (mendMoves noAnim (k .rest)) _ e₂ (λ v ev e₃.
+    let told = boneLimitBelow above (dataOf (h .value) (k .value) (v .value)) in
     by-got (mendNodes (mendNode l brushes told) (v .rest)) _ e₃ (λ n en e₄.
     let fc = within-fine NODE p (h .place) (h .left) fl in
-    let sk = kind-stage brushes (boneVertices above) cs k fc ek in
-    let sm = moves-stage still (k .rest) v (sk .rest-fine) ev in
+    let sk = kind-stage brushes (boneLimit above) cs k fc ek in
+    let sm = moves-stage noAnim (k .rest) v (sk .rest-fine) ev in
     let sn = nodes-stage (readNode Lenient l brushes told) (mendNode l brushes told) (node-mend l brushes told) (v .rest) n (sm .rest-fine) en in
     let xs = k .bodies ++ (v .bodies ++ n .1) in
     let P = pieces (h .place) (h .left) in
     let kept = order-kept NODE p start (chunksOf P) xs (sk .fill (v .bodies ++ n .1) (sm .fill (n .1) (sn .fill))) in
     let in-scope : walkChunks (walkChunk report (suc l)) (nodeScope c) cs .bodies ≡ shownBodies report cs xs =
     kind-walk report l above brushes (v .bodies ++ n .1) cs k (nodeScope c) (node-tags p (chunksOf P)) fc (tells-root c above t) (mid-start c above t) ek
-    (λ e′ mid late. moves-walk report (suc l) above brushes (ownVertices (k .value)) (n .1) still (k .rest) v e′ late mid ev
+    (λ e′ mid late. moves-walk report (suc l) above brushes (ownVertices (k .value)) (n .1) noAnim (k .rest) v e′ late mid ev
     (λ e″ mid′ only. nodes-walk report (suc l) e″ (mendNode l brushes told)
-    (λ q d x g ex. below e″ told (mid-tells above brushes (ownVertices (k .value)) (animated (v .value .anim)) e″ mid′ told refl) q d x g (subst (λ (i : ℕ). mendNode l i told q d ≡ got x) (sym (mid′ .brush)) ex))
+    (λ q d x g ex. below e″ told (mid-tells above brushes (ownVertices (k .value)) (animated (v .value .anim)) e″ mid′ told refl) q d x g (subst (λ (i : ℕ). mendNode l i told q d ≡ accept x) (sym (mid′ .brush)) ex))
     (v .rest) n only (sm .rest-fine) en)) in
     let walk : walkChunks (walkChunk report (suc l)) (nodeScope c) (chunksOf P) .bodies ≡ shownBodies report (chunksOf P) xs =
     subst (λ (z : Chunks). walkChunks (walkChunk report (suc l)) (nodeScope c) z .bodies ≡ shownBodies report z xs) (kept .same) in-scope in
@@ -312,7 +312,7 @@ node-step report l below c above t p b m f e =
     let all : shown report (p + 8) (keep X ∷ woven P xs) ≡ shown report (p + 8) (keep X ∷ []) ++ shownPieces report P (walkChunks (walkChunk report (suc l)) (nodeScope c) (chunksOf P) .bodies) =
     shown-cons report (p + 8) (keep X) (woven P xs) .is ∙ ap (λ (i : ℕ). shown report (p + 8) (keep X ∷ []) ++ shown report i (woven P xs)) at
     ∙ ap (λ (z : List ℕ). shown report (p + 8) (keep X ∷ []) ++ z) (woven-shown report P (h .place) xs (pieces-placed (h .place) (h .left)) (kept .fill) ∙ ap (shownPieces report P) (sym walk)) in
-    ap (λ (o : Out (Step (Name × List ℕ))). walked (walkNode report (walkChunk report (suc l)) c (p + 8) b o) 0) eh
+    ap (λ (o : Result (Step (Name × List ℕ))). walked (walkNode report (walkChunk report (suc l)) c (p + 8) b o) 0) eh
     ∙ ap (λ (z : List ℕ). walked z 0) (sym all)
     ∙ ap (λ (z : Mended Inner). walked (shown report (p + 8) (z .edits)) 0) (got-inj e₄)))))
 

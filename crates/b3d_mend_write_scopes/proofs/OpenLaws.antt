@@ -16,7 +16,7 @@ use Rattle.wire.specs.declared.Number.{Number}
 use Rattle.wire.specs.declared.Number.the-variants as number
 use Rattle.wire.proofs.Left.{span, left-length, left-four, left-drop, left-bytes}
 use Rattle.wire.proofs.Found.{numbered, number-cut, Texted, texted}
-use Rattle.layout.specs.Out.{Out, got, bad}
+use Rattle.layout.specs.Result.{Result, accept, reject}
 use Rattle.layout.specs.Parts.{Name, Step, wordsOf, named}
 use Rattle.layout.specs.Rules.{any, namesOrNone}
 use Rattle.layout.specs.Write.{writeWords, writeText}
@@ -47,10 +47,10 @@ use Rattle.b3d_mend_write_scopes.specs.declared.Opening.the-variants as 
 
 -- ---- chunks that hold no chunks
 
-abbrev leaf : Tag → Bool
-leaf t = not (is t NODE) && not (is t MESH)
+abbrev noNodes : Tag → Bool
+noNodes t = not (is t NODE) && not (is t MESH)
 
-flat : (report : Bool) (l : ℕ) (k : Scope) (t : Tag) → T (leaf t) → (p : ℕ) (b : List ℕ) → walkChunk report l k t p b ≡ walkLeaf report k t p b
+flat : (report : Bool) (l : ℕ) (k : Scope) (t : Tag) → T (noNodes t) → (p : ℕ) (b : List ℕ) → walkChunk report l k t p b ≡ walkLeaf report k t p b
 unfolding walkChunk
 flat report zero k t h p b = refl
 flat report (suc l) k BB3D h p b = refl
@@ -66,7 +66,7 @@ flat report (suc l) k ANIM h p b = refl
 
 -- those numbered ks hold no chunks
 pub leaves : List ℕ → Bool
-leaves ks = ten (λ t. not (hasKey ks (tagOf the-type t)) || leaf t)
+leaves ks = ten (λ t. not (hasKey ks (tagOf the-type t)) || noNodes t)
 
 pub eight : T (leaves (0 ∷ 1 ∷ 2 ∷ 5 ∷ 6 ∷ 7 ∷ 8 ∷ 9 ∷ []))
 unfolding leaves
@@ -79,7 +79,7 @@ module _ (s : List ℕ) (l : ℕ) (t : Tag) (b : Cursor) where
 
   pub open-leaf : (ks : List ℕ) → OneOf ks (tagOf the-type t) → T (leaves ks) → Opens s l t b opening.Flat
   unfolding leaves
-  open-leaf ks o h = record { is = (λ report k p e. flat report l k t (one-of leaf ks h t o) p (left b s)) }
+  open-leaf ks o h = record { is = (λ report k p e. flat report l k t (one-of noNodes ks h t o) p (left b s)) }
 
 pos : (m : ℕ) → (m ≡ 0 → ⊥) → 0 < m
 pos zero u = absurd (u refl)
@@ -101,18 +101,18 @@ row-stands s c words len w n h i t f =
     ∙ ap₂ take q (append-assoc name (0 ∷ []) (left w s) ∙ sym (t .is))
     ∙ left-first s c (n .at - c .at) i (omega (arith, f .row, f .after, f .to, f .same))
 
-node-cut : (report : Bool) (k : Scope) (p n q : ℕ) (b : List ℕ) → named nodeRow (p + 8) b ≡ bad n q → (l : ℕ) → walkChunk report l k NODE p b ≡ walkLeaf report k NODE p b
+node-cut : (report : Bool) (k : Scope) (p n q : ℕ) (b : List ℕ) → named nodeRow (p + 8) b ≡ reject n q → (l : ℕ) → walkChunk report l k NODE p b ≡ walkLeaf report k NODE p b
 unfolding walkChunk walkLeaf walkNode
 node-cut report k p n q b e zero = refl
-node-cut report k p n q b e (suc l) = ap (λ (o : Out (Step (Name × List ℕ))). walked (walkNode report (walkChunk report l) k (p + 8) b o) 0) e
+node-cut report k p n q b e (suc l) = ap (λ (o : Result (Step (Name × List ℕ))). walked (walkNode report (walkChunk report l) k (p + 8) b o) 0) e
 
-node-got : (report : Bool) (k : Scope) (p : ℕ) (b : List ℕ) (h : Step (Name × List ℕ)) → named nodeRow (p + 8) b ≡ got h → (l : ℕ) → (l ≡ 0 → ⊥)
+node-got : (report : Bool) (k : Scope) (p : ℕ) (b : List ℕ) (h : Step (Name × List ℕ)) → named nodeRow (p + 8) b ≡ accept h → (l : ℕ) → (l ≡ 0 → ⊥)
     → walkChunk report l k NODE p b
     ≡ walked (shown report (p + 8) (keep (writeText (h .value .0 .bytes) (writeWords (h .value .1) [])) ∷ []) ++ walkInside report (walkChunk report (l - 1)) (nodeScope k) (h .place) (h .left) .bytes) 0
 unfolding walkChunk walkNode
 node-got report k p b h e zero d = absurd (d refl)
 node-got report k p b h e (suc l) d =
-    ap (λ (o : Out (Step (Name × List ℕ))). walked (walkNode report (walkChunk report l) k (p + 8) b o) 0) e
+    ap (λ (o : Result (Step (Name × List ℕ))). walked (walkNode report (walkChunk report l) k (p + 8) b o) 0) e
     ∙ ap (λ (n : ℕ). walked (shown report (p + 8) (keep (writeText (h .value .0 .bytes) (writeWords (h .value .1) [])) ∷ []) ++ walkInside report (walkChunk report n) (nodeScope k) (h .place) (h .left) .bytes) 0)
     (let z : l ≡ suc l - 1 = omega arith in z)
 
@@ -121,7 +121,7 @@ module _ (s : List ℕ) (l : ℕ) (t : Tag) (b : Cursor) (e : t ≡ NODE) (i : I
   open-cut w = record {
     is = (λ report k p h.
         ap (λ (u : Tag). walkChunk report l k u p (left b s)) e
-        ∙ node-cut report k p 5 (p + 8) (left b s) (subst (λ (n : ℕ). named nodeRow n (left b s) ≡ bad 5 n) h (named-cut s b 10 i nodeRow (length-replicate 10 any) r q w)) l
+        ∙ node-cut report k p 5 (p + 8) (left b s) (subst (λ (n : ℕ). named nodeRow n (left b s) ≡ reject 5 n) h (named-cut s b 10 i nodeRow (length-replicate 10 any) r q w)) l
         ∙ sym (ap (λ (u : Tag). walkLeaf report k u p (left b s)) e));
   }
 
@@ -144,7 +144,7 @@ module _ (s : List ℕ) (l : ℕ) (t : Tag) (b : Cursor) (e : t ≡ NODE) (i : I
             room = omega (arith, f .row, f .after, f .to, f .same, i .within);
             always = (λ report k p z.
                 ap (λ (u : Tag). walkChunk report l k u p (left b s)) e
-                ∙ node-got report k p (left b s) found (subst (λ (m : ℕ). named nodeRow m (left b s) ≡ got found) z (named-any s b 10 i r q len w n x)) l d
+                ∙ node-got report k p (left b s) found (subst (λ (m : ℕ). named nodeRow m (left b s) ≡ accept found) z (named-any s b 10 i r q len w n x)) l d
                 ∙ ap₂ (λ (m : ℕ) (y : List ℕ). walked (shown report m (keep y ∷ []) ++ walkInside report (walkChunk report (l - 1)) (nodeScope k) (n .at) (left n s) .bytes) 0) (sym z) stands);
           };
         }

@@ -7,7 +7,7 @@ use lib.ListN.{length, drop, getD}
 use Rattle.wire.specs.Bytes.{bytes}
 use Rattle.wire.specs.Test.{if}
 use Rattle.layout.specs.Chunks.{done, stop, chunk}
-use Rattle.layout.specs.Out.{Out, got, bad}
+use Rattle.layout.specs.Result.{Result, accept, reject}
 use Rattle.layout.specs.Parts.{Name, Step, wordsOf, named}
 use Rattle.layout.specs.Write.{writeWords, writeText}
 use Rattle.b3d_spec.specs.declared.Mode.the-variants.{Lenient}
@@ -91,9 +91,9 @@ walkInside report one c p s = let x = walkChunks one c (chunksOf (pieces p s)) i
 
 -- ---- chunks by their tags
 
-unfoldable pub brushCount : Out (ℕ × List Brush) → ℕ
-brushCount (got x) = length (x .1)
-brushCount (bad n p) = 0
+unfoldable pub brushCount : Result (ℕ × List Brush) → ℕ
+brushCount (accept x) = length (x .1)
+brushCount (reject n p) = 0
 
 -- a chunk that holds no chunks, with its header at p
 unfoldable pub walkLeaf : Bool → Scope → Tag → ℕ → List ℕ → Walked
@@ -109,11 +109,11 @@ walkLeaf report c KEYS p b = walked (shown report (p + 8) (keep b ∷ [])) 0
 walkLeaf report c ANIM p b = walked (shown report (p + 8) (keep b ∷ [])) 0
 
 -- a NODE by its text and words, then the chunks inside
-unfoldable pub walkNode : Bool → (Scope → Tag → ℕ → List ℕ → Walked) → Scope → ℕ → List ℕ → Out (Step (Name × List ℕ)) → List ℕ
-walkNode report one c p b (got h) =
+unfoldable pub walkNode : Bool → (Scope → Tag → ℕ → List ℕ → Walked) → Scope → ℕ → List ℕ → Result (Step (Name × List ℕ)) → List ℕ
+walkNode report one c p b (accept h) =
     shown report p (keep (writeText (h .value .0 .bytes) (writeWords (h .value .1) [])) ∷ [])
     ++ walkInside report one (nodeScope c) (h .place) (h .left) .bytes
-walkNode report one c p b (bad n q) = shown report p (keep b ∷ [])
+walkNode report one c p b (reject n q) = shown report p (keep b ∷ [])
 
 -- a chunk with its header at p, with the levels of chunks that are left
 unfoldable pub walkChunk : Bool → ℕ → Scope → Tag → ℕ → List ℕ → Walked

@@ -8,7 +8,7 @@ use lib.ListN.{replicate}
 use lib.Dec.{leb}
 use borrow.Author.Tests.{le-leb, lt-leb, le-ltb, eq-eqb, ne-eqb}
 use Rattle.wire.specs.Test.{if}
-use Rattle.layout.specs.Out.{Out, got, bad, check, _>>=_}
+use Rattle.layout.specs.Result.{Result, accept, reject, check, _>>=_}
 use Rattle.layout.specs.Rows.{sizeFits}
 use Rattle.b3d_spec.specs.declared.Answer.{Answer}
 use Rattle.b3d_judge_tally.specs.declared.Tally.{Tally}
@@ -32,13 +32,13 @@ use Rattle.b3d_pieces_answers.specs.Closes.{closingOf, rowsIn, asWord, a
 -- ---- tables
 
 module _ (g : Totals) (k : ℕ) (e : k ≡ overLimit (tallied (rowsIn g) 0)) where
-  pub limited-yes : k ≡ 0 → limited g ≡ got g
+  pub limited-yes : k ≡ 0 → limited g ≡ accept g
   unfolding limited
-  limited-yes z = ap (λ (x : Out (Unit {0})). x >>= λ _. got g) (over-none (rowsIn g) 0 k e z)
+  limited-yes z = ap (λ (x : Result (Unit {0})). x >>= λ _. accept g) (over-none (rowsIn g) 0 k e z)
 
-  pub limited-no : (k ≡ 0 → ⊥) → limited g ≡ bad 10 k
+  pub limited-no : (k ≡ 0 → ⊥) → limited g ≡ reject 10 k
   unfolding limited
-  limited-no z = ap (λ (x : Out (Unit {0})). x >>= λ _. got g) (over-some (rowsIn g) 0 k e z)
+  limited-no z = ap (λ (x : Result (Unit {0})). x >>= λ _. accept g) (over-some (rowsIn g) 0 k e z)
 
 -- ---- the machine's end
 
@@ -65,17 +65,17 @@ pub ruleset end-laws = (end-live, end-push, end-pop, end-fault, end-over)
 
 -- ---- the whole
 
-bad-size : (h : Held) → sizeFits (h .size) ≡ false → closing h ≡ bad 1 0
+bad-size : (h : Held) → sizeFits (h .size) ≡ false → closing h ≡ reject 1 0
 unfolding closing check
 bad-size h e = rw e
 
-out-of : (o : Out Totals) (r : Closing) → r ≡ closingOf o → (n p : ℕ) → r ≡ Bad n p → o ≡ bad n p
-out-of (got g) r e n p q = let z : _≡_ {A = ℕ} 0 1 = cc in absurd (omega arith)
-out-of (bad m k) r e n p q = let a : m ≡ n = cc in let b : k ≡ p = cc in rw (a, b)
+out-of : (o : Result Totals) (r : Closing) → r ≡ closingOf o → (n p : ℕ) → r ≡ Bad n p → o ≡ reject n p
+out-of (accept g) r e n p q = let z : _≡_ {A = ℕ} 0 1 = cc in absurd (omega arith)
+out-of (reject m k) r e n p q = let a : m ≡ n = cc in let b : k ≡ p = cc in rw (a, b)
 
-out-good : (o : Out Totals) (r : Closing) → r ≡ closingOf o → (g : Totals) → r ≡ Good g → o ≡ got g
-out-good (got x) r e g q = let a : x ≡ g = cc in rw a
-out-good (bad m k) r e g q = let z : _≡_ {A = ℕ} 0 1 = cc in absurd (omega arith)
+out-good : (o : Result Totals) (r : Closing) → r ≡ closingOf o → (g : Totals) → r ≡ Good g → o ≡ accept g
+out-good (accept x) r e g q = let a : x ≡ g = cc in rw a
+out-good (reject m k) r e g q = let z : _≡_ {A = ℕ} 0 1 = cc in absurd (omega arith)
 
 module _ (j : Judge) (r : Closing) where
   pub close-small : j .size < 12 → r ≡ Bad 1 0 → Closes j r
@@ -92,7 +92,7 @@ module _ (j : Judge) (r : Closing) where
       unfolding closing heldOf check
       closing-is rs = rw (le-leb 12 (j .size) l, le-leb (j .size) 16777216 m, le-ltb (j .size) 8 (omega arith))
 
-      tag-no : (j .letters ≡ 0x44334242 → ⊥) → (rs : ℕ → Open) → closing (heldOf j rs) ≡ bad 2 0
+      tag-no : (j .letters ≡ 0x44334242 → ⊥) → (rs : ℕ → Open) → closing (heldOf j rs) ≡ reject 2 0
       unfolding wholeEnded check
       tag-no h rs = closing-is rs ∙ rw (ne-eqb (j .letters) 0x44334242 h)
 
@@ -100,7 +100,7 @@ module _ (j : Judge) (r : Closing) where
       close-tag h q = record { is = λ c rs. q ∙ ap closingOf (sym (tag-no h rs)) }
 
       module _ (t : j .letters ≡ 0x44334242) where
-        length-no : (j .length ≡ j .size - 8 → ⊥) → (rs : ℕ → Open) → closing (heldOf j rs) ≡ bad 2 4
+        length-no : (j .length ≡ j .size - 8 → ⊥) → (rs : ℕ → Open) → closing (heldOf j rs) ≡ reject 2 4
         unfolding wholeEnded check
         length-no h rs = closing-is rs ∙ rw (eq-eqb (j .letters) 0x44334242 t, ne-eqb (j .length) (j .size - 8) h)
 
@@ -113,11 +113,11 @@ module _ (j : Judge) (r : Closing) where
           inner-is rs = closing-is rs ∙ rw (eq-eqb (j .letters) 0x44334242 t, eq-eqb (j .length) (j .size - 8) u)
 
           pub close-fault : (n p : ℕ) → x ≡ Bad n p → r ≡ Bad n p → Closes j r
-          close-fault n p e q = record { is = λ c rs. q ∙ ap closingOf (sym (inner-is rs ∙ ap (λ (o : Out Totals). o >>= limited) (out-of (ended (stateWith (stackBy rs (j .depth)) (j .now))) x (ex .is c (stackBy rs (j .depth))) n p e))) }
+          close-fault n p e q = record { is = λ c rs. q ∙ ap closingOf (sym (inner-is rs ∙ ap (λ (o : Result Totals). o >>= limited) (out-of (ended (stateWith (stackBy rs (j .depth)) (j .now))) x (ex .is c (stackBy rs (j .depth))) n p e))) }
 
           module _ (g : Totals) (e : x ≡ Good g) (c : Tally) (ec : c ≡ tallied (rowsIn g) 0) (k : ℕ) (ek : k ≡ overLimit c) where
             got-is : pends (j .now) ≡ false → (rs : ℕ → Open) → closing (heldOf j rs) ≡ limited g
-            got-is c rs = inner-is rs ∙ ap (λ (o : Out Totals). o >>= limited) (out-good (ended (stateWith (stackBy rs (j .depth)) (j .now))) x (ex .is c (stackBy rs (j .depth))) g e)
+            got-is c rs = inner-is rs ∙ ap (λ (o : Result Totals). o >>= limited) (out-good (ended (stateWith (stackBy rs (j .depth)) (j .now))) x (ex .is c (stackBy rs (j .depth))) g e)
 
             pub close-good : k ≡ 0 → r ≡ Good g → Closes j r
             close-good z q = record { is = λ c rs. q ∙ ap closingOf (sym (got-is c rs ∙ limited-yes g k (ek ∙ ap overLimit ec) z)) }

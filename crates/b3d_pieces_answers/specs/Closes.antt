@@ -6,7 +6,7 @@ use mathlib.Core.List.{List, map}
 use lib.ListN.{replicate, getD}
 use lib.Dec.{leb}
 use Rattle.wire.specs.Test.{if}
-use Rattle.layout.specs.Out.{Out, got, bad}
+use Rattle.layout.specs.Result.{Result, accept, reject}
 use Rattle.b3d_pieces_spec.specs.declared.Totals.{Totals}
 use Rattle.b3d_pieces_spec.specs.declared.Open.{Open}
 use Rattle.b3d_spec.specs.declared.Answer.{Answer}
@@ -20,9 +20,9 @@ use Rattle.b3d_pieces_answers.specs.declared.Closing.{Closing}
 use Rattle.b3d_pieces_answers.specs.declared.Closing.the-variants.{Good, Bad}
 
 -- a result of the definitions as code holds it
-abbrev pub closingOf : Out Totals → Closing
-closingOf (got g) = Good g
-closingOf (bad n p) = Bad n p
+abbrev pub closingOf : Result Totals → Closing
+closingOf (accept g) = Good g
+closingOf (reject n p) = Bad n p
 
 -- how many rows of table k were counted
 abbrev pub rowsIn : Totals → ℕ → ℕ

@@ -12,7 +12,7 @@ use Rattle.layout.proofs.Outs.{if-yes}
 use Rattle.b3d_spec.specs.declared.Tag.{Tag}
 use Rattle.b3d_spec.specs.declared.Tag.the-variants.{BB3D, TEXS, BRUS, NODE, MESH}
 use Rattle.b3d_spec.specs.Tags.{is}
-use Rattle.b3d_spec.specs.Nesting.{owed, nesting, end}
+use Rattle.b3d_spec.specs.Nesting.{requiredBetween, nesting, end}
 use Rattle.b3d_pieces_spec.specs.declared.Totals.{Totals}
 use Rattle.b3d_pieces_spec.specs.declared.Open.{Open}
 use Rattle.b3d_pieces_spec.specs.declared.Part.the-variants.{Text, Row}
@@ -65,7 +65,7 @@ module _ (at : ℕ) (g : Totals) (f : Open) (r : Now) where
 
 pub ruleset begin-laws = (ready-words, begin-text, begin-cut-3, begin-cut-5, begin-row)
 
-edge-owes : (at : ℕ) (g : Totals) (f : Open) (R : List Open) → at ≡ f .end → owed (nesting (f .tag)) (f .turn) end ≡ true → edge at g (f ∷ R) ≡ fault 8 (f .head)
+edge-owes : (at : ℕ) (g : Totals) (f : Open) (R : List Open) → at ≡ f .end → requiredBetween (nesting (f .tag)) (f .turn) end ≡ true → edge at g (f ∷ R) ≡ fault 8 (f .head)
 unfolding edge if
 edge-owes at g f R h o = rw o (if-yes (eqb at (f .end)) _ _ (eqb-yes at (f .end) h))
 
@@ -74,7 +74,7 @@ module _ (at : ℕ) (g : Totals) (f : Open) (r : Now) where
   unfolding edgeHere
   edge-stays h q = gives-on 0 at g f r (begin at g f) (edgeHere at g f) (λ R. sym (edge-on at g f R h)) q
 
-  module _ (h : at ≡ f .end) (b : Bool) (eb : b ≡ owed (nesting (f .tag)) (f .turn) end) where
+  module _ (h : at ≡ f .end) (b : Bool) (eb : b ≡ requiredBetween (nesting (f .tag)) (f .turn) end) where
     pub edge-lacks : b ≡ true → r ≡ Fault 8 (f .head) → Gives 0 at g f r (edgeHere at g f)
     unfolding edgeHere
     edge-lacks o q = gives 0 at g f r (Fault 8 (f .head)) (edgeHere at g f) q tt (λ R. sym (edge-owes at g f R h (sym eb ∙ o))) (λ R d l. tt)

@@ -8,10 +8,10 @@ use Rattle.b3d_pieces_spec.specs.declared.Open.{Open}
 use Rattle.b3d_pieces_spec.specs.Machine.{State}
 use Rattle.b3d_pieces_spec.specs.Good.{Deep, sum, load}
 use Rattle.b3d_pieces_item_steps.specs.declared.Now.{Now}
-use Rattle.b3d_pieces_item_steps.specs.Nows.{stateWith, GoodNow, Calm, Gives}
+use Rattle.b3d_pieces_item_steps.specs.Nows.{stateWith, GoodNow, NothingToEnter, Gives}
 
 -- a value that is made
-pub gives : (s n : ℕ) (g : Totals) (f : Open) (r x : Now) (k : List Open → State) → r ≡ x → Calm x → ((R : List Open) → stateWith R x ≡ k R)
+pub gives : (s n : ℕ) (g : Totals) (f : Open) (r x : Now) (k : List Open → State) → r ≡ x → NothingToEnter x → ((R : List Open) → stateWith R x ≡ k R)
     → ((R : List Open) → Deep (f ∷ R) → sum g + load (f ∷ R) + s ≤ n → GoodNow n R x) → Gives s n g f r k
 gives s n g f r x k q c e h = record { is = λ R. ap (stateWith R) q ∙ e R; good = λ R d l. rw q (h R d l); calm = λ z. rw q c }
 

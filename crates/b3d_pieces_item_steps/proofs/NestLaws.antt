@@ -12,7 +12,7 @@ use Rattle.layout.proofs.Outs.{by-test}
 use Rattle.b3d_spec.specs.declared.Tag.{Tag}
 use Rattle.b3d_spec.specs.declared.Tag.the-variants.{BB3D, TEXS, BRUS, NODE, MESH, VRTS, TRIS, BONE, KEYS, ANIM}
 use Rattle.b3d_spec.specs.Tags.{is}
-use Rattle.b3d_spec.specs.Nesting.{Often, Entry, entry, nesting, needed, Reached, owed, end, may, after, next, reachedAt}
+use Rattle.b3d_spec.specs.Nesting.{Often, Entry, entry, nesting, needed, Reached, requiredBetween, end, may, after, next, reachedAt}
 use Rattle.b3d_rule_nesting_order.specs.declared.Reached.{Reached as Turns}
 use Rattle.b3d_rule_nesting_order.specs.declared.Permit.{Permit}
 use Rattle.b3d_rule_nesting_order.specs.Turns.{reachedOf, permitOf}
@@ -39,9 +39,9 @@ none-owed : (a b c d : Bool) → b ≡ false → d ≡ false → (a && (b && c))
 none-owed true b c d e f = rw (e, f)
 none-owed false b c d e f = f
 
-owed-late : (l : List Entry) → Early l → (n : ℕ) → 4 ≤ n → owed l n end ≡ false
+owed-late : (l : List Entry) → Early l → (n : ℕ) → 4 ≤ n → requiredBetween l n end ≡ false
 owed-late [] h n k = refl
-owed-late (entry t turn often ∷ l) h n k = none-owed (needed often) (ltb n turn) (ltb turn end) (owed l n end) (le-ltb n turn (omega (arith, h .0))) (owed-late l (h .1) n k)
+owed-late (entry t turn often ∷ l) h n k = none-owed (needed often) (ltb n turn) (ltb turn end) (requiredBetween l n end) (le-ltb n turn (omega (arith, h .0))) (owed-late l (h .1) n k)
 
 may-late : (all : List Entry) (n : ℕ) (s : Bool) (turn : ℕ) (often : Often) → turn < 4 → 4 ≤ n → may all (reachedAt n s) turn often ≡ false
 may-late all n s turn often h k = rw (le-ltb n turn (omega arith), ne-eqb n turn (λ z. omega arith))
@@ -67,11 +67,11 @@ module _ (k : Tag) (n : ℕ) where
   unfolding lastTurn if
   last-high h = rw (le-ltb n 4 h)
 
-  owed-last : owed (nesting k) (lastTurn n) end ≡ owed (nesting k) n end
+  owed-last : requiredBetween (nesting k) (lastTurn n) end ≡ requiredBetween (nesting k) n end
   owed-last =
       by-test (ltb n 4)
-      (λ t. ap (λ (m : ℕ). owed (nesting k) m end) (last-low (ltb→lt n 4 t)))
-      (λ t. let q = nltb→le n 4 t in ap (λ (m : ℕ). owed (nesting k) m end) (last-high q) ∙ owed-late (nesting k) (early k) 4 (omega arith) ∙ sym (owed-late (nesting k) (early k) n q))
+      (λ t. ap (λ (m : ℕ). requiredBetween (nesting k) m end) (last-low (ltb→lt n 4 t)))
+      (λ t. let q = nltb→le n 4 t in ap (λ (m : ℕ). requiredBetween (nesting k) m end) (last-high q) ∙ owed-late (nesting k) (early k) 4 (omega arith) ∙ sym (owed-late (nesting k) (early k) n q))
 
   next-last : (s : Bool) (t : Tag) → next (nesting k) (nesting k) (reachedAt (lastTurn n) s) t ≡ next (nesting k) (nesting k) (reachedAt n s) t
   next-last s t =
@@ -89,8 +89,8 @@ turn-low n s r h q = rw (last-low BB3D n h) q
 pub turn-high : (n : ℕ) (s : Bool) (r : Turns) → 4 ≤ n → r ≡ record { turn = 4; spent = s } → r ≡ record { turn = lastTurn n; spent = s }
 turn-high n s r h q = rw (last-high BB3D n h) q
 
-pub turn-lacks : (k : Tag) (n : ℕ) (s : Bool) (x : Turns) → x ≡ record { turn = lastTurn n; spent = s } → (r : Bool) → r ≡ owed (nesting k) (x .turn) end → r ≡ owed (nesting k) n end
-turn-lacks k n s x e r q = q ∙ ap (λ (y : Turns). owed (nesting k) (y .turn) end) e ∙ owed-last k n
+pub turn-lacks : (k : Tag) (n : ℕ) (s : Bool) (x : Turns) → x ≡ record { turn = lastTurn n; spent = s } → (r : Bool) → r ≡ requiredBetween (nesting k) (x .turn) end → r ≡ requiredBetween (nesting k) n end
+turn-lacks k n s x e r q = q ∙ ap (λ (y : Turns). requiredBetween (nesting k) (y .turn) end) e ∙ owed-last k n
 
 pub turn-stands : (k : Tag) (n : ℕ) (s : Bool) (t : Tag) (x : Turns) → x ≡ record { turn = lastTurn n; spent = s } → (r : Permit) → r ≡ permitOf (next (nesting k) (nesting k) (reachedOf x) t) → r ≡ permitOf (next (nesting k) (nesting k) (reachedAt n s) t)
 turn-stands k n s t x e r q = q ∙ ap (λ (y : Turns). permitOf (next (nesting k) (nesting k) (reachedOf y) t)) e ∙ ap permitOf (next-last k n s t)

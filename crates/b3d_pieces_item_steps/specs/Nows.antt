@@ -34,12 +34,12 @@ GoodNow n R (Fault m p) = Unit {0}
 GoodNow n R (Over g) = sum g ≤ n
 
 -- no chunk is to be entered
-abbrev pub Calm : Now → Type 0
-Calm (Live at m g f) = Unit {0}
-Calm (Push at g f o) = ⊥
-Calm (Pop at g) = Unit {0}
-Calm (Fault m p) = Unit {0}
-Calm (Over g) = Unit {0}
+abbrev pub NothingToEnter : Now → Type 0
+NothingToEnter (Live at m g f) = Unit {0}
+NothingToEnter (Push at g f o) = ⊥
+NothingToEnter (Pop at g) = Unit {0}
+NothingToEnter (Fault m p) = Unit {0}
+NothingToEnter (Over g) = Unit {0}
 
 -- what a step asks of the place `at`, the totals g and the innermost chunk f
 pub record Ready (s at : ℕ) (g : Totals) (f : Open) : Type 0 where
@@ -57,7 +57,7 @@ pub record Gives (s n : ℕ) (g : Totals) (f : Open) (r : Now) (k : List Open �
   -- if the invariant holds before with s rows to spare, it holds after n bytes
   pub good : (R : List Open) → Deep (f ∷ R) → sum g + load (f ∷ R) + s ≤ n → GoodNow n R r
   -- with nothing to spare the step opens no chunk
-  pub calm : s ≡ 0 → Calm r
+  pub calm : s ≡ 0 → NothingToEnter r
 
 -- the machine's state where a part of f ended at `at`, R being the chunks around f
 unfoldable pub edgeHere : ℕ → Totals → Open → List Open → State

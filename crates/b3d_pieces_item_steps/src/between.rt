@@ -5,7 +5,7 @@ ghost use Rattle.b3d_pieces_spec.specs.Bodies.{nests as nestsOf, textItems};
 ghost use Rattle.b3d_pieces_spec.specs.Machine.{begin as beginOf};
 ghost use Rattle.b3d_pieces_item_steps.specs.Nows.{Ready, Gives, edgeHere};
 use crate::Now;
-use crate::nesting::lacks;
+use crate::nesting::required_missing;
 use b3d_chunk_cursor::same;
 use b3d_pieces_rules::lengths::inner_len;
 use b3d_pieces_spec::NONE_KEPT;
@@ -73,7 +73,7 @@ pub fn edge(at: usize, g: Totals, f: Open) -> Now
     }
     let tag = f.tag;
     let turn = f.turn;
-    if lacks(tag, turn) {
+    if required_missing(tag, turn) {
         let head = f.head;
         return Now::Fault(8, head);
     }

@@ -1,11 +1,11 @@
 // The nesting table asked of a record, whose turn is any number: all numbers from 4 on count as 4, which is past the last turn.
 ghost use mathlib.Core.Path.{_≡_};
-ghost use Rattle.b3d_spec.specs.Nesting.{nesting, owed, end, next, reachedAt};
+ghost use Rattle.b3d_spec.specs.Nesting.{nesting, requiredBetween, end, next, reachedAt};
 ghost use Rattle.b3d_rule_nesting_order.specs.Turns.{permitOf};
 ghost use Rattle.b3d_pieces_item_steps.specs.Nests.{lastTurn};
 use b3d_rule_nesting_order::Permit;
 use b3d_rule_nesting_order::Reached;
-use b3d_rule_nesting_order::may_stand;
+use b3d_rule_nesting_order::is_permitted;
 use b3d_rule_nesting_order::owes;
 use b3d_spec::Tag;
 
@@ -21,8 +21,8 @@ fn reached(turn: usize, spent: bool) -> Reached
 }
 
 // Returns whether a chunk of tag `tag` that ends after `turn` lacks a chunk that must stand in it.
-pub fn lacks(tag: Tag, turn: usize) -> bool
-    ensures { λ r. ⌜ r ≡ owed (nesting tag) turn end ⌝ }
+pub fn required_missing(tag: Tag, turn: usize) -> bool
+    ensures { λ r. ⌜ r ≡ requiredBetween (nesting tag) turn end ⌝ }
 {
     let so_far = reached(turn, false);
     owes(tag, so_far)
@@ -33,5 +33,5 @@ pub fn stands(tag: Tag, turn: usize, spent: bool, inner: Tag) -> Permit
     ensures { λ r. ⌜ r ≡ permitOf (next (nesting tag) (nesting tag) (reachedAt turn spent) inner) ⌝ }
 {
     let so_far = reached(turn, spent);
-    may_stand(tag, so_far, inner)
+    is_permitted(tag, so_far, inner)
 }

@@ -5,8 +5,8 @@ ghost use Prim.Native.Nat.{_≤_};
 ghost use Rattle.b3d_pieces_records_tests.specs.Decisions.{refusing, FineBy, FirstBy, TestBy};
 use b3d_pieces_judge_step::Judge;
 use b3d_pieces_spec::Open;
-use b3d_pieces_valid_record::loads::open_load;
-use b3d_pieces_valid_state::state::state_fine;
+use b3d_pieces_valid_record::loads::rows_to_add;
+use b3d_pieces_valid_state::state::state_valid;
 
 // A decision: `go`, whether another round follows; `get`, the place of the record to read; `testing`, whether it is to be tested, and `load`, the rows that
 // those before it may still add; `number` and `place`, the refusal, or 0 and 0.
@@ -39,7 +39,7 @@ fn decided(j: Judge, load: usize, go: bool, get: usize) -> Decision
     requires { ⌜ load ≤ 16777218 ⌝ }
     ensures { λ r. ⌜ FineBy j load go get r ⌝ }
 {
-    if state_fine(j, load) {
+    if state_valid(j, load) {
         return Decision {
             go: go,
             get: get,
@@ -85,7 +85,7 @@ pub fn test_decision(j: Judge, load: usize, i: usize, f: Open, go: bool, get: us
     requires { ⌜ (load ≤ 16777217) × (i ≤ 17) ⌝ }
     ensures { λ r. ⌜ TestBy j load i f go get r ⌝ }
 {
-    let v = open_load(f, i);
+    let v = rows_to_add(f, i);
     let sum = load + v;
     if 16777217 < sum {
         return decided(j, 16777218, go, get);

@@ -15,7 +15,7 @@ use Rattle.layout.proofs.Outs.{by-test}
 use Rattle.b3d_spec.specs.declared.Tag.{Tag}
 use Rattle.b3d_spec.specs.declared.Tag.the-variants.{BB3D, TEXS, BRUS, NODE, MESH, VRTS, TRIS, BONE, KEYS, ANIM}
 use Rattle.b3d_spec.specs.declared.Mode.the-variants.{Strict}
-use Rattle.b3d_spec.specs.Rules.{when, verticesHead, brushIds, vertexRow, keyWords, boneVertices}
+use Rattle.b3d_spec.specs.Rules.{when, verticesHead, brushIds, vertexRow, keyWords, boneLimit}
 use Rattle.b3d_spec.proofs.Tag.{the-type}
 use Rattle.b3d_pieces_spec.specs.declared.Totals.{Totals}
 use Rattle.b3d_pieces_spec.specs.declared.Kept.{Kept}
@@ -201,13 +201,13 @@ pub ruleset row-laws = (head-first, head-later, brush-first, brush-later, shape-
 pub ruleset vertex-laws = (vertex-low, vertex-colour, vertex-later)
 
 -- ids
-pub ids-here : (count n i w r : ℕ) → i < count → r ≡ faultOf (names n) w → IdsAre count n i w r
-ids-here count n i w r h q = record { id = λ _. q; other = λ l. absurd (omega arith) }
+pub ids-valid : (count n i w r : ℕ) → i < count → r ≡ faultOf (names n) w → IdsAre count n i w r
+ids-valid count n i w r h q = record { id = λ _. q; other = λ l. absurd (omega arith) }
 
 pub ids-past : (count n i w r : ℕ) → count ≤ i → r ≡ 0 → IdsAre count n i w r
 ids-past count n i w r h q = record { id = λ l. absurd (omega arith); other = λ _. q }
 
-pub ruleset ids-laws = (ids-here, ids-past)
+pub ruleset ids-laws = (ids-valid, ids-past)
 
 -- a colour
 module _ (w r : ℕ) (b : Bool) (e : b ≡ holds unit w) where
@@ -223,11 +223,11 @@ pub ruleset colour-laws = (colour-yes, colour-no)
 
 -- what bones may name
 module _ (g : Totals) (r : ℕ) where
-  pub bones-root : g .rows .nodes ≡ 1 → r ≡ 0 → r ≡ boneVertices (above g)
+  pub bones-root : g .rows .nodes ≡ 1 → r ≡ 0 → r ≡ boneLimit (above g)
   unfolding above if
   bones-root h q = rw (eq-eqb (g .rows .nodes) 1 h) q
 
-  pub bones-below : (g .rows .nodes ≡ 1 → ⊥) → r ≡ g .told → r ≡ boneVertices (above g)
+  pub bones-below : (g .rows .nodes ≡ 1 → ⊥) → r ≡ g .told → r ≡ boneLimit (above g)
   unfolding above if
   bones-below h q = rw (ne-eqb (g .rows .nodes) 1 h) q
 
@@ -294,7 +294,7 @@ module _ (k : Kept) (g : Totals) (i w r : ℕ) (tag : Tag) where
       (λ t. let l = ltb→lt i 3 t in by-rule (replicate 3 (names (g .own))) i w r (names (g .own)) (same-all 3 i (names (g .own)) l) (q .id l))
       (λ t. let l = nltb→le i 3 t in by-any (replicate 3 (names (g .own))) i w r (same-past 3 i (names (g .own)) l) (q .other l)))
 
-  pub inner-bone : tag ≡ BONE → (n : ℕ) → n ≡ boneVertices (above g) → IdsAre 1 n i w r → r ≡ innerFault tag k g i w
+  pub inner-bone : tag ≡ BONE → (n : ℕ) → n ≡ boneLimit (above g) → IdsAre 1 n i w r → r ≡ innerFault tag k g i w
   unfolding innerFault
   inner-bone e n en q = rw (e, ← en) (by-test (ltb i 1)
       (λ t. let l = ltb→lt i 1 t in by-rule (replicate 1 (names n) ++ (any ∷ [])) i w r (names n) (run-low 1 i (names n) (any ∷ []) l) (q .id l))

@@ -3,7 +3,7 @@ ghost use mathlib.Core.Path.{_≡_};
 ghost use mathlib.Core.List.{[], _∷_};
 ghost use Rattle.wire.specs.Bytes.{IsWord};
 ghost use Rattle.layout.specs.Rules.{upTo, names, namesOrNone, unit};
-ghost use Rattle.b3d_spec.specs.Rules.{verticesHead, boneVertices};
+ghost use Rattle.b3d_spec.specs.Rules.{verticesHead, boneLimit};
 ghost use Rattle.b3d_pieces_spec.specs.Bodies.{above};
 ghost use Rattle.b3d_pieces_rules.specs.Faults.{faultOf, faultIn, slotFault, fixedFault, innerFault, rowFault, IdsAre, VertexIs};
 use b3d_pieces_spec::Kept;
@@ -152,7 +152,7 @@ pub fn ids_fault(count: usize, n: usize, i: usize, w: usize) -> u32
 
 // Returns how many vertices a BONE of the present node may name: 0 for the root, else the node's bone limit.
 pub fn bone_vertices(g: Totals) -> usize
-    ensures { λ r. ⌜ r ≡ boneVertices (above g) ⌝ }
+    ensures { λ r. ⌜ r ≡ boneLimit (above g) ⌝ }
 {
     let rows = g.rows;
     if rows.nodes == 1 {

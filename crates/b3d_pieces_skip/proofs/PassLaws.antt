@@ -27,7 +27,7 @@ use Rattle.b3d_pieces_judge_step.specs.Loops.{wait, leftOf, restAt, restOf, Goi
 use Rattle.b3d_pieces_judge_step.proofs.RunLaws.{Running}
 use Rattle.b3d_pieces_skip_numbers.specs.declared.RowPlace.{RowPlace}
 use Rattle.b3d_pieces_skip_numbers.specs.declared.RowRules.{RowRules}
-use Rattle.b3d_pieces_skip_numbers.specs.Places.{RulesAre, rowAt, Sound, Took}
+use Rattle.b3d_pieces_skip_numbers.specs.Places.{RulesAre, rowAt, Sound, Advanced}
 use Rattle.b3d_pieces_skip_lengths.specs.Ahead.{Before, UntilZero, RoomIs}
 use Rattle.b3d_pieces_skip.specs.Passes.{movedTo, LiveFine, PassReady, PassFrom, PassIs}
 use Rattle.b3d_pieces_skip.proofs.PartLaws.{skip-run, text-run}
@@ -59,7 +59,7 @@ wait-calm : (q : Bool) (n : ℕ) → q ≡ false → wait q n ≡ 31
 wait-calm q n e = rw e
 
 module _ (t : Turn) (p : List ℕ) (n : ℕ) (x : Now) (end : t .end ≡ length p) (room : t .at + n ≤ t .end) (body : 8 ≤ t .judge .size) (file : t .judge .size + n ≤ 16777217)
-    (calm : pends (t .judge .now) ≡ false) (still : pends x ≡ false)
+    (calm : pends (t .judge .now) ≡ false) (noAnim : pends x ≡ false)
     (runs : (R : List Open) → run (stateWith R (t .judge .now)) (slice (t .at) (t .at + n) p) ≡ stateWith R x)
     (good : (R : List Open) → GoodNow (t .judge .size) R (t .judge .now) → GoodNow (t .judge .size + n) R x) where
   abbrev r : Turn
@@ -81,7 +81,7 @@ module _ (t : Turn) (p : List ℕ) (n : ℕ) (x : Now) (end : t .end ≡ length 
   rest : (rs : ℕ → Open) → restOf r rs p ≡ restOf t rs p
   unfolding restOf
   rest rs =
-      ap (piece (heldOf (r .judge) rs)) (rest-calm (pends x) (t .at + n) p still)
+      ap (piece (heldOf (r .judge) rs)) (rest-calm (pends x) (t .at + n) p noAnim)
       ∙ ap (λ (h : Held). piece h (drop (t .at + n) p)) (held rs)
       ∙ sym (piece-append (heldOf (t .judge) rs) (slice (t .at) (t .at + n) p) (drop (t .at + n) p))
       ∙ ap (piece (heldOf (t .judge) rs)) (sym (part-rest (t .at) (t .at + n) p (omega arith) (omega arith)) ∙ sym (rest-calm (pends (t .judge .now)) (t .at) p calm))
@@ -89,7 +89,7 @@ module _ (t : Turn) (p : List ℕ) (n : ℕ) (x : Now) (end : t .end ≡ length 
   less : leftOf r ≤ leftOf t
   unfolding leftOf
   less =
-      let a = wait-calm (pends x) (pendOf x (t .judge .depth)) still in
+      let a = wait-calm (pends x) (pendOf x (t .judge .depth)) noAnim in
       let b = wait-calm (pends (t .judge .now)) (pendOf (t .judge .now) (t .judge .depth)) calm in
       omega arith
 
@@ -101,7 +101,7 @@ module _ (t : Turn) (p : List ℕ) (n : ℕ) (x : Now) (end : t .end ≡ length 
         get = g .get;
         end = g .end;
         within = room;
-        calm = λ z. none (sym still ∙ z);
+        calm = λ z. none (sym noAnim ∙ z);
       }
 
   pass-moved : PassIs t p r
@@ -191,7 +191,7 @@ module _ (t : Turn) (p : List ℕ) (n : ℕ) (x : RowPlace) (fixed : Bool) (g : 
   pub from-long : t .at + n ≤ length p
   from-long = let a = h .end in let b = h .room in omega arith
 
-  pub rows-move : (q : RowRules) → RulesAre q fixed g f → (y : RowPlace) → Took p (t .at + n) q x y → (r : Turn)
+  pub rows-move : (q : RowRules) → RulesAre q fixed g f → (y : RowPlace) → Advanced p (t .at + n) q x y → (r : Turn)
       → r ≡ movedTo t (Live (y .at) (Row fixed (y .start) (y .i) (y .j) (y .acc) (y .kept)) g (record { tag = f .tag; head = f .head; end = f .end; turn = f .turn; spent = f .spent; level = f .level; kept = f .kept; count = y .count; told = f .told })) (y .from - t .at)
       → PassIs t p r
   rows-move w ew y k r q =

@@ -27,7 +27,7 @@ use Rattle.b3d_pieces_byte_steps.proofs.RowLaws.{done-item, from-end, from-on, 
 use Rattle.b3d_pieces_skip_numbers.specs.declared.RowPlace.{RowPlace}
 use Rattle.b3d_pieces_skip_numbers.specs.declared.Judged.{Judged}
 use Rattle.b3d_pieces_skip_numbers.specs.declared.RowRules.{RowRules}
-use Rattle.b3d_pieces_skip_numbers.specs.Places.{Plain, RulesAre, KeepsIs, rowAt, Sound, Took, NumberReady, NumberIs, stays, goes, Gathered}
+use Rattle.b3d_pieces_skip_numbers.specs.Places.{Plain, RulesAre, KeepsIs, rowAt, Sound, Advanced, NumberReady, NumberIs, stays, goes, Gathered}
 
 -- ---- a rule
 
@@ -141,14 +141,14 @@ module _ (fixed : Bool) (start i : ℕ) (k : Kept) (at : ℕ) (g : Totals) (f : 
 -- ---- the next number
 
 module _ (p : List ℕ) (last : ℕ) (q : RowRules) (x : RowPlace) (h : Sound last x) where
-  pub took-none : (r : RowPlace) → r ≡ x → Took p last q x r
+  pub took-none : (r : RowPlace) → r ≡ x → Advanced p last q x r
   took-none r e = rw e (record { is = λ fixed g f y R. ap (run (rowAt fixed g f x R)) (slice-empty (x .from) p); ahead = omega arith; sound = h; place = refl; count = omega arith })
 
   -- j bytes of the number came before, m come now
   took-word : (w m : ℕ) (r : RowPlace) → x .from + m ≤ last → m + x .j ≡ 4
       → ((fixed : Bool) (g : Totals) (f : Open) (R : List Open)
       → run (rowAt fixed g f x R) (slice (x .from) (x .from + m) p) ≡ wordDone fixed (x .start) (x .i) w (x .at) (x .kept) g (counting f (x .count)) R)
-      → NumberIs x w (x .from + m) q r → Took p last q x r
+      → NumberIs x w (x .from + m) q r → Advanced p last q x r
   took-word w m r l e s (stays z) = took-none r z
   took-word w m r l e s (goes y) =
       let ef = y .from in
@@ -172,7 +172,7 @@ module _ (p : List ℕ) (last : ℕ) (q : RowRules) (x : RowPlace) (h : Sound la
       most = let n = y .none in omega arith
 
   module _ (len : last ≤ length p) (w : ℕ) (r : RowPlace) where
-    pub took-four : x .j ≡ 0 → 4 ≤ last - x .from → (u : ℕ) → u ≡ wordAt p (x .from) → w ≡ u → NumberIs x w (x .from + 4) q r → Took p last q x r
+    pub took-four : x .j ≡ 0 → 4 ≤ last - x .from → (u : ℕ) → u ≡ wordAt p (x .from) → w ≡ u → NumberIs x w (x .from + 4) q r → Advanced p last q x r
     unfolding wordAt
     took-four e l u eu ew y =
         let d : x .from + 4 ≤ last = omega arith in
@@ -181,7 +181,7 @@ module _ (p : List ℕ) (last : ℕ) (q : RowRules) (x : RowPlace) (h : Sound la
         ∙ four-taken fixed (x .start) (x .i) (x .kept) (x .at) g (counting f (x .count)) R (x .j) (x .acc) (getD p (x .from) 0) (getD p (x .from + 1) 0) (getD p (x .from + 2) 0) (getD p (x .from + 3) 0) e
         ∙ ap (λ (n : ℕ). wordDone fixed (x .start) (x .i) n (x .at) (x .kept) g (counting f (x .count)) R) (sym (ew ∙ eu))) y
 
-    pub took-last : x .j ≡ 3 → (last ≡ x .from → ⊥) → (b : ℕ) → b ≡ getD p (x .from) 0 → w ≡ x .acc + 16777216 * b → NumberIs x w (x .from + 1) q r → Took p last q x r
+    pub took-last : x .j ≡ 3 → (last ≡ x .from → ⊥) → (b : ℕ) → b ≡ getD p (x .from) 0 → w ≡ x .acc + 16777216 * b → NumberIs x w (x .from + 1) q r → Advanced p last q x r
     took-last e ne b eb ew y =
         let hf = h .from in
         let d : x .from + 1 ≤ last = omega arith in
@@ -204,7 +204,7 @@ pub ruleset last-laws = (took-none, took-last, ready-last)
 
 -- ---- one after the other
 
-pub took-then : (p : List ℕ) (last : ℕ) (q : RowRules) (x y z : RowPlace) → last ≤ length p → Took p last q x y → Took p last q y z → Took p last q x z
+pub took-then : (p : List ℕ) (last : ℕ) (q : RowRules) (x y z : RowPlace) → last ≤ length p → Advanced p last q x y → Advanced p last q y z → Advanced p last q x z
 took-then p last q x y z l a b =
     let aa = a .ahead in
     let ba = b .ahead in
@@ -221,12 +221,12 @@ took-then p last q x y z l a b =
       count = omega arith;
     }
 
-pub took-sound : (p : List ℕ) (last : ℕ) (q : RowRules) (x y : RowPlace) → Took p last q x y → Sound last y
+pub took-sound : (p : List ℕ) (last : ℕ) (q : RowRules) (x y : RowPlace) → Advanced p last q x y → Sound last y
 took-sound p last q x y a = a .sound
 
 -- a loop over numbers
 pub record Numbering (p : List ℕ) (last : ℕ) (q : RowRules) (x y : RowPlace) : Type 0 where
-  pub took : Took p last q x y
+  pub took : Advanced p last q x y
   pub len : last ≤ length p
 
 module _ (p : List ℕ) (last : ℕ) (q : RowRules) (x : RowPlace) where
@@ -243,14 +243,14 @@ module _ (p : List ℕ) (last : ℕ) (q : RowRules) (x : RowPlace) where
     pub numbering-len : last ≤ length p
     numbering-len = i .len
 
-    pub numbering-done : Took p last q x y
+    pub numbering-done : Advanced p last q x y
     numbering-done = i .took
 
-    module _ (z : RowPlace) (a : Took p last q y z) where
+    module _ (z : RowPlace) (a : Advanced p last q y z) where
       pub numbering-next : Numbering p last q x z
       numbering-next = record { took = took-then p last q x y z (i .len) (i .took) a; len = i .len }
 
-      pub numbering-took : Took p last q x z
+      pub numbering-took : Advanced p last q x z
       numbering-took = took-then p last q x y z (i .len) (i .took) a
 
       pub numbering-less : 4 ≤ last - y .from → (z .from ≡ y .from → ⊥) → last - z .from < last - y .from

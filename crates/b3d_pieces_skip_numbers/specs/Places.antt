@@ -84,7 +84,7 @@ pub record Sound (last : ℕ) (x : RowPlace) : Type 0 where
   pub place : x .at + x .j + (last - x .from) ≤ 16777217
 
 -- the bytes of the piece p from the place x to the place r were taken
-pub record Took (p : List ℕ) (last : ℕ) (q : RowRules) (x r : RowPlace) : Type 0 where
+pub record Advanced (p : List ℕ) (last : ℕ) (q : RowRules) (x r : RowPlace) : Type 0 where
   -- the machine comes from x to r over these bytes, in every row of which q is right
   pub is : (fixed : Bool) (g : Totals) (f : Open) → RulesAre q fixed g f → (R : List Open) → run (rowAt fixed g f x R) (slice (x .from) (r .from) p) ≡ rowAt fixed g f r R
   -- r is not before x
@@ -143,4 +143,4 @@ pub record Gathered (p : List ℕ) (last : ℕ) (x r : RowPlace) : Type 0 where
   -- what holds of a place holds of r
   pub sound : Sound last r
   -- whatever the row's rules
-  pub took : (q : RowRules) → Took p last q x r
+  pub took : (q : RowRules) → Advanced p last q x r

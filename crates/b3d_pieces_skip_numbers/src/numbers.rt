@@ -4,7 +4,7 @@ ghost use mathlib.Core.Path.{_≡_};
 ghost use Prim.Native.Nat.{_+_, _-_, _<_, _≤_};
 ghost use lib.ListN.{length, getD};
 ghost use Rattle.wire.specs.Bytes.{IsWord};
-ghost use Rattle.b3d_pieces_skip_numbers.specs.Places.{KeepsIs, Sound, Took, NumberReady, NumberIs, Gathered};
+ghost use Rattle.b3d_pieces_skip_numbers.specs.Places.{KeepsIs, Sound, Advanced, NumberReady, NumberIs, Gathered};
 use crate::Judged;
 use crate::RowPlace;
 use crate::RowRules;
@@ -82,7 +82,7 @@ fn byte_at(piece: &[u8], from: usize) -> usize
 // Takes the next number, which stands whole in `piece`. Returns `x` if a number was begun or this one is left to the machine.
 fn number(x: RowPlace, q: RowRules, piece: &[u8], last: usize) -> RowPlace
     requires { ⌜ Sound last x × (last ≤ length (now piece)) × (4 ≤ last - x .from) ⌝ }
-    ensures { λ r. ⌜ Took (now (piece .entry)) last q x r ⌝ }
+    ensures { λ r. ⌜ Advanced (now (piece .entry)) last q x r ⌝ }
 {
     if x.j != 0 {
         return x;
@@ -95,7 +95,7 @@ fn number(x: RowPlace, q: RowRules, piece: &[u8], last: usize) -> RowPlace
 // Takes the next numbers, as many as can be taken at once; up to the end of an item if `item` is set.
 pub fn numbers(x: RowPlace, q: RowRules, item: bool, piece: &[u8], last: usize) -> RowPlace
     requires { ⌜ Sound last x × (last ≤ length (now piece)) ⌝ }
-    ensures { λ r. ⌜ Took (now (piece .entry)) last q x r ⌝ }
+    ensures { λ r. ⌜ Advanced (now (piece .entry)) last q x r ⌝ }
 {
     let mut y = x;
     while 4 <= last - y.from {
@@ -116,7 +116,7 @@ pub fn numbers(x: RowPlace, q: RowRules, item: bool, piece: &[u8], last: usize) 
 // Takes the last byte of a number of which three came, if it stands before `last` and the number is not left to the machine. Else returns `x`.
 pub fn last_byte(x: RowPlace, q: RowRules, piece: &[u8], last: usize) -> RowPlace
     requires { ⌜ Sound last x × (last ≤ length (now piece)) ⌝ }
-    ensures { λ r. ⌜ Took (now (piece .entry)) last q x r ⌝ }
+    ensures { λ r. ⌜ Advanced (now (piece .entry)) last q x r ⌝ }
 {
     if x.j != 3 {
         return x;

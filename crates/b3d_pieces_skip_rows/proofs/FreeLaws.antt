@@ -25,7 +25,7 @@ use Rattle.b3d_pieces_rules.specs.Faults.{faultIn, rowFault}
 use Rattle.b3d_pieces_byte_steps.proofs.RowLaws.{fault-0}
 use Rattle.b3d_pieces_skip_numbers.specs.declared.RowPlace.{RowPlace}
 use Rattle.b3d_pieces_skip_numbers.specs.declared.RowRules.{RowRules}
-use Rattle.b3d_pieces_skip_numbers.specs.Places.{Plain, RulesAre, rowAt, Sound, Took, Gathered}
+use Rattle.b3d_pieces_skip_numbers.specs.Places.{Plain, RulesAre, rowAt, Sound, Advanced, Gathered}
 use Rattle.b3d_pieces_skip_numbers.proofs.NumberLaws.{took-none, took-then, took-sound}
 use Rattle.b3d_pieces_skip_rows.specs.Items.{WholeRows, Skips}
 
@@ -175,13 +175,13 @@ pub ruleset rows-laws = (rows-none, rows-some)
 -- ---- one after the other
 
 module _ (p : List ℕ) (last : ℕ) (q : RowRules) (len : last ≤ length p) (x y : RowPlace) where
-  pub gathered-then : Gathered p last x y → (z : RowPlace) → Took p last q y z → Took p last q x z
+  pub gathered-then : Gathered p last x y → (z : RowPlace) → Advanced p last q y z → Advanced p last q x z
   gathered-then a z b = took-then p last q x y z len (a .took q) b
 
-  pub both-took : (z : RowPlace) → Took p last q x y → Took p last q y z → Took p last q x z
+  pub both-took : (z : RowPlace) → Advanced p last q x y → Advanced p last q y z → Advanced p last q x z
   both-took z a b = took-then p last q x y z len a b
 
-  pub all-took : (a b c : RowPlace) → Took p last q x a → Skips last q a b → Took p last q b c → Gathered p last c y → Took p last q x y
+  pub all-took : (a b c : RowPlace) → Advanced p last q x a → Skips last q a b → Advanced p last q b c → Gathered p last c y → Advanced p last q x y
   all-took a b c ta tb tc td = took-then p last q x a y len ta (took-then p last q a b y len (tb .took p len) (took-then p last q b c y len tc (td .took q)))
 
 pub gathered-sound : (p : List ℕ) (last : ℕ) (x y : RowPlace) → Gathered p last x y → Sound last y

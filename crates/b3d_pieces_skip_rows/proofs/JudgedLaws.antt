@@ -9,14 +9,14 @@ use denote.Enum.Declared.{tagOf}
 use Rattle.layout.specs.Rules.{names}
 use Rattle.b3d_spec.specs.declared.Tag.{Tag}
 use Rattle.b3d_spec.specs.declared.Tag.the-variants.{NODE, VRTS, TRIS, BONE, ANIM}
-use Rattle.b3d_spec.specs.Rules.{boneVertices}
+use Rattle.b3d_spec.specs.Rules.{boneLimit}
 use Rattle.b3d_spec.proofs.Tag.{the-type}
 use Rattle.b3d_pieces_spec.specs.declared.Totals.{Totals}
 use Rattle.b3d_pieces_spec.specs.declared.Kept.{Kept}
 use Rattle.b3d_pieces_spec.specs.declared.Open.{Open}
 use Rattle.b3d_pieces_spec.specs.Bodies.{above, rulesOf, nests, textItems}
 use Rattle.b3d_pieces_rules.specs.Faults.{innerFault, rowFault}
-use Rattle.b3d_pieces_rules.proofs.FaultLaws.{name-yes, colour-yes, ids-here, ids-past, vertex-low, vertex-colour, vertex-later, fixedFree, fixed-free, innerFree, inner-free, inner-vrts, inner-tris, inner-bone, row-fixed, row-inner}
+use Rattle.b3d_pieces_rules.proofs.FaultLaws.{name-yes, colour-yes, ids-valid, ids-past, vertex-low, vertex-colour, vertex-later, fixedFree, fixed-free, innerFree, inner-free, inner-vrts, inner-tris, inner-bone, row-fixed, row-inner}
 use Rattle.b3d_pieces_skip_numbers.specs.declared.Judged.{Judged}
 use Rattle.b3d_pieces_skip_numbers.specs.declared.RowRules.{RowRules}
 use Rattle.b3d_pieces_skip_numbers.specs.Places.{JudgedIs, RulesAre}
@@ -70,15 +70,15 @@ module _ (t : Tag) (k : Kept) (g : Totals) (q : Judged) where
     below = λ i w l. absurd (omega arith);
     above = λ i w l m. inner i w (inner-tris k g i w 0 t et (ids-past 3 (g .own) i w 0 l refl));
     colours = λ c. differ (sym c);
-    ids = λ c i w a b l. inner i w (inner-tris k g i w 0 t et (ids-here 3 (g .own) i w 0 b (name-yes (g .own) w 0 l refl)));
+    ids = λ c i w a b l. inner i w (inner-tris k g i w 0 t et (ids-valid 3 (g .own) i w 0 b (name-yes (g .own) w 0 l refl)));
   })
 
-  pub ids-bone : t ≡ BONE → (n : ℕ) → n ≡ boneVertices (above g) → q ≡ idsOf 1 n → JudgedIs q false t k g
+  pub ids-bone : t ≡ BONE → (n : ℕ) → n ≡ boneLimit (above g) → q ≡ idsOf 1 n → JudgedIs q false t k g
   ids-bone et n en e = rw e (record {
     below = λ i w l. absurd (omega arith);
     above = λ i w l m. inner i w (inner-bone k g i w 0 t et n en (ids-past 1 n i w 0 l refl));
     colours = λ c. differ (sym c);
-    ids = λ c i w a b l. inner i w (inner-bone k g i w 0 t et n en (ids-here 1 n i w 0 b (name-yes n w 0 l refl)));
+    ids = λ c i w a b l. inner i w (inner-bone k g i w 0 t et n en (ids-valid 1 n i w 0 b (name-yes n w 0 l refl)));
   })
 
   pub colours-vrts : t ≡ VRTS

@@ -10,7 +10,7 @@ use Rattle.b3d_pieces_spec.specs.declared.Kept.{Kept}
 use Rattle.b3d_pieces_skip_numbers.specs.declared.RowPlace.{RowPlace}
 use Rattle.b3d_pieces_skip_numbers.specs.declared.Judged.{Judged}
 use Rattle.b3d_pieces_skip_numbers.specs.declared.RowRules.{RowRules}
-use Rattle.b3d_pieces_skip_numbers.specs.Places.{JudgedIs, Plain, Sound, Took}
+use Rattle.b3d_pieces_skip_numbers.specs.Places.{JudgedIs, Plain, Sound, Advanced}
 
 -- the first `past` numbers of a row are ids below `names`, the others are not judged
 abbrev pub idsOf : ℕ → ℕ → Judged
@@ -47,4 +47,4 @@ pub record Skips (last : ℕ) (q : RowRules) (x r : RowPlace) : Type 0 where
   -- what holds of a place holds of r
   pub sound : Sound last r
   -- the machine comes from x to r over the bytes of any p
-  pub took : (p : List ℕ) → last ≤ length p → Took p last q x r
+  pub took : (p : List ℕ) → last ≤ length p → Advanced p last q x r

@@ -1,7 +1,7 @@
 // Rows of numbers in a piece.
 ghost use Prim.Native.Nat.{_≤_};
 ghost use lib.ListN.{length};
-ghost use Rattle.b3d_pieces_skip_numbers.specs.Places.{Sound, Took};
+ghost use Rattle.b3d_pieces_skip_numbers.specs.Places.{Sound, Advanced};
 ghost use Rattle.b3d_pieces_skip_rows.specs.Items.{WholeRows, Skips};
 use b3d_pieces_item_steps::between::less;
 use b3d_pieces_skip_numbers::RowPlace;
@@ -68,7 +68,7 @@ fn free_rows(x: RowPlace, q: RowRules, last: usize) -> RowPlace
 // Takes the rest of a number that was begun, as far as it stands before `last`. Returns `x` if none was begun.
 fn rest_of_number(x: RowPlace, q: RowRules, piece: &[u8], last: usize) -> RowPlace
     requires { ⌜ Sound last x × (last ≤ length (now piece)) ⌝ }
-    ensures { λ r. ⌜ Took (now (piece .entry)) last q x r ⌝ }
+    ensures { λ r. ⌜ Advanced (now (piece .entry)) last q x r ⌝ }
 {
     if x.j == 0 {
         return x;
@@ -80,7 +80,7 @@ fn rest_of_number(x: RowPlace, q: RowRules, piece: &[u8], last: usize) -> RowPla
 // Takes the rest of an item that was begun, as far as it stands before `last`.
 fn rest_of_item(x: RowPlace, q: RowRules, piece: &[u8], last: usize) -> RowPlace
     requires { ⌜ Sound last x × (last ≤ length (now piece)) ⌝ }
-    ensures { λ r. ⌜ Took (now (piece .entry)) last q x r ⌝ }
+    ensures { λ r. ⌜ Advanced (now (piece .entry)) last q x r ⌝ }
 {
     let y = rest_of_number(x, q, piece, last);
     if y.i == 0 {
@@ -92,7 +92,7 @@ fn rest_of_item(x: RowPlace, q: RowRules, piece: &[u8], last: usize) -> RowPlace
 // Takes as much of a row and the rows after it as stands before `last`, up to a number that ends more than an item, or breaks its rule.
 pub fn rows(x: RowPlace, q: RowRules, piece: &[u8], last: usize) -> RowPlace
     requires { ⌜ Sound last x × (last ≤ length (now piece)) ⌝ }
-    ensures { λ r. ⌜ Took (now (piece .entry)) last q x r ⌝ }
+    ensures { λ r. ⌜ Advanced (now (piece .entry)) last q x r ⌝ }
 {
     let a = rest_of_item(x, q, piece, last);
     let b = free_rows(a, q, last);

@@ -7,7 +7,7 @@ use mathlib.Core.Option.{Option, none, some}
 use mathlib.Core.List.{List, [], _∷_}
 use lib.ListN.{length}
 use Rattle.wire.specs.Test.{if}
-use Rattle.layout.specs.Out.{Out}
+use Rattle.layout.specs.Result.{Result}
 use Rattle.layout.specs.Parts.{row, named}
 use Rattle.b3d_spec.specs.declared.Tag.{Tag}
 use Rattle.b3d_spec.specs.declared.Tag.the-variants.{BB3D, TEXS, BRUS, NODE, MESH, VRTS, TRIS, BONE, KEYS, ANIM}
@@ -28,16 +28,16 @@ none-some : {A B : Type 0} {a : A} → _≡_ {A = Option A} none (some a) → B
 none-some e = let z : _≡_ {A = ℕ} 0 1 = cc in absurd (omega arith)
 
 mesh-holds : Holds MESH
-mesh-holds = record { deep = refl; bare = refl; heads = λ k g. refl }
+mesh-holds = record { deep = refl; noText = refl; heads = λ k g. refl }
 
 node-holds : Holds NODE
-node-holds = record { deep = refl; bare = refl; heads = λ k g. refl }
+node-holds = record { deep = refl; noText = refl; heads = λ k g. refl }
 
 file-holds : Holds BB3D
-file-holds = record { deep = refl; bare = refl; heads = λ k g. refl }
+file-holds = record { deep = refl; noText = refl; heads = λ k g. refl }
 
 -- what the body of a chunk does under the chunk f
-abbrev Ran : State → List ℕ → Out Totals → ℕ → List Open → Type 0
+abbrev Ran : State → List ℕ → Result Totals → ℕ → List Open → Type 0
 Ran st b o e F = run st b ≡ after o (λ x. edge e x F)
 
 -- ---- MESH

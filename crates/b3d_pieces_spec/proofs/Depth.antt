@@ -16,7 +16,7 @@ use Rattle.b3d_spec.specs.declared.Tag.{Tag}
 use Rattle.b3d_spec.specs.declared.Tag.the-variants.{BB3D, TEXS, BRUS, NODE, MESH, VRTS, TRIS, BONE, KEYS, ANIM}
 use Rattle.b3d_spec.specs.Tags.{tagOf}
 use Rattle.b3d_spec.specs.Rules.{levels}
-use Rattle.b3d_spec.specs.Nesting.{nesting, Reached, owed, end, next}
+use Rattle.b3d_spec.specs.Nesting.{nesting, Reached, requiredBetween, end, next}
 use Rattle.b3d_spec.specs.Tables.{start as noCounts}
 use Rattle.b3d_spec.proofs.Files.TagCodes.{by-tag}
 use Rattle.b3d_spec.proofs.Files.Entries.{_▸_, EachTag, at-tag}
@@ -84,7 +84,7 @@ edge-good at g [] h = omega (arith, h .1)
 edge-good at g (f ∷ R) h =
     let x = closed (f .tag) (f .count) (f .kept) (f .told) g in
     let c = closed-sum (f .tag) (f .count) (f .kept) (f .told) g in
-    if-good at (eqb at (f .end)) _ _ (if-good at (owed (nesting (f .tag)) (f .turn) end) _ _ tt (edge-good at x R (h .0 .2, omega (arith, c, h .1)))) (begin-good at g f R h)
+    if-good at (eqb at (f .end)) _ _ (if-good at (requiredBetween (nesting (f .tag)) (f .turn) end) _ _ tt (edge-good at x R (h .0 .2, omega (arith, c, h .1)))) (begin-good at g f R h)
 
 module _ (at : ℕ) (g : Totals) (f : Open) (R : List Open) (h : Fits at g (f ∷ R)) where
   text-good : (fixed : Bool) (start : ℕ) → Good at (textFrom fixed start at g f R)

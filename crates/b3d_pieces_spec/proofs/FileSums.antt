@@ -7,7 +7,7 @@ use mathlib.Core.Option.{none}
 use mathlib.Core.List.{List, [], _∷_, _++_, map}
 use lib.ListN.{length, length-append, length-map}
 use Rattle.wire.specs.Test.{if}
-use Rattle.layout.specs.Out.{Out, got, _>>=_}
+use Rattle.layout.specs.Result.{Result, accept, _>>=_}
 use Rattle.layout.specs.Parts.{number, row}
 use Rattle.layout.specs.Chunks.{done, stop, chunk, ended}
 use Rattle.layout.proofs.Outs.{bind-bind, bind-cong}
@@ -17,8 +17,8 @@ use Rattle.b3d_spec.specs.declared.Counts.{Counts}
 use Rattle.b3d_spec.specs.Tags.{Chunks, Found, split}
 use Rattle.b3d_spec.specs.Rules.{fileHead, levels}
 use Rattle.b3d_spec.specs.Nesting.{inside}
-use Rattle.b3d_spec.specs.Mask.{spread, keyMask}
-use Rattle.b3d_spec.specs.Scene.{Texture, Brush, TriangleSet, Kind, pivot, mesh, bone, Keys, Anim, still, anim, Data, Forest, leaf, node, Scene}
+use Rattle.b3d_spec.specs.Mask.{padded, keyMask}
+use Rattle.b3d_spec.specs.Scene.{Texture, Brush, TriangleSet, Kind, pivot, mesh, bone, Keys, Anim, noAnim, anim, Data, Forest, noNodes, node, Scene}
 use Rattle.b3d_spec.specs.Tables.{start, meshesOf, weightsOf, triangleRows, keyRows, withMeshes, withNode, withForest, counts}
 use Rattle.b3d_spec.specs.Parse.{readOne, readTextures, readBrushes, readNode, readRoot, slotsOf, readBody}
 use Rattle.b3d_spec.proofs.Rows.CountLaws.{counts-are, same-counts}
@@ -43,21 +43,21 @@ sceneTotals t = forestTotals (t .nodes) (base (t .version) (t .slots) (length (t
 
 -- ---- the chunks
 
-abbrev count : Chunks → Totals → Out Totals
+abbrev count : Chunks → Totals → Result Totals
 count cs g = chunksOut (inNode (nodeOut levels)) cs g
 
-texs-first : (cs : Chunks) → Only textured cs → (v : ℕ) (K : Found (List Texture) → Out Totals)
+texs-first : (cs : Chunks) → Only textured cs → (v : ℕ) (K : Found (List Texture) → Result Totals)
     → ((x : Found (List Texture)) → Only brushed (x .rest) → count (x .rest) (base v 0 (length (x .value)) 0) ≡ K x) → count cs (base v 0 0 0) ≡ (readOne TEXS [] readTextures cs >>= K)
 unfolding chunksOut readOne if
 texs-first done h v K k = k (record { value = []; rest = done }) tt
 texs-first (stop n p) h v K k = refl
 texs-first (chunk t p b r) h v K k =
     by-phase textured (λ u. count (chunk u p b r) (base v 0 0 0) ≡ (readOne TEXS [] readTextures (chunk u p b r) >>= K)) r
-    ((λ h. ap (λ (o : Out Totals). o >>= λ x. count r x) (texs-out (base v 0 0 0) p b)
-    ∙ on-out (readTextures p b) (λ l. base v 0 (length l) 0) (count r) (λ l. got (record { value = l; rest = r })) K (λ l. k (record { value = l; rest = r }) h))
+    ((λ h. ap (λ (o : Result Totals). o >>= λ x. count r x) (texs-out (base v 0 0 0) p b)
+    ∙ on-out (readTextures p b) (λ l. base v 0 (length l) 0) (count r) (λ l. accept (record { value = l; rest = r })) K (λ l. k (record { value = l; rest = r }) h))
     ▸ (λ h. k (record { value = []; rest = chunk BRUS p b r }) h) ▸ (λ h. k (record { value = []; rest = chunk NODE p b r }) h) ▸ tt) t h
 
-brus-next : (cs : Chunks) → Only brushed cs → (v n : ℕ) (K : Found (ℕ × List Brush) → Out Totals)
+brus-next : (cs : Chunks) → Only brushed cs → (v n : ℕ) (K : Found (ℕ × List Brush) → Result Totals)
     → ((x : Found (ℕ × List Brush)) → Only rooted (x .rest) → count (x .rest) (base v (slotsFor (length (x .value .1)) (x .value .0)) n (length (x .value .1))) ≡ K x)
     → count cs (base v 0 n 0) ≡ (readOne BRUS (0, []) (readBrushes Strict n) cs >>= K)
 unfolding chunksOut readOne if
@@ -65,8 +65,8 @@ brus-next done h v n K k = k (record { value = (0, []); rest = done }) tt
 brus-next (stop m p) h v n K k = refl
 brus-next (chunk t p b r) h v n K k =
     by-phase brushed (λ u. count (chunk u p b r) (base v 0 n 0) ≡ (readOne BRUS (0, []) (readBrushes Strict n) (chunk u p b r) >>= K)) r
-    ((λ h. ap (λ (o : Out Totals). o >>= λ x. count r x) (brus-out (base v 0 n 0) p b)
-    ∙ on-out (readBrushes Strict n p b) (λ x. brushTotals x (base v 0 n 0)) (count r) (λ x. got (record { value = x; rest = r })) K (λ x. k (record { value = x; rest = r }) h))
+    ((λ h. ap (λ (o : Result Totals). o >>= λ x. count r x) (brus-out (base v 0 n 0) p b)
+    ∙ on-out (readBrushes Strict n p b) (λ x. brushTotals x (base v 0 n 0)) (count r) (λ x. accept (record { value = x; rest = r })) K (λ x. k (record { value = x; rest = r }) h))
     ▸ (λ h. k (record { value = (0, []); rest = chunk NODE p b r }) h) ▸ tt) t h
 
 nothing-out : (cs : Chunks) → Only empty cs → (g : Totals) → count cs g ≡ ended cs g
@@ -75,20 +75,20 @@ nothing-out done h g = refl
 nothing-out (stop n p) h g = refl
 nothing-out (chunk t p b r) h g = absurd h
 
-root-out : (g : Totals) → Told (g .brushes) none g → (p : ℕ) (b : List ℕ) → nodeOut levels g p b ≡ (readRoot Strict (g .brushes) p b >>= λ f. got (forestTotals f g))
+root-out : (g : Totals) → Told (g .brushes) none g → (p : ℕ) (b : List ℕ) → nodeOut levels g p b ≡ (readRoot Strict (g .brushes) p b >>= λ f. accept (forestTotals f g))
 unfolding readRoot
 root-out g t p b = node-out levels (g .brushes) none g t p b ∙ sym (bind-bind (readNode Strict levels (g .brushes) none p b) _ _)
 
-root-next : (cs : Chunks) → Only rooted cs → (g : Totals) → Told (g .brushes) none g → count cs g ≡ (readOne NODE leaf (readRoot Strict (g .brushes)) cs >>= λ n. ended (n .rest) (forestTotals (n .value) g))
+root-next : (cs : Chunks) → Only rooted cs → (g : Totals) → Told (g .brushes) none g → count cs g ≡ (readOne NODE noNodes (readRoot Strict (g .brushes)) cs >>= λ n. ended (n .rest) (forestTotals (n .value) g))
 unfolding chunksOut readOne if ended
 root-next done h g t = refl
 root-next (stop n p) h g t = refl
 root-next (chunk k p b r) h g t =
-    by-phase rooted (λ u. count (chunk u p b r) g ≡ (readOne NODE leaf (readRoot Strict (g .brushes)) (chunk u p b r) >>= λ n. ended (n .rest) (forestTotals (n .value) g))) r
-    ((λ h. ap (λ (o : Out Totals). o >>= λ x. count r x) (root-out g t p b)
-    ∙ on-out (readRoot Strict (g .brushes) p b) (λ f. forestTotals f g) (count r) (λ f. got (record { value = f; rest = r })) (λ n. ended (n .rest) (forestTotals (n .value) g)) (λ f. nothing-out r h (forestTotals f g))) ▸ tt) k h
+    by-phase rooted (λ u. count (chunk u p b r) g ≡ (readOne NODE noNodes (readRoot Strict (g .brushes)) (chunk u p b r) >>= λ n. ended (n .rest) (forestTotals (n .value) g))) r
+    ((λ h. ap (λ (o : Result Totals). o >>= λ x. count r x) (root-out g t p b)
+    ∙ on-out (readRoot Strict (g .brushes) p b) (λ f. forestTotals f g) (count r) (λ f. accept (record { value = f; rest = r })) (λ n. ended (n .rest) (forestTotals (n .value) g)) (λ f. nothing-out r h (forestTotals f g))) ▸ tt) k h
 
-ended-on : {A B : Type 0} (cs : Chunks) (a : A) (f : A → B) → ended cs (f a) ≡ (ended cs a >>= λ x. got (f x))
+ended-on : {A B : Type 0} (cs : Chunks) (a : A) (f : A → B) → ended cs (f a) ≡ (ended cs a >>= λ x. accept (f x))
 unfolding ended
 ended-on done a f = refl
 ended-on (stop n p) a f = refl
@@ -112,16 +112,16 @@ scene v ts u f = record { version = v; textures = ts; slots = slotsOf (u .0) (u 
 
 last-out : (v : ℕ) (ts : List Texture) (u : ℕ × List Brush) (cs : Chunks) → Only rooted cs
     → count cs (base v (slotsFor (length (u .1)) (u .0)) (length ts) (length (u .1)))
-    ≡ ((readOne NODE leaf (readRoot Strict (length (u .1))) cs >>= λ n. ended (n .rest) (scene v ts u (n .value))) >>= λ t. got (sceneTotals t))
+    ≡ ((readOne NODE noNodes (readRoot Strict (length (u .1))) cs >>= λ n. ended (n .rest) (scene v ts u (n .value))) >>= λ t. accept (sceneTotals t))
 unfolding start
 last-out v ts u cs h =
     let g = base v (slotsOf (u .0) (u .1)) (length ts) (length (u .1)) in
     rw (slots-are (u .0) (u .1))
     (root-next cs h g (refl, refl, refl)
-    ∙ bind-cong (readOne NODE leaf (readRoot Strict (length (u .1))) cs) (λ n _. ended-on (n .rest) (scene v ts u (n .value)) sceneTotals)
-    ∙ sym (bind-bind (readOne NODE leaf (readRoot Strict (length (u .1))) cs) _ _))
+    ∙ bind-cong (readOne NODE noNodes (readRoot Strict (length (u .1))) cs) (λ n _. ended-on (n .rest) (scene v ts u (n .value)) sceneTotals)
+    ∙ sym (bind-bind (readOne NODE noNodes (readRoot Strict (length (u .1))) cs) _ _))
 
-pub body-out : (b : List ℕ) → bodyOut levels nothing 8 b ≡ (readBody Strict 8 b >>= λ t. got (sceneTotals t))
+pub body-out : (b : List ℕ) → bodyOut levels nothing 8 b ≡ (readBody Strict 8 b >>= λ t. accept (sceneTotals t))
 unfolding bodyOut readBody
 body-out b =
     through (row fileHead 8 b) _ _ _ (λ h.
@@ -152,16 +152,16 @@ unfolding keyRows
 keys-rows [] g = same-counts _ _ refl refl refl refl refl refl (sym (add-zero _)) (sym (add-zero _))
 keys-rows (x ∷ l) g =
     let n = g .rows in
-    let e = length-append (map (spread (keyMask (x .flags))) (x .items)) (keyRows l) in
-    let m = length-map (x .items) (spread (keyMask (x .flags))) in
-    let q : n .keys + length (x .items) + length (keyRows l) ≡ n .keys + length (map (spread (keyMask (x .flags))) (x .items) ++ keyRows l) = omega (arith, e, m) in
+    let e = length-append (map (padded (keyMask (x .flags))) (x .items)) (keyRows l) in
+    let m = length-map (x .items) (padded (keyMask (x .flags))) in
+    let q : n .keys + length (x .items) + length (keyRows l) ≡ n .keys + length (map (padded (keyMask (x .flags))) (x .items) ++ keyRows l) = omega (arith, e, m) in
     keys-rows l (closed KEYS (length (x .items)) noneKept 0 g) ∙ same-counts _ _ refl refl refl refl refl refl (more-sets (n .lists) (length l)) q
 
 abbrev oneMesh : Counts → Counts
 oneMesh n = record { nodes = n .nodes; meshes = n .meshes + 1; vertices = n .vertices; sets = n .sets; triangles = n .triangles; weights = n .weights; lists = n .lists; keys = n .keys }
 
 anim-rows : (a : Anim) (g : Totals) → animTotals a g .rows ≡ g .rows
-anim-rows still g = refl
+anim-rows noAnim g = refl
 anim-rows (anim ws) g = refl
 
 -- a node's rows, by its kind and its keys
@@ -178,7 +178,7 @@ parts-rows d (bone ws) l g = keys-rows l (closed BONE (length ws) noneKept 0 (en
 
 forest-rows : (f : Forest) (g : Totals) → forestTotals f g .rows ≡ withForest f (g .rows)
 unfolding withForest
-forest-rows leaf g = refl
+forest-rows noNodes g = refl
 forest-rows (node d f h) g =
     forest-rows h (closed NODE 0 noneKept (g .below) (forestTotals f (nodeTotals d g)))
     ∙ ap (withForest h) (forest-rows f (nodeTotals d g) ∙ ap (withForest f) (anim-rows (d .anim) _ ∙ parts-rows d (d .kind) (d .keys) g))
@@ -204,7 +204,7 @@ kind-fixed (mesh m) g = sets-fixed (m .triangleSets) (closed VRTS (length (m .ve
 kind-fixed (bone ws) g = (refl, refl, refl, refl)
 
 anim-fixed : (a : Anim) (g : Totals) → Fixed (animTotals a g) g
-anim-fixed still g = (refl, refl, refl, refl)
+anim-fixed noAnim g = (refl, refl, refl, refl)
 anim-fixed (anim ws) g = (refl, refl, refl, refl)
 
 node-fixed : (d : Data) (g : Totals) → Fixed (nodeTotals d g) g
@@ -214,7 +214,7 @@ node-fixed d g =
     fixed-on (nodeTotals d g) y g (anim-fixed (d .anim) y) (fixed-on y x g (keys-fixed (d .keys) x) (kind-fixed (d .kind) (entered g)))
 
 forest-fixed : (f : Forest) (g : Totals) → Fixed (forestTotals f g) g
-forest-fixed leaf g = (refl, refl, refl, refl)
+forest-fixed noNodes g = (refl, refl, refl, refl)
 forest-fixed (node d f h) g =
     let a = nodeTotals d g in
     let b = forestTotals f a in

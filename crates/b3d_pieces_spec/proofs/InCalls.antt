@@ -10,7 +10,7 @@ use lib.ListN.{length}
 use lib.Dec.{T, leb, leb→le, le→leb, not-T}
 use Rattle.wire.specs.Test.{if}
 use Rattle.layout.specs.Lists.{All}
-use Rattle.layout.specs.Out.{Out, got, bad, check, _>>=_}
+use Rattle.layout.specs.Result.{Result, accept, reject, check, _>>=_}
 use Rattle.layout.proofs.Outs.{check-yes, if-yes, check-no}
 use Rattle.b3d_spec.specs.declared.Mode.the-variants.{Strict}
 use Rattle.b3d_spec.specs.Rules.{rowLimit}
@@ -66,9 +66,9 @@ ample-roomy : (room : ℕ → ℕ) → Ample room → (t : Scene) (ks : List ℕ
 ample-roomy room a t [] h = tt
 ample-roomy room a t (k ∷ ks) h = (let m = mul-le-mul-left (width k) (h .0) in omega (arith, m, a k), ample-roomy room a t ks (h .1))
 
-by-out : {A : Type 0} {P : Type 0} (o : Out A) → ((a : A) → o ≡ got a → P) → ((n p : ℕ) → o ≡ bad n p → P) → P
-by-out (got a) f g = f a refl
-by-out (bad n p) f g = g n p refl
+by-out : {A : Type 0} {P : Type 0} (o : Result A) → ((a : A) → o ≡ accept a → P) → ((n p : ℕ) → o ≡ reject n p → P) → P
+by-out (accept a) f g = f a refl
+by-out (reject n p) f g = g n p refl
 
 pub ample-reads : (room : ℕ → ℕ) → Ample room → (s : List ℕ) → readAnswer Strict room s ≡ answer (judge Strict s)
 unfolding readAnswer
@@ -79,7 +79,7 @@ ample-reads room a s =
 
 -- ---- refusals
 
-refuses : (o : Out (Unit {0})) (n k : ℕ) → o ≡ bad n k → (lent : ℕ) (p : Pieces) → allowed lent p ≡ o → Refuses lent p n k
+refuses : (o : Result (Unit {0})) (n k : ℕ) → o ≡ reject n k → (lent : ℕ) (p : Pieces) → allowed lent p ≡ o → Refuses lent p n k
 unfolding pieceAnswer closeAnswer afterPiece afterClose onCall
 refuses o n k e lent p h =
     let z = h ∙ e in
@@ -89,11 +89,11 @@ few-refused : (p : Pieces) (lent : ℕ) → lent < records → Refuses lent p 11
 unfolding allowed
 few-refused p lent h = refuses _ 11 19 (rw (check-no (leb records lent) 11 records (not-T (leb records lent) (λ t. let q = leb→le records lent t in absurd (omega arith))))) lent p refl
 
-late-shut : (p : Pieces) (b : Bool) → T b → (check b 11 records >>= λ _. check (not (onCall (check b 11 records >>= λ _. check (not (p .shut)) 15 0) p (record { held = p .held; shut = true }) .shut)) 15 0) ≡ bad 15 0
+late-shut : (p : Pieces) (b : Bool) → T b → (check b 11 records >>= λ _. check (not (onCall (check b 11 records >>= λ _. check (not (p .shut)) 15 0) p (record { held = p .held; shut = true }) .shut)) 15 0) ≡ reject 15 0
 unfolding check onCall
 late-shut p b t = go b t (p .shut) refl
   where
-    go : (c : Bool) → T c → (q : Bool) → p .shut ≡ q → (check c 11 records >>= λ _. check (not (onCall (check c 11 records >>= λ _. check (not (p .shut)) 15 0) p (record { held = p .held; shut = true }) .shut)) 15 0) ≡ bad 15 0
+    go : (c : Bool) → T c → (q : Bool) → p .shut ≡ q → (check c 11 records >>= λ _. check (not (onCall (check c 11 records >>= λ _. check (not (p .shut)) 15 0) p (record { held = p .held; shut = true }) .shut)) 15 0) ≡ reject 15 0
     go true t true e = rw e
     go true t false e = rw e
     go false t q e = absurd t
@@ -108,7 +108,7 @@ all-taken : (l : List (ℕ × List ℕ)) → All (λ (c : ℕ × List ℕ). reco
 all-taken [] h = refl
 all-taken (c ∷ l) h = if-yes (leb records (c .0)) _ _ (le→leb records (c .0) (h .0)) ∙ ap (λ (r : List ℕ). c .1 ++ r) (all-taken l (h .1))
 
-only-taken : (l : List (ℕ × List ℕ)) (lent : ℕ) → records ≤ lent → pieceAnswer lent (calls freshPieces l) ≡ got tt
+only-taken : (l : List (ℕ × List ℕ)) (lent : ℕ) → records ≤ lent → pieceAnswer lent (calls freshPieces l) ≡ accept tt
 unfolding pieceAnswer allowed
 only-taken l lent h = ap (λ (p : Pieces). allowed lent p) (calls-hold l freshHeld) ∙ rw (check-yes (leb records lent) 11 records (le→leb records lent h), check-yes true 15 0 tt)
 

@@ -7,7 +7,7 @@ use mathlib.Core.List.{List, [], _∷_}
 use lib.ListN.{length}
 use lib.Dec.{eqb, ltb, ltb→lt, lt→ltb, nltb→le}
 use Rattle.wire.specs.Test.{if}
-use Rattle.layout.specs.Out.{Out, got, bad, _>>=_}
+use Rattle.layout.specs.Result.{Result, accept, reject, _>>=_}
 use Rattle.layout.specs.Rules.{Rule}
 use Rattle.layout.specs.Parts.{Name, Step, text, words, row, named, itemsIn, items}
 use Rattle.layout.proofs.Outs.{if-yes, if-no, by-test, by-got, bad-got, got-inj}
@@ -21,7 +21,7 @@ use Rattle.b3d_pieces_spec.proofs.Runs.{after, after-bind, after-cong, 
 
 -- ---- places
 
-words-place : (start n p : ℕ) (s : List ℕ) (x : Step (List ℕ)) → words start n p s ≡ got x → x .place + length (x .left) ≡ p + length s
+words-place : (start n p : ℕ) (s : List ℕ) (x : Step (List ℕ)) → words start n p s ≡ accept x → x .place + length (x .left) ≡ p + length s
 unfolding words
 words-place start zero p s x e = let q = ap (λ (v : Step (List ℕ)). v .place + length (v .left)) (got-inj e) in omega arith
 words-place start (suc n) p [] x e = bad-got e
@@ -34,8 +34,8 @@ words-place start (suc n) p (a ∷ b ∷ c ∷ d ∷ s) x e =
     omega arith)
 
 -- a reader that goes on from its place
-abbrev pub Goes : {A : Type 0} → (ℕ → List ℕ → Out (Step A)) → Type 0
-Goes {A} read = (p : ℕ) (s : List ℕ) (x : Step A) → read p s ≡ got x → x .place + length (x .left) ≡ p + length s
+abbrev pub Goes : {A : Type 0} → (ℕ → List ℕ → Result (Step A)) → Type 0
+Goes {A} read = (p : ℕ) (s : List ℕ) (x : Step A) → read p s ≡ accept x → x .place + length (x .left) ≡ p + length s
 
 pub row-goes : (rs : List Rule) → Goes (row rs)
 unfolding row
@@ -95,7 +95,7 @@ module _ (g : Totals) (f : Open) (R : List Open) (p : ℕ) (s : List ℕ) (e : p
 
 -- ---- items to the end
 
-module _ {A : Type 0} (item : ℕ → List ℕ → Out (Step A)) (less : Shrinks item) (goes : Goes item) (g : Totals) (f : Open) (R : List Open)
+module _ {A : Type 0} (item : ℕ → List ℕ → Result (Step A)) (less : Shrinks item) (goes : Goes item) (g : Totals) (f : Open) (R : List Open)
     (one : (c p : ℕ) (s : List ℕ) → p + length s ≡ f .end → (p ≡ f .end → ⊥)
     → run (begin p g (counting f c) R) s ≡ after (item p s) (λ x. run (edge (x .place) g (counting f (c + 1) ∷ R)) (x .left))) where
   stay : (c p : ℕ) → p + 0 ≡ f .end → edge p g (counting f c ∷ R) ≡ edge (f .end) g (counting f (c + 0) ∷ R)
@@ -104,12 +104,12 @@ module _ {A : Type 0} (item : ℕ → List ℕ → Out (Step A)) (less : Shrinks
       let z : c + 0 ≡ c = omega arith in
       rw (q, z)
 
-  one-more : (c : ℕ) (v : A) (o : Out (List A))
-      → after o (λ l. edge (f .end) g (counting f (c + 1 + length l) ∷ R)) ≡ after (o >>= λ l. got (v ∷ l)) (λ l. edge (f .end) g (counting f (c + length l) ∷ R))
-  one-more c v (got l) =
+  one-more : (c : ℕ) (v : A) (o : Result (List A))
+      → after o (λ l. edge (f .end) g (counting f (c + 1 + length l) ∷ R)) ≡ after (o >>= λ l. accept (v ∷ l)) (λ l. edge (f .end) g (counting f (c + length l) ∷ R))
+  one-more c v (accept l) =
       let z : c + 1 + length l ≡ c + suc (length l) = omega arith in
       ap (λ (n : ℕ). edge (f .end) g (counting f n ∷ R)) z
-  one-more c v (bad n p) = refl
+  one-more c v (reject n p) = refl
 
   items-in : (n c p : ℕ) (s : List ℕ) → length s ≤ n → p + length s ≡ f .end
       → run (edge p g (counting f c ∷ R)) s ≡ after (itemsIn n item p s) (λ l. edge (f .end) g (counting f (c + length l) ∷ R))

@@ -7,7 +7,7 @@ use mathlib.Core.List.{List, [], _∷_}
 use lib.ListN.{length, drop, length-map, length-replicate, length-drop}
 use lib.Dec.{T, eqb, ltb, eqb→eq, T-not, ltb→lt, nltb→le}
 use Rattle.wire.specs.Test.{if}
-use Rattle.layout.specs.Out.{Out, got, bad, _>>=_}
+use Rattle.layout.specs.Result.{Result, accept, reject, _>>=_}
 use Rattle.layout.specs.Rules.{any}
 use Rattle.layout.specs.Parts.{wordsOf, row, named, items}
 use Rattle.layout.proofs.Outs.{if-yes, if-no, by-test}
@@ -17,7 +17,7 @@ use Rattle.b3d_spec.specs.declared.Tag.{Tag}
 use Rattle.b3d_spec.specs.declared.Tag.the-variants.{TEXS, BRUS, VRTS, TRIS, BONE, KEYS, ANIM}
 use Rattle.b3d_spec.specs.declared.Mode.the-variants.{Strict}
 use Rattle.b3d_spec.specs.Rules.{vertexWords, vertexRow, keyWords}
-use Rattle.b3d_spec.specs.Nesting.{nesting, owed, end}
+use Rattle.b3d_spec.specs.Nesting.{nesting, requiredBetween, end}
 use Rattle.b3d_spec.specs.Parse.{filled}
 use Rattle.b3d_spec.proofs.Files.ModeLaws.{loose-vertex}
 use Rattle.b3d_spec.proofs.Files.LeafLaws.{anim-whole, anim-other}
@@ -46,7 +46,7 @@ module _ (g : Totals) (f : Open) (R : List Open) (more : (x y : ℕ) → wrongFo
       ap (λ (st : State). run st s) (if-no (ltb (f .end - p) (4 * length rs)) (fault 5 p) on t) ∙ row-whole true p g f R p s (omega arith)))
 
 -- a chunk that ends
-pub edge-leave : (p : ℕ) (g : Totals) (f : Open) (R : List Open) → p ≡ f .end → owed (nesting (f .tag)) (f .turn) end ≡ false
+pub edge-leave : (p : ℕ) (g : Totals) (f : Open) (R : List Open) → p ≡ f .end → requiredBetween (nesting (f .tag)) (f .turn) end ≡ false
     → edge p g (f ∷ R) ≡ edge p (closed (f .tag) (f .count) (f .kept) (f .told) g) R
 unfolding edge if
 edge-leave p g f R e o = rw o (if-yes (eqb p (f .end)) _ _ (eqb-yes p (f .end) e))
@@ -55,17 +55,17 @@ edge-leave p g f R e o = rw o (if-yes (eqb p (f .end)) _ _ (eqb-yes p (f .end) e
 pub record Leaf (t : Tag) : Type 0 where
   pub more : (x y : ℕ) → wrongFor t x y ≡ ltb x y
   pub flat : nests t ≡ false
-  pub free : (n : ℕ) → owed (nesting t) n end ≡ false
+  pub free : (n : ℕ) → requiredBetween (nesting t) n end ≡ false
   pub same : (k : Kept) (g : Totals) → headed t k g ≡ g
   pub some : (k : Kept) (g : Totals) → 0 < length (innerRow t k g)
 
 -- items to the end of a chunk with its fixed numbers, with a text before each or not
 module _ (g : Totals) (R : List Open) (f : Open) (L : Leaf (f .tag)) where
-  leave-run : {A : Type 0} (o : Out (List A))
-      → after o (λ l. edge (f .end) g (counting f (length l) ∷ R)) ≡ after (o >>= λ l. got (length l)) (λ n. edge (f .end) (closed (f .tag) n (f .kept) (f .told) g) R)
+  leave-run : {A : Type 0} (o : Result (List A))
+      → after o (λ l. edge (f .end) g (counting f (length l) ∷ R)) ≡ after (o >>= λ l. accept (length l)) (λ n. edge (f .end) (closed (f .tag) n (f .kept) (f .told) g) R)
   leave-run o =
       after-cong o (λ l _. edge-leave (f .end) g (counting f (length l)) R refl (L .free (f .turn)))
-      ∙ sym (after-bind o (λ l. got (length l)) _)
+      ∙ sym (after-bind o (λ l. accept (length l)) _)
 
   pub count-run : (w : Bool) → textItems (f .tag) ≡ w → (p : ℕ) (s : List ℕ) → p + length s ≡ f .end
       → run (edge p g (counting f 0 ∷ R)) s ≡ after (countItems w (innerRow (f .tag) (f .kept) g) p s) (λ n. edge (f .end) (closed (f .tag) n (f .kept) (f .told) g) R)
@@ -132,12 +132,12 @@ keys-leaf = record {
 
 -- ---- ANIM
 
-filled-none : (p : ℕ) (s ws : List ℕ) → length s ≡ 0 → filled p s ws ≡ got ws
+filled-none : (p : ℕ) (s ws : List ℕ) → length s ≡ 0 → filled p s ws ≡ accept ws
 unfolding filled
 filled-none p [] ws h = refl
 filled-none p (b ∷ s) ws h = absurd (omega arith)
 
-filled-some : (p : ℕ) (s ws : List ℕ) → 0 < length s → filled p s ws ≡ bad 5 p
+filled-some : (p : ℕ) (s ws : List ℕ) → 0 < length s → filled p s ws ≡ reject 5 p
 unfolding filled
 filled-some p [] ws h = absurd (omega arith)
 filled-some p (b ∷ s) ws h = refl
@@ -150,10 +150,10 @@ not-not : (b : Bool) → T b → T (not (not b))
 not-not true t = tt
 not-not false t = absurd t
 
-anim-here : (l p : ℕ) (b : List ℕ) (g : Totals) (R : List Open)
+anim-valid : (l p : ℕ) (b : List ℕ) (g : Totals) (R : List Open)
     → run (enter false (p + 8) g (fresh ANIM p (p + 8 + length b) l 0) R) b ≡ after (animOut g p b) (λ x. edge (p + 8 + length b) x R)
 unfolding enter fixedRowFrom fixedDone rowDone rowFrom animOut
-anim-here l p b g R =
+anim-valid l p b g R =
     let e = p + 8 + length b in
     let f = fresh ANIM p e l 0 in
     let on = rowFrom true (p + 8) 0 (p + 8) noneKept g f R in
@@ -171,4 +171,4 @@ anim-here l p b g R =
 
 pub anim-run : (l p : ℕ) (b : List ℕ) (g : Totals) (R : List Open) (e : ℕ) → p + 8 + length b ≡ e
     → run (enter false (p + 8) g (fresh ANIM p e l 0) R) b ≡ after (animOut g p b) (λ x. edge e x R)
-anim-run l p b g R e n = rw n at (anim-here l p b g R)
+anim-run l p b g R e n = rw n at (anim-valid l p b g R)

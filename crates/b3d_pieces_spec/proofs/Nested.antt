@@ -9,7 +9,7 @@ use lib.ListN.{length, take, drop, length-take, length-drop, take-append-drop}
 use lib.Dec.{eqb, ltb, leb, le→leb, ltb→lt, nltb→le}
 use Rattle.wire.specs.Test.{if}
 use Rattle.wire.specs.Bytes.{word}
-use Rattle.layout.specs.Out.{Out}
+use Rattle.layout.specs.Result.{Result}
 use Rattle.layout.specs.Chunks.{done, stop, chunk, keep}
 use Rattle.layout.proofs.Outs.{if-yes, if-no, by-test}
 use Rattle.layout.proofs.StepLaws.{row-any}
@@ -17,7 +17,7 @@ use Rattle.layout.proofs.ChunkLaws.{split-none, split-short, split-past, split-
 use Rattle.b3d_spec.specs.declared.Tag.{Tag}
 use Rattle.b3d_spec.specs.Tags.{Chunks, split, tagOf}
 use Rattle.b3d_spec.specs.Rules.{header}
-use Rattle.b3d_spec.specs.Nesting.{nesting, Reached, owed, end, next, onward, order}
+use Rattle.b3d_spec.specs.Nesting.{nesting, Reached, requiredBetween, end, next, onward, order}
 use Rattle.b3d_pieces_spec.specs.declared.Totals.{Totals}
 use Rattle.b3d_pieces_spec.specs.declared.Kept.{Kept}
 use Rattle.b3d_pieces_spec.specs.declared.Open.{Open}
@@ -34,7 +34,7 @@ by-option (some a) f g = g a refl
 -- what holds of the tag of a chunk of chunks
 pub record Holds (t : Tag) : Type 0 where
   pub deep : nests t ≡ true
-  pub bare : textItems t ≡ false
+  pub noText : textItems t ≡ false
   pub heads : (k : Kept) (g : Totals) → innerRow t k g ≡ header
 
 -- bytes that are passed over
@@ -56,7 +56,7 @@ module _ (g : Totals) (f : Open) (R : List Open) (H : Holds (f .tag)) where
       let u = a ∷ b ∷ c ∷ d ∷ e ∷ x ∷ h ∷ i ∷ s in
       let m : length (rules false f g) ≡ 2 = ap length (H .heads (f .kept) g) in
       ap (λ (st : State). run st u) (edge-on p g f R (λ z. omega arith))
-      ∙ begin-whole g f R p u (omega arith) (H .bare) (omega arith) (omega arith)
+      ∙ begin-whole g f R p u (omega arith) (H .noText) (omega arith) (omega arith)
       ∙ rw (H .heads (f .kept) g, row-any 2 p u (omega arith), H .deep)
 
   -- fewer bytes
@@ -64,10 +64,10 @@ module _ (g : Totals) (f : Open) (R : List Open) (H : Holds (f .tag)) where
   cut-run p s n h k =
       let m : length (rules false f g) ≡ 2 = ap length (H .heads (f .kept) g) in
       ap (λ (st : State). run st s) (edge-on p g f R (λ z. omega arith))
-      ∙ begin-short g f R p s n (H .bare) (omega arith) (omega arith)
+      ∙ begin-short g f R p s n (H .noText) (omega arith) (omega arith)
       ∙ rw (H .deep)
 
-module _ (f : Open) (R : List Open) (H : Holds (f .tag)) (one : Tag → Totals → ℕ → List ℕ → Out Totals) where
+module _ (f : Open) (R : List Open) (H : Holds (f .tag)) (one : Tag → Totals → ℕ → List ℕ → Result Totals) where
   -- the state where the chunk was left with these totals
   abbrev pub left : Totals → State
   left x = edge (f .end) (closed (f .tag) (f .count) (f .kept) (f .told) x) R
@@ -84,7 +84,7 @@ module _ (f : Open) (R : List Open) (H : Holds (f .tag)) (one : Tag → Totals �
   -- the end of the chunk
   end-run : (p : ℕ) (g : Totals) (r : Reached) → p ≡ f .end → edge p g (reaching f r ∷ R) ≡ rest g r done
   unfolding edge order
-  end-run p g r e = rw e (if-yes (eqb (f .end) (f .end)) _ _ (eqb-yes (f .end) (f .end) refl) ∙ owing (owed (nesting (f .tag)) (r .turn) end) g)
+  end-run p g r e = rw e (if-yes (eqb (f .end) (f .end)) _ _ (eqb-yes (f .end) (f .end) refl) ∙ owing (requiredBetween (nesting (f .tag)) (r .turn) end) g)
 
   stopped : (p : ℕ) (g : Totals) (r : Reached) → fault 3 p ≡ rest g r (stop 3 p)
   unfolding order chunksOut

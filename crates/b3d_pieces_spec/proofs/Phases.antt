@@ -9,7 +9,7 @@ use Rattle.layout.specs.Chunks.{done, stop, chunk}
 use Rattle.b3d_spec.specs.declared.Tag.{Tag}
 use Rattle.b3d_spec.specs.declared.Tag.the-variants.{BB3D, TEXS, BRUS, NODE, MESH, BONE, KEYS, ANIM}
 use Rattle.b3d_spec.specs.Tags.{is, Chunks}
-use Rattle.b3d_spec.specs.Nesting.{nesting, Reached, start, owed, end, next, onward, order, reachedAt}
+use Rattle.b3d_spec.specs.Nesting.{nesting, Reached, start, requiredBetween, end, next, onward, order, reachedAt}
 use Rattle.b3d_spec.proofs.Files.Entries.{_▸_, same-tag, Either, Each, at-next}
 
 -- In a NODE: nodes only; before them KEYS and ANIM; before those a MESH or a BONE.
@@ -88,7 +88,7 @@ onwards k h r textured-at = brushed-at ▸ rooted-at ▸ empty-at ▸ tt
 
 ordered : (k : Tag) (h : Phase) (r : Reached) → At k h r → (head : ℕ) (cs : Chunks) → Only h (order k head r cs)
 unfolding order onward if
-ordered k h r a head done = go (owed (nesting k) (r .turn) end)
+ordered k h r a head done = go (requiredBetween (nesting k) (r .turn) end)
   where
     go : (b : Bool) → Only h (if b (stop 8 head) done)
     go true = tt

@@ -8,7 +8,7 @@ use lib.ListN.{length, drop, getD}
 use lib.Dec.{T, eqb, ltb, eqb→eq, eqb-refl, ltb→lt, nltb→le, not-T}
 use Rattle.wire.specs.Test.{if}
 use Rattle.wire.specs.Bytes.{word}
-use Rattle.layout.specs.Out.{Out, got, bad, check, _>>=_}
+use Rattle.layout.specs.Result.{Result, accept, reject, check, _>>=_}
 use Rattle.layout.specs.Rules.{Rule, holds, refusal}
 use Rattle.layout.specs.Parts.{Name, Step, text, words, wordsOf, judged, row, named}
 use Rattle.layout.proofs.Outs.{if-yes, if-no, by-test, by-got, bad-got, got-inj, check-yes, check-no}
@@ -23,17 +23,17 @@ use Rattle.b3d_pieces_spec.specs.Machine.{State, live, fault, rules, tex
 -- ---- what follows a reading
 
 -- the state after a reading: faulted, or what the value leads to
-abbrev pub after : {A : Type 0} → Out A → (A → State) → State
-after (got a) k = k a
-after (bad n p) k = fault n p
+abbrev pub after : {A : Type 0} → Result A → (A → State) → State
+after (accept a) k = k a
+after (reject n p) k = fault n p
 
-pub after-bind : {A B : Type 0} (m : Out A) (f : A → Out B) (k : B → State) → after (m >>= f) k ≡ after m (λ a. after (f a) k)
-after-bind (got a) f k = refl
-after-bind (bad n p) f k = refl
+pub after-bind : {A B : Type 0} (m : Result A) (f : A → Result B) (k : B → State) → after (m >>= f) k ≡ after m (λ a. after (f a) k)
+after-bind (accept a) f k = refl
+after-bind (reject n p) f k = refl
 
-pub after-cong : {A : Type 0} (m : Out A) {k k′ : A → State} → ((a : A) → m ≡ got a → k a ≡ k′ a) → after m k ≡ after m k′
-after-cong (got a) h = h a refl
-after-cong (bad n p) h = refl
+pub after-cong : {A : Type 0} (m : Result A) {k k′ : A → State} → ((a : A) → m ≡ accept a → k a ≡ k′ a) → after m k ≡ after m k′
+after-cong (accept a) h = h a refl
+after-cong (reject n p) h = refl
 
 pub run-append : (st : State) (a b : List ℕ) → run st (a ++ b) ≡ run (run st a) b
 run-append st [] b = refl
@@ -45,9 +45,9 @@ unfolding step
 run-fault n p [] = refl
 run-fault n p (b ∷ s) = run-fault n p s
 
-pub run-after : {A : Type 0} (m : Out A) (k : A → State) (s : List ℕ) → run (after m k) s ≡ after m (λ a. run (k a) s)
-run-after (got a) k s = refl
-run-after (bad n p) k s = run-fault n p s
+pub run-after : {A : Type 0} (m : Result A) (k : A → State) (s : List ℕ) → run (after m k) s ≡ after m (λ a. run (k a) s)
+run-after (accept a) k s = refl
+run-after (reject n p) k s = run-fault n p s
 
 -- ---- tests
 
@@ -99,7 +99,7 @@ judged-on rs p ws x k = after-cong (judged rs p ws x) (λ y e. ap k (judged-got 
 
 -- ---- places
 
-pub text-place : (start p : ℕ) (s : List ℕ) (x : Step (List ℕ)) → text start p s ≡ got x → x .place + length (x .left) ≡ p + length s
+pub text-place : (start p : ℕ) (s : List ℕ) (x : Step (List ℕ)) → text start p s ≡ accept x → x .place + length (x .left) ≡ p + length s
 unfolding text
 text-place start p [] x e = bad-got e
 text-place start p (zero ∷ s) x e =
@@ -178,7 +178,7 @@ module _ (fixed : Bool) (start : ℕ) (g : Totals) (f : Open) (R : List Open) wh
       let x : Step (List ℕ) = record { value = wordsOf (length rs) s; place = p + 4 * length rs; left = drop (4 * length rs) s } in
       whole-run x p s h
       ∙ judged-on rs p (wordsOf (length rs) s) x (λ y. doneAt (y .place) (y .value) (y .left))
-      ∙ ap (λ (o : Out (Step (List ℕ))). after o (λ y. doneAt (y .place) (y .value) (y .left))) (sym (row-enough rs p s h))
+      ∙ ap (λ (o : Result (Step (List ℕ))). after o (λ y. doneAt (y .place) (y .value) (y .left))) (sym (row-enough rs p s h))
 
   -- a text, up to its zero or to the chunk's end
   pub text-run : (p : ℕ) (s : List ℕ) → p + length s ≡ f .end → run (textFrom fixed start p g f R) s ≡ after (text start p s) (λ x. run (textDone fixed start (x .place) g f R) (x .left))

@@ -8,7 +8,7 @@ use lib.ListN.{length, getD}
 use lib.Dec.{T, eqb, leb, leb→le, le→leb, nleb→lt, eqb→eq, not-T}
 use Rattle.wire.specs.Test.{if}
 use Rattle.wire.specs.Bytes.{word}
-use Rattle.layout.specs.Out.{Out, got, bad, check, _>>=_}
+use Rattle.layout.specs.Result.{Result, accept, reject, check, _>>=_}
 use Rattle.layout.specs.Parts.{number, words, judged, row}
 use Rattle.layout.proofs.Outs.{bind-bind, if-yes, if-no, by-test, check-no}
 use Rattle.layout.specs.Rows.{eachOf, sizeFits, mostBytes}
@@ -78,26 +78,26 @@ size-over h (b ∷ s) k =
 
 -- ---- checks 1 to 9
 
-ended-after : (o : Out Totals) → ended (after o over) ≡ o
+ended-after : (o : Result Totals) → ended (after o over) ≡ o
 unfolding ended
-ended-after (got g) = refl
-ended-after (bad n p) = refl
+ended-after (accept g) = refl
+ended-after (reject n p) = refl
 
 -- the machine's end, where the length is right
-body-ended : (s : List ℕ) → ended (run (body (length s)) s) ≡ (readBody Strict 8 s >>= λ t. got (sceneTotals t))
+body-ended : (s : List ℕ) → ended (run (body (length s)) s) ≡ (readBody Strict 8 s >>= λ t. accept (sceneTotals t))
 body-ended s = ap ended (body-run s) ∙ ended-after _ ∙ body-out s
 
 -- what is held, without check 10
-abbrev heldOut : Held → Out Totals
+abbrev heldOut : Held → Result Totals
 heldOut h = check (sizeFits (h .size)) 1 0 >>= λ _. wholeEnded (h .size) (h .whole)
 
-check-alike : {A B : Type 0} (b : Bool) (n p : ℕ) (f : Out B) (g : Out A) (k : A → Out B) → (T b → f ≡ (g >>= k)) → (check b n p >>= λ _. f) ≡ ((check b n p >>= λ _. g) >>= k)
+check-alike : {A B : Type 0} (b : Bool) (n p : ℕ) (f : Result B) (g : Result A) (k : A → Result B) → (T b → f ≡ (g >>= k)) → (check b n p >>= λ _. f) ≡ ((check b n p >>= λ _. g) >>= k)
 unfolding check
 check-alike true n p f g k h = h tt
 check-alike false n p f g k h = refl
 
 long-out : (a b c d e f g h : ℕ) (s : List ℕ)
-    → heldOut (heldIn (8 + length s) (word a b c d) (word e f g h) (run (body (word e f g h)) s)) ≡ (parse Strict (a ∷ b ∷ c ∷ d ∷ e ∷ f ∷ g ∷ h ∷ s) >>= λ t. got (sceneTotals t))
+    → heldOut (heldIn (8 + length s) (word a b c d) (word e f g h) (run (body (word e f g h)) s)) ≡ (parse Strict (a ∷ b ∷ c ∷ d ∷ e ∷ f ∷ g ∷ h ∷ s) >>= λ t. accept (sceneTotals t))
 unfolding parse wholeEnded row words judged check
 long-out a b c d e f g h s =
     let n : 8 + length s ≡ suc (suc (suc (suc (suc (suc (suc (suc (length s)))))))) = omega arith in
@@ -120,14 +120,14 @@ too-big : (n : ℕ) → mostBytes < n → T (not (sizeFits n))
 too-big n h = not-T (sizeFits n) (λ t. let q = leb→le n mostBytes (and-yes (leb 12 n) (leb n mostBytes) t .1) in absurd (omega arith))
 
 -- 1
-size-out : (s : List ℕ) → T (not (sizeFits (piece freshHeld s .size))) → T (not (sizeFits (length s))) → heldOut (piece freshHeld s) ≡ (parse Strict s >>= λ t. got (sceneTotals t))
+size-out : (s : List ℕ) → T (not (sizeFits (piece freshHeld s .size))) → T (not (sizeFits (length s))) → heldOut (piece freshHeld s) ≡ (parse Strict s >>= λ t. accept (sceneTotals t))
 unfolding parse
 size-out s h k = rw (check-no (sizeFits (piece freshHeld s .size)) 1 0 h, check-no (sizeFits (length s)) 1 0 k)
 
-short-out : (s : List ℕ) → length s < 12 → heldOut (piece freshHeld s) ≡ (parse Strict s >>= λ t. got (sceneTotals t))
+short-out : (s : List ℕ) → length s < 12 → heldOut (piece freshHeld s) ≡ (parse Strict s >>= λ t. accept (sceneTotals t))
 short-out s h = let e = size-is freshHeld s (omega arith) in size-out s (too-small (piece freshHeld s .size) (omega arith)) (too-small (length s) h)
 
-long : (a b c d e f g h : ℕ) (s : List ℕ) → heldOut (piece freshHeld (a ∷ b ∷ c ∷ d ∷ e ∷ f ∷ g ∷ h ∷ s)) ≡ (parse Strict (a ∷ b ∷ c ∷ d ∷ e ∷ f ∷ g ∷ h ∷ s) >>= λ t. got (sceneTotals t))
+long : (a b c d e f g h : ℕ) (s : List ℕ) → heldOut (piece freshHeld (a ∷ b ∷ c ∷ d ∷ e ∷ f ∷ g ∷ h ∷ s)) ≡ (parse Strict (a ∷ b ∷ c ∷ d ∷ e ∷ f ∷ g ∷ h ∷ s) >>= λ t. accept (sceneTotals t))
 long a b c d e f g h s =
     let u = a ∷ b ∷ c ∷ d ∷ e ∷ f ∷ g ∷ h ∷ s in
     by-test (leb (8 + length s) mostBytes)
@@ -135,7 +135,7 @@ long a b c d e f g h s =
     (λ t. let q = nleb→lt (8 + length s) mostBytes t in
     size-out u (too-big (piece freshHeld u .size) (size-over freshHeld u (omega arith))) (too-big (length u) (omega arith)))
 
-pub parse-out : (s : List ℕ) → heldOut (piece freshHeld s) ≡ (parse Strict s >>= λ t. got (sceneTotals t))
+pub parse-out : (s : List ℕ) → heldOut (piece freshHeld s) ≡ (parse Strict s >>= λ t. accept (sceneTotals t))
 parse-out [] = short-out [] (omega arith)
 parse-out (a ∷ []) = short-out (a ∷ []) (omega arith)
 parse-out (a ∷ b ∷ []) = short-out (a ∷ b ∷ []) (omega arith)
@@ -153,29 +153,29 @@ limits-alike : (t : Scene) (cs : List ℕ) → cs ≡ counts t
 unfolding eachOf tables nodeTables counts
 limits-alike t cs e = rw e
 
-answer-got : (t : Scene) → answerOf (got (sceneTotals t)) ≡ answer (got t)
+answer-got : (t : Scene) → answerOf (accept (sceneTotals t)) ≡ answer (accept t)
 unfolding answerOf answer
 answer-got t = λ i. record { number = 0; place = 0; version = scene-version t i; «n_texs» = scene-slots t i; counts = scene-counts t i }
 
-answer-bad : (n p : ℕ) → answerOf (bad n p) ≡ answer (bad n p)
+answer-bad : (n p : ℕ) → answerOf (reject n p) ≡ answer (reject n p)
 unfolding answerOf answer
 answer-bad n p = refl
 
-limited-alike : (t : Scene) (o : Out (Unit {0})) → answerOf (o >>= λ _. got (sceneTotals t)) ≡ answer (o >>= λ _. got t)
-limited-alike t (got x) = answer-got t
-limited-alike t (bad n p) = answer-bad n p
+limited-alike : (t : Scene) (o : Result (Unit {0})) → answerOf (o >>= λ _. accept (sceneTotals t)) ≡ answer (o >>= λ _. accept t)
+limited-alike t (accept x) = answer-got t
+limited-alike t (reject n p) = answer-bad n p
 
-answer-alike : (o : Out Scene)
-    → answerOf ((o >>= λ t. got (sceneTotals t)) >>= limited) ≡ answer (o >>= λ t. eachOf 10 (λ k. leb (length (rows k t)) rowLimit) tables >>= λ _. got t)
+answer-alike : (o : Result Scene)
+    → answerOf ((o >>= λ t. accept (sceneTotals t)) >>= limited) ≡ answer (o >>= λ t. eachOf 10 (λ k. leb (length (rows k t)) rowLimit) tables >>= λ _. accept t)
 unfolding limited
-answer-alike (got t) = rw (limits-alike t (countsOf (sceneTotals t)) (scene-counts t)) (limited-alike t (eachOf 10 (λ k. leb (length (rows k t)) rowLimit) tables))
-answer-alike (bad n p) = answer-bad n p
+answer-alike (accept t) = rw (limits-alike t (countsOf (sceneTotals t)) (scene-counts t)) (limited-alike t (eachOf 10 (λ k. leb (length (rows k t)) rowLimit) tables))
+answer-alike (reject n p) = answer-bad n p
 
 -- the theorem
 pub whole : (s : List ℕ) → close (piece freshHeld s) ≡ answer (judge Strict s)
 unfolding close closing judge
 whole s =
-    ap answerOf (sym (bind-bind (check (sizeFits (piece freshHeld s .size)) 1 0) _ _) ∙ ap (λ (o : Out Totals). o >>= limited) (parse-out s))
+    ap answerOf (sym (bind-bind (check (sizeFits (piece freshHeld s .size)) 1 0) _ _) ∙ ap (λ (o : Result Totals). o >>= limited) (parse-out s))
     ∙ answer-alike (parse Strict s)
 
 -- pieces, however they are cut

@@ -13,7 +13,7 @@ use Rattle.b3d_spec.specs.declared.Tag.the-variants.{BB3D, TEXS, BRUS, NODE, ME
 use Rattle.b3d_spec.specs.declared.Mode.the-variants.{Strict}
 use Rattle.b3d_spec.specs.declared.Counts.{Counts}
 use Rattle.b3d_spec.specs.Tags.{is}
-use Rattle.b3d_spec.specs.Rules.{header, fileHead, textureRow, brushesHead, brushRow, brushIds, nodeRow, meshHead, verticesHead, vertexRow, trianglesHead, triangleRow, weightRow, keysHead, keyRow, animRow, boneVertices, bonesFrom}
+use Rattle.b3d_spec.specs.Rules.{header, fileHead, textureRow, brushesHead, brushRow, brushIds, nodeRow, meshHead, verticesHead, vertexRow, trianglesHead, triangleRow, weightRow, keysHead, keyRow, animRow, boneLimit, boneLimitFrom}
 use Rattle.b3d_pieces_spec.specs.declared.Totals.{Totals}
 use Rattle.b3d_pieces_spec.specs.declared.Kept.{Kept}
 
@@ -53,7 +53,7 @@ nodeWith g own told below rows =
 
 -- the totals g where the present node has `own` vertices and, if a is true, an ANIM: with the bone limit that it hands down
 abbrev pub saying : Bool → ℕ → Totals → Totals
-saying a own g = nodeWith g own (g .told) (boneVertices (bonesFrom (above g) a own)) (g .rows)
+saying a own g = nodeWith g own (g .told) (boneLimit (boneLimitFrom (above g) a own)) (g .rows)
 
 -- ---- rows
 
@@ -80,7 +80,7 @@ innerRow NODE k g = header
 innerRow MESH k g = header
 innerRow VRTS k g = vertexRow Strict (k .first) (k .second) (k .third)
 innerRow TRIS k g = triangleRow (g .own)
-innerRow BONE k g = weightRow (boneVertices (above g))
+innerRow BONE k g = weightRow (boneLimit (above g))
 innerRow KEYS k g = keyRow (k .first)
 innerRow ANIM k g = []
 
@@ -179,8 +179,8 @@ rowsAfter KEYS c n = record { nodes = n .nodes; meshes = n .meshes; vertices = n
 rowsAfter ANIM c n = n
 
 -- the totals g after a NODE with the bone limit `told`: the node around it hands that limit down again
-abbrev pub saidAbove : Totals → ℕ → Totals
-saidAbove g told = nodeWith g (g .own) (g .told) told (g .rows)
+abbrev pub boneLimitRestored : Totals → ℕ → Totals
+boneLimitRestored g told = nodeWith g (g .own) (g .told) told (g .rows)
 
 -- the totals after a chunk of tag t with c items, the fixed data k and, as a NODE, the bone limit `told`: its rows are added to g; a VRTS and an ANIM may
 -- change the bone limit that their node hands down
@@ -188,7 +188,7 @@ abbrev pub closed : Tag → ℕ → Kept → ℕ → Totals → Totals
 closed BB3D c k told g = g
 closed TEXS c k told g = fileWith g (g .version) (g .slots) c (g .brushes)
 closed BRUS c k told g = fileWith g (g .version) (slotsFor c (k .first)) (g .textures) c
-closed NODE c k told g = saidAbove g told
+closed NODE c k told g = boneLimitRestored g told
 closed MESH c k told g = rowsWith g (rowsAfter MESH c (g .rows))
 closed VRTS c k told g = saying false c (rowsWith g (rowsAfter VRTS c (g .rows)))
 closed TRIS c k told g = rowsWith g (rowsAfter TRIS c (g .rows))

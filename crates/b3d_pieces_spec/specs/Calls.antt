@@ -4,7 +4,7 @@ use mathlib.Core.Bool.{Bool, true, false, not}
 use mathlib.Core.List.{List, [], _∷_, _++_}
 use lib.Dec.{leb}
 use Rattle.wire.specs.Test.{if}
-use Rattle.layout.specs.Out.{Out, got, bad, check, _>>=_}
+use Rattle.layout.specs.Result.{Result, accept, reject, check, _>>=_}
 use Rattle.b3d_pieces_spec.specs.Close.{Held, freshHeld, piece, closing, answerOf}
 use Rattle.b3d_spec.specs.declared.Answer.{Answer}
 
@@ -22,15 +22,15 @@ abbrev pub freshPieces : Pieces
 freshPieces = record { held = freshHeld; shut = false }
 
 -- whether a call that is lent `lent` records is allowed: 11 with the size needed if they are too few, then 15 at place 0 after the close
-unfoldable pub allowed : ℕ → Pieces → Out (Unit {0})
+unfoldable pub allowed : ℕ → Pieces → Result (Unit {0})
 allowed lent p = do
   _ ← check (leb records lent) 11 records
   check (not (p .shut)) 15 0
 
 -- the state after a call: q if the call is allowed, p as it was if it is refused
-unfoldable pub onCall : Out (Unit {0}) → Pieces → Pieces → Pieces
-onCall (got x) p q = q
-onCall (bad n k) p q = p
+unfoldable pub onCall : Result (Unit {0}) → Pieces → Pieces → Pieces
+onCall (accept x) p q = q
+onCall (reject n k) p q = p
 
 -- the state after the piece s, lent `lent` records
 unfoldable pub afterPiece : ℕ → List ℕ → Pieces → Pieces
@@ -41,7 +41,7 @@ unfoldable pub afterClose : ℕ → Pieces → Pieces
 afterClose lent p = onCall (allowed lent p) p (record { held = p .held; shut = true })
 
 -- a piece's answer: only that it was taken, or the refusal
-unfoldable pub pieceAnswer : ℕ → Pieces → Out (Unit {0})
+unfoldable pub pieceAnswer : ℕ → Pieces → Result (Unit {0})
 pieceAnswer lent p = allowed lent p
 
 -- the close's answer: a refusal of the call, or what all bytes joined come to

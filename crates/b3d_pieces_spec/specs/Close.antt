@@ -5,7 +5,7 @@ use mathlib.Core.List.{List, [], _∷_}
 use lib.ListN.{getD, replicate}
 use lib.Dec.{eqb, leb}
 use Rattle.wire.specs.Test.{if}
-use Rattle.layout.specs.Out.{Out, got, bad, check, _>>=_}
+use Rattle.layout.specs.Result.{Result, accept, reject, check, _>>=_}
 use Rattle.layout.specs.Rows.{eachOf, sizeFits, mostBytes}
 use Rattle.b3d_spec.specs.declared.Tag.the-variants.{BB3D}
 use Rattle.b3d_spec.specs.Tags.{code}
@@ -75,36 +75,36 @@ countsOf g =
     g .textures ∷ g .brushes ∷ n .nodes ∷ n .meshes ∷ n .vertices ∷ n .sets ∷ n .triangles ∷ n .weights ∷ n .lists ∷ n .keys ∷ []
 
 -- what a machine that was handed all of BB3D comes to: the totals, or its refusal
-unfoldable pub ended : State → Out Totals
-ended (live at m g f R) = got g
-ended (fault n p) = bad n p
-ended (over g) = got g
+unfoldable pub ended : State → Result Totals
+ended (live at m g f R) = accept g
+ended (fault n p) = reject n p
+ended (over g) = accept g
 
 -- what a file of `size` bytes comes to by check 2 and the machine; a file that ends inside BB3D's header is refused with 1
-unfoldable pub wholeEnded : ℕ → Whole → Out Totals
-wholeEnded size (heading i acc tag) = bad 1 0
+unfoldable pub wholeEnded : ℕ → Whole → Result Totals
+wholeEnded size (heading i acc tag) = reject 1 0
 wholeEnded size (inside tag n st) = do
   _ ← check (eqb tag (code BB3D)) 2 0
   _ ← check (eqb n (size - 8)) 2 4
   ended st
 
 -- check 10: the totals, if no table has more rows than the limit; else the lowest such table
-unfoldable pub limited : Totals → Out Totals
+unfoldable pub limited : Totals → Result Totals
 limited g = do
   _ ← eachOf 10 (λ (k : ℕ). leb (getD (countsOf g) (k - 1) 0) rowLimit) tables
-  got g
+  accept g
 
 -- what all bytes joined come to, with 01's order of checks: 1, then 2, then the machine's refusal, then 10; else the totals
-unfoldable pub closing : Held → Out Totals
+unfoldable pub closing : Held → Result Totals
 closing h = do
   _ ← check (sizeFits (h .size)) 1 0
   g ← wholeEnded (h .size) (h .whole)
   limited g
 
 -- the answer: on acceptance version, n_texs and the ten counts, on a refusal its number and place, all else 0
-unfoldable pub answerOf : Out Totals → Answer
-answerOf (got g) = record { number = 0; place = 0; version = g .version; «n_texs» = g .slots; counts = countsOf g }
-answerOf (bad n p) = record { number = n; place = p; version = 0; «n_texs» = 0; counts = replicate 10 0 }
+unfoldable pub answerOf : Result Totals → Answer
+answerOf (accept g) = record { number = 0; place = 0; version = g .version; «n_texs» = g .slots; counts = countsOf g }
+answerOf (reject n p) = record { number = n; place = p; version = 0; «n_texs» = 0; counts = replicate 10 0 }
 
 -- the answer at the close for what is held
 unfoldable pub close : Held → Answer

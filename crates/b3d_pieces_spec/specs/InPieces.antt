@@ -5,7 +5,7 @@ use mathlib.Core.List.{List, [], _∷_, _++_}
 use lib.ListN.{length}
 use Rattle.wire.specs.Bytes.{AllBytes}
 use Rattle.layout.specs.Lists.{All}
-use Rattle.layout.specs.Out.{got, bad}
+use Rattle.layout.specs.Result.{accept, reject}
 use Rattle.b3d_spec.specs.declared.Mode.the-variants.{Strict}
 use Rattle.b3d_spec.specs.Rules.{rowLimit}
 use Rattle.b3d_spec.specs.Tables.{width}
@@ -37,9 +37,9 @@ depth (inside tag n st) = opens st
 -- a call that is lent `lent` records is refused with number n and place k
 pub record Refuses (lent : ℕ) (p : Pieces) (n k : ℕ) : Type 0 where
   -- a piece answers the refusal
-  pub piece-says : pieceAnswer lent p ≡ bad n k
+  pub piece-says : pieceAnswer lent p ≡ reject n k
   -- the close answers the refusal
-  pub close-says : closeAnswer lent p ≡ answerOf (bad n k)
+  pub close-says : closeAnswer lent p ≡ answerOf (reject n k)
   -- a piece leaves the state as it was, whatever its bytes
   pub piece-leaves : (s : List ℕ) → afterPiece lent s p ≡ p
   -- the close leaves the state as it was
@@ -53,7 +53,7 @@ pub record InPieces : Type 0 where
   -- all bytes were taken if each call was lent enough records
   pub all : (l : List (ℕ × List ℕ)) → All (λ (c : ℕ × List ℕ). records ≤ c .0) l → taken l ≡ joined l
   -- until then a piece answers only that it was taken
-  pub only : (l : List (ℕ × List ℕ)) (lent : ℕ) → records ≤ lent → pieceAnswer lent (calls freshPieces l) ≡ got tt
+  pub only : (l : List (ℕ × List ℕ)) (lent : ℕ) → records ≤ lent → pieceAnswer lent (calls freshPieces l) ≡ accept tt
   -- 11 with size 19 at any call lent fewer
   pub few : (p : Pieces) (lent : ℕ) → lent < records → Refuses lent p 11 19
   -- 15 at place 0 for a piece or close after the close

@@ -12,7 +12,7 @@ use Rattle.layout.specs.Rules.{Rule, holds, refusal}
 use Rattle.b3d_spec.specs.declared.Tag.{Tag}
 use Rattle.b3d_spec.specs.declared.Tag.the-variants.{NODE}
 use Rattle.b3d_spec.specs.Tags.{is, tagOf}
-use Rattle.b3d_spec.specs.Nesting.{nesting, Reached, owed, next, end}
+use Rattle.b3d_spec.specs.Nesting.{nesting, Reached, requiredBetween, next, end}
 use Rattle.b3d_pieces_spec.specs.declared.Totals.{Totals}
 use Rattle.b3d_pieces_spec.specs.declared.Kept.{Kept}
 use Rattle.b3d_pieces_spec.specs.declared.Open.{Open}
@@ -69,7 +69,7 @@ unfoldable pub edge : ℕ → Totals → List Open → State
 edge at g [] = over g
 edge at g (f ∷ R) =
     let out = edge at (closed (f .tag) (f .count) (f .kept) (f .told) g) R in
-    let leave = if (owed (nesting (f .tag)) (f .turn) end) (fault 8 (f .head)) out in
+    let leave = if (requiredBetween (nesting (f .tag)) (f .turn) end) (fault 8 (f .head)) out in
     let on = begin at g f R in
     if (eqb at (f .end)) leave on
 

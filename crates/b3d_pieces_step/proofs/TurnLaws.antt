@@ -17,7 +17,7 @@ use Rattle.b3d_pieces_spec.specs.Good.{sum, Off}
 use Rattle.b3d_pieces_spec.proofs.Depth.{bound-most}
 use Rattle.b3d_pieces_item_steps.specs.declared.Now.{Now}
 use Rattle.b3d_pieces_item_steps.specs.declared.Now.the-variants.{Live, Push, Pop, Fault, Over}
-use Rattle.b3d_pieces_item_steps.specs.Nows.{stateWith, GoodNow, Calm, Ready, Gives, edgeHere, texted}
+use Rattle.b3d_pieces_item_steps.specs.Nows.{stateWith, GoodNow, NothingToEnter, Ready, Gives, edgeHere, texted}
 use Rattle.b3d_pieces_byte_steps.specs.Bytes.{cameOf, spareOf}
 use Rattle.b3d_pieces_step.specs.declared.Turned.{Turned}
 use Rattle.b3d_pieces_step.specs.Turns.{stackBy, slotOf, pendOf, ReadyNow, Rows, TurnIs}
@@ -72,7 +72,7 @@ pub slot-most : (n p : ℕ) → p ≡ slotOf n → n ≤ 18 → p ≤ 18
 slot-most zero p e h = let q = e ∙ slot-zero in omega arith
 slot-most (suc n) p e h = let q = e ∙ slot-suc n in omega arith
 
-calm-pend : (x : Now) (n : ℕ) → Calm x → pendOf x n ≤ n + 1
+calm-pend : (x : Now) (n : ℕ) → NothingToEnter x → pendOf x n ≤ n + 1
 calm-pend (Live at m g f) n c = omega arith
 calm-pend (Push at g f o) n c = absurd c
 calm-pend (Pop at g) n c = omega arith

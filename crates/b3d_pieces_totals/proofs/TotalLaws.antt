@@ -10,32 +10,32 @@ use Rattle.b3d_spec.specs.declared.Tag.{Tag}
 use Rattle.b3d_spec.specs.declared.Tag.the-variants.{BB3D, TEXS, BRUS, NODE, MESH, VRTS, TRIS, BONE, KEYS, ANIM}
 use Rattle.b3d_spec.specs.declared.Counts.{Counts}
 use Rattle.b3d_spec.specs.Tags.{is}
-use Rattle.b3d_spec.specs.Rules.{boneVertices, bonesFrom}
+use Rattle.b3d_spec.specs.Rules.{boneLimit, boneLimitFrom}
 use Rattle.b3d_pieces_spec.specs.declared.Totals.{Totals}
 use Rattle.b3d_pieces_spec.specs.declared.Kept.{Kept}
-use Rattle.b3d_pieces_spec.specs.Bodies.{above, saying, rowsWith, fileWith, headed, oneMore, entered, slotsFor, rowsAfter, saidAbove, closed}
+use Rattle.b3d_pieces_spec.specs.Bodies.{above, saying, rowsWith, fileWith, headed, oneMore, entered, slotsFor, rowsAfter, boneLimitRestored, closed}
 
 -- ---- what is said of bones
 
-by-anim : (a : Option ℕ) (own : ℕ) → boneVertices (bonesFrom a true own) ≡ own
+by-anim : (a : Option ℕ) (own : ℕ) → boneLimit (boneLimitFrom a true own) ≡ own
 by-anim none own = refl
 by-anim (some n) own = refl
 
 module _ (anim : Bool) (own : ℕ) (g : Totals) (r : ℕ) where
-  pub below-anim : anim ≡ true → r ≡ own → r ≡ boneVertices (bonesFrom (above g) anim own)
+  pub below-anim : anim ≡ true → r ≡ own → r ≡ boneLimit (boneLimitFrom (above g) anim own)
   below-anim e q = rw e (q ∙ sym (by-anim (above g) own))
 
-  pub below-root : anim ≡ false → g .rows .nodes ≡ 1 → r ≡ own → r ≡ boneVertices (bonesFrom (above g) anim own)
+  pub below-root : anim ≡ false → g .rows .nodes ≡ 1 → r ≡ own → r ≡ boneLimit (boneLimitFrom (above g) anim own)
   unfolding above if
   below-root e h q = rw (e, eq-eqb (g .rows .nodes) 1 h) q
 
-  pub below-told : anim ≡ false → (g .rows .nodes ≡ 1 → ⊥) → r ≡ g .told → r ≡ boneVertices (bonesFrom (above g) anim own)
+  pub below-told : anim ≡ false → (g .rows .nodes ≡ 1 → ⊥) → r ≡ g .told → r ≡ boneLimit (boneLimitFrom (above g) anim own)
   unfolding above if
   below-told e h q = rw (e, ne-eqb (g .rows .nodes) 1 h) q
 
 pub ruleset below-laws = (below-anim, below-root, below-told)
 
-pub says-is : (anim : Bool) (own : ℕ) (g : Totals) (b : ℕ) → b ≡ boneVertices (bonesFrom (above g) anim own) → (r : Totals)
+pub says-is : (anim : Bool) (own : ℕ) (g : Totals) (b : ℕ) → b ≡ boneLimit (boneLimitFrom (above g) anim own) → (r : Totals)
     → r ≡ record { version = g .version; slots = g .slots; textures = g .textures; brushes = g .brushes; own = own; told = g .told; below = b; rows = g .rows } → r ≡ saying anim own g
 says-is anim own g b e r q = rw (← e) q
 
@@ -76,7 +76,7 @@ module _ (t : Tag) (c : ℕ) (k : Kept) (told : ℕ) (g r : Totals) where
   pub leave-brus : t ≡ BRUS → (s : ℕ) → s ≡ slotsFor c (k .first) → r ≡ fileWith g (g .version) s (g .textures) c → r ≡ closed t c k told g
   leave-brus e s es q = rw (e, ← es) q
 
-  pub leave-node : t ≡ NODE → r ≡ saidAbove g told → r ≡ closed t c k told g
+  pub leave-node : t ≡ NODE → r ≡ boneLimitRestored g told → r ≡ closed t c k told g
   leave-node e q = rw e q
 
   pub leave-anim : t ≡ ANIM → r ≡ saying true (g .own) g → r ≡ closed t c k told g

@@ -2,8 +2,8 @@
 // b3d_pieces_spec.
 ghost use mathlib.Core.Path.{_≡_};
 ghost use Prim.Native.Nat.{_+_, _≤_};
-ghost use Rattle.b3d_spec.specs.Rules.{boneVertices, bonesFrom};
-ghost use Rattle.b3d_pieces_spec.specs.Bodies.{above, saying, rowsWith, fileWith, headed as headedOf, entered, slotsFor, rowsAfter, saidAbove, closed};
+ghost use Rattle.b3d_spec.specs.Rules.{boneLimit, boneLimitFrom};
+ghost use Rattle.b3d_pieces_spec.specs.Bodies.{above, saying, rowsWith, fileWith, headed as headedOf, entered, slotsFor, rowsAfter, boneLimitRestored, closed};
 ghost use Rattle.b3d_pieces_spec.specs.Good.{sum};
 use b3d_chunk_cursor::same;
 use b3d_pieces_spec::Kept;
@@ -34,7 +34,7 @@ fn with_file(g: Totals, version: usize, slots: usize, textures: usize, brushes: 
 
 // Returns the bone limit that the present node hands down: its `own` vertices if it is the root or has an ANIM (`anim`), else the limit that it got.
 fn bones_below(anim: bool, own: usize, g: Totals) -> usize
-    ensures { λ r. ⌜ r ≡ boneVertices (bonesFrom (above g) anim own) ⌝ }
+    ensures { λ r. ⌜ r ≡ boneLimit (boneLimitFrom (above g) anim own) ⌝ }
 {
     if anim {
         return own;
@@ -125,8 +125,8 @@ fn rows_after(tag: Tag, c: usize, g: Totals) -> Counts
 }
 
 // Returns `g` after a NODE with the bone limit `told`: the node around it hands that limit down again.
-fn said_above(g: Totals, told: usize) -> Totals
-    ensures { λ r. ⌜ r ≡ saidAbove g told ⌝ }
+fn bone_limit_restored(g: Totals, told: usize) -> Totals
+    ensures { λ r. ⌜ r ≡ boneLimitRestored g told ⌝ }
 {
     let mut x = g;
     x.below = told;
@@ -144,7 +144,7 @@ pub fn leave(tag: Tag, c: usize, k: Kept, told: usize, g: Totals) -> Totals
         Tag::BB3D => g,
         Tag::TEXS => with_file(g, g.version, g.slots, c, g.brushes),
         Tag::BRUS => with_file(g, g.version, slots_for(c, k.first), g.textures, c),
-        Tag::NODE => said_above(g, told),
+        Tag::NODE => bone_limit_restored(g, told),
         Tag::MESH => x,
         Tag::VRTS => says(false, c, x),
         Tag::TRIS => x,

@@ -8,7 +8,7 @@ use b3d_pieces_spec::Open;
 use b3d_spec::Tag;
 
 // Returns whether the numbers of `k` are words of four bytes.
-pub fn words_fine(k: Kept) -> bool
+pub fn words_valid(k: Kept) -> bool
     ensures { λ r. ⌜ Tests r (Words k) ⌝ }
 {
     if 4294967295 < k.first {
@@ -31,7 +31,7 @@ pub fn node_bound(level: usize, n: usize) -> bool
 }
 
 // Returns whether a chunk of tag `tag` with `level` levels of nodes left may have `n` chunks open around it.
-pub fn bound_fine(tag: Tag, level: usize, n: usize) -> bool
+pub fn bound_valid(tag: Tag, level: usize, n: usize) -> bool
     ensures { λ r. ⌜ Tests r (Bound tag level n) ⌝ }
 {
     match tag {
@@ -68,14 +68,14 @@ pub fn extra(tag: Tag) -> usize
 
 // Returns how many rows the open chunk `f` may still add. Returns 16,777,218 if they are too many, or if a file cannot have it open with `n` chunks around
 // it.
-pub fn open_load(f: Open, n: usize) -> usize
+pub fn rows_to_add(f: Open, n: usize) -> usize
     ensures { λ r. ⌜ Weighs (OpenFits f n) (f .count + extraOf (f .tag)) r ⌝ }
 {
     let tag = f.tag;
     let level = f.level;
-    if bound_fine(tag, level, n) {
+    if bound_valid(tag, level, n) {
         let kept = f.kept;
-        if words_fine(kept) {
+        if words_valid(kept) {
             let count = f.count;
             if 16777217 < count {
                 return 16777218;

@@ -2,7 +2,7 @@
 ghost use mathlib.Core.Path.{_≡_};
 ghost use Rattle.b3d_pieces_spec.specs.Good.{Off, sum, worth as worthOf};
 ghost use Rattle.b3d_pieces_valid_record.specs.Tests.{Tests, Small, RowOff};
-use crate::loads::words_fine;
+use crate::loads::words_valid;
 use b3d_pieces_spec::Kept;
 use b3d_pieces_spec::Part;
 use b3d_pieces_spec::Totals;
@@ -52,7 +52,7 @@ pub fn worth(j: usize) -> usize
 }
 
 // Returns whether a number of a row is as the machine leaves it after `size` bytes: it began at `at`, `j` of its bytes came, worth `acc`.
-pub fn row_fine(i: usize, j: usize, acc: usize, k: Kept, at: usize, size: usize) -> bool
+pub fn row_valid(i: usize, j: usize, acc: usize, k: Kept, at: usize, size: usize) -> bool
     ensures { λ r. ⌜ Tests r (RowOff i j acc k at size) ⌝ }
 {
     if size < at {
@@ -70,16 +70,16 @@ pub fn row_fine(i: usize, j: usize, acc: usize, k: Kept, at: usize, size: usize)
     if worth(j) <= acc {
         return false;
     }
-    words_fine(k)
+    words_valid(k)
 }
 
 // Returns whether the part `m` at `at` is as the machine leaves it after `size` bytes.
-pub fn part_fine(m: Part, at: usize, size: usize) -> bool
+pub fn part_valid(m: Part, at: usize, size: usize) -> bool
     ensures { λ r. ⌜ Tests r (Off m at size) ⌝ }
 {
     match m {
         Part::Text(_, _) => at == size,
-        Part::Row(_, _, i, j, acc, k) => row_fine(i, j, acc, k, at, size),
+        Part::Row(_, _, i, j, acc, k) => row_valid(i, j, acc, k, at, size),
         Part::Skip(_) => at == size,
     }
 }

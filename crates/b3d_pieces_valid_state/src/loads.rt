@@ -3,12 +3,12 @@ ghost use Prim.Native.Nat.{_≤_};
 ghost use lib.ListN.{length};
 ghost use Rattle.b3d_pieces_spec.specs.Row.{openAt};
 ghost use Rattle.b3d_pieces_valid_state.specs.Entry.{RowFits};
-use b3d_pieces_valid_record::loads::open_load;
+use b3d_pieces_valid_record::loads::rows_to_add;
 use b3d_pieces_words_row::open_at;
 
 // Returns how many rows the first `n` chunks of `row` may still add. Returns 16,777,218 if they are more than 16,777,217, or if a file cannot have these
 // chunks open.
-pub fn row_load(row: &[usize], n: usize) -> usize
+pub fn stack_rows_to_add(row: &[usize], n: usize) -> usize
     requires { ⌜ (n ≤ 18) × (209 ≤ length (now row)) ⌝ }
     ensures { λ r. ⌜ RowFits (openAt (now (row .entry))) n r ⌝ }
 {
@@ -16,7 +16,7 @@ pub fn row_load(row: &[usize], n: usize) -> usize
     let mut i = 0;
     while i < n {
         let f = open_at(row, i);
-        let v = open_load(f, i);
+        let v = rows_to_add(f, i);
         let sum = total + v;
         if 16777217 < sum {
             return 16777218;

@@ -7,25 +7,33 @@ ghost use Rattle.b3d_pieces_spec.specs.Row.{openAt};
 ghost use Rattle.b3d_pieces_judge_step.specs.Runs.{CanRun};
 ghost use Rattle.b3d_pieces_valid_record.specs.Tests.{Tests};
 ghost use Rattle.b3d_pieces_valid_state.specs.Entry.{LiveTests, NowTests, StateTests};
-use crate::loads::row_load;
+use crate::loads::stack_rows_to_add;
 use b3d_pieces_item_steps::Now;
 use b3d_pieces_judge_step::Judge;
 use b3d_pieces_spec::Open;
 use b3d_pieces_spec::Part;
 use b3d_pieces_spec::Totals;
 use b3d_pieces_step::turning::pending;
-use b3d_pieces_valid_record::loads::open_load;
-use b3d_pieces_valid_record::parts::part_fine;
+use b3d_pieces_valid_record::loads::rows_to_add;
+use b3d_pieces_valid_record::parts::part_valid;
 use b3d_pieces_valid_record::parts::sum_of;
 use b3d_pieces_valid_record::parts::worth;
 
 // Returns whether the invariant holds after `size` bytes at `at` in `f`, where `n` chunks stand around `f` and may still add `load` rows.
-pub fn live_fine(at: usize, m: Part, g: Totals, f: Open, size: usize, n: usize, load: usize) -> bool
+pub fn live_valid(
+    at: usize,
+    m: Part,
+    g: Totals,
+    f: Open,
+    size: usize,
+    n: usize,
+    load: usize,
+) -> bool
     requires { ⌜ (size ≤ 16777217) × (load ≤ 16777218) ⌝ }
     ensures { λ r. ⌜ LiveTests at m g f size n load r ⌝ }
 {
-    if part_fine(m, at, size) {
-        let v = open_load(f, n);
+    if part_valid(m, at, size) {
+        let v = rows_to_add(f, n);
         let s = sum_of(g);
         return s + (v + load) <= at;
     }
@@ -34,12 +42,12 @@ pub fn live_fine(at: usize, m: Part, g: Totals, f: Open, size: usize, n: usize, 
 
 // Returns whether the invariant holds of `held` after `size` bytes, and no chunk waits to be entered or left, where the row's `n` chunks may still add `load`
 // rows.
-pub fn now_fine(held: Now, size: usize, n: usize, load: usize) -> bool
+pub fn now_valid(held: Now, size: usize, n: usize, load: usize) -> bool
     requires { ⌜ (size ≤ 16777217) × (load ≤ 16777218) ⌝ }
     ensures { λ r. ⌜ NowTests held size n load r ⌝ }
 {
     match held {
-        Now::Live(at, m, g, f) => live_fine(at, m, g, f, size, n, load),
+        Now::Live(at, m, g, f) => live_valid(at, m, g, f, size, n, load),
         Now::Push(_, _, _, _) => false,
         Now::Pop(_, _) => false,
         Now::Fault(_, _) => true,
@@ -59,7 +67,7 @@ pub fn head_low(size: usize) -> usize
 }
 
 // Returns whether `j` is as calls leave it, over any row whose chunks in use may still add `load` rows.
-pub fn state_fine(j: Judge, load: usize) -> bool
+pub fn state_valid(j: Judge, load: usize) -> bool
     requires { ⌜ load ≤ 16777218 ⌝ }
     ensures { λ r. ⌜ StateTests j load r ⌝ }
 {
@@ -79,11 +87,11 @@ pub fn state_fine(j: Judge, load: usize) -> bool
         let w = head_low(size);
         return j.worth < w;
     }
-    now_fine(now, size, n, load)
+    now_valid(now, size, n, load)
 }
 
 // Returns whether `j` and `row` are as calls leave them.
-pub fn judge_fine(j: Judge, row: &[usize]) -> bool
+pub fn judge_valid(j: Judge, row: &[usize]) -> bool
     requires { ⌜ 209 ≤ length (now row) ⌝ }
     ensures { λ r. ⌜ Tests r (CanRun j (length (now (row .entry)) / 11) (openAt (now (row .entry)))) ⌝ }
 {
@@ -91,6 +99,6 @@ pub fn judge_fine(j: Judge, row: &[usize]) -> bool
     if 18 < n {
         return false;
     }
-    let load = row_load(row, n);
-    state_fine(j, load)
+    let load = stack_rows_to_add(row, n);
+    state_valid(j, load)
 }

@@ -8,7 +8,7 @@ use lib.Dec.{leb}
 use borrow.Author.Tests.{le-leb, lt-leb}
 use Rattle.wire.specs.Bytes.{AllBytes}
 use Rattle.layout.specs.Lists.{All}
-use Rattle.layout.specs.Out.{Out, got, bad, check}
+use Rattle.layout.specs.Result.{Result, accept, reject, check}
 use Rattle.b3d_spec.specs.declared.Answer.{Answer}
 use Rattle.b3d_spec.specs.declared.Mode.the-variants.{Strict}
 use Rattle.b3d_spec.specs.Rules.{rowLimit}
@@ -33,11 +33,11 @@ use Rattle.b3d_pieces_answers.proofs.ClosingLaws.{word-low}
 -- ---- what is allowed
 
 module _ (lent : ℕ) (p : Pieces) where
-  allowed-short : lent < 19 → allowed lent p ≡ bad 11 19
+  allowed-short : lent < 19 → allowed lent p ≡ reject 11 19
   unfolding allowed check
   allowed-short h = rw (lt-leb 19 lent h)
 
-  allowed-yes : 19 ≤ lent → p .shut ≡ false → allowed lent p ≡ got tt
+  allowed-yes : 19 ≤ lent → p .shut ≡ false → allowed lent p ≡ accept tt
   unfolding allowed check
   allowed-yes h e = rw (le-leb 19 lent h, e)
 
@@ -112,19 +112,19 @@ low-slots : (n : ℕ) (l : List Brush) → FitSlots n l → n ≤ 4294967295
 low-slots n [] h = omega arith
 low-slots n (b ∷ l) h = omega (arith, h .0)
 
-short-answer : (s : List ℕ) → AllBytes s → (o : Out Scene) → judge Strict s ≡ o → Short (answer o)
+short-answer : (s : List ℕ) → AllBytes s → (o : Result Scene) → judge Strict s ≡ o → Short (answer o)
 unfolding answer
-short-answer s all (got t) e =
+short-answer s all (accept t) e =
     let j = judge-got Strict s t e in
     let f = fine Strict s t all (j .0) .0 in
     record { place = omega arith; version = omega (arith, f .version .0); slots = low-slots (t .slots) (t .brushes) (f .slots); counts = low-counts t (j .1) }
-short-answer s all (bad n p) e =
+short-answer s all (reject n p) e =
     record { place = (let q = judge-place Strict s n p e in omega arith); version = omega arith; slots = omega arith; counts = (omega arith, (omega arith, (omega arith, (omega arith, (omega arith, (omega arith, (omega arith, (omega arith, (omega arith, (omega arith, tt)))))))))) }
 
-by-closing : (o : Out Totals) → answerBy (closingOf o) ≡ answerOf o
+by-closing : (o : Result Totals) → answerBy (closingOf o) ≡ answerOf o
 unfolding answerOf
-by-closing (got g) = refl
-by-closing (bad n p) = refl
+by-closing (accept g) = refl
+by-closing (reject n p) = refl
 
 -- the theorem
 pub judged-in-calls : {S R : Type 0} (h : Holding S R) → JudgedInCalls h

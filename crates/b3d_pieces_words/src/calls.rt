@@ -10,7 +10,7 @@ use b3d_pieces_answers::refused;
 use b3d_pieces_item_steps::Now;
 use b3d_pieces_judge_step::Judge;
 use b3d_pieces_judge_step::taking::nothing;
-use b3d_pieces_valid_state::state::judge_fine;
+use b3d_pieces_valid_state::state::judge_valid;
 use b3d_pieces_words_loop::run;
 
 // Returns the state before the first piece of a file.
@@ -48,7 +48,7 @@ pub fn judge_piece(state: Judge, row: &mut [usize], piece: &[u8]) -> Fed
             judge: state,
         };
     }
-    if judge_fine(state, row) {
+    if judge_valid(state, row) {
         let x = run(state, row, piece);
         return Fed {
             number: 0,
@@ -82,7 +82,7 @@ pub fn judge_close(state: Judge, row: &[usize]) -> Closed
             judge: state,
         };
     }
-    if judge_fine(state, row) {
+    if judge_valid(state, row) {
         let verdict = joined(state);
         let said = answer_of(verdict);
         let mut x = state;

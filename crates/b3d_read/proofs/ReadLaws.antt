@@ -8,7 +8,7 @@ use lib.Seq.{sets}
 use lib.Dec.{leb, leb→le}
 use mir.Facts.{and-yes}
 use Rattle.wire.specs.Bytes.{AllBytes}
-use Rattle.layout.specs.Out.{Out, got, bad}
+use Rattle.layout.specs.Result.{Result, accept, reject}
 use Rattle.layout.specs.Lists.{All}
 use Rattle.layout.proofs.Lists.{all-zip}
 use Rattle.layout.proofs.Outs.{by-check}
@@ -35,15 +35,15 @@ use Rattle.b3d_judge_limits.proofs.RoomLaws.{stored-over}
 -- the number says whether a file is accepted, for no refusal has the number 0
 record Accepted (mode : Mode) (room : ℕ → ℕ) (s : List ℕ) : Type 0 where
   scene : Scene
-  is : read mode room s ≡ got scene
+  is : read mode room s ≡ accept scene
 
 accepts : (mode : Mode) (room : ℕ → ℕ) (s : List ℕ) → readAnswer mode room s .number ≡ 0 → Accepted mode room s
 unfolding readAnswer answer
 accepts mode room s = go (read mode room s) refl
   where
-    go : (o : Out Scene) → read mode room s ≡ o → answer o .number ≡ 0 → Accepted mode room s
-    go (got t) e z = record { scene = t; is = e }
-    go (bad n p) e z = absurd (omega (arith, read-number mode room s n p e))
+    go : (o : Result Scene) → read mode room s ≡ o → answer o .number ≡ 0 → Accepted mode room s
+    go (accept t) e z = record { scene = t; is = e }
+    go (reject n p) e z = absurd (omega (arith, read-number mode room s n p e))
 
 count-at : (t : Scene) (k : ℕ) → 1 ≤ k → k ≤ 10 → getD (counts t) (k - 1) 0 ≡ length (rows k t)
 unfolding counts tables nodeTables
@@ -55,17 +55,17 @@ stays : (mode : Mode) (room : ℕ → ℕ) (s : List ℕ) (k : ℕ) (xs : List �
 unfolding readAnswer readTable answer tableAfter
 stays mode room s k xs = go (read mode room s)
   where
-    go : (o : Out Scene) → (answer o .number ≡ 0 → ⊥) → xs ≡ tableAfter k o xs
-    go (got t) d = absurd (d refl)
-    go (bad n p) d = refl
+    go : (o : Result Scene) → (answer o .number ≡ 0 → ⊥) → xs ≡ tableAfter k o xs
+    go (accept t) d = absurd (d refl)
+    go (reject n p) d = refl
 
 -- an accepted file is short
-few-bytes : (s : List ℕ) (t : Scene) → parse Lenient s ≡ got t → length s < 4294967296
+few-bytes : (s : List ℕ) (t : Scene) → parse Lenient s ≡ accept t → length s < 4294967296
 unfolding parse
 few-bytes s t e = by-check (sizeFits (length s)) 1 0 _ e (λ z _. let (lo, hi) = and-yes (leb 12 (length s)) (leb (length s) 16777216) z in omega (arith, leb→le (length s) 16777216 hi))
 
 -- where `read` accepts, each table has room
-fits : (mode : Mode) (s : List ℕ) (room : ℕ → ℕ) (t : Scene) → AllBytes s → read mode room s ≡ got t → All (λ k. length (table k t) ≤ room k) tables
+fits : (mode : Mode) (s : List ℕ) (room : ℕ → ℕ) (t : Scene) → AllBytes s → read mode room s ≡ accept t → All (λ k. length (table k t) ≤ room k) tables
 fits mode s room t b e =
     let g = read-got mode room s t e in
     let j = judge-lenient mode s t (g .0) in
@@ -89,7 +89,7 @@ module _ (mode : Mode) (s : List ℕ) (t1 t2 t3 t4 t5 t6 t7 t8 t9 t10 : List ℕ
     accepted : Accepted mode (roomIn lent) s
     accepted = accepts mode (roomIn lent) s (sym (ap (λ (a : Answer). a .number) answer-is) ∙ z)
 
-    judged : judge Lenient s ≡ got (accepted .scene)
+    judged : judge Lenient s ≡ accept (accepted .scene)
     judged = judge-lenient mode s (accepted .scene) (read-got mode (roomIn lent) s (accepted .scene) (accepted .is) .0)
 
     -- the rows of its bytes are those of what was read
@@ -100,7 +100,7 @@ module _ (mode : Mode) (s : List ℕ) (t1 t2 t3 t4 t5 t6 t7 t8 t9 t10 : List ℕ
     -- the answer has the counts of what was read
     counts-are : y .counts ≡ counts (accepted .scene)
     unfolding readAnswer answer
-    counts-are = ap (λ (a : Answer). a .counts) answer-is ∙ ap (λ (o : Out Scene). answer o .counts) (accepted .is)
+    counts-are = ap (λ (a : Answer). a .counts) answer-is ∙ ap (λ (o : Result Scene). answer o .counts) (accepted .is)
 
     module _ (b : AllBytes s) where
       rooms : (k : ℕ) → 1 ≤ k → k ≤ 10 → length (table k (accepted .scene)) ≤ roomIn lent k
@@ -124,7 +124,7 @@ module _ (mode : Mode) (s : List ℕ) (t1 t2 t3 t4 t5 t6 t7 t8 t9 t10 : List ℕ
         answer = answer-is;
         table = λ k lo hi.
             f .table k lo hi ∙ ap (sets (tableIn lent k) 0) (table-is k lo hi) ∙ stored-over (table k (accepted .scene)) (tableIn lent k) (rooms k lo hi)
-            ∙ sym (ap (λ (o : Out Scene). tableAfter k o (tableIn lent k)) (accepted .is));
+            ∙ sym (ap (λ (o : Result Scene). tableAfter k o (tableIn lent k)) (accepted .is));
       }
 
 pub ruleset read-laws = (read-refused, read-fillable, read-filled)

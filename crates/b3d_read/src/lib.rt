@@ -45,6 +45,6 @@ pub fn read(
     }
     b3d_judge::are_bytes(file);
     let counts = answer.counts;
-    b3d_read_tables::fill_tables(file, counts, t1, t2, t3, t4, t5, t6, t7, t8, t9, t10);
+    b3d_read_tables::store_tables(file, counts, t1, t2, t3, t4, t5, t6, t7, t8, t9, t10);
     answer
 }

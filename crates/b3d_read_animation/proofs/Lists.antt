@@ -1,4 +1,4 @@
--- Table 9 has a row of each KEYS: what the loop of `fill_moves` knows of it.
+-- Table 9 has a row of each KEYS: what the loop of `store_animation` knows of it.
 use mathlib.Core.Path.{_≡_, refl, ap, sym, subst, _∙_}
 use Prim.Native.Nat.{ℕ, _+_, _-_, _*_, _<_, _≤_}
 use native.Mathlib.Omega.{arith}
@@ -30,7 +30,7 @@ use Rattle.b3d_read_item_rows.proofs.Groups.{group-few}
 use Rattle.b3d_read_animation.proofs.Tables.{bones, lists}
 
 -- what is known of the counts at a place of the file
-pub record Moves (at base nodes keys : ℕ) (n : Counts) : Type 0 where
+pub record AnimationLeft (at base nodes keys : ℕ) (n : Counts) : Type 0 where
   pub nodes-are : n .nodes ≡ nodes
   pub keys-are : n .keys ≡ keys
   pub few-nodes : nodes ≤ at
@@ -38,11 +38,11 @@ pub record Moves (at base nodes keys : ℕ) (n : Counts) : Type 0 where
   pub few-words : base ≤ 4 * at
 
 module _ (s out₀ : List ℕ) where
-  pub lists-start : 12 ≤ length s → length (joined (fileRows 9 s)) ≤ length out₀ → TableLeft 9 (Moves 12 0 0 0) s out₀ out₀ 12 0
+  pub lists-start : 12 ≤ length s → length (joined (fileRows 9 s)) ≤ length out₀ → TableLeft 9 (AnimationLeft 12 0 0 0) s out₀ out₀ 12 0
   unfolding start
-  lists-start h r = table-start lists s out₀ (Moves 12 0 0 0) (record { nodes-are = refl; keys-are = refl; few-nodes = omega arith; few-keys = omega arith; few-words = omega arith }) h r
+  lists-start h r = table-start lists s out₀ (AnimationLeft 12 0 0 0) (record { nodes-are = refl; keys-are = refl; few-nodes = omega arith; few-keys = omega arith; few-words = omega arith }) h r
 
-  module _ (out : List ℕ) (at base nodes keys : ℕ) (v : TableLeft 9 (Moves at base nodes keys) s out₀ out at base) where
+  module _ (out : List ℕ) (at base nodes keys : ℕ) (v : TableLeft 9 (AnimationLeft at base nodes keys) s out₀ out at base) where
     module _ (r : Flat) (x : Steps s at r) (t : Tag) (p : ℕ) (b : Cursor) (q : ℕ) (w : r ≡ run.Chunk t p b q) (ok : Bool) (eo : ok ≡ is t KEYS) where
       module _ (z : ok ≡ true) where
         is-keys : T (is t KEYS)
@@ -53,28 +53,28 @@ module _ (s out₀ : List ℕ) where
 
         pub lists-room : base + 4 ≤ length out
         unfolding joined listRow
-        lists-room = table-room lists s out₀ (Moves at base nodes keys) out at base v r x t p b q w ok eo z
+        lists-room = table-room lists s out₀ (AnimationLeft at base nodes keys) out at base v r x t p b q w ok eo z
 
         module _ (n : ℕ) (en : n ≡ length (plainKeys (left b s) .items)) where
           fits-keys : keys + n ≤ q
           fits-keys =
-              let f = table-chunk lists s out₀ (Moves at base nodes keys) out at base v r x t p b q w in
+              let f = table-chunk lists s out₀ (AnimationLeft at base nodes keys) out at base v r x t p b q w in
               let k : b .end ≤ q = f .past not-node in
               omega (arith, group-few true (left b s), left-most s b, f .from, f .body .head, f .body .room, v .known .few-keys)
 
           pub lists-sum : length s < 0x100000000 → Fits w64 (keys + n)
           lists-sum small =
-              let f = table-chunk lists s out₀ (Moves at base nodes keys) out at base v r x t p b q w in
+              let f = table-chunk lists s out₀ (AnimationLeft at base nodes keys) out at base v r x t p b q w in
               record { fits = omega (arith, fits-keys, f .to) }
 
           pub lists-keys : (node : ℕ) → node ≡ nodes - 1 → (put : List ℕ) → put ≡ sets out base (listRow node keys (plainKeys (left b s)))
-              → TableLeft 9 (Moves q (base + 4) nodes (keys + n)) s out₀ put q (base + 4)
+              → TableLeft 9 (AnimationLeft q (base + 4) nodes (keys + n)) s out₀ put q (base + 4)
           unfolding joined listRow
           lists-keys node ei put ep =
-              let f = table-chunk lists s out₀ (Moves at base nodes keys) out at base v r x t p b q w in
+              let f = table-chunk lists s out₀ (AnimationLeft at base nodes keys) out at base v r x t p b q w in
               let m = v .counts in
               let e : node ≡ m .nodes - 1 = omega (arith, v .known .nodes-are) in
-              table-own lists s out₀ (Moves at base nodes keys) out at base v r x t p b q w ok eo z (Moves q (base + 4) nodes (keys + n))
+              table-own lists s out₀ (AnimationLeft at base nodes keys) out at base v r x t p b q w ok eo z (AnimationLeft q (base + 4) nodes (keys + n))
               (record {
                 nodes-are = counted-nodes p (left b s) m t ∙ if-no (is t NODE) _ _ not-node ∙ v .known .nodes-are;
                 keys-are = counted-keys p (left b s) m t ∙ if-yes (is t KEYS) _ _ is-keys ∙ omega (arith, v .known .keys-are);
@@ -87,10 +87,10 @@ module _ (s out₀ : List ℕ) where
         other-keys : counted t p (left b s) (v .counts) .keys ≡ keys
         other-keys = counted-keys p (left b s) (v .counts) t ∙ if-no (is t KEYS) _ _ (subst (λ (y : Bool). T (not y)) (sym z ∙ eo) tt) ∙ v .known .keys-are
 
-        pub lists-node : node ≡ true → TableLeft 9 (Moves q base (nodes + 1) keys) s out₀ out q base
+        pub lists-node : node ≡ true → TableLeft 9 (AnimationLeft q base (nodes + 1) keys) s out₀ out q base
         lists-node u =
-            let f = table-chunk lists s out₀ (Moves at base nodes keys) out at base v r x t p b q w in
-            table-other lists s out₀ (Moves at base nodes keys) out at base v r x t p b q w ok eo (Moves q base (nodes + 1) keys)
+            let f = table-chunk lists s out₀ (AnimationLeft at base nodes keys) out at base v r x t p b q w in
+            table-other lists s out₀ (AnimationLeft at base nodes keys) out at base v r x t p b q w ok eo (AnimationLeft q base (nodes + 1) keys)
             (record {
               nodes-are = counted-nodes p (left b s) (v .counts) t ∙ if-yes (is t NODE) _ _ (subst T (sym u ∙ en) tt) ∙ ap (λ (k : ℕ). k + 1) (v .known .nodes-are);
               keys-are = other-keys;
@@ -99,10 +99,10 @@ module _ (s out₀ : List ℕ) where
               few-words = omega (arith, v .known .few-words, f .more);
             }) z
 
-        pub lists-other : node ≡ false → TableLeft 9 (Moves q base nodes keys) s out₀ out q base
+        pub lists-other : node ≡ false → TableLeft 9 (AnimationLeft q base nodes keys) s out₀ out q base
         lists-other u =
-            let f = table-chunk lists s out₀ (Moves at base nodes keys) out at base v r x t p b q w in
-            table-other lists s out₀ (Moves at base nodes keys) out at base v r x t p b q w ok eo (Moves q base nodes keys)
+            let f = table-chunk lists s out₀ (AnimationLeft at base nodes keys) out at base v r x t p b q w in
+            table-other lists s out₀ (AnimationLeft at base nodes keys) out at base v r x t p b q w ok eo (AnimationLeft q base nodes keys)
             (record {
               nodes-are = counted-nodes p (left b s) (v .counts) t ∙ if-no (is t NODE) _ _ (subst (λ (y : Bool). T (not y)) (sym u ∙ en) tt) ∙ v .known .nodes-are;
               keys-are = other-keys;

@@ -9,7 +9,7 @@ use b3d_chunk_walk::Flat;
 use b3d_spec::Tag;
 
 // Stores the rows of tables 8, 9 and 10 of `file` in `weights`, `lists` and `keys`. The cells behind them stay as they were.
-pub fn fill_moves(file: &[u8], weights: &mut [u32], lists: &mut [u32], keys: &mut [u32])
+pub fn store_animation(file: &[u8], weights: &mut [u32], lists: &mut [u32], keys: &mut [u32])
     requires { ⌜ (length (now file) < 0x100000000) × (length (joined (fileRows 8 (now file))) ≤ length (now weights))
         × (length (joined (fileRows 9 (now file))) ≤ length (now lists)) × (length (joined (fileRows 10 (now file))) ≤ length (now keys)) ⌝ }
     ensures { λ _. ⌜ (now (weights .exit) ≡ stored (now (weights .entry)) 0 (joined (fileRows 8 (now (file .entry)))))
@@ -30,14 +30,14 @@ pub fn fill_moves(file: &[u8], weights: &mut [u32], lists: &mut [u32], keys: &mu
             return;
         };
         if b3d_chunk_cursor::same(tag, Tag::KEYS) {
-            to10 = b3d_read_item_rows::put_keys(file, body, to10, keys);
+            to10 = b3d_read_item_rows::store_keys(file, body, to10, keys);
             let node = b3d_chunk_walk::current(nodes);
-            count += b3d_read_item_rows::put_group(file, body, true, node, count, to9, lists);
+            count += b3d_read_item_rows::store_group(file, body, true, node, count, to9, lists);
             to9 += 4;
         } else if b3d_chunk_cursor::same(tag, Tag::NODE) {
             nodes += 1;
         } else if b3d_chunk_cursor::same(tag, Tag::BONE) {
-            to8 = b3d_read_item_rows::put_items(file, body, 2, to8, weights);
+            to8 = b3d_read_item_rows::store_items(file, body, 2, to8, weights);
         }
         at = next;
     }

@@ -11,7 +11,7 @@ use mir.Facts.{eqb-no}
 use borrow.Author.Tests.{eq-eqb, ne-eqb}
 use Rattle.wire.specs.Test.{if}
 use Rattle.layout.proofs.Outs.{by-test}
-use Rattle.layout.specs.Out.{got, bad, _>>=_}
+use Rattle.layout.specs.Result.{accept, reject, _>>=_}
 use Rattle.layout.specs.Lists.{All}
 use Rattle.b3d_spec.specs.declared.Answer.{Answer}
 use Rattle.b3d_spec.specs.declared.Mode.{Mode}
@@ -57,22 +57,22 @@ limited t h =
       keys = h .1 .1 .1 .1 .1 .1 .1 .1 .1 .0;
     }
 
-accepted-is : (t : Scene) → acceptedAs (t .version) (t .slots) (tallyOf t) ≡ answer (got t)
+accepted-is : (t : Scene) → acceptedAs (t .version) (t .slots) (tallyOf t) ≡ answer (accept t)
 unfolding acceptedAs answer countsIn counts tables nodeTables
 accepted-is t = refl
 
 module _ (mode : Mode) (s : List ℕ) (v : Verdict) (ev : v ≡ verdictOf (judge mode s)) where
   module _ (e p : ℕ) (w : v ≡ verdict.Bad e p) where
-    bad-is : judge mode s ≡ bad e p
+    bad-is : judge mode s ≡ reject e p
     bad-is = was-bad (judge mode s) e p (sym ev ∙ w)
 
     pub place-fits : p < 4294967296
     place-fits = let h = judge-place mode s e p bad-is in omega arith
 
-    pub judge-bad : (y : Answer) → y ≡ answer (bad e p) → y ≡ answer (judge mode s)
+    pub judge-bad : (y : Answer) → y ≡ answer (reject e p) → y ≡ answer (judge mode s)
     judge-bad y h = h ∙ ap answer (sym bad-is)
 
-    pub answer-bad : (room : ℕ → ℕ) (y : Answer) → y ≡ answer (bad e p) → y ≡ readAnswer mode room s
+    pub answer-bad : (room : ℕ → ℕ) (y : Answer) → y ≡ answer (reject e p) → y ≡ readAnswer mode room s
     unfolding readAnswer
     answer-bad room y h = h ∙ ap answer (sym (judge-first mode s e p bad-is room))
 
@@ -84,7 +84,7 @@ module _ (mode : Mode) (s : List ℕ) (v : Verdict) (ev : v ≡ verdictOf (judge
     good-limited = rw (good .same) (limited (good .scene) (judge-got mode s (good .scene) (good .is) .1))
 
     -- what is answered with ample tables
-    accepted-as : acceptedAs (x .version) (x .«n_texs») (x .tally) ≡ answer (got (good .scene))
+    accepted-as : acceptedAs (x .version) (x .«n_texs») (x .tally) ≡ answer (accept (good .scene))
     accepted-as = ap (λ (y : Summary). acceptedAs (y .version) (y .«n_texs») (y .tally)) (good .same) ∙ accepted-is (good .scene)
 
     pub judge-good : (y : Answer) → y ≡ acceptedAs (x .version) (x .«n_texs») (x .tally) → y ≡ answer (judge mode s)
@@ -101,21 +101,21 @@ module _ (mode : Mode) (s : List ℕ) (v : Verdict) (ev : v ≡ verdictOf (judge
       short-count : firstShort width (numberOf (countsIn (x .tally))) room tables ≡ short
       short-count = ap (λ (y : Summary). firstShort width (numberOf (countsIn (y .tally))) room tables) (good .same) ∙ short-is (good .scene) room
 
-      opened : read mode room s ≡ (eachOf 11 (λ k. leb (width k * count k) (room k)) tables >>= λ _. got (good .scene))
+      opened : read mode room s ≡ (eachOf 11 (λ k. leb (width k * count k) (room k)) tables >>= λ _. accept (good .scene))
       unfolding read
       opened = rw (good .is)
 
       -- the two ways of it
-      roomy : answer (read mode room s) ≡ if (eqb short 0) (answer (got (good .scene))) (answer (bad 11 short))
+      hasCountedRows : answer (read mode room s) ≡ if (eqb short 0) (answer (accept (good .scene))) (answer (reject 11 short))
       unfolding if
-      roomy =
+      hasCountedRows =
           by-test (eqb short 0)
           (λ t. let z = eqb→eq short 0 t in rw (opened, each-room width count room 11 tables (each-table (λ k. 0 < k) (λ k a b. a)) z, eq-eqb short 0 z))
           (λ f. let d = eqb-no {a = short} {b = 0} f in rw (opened, each-short width count room 11 tables d, ne-eqb short 0 d))
 
       pub answer-good : (y : Answer) → y ≡ roomAnswer (x .version) (x .«n_texs») (x .tally) room → y ≡ readAnswer mode room s
       unfolding readAnswer roomAnswer
-      answer-good y h = h ∙ rw (short-count, accepted-as) (sym roomy)
+      answer-good y h = h ∙ rw (short-count, accepted-as) (sym hasCountedRows)
 
 pub ruleset judge-laws = (place-fits, judge-bad, good-limited, judge-good)
 

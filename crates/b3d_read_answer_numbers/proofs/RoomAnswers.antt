@@ -6,7 +6,7 @@ use mir.Syntax.{w32}
 use mir.Val.{Fits}
 use borrow.Author.Tests.{eq-eqb, ne-eqb}
 use Rattle.wire.specs.Test.{if}
-use Rattle.layout.specs.Out.{bad}
+use Rattle.layout.specs.Result.{reject}
 use Rattle.b3d_spec.specs.declared.Answer.{Answer}
 use Rattle.b3d_spec.specs.Answers.{answer}
 use Rattle.b3d_spec.specs.Rules.{rowLimit}
@@ -26,9 +26,9 @@ module _ (version slots : ℕ) (t : Tally) (room : ℕ → ℕ) (n : ℕ) (en : 
   pub short-fits : n < 4294967296
   short-fits = let h = short-at-most width (numberOf (countsIn t)) room 10 tables (each-table (λ k. k ≤ 10) (λ k a b. b)) in omega (arith, en)
 
-  pub answer-short : (n ≡ 0 → ⊥) → (y : Answer) → y ≡ answer (bad 11 n) → y ≡ roomAnswer version slots t room
+  pub answer-short : (n ≡ 0 → ⊥) → (y : Answer) → y ≡ answer (reject 11 n) → y ≡ roomAnswer version slots t room
   unfolding roomAnswer if
-  answer-short d y h = h ∙ ap (λ (i : ℕ). answer (bad 11 i)) en ∙ sym (rw (ne-eqb (firstShort width (numberOf (countsIn t)) room tables) 0 (λ z. d (en ∙ z))))
+  answer-short d y h = h ∙ ap (λ (i : ℕ). answer (reject 11 i)) en ∙ sym (rw (ne-eqb (firstShort width (numberOf (countsIn t)) room tables) 0 (λ z. d (en ∙ z))))
 
   pub answer-good : n ≡ 0 → (y : Answer) → y ≡ acceptedAs version slots t → y ≡ roomAnswer version slots t room
   unfolding roomAnswer if

@@ -2,7 +2,7 @@
 ghost use mathlib.Core.Path.{_≡_};
 ghost use mathlib.Core.List.{[], _∷_};
 ghost use Prim.Native.Nat.{_<_};
-ghost use Rattle.layout.specs.Out.{bad};
+ghost use Rattle.layout.specs.Result.{reject};
 ghost use Rattle.b3d_spec.specs.Answers.{answer};
 ghost use Rattle.shared_room.specs.Rooms.{numberOf};
 ghost use Rattle.b3d_judge_limits.specs.Limits.{TallyLimited};
@@ -13,7 +13,7 @@ use b3d_spec::Answer;
 // Returns the answer for a refusal: `number` and `place`, with version, n_texs and counts all 0.
 pub fn refused(number: u32, place: usize) -> Answer
     requires { ⌜ place < 4294967296 ⌝ }
-    ensures { λ r. ⌜ r ≡ answer (bad number place) ⌝ }
+    ensures { λ r. ⌜ r ≡ answer (reject number place) ⌝ }
 {
     Answer {
         number,

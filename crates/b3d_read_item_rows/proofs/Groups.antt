@@ -1,4 +1,4 @@
--- The row of a TRIS or a KEYS on any bytes: a law for each need of `put_group`.
+-- The row of a TRIS or a KEYS on any bytes: a law for each need of `store_group`.
 use mathlib.Core.Path.{_≡_, refl, ap, _∙_}
 use Prim.Native.Nat.{ℕ, _-_, _*_, _/_, _<_, _≤_}
 use native.Mathlib.Nat.{div-le-self}

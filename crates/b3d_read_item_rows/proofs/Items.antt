@@ -1,4 +1,4 @@
--- Items that are all there, copied: a law for each need of `put_items`.
+-- Items that are all there, copied: a law for each need of `store_items`.
 use mathlib.Core.Path.{_≡_, refl, ap, sym, _∙_}
 use Prim.Native.Nat.{ℕ, _+_, _-_, _*_, _/_, _<_, _≤_, _^_}
 use native.Mathlib.Nat.{div-mul-le-self}

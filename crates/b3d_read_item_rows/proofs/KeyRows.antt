@@ -1,4 +1,4 @@
--- The rows of a KEYS on any bytes: a law for each way through `put_keys`.
+-- The rows of a KEYS on any bytes: a law for each way through `store_keys`.
 use mathlib.Core.Path.{_≡_, refl, ap, ap₂, sym, _∙_}
 use Prim.Native.Nat.{ℕ, _+_, _-_, _*_, _/_, _<_, _≤_, _^_}
 use native.Mathlib.Nat.{zero-div, div-mul-le-self, zero-mul, suc-mul}
@@ -15,16 +15,16 @@ use Rattle.wire.specs.declared.Cursor.{Cursor}
 use Rattle.wire.proofs.Left.{span, left-length, left-four, left-drop}
 use Rattle.layout.specs.Parts.{wordsOf, itemsOf}
 use Rattle.layout.proofs.StepLaws.{length-items-of}
-use Rattle.b3d_spec.specs.Mask.{mask, ones, spread, keyHas, keyMask}
+use Rattle.b3d_spec.specs.Mask.{mask, ones, padded, keyHas, keyMask}
 use Rattle.layout.specs.Rows.{joined}
 use Rattle.b3d_spec.proofs.Rows.MaskLaws.{mask-length, spread-length}
 use Rattle.b3d_spec_plain_rows.specs.Plain.{whole, plainKeys}
 use Rattle.b3d_read_item_rows.specs.Items.{keyRowsOf}
 
-pub spread-cells : (m : List Bool) (l : List (List ℕ)) → length (joined (map (spread m) l)) ≡ length l * length m
+pub spread-cells : (m : List Bool) (l : List (List ℕ)) → length (joined (map (padded m) l)) ≡ length l * length m
 unfolding joined
 spread-cells m [] = sym (zero-mul (length m))
-spread-cells m (x ∷ l) = rw (length-append (spread m x) (joined (map (spread m) l)), spread-length m x, spread-cells m l) (omega (arith, suc-mul (length l) (length m)))
+spread-cells m (x ∷ l) = rw (length-append (padded m x) (joined (map (padded m) l)), spread-length m x, spread-cells m l) (omega (arith, suc-mul (length l) (length m)))
 
 module _ (s : List ℕ) (b : Cursor) (i : Inside b (length s)) where
   -- fewer bytes than the flags
@@ -52,7 +52,7 @@ module _ (s : List ℕ) (b : Cursor) (i : Inside b (length s)) where
     unfolding wordAt after
     flags-are = rw (left-four s b (span (b .at + 4) (b .end)) i (omega arith) refl refl) (sym ef)
 
-    rows-are : keyRowsOf (left b s) ≡ map (spread (keyMask flags)) (itemsOf count width (left (span (b .at + 4) (b .end)) s))
+    rows-are : keyRowsOf (left b s) ≡ map (padded (keyMask flags)) (itemsOf count width (left (span (b .at + 4) (b .end)) s))
     unfolding keyRowsOf plainKeys whole
     rows-are =
         let d = left-drop s b 4 (span (b .at + 4) (b .end)) refl refl in
@@ -76,7 +76,7 @@ module _ (s : List ℕ) (b : Cursor) (i : Inside b (length s)) where
       pub keys-room : base + length (joined (keyRowsOf (left b s))) ≤ length out → base + count * 11 ≤ length out
       keys-room room = omega (arith, cells)
 
-      pub keys-put : (put : List ℕ) → put ≡ sets out base (joined (map (spread (keyMask flags)) (itemsOf count width (left (span (b .at + 4) (b .end)) s)))) → put ≡ sets out base (joined (keyRowsOf (left b s)))
+      pub keys-put : (put : List ℕ) → put ≡ sets out base (joined (map (padded (keyMask flags)) (itemsOf count width (left (span (b .at + 4) (b .end)) s)))) → put ≡ sets out base (joined (keyRowsOf (left b s)))
       keys-put put e = e ∙ ap (λ (l : List (List ℕ)). sets out base (joined l)) (sym rows-are)
 
     module _ (base : ℕ) (out : List ℕ) (room : base + length (joined (keyRowsOf (left b s))) ≤ length out) where

@@ -1,4 +1,4 @@
--- The rows of a VRTS on any bytes: a law for each need of `put_shape`.
+-- The rows of a VRTS on any bytes: a law for each need of `store_vertex_rows`.
 use mathlib.Core.Path.{_≡_, ap, sym, _∙_}
 use Prim.Native.Nat.{ℕ, _+_, _-_, _*_, _/_, _%_, _<_, _≤_, _^_}
 use native.Mathlib.Nat.{div-mul-le-self}
@@ -13,7 +13,7 @@ use Rattle.wire.specs.declared.Cursor.{Cursor}
 use Rattle.wire.proofs.Left.{left-length}
 use Rattle.layout.specs.Parts.{itemsOf}
 use Rattle.layout.proofs.StepLaws.{length-items-of}
-use Rattle.b3d_spec.specs.Mask.{mask, ones, spread, vertexHas, vertexMask}
+use Rattle.b3d_spec.specs.Mask.{mask, ones, padded, vertexHas, vertexMask}
 use Rattle.b3d_spec.specs.Rules.{vertexWords}
 use Rattle.layout.specs.Rows.{joined}
 use Rattle.b3d_spec.proofs.Rows.MaskLaws.{mask-length, vertex-words}
@@ -25,7 +25,7 @@ use Rattle.b3d_rule_widths.specs.Widths.{Clipped}
 use Rattle.b3d_rule_widths.proofs.Clips.{mask-clipped}
 use Rattle.b3d_read_item_rows.proofs.KeyRows.{spread-cells}
 
-vertex-cells : (f n z : ℕ) (l : List (List ℕ)) → length (joined (map (spread (vertexMask f n z)) l)) ≡ length l * 42
+vertex-cells : (f n z : ℕ) (l : List (List ℕ)) → length (joined (map (padded (vertexMask f n z)) l)) ≡ length l * 42
 unfolding vertexMask
 vertex-cells f n z l = spread-cells (mask (vertexHas f n z) 42 0) l ∙ ap (λ (k : ℕ). length l * k) (mask-length (vertexHas f n z) 42 0)
 
@@ -34,7 +34,7 @@ module _ (s : List ℕ) (b : Cursor) (h : Three) (x : ThreeWords s b h) where
   rest-inside = x .inside
 
   module _ (m k : ℕ) (cn : Clipped (h .second) 8 m) (cz : Clipped (h .third) 4 k) (w : ℕ) (ew : w ≡ vertexWords (h .first % 4) m k) where
-    rows-are : shapeRows (plainVertices (left b s)) ≡ map (spread (vertexMask (h .first % 4) m k)) (itemsOf ((h .rest .end - h .rest .at) / (4 * w)) (vertexWords (h .first % 4) m k) (left (h .rest) s))
+    rows-are : shapeRows (plainVertices (left b s)) ≡ map (padded (vertexMask (h .first % 4) m k)) (itemsOf ((h .rest .end - h .rest .at) / (4 * w)) (vertexWords (h .first % 4) m k) (left (h .rest) s))
     unfolding shapeRows plainVertices whole
     rows-are =
         let o : ones (vertexMask (h .first % 4) m k) ≡ vertexWords (h .first % 4) m k = vertex-words (h .first % 4) m k (omega arith) (cn .low) (cz .low) in
@@ -64,7 +64,7 @@ module _ (s : List ℕ) (b : Cursor) (h : Three) (x : ThreeWords s b h) where
     shape-end base = ap (λ (j : ℕ). base + j) (sym cells)
 
     pub shape-put : (base : ℕ) (out put : List ℕ)
-        → put ≡ sets out base (joined (map (spread (vertexMask (h .first % 4) m k)) (itemsOf ((h .rest .end - h .rest .at) / (4 * w)) (vertexWords (h .first % 4) m k) (left (h .rest) s))))
+        → put ≡ sets out base (joined (map (padded (vertexMask (h .first % 4) m k)) (itemsOf ((h .rest .end - h .rest .at) / (4 * w)) (vertexWords (h .first % 4) m k) (left (h .rest) s))))
         → put ≡ sets out base (joined (shapeRows (plainVertices (left b s))))
     shape-put base out put e = e ∙ ap (λ l. sets out base (joined l)) (sym rows-are)
 

@@ -3,7 +3,7 @@ use Prim.Native.Nat.{ℕ}
 use mathlib.Core.Bool.{Bool, true, false}
 use mathlib.Core.List.{List, [], _∷_, map}
 use lib.ListN.{length}
-use Rattle.b3d_spec.specs.Mask.{spread, vertexMask, keyMask}
+use Rattle.b3d_spec.specs.Mask.{padded, vertexMask, keyMask}
 use Rattle.b3d_spec.specs.Parse.{Vertices}
 use Rattle.b3d_spec.specs.Scene.{TriangleSet}
 use Rattle.b3d_spec_plain_rows.specs.Plain.{plainKeys, plainTriangles}
@@ -11,11 +11,11 @@ use Rattle.b3d_spec_plain_rows.specs.Rows.{listRow}
 
 -- the rows of table 5 for the vertices v
 unfoldable pub shapeRows : Vertices → List (List ℕ)
-shapeRows v = map (spread (vertexMask (v .flags) (v .sets) (v .size))) (v .items)
+shapeRows v = map (padded (vertexMask (v .flags) (v .sets) (v .size))) (v .items)
 
 -- the rows of table 10 for a KEYS with body b
 unfoldable pub keyRowsOf : List ℕ → List (List ℕ)
-keyRowsOf b = map (spread (keyMask (plainKeys b .flags))) (plainKeys b .items)
+keyRowsOf b = map (padded (keyMask (plainKeys b .flags))) (plainKeys b .items)
 
 -- the row of a triangle set x of mesh i, its first triangle being number r
 unfoldable pub setRow : ℕ → ℕ → TriangleSet → List ℕ

@@ -12,7 +12,7 @@ use b3d_chunk_walk::Three;
 use wire::Cursor;
 
 // Stores the items of `width` words at `c` that are all there in `out` from cell `base` on, as they stand. Returns the cell behind them.
-pub fn put_items(file: &[u8], c: Cursor, width: usize, base: usize, out: &mut [u32]) -> usize
+pub fn store_items(file: &[u8], c: Cursor, width: usize, base: usize, out: &mut [u32]) -> usize
     requires { ⌜ Inside c (length (now file)) × (0 < width) × (width ≤ 64) × (base + length (joined (whole width (left c (now file)))) ≤ length (now out)) ⌝ }
     ensures { λ r. ⌜ (r ≡ base + length (joined (whole width (left c (now (file .entry))))))
         × (now (out .exit) ≡ stored (now (out .entry)) base (joined (whole width (left c (now (file .entry)))))) ⌝ }
@@ -41,7 +41,7 @@ pub fn shape_count(h: Three) -> usize
 
 // Stores the rows of the vertices of a VRTS with this `body` in `out` from cell `base` on. Returns the cell behind them. A row has room for 8 sets of 4,
 // whatever the numbers say.
-pub fn put_shape(file: &[u8], body: Cursor, base: usize, out: &mut [u32]) -> usize
+pub fn store_vertex_rows(file: &[u8], body: Cursor, base: usize, out: &mut [u32]) -> usize
     requires { ⌜ Inside body (length (now file)) × (base + length (joined (shapeRows (plainVertices (left body (now file))))) ≤ length (now out)) ⌝ }
     ensures { λ r. ⌜ (r ≡ base + length (joined (shapeRows (plainVertices (left body (now (file .entry)))))))
         × (now (out .exit) ≡ stored (now (out .entry)) base (joined (shapeRows (plainVertices (left body (now (file .entry))))))) ⌝ }
@@ -69,7 +69,7 @@ pub fn put_shape(file: &[u8], body: Cursor, base: usize, out: &mut [u32]) -> usi
 }
 
 // Stores the rows of the keys of a KEYS with this `body` in `out` from cell `base` on. Returns the cell behind them; `base` where the flags are cut.
-pub fn put_keys(file: &[u8], body: Cursor, base: usize, out: &mut [u32]) -> usize
+pub fn store_keys(file: &[u8], body: Cursor, base: usize, out: &mut [u32]) -> usize
     requires { ⌜ Inside body (length (now file)) × (base + length (joined (keyRowsOf (left body (now file)))) ≤ length (now out)) ⌝ }
     ensures { λ r. ⌜ (r ≡ base + length (joined (keyRowsOf (left body (now (file .entry))))))
         × (now (out .exit) ≡ stored (now (out .entry)) base (joined (keyRowsOf (left body (now (file .entry)))))) ⌝ }
@@ -97,7 +97,7 @@ pub fn put_keys(file: &[u8], body: Cursor, base: usize, out: &mut [u32]) -> usiz
 
 // Stores the row of a KEYS (`keys`) of node `owner` or of a TRIS of mesh `owner` in `out` from cell `base` on: the owner, the first number of `body`, the
 // number `first` of the first item, and how many items are all there. Returns how many.
-pub fn put_group(
+pub fn store_group(
     file: &[u8],
     body: Cursor,
     keys: bool,

@@ -6,14 +6,14 @@ ghost use lib.Seq.{sets as stored};
 ghost use mathlib.Core.List.{map};
 ghost use Rattle.wire.specs.Cursors.{Inside, left};
 ghost use Rattle.layout.specs.Parts.{itemsOf};
-ghost use Rattle.b3d_spec.specs.Mask.{ones, spread, keyMask};
+ghost use Rattle.b3d_spec.specs.Mask.{ones, padded, keyMask};
 ghost use Rattle.layout.specs.Rows.{joined};
 ghost use Rattle.b3d_read_key_rows.specs.Keys.{keyAt};
 use wire::Cursor;
 
 // Stores the row of one key in `out` from cell `base` on, from byte `at` of `file`: the frame, `a` words of a position, `b` of a scale, `c` of a rotation;
 // absent parts are zeros.
-fn put_key(file: &[u8], at: usize, a: usize, b: usize, c: usize, base: usize, out: &mut [u32])
+fn store_key(file: &[u8], at: usize, a: usize, b: usize, c: usize, base: usize, out: &mut [u32])
     requires { ⌜ (a ≤ 3) × (b ≤ 3) × (c ≤ 4) × (at + 4 * (1 + a + b + c) ≤ length (now file)) × (base + 11 ≤ length (now out)) ⌝ }
     ensures { λ _. ⌜ now (out .exit) ≡ stored (now (out .entry)) base (keyAt a b c (now (file .entry)) at) ⌝ }
 {
@@ -35,7 +35,7 @@ pub fn fill_keys(
     out: &mut [u32],
 )
     requires { ⌜ Inside c (length (now file)) × (words ≡ ones (keyMask flags)) × (words ≤ 11) × (c .at + count * (4 * words) ≤ c .end) × (base + count * 11 ≤ length (now out)) ⌝ }
-    ensures { λ _. ⌜ now (out .exit) ≡ stored (now (out .entry)) base (joined (map (spread (keyMask flags)) (itemsOf count words (left c (now (file .entry)))))) ⌝ }
+    ensures { λ _. ⌜ now (out .exit) ≡ stored (now (out .entry)) base (joined (map (padded (keyMask flags)) (itemsOf count words (left c (now (file .entry)))))) ⌝ }
 {
     let position = wire::size(flags % 2 * 3);
     let scale = wire::size(flags / 2 % 2 * 3);
@@ -44,7 +44,7 @@ pub fn fill_keys(
     let mut at = c.at;
     let mut o = base;
     while 0 < left {
-        put_key(file, at, position, scale, turn, o, out);
+        store_key(file, at, position, scale, turn, o, out);
         at += 4 * words;
         o += 11;
         left -= 1;

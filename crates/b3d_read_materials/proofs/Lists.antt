@@ -11,7 +11,7 @@ use Rattle.wire.specs.Test.{if}
 use Rattle.wire.specs.Cursors.{Inside, left}
 use Rattle.wire.specs.declared.Cursor.{Cursor}
 use Rattle.wire.proofs.Left.{span}
-use Rattle.layout.specs.Out.{Out, got, bad}
+use Rattle.layout.specs.Result.{Result, accept, reject}
 use Rattle.layout.specs.Parts.{Name, Step, text, words as wordsIn, named}
 use Rattle.layout.specs.Rules.{any, NONE}
 use Rattle.layout.proofs.ChunkLaws.{split-none}
@@ -36,13 +36,13 @@ use Rattle.b3d_read_materials.specs.Texts.{namedRow, FirstIs}
 
 -- ---- rows of textures and brushes as rows of texts
 
-words-long : (start n p : ℕ) (s : List ℕ) (x : Step (List ℕ)) → wordsIn start n p s ≡ got x → length (x .value) ≡ n
+words-long : (start n p : ℕ) (s : List ℕ) (x : Step (List ℕ)) → wordsIn start n p s ≡ accept x → length (x .value) ≡ n
 words-long start n p s x e =
     by-test (leb (4 * n) (length s))
     (λ t. let h = leb→le (4 * n) (length s) t in ap (λ (y : Step (List ℕ)). length (y .value)) (got-inj (sym e ∙ words-enough start n p s h)) ∙ length-words-of n s h)
     (λ t. bad-got (sym (words-short start n p s (nleb→lt (4 * n) (length s) t)) ∙ e))
 
-named-long : (n p : ℕ) (s : List ℕ) (x : Step (Name × List ℕ)) → named (replicate n any) p s ≡ got x → length (x .value .1) ≡ n
+named-long : (n p : ℕ) (s : List ℕ) (x : Step (Name × List ℕ)) → named (replicate n any) p s ≡ accept x → length (x .value .1) ≡ n
 unfolding named
 named-long n p s x e =
     by-got (text p p s) _ e (λ t et e₁.
@@ -52,10 +52,10 @@ named-long n p s x e =
 
 module _ (n : ℕ) (row : Name × List ℕ → List ℕ) (free : ℕ) (same : (x : Name × List ℕ) → length (x .1) ≡ n → row x ≡ namedRow free x) where
   each-next : (f : ℕ → List ℕ → List (Name × List ℕ)) → ((p : ℕ) (s : List ℕ) → map row (f p s) ≡ map (namedRow free) (f p s)) → (p : ℕ) (s : List ℕ)
-      → (o : Out (Step (Name × List ℕ))) → named (replicate n any) p s ≡ o → map row (nextItem f o) ≡ map (namedRow free) (nextItem f o)
+      → (o : Result (Step (Name × List ℕ))) → named (replicate n any) p s ≡ o → map row (nextItem f o) ≡ map (namedRow free) (nextItem f o)
   unfolding nextItem
-  each-next f h p s (got x) e = ap₂ _∷_ (same (x .value) (named-long n p s x e)) (h (x .place) (x .left))
-  each-next f h p s (bad i q) e = refl
+  each-next f h p s (accept x) e = ap₂ _∷_ (same (x .value) (named-long n p s x e)) (h (x .place) (x .left))
+  each-next f h p s (reject i q) e = refl
 
   each-in : (f p : ℕ) (s : List ℕ) → map row (namedIn f n p s) ≡ map (namedRow free) (namedIn f n p s)
   unfolding namedIn

@@ -1,4 +1,4 @@
--- The vertices of a MESH: a law for each way through `put_vertices`.
+-- The vertices of a MESH: a law for each way through `store_vertices`.
 use mathlib.Core.Path.{_≡_, refl, ap, sym, _∙_}
 use Prim.Native.Nat.{ℕ, _+_, _≤_}
 use native.Mathlib.Omega.{arith}

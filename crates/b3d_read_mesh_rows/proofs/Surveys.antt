@@ -1,4 +1,4 @@
--- What stands in a MESH: laws for `count_sets`, `find_shape` and `put_mesh`.
+-- What stands in a MESH: laws for `count_sets`, `find_shape` and `store_mesh`.
 use mathlib.Core.Path.{_≡_, refl, ap, sym, _∙_}
 use Prim.Native.Nat.{ℕ, _+_, _-_, _*_, _/_, _<_, _≤_}
 use native.Mathlib.Nat.{div-le-self}

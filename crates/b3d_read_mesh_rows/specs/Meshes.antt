@@ -34,7 +34,7 @@ pub record ShapeFound (s : List ℕ) (c : Cursor) (r : Vertices) : Type 0 where
 unfoldable pub meshCells : ℕ → ℕ → ℕ → Mesh → List ℕ
 meshCells i v t m = i ∷ m .brush ∷ m .flags ∷ m .sets ∷ m .size ∷ v ∷ length (m .vertices) ∷ t ∷ length (m .triangleSets) ∷ []
 
--- what `put_mesh` promises: of the table `out`, the table `put` after it, and its answer r
+-- what `store_mesh` promises: of the table `out`, the table `put` after it, and its answer r
 pub record MeshPut (s : List ℕ) (p : ℕ) (b : Cursor) (node vertices sets base : ℕ) (out put : List ℕ) (r : Added) : Type 0 where
   -- the row of the mesh is stored from cell `base` on, and no other cell is changed
   pub stores : put ≡ stored out base (meshCells node vertices sets (plainMesh p (left b s)))

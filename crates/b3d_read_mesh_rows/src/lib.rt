@@ -15,7 +15,7 @@ use wire::Cursor;
 
 // Stores the rows of the vertices of the MESH at `p` with this `body` in `out` from cell `base` on. Returns the cell behind them; `base` where it has no
 // VRTS.
-pub fn put_vertices(file: &[u8], p: usize, body: Cursor, base: usize, out: &mut [u32]) -> usize
+pub fn store_vertices(file: &[u8], p: usize, body: Cursor, base: usize, out: &mut [u32]) -> usize
     requires { ⌜ BodyAt (now file) p body × (base + length (joined (verticesIn p (left body (now file)))) ≤ length (now out)) ⌝ }
     ensures { λ r. ⌜ (r ≡ base + length (joined (verticesIn p (left body (now (file .entry))))))
         × (now (out .exit) ≡ stored (now (out .entry)) base (joined (verticesIn p (left body (now (file .entry)))))) ⌝ }
@@ -23,7 +23,7 @@ pub fn put_vertices(file: &[u8], p: usize, body: Cursor, base: usize, out: &mut 
     let head = b3d_chunk_walk::first_word(file, body);
     match b3d_chunk_walk::seek(file, head.rest, Tag::VRTS) {
         Sought::Nothing => base,
-        Sought::Found { body: b, .. } => b3d_read_item_rows::put_shape(file, b, base, out),
+        Sought::Found { body: b, .. } => b3d_read_item_rows::store_vertex_rows(file, b, base, out),
     }
 }
 
@@ -84,7 +84,7 @@ pub struct Added {
 
 // Stores the row of the MESH at `p` of node `node` in `out` from cell `base` on; its first vertex is number `vertices`, its first triangle set number `sets`.
 // Returns how many of both it has.
-pub fn put_mesh(
+pub fn store_mesh(
     file: &[u8],
     p: usize,
     body: Cursor,

@@ -1,4 +1,4 @@
--- Tables 4 to 7 have rows of each MESH: laws of `put_one`, and of the loop of `fill_meshes`.
+-- Tables 4 to 7 have rows of each MESH: laws of `put_one`, and of the loop of `store_meshes`.
 use mathlib.Core.Path.{_≡_, refl, ap, sym, subst, _∙_}
 use Prim.Native.Nat.{ℕ, _+_, _-_, _*_, _<_, _≤_}
 use native.Mathlib.Omega.{arith}

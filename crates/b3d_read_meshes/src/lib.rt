@@ -43,11 +43,11 @@ fn put_one(
     let meshes = m.meshes + 1;
     let to4 = m.to4 + 9;
     let node = b3d_chunk_walk::current(m.nodes);
-    let more = b3d_read_mesh_rows::put_mesh(file, p, body, node, m.vertices, m.sets, m.to4, t4);
+    let more = b3d_read_mesh_rows::store_mesh(file, p, body, node, m.vertices, m.sets, m.to4, t4);
     let vertices = m.vertices + more.vertices;
     let sets = m.sets + more.sets;
-    let to5 = b3d_read_mesh_rows::put_vertices(file, p, body, m.to5, t5);
-    let to7 = b3d_read_triangle_rows::put_triangles(file, p, body, m.to7, t7);
+    let to5 = b3d_read_mesh_rows::store_vertices(file, p, body, m.to5, t5);
+    let to7 = b3d_read_triangle_rows::store_triangles(file, p, body, m.to7, t7);
     let after = b3d_read_triangle_rows::put_sets(file, p, body, m.meshes, m.triangles, m.to6, t6);
     Marks {
         nodes: m.nodes,
@@ -63,7 +63,7 @@ fn put_one(
 }
 
 // Stores the rows of tables 4 to 7 of `file` in `t4` to `t7`. The cells behind them stay as they were.
-pub fn fill_meshes(file: &[u8], t4: &mut [u32], t5: &mut [u32], t6: &mut [u32], t7: &mut [u32])
+pub fn store_meshes(file: &[u8], t4: &mut [u32], t5: &mut [u32], t6: &mut [u32], t7: &mut [u32])
     requires { ⌜ (length (now file) < 0x100000000) × (length (joined (fileRows 4 (now file))) ≤ length (now t4)) × (length (joined (fileRows 5 (now file))) ≤ length (now t5))
         × (length (joined (fileRows 6 (now file))) ≤ length (now t6)) × (length (joined (fileRows 7 (now file))) ≤ length (now t7)) ⌝ }
     ensures { λ _. ⌜ (now (t4 .exit) ≡ stored (now (t4 .entry)) 0 (joined (fileRows 4 (now (file .entry)))))

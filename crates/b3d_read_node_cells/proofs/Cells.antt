@@ -8,7 +8,7 @@ use Rattle.layout.specs.Chunks.{done, stop, chunk}
 use Rattle.layout.proofs.Outs.{if-yes, if-no, by-test}
 use Rattle.b3d_spec.specs.declared.Counts.{Counts}
 use Rattle.b3d_spec.specs.declared.Tag.the-variants.{NODE, ANIM}
-use Rattle.b3d_spec.specs.Scene.{Kind, pivot, mesh, bone, still, anim}
+use Rattle.b3d_spec.specs.Scene.{Kind, pivot, mesh, bone, noAnim, anim}
 use Rattle.b3d_spec.specs.Tables.{kindCells, animCells}
 use Rattle.b3d_spec.specs.Tags.{Chunks, is}
 use Rattle.b3d_spec_plain_rows.specs.Plain.{plainAnim}
@@ -31,8 +31,8 @@ unfolding animOf animCells plainAnim
 anim-four done = refl
 anim-four (stop n p) = refl
 anim-four (chunk t p b r) =
-    by-test (is t NODE) (λ y. rw (if-yes (is t NODE) still (if (is t ANIM) (anim (plainAnim b)) (animOf r)) y))
-    (λ y. rw (if-no (is t NODE) still (if (is t ANIM) (anim (plainAnim b)) (animOf r)) y)
+    by-test (is t NODE) (λ y. rw (if-yes (is t NODE) noAnim (if (is t ANIM) (anim (plainAnim b)) (animOf r)) y))
+    (λ y. rw (if-no (is t NODE) noAnim (if (is t ANIM) (anim (plainAnim b)) (animOf r)) y)
     (by-test (is t ANIM) (λ z. rw (if-yes (is t ANIM) (anim (plainAnim b)) (animOf r) z)) (λ z. rw (if-no (is t ANIM) (anim (plainAnim b)) (animOf r) z) (anim-four r))))
 
 pub anim-long : (cs : Chunks) → length (animCells (animOf cs)) ≡ 4

@@ -8,7 +8,7 @@ use lib.Seq.{sets, length-take-le}
 use Rattle.wire.specs.Cursors.{Inside, left}
 use Rattle.wire.specs.declared.Cursor.{Cursor}
 use Rattle.wire.proofs.Left.{left-length}
-use Rattle.layout.specs.Out.{Out, bad}
+use Rattle.layout.specs.Result.{Result, reject}
 use Rattle.layout.specs.Parts.{Name, Step, wordsOf, named as namedOf}
 use Rattle.layout.proofs.StepLaws.{length-words-of}
 use Rattle.layout.specs.Rows.{nameCells}
@@ -40,8 +40,8 @@ module _ (s : List ℕ) (p : ℕ) (b : Cursor) (y : BodyAt s p b) where
     pub node-cut : r ≡ named.Cut → (cs : Chunks) (parent end : ℕ) (k : Counts) (base : ℕ) (out : List ℕ) → out ≡ sets out base (rowOf (namedOf nodeWords (p + 8) (left b s)) cs parent end k)
     unfolding rowOf
     node-cut q cs parent end k base out =
-        let c : namedOf nodeWords (p + 8) (left b s) ≡ bad 5 (b .at) = ap (λ (j : ℕ). namedOf nodeWords j (left b s)) (sym (y .head)) ∙ named-cut s b 10 node-inside nodeWords refl r e q in
-        sym (ap (λ (o : Out (Step (Name × List ℕ))). sets out base (rowOf o cs parent end k)) c)
+        let c : namedOf nodeWords (p + 8) (left b s) ≡ reject 5 (b .at) = ap (λ (j : ℕ). namedOf nodeWords j (left b s)) (sym (y .head)) ∙ named-cut s b 10 node-inside nodeWords refl r e q in
+        sym (ap (λ (o : Result (Step (Name × List ℕ))). sets out base (rowOf o cs parent end k)) c)
 
     module _ (i : NamedIn b 10 r) (len : ℕ) (w n : Cursor) (q : r ≡ named.Is len w n) where
       pub node-row : Inside w (length s)
@@ -60,7 +60,7 @@ module _ (s : List ℕ) (p : ℕ) (b : Cursor) (y : BodyAt s p b) where
           let c = ap (λ (j : ℕ). namedOf nodeWords j (left b s)) (sym (y .head)) ∙ named-any s b 10 node-inside r e len w n q in
           let f = named-among b 10 r i len w n q in
           let l : length (take len (left b s)) ≡ len = length-take-le len (left b s) (omega (arith, left-length s b node-inside, f .row, f .after, f .to, f .same)) in
-          ap (λ (o : Out (Step (Name × List ℕ))). rowOf o cs parent end k) c
+          ap (λ (o : Result (Step (Name × List ℕ))). rowOf o cs parent end k) c
           ∙ ap (λ (j : ℕ). b .at ∷ j ∷ parent ∷ (wordsOf 10 (left w s) ++ partCells cs end k)) l
 
       pub node-put : (cs : Chunks) (parent end : ℕ) (k : Counts) (base : ℕ) (out : List ℕ) (i₀ i₁ : ℕ) → i₀ ≡ b .at → i₁ ≡ len

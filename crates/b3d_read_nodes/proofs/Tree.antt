@@ -1,4 +1,4 @@
--- Table 3 has a row of each NODE: the loop of `fill_nodes`.
+-- Table 3 has a row of each NODE: the loop of `store_nodes`.
 use mathlib.Core.Path.{_≡_, refl, ap, ap₂, sym, subst, _∙_}
 use Prim.Native.Nat.{ℕ, suc, _+_, _-_, _*_, _/_, _<_, _≤_}
 use native.Mathlib.Nat.{div-le-self}
@@ -14,7 +14,7 @@ use Rattle.wire.specs.Test.{if}
 use Rattle.wire.specs.Cursors.{left}
 use Rattle.wire.specs.declared.Cursor.{Cursor}
 use Rattle.wire.proofs.Left.{left-length}
-use Rattle.layout.specs.Out.{Out, got, bad}
+use Rattle.layout.specs.Result.{Result, accept, reject}
 use Rattle.layout.specs.Parts.{Name, Step, named}
 use Rattle.layout.proofs.ChunkLaws.{split-none}
 use Rattle.layout.proofs.Outs.{if-yes, if-no}
@@ -70,10 +70,10 @@ linked-after s rows put p q le (o ∷ l) same h =
 -- ---- a row
 
 -- it tells of two counts alone
-pub row-told : (o : Out (Step (Name × List ℕ))) (cs : Chunks) (parent end : ℕ) (n : Counts) → rowOf o cs parent end n ≡ rowOf o cs parent end (told (n .meshes) (n .weights))
+pub row-told : (o : Result (Step (Name × List ℕ))) (cs : Chunks) (parent end : ℕ) (n : Counts) → rowOf o cs parent end n ≡ rowOf o cs parent end (told (n .meshes) (n .weights))
 unfolding rowOf nodeRow kindCells told
-row-told (bad i p) cs parent end n = refl
-row-told (got x) cs parent end n = ap (λ (l : List ℕ). nameCells (x .value .0) ++ (parent ∷ (x .value .1 ++ (l ++ (animCells (animOf cs) ++ (nodesBefore end cs ∷ [])))))) (cells (kindOf cs))
+row-told (reject i p) cs parent end n = refl
+row-told (accept x) cs parent end n = ap (λ (l : List ℕ). nameCells (x .value .0) ++ (parent ∷ (x .value .1 ++ (l ++ (animCells (animOf cs) ++ (nodesBefore end cs ∷ [])))))) (cells (kindOf cs))
   where
     cells : (k : Kind) → kindCells k n ≡ kindCells k (told (n .meshes) (n .weights))
     cells pivot = refl
@@ -94,7 +94,7 @@ row-of s p b x cs parent end n =
     let ks = kindCells (kindOf cs) n in
     let ac = animCells (animOf cs) in
     let last = nodesBefore end cs ∷ [] in
-    subst (λ (o : Out (Step (Name × List ℕ))). Row (p + 8) parent (rowOf o cs parent end n)) (sym (x .is))
+    subst (λ (o : Result (Step (Name × List ℕ))). Row (p + 8) parent (rowOf o cs parent end n)) (sym (x .is))
     (record {
       size = length (x .step .value .0 .bytes);
       others = ws ++ (ks ++ (ac ++ last));

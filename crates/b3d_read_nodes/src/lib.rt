@@ -20,7 +20,7 @@ use wire::Cursor;
 
 // Stores the row of the NODE at `p` with this `body` in `out` from cell `base` on. Its own chunks begin at `next`, and `meshes` meshes and `weights` weights
 // were read before it. Nothing is stored if its text or numbers are cut.
-pub fn put_node(
+pub fn store_node(
     file: &[u8],
     p: usize,
     body: Cursor,
@@ -53,7 +53,7 @@ pub fn put_node(
 }
 
 // Stores the rows of table 3 of `file` in `out`. The cells behind them stay as they were.
-pub fn fill_nodes(file: &[u8], out: &mut [u32])
+pub fn store_nodes(file: &[u8], out: &mut [u32])
     requires { ⌜ (length (now file) < 0x100000000) × (length (joined (fileRows 3 (now file))) ≤ length (now out)) ⌝ }
     ensures { λ _. ⌜ now (out .exit) ≡ stored (now (out .entry)) 0 (joined (fileRows 3 (now (file .entry)))) ⌝ }
 {
@@ -71,7 +71,7 @@ pub fn fill_nodes(file: &[u8], out: &mut [u32])
         if b3d_chunk_cursor::same(tag, Tag::NODE) {
             let parent = b3d_read_node_parents::parent_at(file, out, nodes, p);
             let base = NODE_WIDTH * nodes;
-            put_node(file, p, body, next, parent, meshes, weights, base, out);
+            store_node(file, p, body, next, parent, meshes, weights, base, out);
             nodes += 1;
         } else if b3d_chunk_cursor::same(tag, Tag::MESH) {
             meshes += 1;

@@ -11,7 +11,7 @@ use Rattle.wire.specs.Cursors.{Inside, left}
 use Rattle.wire.specs.declared.Cursor.{Cursor}
 use Rattle.wire.proofs.Left.{span, left-drop}
 use Rattle.layout.specs.Parts.{itemsOf}
-use Rattle.b3d_spec.specs.Mask.{ones, spread}
+use Rattle.b3d_spec.specs.Mask.{ones, padded}
 use Rattle.layout.specs.Rows.{joined}
 use Rattle.b3d_rule_row_masks.specs.Runs.{run}
 use Rattle.shared_table_words.specs.Words.{wordsAt}
@@ -26,13 +26,13 @@ ones-run zero zero l = omega arith
 ones-run zero (suc m) l = ones-run zero m l
 ones-run (suc n) m l = let e = ones-run n m l in omega arith
 
-spread-off : (m : ℕ) (l : List Bool) (ws : List ℕ) → spread (replicate m false ++ l) ws ≡ replicate m 0 ++ spread l ws
-unfolding spread
+spread-off : (m : ℕ) (l : List Bool) (ws : List ℕ) → padded (replicate m false ++ l) ws ≡ replicate m 0 ++ padded l ws
+unfolding padded
 spread-off zero l ws = refl
 spread-off (suc m) l ws = ap (λ (r : List ℕ). 0 ∷ r) (spread-off m l ws)
 
-pub spread-run : (n m k : ℕ) (l : List Bool) (s : List ℕ) (p : ℕ) → spread (run n m l) (wordsAt (n + k) s p) ≡ pieceAt n m s p ++ spread l (wordsAt k s (p + 4 * n))
-unfolding spread run wordsAt pieceAt
+pub spread-run : (n m k : ℕ) (l : List Bool) (s : List ℕ) (p : ℕ) → padded (run n m l) (wordsAt (n + k) s p) ≡ pieceAt n m s p ++ padded l (wordsAt k s (p + 4 * n))
+unfolding padded run wordsAt pieceAt
 spread-run zero m k l s p =
     let e : zero + k ≡ k = omega arith in
     let f : p + 4 * 0 ≡ p = omega arith in
@@ -53,7 +53,7 @@ module _ (h a wide b w : ℕ) (l : List Bool) (last : List ℕ → ℕ → List 
   pub ones-parts : ones (run h 0 mid) ≡ h + a + b + ones l
   ones-parts = omega (arith, ones-run h 0 mid, ones-run a (3 - a) back, ones-run b (wide - b) l)
 
-  pub spread-parts : ((s : List ℕ) (p : ℕ) → spread l (wordsAt w s p) ≡ last s p) → (s : List ℕ) (p : ℕ) → spread (run h 0 mid) (wordsAt (h + a + b + w) s p) ≡ partsAt h a wide b last s p
+  pub spread-parts : ((s : List ℕ) (p : ℕ) → padded l (wordsAt w s p) ≡ last s p) → (s : List ℕ) (p : ℕ) → padded (run h 0 mid) (wordsAt (h + a + b + w) s p) ≡ partsAt h a wide b last s p
   unfolding partsAt
   spread-parts z s p =
       let e : h + a + b + w ≡ h + (a + (b + w)) = omega arith in
@@ -69,15 +69,15 @@ module _ (h a wide b w : ℕ) (l : List Bool) (last : List ℕ → ℕ → List 
 -- a mask that has w words, and the row that it makes of those from a place on
 pub record Makes (m : List Bool) (w : ℕ) (row : List ℕ → ℕ → List ℕ) : Type 0 where
   pub many : ones m ≡ w
-  pub is : (s : List ℕ) (p : ℕ) → spread m (wordsAt w s p) ≡ row s p
+  pub is : (s : List ℕ) (p : ℕ) → padded m (wordsAt w s p) ≡ row s p
 
 module _ (m : List Bool) (w : ℕ) (row : List ℕ → ℕ → List ℕ) (k : Makes m w row) (s : List ℕ) where
-  pub rows-are : (count : ℕ) (c : Cursor) → Inside c (length s) → c .at + count * (4 * w) ≤ c .end → joined (map (spread m) (itemsOf count w (left c s))) ≡ rowsAt row w count s (c .at)
+  pub rows-are : (count : ℕ) (c : Cursor) → Inside c (length s) → c .at + count * (4 * w) ≤ c .end → joined (map (padded m) (itemsOf count w (left c s))) ≡ rowsAt row w count s (c .at)
   unfolding joined rowsAt
   rows-are zero c i h = refl
   rows-are (suc count) c i h =
       let j = suc-mul count (4 * w) in
       let d = span (c .at + 4 * w) (c .end) in
-      ap₂ _++_ (ap (spread m) (words-at w s c i (omega arith)) ∙ k .is s (c .at))
-      (ap (λ (l : List ℕ). joined (map (spread m) (itemsOf count w l))) (sym (left-drop s c (4 * w) d refl refl))
+      ap₂ _++_ (ap (padded m) (words-at w s c i (omega arith)) ∙ k .is s (c .at))
+      (ap (λ (l : List ℕ). joined (map (padded m) (itemsOf count w l))) (sym (left-drop s c (4 * w) d refl refl))
       ∙ rows-are count d (record { before = omega arith; within = i .within }) (omega arith))

@@ -19,7 +19,7 @@ pub fn one_table(file: &[u8], k: usize, rows: u32, out: &mut [u32])
     } else if k == 2 {
         b3d_read_materials::fill_brushes(file, out);
     } else {
-        b3d_read_nodes::fill_nodes(file, out);
+        b3d_read_nodes::store_nodes(file, out);
     }
 }
 
@@ -44,7 +44,7 @@ pub fn meshes(
     if rows == 0 {
         return;
     }
-    b3d_read_meshes::fill_meshes(file, t4, t5, t6, t7);
+    b3d_read_meshes::store_meshes(file, t4, t5, t6, t7);
 }
 
 // Stores the rows of tables 8 to 10 of `file`, which has `weights` weights and `lists` key lists, in `t8` to `t10`: without a list there are no keys. The
@@ -61,5 +61,5 @@ pub fn moves(file: &[u8], weights: u32, lists: u32, t8: &mut [u32], t9: &mut [u3
             return;
         }
     }
-    b3d_read_animation::fill_moves(file, t8, t9, t10);
+    b3d_read_animation::store_animation(file, t8, t9, t10);
 }

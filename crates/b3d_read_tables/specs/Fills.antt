@@ -7,7 +7,7 @@ use lib.Seq.{sets as stored}
 use Rattle.layout.specs.Rows.{joined}
 use Rattle.b3d_spec_plain_rows.specs.Rows.{fileRows}
 
--- what `fill_tables` asks of a file s, the row counts and the lengths `rooms` of the ten tables
+-- what `store_tables` asks of a file s, the row counts and the lengths `rooms` of the ten tables
 pub record Fillable (s counts rooms : List ℕ) : Type 0 where
   -- places in the file fit a word
   pub small : length s < 0x100000000
@@ -16,7 +16,7 @@ pub record Fillable (s counts rooms : List ℕ) : Type 0 where
   -- each table has room for its rows
   pub room : (k : ℕ) → 1 ≤ k → k ≤ 10 → length (joined (fileRows k s)) ≤ getD rooms (k - 1) 0
 
--- what `fill_tables` promises of the ten tables before and after it
+-- what `store_tables` promises of the ten tables before and after it
 pub record Filled (s : List ℕ) (before after : List (List ℕ)) : Type 0 where
   -- table k holds its rows, then what stood there
   pub table : (k : ℕ) → 1 ≤ k → k ≤ 10 → getD after (k - 1) [] ≡ stored (getD before (k - 1) []) 0 (joined (fileRows k s))

@@ -4,7 +4,7 @@ ghost use lib.ListN.{length};
 ghost use Rattle.b3d_read_tables.specs.Fills.{Fillable, Filled};
 
 // Stores the rows of the ten tables of `file` in `table1` to `table10`; `rows` holds how many each has. The cells behind them stay as they were.
-pub fn fill_tables(
+pub fn store_tables(
     file: &[u8],
     rows: [u32; 10],
     table1: &mut [u32],

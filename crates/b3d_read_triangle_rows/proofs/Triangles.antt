@@ -1,4 +1,4 @@
--- The triangles of a MESH: the loop of `put_triangles`.
+-- The triangles of a MESH: the loop of `store_triangles`.
 use mathlib.Core.Path.{_≡_, refl, ap, sym, _∙_}
 use Prim.Native.Nat.{ℕ, _+_, _-_, _<_, _≤_}
 use mathlib.Core.List.{List, [], _++_}

@@ -12,7 +12,7 @@ use b3d_spec::Tag;
 use wire::Cursor;
 
 // Stores the triangles of the MESH at `p` with this `body` in `out` from cell `base` on. Returns the cell behind them.
-pub fn put_triangles(file: &[u8], p: usize, body: Cursor, base: usize, out: &mut [u32]) -> usize
+pub fn store_triangles(file: &[u8], p: usize, body: Cursor, base: usize, out: &mut [u32]) -> usize
     requires { ⌜ BodyAt (now file) p body × (base + length (joined (trianglesIn p (left body (now file)))) ≤ length (now out)) ⌝ }
     ensures { λ r. ⌜ (r ≡ base + length (joined (trianglesIn p (left body (now (file .entry))))))
         × (now (out .exit) ≡ stored (now (out .entry)) base (joined (trianglesIn p (left body (now (file .entry)))))) ⌝ }
@@ -25,7 +25,7 @@ pub fn put_triangles(file: &[u8], p: usize, body: Cursor, base: usize, out: &mut
             return o;
         };
         let set = b3d_chunk_walk::first_word(file, b);
-        o = b3d_read_item_rows::put_items(file, set.rest, 3, o, out);
+        o = b3d_read_item_rows::store_items(file, set.rest, 3, o, out);
         c = next;
     }
 }
@@ -58,7 +58,7 @@ pub fn put_sets(
         let Sought::Found { body: b, next, .. } = b3d_chunk_walk::seek(file, c, Tag::TRIS) else {
             return After { base: o, first: n };
         };
-        n += b3d_read_item_rows::put_group(file, b, false, mesh, n, o, out);
+        n += b3d_read_item_rows::store_group(file, b, false, mesh, n, o, out);
         o += 4;
         c = next;
     }

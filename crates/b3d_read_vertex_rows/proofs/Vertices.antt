@@ -10,7 +10,7 @@ use lib.Seq.{sets}
 use Rattle.wire.specs.Cursors.{Inside, left}
 use Rattle.wire.specs.declared.Cursor.{Cursor}
 use Rattle.layout.specs.Parts.{itemsOf}
-use Rattle.b3d_spec.specs.Mask.{ones, spread, vertexMask}
+use Rattle.b3d_spec.specs.Mask.{ones, padded, vertexMask}
 use Rattle.b3d_spec.specs.Rules.{vertexWords}
 use Rattle.layout.specs.Rows.{joined}
 use Rattle.b3d_spec.proofs.Rows.MaskLaws.{vertex-words}
@@ -33,12 +33,12 @@ unfolding setRuns
 ones-sets zero size m = omega (arith, ones-off m)
 ones-sets (suc n) size m = omega (arith, ones-run size (4 - size) (setRuns n size (replicate m false)), ones-sets n size m, suc-mul n size)
 
-spread-none : (m : ℕ) (ws : List ℕ) → spread (replicate m false) ws ≡ replicate m 0
-unfolding spread
+spread-none : (m : ℕ) (ws : List ℕ) → padded (replicate m false) ws ≡ replicate m 0
+unfolding padded
 spread-none zero ws = refl
 spread-none (suc m) ws = ap (λ (r : List ℕ). 0 ∷ r) (spread-none m ws)
 
-spread-sets : (n size m : ℕ) (s : List ℕ) (p : ℕ) → spread (setRuns n size (replicate m false)) (wordsAt (n * size) s p) ≡ setsAt n size s p ++ replicate m 0
+spread-sets : (n size m : ℕ) (s : List ℕ) (p : ℕ) → padded (setRuns n size (replicate m false)) (wordsAt (n * size) s p) ≡ setsAt n size s p ++ replicate m 0
 unfolding setRuns setsAt
 spread-sets zero size m s p = spread-none m (wordsAt (0 * size) s p)
 spread-sets (suc n) size m s p =
@@ -69,7 +69,7 @@ module _ (f n z : ℕ) (hf : f ≤ 3) (hn : n ≤ 8) (hz : z ≤ 4) (a b n′ z�
     fill-place = rw ew (omega (arith, i .within))
 
     pub fill-put : (base : ℕ) (out put : List ℕ) → put ≡ sets out base (rowsAt (vertexAt a b n′ z′) w count s (c .at))
-        → put ≡ sets out base (joined (map (spread (vertexMask f n z)) (itemsOf count (vertexWords f n z) (left c s))))
+        → put ≡ sets out base (joined (map (padded (vertexMask f n z)) (itemsOf count (vertexWords f n z) (left c s))))
     fill-put base out put e =
         let k = vertex-makes f n z hn hz in
         let y : 3 + f % 2 * 3 + f / 2 % 2 * 4 + n * z ≡ vertexWords f n z = sym (k .many) ∙ vertex-words f n z hf hn hz in

@@ -7,7 +7,7 @@ ghost use mathlib.Core.List.{map};
 ghost use Rattle.wire.specs.Cursors.{Inside, left};
 ghost use Rattle.layout.specs.Parts.{itemsOf};
 ghost use Rattle.b3d_spec.specs.Rules.{vertexWords};
-ghost use Rattle.b3d_spec.specs.Mask.{spread, vertexMask};
+ghost use Rattle.b3d_spec.specs.Mask.{padded, vertexMask};
 ghost use Rattle.layout.specs.Rows.{joined};
 ghost use Rattle.b3d_read_vertex_rows.specs.Vertices.{allSets, vertexAt};
 use wire::Cursor;
@@ -49,7 +49,7 @@ fn put_sets(file: &[u8], at: usize, sets: usize, size: usize, base: usize, out: 
 
 // Stores the row of one vertex in `out` from cell `base` on, from byte `at` of `file`: 3 words of a position, `a` of a normal, `b` of a colour, and `sets`
 // sets of `size` words; absent parts are zeros.
-fn put_vertex(
+fn store_vertex(
     file: &[u8],
     at: usize,
     a: usize,
@@ -82,7 +82,7 @@ pub fn fill_vertices(
 )
     requires { ⌜ Inside c (length (now file)) × (c .at + count * (4 * vertexWords flags sets size) ≤ c .end) × (base + count * 42 ≤ length (now out)) ⌝ }
     requires { ⌜ (flags ≤ 3) × (sets ≤ 8) × (size ≤ 4) ⌝ }
-    ensures { λ _. ⌜ now (out .exit) ≡ stored (now (out .entry)) base (joined (map (spread (vertexMask flags sets size)) (itemsOf count (vertexWords flags sets size) (left c (now (file .entry)))))) ⌝ }
+    ensures { λ _. ⌜ now (out .exit) ≡ stored (now (out .entry)) base (joined (map (padded (vertexMask flags sets size)) (itemsOf count (vertexWords flags sets size) (left c (now (file .entry)))))) ⌝ }
 {
     let a = wire::size(flags % 2 * 3);
     let b = wire::size(flags / 2 % 2 * 4);
@@ -93,7 +93,7 @@ pub fn fill_vertices(
     let mut at = c.at;
     let mut o = base;
     while 0 < left {
-        put_vertex(file, at, a, b, n, z, o, out);
+        store_vertex(file, at, a, b, n, z, o, out);
         at += 4 * words;
         o += 42;
         left -= 1;

@@ -25,7 +25,7 @@ pub fn next_mesh(file: &[u8], x: Position, row: &mut [u32]) -> Position
         return x;
     };
     let node = b3d_chunk_walk::current(nodes);
-    let more = b3d_read_mesh_rows::put_mesh(
+    let more = b3d_read_mesh_rows::store_mesh(
         file,
         p,
         body,
@@ -66,7 +66,7 @@ pub fn next_list(file: &[u8], x: Position, row: &mut [u32]) -> Position
         return x;
     };
     let node = b3d_chunk_walk::current(nodes);
-    let n = b3d_read_item_rows::put_group(file, body, true, node, counts.keys, 0, row);
+    let n = b3d_read_item_rows::store_group(file, body, true, node, counts.keys, 0, row);
     counts.nodes = nodes;
     counts.keys = counts.keys + n;
     let inner = x.inner;
@@ -133,7 +133,7 @@ pub fn next_set(file: &[u8], x: Position, row: &mut [u32]) -> Position
     let position = set.position;
     let mut counts = position.counts;
     let mesh = b3d_chunk_walk::current(counts.meshes);
-    let n = b3d_read_item_rows::put_group(file, set.body, false, mesh, counts.triangles, 0, row);
+    let n = b3d_read_item_rows::store_group(file, set.body, false, mesh, counts.triangles, 0, row);
     counts.triangles = counts.triangles + n;
     let inner = position.inner;
     let items = position.items;

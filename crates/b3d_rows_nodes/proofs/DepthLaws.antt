@@ -9,7 +9,7 @@ use lib.ListN.{length}
 use lib.Dec.{T, leb, ltb, leb→le, nleb→lt, lt→ltb}
 use Rattle.wire.specs.Test.{if}
 use Rattle.layout.specs.Chunks.{done, chunk}
-use Rattle.layout.specs.Out.{Out, got}
+use Rattle.layout.specs.Result.{Result, accept}
 use Rattle.layout.specs.Parts.{Name, Step, named}
 use Rattle.layout.proofs.Outs.{by-got, bad-got, by-test, if-no}
 use Rattle.b3d_spec.specs.declared.Mode.the-variants.{Lenient}
@@ -17,9 +17,9 @@ use Rattle.b3d_spec.specs.declared.Tag.{Tag}
 use Rattle.b3d_spec.specs.declared.Tag.the-variants.{TEXS, BRUS, NODE, MESH, BONE, KEYS, ANIM}
 use Rattle.b3d_spec.specs.Answers.{judge}
 use Rattle.b3d_spec.specs.Nesting.{inside}
-use Rattle.b3d_spec.specs.Parse.{readKind, readMoves, Inner, readNodes, readBelow, readNode}
-use Rattle.b3d_spec.specs.Rules.{nodeRow, levels, boneVertices, bonesBelow}
-use Rattle.b3d_spec.specs.Scene.{Kind, Keys, Anim, still, Data, Forest, leaf, node, Scene}
+use Rattle.b3d_spec.specs.Parse.{readKind, readAnimation, Inner, readNodes, readBelow, readNode}
+use Rattle.b3d_spec.specs.Rules.{nodeRow, levels, boneLimit, boneLimitBelow}
+use Rattle.b3d_spec.specs.Scene.{Kind, Keys, Anim, noAnim, Data, Forest, noNodes, node, Scene}
 use Rattle.b3d_spec.specs.Tags.{Chunks, split, is}
 use Rattle.b3d_spec.proofs.AnswerLaws.{judge-got}
 use Rattle.b3d_spec_chunk_places.proofs.Nodes.{ByParts, parts-read}
@@ -87,7 +87,7 @@ module _ (s : List ℕ) where
         let k = more q (h .1) (g .count) (g .left) (λ i lo hi. subst (λ (o : List Open). length o + d ≤ 16) (sym (g .closed i lo)) (room i (omega (arith, h .0 .from)) hi)) in
         record { count = k .count; left = k .left; closed = λ i lo. k .closed i lo ∙ g .closed i (omega arith); is = λ z. g .is (k .is z) }
 
-    regions : (brushes vertices : ℕ) (read : ℕ → List ℕ → Out Inner) → ((p : ℕ) (b : List ℕ) (x : Inner) → read p b ≡ got x → (at : ℕ) → Here s at NODE p b → NodeSunk d at p b) → ByParts Lenient brushes vertices read Region
+    regions : (brushes vertices : ℕ) (read : ℕ → List ℕ → Result Inner) → ((p : ℕ) (b : List ℕ) (x : Inner) → read p b ≡ accept x → (at : ℕ) → Here s at NODE p b → NodeSunk d at p b) → ByParts Lenient brushes vertices read Region
     regions brushes vertices read one = record {
       none = none-region;
       nodes = λ p b r x f g more. node-region p b r (one p b x g) more;
@@ -98,7 +98,7 @@ module _ (s : List ℕ) where
     }
 
   -- into a node, where its own nodes have a level less
-  into-node : (d at p : ℕ) (b : List ℕ) → Here s at NODE p b → (h : Step (Name × List ℕ)) → named nodeRow (p + 8) b ≡ got h → Sunk d (h .place) (p + 8 + length b) → NodeSunk (suc d) at p b
+  into-node : (d at p : ℕ) (b : List ℕ) → Here s at NODE p b → (h : Step (Name × List ℕ)) → named nodeRow (p + 8) b ≡ accept h → Sunk d (h .place) (p + 8 + length b) → NodeSunk (suc d) at p b
   unfolding shallow if
   into-node d at p b here h eh below n l room =
       let q = p + 8 + length b in
@@ -112,19 +112,19 @@ module _ (s : List ℕ) where
             (and-true (ltb (length (openAt p l)) 16) (shallow (n + 1) o (flatAt s (h .place))) (lt→ltb (length (openAt p l)) 16 (omega arith)) (g .is z));
       }
 
-  node-sunk : (l brushes : ℕ) (above : Option ℕ) (p : ℕ) (b : List ℕ) (x : Inner) → readNode Lenient l brushes above p b ≡ got x → (at : ℕ) → Here s at NODE p b → NodeSunk l at p b
+  node-sunk : (l brushes : ℕ) (above : Option ℕ) (p : ℕ) (b : List ℕ) (x : Inner) → readNode Lenient l brushes above p b ≡ accept x → (at : ℕ) → Here s at NODE p b → NodeSunk l at p b
   unfolding readNode readBelow inside
   node-sunk zero brushes above p b x g at here = bad-got g
   node-sunk (suc l) brushes above p b x g at here =
       by-got (named nodeRow (p + 8) b) _ g (λ h eh g₁.
-      by-got (readKind Lenient brushes (boneVertices above) (inside NODE p (h .place) (h .left))) _ g₁ (λ kd ek g₂.
-      by-got (readMoves still (kd .rest)) _ g₂ (λ m em g₃.
+      by-got (readKind Lenient brushes (boneLimit above) (inside NODE p (h .place) (h .left))) _ g₁ (λ kd ek g₂.
+      by-got (readAnimation noAnim (kd .rest)) _ g₂ (λ m em g₃.
       let d : Data = record { name = h .value .0; words = h .value .1; kind = kd .value; keys = m .value .keys; anim = m .value .anim } in
-      by-got (readNodes (readNode Lenient l brushes (bonesBelow above d)) (m .rest)) _ g₃ (λ f ef g₄.
+      by-got (readNodes (readNode Lenient l brushes (boneLimitBelow above d)) (m .rest)) _ g₃ (λ f ef g₄.
       let q = p + 8 + length b in
-      let read = readNode Lenient l brushes (bonesBelow above d) in
-      let parts = regions l q brushes (boneVertices above) read (λ p′ b′ y ey. node-sunk l brushes (bonesBelow above d) p′ b′ y ey) in
-      let v = parts-read Lenient brushes (boneVertices above) read (Region l q) parts p (split (h .place) (h .left)) kd ek m em f ef (h .place) (inside-laid s at NODE p b here h eh) in
+      let read = readNode Lenient l brushes (boneLimitBelow above d) in
+      let parts = regions l q brushes (boneLimit above) read (λ p′ b′ y ey. node-sunk l brushes (boneLimitBelow above d) p′ b′ y ey) in
+      let v = parts-read Lenient brushes (boneLimit above) read (Region l q) parts p (split (h .place) (h .left)) kd ek m em f ef (h .place) (inside-laid s at NODE p b here h eh) in
       into-node l at p b here h eh v))))
 
   -- ---- a file
@@ -132,14 +132,14 @@ module _ (s : List ℕ) where
   abbrev Well : ℕ → Forest → Type 0
   Well at f = (n : ℕ) (l : List Open) → ((p : ℕ) → at ≤ p → openAt p l ≡ []) → T (shallow n l (flatAt s at))
 
-  end-well : (at : ℕ) → rest s at ≡ rest s (length s) → Well at leaf
+  end-well : (at : ℕ) → rest s at ≡ rest s (length s) → Well at noNodes
   unfolding shallow
   end-well at e n l o = subst (λ (c : Chunks). T (shallow n l c)) (sym (end-done s at e)) tt
 
   past-well : (t : Tag) → T (not (is t NODE)) → (at p : ℕ) (b : List ℕ) (f : Forest) → Here s at t p b → Well (p + 8 + length b) f → Well at f
   past-well t other at p b f h more n l o = subst T (sym (past-is t other at p b h n l)) (more n l (λ q k. o q (omega (arith, h .from))))
 
-  root-well : (brushes at p : ℕ) (b : List ℕ) (x : Inner) → Here s at NODE p b → readNode Lenient levels brushes none p b ≡ got x → Well (p + 8 + length b) leaf → Well at (node (x .self) (x .below) leaf)
+  root-well : (brushes at p : ℕ) (b : List ℕ) (x : Inner) → Here s at NODE p b → readNode Lenient levels brushes none p b ≡ accept x → Well (p + 8 + length b) noNodes → Well at (node (x .self) (x .below) noNodes)
   root-well brushes at p b x h e more n l o =
       let g = node-sunk levels brushes none p b x e at h n l (rw (o p (h .from)) (omega arith)) in
       g .is (more (g .count) (g .left) (λ q k. g .closed q k ∙ o q (omega (arith, h .from))))
@@ -147,6 +147,6 @@ module _ (s : List ℕ) where
   says : Says s Well
   says = record { at-end = end-well; texs = past-well TEXS tt; brus = past-well BRUS tt; root = root-well }
 
-pub accepted-shallow : (s : List ℕ) (t : Scene) → judge Lenient s ≡ got t → Shallow 0 [] (flatAt s 12)
+pub accepted-shallow : (s : List ℕ) (t : Scene) → judge Lenient s ≡ accept t → Shallow 0 [] (flatAt s 12)
 unfolding openAt
 accepted-shallow s t e = record { is = file-flat s (Well s) (says s) t (judge-got Lenient s t e .0) .nodes 0 [] (λ p h. refl) }

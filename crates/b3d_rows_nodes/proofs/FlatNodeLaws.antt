@@ -8,7 +8,7 @@ use lib.ListN.{length}
 use lib.Dec.{T, leb}
 use Rattle.wire.specs.Test.{if}
 use Rattle.layout.specs.Chunks.{done, stop, chunk}
-use Rattle.layout.specs.Out.{Out, got, bad}
+use Rattle.layout.specs.Result.{Result, accept, reject}
 use Rattle.layout.specs.Parts.{Name, Step, named}
 use Rattle.layout.proofs.Outs.{by-test, if-no}
 use Rattle.b3d_spec.specs.declared.Counts.{Counts}
@@ -30,12 +30,12 @@ module _ (s : List ℕ) (P : ℕ → Chunks → Type 0)
     (at-stop : (at n p : ℕ) → P at (stop n p))
     (at-node : (at p : ℕ) (b : List ℕ) (q : ℕ) → at ≤ p → p + 8 ≤ q → P q (flatAt s q) → P at (chunk NODE p b (flatAt s q)))
     (at-other : (at : ℕ) (t : Tag) (p : ℕ) (b : List ℕ) (q : ℕ) → T (not (is t NODE)) → at ≤ p → p + 8 ≤ q → P q (flatAt s q) → P at (chunk t p b (flatAt s q))) where
-  into : (at : ℕ) (t : Tag) (p : ℕ) (b : List ℕ) → Here s at t p b → T (is t NODE) → ((q : ℕ) → p + 8 ≤ q → P q (flatAt s q)) → (o : Out (Step (Name × List ℕ))) → named nodeRow (p + 8) b ≡ o → P at (flatAt s at)
-  into at t p b h y again (got x) e =
+  into : (at : ℕ) (t : Tag) (p : ℕ) (b : List ℕ) → Here s at t p b → T (is t NODE) → ((q : ℕ) → p + 8 ≤ q → P q (flatAt s q)) → (o : Result (Step (Name × List ℕ))) → named nodeRow (p + 8) b ≡ o → P at (flatAt s at)
+  into at t p b h y again (accept x) e =
       let a = named-ahead nodeRow (p + 8) b x e in
       let le : p + 8 ≤ x .place = omega (arith, a .place) in
       subst (P at) (sym (run-into s at t p b h x y e)) (at-node at p b (x .place) (h .from) le (again (x .place) le))
-  into at t p b h y again (bad n q) e = subst (P at) (sym (run-none s at t p b h n q y e)) (at-stop at n q)
+  into at t p b h y again (reject n q) e = subst (P at) (sym (run-none s at t p b h n q y e)) (at-stop at n q)
 
   by-steps : (f at : ℕ) → length s - at ≤ f → (cs : Chunks) → rest s at ≡ cs → Laid s (length s) at cs → P at (flatAt s at)
   by-steps zero at m done h k = subst (P at) (sym (run-done s at h)) (at-done at)
@@ -77,7 +77,7 @@ opened-same at e i l k h p le = ap (λ (j : ℕ). if (leb e p) j i) (h p le)
 abbrev Alike : ℕ → Chunks → Type 0
 Alike at cs = (l k : List Open) → SameParents at l k → (n m : Counts) → Nodes n m → nodeRows l n cs ≡ nodeRows k m cs
 
-row-alike : (o : Out (Step (Name × List ℕ))) (cs : Chunks) (i j end : ℕ) (n m : Counts) → i ≡ j → Nodes n m → rowOf o cs i end n ≡ rowOf o cs j end m
+row-alike : (o : Result (Step (Name × List ℕ))) (cs : Chunks) (i j end : ℕ) (n m : Counts) → i ≡ j → Nodes n m → rowOf o cs i end n ≡ rowOf o cs j end m
 row-alike o cs i j end n m e h =
     row-told o cs i end n ∙ ap₂ (λ (a b : ℕ). rowOf o cs i end (told a b)) (h .meshes) (h .weights) ∙ sym (row-told o cs i end m) ∙ ap (λ (a : ℕ). rowOf o cs a end m) e
 

@@ -137,7 +137,7 @@ pub fn next_node(file: &[u8], x: Position, path: OpenNodes, row: &mut [u32]) -> 
     };
     let i = shared_table_words::cell(counts.nodes);
     let e = enter(path, p, body.end, i);
-    b3d_read_nodes::put_node(file, p, body, next, e.parent, meshes, weights, 0, row);
+    b3d_read_nodes::store_node(file, p, body, next, e.parent, meshes, weights, 0, row);
     counts.nodes = counts.nodes + 1;
     counts.meshes = meshes;
     counts.weights = weights;

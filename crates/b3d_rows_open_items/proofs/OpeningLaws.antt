@@ -14,7 +14,7 @@ use Rattle.wire.proofs.Left.{span, left-nil}
 use Rattle.layout.specs.Parts.{wordsOf, itemsOf}
 use Rattle.layout.specs.Rows.{joined}
 use Rattle.b3d_spec.specs.declared.Tag.the-variants.{VRTS}
-use Rattle.b3d_spec.specs.Mask.{ones, spread, vertexMask, keyMask}
+use Rattle.b3d_spec.specs.Mask.{ones, padded, vertexMask, keyMask}
 use Rattle.b3d_spec.specs.Rules.{vertexWords}
 use Rattle.b3d_spec.proofs.Rows.MaskLaws.{vertex-words}
 use Rattle.b3d_spec_plain_rows.specs.Plain.{whole, plainKeys, plainVertices, plainWeights, plainTriangles, shapeOf}
@@ -154,7 +154,7 @@ module _ (k : ℕ) (i : OpenItems) (m : Measured k i) where
     pub vertex-place : i .rest .at + 4 * i .words ≤ i .rest .end → i .rest .at + 1 * (4 * vertexWords (i .flags) (i .sets) (i .size)) ≤ i .rest .end
     vertex-place h = rw (← m .vertex e .words) (omega arith)
 
-    pub vertex-put : (s row put : List ℕ) → put ≡ sets row 0 (joined (map (spread (vertexMask (i .flags) (i .sets) (i .size))) (itemsOf 1 (vertexWords (i .flags) (i .sets) (i .size)) (left (i .rest) s))))
+    pub vertex-put : (s row put : List ℕ) → put ≡ sets row 0 (joined (map (padded (vertexMask (i .flags) (i .sets) (i .size))) (itemsOf 1 (vertexWords (i .flags) (i .sets) (i .size)) (left (i .rest) s))))
         → put ≡ sets row 0 (itemRow k i (wordsOf (i .words) (left (i .rest) s)))
     unfolding itemRow joined if
     vertex-put s row put h = h ∙ rw (e, m .vertex e .words, append-nil)
@@ -169,7 +169,7 @@ module _ (k : ℕ) (i : OpenItems) (m : Measured k i) where
     pub key-place : i .rest .at + 4 * i .words ≤ i .rest .end → i .rest .at + 1 * (4 * i .words) ≤ i .rest .end
     key-place h = omega arith
 
-    pub key-put : (s row put : List ℕ) → put ≡ sets row 0 (joined (map (spread (keyMask (i .flags))) (itemsOf 1 (i .words) (left (i .rest) s))))
+    pub key-put : (s row put : List ℕ) → put ≡ sets row 0 (joined (map (padded (keyMask (i .flags))) (itemsOf 1 (i .words) (left (i .rest) s))))
         → put ≡ sets row 0 (itemRow k i (wordsOf (i .words) (left (i .rest) s)))
     unfolding itemRow joined if
     key-put s row put h = h ∙ rw (e, append-nil)

@@ -8,7 +8,7 @@ use lib.Dec.{T, eqb}
 use Rattle.wire.specs.Test.{if}
 use Rattle.wire.specs.Cursors.{Inside, left}
 use Rattle.wire.specs.declared.Cursor.{Cursor}
-use Rattle.b3d_spec.specs.Mask.{ones, spread, vertexMask, keyMask}
+use Rattle.b3d_spec.specs.Mask.{ones, padded, vertexMask, keyMask}
 use Rattle.b3d_spec.specs.Rules.{vertexWords}
 use Rattle.b3d_spec_plain_rows.specs.Plain.{whole, plainWeights, plainTriangles}
 use Rattle.b3d_read_item_rows.specs.Items.{keyRowsOf}
@@ -22,7 +22,7 @@ pub record ItemTable (k : ℕ) : Type 0 where
 
 -- the row of an item with these words
 unfoldable pub itemRow : ℕ → OpenItems → List ℕ → List ℕ
-itemRow k i ws = if (eqb k 5) (spread (vertexMask (i .flags) (i .sets) (i .size)) ws) (if (eqb k 10) (spread (keyMask (i .flags)) ws) ws)
+itemRow k i ws = if (eqb k 5) (padded (vertexMask (i .flags) (i .sets) (i .size)) ws) (if (eqb k 10) (padded (keyMask (i .flags)) ws) ws)
 
 -- the rows of the items that are all there
 unfoldable pub itemRows : ℕ → List ℕ → OpenItems → List (List ℕ)

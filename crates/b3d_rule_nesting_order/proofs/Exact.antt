@@ -11,7 +11,7 @@ use Rattle.b3d_spec.specs.Tags.{Chunks}
 use Rattle.b3d_spec.specs.Nesting.{nesting, Reached, end, next, onward, order}
 use Rattle.b3d_rule_nesting_table.specs.declared.Entry.{Entry}
 use Rattle.b3d_rule_nesting_lookup.specs.Entries.{entryOf}
-use Rattle.b3d_rule_nesting_order.specs.ByTable.{standsBy, afterBy, owesBefore, ByTable}
+use Rattle.b3d_rule_nesting_order.specs.ByTable.{permittedBy, afterBy, missingBefore, ByTable}
 use Rattle.b3d_rule_nesting_order.proofs.Rows.{row-owed}
 use Rattle.b3d_rule_nesting_order.proofs.MayStand.{nextBy, next-by, entry-is}
 
@@ -22,16 +22,16 @@ onward-if true z p go = refl
 onward-if false z p go = refl
 
 pub four-by-table : (k : Tag) (head : ℕ) (q : Reached) (t : Tag) (p : ℕ) (b : List ℕ) (l : Chunks)
-    → order k head q (chunk t p b l) ≡ if (standsBy (owesBefore k q ((entryOf k t) .turn)) q (entryOf k t)) (chunk t p b (order k head (afterBy q (entryOf k t)) l)) (stop 4 p)
+    → order k head q (chunk t p b l) ≡ if (permittedBy (missingBefore k q ((entryOf k t) .turn)) q (entryOf k t)) (chunk t p b (order k head (afterBy q (entryOf k t)) l)) (stop 4 p)
 unfolding order
 four-by-table k head q t p b l =
-    let e : next (nesting k) (nesting k) q t ≡ if (standsBy (owesBefore k q ((entryOf k t) .turn)) q (entryOf k t)) (some (afterBy q (entryOf k t))) none =
+    let e : next (nesting k) (nesting k) q t ≡ if (permittedBy (missingBefore k q ((entryOf k t) .turn)) q (entryOf k t)) (some (afterBy q (entryOf k t))) none =
     next-by (nesting k) (nesting k) q t ∙ ap (λ (y : Entry). nextBy (nesting k) q y) (sym (entry-is k t))
-    ∙ ap (λ (o : Bool). if (standsBy o q (entryOf k t)) (some (afterBy q (entryOf k t))) none) (sym (row-owed k (q .turn) ((entryOf k t) .turn))) in
+    ∙ ap (λ (o : Bool). if (permittedBy o q (entryOf k t)) (some (afterBy q (entryOf k t))) none) (sym (row-owed k (q .turn) ((entryOf k t) .turn))) in
     ap (λ (o : Option Reached). onward o p (λ z. chunk t p b (order k head z l))) e
-    ∙ onward-if (standsBy (owesBefore k q ((entryOf k t) .turn)) q (entryOf k t)) (afterBy q (entryOf k t)) p (λ z. chunk t p b (order k head z l))
+    ∙ onward-if (permittedBy (missingBefore k q ((entryOf k t) .turn)) q (entryOf k t)) (afterBy q (entryOf k t)) p (λ z. chunk t p b (order k head z l))
 
-pub eight-by-table : (k : Tag) (head : ℕ) (q : Reached) → order k head q done ≡ if (owesBefore k q end) (stop 8 head) done
+pub eight-by-table : (k : Tag) (head : ℕ) (q : Reached) → order k head q done ≡ if (missingBefore k q end) (stop 8 head) done
 unfolding order
 eight-by-table k head q = ap (λ (o : Bool). if o (stop 8 head) done) (sym (row-owed k (q .turn) end))
 

@@ -1,4 +1,4 @@
--- What the rule says of a tag is what it says of its entry in the table; a law for each way through `is_between` and `may_stand`.
+-- What the rule says of a tag is what it says of its entry in the table; a law for each way through `is_between` and `is_permitted`.
 use mathlib.Core.Path.{_≡_, refl, ap, sym, _∙_}
 use Prim.Native.Nat.{ℕ, _<_, _≤_}
 use native.Mathlib.Omega.{arith}
@@ -11,7 +11,7 @@ use borrow.Author.Tests.{lt-ltb, le-ltb, eq-eqb, ne-eqb}
 use Rattle.wire.specs.Test.{if}
 use Rattle.b3d_spec.specs.declared.Tag.{Tag}
 use Rattle.b3d_spec.specs.Tags.{is, tagNumber}
-use Rattle.b3d_spec.specs.Nesting.{entry, nesting, owed, next, needed, repeats, may, after}
+use Rattle.b3d_spec.specs.Nesting.{entry, nesting, requiredBetween, next, needed, repeats, may, after}
 use Rattle.b3d_spec.specs.Nesting as nest
 use Rattle.b3d_spec.proofs.Files.TagCodes.{by-tag}
 use Rattle.b3d_rule_nesting_table.specs.declared.Entry.{Entry}
@@ -21,7 +21,7 @@ use Rattle.b3d_rule_nesting_order.specs.declared.Permit.the-variants as 
 use Rattle.b3d_rule_nesting_table.specs.Table.{tags, denied, entryIn, entryFor, nestingTable, entryAt}
 use Rattle.b3d_rule_nesting_order.specs.Turns.{between, reachedOf, permitOf}
 use Rattle.b3d_rule_nesting_lookup.specs.Entries.{entryOf}
-use Rattle.b3d_rule_nesting_order.specs.ByTable.{standsBy, afterBy}
+use Rattle.b3d_rule_nesting_order.specs.ByTable.{permittedBy, afterBy}
 
 -- ---- an entry that must stand, between two turns
 
@@ -49,7 +49,7 @@ entry-is k t = ap (λ (l : List Entry). getD l (tagNumber t) denied) (column (λ
 -- ---- the rule by an entry
 
 abbrev pub nextBy : List nest.Entry → nest.Reached → Entry → Option nest.Reached
-nextBy all r e = if (standsBy (owed all (r .turn) (e .turn)) r e) (some (afterBy r e)) none
+nextBy all r e = if (permittedBy (requiredBetween all (r .turn) (e .turn)) r e) (some (afterBy r e)) none
 
 or-false : (b : Bool) → b || false ≡ b
 or-false true = refl
@@ -65,7 +65,7 @@ next-by all (entry k turn often ∷ l) r t = go (is t k) (next-by all l r t)
     go true h = refl
     go false h = h
 
--- ---- the ways of `may_stand`
+-- ---- the ways of `is_permitted`
 
 module _ (k t : Tag) (e : Entry) (here : e ≡ entryOf k t) (r : Reached) where
   abbrev Right : Permit → Type 0
@@ -79,7 +79,7 @@ module _ (k t : Tag) (e : Entry) (here : e ≡ entryOf k t) (r : Reached) where
   stand-never a = right-by-entry permit.No (rw a)
 
   module _ (a : e .allowed ≡ true) where
-    module _ (l : r .turn < e .turn) (b : Bool) (o : b ≡ owed (nesting k) (r .turn) (e .turn)) where
+    module _ (l : r .turn < e .turn) (b : Bool) (o : b ≡ requiredBetween (nesting k) (r .turn) (e .turn)) where
       pub stand-owed : b ≡ true → Right permit.No
       unfolding if
       stand-owed y = right-by-entry permit.No (rw (a, lt-ltb (r .turn) (e .turn) l, ← o, y, ne-eqb (r .turn) (e .turn) (λ q. omega arith)))

@@ -1,7 +1,7 @@
-// What the nesting table says of the chunks inside a chunk, one after the other. Refusal 4 is given where `may_stand` says no, 8 where `owes` says yes: of a
+// What the nesting table says of the chunks inside a chunk, one after the other. Refusal 4 is given where `is_permitted` says no, 8 where `owes` says yes: of a
 // file at hand by `b3d_chunk_next_allowed`; the judge of pieces asks the same two.
 ghost use mathlib.Core.Path.{_≡_};
-ghost use Rattle.b3d_spec.specs.Nesting.{nesting, owed, end, next};
+ghost use Rattle.b3d_spec.specs.Nesting.{nesting, requiredBetween, end, next};
 ghost use Rattle.b3d_rule_nesting_order.specs.Turns.{between, reachedOf, permitOf};
 use b3d_rule_nesting_table::Entry;
 use b3d_spec::Tag;
@@ -20,8 +20,8 @@ fn is_between(e: Entry, lo: u8, hi: u8) -> bool
 }
 
 // Returns whether a tag that must stand inside a chunk of the tag `enclosing` has its turn after `lo` and before `hi`.
-fn owed_between(enclosing: Tag, lo: u8, hi: u8) -> bool
-    ensures { λ r. ⌜ r ≡ owed (nesting enclosing) lo hi ⌝ }
+fn required_between(enclosing: Tag, lo: u8, hi: u8) -> bool
+    ensures { λ r. ⌜ r ≡ requiredBetween (nesting enclosing) lo hi ⌝ }
 {
     let row = b3d_rule_nesting_lookup::row_of(enclosing);
     let mut column: usize = 0;
@@ -47,14 +47,14 @@ pub enum Permit {
 }
 
 // Returns whether a chunk of `tag` may stand inside one of the tag `enclosing`, after chunks that came to `reached`; if so, how far they come with it.
-pub fn may_stand(enclosing: Tag, reached: Reached, tag: Tag) -> Permit
+pub fn is_permitted(enclosing: Tag, reached: Reached, tag: Tag) -> Permit
     ensures { λ r. ⌜ r ≡ permitOf (next (nesting enclosing) (nesting enclosing) (reachedOf reached) tag) ⌝ }
 {
     let e = b3d_rule_nesting_lookup::entry_of(enclosing, tag);
     let turn = e.turn;
     if e.allowed {
         if reached.turn < turn {
-            if owed_between(enclosing, reached.turn, turn) {
+            if required_between(enclosing, reached.turn, turn) {
                 return Permit::No;
             }
             return Permit::Yes(Reached {
@@ -78,7 +78,7 @@ pub fn may_stand(enclosing: Tag, reached: Reached, tag: Tag) -> Permit
 
 // Returns whether a chunk of the tag `enclosing` that ends after `reached` lacks one that must stand in it.
 pub fn owes(enclosing: Tag, reached: Reached) -> bool
-    ensures { λ r. ⌜ r ≡ owed (nesting enclosing) (reached .turn) end ⌝ }
+    ensures { λ r. ⌜ r ≡ requiredBetween (nesting enclosing) (reached .turn) end ⌝ }
 {
-    owed_between(enclosing, reached.turn, 4)
+    required_between(enclosing, reached.turn, 4)
 }

@@ -7,7 +7,7 @@ use mathlib.Core.Bool.{true, false}
 use mathlib.Core.List.{List, [], _∷_, _++_, map}
 use lib.ListN.{length, getD}
 use Rattle.wire.specs.Bytes.{wordAt}
-use Rattle.layout.specs.Out.{Out, got, bad, _>>=_}
+use Rattle.layout.specs.Result.{Result, accept, reject, _>>=_}
 use Rattle.layout.specs.Parts.{Step, words, row, number, named, items}
 use Rattle.layout.specs.Rules.{Rule, any, upTo, exactly, names, namesOrNone, unit, refusal}
 use Rattle.layout.proofs.HeldLaws.{loose, words-count, WordsIn, words-in}
@@ -66,9 +66,9 @@ head-pair s K last rs free same p t l b at e behind =
     by (row rs p b)
     (subst (λ (q : List Rule). ItemPair s (VertexTo (length rs) last) (length rs) 0 0 last p (row rs p b) (row q p b)) same (row-item s (length rs) 0 0 last rs refl (record { to = λ c x. absurd (free c x); from = λ i x. absurd (omega arith) }) p b at e))
   where
-    by : (o : Out (Step (List ℕ))) → ItemPair s (VertexTo (length rs) last) (length rs) 0 0 last p o o → Pair K last (After s last t) o o
-    by (got x) h = (record { place = h .1 .0 ∙ l; ends = h .2; stands = h .3 }, refl)
-    by (bad i j) h = (
+    by : (o : Result (Step (List ℕ))) → ItemPair s (VertexTo (length rs) last) (length rs) 0 0 last p o o → Pair K last (After s last t) o o
+    by (accept x) h = (record { place = h .1 .0 ∙ l; ends = h .2; stands = h .3 }, refl)
+    by (reject i j) h = (
       record {
         given = λ c. elim c [ inl z ↦ absurd (omega (arith, h .0 .0)) | inr z ↦ absurd (omega (arith, h .0 .1)) ];
         first = λ k q m f. let w = behind k q m f in inr (inl (omega (arith, w .1, h .2 t (sym l, w .0))));
@@ -87,7 +87,7 @@ free-three r t u f g h (suc zero) e = false-true (sym g ∙ e)
 free-three r t u f g h (suc (suc c)) e = free-one u h c e
 
 -- its numbers are those of the file
-row-words : (s : List ℕ) (rs : List Rule) (p : ℕ) (b : List ℕ) (x : Step (List ℕ)) → At s p b → row rs p b ≡ got x → (length (x .value) ≡ length rs) × WordsIn s p (x .value)
+row-words : (s : List ℕ) (rs : List Rule) (p : ℕ) (b : List ℕ) (x : Step (List ℕ)) → At s p b → row rs p b ≡ accept x → (length (x .value) ≡ length rs) × WordsIn s p (x .value)
 unfolding row
 row-words s rs p b x at e =
     by-got (words p (length rs) p b) _ e (λ y ey e₁.
@@ -107,16 +107,16 @@ three-numbers s p (a ∷ b ∷ c ∷ ws) l h = let e : p + 8 ≡ p + 4 + 4 = ome
 
 module _ (mode : Mode) (s : List ℕ) where
   -- what it gives has no faults inside, in both readings
-  abbrev pub Reads : {A : Type 0} → Tag → (ℕ → List ℕ → Out A) → (ℕ → List ℕ → Out A) → Type 0
+  abbrev pub Reads : {A : Type 0} → Tag → (ℕ → List ℕ → Result A) → (ℕ → List ℕ → Result A) → Type 0
   Reads k one other =
       (q : ℕ) (b : List ℕ) → At s (q + 8) b → endOf s q ≡ q + 8 + length b → Pair (Inner mode s k q) (endOf s q) (λ _. Empty (Inner mode s k q)) (one q b) (other q b)
 
-  leaf-pair : {A : Type 0} (K : Faults) (last : ℕ) (o : Out A) → Empty K → body.Low (Own last) Any o → Pair K last (λ _. Empty K) o o
-  leaf-pair K last (got a) e h = (e, refl)
-  leaf-pair K last (bad n p) e h = (own-says K last n p h e, inl refl)
+  leaf-pair : {A : Type 0} (K : Faults) (last : ℕ) (o : Result A) → Empty K → body.Low (Own last) Any o → Pair K last (λ _. Empty K) o o
+  leaf-pair K last (accept a) e h = (e, refl)
+  leaf-pair K last (reject n p) e h = (own-says K last n p h e, inl refl)
 
   -- one without colours
-  leaf-reads : {A : Type 0} (k : Tag) (one : ℕ → List ℕ → Out A) → ((q : ℕ) → Empty (Inner mode s k q))
+  leaf-reads : {A : Type 0} (k : Tag) (one : ℕ → List ℕ → Result A) → ((q : ℕ) → Empty (Inner mode s k q))
       → ((last q : ℕ) (b : List ℕ) → q + 8 + length b ≤ last → body.Low (Own last) Any (one q b)) → Reads k one one
   leaf-reads k one e h q b at size = leaf-pair (Inner mode s k q) (endOf s q) (one q b) (e q) (h (endOf s q) q b (omega arith))
 
@@ -144,14 +144,14 @@ module _ (mode : Mode) (s : List ℕ) where
 -- ---- brushes
 
 -- items whose value is made of what was read
-map-item : {A B : Type 0} (s : List ℕ) (To : ℕ → ℕ → Type 0) (numbers before colours last q : ℕ) (f : A → B) (o o′ : Out (Step A)) → ItemPair s To numbers before colours last q o o′
-    → ItemPair s To numbers before colours last q (o >>= λ x. got (record { value = f (x .value); place = x .place; left = x .left })) (o′ >>= λ x. got (record { value = f (x .value); place = x .place; left = x .left }))
-map-item {A} {B} s To numbers before colours last q f (got x) o′ h =
+map-item : {A B : Type 0} (s : List ℕ) (To : ℕ → ℕ → Type 0) (numbers before colours last q : ℕ) (f : A → B) (o o′ : Result (Step A)) → ItemPair s To numbers before colours last q o o′
+    → ItemPair s To numbers before colours last q (o >>= λ x. accept (record { value = f (x .value); place = x .place; left = x .left })) (o′ >>= λ x. accept (record { value = f (x .value); place = x .place; left = x .left }))
+map-item {A} {B} s To numbers before colours last q f (accept x) o′ h =
     let g : Step A → Step B = λ y. record { value = f (y .value); place = y .place; left = y .left } in
-    (ap (λ (w : Out (Step A)). w >>= λ y. got (g y)) (h .0), h .1, h .2, h .3, h .4)
-map-item {A} {B} s To numbers before colours last q f (bad n p) o′ h =
+    (ap (λ (w : Result (Step A)). w >>= λ y. accept (g y)) (h .0), h .1, h .2, h .3, h .4)
+map-item {A} {B} s To numbers before colours last q f (reject n p) o′ h =
     let g : Step A → Step B = λ y. record { value = f (y .value); place = y .place; left = y .left } in
-    (h .0, elim (h .1) [ inl e ↦ inl (ap (λ (w : Out (Step A)). w >>= λ y. got (g y)) e) | inr y ↦ inr y ], h .2, h .3)
+    (h .0, elim (h .1) [ inl e ↦ inl (ap (λ (w : Result (Step A)). w >>= λ y. accept (g y)) e) | inr y ↦ inr y ], h .2, h .3)
 
 module _ (s : List ℕ) where
   brush-pair : (n textures last q : ℕ) (b : List ℕ) → At s q b → q + length b ≡ last

@@ -8,7 +8,7 @@ use mathlib.Core.List.{List, [], _∷_, _++_, map}
 use lib.ListN.{length, take, drop, replicate, length-map, length-append, length-replicate, length-drop}
 use lib.Seq.{take-append-seam}
 use lib.Dec.{leb, leb→le, nleb→lt}
-use Rattle.layout.specs.Out.{Out, got, bad, _>>=_}
+use Rattle.layout.specs.Result.{Result, accept, reject, _>>=_}
 use Rattle.layout.specs.Parts.{Name, Step, text, wordsOf, judged, row, named}
 use Rattle.layout.specs.Rules.{Rule, any, unit}
 use Rattle.layout.proofs.HeldLaws.{loose, words-in}
@@ -39,13 +39,13 @@ module _ (s : List ℕ) (To : ℕ → ℕ → Type 0) (numbers before colours la
   item-float q z e p i x n = (before + x .0, units .from (x .0) (x .1), omega (arith, x .2), n)
 
   -- a row of them, once they are all there: at z of an item that begins at q; x is what is given if they pass
-  numbers-pair : {A : Type 0} (q z e : ℕ) (x : Step A) (o o′ : Out (Step A)) → e ≡ z + 4 * numbers → q ≤ z → e ≤ last → To q e → ((d : ℕ) → To q d → d ≡ e) → x .place ≡ e → x .place + length (x .left) ≡ last
-      → At s (x .place) (x .left) → ((y : Step A) → o ≡ got y → y ≡ x) → Judged s rs z o o′ → ItemPair s To numbers before colours last q o o′
-  numbers-pair q z e x (got y) o′ i l f h u j k at is r =
+  numbers-pair : {A : Type 0} (q z e : ℕ) (x : Step A) (o o′ : Result (Step A)) → e ≡ z + 4 * numbers → q ≤ z → e ≤ last → To q e → ((d : ℕ) → To q d → d ≡ e) → x .place ≡ e → x .place + length (x .left) ≡ last
+      → At s (x .place) (x .left) → ((y : Step A) → o ≡ accept y → y ≡ x) → Judged s rs z o o′ → ItemPair s To numbers before colours last q o o′
+  numbers-pair q z e x (accept y) o′ i l f h u j k at is r =
       let w = is y refl in
-      subst (λ (v : Step _). ItemPair s To numbers before colours last q (got v) o′) (sym w)
-      (r .0 ∙ ap got w, subst (To q) (sym j) h, k, at, λ p c. r .1 p (item-float q z e p i (subst (λ (d : ℕ). (c₁ : ℕ) × (c₁ < colours) × (p + 4 * numbers ≡ d + 4 * (before + c₁))) (u (c .0) (c .1)) (c .2)) (c .3)))
-  numbers-pair q z e x (bad n p) o′ i l f h u j k at is r = (
+      subst (λ (v : Step _). ItemPair s To numbers before colours last q (accept v) o′) (sym w)
+      (r .0 ∙ ap accept w, subst (To q) (sym j) h, k, at, λ p c. r .1 p (item-float q z e p i (subst (λ (d : ℕ). (c₁ : ℕ) × (c₁ < colours) × (p + 4 * numbers ≡ d + 4 * (before + c₁))) (u (c .0) (c .1)) (c .2)) (c .3)))
+  numbers-pair q z e x (reject n p) o′ i l f h u j k at is r = (
     (omega (arith, r .0 .0), r .0 .1, inl (omega (arith, r .1, long))),
     elim (r .2) [ inl y ↦ inl y | inr y ↦ inr (y .0, float-item q z e p h i (y .1)) ],
     λ d g. let w = u d g in omega (arith, r .1, long),
@@ -53,7 +53,7 @@ module _ (s : List ℕ) (To : ℕ → ℕ → Type 0) (numbers before colours la
   )
 
   -- an item that is not all there
-  cut-pair : {A : Type 0} (q : ℕ) (o′ : Out (Step A)) → q ≤ last → ((e : ℕ) → To q e → ⊥) → o′ ≡ bad 5 q → ItemPair s To numbers before colours last q (bad 5 q) o′
+  cut-pair : {A : Type 0} (q : ℕ) (o′ : Result (Step A)) → q ≤ last → ((e : ℕ) → To q e → ⊥) → o′ ≡ reject 5 q → ItemPair s To numbers before colours last q (reject 5 q) o′
   cut-pair q o′ l n e = (
     (omega arith, omega arith, inr (l, refl)),
     inl e,
@@ -71,7 +71,7 @@ row-by : (rs : List Rule) (q : ℕ) (b : List ℕ) (n : ℕ) → length rs ≡ n
 row-by rs q b n e = subst (λ (k : ℕ). 4 * k ≤ length b → row rs q b ≡ judged rs q (wordsOf k b) (stepOf k q b)) e (row-enough rs q b)
 
 module _ (s : List ℕ) (numbers before colours last : ℕ) (rs : List Rule) (long : length rs ≡ numbers) (units : Units rs before colours) (q : ℕ) (b : List ℕ) (at : At s q b) (e : q + length b ≡ last) where
-  abbrev Item : Out (Step (List ℕ)) → Out (Step (List ℕ)) → Type 0
+  abbrev Item : Result (Step (List ℕ)) → Result (Step (List ℕ)) → Type 0
   Item o o′ = ItemPair s (VertexTo numbers last) numbers before colours last q o o′
 
   long-loose : length (map loose rs) ≡ numbers
@@ -79,15 +79,15 @@ module _ (s : List ℕ) (numbers before colours last : ℕ) (rs : List Rule) (lo
 
   row-cut : length b < 4 * numbers → Item (row rs q b) (row (map loose rs) q b)
   row-cut h =
-      subst (λ (o : Out (Step (List ℕ))). Item o (row (map loose rs) q b)) (sym (row-short rs q b (omega (arith, long))))
+      subst (λ (o : Result (Step (List ℕ))). Item o (row (map loose rs) q b)) (sym (row-short rs q b (omega (arith, long))))
       (cut-pair s (VertexTo numbers last) numbers before colours last rs long units q (row (map loose rs) q b) (omega arith) (λ d g. omega (arith, g .0, g .1)) (row-short (map loose rs) q b (omega (arith, long-loose))))
 
   row-whole : 4 * numbers ≤ length b → Item (row rs q b) (row (map loose rs) q b)
   row-whole h =
       let x = stepOf numbers q b in
       let ew = words-enough q numbers q b h in
-      subst (λ (o : Out (Step (List ℕ))). Item o (row (map loose rs) q b)) (sym (row-by rs q b numbers long h))
-      (subst (λ (o : Out (Step (List ℕ))). Item (judged rs q (wordsOf numbers b) x) o) (sym (row-by (map loose rs) q b numbers long-loose h))
+      subst (λ (o : Result (Step (List ℕ))). Item o (row (map loose rs) q b)) (sym (row-by rs q b numbers long h))
+      (subst (λ (o : Result (Step (List ℕ))). Item (judged rs q (wordsOf numbers b) x) o) (sym (row-by (map loose rs) q b numbers long-loose h))
       (numbers-pair s (VertexTo numbers last) numbers before colours last rs long units q q (q + 4 * numbers) x _ _ refl (omega arith) (omega arith) (refl, omega arith) (λ d g. g .0)
       refl (omega (arith, length-drop (4 * numbers) b)) (words-at s q numbers q b x at ew) (λ y ey. sym (judged-got rs q (wordsOf numbers b) x y ey))
       (judged-pair s rs q (wordsOf numbers b) x (length-words-of numbers b h ∙ sym long) (words-in s q numbers q b x at ew))))
@@ -97,11 +97,11 @@ module _ (s : List ℕ) (numbers before colours last : ℕ) (rs : List Rule) (lo
 
 -- ---- a name, then a row of numbers
 
-map-bad : {A B : Type 0} (o : Out A) (g : A → B) (n j : ℕ) → (o >>= λ x. got (g x)) ≡ bad n j → o ≡ bad n j
-map-bad (got a) g n j e = bad-got (sym e)
-map-bad (bad i k) g n j e = let a : i ≡ n = cc in let b : k ≡ j = cc in ap (λ (m : ℕ). bad m k) a ∙ ap (bad n) b
+map-bad : {A B : Type 0} (o : Result A) (g : A → B) (n j : ℕ) → (o >>= λ x. accept (g x)) ≡ reject n j → o ≡ reject n j
+map-bad (accept a) g n j e = bad-got (sym e)
+map-bad (reject i k) g n j e = let a : i ≡ n = cc in let b : k ≡ j = cc in ap (λ (m : ℕ). reject m k) a ∙ ap (reject n) b
 
-text-bad : (first p : ℕ) (s : List ℕ) (n j : ℕ) → text first p s ≡ bad n j → (n ≡ 5) × (j ≡ first)
+text-bad : (first p : ℕ) (s : List ℕ) (n j : ℕ) → text first p s ≡ reject n j → (n ≡ 5) × (j ≡ first)
 unfolding text
 text-bad first p [] n j e = (cc, cc)
 text-bad first p (zero ∷ s) n j e = bad-got (sym e)
@@ -114,15 +114,15 @@ abbrev itemOf : ℕ → ℕ → Step (List ℕ) → Step (Name × List ℕ)
 itemOf n q m = record { value = (record { place = q; bytes = m .value }, wordsOf n (m .left)); place = m .place + 4 * n; left = drop (4 * n) (m .left) }
 
 module _ (q : ℕ) (b : List ℕ) where
-  named-none : (rs : List Rule) (n j : ℕ) → text q q b ≡ bad n j → named rs q b ≡ bad n j
+  named-none : (rs : List Rule) (n j : ℕ) → text q q b ≡ reject n j → named rs q b ≡ reject n j
   unfolding named
   named-none rs n j e = rw e
 
-  named-cut : (rs : List Rule) (n : ℕ) → length rs ≡ n → (m : Step (List ℕ)) → text q q b ≡ got m → length (m .left) < 4 * n → named rs q b ≡ bad 5 q
+  named-cut : (rs : List Rule) (n : ℕ) → length rs ≡ n → (m : Step (List ℕ)) → text q q b ≡ accept m → length (m .left) < 4 * n → named rs q b ≡ reject 5 q
   unfolding named
   named-cut rs n l m e h = rw (e, l, words-short q n (m .place) (m .left) h)
 
-  named-by : (rs : List Rule) (n : ℕ) → length rs ≡ n → (m : Step (List ℕ)) → text q q b ≡ got m → 4 * n ≤ length (m .left) → named rs q b ≡ judged rs (m .place) (wordsOf n (m .left)) (itemOf n q m)
+  named-by : (rs : List Rule) (n : ℕ) → length rs ≡ n → (m : Step (List ℕ)) → text q q b ≡ accept m → 4 * n ≤ length (m .left) → named rs q b ≡ judged rs (m .place) (wordsOf n (m .left)) (itemOf n q m)
   unfolding named
   named-by rs n l m e h = rw (e, l, words-enough q n (m .place) (m .left) h)
 
@@ -143,31 +143,31 @@ brush-inside s slots last q e h =
     take-short (suc n) (x ∷ xs) = let y = take-short n xs in omega arith
 
 module _ (s : List ℕ) (slots colours last : ℕ) (rs : List Rule) (long : length rs ≡ 7 + slots) (units : Units rs 0 colours) (q : ℕ) (b : List ℕ) (at : At s q b) (e : q + length b ≡ last) where
-  abbrev Brush : Out (Step (Name × List ℕ)) → Out (Step (Name × List ℕ)) → Type 0
+  abbrev Brush : Result (Step (Name × List ℕ)) → Result (Step (Name × List ℕ)) → Type 0
   Brush o o′ = ItemPair s (BrushTo s slots last) (7 + slots) 0 colours last q o o′
 
   loose-long : length (map loose rs) ≡ 7 + slots
   loose-long = length-map rs loose ∙ long
 
   -- one that ends there, read off the bytes
-  ends : (d : ℕ) → BrushTo s slots last q d → (x : Step (Name × List ℕ)) × (named (replicate (7 + slots) any) q b ≡ got x) × (d ≡ x .place)
+  ends : (d : ℕ) → BrushTo s slots last q d → (x : Step (Name × List ℕ)) × (named (replicate (7 + slots) any) q b ≡ accept x) × (d ≡ x .place)
   ends d g = (g .0, ap (named (replicate (7 + slots) any) q) (sym (part-is s q last b at e)) ∙ g .1, g .2)
 
-  brush-none : (n j : ℕ) → text q q b ≡ bad n j → Brush (named rs q b) (named (map loose rs) q b)
+  brush-none : (n j : ℕ) → text q q b ≡ reject n j → Brush (named rs q b) (named (map loose rs) q b)
   brush-none n j h =
       let z = text-bad q q b n j h in
-      let h₅ : text q q b ≡ bad 5 q = h ∙ ap (λ (i : ℕ). bad i j) (z .0) ∙ ap (bad 5) (z .1) in
-      subst (λ (o : Out (Step (Name × List ℕ))). Brush o (named (map loose rs) q b)) (sym (named-none q b rs 5 q h₅))
+      let h₅ : text q q b ≡ reject 5 q = h ∙ ap (λ (i : ℕ). reject i j) (z .0) ∙ ap (reject 5) (z .1) in
+      subst (λ (o : Result (Step (Name × List ℕ))). Brush o (named (map loose rs) q b)) (sym (named-none q b rs 5 q h₅))
       (cut-pair s (BrushTo s slots last) (7 + slots) 0 colours last rs long units q (named (map loose rs) q b) (omega arith)
       (λ d g. let x = ends d g in bad-got (sym (named-none q b (replicate (7 + slots) any) 5 q h₅) ∙ x .1)) (named-none q b (map loose rs) 5 q h₅))
 
-  brush-cut : (m : Step (List ℕ)) → text q q b ≡ got m → length (m .left) < 4 * (7 + slots) → Brush (named rs q b) (named (map loose rs) q b)
+  brush-cut : (m : Step (List ℕ)) → text q q b ≡ accept m → length (m .left) < 4 * (7 + slots) → Brush (named rs q b) (named (map loose rs) q b)
   brush-cut m t h =
-      subst (λ (o : Out (Step (Name × List ℕ))). Brush o (named (map loose rs) q b)) (sym (named-cut q b rs (7 + slots) long m t h))
+      subst (λ (o : Result (Step (Name × List ℕ))). Brush o (named (map loose rs) q b)) (sym (named-cut q b rs (7 + slots) long m t h))
       (cut-pair s (BrushTo s slots last) (7 + slots) 0 colours last rs long units q (named (map loose rs) q b) (omega arith)
       (λ d g. let x = ends d g in bad-got (sym (named-cut q b (replicate (7 + slots) any) (7 + slots) (length-replicate (7 + slots) any) m t h) ∙ x .1)) (named-cut q b (map loose rs) (7 + slots) loose-long m t h))
 
-  brush-whole : (m : Step (List ℕ)) → text q q b ≡ got m → 4 * (7 + slots) ≤ length (m .left) → Brush (named rs q b) (named (map loose rs) q b)
+  brush-whole : (m : Step (List ℕ)) → text q q b ≡ accept m → 4 * (7 + slots) ≤ length (m .left) → Brush (named rs q b) (named (map loose rs) q b)
   brush-whole m t h =
       let n = 7 + slots in
       let x = itemOf n q m in
@@ -175,10 +175,10 @@ module _ (s : List ℕ) (slots colours last : ℕ) (rs : List Rule) (long : leng
       let o = text-onward q q b m t in
       let am = text-at s q q b m at t .0 in
       let ew = words-enough q n (m .place) (m .left) h in
-      let plain : named (replicate n any) q b ≡ got x = named-by q b (replicate n any) n (length-replicate n any) m t h ∙ judged-any n (m .place) ws x in
+      let plain : named (replicate n any) q b ≡ accept x = named-by q b (replicate n any) n (length-replicate n any) m t h ∙ judged-any n (m .place) ws x in
       let to : BrushTo s slots last q (m .place + 4 * n) = (x, ap (named (replicate n any) q) (part-is s q last b at e) ∙ plain, refl) in
-      subst (λ (w : Out (Step (Name × List ℕ))). Brush w (named (map loose rs) q b)) (sym (named-by q b rs n long m t h))
-      (subst (λ (w : Out (Step (Name × List ℕ))). Brush (judged rs (m .place) ws x) w) (sym (named-by q b (map loose rs) n loose-long m t h))
+      subst (λ (w : Result (Step (Name × List ℕ))). Brush w (named (map loose rs) q b)) (sym (named-by q b rs n long m t h))
+      (subst (λ (w : Result (Step (Name × List ℕ))). Brush (judged rs (m .place) ws x) w) (sym (named-by q b (map loose rs) n loose-long m t h))
       (numbers-pair s (BrushTo s slots last) n 0 colours last rs long units q (m .place) (m .place + 4 * n) x _ _ refl (o .later) (omega (arith, o .same)) to
       (λ d g. brush-same s slots last q d (m .place + 4 * n) g to) refl (omega (arith, o .same, length-drop (4 * n) (m .left)))
       (words-at s q n (m .place) (m .left) (stepOf n (m .place) (m .left)) am ew) (λ y ey. sym (judged-got rs (m .place) ws x y ey))
@@ -187,9 +187,9 @@ module _ (s : List ℕ) (slots colours last : ℕ) (rs : List Rule) (long : leng
   pub named-item : Brush (named rs q b) (named (map loose rs) q b)
   named-item = by (text q q b) refl
     where
-      by : (o : Out (Step (List ℕ))) → text q q b ≡ o → Brush (named rs q b) (named (map loose rs) q b)
-      by (bad n j) t = brush-none n j t
-      by (got m) t =
+      by : (o : Result (Step (List ℕ))) → text q q b ≡ o → Brush (named rs q b) (named (map loose rs) q b)
+      by (reject n j) t = brush-none n j t
+      by (accept m) t =
           by-test (leb (4 * (7 + slots)) (length (m .left))) (λ y. brush-whole m t (leb→le (4 * (7 + slots)) (length (m .left)) y)) (λ y. brush-cut m t (nleb→lt (4 * (7 + slots)) (length (m .left)) y))
 
 -- ---- which numbers are colours

@@ -8,7 +8,7 @@ use mathlib.Core.List.{List, [], _∷_, append-nil}
 use lib.ListN.{length, drop, length-drop}
 use lib.Dec.{eqb, leb, leb→le, nleb→lt}
 use Rattle.wire.specs.Bytes.{wordAt}
-use Rattle.layout.specs.Out.{Out, got, bad, check, _>>=_}
+use Rattle.layout.specs.Result.{Result, accept, reject, check, _>>=_}
 use Rattle.layout.specs.Parts.{Step, wordsOf, row, number}
 use Rattle.layout.specs.Rows.{eachOf, sizeFits}
 use Rattle.layout.specs.Rules.{unit, holds}
@@ -41,9 +41,9 @@ record Tells (mode : Mode) (s : List ℕ) (n p : ℕ) : Type 0 where
   first : (i q m : ℕ) → InBody mode s i q m → ((n ≡ i) × (p ≡ q)) ⊎ Sooner m n p
 
 -- the answer in a mode beside the lenient one
-abbrev Answers : Mode → List ℕ → Out Scene → Out Scene → Type 0
-Answers mode s (got t) o = Empty (InBody mode s) × (o ≡ got t)
-Answers mode s (bad n p) o = Tells mode s n p × ((o ≡ bad n p) ⊎ InBody mode s n p p)
+abbrev Answers : Mode → List ℕ → Result Scene → Result Scene → Type 0
+Answers mode s (accept t) o = Empty (InBody mode s) × (o ≡ accept t)
+Answers mode s (reject n p) o = Tells mode s n p × ((o ≡ reject n p) ⊎ InBody mode s n p p)
 
 -- refusals of the header come first
 early : (mode : Mode) (s : List ℕ) (n p : ℕ) → (n ≡ 4 → ⊥) → (n ≡ 8 → ⊥) → p < 12 → Tells mode s n p
@@ -52,24 +52,24 @@ early mode s n p a b l = record {
   first = λ i q m f. let x = met-later mode s i q m BB3D 0 12 (length s) start f in inr (inl (omega arith));
 }
 
-check-answers : (mode : Mode) (s : List ℕ) (b : Bool) (n p : ℕ) (m m′ : Out Scene) → n < 4 → p < 12 → Answers mode s m m′ → Answers mode s (check b n p >>= λ _. m) (check b n p >>= λ _. m′)
+check-answers : (mode : Mode) (s : List ℕ) (b : Bool) (n p : ℕ) (m m′ : Result Scene) → n < 4 → p < 12 → Answers mode s m m′ → Answers mode s (check b n p >>= λ _. m) (check b n p >>= λ _. m′)
 unfolding check
 check-answers mode s true n p m m′ a c h = h
 check-answers mode s false n p m m′ a c h = (early mode s n p (λ e. omega arith) (λ e. omega arith) c, inl refl)
 
-pair-answers : (mode : Mode) (s : List ℕ) (o o′ : Out Scene) → Pair (InBody mode s) (length s) (λ _. Empty (InBody mode s)) o o′ → Answers mode s o o′
-pair-answers mode s (got t) o′ h = h
-pair-answers mode s (bad n p) o′ h = (record { given = h .0 .given; first = h .0 .first }, h .1)
+pair-answers : (mode : Mode) (s : List ℕ) (o o′ : Result Scene) → Pair (InBody mode s) (length s) (λ _. Empty (InBody mode s)) o o′ → Answers mode s o o′
+pair-answers mode s (accept t) o′ h = h
+pair-answers mode s (reject n p) o′ h = (record { given = h .0 .given; first = h .0 .first }, h .1)
 
 -- a tag and a length
 abbrev headerOf : List ℕ → Step (List ℕ)
 headerOf s = record { value = wordsOf 2 s; place = 8; left = drop 8 s }
 
-header-answers : (mode : Mode) (s : List ℕ) (k k′ : Step (List ℕ) → Out Scene) → (8 ≤ length s → Answers mode s (k (headerOf s)) (k′ (headerOf s))) → Answers mode s (row header 0 s >>= k) (row header 0 s >>= k′)
+header-answers : (mode : Mode) (s : List ℕ) (k k′ : Step (List ℕ) → Result Scene) → (8 ≤ length s → Answers mode s (k (headerOf s)) (k′ (headerOf s))) → Answers mode s (row header 0 s >>= k) (row header 0 s >>= k′)
 header-answers mode s k k′ h =
     by-test (leb 8 (length s))
-    (λ t. let l = leb→le 8 (length s) t in subst (λ (o : Out (Step (List ℕ))). Answers mode s (o >>= k) (o >>= k′)) (sym (row-any 2 0 s l)) (h l))
-    (λ t. subst (λ (o : Out (Step (List ℕ))). Answers mode s (o >>= k) (o >>= k′)) (sym (any-short 2 0 s (nleb→lt 8 (length s) t))) (early mode s 5 0 (λ e. omega arith) (λ e. omega arith) (omega arith), inl refl))
+    (λ t. let l = leb→le 8 (length s) t in subst (λ (o : Result (Step (List ℕ))). Answers mode s (o >>= k) (o >>= k′)) (sym (row-any 2 0 s l)) (h l))
+    (λ t. subst (λ (o : Result (Step (List ℕ))). Answers mode s (o >>= k) (o >>= k′)) (sym (any-short 2 0 s (nleb→lt 8 (length s) t))) (early mode s 5 0 (λ e. omega arith) (λ e. omega arith) (omega arith), inl refl))
 
 parse-answers : (mode : Mode) (s : List ℕ) → Answers mode s (parse mode s) (parse Lenient s)
 unfolding parse
@@ -82,22 +82,22 @@ parse-answers mode s =
 
 -- ---- the row limits come after
 
-each-answers : (mode : Mode) (s : List ℕ) (ok : ℕ → Bool) (ks : List ℕ) (t : Scene) → Empty (InBody mode s) → Answers mode s (eachOf 10 ok ks >>= λ _. got t) (eachOf 10 ok ks >>= λ _. got t)
+each-answers : (mode : Mode) (s : List ℕ) (ok : ℕ → Bool) (ks : List ℕ) (t : Scene) → Empty (InBody mode s) → Answers mode s (eachOf 10 ok ks >>= λ _. accept t) (eachOf 10 ok ks >>= λ _. accept t)
 unfolding eachOf check
 each-answers mode s ok [] t h = (h, refl)
 each-answers mode s ok (k ∷ ks) t h = by (ok k) (each-answers mode s ok ks t h)
   where
-    by : (b : Bool) → Answers mode s (eachOf 10 ok ks >>= λ _. got t) (eachOf 10 ok ks >>= λ _. got t)
-        → Answers mode s ((check b 10 k >>= λ _. eachOf 10 ok ks) >>= λ _. got t) ((check b 10 k >>= λ _. eachOf 10 ok ks) >>= λ _. got t)
+    by : (b : Bool) → Answers mode s (eachOf 10 ok ks >>= λ _. accept t) (eachOf 10 ok ks >>= λ _. accept t)
+        → Answers mode s ((check b 10 k >>= λ _. eachOf 10 ok ks) >>= λ _. accept t) ((check b 10 k >>= λ _. eachOf 10 ok ks) >>= λ _. accept t)
     by true x = x
     by false x = (record { given = λ c. elim c [ inl e ↦ absurd (omega arith) | inr e ↦ absurd (omega arith) ]; first = λ i q m f. absurd (h i q m f) }, inl refl)
 
-abbrev limited : Out Scene → Out Scene
-limited o = o >>= λ t. eachOf 10 (λ k. leb (length (rows k t)) rowLimit) tables >>= λ _. got t
+abbrev limited : Result Scene → Result Scene
+limited o = o >>= λ t. eachOf 10 (λ k. leb (length (rows k t)) rowLimit) tables >>= λ _. accept t
 
-limited-answers : (mode : Mode) (s : List ℕ) (o o′ : Out Scene) → Answers mode s o o′ → Answers mode s (limited o) (limited o′)
-limited-answers mode s (got t) o′ h = subst (λ (w : Out Scene). Answers mode s (limited (got t)) (limited w)) (sym (h .1)) (each-answers mode s (λ k. leb (length (rows k t)) rowLimit) tables t (h .0))
-limited-answers mode s (bad n p) o′ h = (h .0, elim (h .1) [ inl e ↦ inl (ap limited e) | inr x ↦ inr x ])
+limited-answers : (mode : Mode) (s : List ℕ) (o o′ : Result Scene) → Answers mode s o o′ → Answers mode s (limited o) (limited o′)
+limited-answers mode s (accept t) o′ h = subst (λ (w : Result Scene). Answers mode s (limited (accept t)) (limited w)) (sym (h .1)) (each-answers mode s (λ k. leb (length (rows k t)) rowLimit) tables t (h .0))
+limited-answers mode s (reject n p) o′ h = (h .0, elim (h .1) [ inl e ↦ inl (ap limited e) | inr x ↦ inr x ])
 
 judge-answers : (mode : Mode) (s : List ℕ) → Answers mode s (judge mode s) (judge Lenient s)
 unfolding judge
@@ -136,35 +136,35 @@ four-there : (s : List ℕ) (p m : ℕ) (k : Tag) (head h last : ℕ) (r : Reach
 four-there s p m k head h last r (denied _ _ _ _ _ t l e d _ i j) = omega arith
 four-there s p m k head h last r (owing _ _ _ _ _ l o i _ _) = absurd (omega arith)
 
-module _ (mode : Mode) (answer soft : List ℕ → Out Scene) (says : (s : List ℕ) → Answers mode s (answer s) (soft s)) where
-  found-given : (s : List ℕ) (n p m : ℕ) → InBody mode s n p m → (answer s ≡ bad n p) ⊎ ((i : ℕ) × (q : ℕ) × (answer s ≡ bad i q) × Sooner m i q)
+module _ (mode : Mode) (answer soft : List ℕ → Result Scene) (says : (s : List ℕ) → Answers mode s (answer s) (soft s)) where
+  found-given : (s : List ℕ) (n p m : ℕ) → InBody mode s n p m → (answer s ≡ reject n p) ⊎ ((i : ℕ) × (q : ℕ) × (answer s ≡ reject i q) × Sooner m i q)
   found-given s n p m f = by (answer s) refl (says s)
     where
-      by : (o : Out Scene) → answer s ≡ o → Answers mode s o (soft s) → (answer s ≡ bad n p) ⊎ ((i : ℕ) × (q : ℕ) × (answer s ≡ bad i q) × Sooner m i q)
-      by (got t) e h = absurd (h .0 n p m f)
-      by (bad i q) e h = elim (h .0 .first n p m f) [ inl x ↦ inl (e ∙ ap (λ (j : ℕ). bad j q) (x .0) ∙ ap (bad n) (x .1)) | inr x ↦ inr (i, q, e, x) ]
+      by : (o : Result Scene) → answer s ≡ o → Answers mode s o (soft s) → (answer s ≡ reject n p) ⊎ ((i : ℕ) × (q : ℕ) × (answer s ≡ reject i q) × Sooner m i q)
+      by (accept t) e h = absurd (h .0 n p m f)
+      by (reject i q) e h = elim (h .0 .first n p m f) [ inl x ↦ inl (e ∙ ap (λ (j : ℕ). reject j q) (x .0) ∙ ap (reject n) (x .1)) | inr x ↦ inr (i, q, e, x) ]
 
-  given-by-table : ((s : List ℕ) (n p m q : ℕ) → Fault s n p m → answer s ≡ bad 10 q → ⊥) → GivenByTable answer
+  given-by-table : ((s : List ℕ) (n p m q : ℕ) → Fault s n p m → answer s ≡ reject 10 q → ⊥) → GivenByTable answer
   given-by-table late = record {
     before-ten = late;
     four = λ s p e.
-        let x = subst (λ (o : Out Scene). Answers mode s o (soft s)) e (says s) .0 .given (inl refl) in
+        let x = subst (λ (o : Result Scene). Answers mode s o (soft s)) e (says s) .0 .given (inl refl) in
         let f = fault-of mode s 4 p (x .0) (λ z. omega arith) (x .1) in
         subst (Fault s 4 p) (meets-all s (SaysNo s 4 p (x .0)) (x .0 ≡ p) (four-there s p (x .0)) BB3D 0 12 (length s) start f) f;
-    eight = λ s p e. let x = subst (λ (o : Out Scene). Answers mode s o (soft s)) e (says s) .0 .given (inr refl) in (x .0, fault-of mode s 8 p (x .0) (λ z. omega arith) (x .1));
+    eight = λ s p e. let x = subst (λ (o : Result Scene). Answers mode s o (soft s)) e (says s) .0 .given (inr refl) in (x .0, fault-of mode s 8 p (x .0) (λ z. omega arith) (x .1));
     given = λ s n p m f. found-given s n p m (of-fault mode s n p m f);
   }
 
 -- ---- 10 comes after what is found in a body
 
-same-place : {i q j p : ℕ} → _≡_ {A = Out Scene} (bad i q) (bad j p) → (i ≡ j) × (q ≡ p)
+same-place : {i q j p : ℕ} → _≡_ {A = Result Scene} (reject i q) (reject j p) → (i ≡ j) × (q ≡ p)
 same-place e = (cc, cc)
 
-not-ten : (mode : Mode) (s : List ℕ) (i p q : ℕ) → parse mode s ≡ bad i p → judge mode s ≡ bad 10 q → ⊥
+not-ten : (mode : Mode) (s : List ℕ) (i p q : ℕ) → parse mode s ≡ reject i p → judge mode s ≡ reject 10 q → ⊥
 unfolding judge
-not-ten mode s i p q e h = let j : judge mode s ≡ bad i p = rw e in omega (arith, same-place (sym j ∙ h) .0, refused mode s i p e)
+not-ten mode s i p q e h = let j : judge mode s ≡ reject i p = rw e in omega (arith, same-place (sym j ∙ h) .0, refused mode s i p e)
 
-found-not-ten : (mode : Mode) (s : List ℕ) (n p m q : ℕ) → InBody mode s n p m → judge mode s ≡ bad 10 q → ⊥
+found-not-ten : (mode : Mode) (s : List ℕ) (n p m q : ℕ) → InBody mode s n p m → judge mode s ≡ reject 10 q → ⊥
 found-not-ten mode s n p m q f h = elim (found-given mode (parse mode) (parse Lenient) (parse-answers mode) s n p m f) [ inl x ↦ not-ten mode s n p q x h | inr x ↦ not-ten mode s (x .0) (x .1) q (x .2) h ]
 
 pub parse-given : (mode : Mode) → GivenByTable (parse mode)
@@ -204,10 +204,10 @@ colour-found s p f = (
 colour-met : (s : List ℕ) (p : ℕ) → Colour s p → holds unit (wordAt s p) ≡ false → InBody Strict s 6 p p
 colour-met s p c n = meets-as s (HasColour s p) (Event Strict s 6 p p) (colour-event s p n) BB3D 0 12 (length s) start c
 
-colour-given : (s : List ℕ) (p : ℕ) → Colour s p → holds unit (wordAt s p) ≡ false → (judge Strict s ≡ bad 6 p) ⊎ ((i : ℕ) × (q : ℕ) × (judge Strict s ≡ bad i q) × Sooner p i q)
+colour-given : (s : List ℕ) (p : ℕ) → Colour s p → holds unit (wordAt s p) ≡ false → (judge Strict s ≡ reject 6 p) ⊎ ((i : ℕ) × (q : ℕ) × (judge Strict s ≡ reject i q) × Sooner p i q)
 colour-given s p c n = found-given Strict (judge Strict) (judge Lenient) (judge-answers Strict) s 6 p p (colour-met s p c n)
 
-colour-first : (s : List ℕ) (p q : ℕ) → judge Strict s ≡ bad 6 p → Colour s q → q < p → holds unit (wordAt s q) ≡ true
+colour-first : (s : List ℕ) (p q : ℕ) → judge Strict s ≡ reject 6 p → Colour s q → q < p → holds unit (wordAt s q) ≡ true
 colour-first s p q e c l = by (holds unit (wordAt s q)) refl
   where
     by : (b : Bool) → holds unit (wordAt s q) ≡ b → b ≡ true
@@ -219,7 +219,7 @@ colour-first s p q e c l = by (holds unit (wordAt s q)) refl
 
 pub colours-given : (s : List ℕ) → GivenAtColours s
 colours-given s = record {
-  colour = λ p e n. elim (subst (λ (o : Out Scene). Answers Strict s o (judge Lenient s)) e (judge-answers Strict s) .1) [ inl x ↦ absurd (n x) | inr x ↦ colour-found s p x ];
+  colour = λ p e n. elim (subst (λ (o : Result Scene). Answers Strict s o (judge Lenient s)) e (judge-answers Strict s) .1) [ inl x ↦ absurd (n x) | inr x ↦ colour-found s p x ];
   first = colour-first s;
   given = colour-given s;
   before-ten = λ p q c n h. found-not-ten Strict s 6 p p q (colour-met s p c n) h;

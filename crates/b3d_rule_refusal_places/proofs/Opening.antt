@@ -15,7 +15,7 @@ use Rattle.b3d_spec.specs.declared.Tag.{Tag}
 use Rattle.b3d_spec.specs.declared.Tag.the-variants.{BB3D, TEXS, BRUS, NODE, MESH, VRTS, TRIS, BONE, KEYS, ANIM}
 use Rattle.b3d_spec.specs.Nesting.{Reached, start, end}
 use Rattle.b3d_spec.specs.Rules.{nodeRow, vertexWords}
-use Rattle.b3d_rule_nesting_order.specs.ByTable.{owesBefore}
+use Rattle.b3d_rule_nesting_order.specs.ByTable.{missingBefore}
 use Rattle.b3d_rule_refusal_places.specs.ByHeaders.{tagAt, endOf, part, Begin, mayStand, withChunk, Meets, here, passed, behind, within}
 use Rattle.b3d_rule_refusal_places.specs.GivenByTable.{SaysNo, denied, owing}
 use Rattle.b3d_rule_refusal_places.specs.GivenAtColours.{BrushTo, VertexTo, ColourIn, this, later, BrushColour, VertexColour}
@@ -142,7 +142,7 @@ module _ (mode : Mode) (s : List ℕ) (n p m : ℕ) where
   module _ (k : Tag) (head h last : ℕ) (r : Reached) where
     -- no header is left: only one that is owed
     abbrev Owed : Type 0
-    Owed = (h ≡ last) × (owesBefore k r end ≡ true) × (n ≡ 8) × (p ≡ head)
+    Owed = (h ≡ last) × (missingBefore k r end ≡ true) × (n ≡ 8) × (p ≡ head)
 
     no-short : last < h + 8 → SaysNo s n p m k head h last r → Owed
     no-short c (denied _ _ _ _ _ t l e d _ _ i) = absurd (omega arith)

@@ -7,7 +7,7 @@ use mathlib.Core.Bool.{Bool, true, false}
 use mathlib.Core.List.{List, [], _∷_, _++_, map}
 use lib.ListN.{length, replicate}
 use Rattle.wire.specs.Bytes.{wordAt}
-use Rattle.layout.specs.Out.{Out, got, bad, check, _>>=_}
+use Rattle.layout.specs.Result.{Result, accept, reject, check, _>>=_}
 use Rattle.layout.specs.Parts.{judged}
 use Rattle.layout.specs.Rules.{Rule, any, upTo, exactly, names, namesOrNone, unit, holds}
 use Rattle.layout.proofs.HeldLaws.{loose, WordsIn}
@@ -73,10 +73,10 @@ module _ (s : List ℕ) where
   abbrev pub BadFloat : List Rule → ℕ → ℕ → Type 0
   BadFloat rs p q = (c : ℕ) × (unitAt rs c ≡ true) × (q ≡ p + 4 * c) × NotUnit q
 
-  abbrev pub Judged : {A : Type 0} → List Rule → ℕ → Out A → Out A → Type 0
-  Judged rs p (got a) o = (o ≡ got a) × ((q : ℕ) → BadFloat rs p q → ⊥)
-  Judged rs p (bad n q) o =
-      ((6 ≤ n) × (n ≤ 7)) × (q < p + 4 * length rs) × ((o ≡ bad n q) ⊎ ((n ≡ 6) × BadFloat rs p q)) × ((j : ℕ) → BadFloat rs p j → ((n ≡ 6) × (q ≡ j)) ⊎ (q < j))
+  abbrev pub Judged : {A : Type 0} → List Rule → ℕ → Result A → Result A → Type 0
+  Judged rs p (accept a) o = (o ≡ accept a) × ((q : ℕ) → BadFloat rs p q → ⊥)
+  Judged rs p (reject n q) o =
+      ((6 ≤ n) × (n ≤ 7)) × (q < p + 4 * length rs) × ((o ≡ reject n q) ⊎ ((n ≡ 6) × BadFloat rs p q)) × ((j : ℕ) → BadFloat rs p j → ((n ≡ 6) × (q ≡ j)) ⊎ (q < j))
 
   open-bad : (r : Rule) (rs : List Rule) (p q : ℕ) → BadFloat (r ∷ rs) p q → ((isUnit r ≡ true) × (q ≡ p) × NotUnit q) ⊎ BadFloat rs (p + 4) q
   open-bad r rs p q (zero, e, i, n) = inl (e, omega arith, n)
@@ -86,9 +86,9 @@ module _ (s : List ℕ) where
   close-bad r rs p q x = (suc (x .0), x .1, omega (arith, x .2), x .3)
 
   -- behind a number that both readings take
-  shift : {A : Type 0} (r : Rule) (rs : List Rule) (p : ℕ) (o o′ : Out A) → (isUnit r ≡ true → NotUnit p → ⊥) → Judged rs (p + 4) o o′ → Judged (r ∷ rs) p o o′
-  shift r rs p (got a) o′ ok h = (h .0, λ q x. elim (open-bad r rs p q x) [ inl y ↦ ok (y .0) (subst NotUnit (y .1) (y .2)) | inr y ↦ h .1 q y ])
-  shift r rs p (bad n q) o′ ok h = (
+  shift : {A : Type 0} (r : Rule) (rs : List Rule) (p : ℕ) (o o′ : Result A) → (isUnit r ≡ true → NotUnit p → ⊥) → Judged rs (p + 4) o o′ → Judged (r ∷ rs) p o o′
+  shift r rs p (accept a) o′ ok h = (h .0, λ q x. elim (open-bad r rs p q x) [ inl y ↦ ok (y .0) (subst NotUnit (y .1) (y .2)) | inr y ↦ h .1 q y ])
+  shift r rs p (reject n q) o′ ok h = (
     h .0,
     omega (arith, h .1),
     elim (h .2) [ inl x ↦ inl x | inr x ↦ inr (x .0, close-bad r rs p q (x .1)) ],
@@ -96,7 +96,7 @@ module _ (s : List ℕ) where
   )
 
   -- at one that both refuse
-  both : {A : Type 0} (r : Rule) (rs : List Rule) (p n : ℕ) → 6 ≤ n → n ≤ 7 → isUnit r ≡ false → Judged {A = A} (r ∷ rs) p (bad n p) (bad n p)
+  both : {A : Type 0} (r : Rule) (rs : List Rule) (p n : ℕ) → 6 ≤ n → n ≤ 7 → isUnit r ≡ false → Judged {A = A} (r ∷ rs) p (reject n p) (reject n p)
   both r rs p n a b f = (
     (a, b),
     omega arith,
@@ -104,13 +104,13 @@ module _ (s : List ℕ) where
     λ j x. elim (open-bad r rs p j x) [ inl y ↦ false-true (sym f ∙ y .0) | inr y ↦ inr (omega (arith, y .2)) ],
   )
 
-  plain : {A : Type 0} (r : Rule) (rs : List Rule) (p : ℕ) (t : Bool) (n : ℕ) (o o′ : Out A) → 6 ≤ n → n ≤ 7 → isUnit r ≡ false → Judged rs (p + 4) o o′
+  plain : {A : Type 0} (r : Rule) (rs : List Rule) (p : ℕ) (t : Bool) (n : ℕ) (o o′ : Result A) → 6 ≤ n → n ≤ 7 → isUnit r ≡ false → Judged rs (p + 4) o o′
       → Judged (r ∷ rs) p (check t n p >>= λ _. o) (check t n p >>= λ _. o′)
   unfolding check
   plain r rs p true n o o′ a b f h = shift r rs p o o′ (λ e _. false-true (sym f ∙ e)) h
   plain r rs p false n o o′ a b f h = both r rs p n a b f
 
-  float : {A : Type 0} (rs : List Rule) (p : ℕ) (t : Bool) (o o′ : Out A) → holds unit (wordAt s p) ≡ t → Judged rs (p + 4) o o′ → Judged (unit ∷ rs) p (check t 6 p >>= λ _. o) (check true 6 p >>= λ _. o′)
+  float : {A : Type 0} (rs : List Rule) (p : ℕ) (t : Bool) (o o′ : Result A) → holds unit (wordAt s p) ≡ t → Judged rs (p + 4) o o′ → Judged (unit ∷ rs) p (check t 6 p >>= λ _. o) (check true 6 p >>= λ _. o′)
   unfolding check
   float rs p true o o′ e h = shift unit rs p o o′ (λ _ n. false-true (sym n ∙ e)) h
   float rs p false o o′ e h = (

@@ -9,7 +9,7 @@ use mathlib.Core.List.{List, [], _∷_}
 use lib.ListN.{length}
 use Rattle.wire.specs.Test.{if}
 use Rattle.layout.specs.Chunks.{done, stop, chunk, ended}
-use Rattle.layout.specs.Out.{Out, got, bad}
+use Rattle.layout.specs.Result.{Result, accept, reject}
 use Rattle.layout.specs.Parts.{Name, Step, row, named}
 use Rattle.layout.proofs.Outs.{got-inj, bad-got}
 use Rattle.layout.proofs.PlaceLaws.{At, named-at}
@@ -18,9 +18,9 @@ use Rattle.b3d_spec.specs.declared.Mode.the-variants.{Strict, Lenient}
 use Rattle.b3d_spec.specs.declared.Tag.{Tag}
 use Rattle.b3d_spec.specs.declared.Tag.the-variants.{BB3D, TEXS, BRUS, NODE, MESH, VRTS, TRIS, BONE, KEYS, ANIM}
 use Rattle.b3d_spec.specs.Nesting.{start, inside}
-use Rattle.b3d_spec.specs.Parse.{readOne, readTextures, readBrushes, noVertices, readVertices, readTriangles, readSets, readMesh, readBone, readKeys, readAnim, aMesh, aBone, readKind, withKeys, readMoves, Inner as InnerNode, readNodes, readBelow, readNode, readRoot, readBody}
-use Rattle.b3d_spec.specs.Rules.{version, brushId, fileHead, nodeRow, meshHead, boneVertices, bonesBelow, levels}
-use Rattle.b3d_spec.specs.Scene.{Anim, still, anim, Data, leaf}
+use Rattle.b3d_spec.specs.Parse.{readOne, readTextures, readBrushes, noVertices, readVertices, readTriangles, readSets, readMesh, readBone, readKeys, readAnim, aMesh, aBone, readKind, withKeys, readAnimation, Inner as InnerNode, readNodes, readBelow, readNode, readRoot, readBody}
+use Rattle.b3d_spec.specs.Rules.{version, brushId, fileHead, nodeRow, meshHead, boneLimit, boneLimitBelow, levels}
+use Rattle.b3d_spec.specs.Scene.{Anim, noAnim, anim, Data, noNodes}
 use Rattle.b3d_spec.specs.Tags.{is, Chunks, Found}
 use Rattle.b3d_spec.proofs.Files.BodyRefusals as body
 use Rattle.b3d_spec.proofs.Files.Entries.{same-tag}
@@ -43,14 +43,14 @@ module _ (mode : Mode) (s : List ℕ) where
 
   module _ (K : Faults) (last : ℕ) where
     -- the next chunk, by its reader
-    step : {A : Type 0} (k t : Tag) (one other : ℕ → List ℕ → Out A) → Reads mode s k one other → t ≡ k → (q : ℕ) (b : List ℕ) (r : Chunks) → Tie mode s K last (chunk t q b r)
+    step : {A : Type 0} (k t : Tag) (one other : ℕ → List ℕ → Result A) → Reads mode s k one other → t ≡ k → (q : ℕ) (b : List ℕ) (r : Chunks) → Tie mode s K last (chunk t q b r)
         → Pair K last (λ _. Tie mode s K last r) (one q b) (other q b)
     step {A} k t one other reads same q b r h =
         by (one q b) (subst (λ (u : Tag). Pair (Inner mode s u q) (endOf s q) (λ _. Empty (Inner mode s u q)) (one q b) (other q b)) (sym same) (reads q b (h .0 .stands) (h .0 .size)))
       where
-        by : (o : Out A) → Pair (Inner mode s t q) (endOf s q) (λ _. Empty (Inner mode s t q)) o (other q b) → Pair K last (λ _. Tie mode s K last r) o (other q b)
-        by (got a) x = (h .1 (x .0), x .1)
-        by (bad n p) x = (
+        by : (o : Result A) → Pair (Inner mode s t q) (endOf s q) (λ _. Empty (Inner mode s t q)) o (other q b) → Pair K last (λ _. Tie mode s K last r) o (other q b)
+        by (accept a) x = (h .1 (x .0), x .1)
+        by (reject n p) x = (
           record {
             given = λ c. let y = x .0 .given c in (y .0, h .0 .into n p (y .0) (y .1));
             first = λ i j m f. elim (h .0 .parts i j m f) [ inl g ↦ x .0 .first i j m g | inr g ↦ inr (sooner-later (endOf s q) m n p g (x .0 .soon)) ];
@@ -59,7 +59,7 @@ module _ (mode : Mode) (s : List ℕ) where
           elim (x .1) [ inl e ↦ inl e | inr y ↦ inr (h .0 .into n p p y) ],
         )
 
-    if-pair : {A : Type 0} (P : A → Type 0) (c : Bool) (x x′ y y′ : Out A) → (c ≡ true → Pair K last P x x′) → (c ≡ false → Pair K last P y y′) → Pair K last P (if c x y) (if c x′ y′)
+    if-pair : {A : Type 0} (P : A → Type 0) (c : Bool) (x x′ y y′ : Result A) → (c ≡ true → Pair K last P x x′) → (c ≡ false → Pair K last P y y′) → Pair K last P (if c x y) (if c x′ y′)
     unfolding if
     if-pair P true x x′ y y′ f g = f refl
     if-pair P false x x′ y y′ f g = g refl
@@ -67,7 +67,7 @@ module _ (mode : Mode) (s : List ℕ) where
     abbrev Rest : {A : Type 0} → Found A → Type 0
     Rest x = Tie mode s K last (x .rest)
 
-    one-pair : {A : Type 0} (k : Tag) (a : A) (one other : ℕ → List ℕ → Out A) → Reads mode s k one other → (cs : Chunks) → Tie mode s K last cs → Pair K last Rest (readOne k a one cs) (readOne k a other cs)
+    one-pair : {A : Type 0} (k : Tag) (a : A) (one other : ℕ → List ℕ → Result A) → Reads mode s k one other → (cs : Chunks) → Tie mode s K last cs → Pair K last Rest (readOne k a one cs) (readOne k a other cs)
     unfolding readOne
     one-pair k a one other reads done h = (h, refl)
     one-pair k a one other reads (stop n p) h = (h, inl refl)
@@ -128,19 +128,19 @@ module _ (mode : Mode) (s : List ℕ) where
         (λ e. bind-pair K last (λ _. Tie mode s K last r) (Rest K last) (readBone n p b) (readBone n p b) _ _
         (step K last BONE t (readBone n) (readBone n) (bone-read mode s n) (same-tag t BONE e) p b r h) (λ w _ _ g. (g, refl))) (λ _. (h, refl)))
 
-    moves-pair : (cs : Chunks) (seen : Anim) → Tie mode s K last cs → Pair K last (Rest K last) (readMoves seen cs) (readMoves seen cs)
-    unfolding readMoves withKeys
+    moves-pair : (cs : Chunks) (seen : Anim) → Tie mode s K last cs → Pair K last (Rest K last) (readAnimation seen cs) (readAnimation seen cs)
+    unfolding readAnimation withKeys
     moves-pair done seen h = (h, refl)
     moves-pair (stop i p) seen h = (h, inl refl)
     moves-pair (chunk t p b r) seen h =
         if-pair K last (Rest K last) (is t KEYS) _ _ _ _
         (λ e. bind-pair K last (λ _. Tie mode s K last r) (Rest K last) (readKeys p b) (readKeys p b) _ _ (step K last KEYS t readKeys readKeys (keys-read mode s) (same-tag t KEYS e) p b r h) (λ k _ _ g.
-        bind-pair K last (Rest K last) (Rest K last) (readMoves seen r) (readMoves seen r) _ _ (moves-pair r seen g) (λ x _ _ f. (f, refl))))
+        bind-pair K last (Rest K last) (Rest K last) (readAnimation seen r) (readAnimation seen r) _ _ (moves-pair r seen g) (λ x _ _ f. (f, refl))))
         (λ _. if-pair K last (Rest K last) (is t ANIM) _ _ _ _
         (λ e. bind-pair K last (λ _. Tie mode s K last r) (Rest K last) (readAnim p b) (readAnim p b) _ _ (step K last ANIM t readAnim readAnim (anim-read mode s) (same-tag t ANIM e) p b r h) (λ ws _ _ g.
         moves-pair r (anim ws) g)) (λ _. (h, refl)))
 
-    nodes-pair : (one other : ℕ → List ℕ → Out InnerNode) → Reads mode s NODE one other → (cs : Chunks) → Only NODE cs → Tie mode s K last cs → Pair K last (λ _. Empty K) (readNodes one cs) (readNodes other cs)
+    nodes-pair : (one other : ℕ → List ℕ → Result InnerNode) → Reads mode s NODE one other → (cs : Chunks) → Only NODE cs → Tie mode s K last cs → Pair K last (λ _. Empty K) (readNodes one cs) (readNodes other cs)
     unfolding readNodes
     nodes-pair one other reads done o h = (h, refl)
     nodes-pair one other reads (stop i p) o h = (h, inl refl)
@@ -153,10 +153,10 @@ module _ (mode : Mode) (s : List ℕ) where
       → Pair (Inner mode s NODE q) (endOf s q) (λ x. x .place + length (x .left) ≡ endOf s q) (named nodeRow (q + 8) b) (named nodeRow (q + 8) b)
   node-head q b at size = by (named nodeRow (q + 8) b) refl (name-own nodeRow (endOf s q) (q + 8) b (omega arith))
     where
-      by : (o : Out (Step (Name × List ℕ))) → named nodeRow (q + 8) b ≡ o → body.Low (Own (endOf s q)) (λ x. x .place + length (x .left) ≤ endOf s q) o
+      by : (o : Result (Step (Name × List ℕ))) → named nodeRow (q + 8) b ≡ o → body.Low (Own (endOf s q)) (λ x. x .place + length (x .left) ≤ endOf s q) o
           → Pair (Inner mode s NODE q) (endOf s q) (λ x. x .place + length (x .left) ≡ endOf s q) o o
-      by (got x) e k = (named-onward nodeRow (q + 8) b x e .same ∙ sym size, refl)
-      by (bad n p) e k = (
+      by (accept x) e k = (named-onward nodeRow (q + 8) b x e .same ∙ sym size, refl)
+      by (reject n p) e k = (
         own-says (Inner mode s NODE q) (endOf s q) n p k
             (λ i j m f. elim f [ inl g ↦ bad-got (sym e ∙ sym (ap (named nodeRow (q + 8)) (part-is s (q + 8) (endOf s q) b at (sym size))) ∙ g .1 .1) | inr g ↦ no-colour mode s q i j m .1 g ]),
         inl refl,
@@ -192,13 +192,13 @@ module _ (mode : Mode) (s : List ℕ) where
         | inr g ↦ absurd (no-colour mode s q n p m .1 g)
       ])
       (tie-inside mode s NODE q (x .place) last (x .left) (named-at s nodeRow (q + 8) b x at ex .0) hx (named-onward nodeRow (q + 8) b x ex .later)) in
-      bind-pair K last (Rest K last) (λ _. Empty K) (readKind mode brushes (boneVertices above) cs) (readKind Lenient brushes (boneVertices above) cs) _ _ (kind-pair K last brushes (boneVertices above) cs tie) (λ k ek _ hk.
-      bind-pair K last (Rest K last) (λ _. Empty K) (readMoves still (k .rest)) (readMoves still (k .rest)) _ _ (moves-pair K last (k .rest) still hk) (λ m em _ hm.
+      bind-pair K last (Rest K last) (λ _. Empty K) (readKind mode brushes (boneLimit above) cs) (readKind Lenient brushes (boneLimit above) cs) _ _ (kind-pair K last brushes (boneLimit above) cs tie) (λ k ek _ hk.
+      bind-pair K last (Rest K last) (λ _. Empty K) (readAnimation noAnim (k .rest)) (readAnimation noAnim (k .rest)) _ _ (moves-pair K last (k .rest) noAnim hk) (λ m em _ hm.
       let d : Data = record { name = x .value .0; words = x .value .1; kind = k .value; keys = m .value .keys; anim = m .value .anim } in
-      let one = readNode mode l brushes (bonesBelow above d) in
-      let other = readNode Lenient l brushes (bonesBelow above d) in
+      let one = readNode mode l brushes (boneLimitBelow above d) in
+      let other = readNode Lenient l brushes (boneLimitBelow above d) in
       bind-pair K last (λ _. Empty K) (λ _. Empty K) (readNodes one (m .rest)) (readNodes other (m .rest)) _ _
-      (nodes-pair K last one other (node-read l brushes (bonesBelow above d)) (m .rest) (node-tags mode brushes (boneVertices above) q (x .place) (x .left) k still m ek em) hm) (λ f _ _ e. (e, refl)))))
+      (nodes-pair K last one other (node-read l brushes (boneLimitBelow above d)) (m .rest) (node-tags mode brushes (boneLimit above) q (x .place) (x .left) k noAnim m ek em) hm) (λ f _ _ e. (e, refl)))))
 
   root-read : (brushes : ℕ) → Reads mode s NODE (readRoot mode brushes) (readRoot Lenient brushes)
   unfolding readRoot
@@ -229,5 +229,5 @@ module _ (mode : Mode) (s : List ℕ) where
       bind-pair K last (Rest K last) (λ _. Empty K) (readOne BRUS (0, []) two (t .rest)) (readOne BRUS (0, []) soft (t .rest)) _ _ (one-pair K last BRUS (0, []) two soft (brushes-read s mode (length (t .value))) (t .rest) ht) (λ u eu _ hu.
       let three = readRoot mode (length (u .value .1)) in
       let loose = readRoot Lenient (length (u .value .1)) in
-      bind-pair K last (Rest K last) (λ _. Empty K) (readOne NODE leaf three (u .rest)) (readOne NODE leaf loose (u .rest)) _ _ (one-pair K last NODE leaf three loose (root-read (length (u .value .1))) (u .rest) hu) (λ n en _ hn.
-      ended-pair K last (n .rest) _ (file-tags [] (0, []) leaf readTextures two three (x .place) (x .left) t u n et eu en) hn))))
+      bind-pair K last (Rest K last) (λ _. Empty K) (readOne NODE noNodes three (u .rest)) (readOne NODE noNodes loose (u .rest)) _ _ (one-pair K last NODE noNodes three loose (root-read (length (u .value .1))) (u .rest) hu) (λ n en _ hn.
+      ended-pair K last (n .rest) _ (file-tags [] (0, []) noNodes readTextures two three (x .place) (x .left) t u n et eu en) hn))))

@@ -19,7 +19,7 @@ use Rattle.b3d_spec.specs.declared.Mode.{Mode}
 use Rattle.b3d_spec.specs.declared.Tag.{Tag}
 use Rattle.b3d_spec.specs.Nesting.{Reached, start, end, order, inside}
 use Rattle.b3d_spec.specs.Tags.{Chunks, tagOf}
-use Rattle.b3d_rule_nesting_order.specs.ByTable.{owesBefore}
+use Rattle.b3d_rule_nesting_order.specs.ByTable.{missingBefore}
 use Rattle.b3d_rule_nesting_order.proofs.Exact.{four-by-table, eight-by-table}
 use Rattle.b3d_rule_refusal_places.specs.ByHeaders.{tagAt, endOf, mayStand, withChunk, here, passed, behind, Sooner}
 use Rattle.b3d_rule_refusal_places.specs.GivenByTable.{denied, owing}
@@ -104,7 +104,7 @@ module _ (mode : Mode) (s : List ℕ) where
 
     tie-end : (h last : ℕ) (r : Reached) → h ≡ last → head + 8 ≤ h → Tie (From k head h last r) last (order k head r done)
     tie-end h last r e l = subst (Tie (From k head h last r) last) (sym (eight-by-table k head r))
-        (tie-if (From k head h last r) last (owesBefore k r end) (stop 8 head) done
+        (tie-if (From k head h last r) last (missingBefore k r end) (stop 8 head) done
         (λ o. record {
           given = λ _. (h, here k head h last r (inl (owing k head h last r e o refl refl refl)));
           first = λ i q m x. let y = found-short mode s i q m k head h last r (omega arith) x in inl (sym (y .2), sym (y .3));

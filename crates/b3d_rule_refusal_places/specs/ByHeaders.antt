@@ -7,7 +7,7 @@ use mathlib.Core.Option.{Option, none, some}
 use mathlib.Core.List.{List}
 use lib.ListN.{length, take, drop}
 use Rattle.wire.specs.Bytes.{wordAt}
-use Rattle.layout.specs.Out.{got}
+use Rattle.layout.specs.Result.{accept}
 use Rattle.layout.specs.Parts.{Name, Step, named}
 use Rattle.b3d_spec.specs.declared.Tag.{Tag}
 use Rattle.b3d_spec.specs.declared.Tag.the-variants.{BB3D, TEXS, BRUS, NODE, MESH, VRTS, TRIS, BONE, KEYS, ANIM}
@@ -15,7 +15,7 @@ use Rattle.b3d_spec.specs.Nesting.{Reached, start}
 use Rattle.b3d_spec.specs.Rules.{nodeRow}
 use Rattle.b3d_spec.specs.Tags.{tagOf}
 use Rattle.b3d_rule_nesting_lookup.specs.Entries.{entryOf}
-use Rattle.b3d_rule_nesting_order.specs.ByTable.{standsBy, afterBy, owesBefore}
+use Rattle.b3d_rule_nesting_order.specs.ByTable.{permittedBy, afterBy, missingBefore}
 
 -- ---- a chunk of the file s whose header stands at place h
 
@@ -37,7 +37,7 @@ abbrev pub Begin : List ℕ → Tag → ℕ → ℕ → ℕ → Type 0
 Begin s BB3D p q b = ⊥
 Begin s TEXS p q b = ⊥
 Begin s BRUS p q b = ⊥
-Begin s NODE p q b = (x : Step (Name × List ℕ)) × (named nodeRow p (part s p q) ≡ got x) × (b ≡ x .place)
+Begin s NODE p q b = (x : Step (Name × List ℕ)) × (named nodeRow p (part s p q) ≡ accept x) × (b ≡ x .place)
 Begin s MESH p q b = (b ≡ p + 4) × (b ≤ q)
 Begin s VRTS p q b = ⊥
 Begin s TRIS p q b = ⊥
@@ -49,7 +49,7 @@ Begin s ANIM p q b = ⊥
 
 -- the table says that inside a chunk of tag k, after chunks that came to r, one of tag t may stand
 abbrev pub mayStand : Tag → Reached → Tag → Bool
-mayStand k r t = standsBy (owesBefore k r ((entryOf k t) .turn)) r (entryOf k t)
+mayStand k r t = permittedBy (missingBefore k r ((entryOf k t) .turn)) r (entryOf k t)
 
 -- how far chunks inside one of tag k that had come to r come with one of tag t
 abbrev pub withChunk : Tag → Reached → Tag → Reached

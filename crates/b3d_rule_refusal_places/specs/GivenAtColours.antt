@@ -7,7 +7,7 @@ use mathlib.Core.Option.{some}
 use mathlib.Core.List.{List}
 use lib.ListN.{replicate}
 use Rattle.wire.specs.Bytes.{wordAt}
-use Rattle.layout.specs.Out.{got, bad}
+use Rattle.layout.specs.Result.{accept, reject}
 use Rattle.layout.specs.Parts.{Name, Step, named}
 use Rattle.layout.specs.Rules.{any, unit, holds}
 use Rattle.b3d_spec.specs.declared.Mode.the-variants.{Strict, Lenient}
@@ -22,7 +22,7 @@ use Rattle.b3d_rule_refusal_places.specs.ByHeaders.{tagAt, endOf, part, 
 
 -- the brush that begins at place q of a chunk that ends at `last` ends at e: a name, seven numbers and `slots` ids
 abbrev pub BrushTo : List ℕ → ℕ → ℕ → ℕ → ℕ → Type 0
-BrushTo s slots last q e = (x : Step (Name × List ℕ)) × (named (replicate (7 + slots) any) q (part s q last) ≡ got x) × (e ≡ x .place)
+BrushTo s slots last q e = (x : Step (Name × List ℕ)) × (named (replicate (7 + slots) any) q (part s q last) ≡ accept x) × (e ≡ x .place)
 
 -- the vertex that begins at place q of a chunk that ends at `last` ends at e: `numbers` numbers
 abbrev pub VertexTo : ℕ → ℕ → ℕ → ℕ → Type 0
@@ -65,10 +65,10 @@ Colour s p = InFile s (HasColour s p)
 -- E8: what the strict mode says of the colours of the file s
 pub record GivenAtColours (s : List ℕ) : Type 0 where
   -- a 6 that the lenient mode does not give is at a colour that does not pass
-  pub colour : (p : ℕ) → judge Strict s ≡ bad 6 p → (judge Lenient s ≡ bad 6 p → ⊥) → Colour s p × (holds unit (wordAt s p) ≡ false)
+  pub colour : (p : ℕ) → judge Strict s ≡ reject 6 p → (judge Lenient s ≡ reject 6 p → ⊥) → Colour s p × (holds unit (wordAt s p) ≡ false)
   -- each colour at a lower place than a 6 passes
-  pub first : (p q : ℕ) → judge Strict s ≡ bad 6 p → Colour s q → q < p → holds unit (wordAt s q) ≡ true
+  pub first : (p q : ℕ) → judge Strict s ≡ reject 6 p → Colour s q → q < p → holds unit (wordAt s q) ≡ true
   -- a colour that does not pass is refused with 6 at its place, unless another refusal comes sooner
-  pub given : (p : ℕ) → Colour s p → holds unit (wordAt s p) ≡ false → (judge Strict s ≡ bad 6 p) ⊎ ((i : ℕ) × (q : ℕ) × (judge Strict s ≡ bad i q) × Sooner p i q)
+  pub given : (p : ℕ) → Colour s p → holds unit (wordAt s p) ≡ false → (judge Strict s ≡ reject 6 p) ⊎ ((i : ℕ) × (q : ℕ) × (judge Strict s ≡ reject i q) × Sooner p i q)
   -- 10 is never given for a file with a colour that does not pass
-  pub before-ten : (p q : ℕ) → Colour s p → holds unit (wordAt s p) ≡ false → judge Strict s ≡ bad 10 q → ⊥
+  pub before-ten : (p q : ℕ) → Colour s p → holds unit (wordAt s p) ≡ false → judge Strict s ≡ reject 10 q → ⊥

@@ -9,7 +9,7 @@ use lib.ListN.{length}
 use lib.Dec.{T, leb, ltb, leb→le, le→leb, ltb→lt, nltb→le}
 use borrow.Author.Tests.{lt-leb, le-leb, lt-ltb, le-ltb}
 use Rattle.wire.specs.Test.{if}
-use Rattle.layout.specs.Out.{Out, got, bad, _>>=_}
+use Rattle.layout.specs.Result.{Result, accept, reject, _>>=_}
 use Rattle.layout.proofs.Lists.{All, all-map}
 use Rattle.layout.proofs.Outs.{by-test, if-yes, if-no, by-check, by-got, bad-got, check-yes, got-inj, check-no, each-got, each-yes}
 use Rattle.layout.specs.Rows.{eachOf, mostBytes}
@@ -29,7 +29,7 @@ use Rattle.b3d_spec.specs.Tables.{width, rows, tables}
 
 -- the test holds of each just where the first without it is 0; else that is refused
 module _ (n : ℕ) (ok : ℕ → Bool) where
-  pub first-none : (ks : List ℕ) → All (λ k. 0 < k) ks → firstNot ok ks ≡ 0 → eachOf n ok ks ≡ got tt
+  pub first-none : (ks : List ℕ) → All (λ k. 0 < k) ks → firstNot ok ks ≡ 0 → eachOf n ok ks ≡ accept tt
   unfolding firstNot eachOf
   first-none [] h e = refl
   first-none (k ∷ ks) h e =
@@ -37,7 +37,7 @@ module _ (n : ℕ) (ok : ℕ → Bool) where
       (λ t. rw (check-yes (ok k) n k t) (first-none ks (h .1) (sym (if-yes (ok k) (firstNot ok ks) k t) ∙ e)))
       (λ t. let z : k ≡ 0 = sym (if-no (ok k) (firstNot ok ks) k t) ∙ e in absurd (omega (arith, h .0)))
 
-  pub first-some : (ks : List ℕ) → (firstNot ok ks ≡ 0 → ⊥) → eachOf n ok ks ≡ bad n (firstNot ok ks)
+  pub first-some : (ks : List ℕ) → (firstNot ok ks ≡ 0 → ⊥) → eachOf n ok ks ≡ reject n (firstNot ok ks)
   unfolding firstNot eachOf
   first-some [] d = absurd (d refl)
   first-some (k ∷ ks) d =
@@ -57,16 +57,16 @@ module _ (n : ℕ) (size : ℕ → Scene → ℕ) (most : ℕ → ℕ) where
   abbrev Within : Scene → Type 0
   Within t = All (λ k. size k t ≤ most k) tables
 
-  abbrev held : Scene → Out Scene
-  held t = eachOf n (λ k. leb (size k t) (most k)) tables >>= λ x. got t
+  abbrev held : Scene → Result Scene
+  held t = eachOf n (λ k. leb (size k t) (most k)) tables >>= λ x. accept t
 
-  within-got : (m : Out Scene) (t : Scene) → (m >>= held) ≡ got t → (m ≡ got t) × Within t
+  within-got : (m : Result Scene) (t : Scene) → (m >>= held) ≡ accept t → (m ≡ accept t) × Within t
   within-got m t e =
       by-got m _ e (λ u eu e₁. by-got (eachOf n _ tables) _ e₁ (λ x ex e₂.
-      subst (λ (v : Scene). (m ≡ got v) × Within v) (got-inj e₂)
+      subst (λ (v : Scene). (m ≡ accept v) × Within v) (got-inj e₂)
       (eu, all-map (λ k. T (leb (size k u) (most k))) _ (λ k. leb→le (size k u) (most k)) tables (each-got n _ tables ex))))
 
-  within-yes : (t : Scene) → Within t → held t ≡ got t
+  within-yes : (t : Scene) → Within t → held t ≡ accept t
   within-yes t h = rw (each-yes n (λ k. leb (size k t) (most k)) tables (all-map (λ k. size k t ≤ most k) _ (λ k. le→leb (size k t) (most k)) tables h))
 
 -- ---- reader
@@ -78,42 +78,42 @@ Small t = All (λ k. length (rows k t) ≤ rowLimit) tables
 abbrev pub Roomy : (ℕ → ℕ) → Scene → Type 0
 Roomy room t = All (λ k. width k * length (rows k t) ≤ room k) tables
 
-pub judge-got : (mode : Mode) (s : List ℕ) (t : Scene) → judge mode s ≡ got t → (parse mode s ≡ got t) × Small t
+pub judge-got : (mode : Mode) (s : List ℕ) (t : Scene) → judge mode s ≡ accept t → (parse mode s ≡ accept t) × Small t
 unfolding judge
 judge-got mode s t e = within-got 10 (λ k t. length (rows k t)) (λ k. rowLimit) (parse mode s) t e
 
-pub judge-yes : (mode : Mode) (s : List ℕ) (t : Scene) → parse mode s ≡ got t → Small t → judge mode s ≡ got t
+pub judge-yes : (mode : Mode) (s : List ℕ) (t : Scene) → parse mode s ≡ accept t → Small t → judge mode s ≡ accept t
 unfolding judge
 judge-yes mode s t e h = rw e (within-yes 10 (λ k t. length (rows k t)) (λ k. rowLimit) t h)
 
 -- what a mode accepts the lenient one accepts
-pub judge-lenient : (mode : Mode) (s : List ℕ) (t : Scene) → judge mode s ≡ got t → judge Lenient s ≡ got t
+pub judge-lenient : (mode : Mode) (s : List ℕ) (t : Scene) → judge mode s ≡ accept t → judge Lenient s ≡ accept t
 judge-lenient mode s t e = let g = judge-got mode s t e in judge-yes Lenient s t (mode-got mode s t (g .0) .0) (g .1)
 
 -- a file that is not accepted gets its refusal with any tables, and under the lenient mode with any output
-pub judge-first : (mode : Mode) (s : List ℕ) (n p : ℕ) → judge mode s ≡ bad n p → (room : ℕ → ℕ) → read mode room s ≡ bad n p
+pub judge-first : (mode : Mode) (s : List ℕ) (n p : ℕ) → judge mode s ≡ reject n p → (room : ℕ → ℕ) → read mode room s ≡ reject n p
 unfolding read
 judge-first mode s n p e room = rw e
 
-pub clear-first : (s : List ℕ) (n p : ℕ) → judge Lenient s ≡ bad n p → (size : ℕ) → clear s size ≡ bad n p
+pub clear-first : (s : List ℕ) (n p : ℕ) → judge Lenient s ≡ reject n p → (size : ℕ) → clear s size ≡ reject n p
 unfolding clear
 clear-first s n p e size = rw e
 
-pub read-got : (mode : Mode) (room : ℕ → ℕ) (s : List ℕ) (t : Scene) → read mode room s ≡ got t → (judge mode s ≡ got t) × Roomy room t
+pub read-got : (mode : Mode) (room : ℕ → ℕ) (s : List ℕ) (t : Scene) → read mode room s ≡ accept t → (judge mode s ≡ accept t) × Roomy room t
 unfolding read
 read-got mode room s t e = within-got 11 (λ k t. width k * length (rows k t)) room (judge mode s) t e
 
-pub read-yes : (mode : Mode) (room : ℕ → ℕ) (s : List ℕ) (t : Scene) → judge mode s ≡ got t → Roomy room t → read mode room s ≡ got t
+pub read-yes : (mode : Mode) (room : ℕ → ℕ) (s : List ℕ) (t : Scene) → judge mode s ≡ accept t → Roomy room t → read mode room s ≡ accept t
 unfolding read
 read-yes mode room s t e h = rw e (within-yes 11 (λ k t. width k * length (rows k t)) room t h)
 
 -- ---- writer
 
-room-got : (room : ℕ) (b c : List ℕ) → roomFor room b ≡ got c → (b ≡ c) × (length b ≤ room)
+room-got : (room : ℕ) (b c : List ℕ) → roomFor room b ≡ accept c → (b ≡ c) × (length b ≤ room)
 unfolding roomFor
 room-got room b c e = by-check (leb (length b) room) 11 (length b) _ e (λ t e₁. (got-inj e₁, leb→le (length b) room t))
 
-shortest-got : (o : Option Scene) (b : List ℕ) → shortest o ≡ got b → (t : Scene) × (o ≡ some t) × (encode t ≡ b) × (length b ≤ mostBytes)
+shortest-got : (o : Option Scene) (b : List ℕ) → shortest o ≡ accept b → (t : Scene) × (o ≡ some t) × (encode t ≡ b) × (length b ≤ mostBytes)
 unfolding shortest
 shortest-got none b e = bad-got e
 shortest-got (some t) b e =
@@ -121,7 +121,7 @@ shortest-got (some t) b e =
     (t, refl, refl, leb→le (length (encode t)) mostBytes h))
 
 -- what is written is the shortest file of the tables' scene, within the limit and the output
-pub write-got : (mode : Mode) (T : Lent) (ns : List ℕ) (room : ℕ) (b : List ℕ) → write mode T ns room ≡ got b
+pub write-got : (mode : Mode) (T : Lent) (ns : List ℕ) (room : ℕ) (b : List ℕ) → write mode T ns room ≡ accept b
     → (t : Scene) × (rebuild mode T ns ≡ some t) × (encode t ≡ b) × (length b ≤ mostBytes) × (length b ≤ room)
 unfolding write
 write-got mode T ns room b e =

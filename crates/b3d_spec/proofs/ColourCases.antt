@@ -3,12 +3,12 @@ use mathlib.Core.Path.{_≡_, refl}
 use Prim.Native.Nat.{ℕ}
 use mathlib.Core.List.{List, [], _∷_, _++_, map}
 use lib.ListN.{replicate, getD}
-use Rattle.layout.specs.Out.{got, bad}
+use Rattle.layout.specs.Result.{accept, reject}
 use Rattle.layout.specs.Rules.{NONE}
 use Rattle.b3d_spec.specs.Answers.{readAnswer, shortest, write}
 use Rattle.b3d_spec.specs.Colours.{coloured, passes}
-use Rattle.b3d_spec.specs.Fit.{fits}
-use Rattle.b3d_spec.specs.Rebuild.{Lent, cut, lentRows, roomy, nameFrom, textureFrom, brushFrom, walk, tree, together, same, sameRows, nodeNames, names, stands, sound, rebuild}
+use Rattle.b3d_spec.specs.WellFormed.{fits}
+use Rattle.b3d_spec.specs.Rebuild.{Lent, cut, lentRows, hasCountedRows, nameFrom, textureFrom, brushFrom, walk, tree, assembled, same, sameRows, nodeNames, names, stands, sound, rebuild}
 use Rattle.b3d_spec.specs.declared.Mode.{Mode}
 use Rattle.b3d_spec.specs.declared.Mode.the-variants.{Strict, Lenient}
 use Rattle.b3d_spec.specs.declared.Tag.the-variants.{BRUS, MESH, VRTS, TRIS}
@@ -68,10 +68,10 @@ lent alpha = record {
   words = λ k. getD ([] ∷ [] ∷ (0 ∷ 0 ∷ 0 ∷ 0 ∷ 0 ∷ alpha ∷ NONE ∷ 0 ∷ 0 ∷ replicate 8 NONE) ∷ []) k [];
 }
 
-pub strict-written : map (λ a. write Strict (lent a) [] 60) alphas ≡ got (brush 0) ∷ got (brush 0x80000000) ∷ got (brush 0x3F800000) ∷ replicate 5 (bad 12 0)
-unfolding computing alphas write shortest rebuild coloured passes cut lentRows roomy nameFrom textureFrom brushFrom walk tree together same sameRows nodeNames names stands sound fits
+pub strict-written : map (λ a. write Strict (lent a) [] 60) alphas ≡ accept (brush 0) ∷ accept (brush 0x80000000) ∷ accept (brush 0x3F800000) ∷ replicate 5 (reject 12 0)
+unfolding computing alphas write shortest rebuild coloured passes cut lentRows hasCountedRows nameFrom textureFrom brushFrom walk tree assembled same sameRows nodeNames names stands sound fits
 strict-written = refl
 
-pub lenient-written : map (λ a. write Lenient (lent a) [] 60) alphas ≡ map (λ a. got (brush a)) alphas
-unfolding computing alphas write shortest rebuild coloured passes cut lentRows roomy nameFrom textureFrom brushFrom walk tree together same sameRows nodeNames names stands sound fits
+pub lenient-written : map (λ a. write Lenient (lent a) [] 60) alphas ≡ map (λ a. accept (brush a)) alphas
+unfolding computing alphas write shortest rebuild coloured passes cut lentRows hasCountedRows nameFrom textureFrom brushFrom walk tree assembled same sameRows nodeNames names stands sound fits
 lenient-written = refl

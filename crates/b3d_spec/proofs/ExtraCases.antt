@@ -4,7 +4,7 @@ use mathlib.Core.Path.{_≡_, refl}
 use Prim.Native.Nat.{ℕ, zero, suc, _*_}
 use mathlib.Core.List.{List, [], _∷_, _++_, map}
 use lib.ListN.{length, replicate, take, drop, getD}
-use Rattle.layout.specs.Out.{Out, got, bad}
+use Rattle.layout.specs.Result.{Result, accept, reject}
 use Rattle.layout.specs.Rules.{NONE}
 use Rattle.layout.specs.Write.{writeWords}
 use Rattle.b3d_spec.specs.Colours.{coloured, passes}
@@ -14,8 +14,8 @@ use Rattle.b3d_spec.specs.declared.Tag.the-variants.{BB3D, TEXS, BRUS, N
 use Rattle.b3d_spec.specs.Tags.{code}
 use Rattle.b3d_spec.specs.Tables.{tables}
 use Rattle.b3d_spec.specs.Scene.{Scene}
-use Rattle.b3d_spec.specs.Fit.{fits}
-use Rattle.b3d_spec.specs.Rebuild.{Lent, cut, lentRows, roomy, nameFrom, textureFrom, brushFrom, mine, keysFrom, animFrom, kindFrom, dataFrom, off, groups, walk, tree, together, same, sameRows, nodeNames, names, stands, sound, rebuild}
+use Rattle.b3d_spec.specs.WellFormed.{fits}
+use Rattle.b3d_spec.specs.Rebuild.{Lent, cut, lentRows, hasCountedRows, nameFrom, textureFrom, brushFrom, ownedBy, keysFrom, animFrom, kindFrom, dataFrom, off, groups, walk, tree, assembled, same, sameRows, nodeNames, names, stands, sound, rebuild}
 use Rattle.b3d_spec.specs.Answers.{judge, readAnswer, readTable, shortest, write, clearOutput}
 use Rattle.b3d_spec.proofs.Computing.{computing}
 use Rattle.b3d_spec.proofs.Cases.{zeros}
@@ -138,8 +138,8 @@ pub layers-written : map (λ slots. write Strict (lent slots) (zeros 61) 200) (
     ∷ (NONE ∷ 0xFFFFFFFE ∷ replicate 6 NONE)
     ∷ (NONE ∷ 0 ∷ 0 ∷ replicate 5 NONE)
     ∷ [])
-    ≡ got layers ∷ bad 12 0 ∷ bad 12 0 ∷ bad 12 0 ∷ []
-unfolding computing write shortest rebuild coloured passes cut lentRows roomy nameFrom textureFrom brushFrom walk tree together same sameRows nodeNames names stands sound fits layers
+    ≡ accept layers ∷ reject 12 0 ∷ reject 12 0 ∷ reject 12 0 ∷ []
+unfolding computing write shortest rebuild coloured passes cut lentRows hasCountedRows nameFrom textureFrom brushFrom walk tree assembled same sameRows nodeNames names stands sound fits layers
 layers-written = refl
 
 -- ---- how many nodes are below a node
@@ -163,8 +163,8 @@ below a b c = record {
 }
 
 -- the writer: 12 where the children alone are counted, where the node itself is, or where it is any other number
-pub branch-written : map (λ T. write Strict T (zeros 118) 200) (below 2 1 0 ∷ below 1 1 0 ∷ below 3 2 1 ∷ below 2 0 0 ∷ below 2 1 1 ∷ []) ≡ got branch ∷ bad 12 0 ∷ bad 12 0 ∷ bad 12 0 ∷ bad 12 0 ∷ []
-unfolding computing write shortest rebuild coloured passes cut lentRows roomy nameFrom dataFrom kindFrom keysFrom animFrom mine off groups walk tree together same sameRows nodeNames names stands sound fits branch
+pub branch-written : map (λ T. write Strict T (zeros 118) 200) (below 2 1 0 ∷ below 1 1 0 ∷ below 3 2 1 ∷ below 2 0 0 ∷ below 2 1 1 ∷ []) ≡ accept branch ∷ reject 12 0 ∷ reject 12 0 ∷ reject 12 0 ∷ reject 12 0 ∷ []
+unfolding computing write shortest rebuild coloured passes cut lentRows hasCountedRows nameFrom dataFrom kindFrom keysFrom animFrom ownedBy off groups walk tree assembled same sameRows nodeNames names stands sound fits branch
 branch-written = refl
 
 -- ---- refusals
@@ -178,43 +178,43 @@ unfoldable pub deep : ℕ → List ℕ → List ℕ
 deep zero b = b
 deep (suc n) b = aNode [] (deep n b)
 
-pub refusals : List (List ℕ × Out Scene)
+pub refusals : List (List ℕ × Result Scene)
 refusals =
     -- a length that is not the file's
-    (ws (code BB3D ∷ 5 ∷ 1 ∷ []), bad 2 4)
+    (ws (code BB3D ∷ 5 ∷ 1 ∷ []), reject 2 4)
     -- TRIS before VRTS
-    ∷ (file (aNode [] (part MESH (ws (NONE ∷ []) ++ part TRIS (ws (NONE ∷ []))))), bad 4 73)
+    ∷ (file (aNode [] (part MESH (ws (NONE ∷ []) ++ part TRIS (ws (NONE ∷ []))))), reject 4 73)
     -- an ANIM of 13 bytes
-    ∷ (file (aNode [] (part ANIM (zeros 13))), bad 5 69)
+    ∷ (file (aNode [] (part ANIM (zeros 13))), reject 5 69)
     -- a triangle that is cut and whose ids name nothing
-    ∷ (file (aNode [] (aMesh [] (9 ∷ 9 ∷ []))), bad 5 105)
+    ∷ (file (aNode [] (aMesh [] (9 ∷ 9 ∷ []))), reject 5 105)
     -- a texture id: past the textures; -2, behind a layer left empty
-    ∷ (file (textures [] ++ aBrush (1 ∷ 1 ∷ [])), bad 7 90)
-    ∷ (file (textures [] ++ aBrush (2 ∷ NONE ∷ 0xFFFFFFFE ∷ [])), bad 7 94)
+    ∷ (file (textures [] ++ aBrush (1 ∷ 1 ∷ [])), reject 7 90)
+    ∷ (file (textures [] ++ aBrush (2 ∷ NONE ∷ 0xFFFFFFFE ∷ [])), reject 7 94)
     -- a vertex id of -1, of a triangle and of a weight
-    ∷ (file (aNode [] (aMesh (zeros 3) (0 ∷ 0 ∷ NONE ∷ []))), bad 7 125)
-    ∷ (file (aNode [] (one ++ aNode [] (part BONE (ws (NONE ∷ 0 ∷ []))))), bad 7 174)
+    ∷ (file (aNode [] (aMesh (zeros 3) (0 ∷ 0 ∷ NONE ∷ []))), reject 7 125)
+    ∷ (file (aNode [] (one ++ aNode [] (part BONE (ws (NONE ∷ 0 ∷ []))))), reject 7 174)
     -- the id is one of another mesh
-    ∷ (file (aNode [] (one ++ aNode [] (aMesh [] (zeros 3)))), bad 7 210)
+    ∷ (file (aNode [] (one ++ aNode [] (aMesh [] (zeros 3)))), reject 7 210)
     -- a bone: of the root; past the root's mesh; of another mesh than the root's
-    ∷ (file (aNode [] (part BONE (zeros 8))), bad 7 69)
-    ∷ (file (aNode [] (one ++ aNode [] (part BONE (ws (1 ∷ 0 ∷ []))))), bad 7 174)
-    ∷ (file (aNode [] (aMesh [] [] ++ aNode [] (one ++ aNode [] (part BONE (zeros 8))))), bad 7 267)
+    ∷ (file (aNode [] (part BONE (zeros 8))), reject 7 69)
+    ∷ (file (aNode [] (one ++ aNode [] (part BONE (ws (1 ∷ 0 ∷ []))))), reject 7 174)
+    ∷ (file (aNode [] (aMesh [] [] ++ aNode [] (one ++ aNode [] (part BONE (zeros 8))))), reject 7 267)
     -- the 17th level
-    ∷ (file (deep 17 []), bad 9 796)
+    ∷ (file (deep 17 []), reject 9 796)
     -- at a header 3, 4, 9: a second TEXS whose length passes the end; a NODE in a MESH at the 16th level; a 17th level whose length passes the end
-    ∷ (file (part TEXS [] ++ ws (code TEXS ∷ 9 ∷ [])), bad 3 20)
-    ∷ (file (deep 16 (part MESH (ws (NONE ∷ []) ++ part NODE []))), bad 4 808)
-    ∷ (file (deep 16 (ws (code NODE ∷ 1 ∷ []))), bad 3 796)
+    ∷ (file (part TEXS [] ++ ws (code TEXS ∷ 9 ∷ [])), reject 3 20)
+    ∷ (file (deep 16 (part MESH (ws (NONE ∷ []) ++ part NODE []))), reject 4 808)
+    ∷ (file (deep 16 (ws (code NODE ∷ 1 ∷ []))), reject 3 796)
     -- in reading order: a brush id that names nothing, then a MESH without VRTS; a cut KEYS, then a flag out of range
-    ∷ (file (aNode [] (part MESH (ws (0 ∷ [])))), bad 7 69)
-    ∷ (file (aNode [] (part KEYS (1 ∷ []) ++ part KEYS (ws (8 ∷ [])))), bad 5 69)
+    ∷ (file (aNode [] (part MESH (ws (0 ∷ [])))), reject 7 69)
+    ∷ (file (aNode [] (part KEYS (1 ∷ []) ++ part KEYS (ws (8 ∷ [])))), reject 5 69)
     -- 9 sets; a set size of 5
-    ∷ (file (aNode [] (part MESH (ws (NONE ∷ []) ++ part VRTS (ws (0 ∷ 9 ∷ 0 ∷ []))))), bad 6 85)
-    ∷ (file (aNode [] (part MESH (ws (NONE ∷ []) ++ part VRTS (ws (0 ∷ 0 ∷ 5 ∷ []))))), bad 6 89)
+    ∷ (file (aNode [] (part MESH (ws (NONE ∷ []) ++ part VRTS (ws (0 ∷ 9 ∷ 0 ∷ []))))), reject 6 85)
+    ∷ (file (aNode [] (part MESH (ws (NONE ∷ []) ++ part VRTS (ws (0 ∷ 0 ∷ 5 ∷ []))))), reject 6 89)
     ∷ []
 
-pub refused : map (λ (c : List ℕ × Out Scene). judge Strict (c .0)) refusals ≡ map (λ (c : List ℕ × Out Scene). c .1) refusals
+pub refused : map (λ (c : List ℕ × Result Scene). judge Strict (c .0)) refusals ≡ map (λ (c : List ℕ × Result Scene). c .1) refusals
 unfolding computing refusals deep
 refused = refl
 
@@ -260,9 +260,9 @@ bones =
     ∷ (still-root 1 (aNode [] (part BONE (zeros 8) ++ anim ++ aBone 0)), (7, 259))
     ∷ []
 
-abbrev numbered : Out Scene → ℕ × ℕ
-numbered (got t) = (0, 0)
-numbered (bad n p) = (n, p)
+abbrev numbered : Result Scene → ℕ × ℕ
+numbered (accept t) = (0, 0)
+numbered (reject n p) = (n, p)
 
 pub bones-judged : map (λ (c : List ℕ × (ℕ × ℕ)). numbered (judge Strict (c .0))) bones ≡ map (λ (c : List ℕ × (ℕ × ℕ)). c .1) bones
 unfolding computing bones

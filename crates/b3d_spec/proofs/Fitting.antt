@@ -1,4 +1,4 @@
--- The test of specs/Fit says what the statements of specs/Fitting say.
+-- The test of specs/WellFormed says what the statements of specs/Fitting say.
 use Prim.Native.Nat.{ℕ, zero, suc, _≤_}
 use mathlib.Core.Option.{Option, none}
 use mathlib.Core.List.{List, [], _∷_}
@@ -6,10 +6,10 @@ use lib.ListN.{length}
 use lib.Dec.{leb→le}
 use Rattle.layout.proofs.Fitting.{row-is, rows-is, text-is}
 use Rattle.b3d_spec.specs.declared.Mode.the-variants.{Lenient}
-use Rattle.b3d_spec.specs.Fit.{textureFits, brushFits, trianglesFit, meshFits, keysFit, kindFits, animFits, dataFits, nodesFit, oneRoot, slotsFit, fits}
-pub use Rattle.b3d_spec.specs.Fitting.{FitTexture, FitBrush, FitTriangles, FitMesh, FitKeys, FitKind, FitAnim, FitData, FitNodes, OneRoot, FitSlots, Fit}
-use Rattle.b3d_spec.specs.Rules.{textureRow, brushRow, brushIds, nodeRow, vertexRow, triangleRow, weightRow, keyRow, animRow, boneVertices, bonesBelow, levels, fileHead, brushesHead, meshHead, verticesHead, trianglesHead, keysHead}
-use Rattle.b3d_spec.specs.Scene.{Texture, Brush, TriangleSet, Mesh, Kind, pivot, mesh, bone, Keys, Anim, still, anim, Data, Forest, leaf, node, Scene}
+use Rattle.b3d_spec.specs.WellFormed.{textureFits, brushFits, trianglesFit, meshFits, keysFit, kindFits, animFits, dataFits, nodesFit, oneRoot, slotsFit, fits}
+pub use Rattle.b3d_spec.specs.Fitting.{FitTexture, FitBrush, FitTriangles, FitMesh, FitKeys, FitKind, FitAnim, FitData, FitNodes, OneRoot, FitSlots, WellFormed}
+use Rattle.b3d_spec.specs.Rules.{textureRow, brushRow, brushIds, nodeRow, vertexRow, triangleRow, weightRow, keyRow, animRow, boneLimit, boneLimitBelow, levels, fileHead, brushesHead, meshHead, verticesHead, trianglesHead, keysHead}
+use Rattle.b3d_spec.specs.Scene.{Texture, Brush, TriangleSet, Mesh, Kind, pivot, mesh, bone, Keys, Anim, noAnim, anim, Data, Forest, noNodes, node, Scene}
 use Rattle.layout.proofs.Testing.{Tests, both, via, yes-is, no-is, eq-is, lt-is, all-is}
 use native.Mathlib.Omega.{arith}
 
@@ -43,7 +43,7 @@ kind-is brushes n (mesh m) = mesh-is brushes m
 kind-is brushes n (bone ws) = rows-is (weightRow n) ws
 
 anim-is : (a : Anim) → Tests (animFits a) (FitAnim a)
-anim-is still = yes-is
+anim-is noAnim = yes-is
 anim-is (anim ws) = row-is animRow ws
 
 data-is : (brushes n : ℕ) (d : Data) → Tests (dataFits brushes n d) (FitData brushes n d)
@@ -54,23 +54,23 @@ data-is brushes n d =
     (both (all-is keys-is (d .keys)) (anim-is (d .anim))))))
 
 nodes-is : (l brushes : ℕ) (above : Option ℕ) (f : Forest) → Tests (nodesFit l brushes above f) (FitNodes l brushes above f)
-nodes-is zero brushes above leaf = yes-is
+nodes-is zero brushes above noNodes = yes-is
 nodes-is zero brushes above (node d f g) = no-is
-nodes-is (suc l) brushes above leaf = yes-is
+nodes-is (suc l) brushes above noNodes = yes-is
 nodes-is (suc l) brushes above (node d f g) =
     via (λ h. (h .0, h .1 .0, h .1 .1)) (λ h. (h .0, (h .1, h .2)))
-    (both (data-is brushes (boneVertices above) d) (both (nodes-is l brushes (bonesBelow above d) f) (nodes-is (suc l) brushes above g)))
+    (both (data-is brushes (boneLimit above) d) (both (nodes-is l brushes (boneLimitBelow above d) f) (nodes-is (suc l) brushes above g)))
 
 root-is : (f : Forest) → Tests (oneRoot f) (OneRoot f)
-root-is leaf = yes-is
-root-is (node d f leaf) = yes-is
+root-is noNodes = yes-is
+root-is (node d f noNodes) = yes-is
 root-is (node d f (node e g h)) = no-is
 
 slots-is : (n : ℕ) (l : List Brush) → Tests (slotsFit n l) (FitSlots n l)
 slots-is n [] = eq-is n 0
 slots-is n (b ∷ l) = row-is brushesHead (n ∷ [])
 
-pub fits-is : (t : Scene) → Tests (fits t) (Fit t)
+pub fits-is : (t : Scene) → Tests (fits t) (WellFormed t)
 unfolding fits
 fits-is t =
     via (λ h. record { version = h .0; textures = h .1 .0; slots = h .1 .1 .0; brushes = h .1 .1 .1 .0; nodes = h .1 .1 .1 .1 .0; root = h .1 .1 .1 .1 .1 })
@@ -83,6 +83,6 @@ pub slots-few : (s : ℕ) (bs : List Brush) → FitSlots s bs → s ≤ 8
 slots-few s [] h = omega arith
 slots-few s (b ∷ bs) h = leb→le _ _ (h .1)
 
-pub no-nodes : (l b : ℕ) (above : Option ℕ) → FitNodes l b above leaf
+pub no-nodes : (l b : ℕ) (above : Option ℕ) → FitNodes l b above noNodes
 no-nodes zero b above = tt
 no-nodes (suc l) b above = tt

@@ -8,22 +8,22 @@ use lib.ListN.{length, take, drop, length-append, length-drop}
 use lib.Seq.{take-append-seam, take-all}
 use lib.Dec.{T}
 use Rattle.wire.specs.Bytes.{AllBytes}
-use Rattle.layout.specs.Out.{got}
+use Rattle.layout.specs.Result.{accept}
 use Rattle.layout.specs.Parts.{Name}
 use Rattle.layout.proofs.Lists.{All, all-map, all-zip, all-append, all-of-map}
 use Rattle.layout.proofs.PlaceLaws.{NameIn}
 use Rattle.b3d_spec.specs.declared.Mode.{Mode}
 use Rattle.b3d_spec.specs.declared.Mode.the-variants.{Lenient}
 use Rattle.b3d_spec.specs.Encode.{encode}
-use Rattle.b3d_spec.specs.Names.{rename, bare, cleared, named, unplaced, unnamed, nameOff}
+use Rattle.b3d_spec.specs.Names.{rename, withoutPlaces, cleared, named, unplaced, unnamed, nameOff}
 use Rattle.b3d_spec.specs.Parse.{parse}
 use Rattle.b3d_spec.specs.Rebuild.{Lent, lentRows, nodeNames, names, rebuild}
 use Rattle.b3d_spec.specs.Rules.{rowLimit}
-use Rattle.b3d_spec.specs.Scene.{Texture, Brush, Forest, leaf, node, Scene}
+use Rattle.b3d_spec.specs.Scene.{Texture, Brush, Forest, noNodes, node, Scene}
 use Rattle.b3d_spec.specs.Tables.{width, rows, table, tables}
 use Rattle.b3d_spec.proofs.Rows.CountLaws.{table-length}
 use Rattle.b3d_spec.proofs.Files.FileLaws.{parse-back, parse-fine}
-use Rattle.b3d_spec.proofs.Fitting.{Fit}
+use Rattle.b3d_spec.proofs.Fitting.{WellFormed}
 use Rattle.b3d_spec.proofs.Files.NameLaws.{copy-back}
 use Rattle.b3d_spec.proofs.Files.PlaceLaws.{NodeNames, NamesIn, parse-names}
 use Rattle.b3d_spec.proofs.Modes.{mode-got, mode-yes, passes-rows, passes-bare}
@@ -41,7 +41,7 @@ stand s n h =
 
 nodes-in : (s : List ℕ) (t : Forest) (r : List Name) → NodeNames s t → All (NameIn s) r → All (NameIn s) (nodeNames t r)
 unfolding nodeNames
-nodes-in s leaf r h k = k
+nodes-in s noNodes r h k = k
 nodes-in s (node d f g) r h k = (h .0, nodes-in s f (nodeNames g r) (h .1) (nodes-in s g r (h .2) k))
 
 pub all-in : (s : List ℕ) (t : Scene) → NamesIn s t → All (NameIn s) (names t)
@@ -50,21 +50,21 @@ all-in s t h =
     all-append (NameIn s) (map (λ (x : Texture). x .name) (t .textures)) _ (all-of-map (NameIn s) (λ (x : Texture). x .name) (t .textures) (h .textures))
     (all-append (NameIn s) (map (λ (x : Brush). x .name) (t .brushes)) _ (all-of-map (NameIn s) (λ (x : Brush). x .name) (t .brushes) (h .brushes)) (nodes-in s (t .nodes) [] (h .nodes) tt))
 
-own-holds : (t : Scene) → Fit t → All (λ k. length (rows k t) ≤ rowLimit) tables → All (Holds (lentOf t) t) tables
+own-holds : (t : Scene) → WellFormed t → All (λ k. length (rows k t) ≤ rowLimit) tables → All (Holds (lentOf t) t) tables
 unfolding lentOf
 own-holds t f small =
     all-zip (λ k. length (rows k t) ≤ rowLimit) (λ k. length (table k t) ≡ width k * length (rows k t)) (Holds (lentOf t) t)
     (λ k n l. record { many = refl; few = n; room = omega (arith, l); cells = take-all (width k * length (rows k t)) (table k t) (omega (arith, l)) }) tables small (table-length t f)
 
-pub bare-version : (t u : Scene) → bare t ≡ bare u → t .version ≡ u .version
-unfolding bare rename
+pub bare-version : (t u : Scene) → withoutPlaces t ≡ withoutPlaces u → t .version ≡ u .version
+unfolding withoutPlaces rename
 bare-version t u e = ap (λ (x : Scene). x .version) e
 
-pub bare-slots : (t u : Scene) → bare t ≡ bare u → t .slots ≡ u .slots
-unfolding bare rename
+pub bare-slots : (t u : Scene) → withoutPlaces t ≡ withoutPlaces u → t .slots ≡ u .slots
+unfolding withoutPlaces rename
 bare-slots t u e = ap (λ (x : Scene). x .slots) e
 
-pub read-rebuild : (mode : Mode) (s : List ℕ) (t : Scene) → AllBytes s → parse mode s ≡ got t → All (λ k. length (rows k t) ≤ rowLimit) tables → rebuild mode (lentOf t) s ≡ some t
+pub read-rebuild : (mode : Mode) (s : List ℕ) (t : Scene) → AllBytes s → parse mode s ≡ accept t → All (λ k. length (rows k t) ≤ rowLimit) tables → rebuild mode (lentOf t) s ≡ some t
 read-rebuild mode s t b e small =
     let g = mode-got mode s t e in
     let f = parse-fine s t b (g .0) .0 in
@@ -76,7 +76,7 @@ read-rebuild mode s t b e small =
 -- ---- writer: its file, read back, has the lent cells but for name places
 
 pub write-read : (mode : Mode) (ns : List ℕ) (L : Lent) (t : Scene) → rebuild mode L ns ≡ some t → length (encode t) ≤ 16777216
-    → (u : Scene) × (parse mode (encode t) ≡ got u) × ((u .version ≡ L .version) × ((u .slots ≡ L .slots) × All (λ k. named unplaced k (rows k u) ≡ named unplaced k (lentRows L k)) tables))
+    → (u : Scene) × (parse mode (encode t) ≡ accept u) × ((u .version ≡ L .version) × ((u .slots ≡ L .slots) × All (λ k. named unplaced k (rows k u) ≡ named unplaced k (lentRows L k)) tables))
 write-read mode ns L t e size =
     let f = rebuild-fine mode ns L t e in
     let x = parse-back t (f .0) size in
@@ -95,16 +95,16 @@ write-read mode ns L t e size =
 
 -- ---- clearer: files with the same cells but for names have one copy, and the copy has those cells
 
-pub cells-copy : (s v : List ℕ) (t u : Scene) → AllBytes s → AllBytes v → parse Lenient s ≡ got t → parse Lenient v ≡ got u → t .version ≡ u .version → t .slots ≡ u .slots
+pub cells-copy : (s v : List ℕ) (t u : Scene) → AllBytes s → AllBytes v → parse Lenient s ≡ accept t → parse Lenient v ≡ accept u → t .version ≡ u .version → t .slots ≡ u .slots
     → All (λ k. named nameOff k (rows k t) ≡ named nameOff k (rows k u)) tables → encode (cleared t) ≡ encode (cleared u)
 cells-copy s v t u bs bv et eu ev es h = ap encode (same-cells t u (parse-fine s t bs et .0) (parse-fine v u bv eu .0) ev es h)
 
-pub copy-cells : (s : List ℕ) (t : Scene) → AllBytes s → parse Lenient s ≡ got t
-    → (u : Scene) × (parse Lenient (encode (cleared t)) ≡ got u) × All (λ k. named unplaced k (rows k u) ≡ named unnamed k (rows k t)) tables
+pub copy-cells : (s : List ℕ) (t : Scene) → AllBytes s → parse Lenient s ≡ accept t
+    → (u : Scene) × (parse Lenient (encode (cleared t)) ≡ accept u) × All (λ k. named unplaced k (rows k u) ≡ named unnamed k (rows k t)) tables
 copy-cells s t b e =
     let c = copy-back s t b e in (
       c .scene,
       c .accepted,
-      all-zip (λ k. rows k (bare (c .scene)) ≡ named unplaced k (rows k (c .scene))) (λ k. rows k (cleared t) ≡ named unnamed k (rows k t)) _
+      all-zip (λ k. rows k (withoutPlaces (c .scene)) ≡ named unplaced k (rows k (c .scene))) (λ k. rows k (cleared t) ≡ named unnamed k (rows k t)) _
           (λ k x y. sym x ∙ ap (rows k) (c .is-cleared) ∙ y) tables (bare-rows (c .scene)) (cleared-rows t),
     )

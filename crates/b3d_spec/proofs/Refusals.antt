@@ -11,7 +11,7 @@ use lib.Dec.{T, leb, eqb, leb→le}
 use Rattle.wire.specs.Test.{if}
 use Rattle.wire.specs.Bytes.{word}
 use Rattle.layout.specs.Chunks.{done, stop, chunk, keep, splitIn, split as splitOf, ended}
-use Rattle.layout.specs.Out.{Out, got, bad, check, _>>=_}
+use Rattle.layout.specs.Result.{Result, accept, reject, check, _>>=_}
 use Rattle.layout.specs.Parts.{Step, words, row, number, named, items}
 use Rattle.layout.specs.Rules.{Rule, refusal}
 use Rattle.layout.proofs.Lists.{All}
@@ -21,10 +21,10 @@ use Rattle.b3d_spec.specs.declared.Mode.{Mode}
 use Rattle.b3d_spec.specs.declared.Tag.{Tag}
 use Rattle.b3d_spec.specs.declared.Tag.the-variants.{BB3D, TEXS, BRUS, NODE, MESH, VRTS, BONE, KEYS, ANIM}
 use Rattle.b3d_spec.specs.Answers.{judge, read}
-use Rattle.b3d_spec.specs.Nesting.{nesting, Reached, start, owed, end, next, onward, order, inside}
-use Rattle.b3d_spec.specs.Parse.{readOne, readTextures, readBrushes, noVertices, readVertices, readTriangles, readSets, readMesh, readBone, readKeys, readAnim, aMesh, aBone, readKind, withKeys, readMoves, Inner, readNodes, readBelow, readNode, readRoot, readBody, parse}
-use Rattle.b3d_spec.specs.Rules.{header, fileHead, nodeRow, meshHead, boneVertices, bonesBelow, levels}
-use Rattle.b3d_spec.specs.Scene.{Anim, still, anim, Data, leaf, Scene}
+use Rattle.b3d_spec.specs.Nesting.{nesting, Reached, start, requiredBetween, end, next, onward, order, inside}
+use Rattle.b3d_spec.specs.Parse.{readOne, readTextures, readBrushes, noVertices, readVertices, readTriangles, readSets, readMesh, readBone, readKeys, readAnim, aMesh, aBone, readKind, withKeys, readAnimation, Inner, readNodes, readBelow, readNode, readRoot, readBody, parse}
+use Rattle.b3d_spec.specs.Rules.{header, fileHead, nodeRow, meshHead, boneLimit, boneLimitBelow, levels}
+use Rattle.b3d_spec.specs.Scene.{Anim, noAnim, anim, Data, noNodes, Scene}
 use Rattle.b3d_spec.specs.Tables.{tables}
 use Rattle.b3d_spec.specs.Tags.{code, tagOf, is, Chunks, split, Found}
 use Rattle.b3d_spec.proofs.Files.BodyRefusals as body
@@ -37,7 +37,7 @@ abbrev Told : ℕ → ℕ → Type 0
 Told n p = OneToNine n × (p ≤ mostBytes)
 
 -- a value with P, or such a refusal
-abbrev Low : {A : Type 0} → (A → Type 0) → Out A → Type 0
+abbrev Low : {A : Type 0} → (A → Type 0) → Result A → Type 0
 Low P o = body.Low Told P o
 
 told : {p : ℕ} (n : ℕ) → T (leb 1 n) → T (leb n 9) → p ≤ mostBytes → Told n p
@@ -49,7 +49,7 @@ five p h = told 5 tt tt h
 ruled : (r : Rule) (p : ℕ) → p < mostBytes → Told (refusal r) p
 ruled r p h = (refusal-range r, omega arith)
 
-bind-low : {A B : Type 0} (P : A → Type 0) (Q : B → Type 0) (m : Out A) (k : A → Out B) → Low P m → ((a : A) → P a → Low Q (k a)) → Low Q (m >>= k)
+bind-low : {A B : Type 0} (P : A → Type 0) (Q : B → Type 0) (m : Result A) (k : A → Result B) → Low P m → ((a : A) → P a → Low Q (k a)) → Low Q (m >>= k)
 bind-low P Q m k h f = body.bind-low Told P Q m k h f
 
 -- what is left ends there or before
@@ -102,7 +102,7 @@ onward-low (some r) p go k h = h r
 
 order-low : (k : Tag) (head : ℕ) (r : Reached) (cs : Chunks) → head ≤ mostBytes → LowC cs → LowC (order k head r cs)
 unfolding order
-order-low k head r done g h = if-chunks (owed (nesting k) (r .turn) end) (stop 8 head) done (λ t. (told 8 tt tt g)) tt
+order-low k head r done g h = if-chunks (requiredBetween (nesting k) (r .turn) end) (stop 8 head) done (λ t. (told 8 tt tt g)) tt
 order-low k head r (stop n p) g h = h
 order-low k head r (chunk t p b l) g h = onward-low (next (nesting k) (nesting k) r t) p _ (omega (arith, h .0)) (λ q. (h .0, order-low k head q l g (h .1)))
 
@@ -117,10 +117,10 @@ ended-low (stop n p) a h = h
 ended-low (chunk t p b r) a h = ended-low r a (h .1)
 
 -- a reader of a chunk's body
-abbrev Body : {A : Type 0} → (ℕ → List ℕ → Out A) → Type 0
+abbrev Body : {A : Type 0} → (ℕ → List ℕ → Result A) → Type 0
 Body one = (p : ℕ) (b : List ℕ) → p + 8 + length b ≤ mostBytes → Low Any (one p b)
 
-one-low : {A : Type 0} (k : Tag) (a : A) (one : ℕ → List ℕ → Out A) → Body one → (cs : Chunks) → LowC cs → Low Rest (readOne k a one cs)
+one-low : {A : Type 0} (k : Tag) (a : A) (one : ℕ → List ℕ → Result A) → Body one → (cs : Chunks) → LowC cs → Low Rest (readOne k a one cs)
 unfolding readOne
 one-low k a one low done h = tt
 one-low k a one low (stop n p) h = h
@@ -154,16 +154,16 @@ kind-low mode brushes n (chunk t p b r) h =
     body.if-low Told Rest (is t MESH) _ _ (bind-low Any Rest (readMesh mode brushes p b) _ (mesh-low mode brushes p b (h .0)) (λ m _. h .1))
     (body.if-low Told Rest (is t BONE) _ _ (bind-low Any Rest (readBone n p b) _ (body.bone-low mostBytes Told five ruled n p b (h .0)) (λ w _. h .1)) h)
 
-moves-low : (cs : Chunks) (seen : Anim) → LowC cs → Low Rest (readMoves seen cs)
-unfolding readMoves withKeys
+moves-low : (cs : Chunks) (seen : Anim) → LowC cs → Low Rest (readAnimation seen cs)
+unfolding readAnimation withKeys
 moves-low done seen h = tt
 moves-low (stop i p) seen h = h
 moves-low (chunk t p b r) seen h =
     body.if-low Told Rest (is t KEYS) _ _
-    (bind-low Any Rest (readKeys p b) _ (body.keys-low mostBytes Told five ruled p b (h .0)) (λ k _. bind-low Rest Rest (readMoves seen r) _ (moves-low r seen (h .1)) (λ x hx. hx)))
+    (bind-low Any Rest (readKeys p b) _ (body.keys-low mostBytes Told five ruled p b (h .0)) (λ k _. bind-low Rest Rest (readAnimation seen r) _ (moves-low r seen (h .1)) (λ x hx. hx)))
     (body.if-low Told Rest (is t ANIM) _ _ (bind-low Any Rest (readAnim p b) _ (body.anim-low mostBytes Told five ruled p b (h .0)) (λ ws _. moves-low r (anim ws) (h .1))) h)
 
-nodes-low : (one : ℕ → List ℕ → Out Inner) → Body one → (cs : Chunks) → LowC cs → Low Any (readNodes one cs)
+nodes-low : (one : ℕ → List ℕ → Result Inner) → Body one → (cs : Chunks) → LowC cs → Low Any (readNodes one cs)
 unfolding readNodes
 nodes-low one low done h = tt
 nodes-low one low (stop i p) h = h
@@ -176,10 +176,10 @@ node-low mode zero brushes above p b h = told 9 tt tt (omega arith)
 node-low mode (suc l) brushes above p b h =
     bind-low Left Any (named nodeRow (p + 8) b) _ (body.named-low mostBytes Told five ruled nodeRow (p + 8) b h) (λ x hx.
     let cs = inside NODE p (x .place) (x .left) in
-    bind-low Rest Any (readKind mode brushes (boneVertices above) cs) _ (kind-low mode brushes (boneVertices above) cs (inside-low NODE p (x .place) (x .left) (omega arith) hx)) (λ k hk.
-    bind-low Rest Any (readMoves still (k .rest)) _ (moves-low (k .rest) still hk) (λ m hm.
+    bind-low Rest Any (readKind mode brushes (boneLimit above) cs) _ (kind-low mode brushes (boneLimit above) cs (inside-low NODE p (x .place) (x .left) (omega arith) hx)) (λ k hk.
+    bind-low Rest Any (readAnimation noAnim (k .rest)) _ (moves-low (k .rest) noAnim hk) (λ m hm.
     let d : Data = record { name = x .value .0; words = x .value .1; kind = k .value; keys = m .value .keys; anim = m .value .anim } in
-    bind-low Any Any (readNodes (readNode mode l brushes (bonesBelow above d)) (m .rest)) _ (nodes-low (readNode mode l brushes (bonesBelow above d)) (node-low mode l brushes (bonesBelow above d)) (m .rest) hm) (λ f _. tt))))
+    bind-low Any Any (readNodes (readNode mode l brushes (boneLimitBelow above d)) (m .rest)) _ (nodes-low (readNode mode l brushes (boneLimitBelow above d)) (node-low mode l brushes (boneLimitBelow above d)) (m .rest) hm) (λ f _. tt))))
 
 -- ---- the file
 
@@ -194,13 +194,13 @@ body-low mode p b h =
     let cs = inside BB3D 0 (x .place) (x .left) in
     bind-low Rest Any (readOne TEXS [] readTextures cs) _ (one-low TEXS [] readTextures (body.textures-low mostBytes Told five ruled) cs (inside-low BB3D 0 (x .place) (x .left) (omega arith) hx)) (λ t ht.
     bind-low Rest Any (readOne BRUS (0, []) (readBrushes mode (length (t .value))) (t .rest)) _ (one-low BRUS (0, []) (readBrushes mode (length (t .value))) (body.brushes-low mostBytes Told five ruled mode (length (t .value))) (t .rest) ht) (λ u hu.
-    bind-low Rest Any (readOne NODE leaf (readRoot mode (length (u .value .1))) (u .rest)) _ (one-low NODE leaf (readRoot mode (length (u .value .1))) (root-low mode (length (u .value .1))) (u .rest) hu) (λ n hn.
+    bind-low Rest Any (readOne NODE noNodes (readRoot mode (length (u .value .1))) (u .rest)) _ (one-low NODE noNodes (readRoot mode (length (u .value .1))) (root-low mode (length (u .value .1))) (u .rest) hu) (λ n hn.
     ended-low (n .rest) _ hn))))
 
 -- ---- what is answered
 
 -- a file is read only where its size is within the limits
-size-low : {A : Type 0} (b : Bool) (m : Out A) → (T b → Low Any m) → Low Any (check b 1 0 >>= λ _. m)
+size-low : {A : Type 0} (b : Bool) (m : Result A) → (T b → Low Any m) → Low Any (check b 1 0 >>= λ _. m)
 unfolding check
 size-low true m h = h tt
 size-low false m h = told 1 tt tt (omega arith)
@@ -214,23 +214,23 @@ parse-low mode s =
     bind-low Any Any (check (eqb (number x 1) (length (x .left))) 2 4) _ (body.check-low Told (eqb (number x 1) (length (x .left))) 2 4 (told 2 tt tt (omega arith))) (λ v _.
     body-low mode (x .place) (x .left) hx))))
 
-pub parse-refusal : (mode : Mode) (s : List ℕ) (n p : ℕ) → parse mode s ≡ bad n p → OneToNine n
-parse-refusal mode s n p e = subst (λ (o : Out Scene). Low Any o) e (parse-low mode s) .0
+pub parse-refusal : (mode : Mode) (s : List ℕ) (n p : ℕ) → parse mode s ≡ reject n p → OneToNine n
+parse-refusal mode s n p e = subst (λ (o : Result Scene). Low Any o) e (parse-low mode s) .0
 
 -- ---- 10 and 11 too
 
 -- a refusal that is not 0, whose place is no more than the most bytes of a file
-abbrev Bounded : {A : Type 0} → Out A → Type 0
-Bounded (got a) = Unit {0}
-Bounded (bad n p) = (1 ≤ n) × (p ≤ mostBytes)
+abbrev Bounded : {A : Type 0} → Result A → Type 0
+Bounded (accept a) = Unit {0}
+Bounded (reject n p) = (1 ≤ n) × (p ≤ mostBytes)
 
-bind-bounded : {A B : Type 0} (m : Out A) (k : A → Out B) → Bounded m → ((a : A) → Bounded (k a)) → Bounded (m >>= k)
-bind-bounded (got a) k h f = f a
-bind-bounded (bad n p) k h f = h
+bind-bounded : {A B : Type 0} (m : Result A) (k : A → Result B) → Bounded m → ((a : A) → Bounded (k a)) → Bounded (m >>= k)
+bind-bounded (accept a) k h f = f a
+bind-bounded (reject n p) k h f = h
 
-low-bounded : {A : Type 0} (o : Out A) → Low Any o → Bounded o
-low-bounded (got a) h = tt
-low-bounded (bad n p) h = (h .0 .0, h .1)
+low-bounded : {A : Type 0} (o : Result A) → Low Any o → Bounded o
+low-bounded (accept a) h = tt
+low-bounded (reject n p) h = (h .0 .0, h .1)
 
 -- the number of a table
 each-bounded : (n : ℕ) (ok : ℕ → Bool) (ks : List ℕ) → 1 ≤ n → All (λ k. k ≤ mostBytes) ks → Bounded (eachOf n ok ks)
@@ -249,12 +249,12 @@ judge-bounded : (mode : Mode) (s : List ℕ) → Bounded (judge mode s)
 unfolding judge
 judge-bounded mode s = bind-bounded (parse mode s) _ (low-bounded (parse mode s) (parse-low mode s)) (λ t. bind-bounded (eachOf 10 _ tables) _ (tables-bounded 10 _ (omega arith)) (λ u. tt))
 
-pub judge-place : (mode : Mode) (s : List ℕ) (n p : ℕ) → judge mode s ≡ bad n p → p ≤ mostBytes
-judge-place mode s n p e = subst (λ (o : Out Scene). Bounded o) e (judge-bounded mode s) .1
+pub judge-place : (mode : Mode) (s : List ℕ) (n p : ℕ) → judge mode s ≡ reject n p → p ≤ mostBytes
+judge-place mode s n p e = subst (λ (o : Result Scene). Bounded o) e (judge-bounded mode s) .1
 
 read-bounded : (mode : Mode) (room : ℕ → ℕ) (s : List ℕ) → Bounded (read mode room s)
 unfolding read
 read-bounded mode room s = bind-bounded (judge mode s) _ (judge-bounded mode s) (λ t. bind-bounded (eachOf 11 _ tables) _ (tables-bounded 11 _ (omega arith)) (λ u. tt))
 
-pub read-number : (mode : Mode) (room : ℕ → ℕ) (s : List ℕ) (n p : ℕ) → read mode room s ≡ bad n p → 1 ≤ n
-read-number mode room s n p e = subst (λ (o : Out Scene). Bounded o) e (read-bounded mode room s) .0
+pub read-number : (mode : Mode) (room : ℕ → ℕ) (s : List ℕ) (n p : ℕ) → read mode room s ≡ reject n p → 1 ≤ n
+read-number mode room s n p e = subst (λ (o : Result Scene). Bounded o) e (read-bounded mode room s) .0

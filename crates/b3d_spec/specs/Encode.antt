@@ -3,7 +3,7 @@ use Prim.Native.Nat.{ℕ}
 use mathlib.Core.List.{List, [], _∷_}
 use lib.ListN.{length}
 use Rattle.layout.specs.Write.{writeWords, writeText, writeItems}
-use Rattle.b3d_spec.specs.Scene.{Texture, Brush, TriangleSet, Mesh, Kind, pivot, mesh, bone, Keys, Anim, still, anim, Data, Forest, leaf, node, Scene}
+use Rattle.b3d_spec.specs.Scene.{Texture, Brush, TriangleSet, Mesh, Kind, pivot, mesh, bone, Keys, Anim, noAnim, anim, Data, Forest, noNodes, node, Scene}
 use Rattle.b3d_spec.specs.declared.Tag.the-variants.{BB3D, TEXS, BRUS, NODE, MESH, VRTS, TRIS, BONE, KEYS, ANIM}
 use Rattle.b3d_spec.specs.Tags.{Chunk, writeChunks, code}
 
@@ -53,7 +53,7 @@ keyChunks (k ∷ l) r = record { tag = KEYS; body = writeKeys k } ∷ keyChunks 
 
 -- the ANIM of a node, if it has one, before the chunks r
 abbrev pub animChunks : Anim → List Chunk → List Chunk
-animChunks still r = r
+animChunks noAnim r = r
 animChunks (anim ws) r = record { tag = ANIM; body = writeWords ws [] } ∷ r
 
 -- a NODE's body, of its data d and the chunks of the nodes `below` it
@@ -63,7 +63,7 @@ writeNode d below =
 
 -- a NODE for each node that has no node above it in the forest, the nodes below it inside
 unfoldable pub nodeChunks : Forest → List Chunk
-nodeChunks leaf = []
+nodeChunks noNodes = []
 nodeChunks (node d f g) = record { tag = NODE; body = writeNode d (nodeChunks f) } ∷ nodeChunks g
 
 -- ---- the file

@@ -1,4 +1,4 @@
--- Which scenes a file can hold: the test of Fit as statements; and where a name stands.
+-- Which scenes a file can hold: the test of WellFormed as statements; and where a name stands.
 use mathlib.Core.Path.{_≡_}
 use Prim.Native.Nat.{ℕ, zero, suc, _+_, _≤_, _<_}
 use mathlib.Core.Option.{Option, none}
@@ -8,8 +8,8 @@ use Rattle.layout.specs.Fitting.{Fits, FitText}
 use Rattle.layout.specs.Lists.{All}
 use Rattle.layout.specs.Parts.{Name}
 use Rattle.b3d_spec.specs.declared.Mode.the-variants.{Lenient}
-use Rattle.b3d_spec.specs.Rules.{textureRow, brushRow, brushIds, nodeRow, vertexRow, triangleRow, weightRow, keyRow, animRow, boneVertices, bonesBelow, levels, fileHead, brushesHead, meshHead, verticesHead, trianglesHead, keysHead}
-use Rattle.b3d_spec.specs.Scene.{Texture, Brush, TriangleSet, Mesh, Kind, pivot, mesh, bone, Keys, Anim, still, anim, Data, Forest, leaf, node, Scene}
+use Rattle.b3d_spec.specs.Rules.{textureRow, brushRow, brushIds, nodeRow, vertexRow, triangleRow, weightRow, keyRow, animRow, boneLimit, boneLimitBelow, levels, fileHead, brushesHead, meshHead, verticesHead, trianglesHead, keysHead}
+use Rattle.b3d_spec.specs.Scene.{Texture, Brush, TriangleSet, Mesh, Kind, pivot, mesh, bone, Keys, Anim, noAnim, anim, Data, Forest, noNodes, node, Scene}
 
 -- texture t can stand in a file
 abbrev pub FitTexture : Texture → Type 0
@@ -48,7 +48,7 @@ FitKind brushes vertices (bone ws) = All (Fits (weightRow vertices)) ws
 
 -- a node's ANIM can stand in a file; so can none
 abbrev pub FitAnim : Anim → Type 0
-FitAnim still = Unit {0}
+FitAnim noAnim = Unit {0}
 FitAnim (anim ws) = Fits animRow ws
 
 -- the data d of a node can stand in a file with this number of `brushes`, where a bone may name this number of `vertices`
@@ -61,16 +61,16 @@ pub record FitData (brushes vertices : ℕ) (d : Data) : Type 0 where
 
 -- the nodes can stand in a file with this number of `brushes`, with l levels left; `above`: how many vertices their bones may name, none for the root
 abbrev pub FitNodes : ℕ → ℕ → Option ℕ → Forest → Type 0
-FitNodes zero brushes above leaf = Unit {0}
+FitNodes zero brushes above noNodes = Unit {0}
 FitNodes zero brushes above (node d f g) = ⊥
-FitNodes (suc l) brushes above leaf = Unit {0}
+FitNodes (suc l) brushes above noNodes = Unit {0}
 FitNodes (suc l) brushes above (node d f g) =
-    FitData brushes (boneVertices above) d × FitNodes l brushes (bonesBelow above d) f × FitNodes (suc l) brushes above g
+    FitData brushes (boneLimit above) d × FitNodes l brushes (boneLimitBelow above d) f × FitNodes (suc l) brushes above g
 
 -- at most one node has no node above it
 abbrev pub OneRoot : Forest → Type 0
-OneRoot leaf = Unit {0}
-OneRoot (node d f leaf) = Unit {0}
+OneRoot noNodes = Unit {0}
+OneRoot (node d f noNodes) = Unit {0}
 OneRoot (node d f (node e g h)) = ⊥
 
 -- n can be the n_texs of a file with these brushes: 0 where there is no brush
@@ -79,7 +79,7 @@ FitSlots n [] = n ≡ 0
 FitSlots n (b ∷ l) = Fits brushesHead (n ∷ [])
 
 -- scene t can stand in a file
-pub record Fit (t : Scene) : Type 0 where
+pub record WellFormed (t : Scene) : Type 0 where
   pub version : Fits fileHead (t .version ∷ [])
   pub textures : All FitTexture (t .textures)
   pub slots : FitSlots (t .slots) (t .brushes)

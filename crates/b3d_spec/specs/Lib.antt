@@ -6,7 +6,7 @@ pub mod Nesting
 pub mod Parse
 pub mod Encode
 pub mod Names
-pub mod Fit
+pub mod WellFormed
 pub mod Fitting
 pub mod Mask
 pub mod Colours

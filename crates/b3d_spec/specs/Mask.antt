@@ -17,18 +17,18 @@ ones (true ∷ m) = suc (ones m)
 ones (false ∷ m) = ones m
 
 -- a row of the mask's width: where the mask says so the next word of ws, else 0
-unfoldable pub spread : List Bool → List ℕ → List ℕ
-spread [] ws = []
-spread (true ∷ m) [] = 0 ∷ spread m []
-spread (true ∷ m) (w ∷ ws) = w ∷ spread m ws
-spread (false ∷ m) ws = 0 ∷ spread m ws
+unfoldable pub padded : List Bool → List ℕ → List ℕ
+padded [] ws = []
+padded (true ∷ m) [] = 0 ∷ padded m []
+padded (true ∷ m) (w ∷ ws) = w ∷ padded m ws
+padded (false ∷ m) ws = 0 ∷ padded m ws
 
 -- the words of row r that are there by a mask, in order
-unfoldable pub squeeze : List Bool → List ℕ → List ℕ
-squeeze [] r = []
-squeeze (b ∷ m) [] = []
-squeeze (true ∷ m) (x ∷ r) = x ∷ squeeze m r
-squeeze (false ∷ m) (x ∷ r) = squeeze m r
+unfoldable pub presentWords : List Bool → List ℕ → List ℕ
+presentWords [] r = []
+presentWords (b ∷ m) [] = []
+presentWords (true ∷ m) (x ∷ r) = x ∷ presentWords m r
+presentWords (false ∷ m) (x ∷ r) = presentWords m r
 
 -- word w of a vertex row is there: 3 position; 3 normal by flag 1; 4 colour by flag 2; coordinate c of set s at word 10 + 4 s + c
 unfoldable pub vertexHas : ℕ → ℕ → ℕ → ℕ → Bool

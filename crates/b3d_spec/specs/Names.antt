@@ -5,7 +5,7 @@ use lib.ListN.{drop}
 use lib.Dec.{leb}
 use Rattle.wire.specs.Test.{if}
 use Rattle.layout.specs.Parts.{Name}
-use Rattle.b3d_spec.specs.Scene.{Texture, Brush, Data, Forest, leaf, node, Scene}
+use Rattle.b3d_spec.specs.Scene.{Texture, Brush, Data, Forest, noNodes, node, Scene}
 
 -- a scene and its parts with each name changed by f
 module _ (f : Name → Name) where
@@ -23,7 +23,7 @@ module _ (f : Name → Name) where
 
   -- the nodes with each name changed
   abbrev pub renameForest : Forest → Forest
-  renameForest leaf = leaf
+  renameForest noNodes = noNodes
   renameForest (node d g h) = node (renameData d) (renameForest g) (renameForest h)
 
   -- scene t with each name changed
@@ -40,8 +40,8 @@ abbrev pub noName : Name → Name
 noName n = record { place = 0; bytes = [] }
 
 -- scene t, name places aside
-unfoldable pub bare : Scene → Scene
-bare t = rename bareName t
+unfoldable pub withoutPlaces : Scene → Scene
+withoutPlaces t = rename bareName t
 
 -- scene t with every name empty
 unfoldable pub cleared : Scene → Scene

@@ -60,9 +60,9 @@ abbrev pub start : Reached
 start = record { turn = 0; spent = false }
 
 -- one of the entries must stand, at a turn after lo and before hi
-abbrev pub owed : List Entry → ℕ → ℕ → Bool
-owed [] lo hi = false
-owed (entry t turn often ∷ l) lo hi = (needed often && (ltb lo turn && ltb turn hi)) || owed l lo hi
+abbrev pub requiredBetween : List Entry → ℕ → ℕ → Bool
+requiredBetween [] lo hi = false
+requiredBetween (entry t turn often ∷ l) lo hi = (needed often && (ltb lo turn && ltb turn hi)) || requiredBetween l lo hi
 
 -- a number past every turn
 abbrev pub end : ℕ
@@ -71,7 +71,7 @@ end = 4
 -- after r, a tag of this turn and number may stand: its turn is later, and no tag of `all` is owed between; or its turn is the same, and it may be repeated
 -- or none stood there that may not be
 abbrev pub may : List Entry → Reached → ℕ → Often → Bool
-may all r turn often = (ltb (r .turn) turn && not (owed all (r .turn) turn)) || (eqb (r .turn) turn && (repeats often || not (r .spent)))
+may all r turn often = (ltb (r .turn) turn && not (requiredBetween all (r .turn) turn)) || (eqb (r .turn) turn && (repeats often || not (r .spent)))
 
 -- how far chunks that had come to r come with one of this turn and number
 abbrev pub after : Reached → ℕ → Often → Reached
@@ -93,7 +93,7 @@ onward (some r) p go = go r
 -- the chunks inside a chunk of tag k whose header is at `head`, after chunks that came to r: cut short by 4 at the first one that may not stand where it
 -- does, ended by 8 at `head` where a tag that must stand is missing
 unfoldable pub order : Tag → ℕ → Reached → Chunks → Chunks
-order k head r done = if (owed (nesting k) (r .turn) end) (stop 8 head) done
+order k head r done = if (requiredBetween (nesting k) (r .turn) end) (stop 8 head) done
 order k head r (stop n p) = stop n p
 order k head r (chunk t p b l) = onward (next (nesting k) (nesting k) r t) p (λ q. chunk t p b (order k head q l))
 

@@ -7,14 +7,14 @@ use mathlib.Core.List.{List, [], _∷_, _++_, map}
 use lib.ListN.{length, take, drop, getD}
 use lib.Dec.{leb, eqb}
 use Rattle.wire.specs.Test.{if}
-use Rattle.layout.specs.Fit.{all}
+use Rattle.layout.specs.WellFormed.{all}
 use Rattle.layout.specs.Parts.{Name}
 use Rattle.b3d_spec.specs.declared.Mode.{Mode}
 use Rattle.b3d_spec.specs.Colours.{passes}
-use Rattle.b3d_spec.specs.Fit.{fits}
-use Rattle.b3d_spec.specs.Mask.{squeeze, vertexMask, keyMask}
+use Rattle.b3d_spec.specs.WellFormed.{fits}
+use Rattle.b3d_spec.specs.Mask.{presentWords, vertexMask, keyMask}
 use Rattle.b3d_spec.specs.Rules.{rowLimit}
-use Rattle.b3d_spec.specs.Scene.{Texture, Brush, TriangleSet, Mesh, Kind, pivot, mesh, bone, Keys, Anim, still, anim, Data, Forest, leaf, node, Scene}
+use Rattle.b3d_spec.specs.Scene.{Texture, Brush, TriangleSet, Mesh, Kind, pivot, mesh, bone, Keys, Anim, noAnim, anim, Data, Forest, noNodes, node, Scene}
 use Rattle.b3d_spec.specs.Tables.{width, start, reached, withNode, rows, tables}
 use Rattle.b3d_spec.specs.declared.Counts.{Counts}
 
@@ -38,8 +38,8 @@ unfoldable pub lentRows : Lent → ℕ → List (List ℕ)
 lentRows T k = cut (width k) (T .count k) (T .words k)
 
 -- the counted rows of table k are no more than the limit, and all of their words are lent
-unfoldable pub roomy : Lent → ℕ → Bool
-roomy T k = leb (T .count k) rowLimit && leb (width k * T .count k) (length (T .words k))
+unfoldable pub hasCountedRows : Lent → ℕ → Bool
+hasCountedRows T k = leb (T .count k) rowLimit && leb (width k * T .count k) (length (T .words k))
 
 -- ---- rows to parts; ns are the bytes that hold the names
 
@@ -68,26 +68,26 @@ meshFrom x vs ss ts =
       flags = getD x 2 0;
       sets = getD x 3 0;
       size = getD x 4 0;
-      vertices = map (squeeze (vertexMask (getD x 2 0) (getD x 3 0) (getD x 4 0))) (take (getD x 6 0) vs);
+      vertices = map (presentWords (vertexMask (getD x 2 0) (getD x 3 0) (getD x 4 0))) (take (getD x 6 0) vs);
       triangleSets = setsFrom (take (getD x 8 0) ss) ts;
     }
 
 -- the first key list rows that are those of node i
-unfoldable pub mine : ℕ → List (List ℕ) → List (List ℕ)
-mine i [] = []
-mine i (x ∷ xs) =
-    let r = x ∷ mine i xs in
+unfoldable pub ownedBy : ℕ → List (List ℕ) → List (List ℕ)
+ownedBy i [] = []
+ownedBy i (x ∷ xs) =
+    let r = x ∷ ownedBy i xs in
     if (eqb (getD x 0 0) i) r []
 
 -- the key lists of the rows xs, their keys being the first of ks
 unfoldable pub keysFrom : List (List ℕ) → List (List ℕ) → List Keys
 keysFrom [] ks = []
 keysFrom (x ∷ xs) ks =
-    record { flags = getD x 1 0; items = map (squeeze (keyMask (getD x 1 0))) (take (getD x 3 0) ks) } ∷ keysFrom xs (drop (getD x 3 0) ks)
+    record { flags = getD x 1 0; items = map (presentWords (keyMask (getD x 1 0))) (take (getD x 3 0) ks) } ∷ keysFrom xs (drop (getD x 3 0) ks)
 
 -- the ANIM of the cells x, ANIM present and 3 values; none unless the first is 1
 unfoldable pub animFrom : List ℕ → Anim
-animFrom x = if (eqb (getD x 0 0) 1) (anim (drop 1 x)) still
+animFrom x = if (eqb (getD x 0 0) 1) (anim (drop 1 x)) noAnim
 
 -- the rows of each table, by its number
 abbrev pub Rows : Type 0
@@ -111,7 +111,7 @@ dataFrom ns R x n =
       name = nameFrom ns x;
       words = take 10 (drop 3 x);
       kind = kindFrom R n (getD y 0 0) (getD y 2 0);
-      keys = keysFrom (mine (n .nodes) (drop (n .lists) (R 9))) (drop (n .keys) (R 10));
+      keys = keysFrom (ownedBy (n .nodes) (drop (n .lists) (R 9))) (drop (n .keys) (R 10));
       anim = animFrom (take 4 (drop 3 y));
     }
 
@@ -142,8 +142,8 @@ pub record Off : Type 0 where
 
 -- takes off the first group, if its nodes are those of parent p; no node otherwise
 unfoldable pub off : ℕ → List Group → Off
-off p [] = record { took = leaf; left = [] }
-off p (g ∷ gs) = if (eqb (g .of) p) (record { took = g .nodes; left = gs }) (record { took = leaf; left = g ∷ gs })
+off p [] = record { took = noNodes; left = [] }
+off p (g ∷ gs) = if (eqb (g .of) p) (record { took = g .nodes; left = gs }) (record { took = noNodes; left = g ∷ gs })
 
 -- nodes from number i on as groups: a node takes its children off the groups after it, and then its later siblings
 unfoldable pub groups : ℕ → List Placed → List Group
@@ -155,12 +155,12 @@ groups i (x ∷ r) =
 
 -- the tree of nodes in file order: the first is the root
 unfoldable pub tree : List Placed → Forest
-tree [] = leaf
-tree (x ∷ r) = node (x .item) ((off 0 (groups 1 r)) .took) leaf
+tree [] = noNodes
+tree (x ∷ r) = node (x .item) ((off 0 (groups 1 r)) .took) noNodes
 
 -- the scene that the lent tables T put together, with names in ns, without a look at what must agree
-unfoldable pub together : List ℕ → Lent → Scene
-together ns T =
+unfoldable pub assembled : List ℕ → Lent → Scene
+assembled ns T =
     record {
       version = T .version;
       textures = map (textureFrom ns) (lentRows T 1);
@@ -187,7 +187,7 @@ sameRows (x ∷ xs) (y ∷ ys) = same x y && sameRows xs ys
 
 -- the names of nodes, in file order, before r
 unfoldable pub nodeNames : Forest → List Name → List Name
-nodeNames leaf r = r
+nodeNames noNodes r = r
 nodeNames (node d ch sib) r = d .name ∷ nodeNames ch (nodeNames sib r)
 
 -- all names of scene t: of textures, brushes, nodes
@@ -206,5 +206,5 @@ sound ns T t = fits t && (all (stands ns) (names t) && all (λ (k : ℕ). sameRo
 -- the scene of the lent tables T, with names in ns, just where they are sound and their colours pass in the mode; none otherwise
 unfoldable pub rebuild : Mode → Lent → List ℕ → Option Scene
 rebuild mode T ns =
-    let t = together ns T in
-    if (all (roomy T) tables) (if (passes mode (lentRows T) && sound ns T t) (some t) none) none
+    let t = assembled ns T in
+    if (all (hasCountedRows T) tables) (if (passes mode (lentRows T) && sound ns T t) (some t) none) none

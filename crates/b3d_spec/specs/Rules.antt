@@ -7,7 +7,7 @@ use lib.ListN.{length, replicate}
 use Rattle.layout.specs.Rules.{Rule, any, upTo, names, namesOrNone, unit}
 use Rattle.b3d_spec.specs.declared.Mode.{Mode}
 use Rattle.b3d_spec.specs.declared.Mode.the-variants.{Strict, Lenient}
-use Rattle.b3d_spec.specs.Scene.{Kind, pivot, mesh, bone, Anim, still, anim, Data}
+use Rattle.b3d_spec.specs.Scene.{Kind, pivot, mesh, bone, Anim, noAnim, anim, Data}
 
 -- ---- ranges
 
@@ -144,25 +144,25 @@ ownVertices (mesh m) = length (m .vertices)
 ownVertices (bone ws) = 0
 
 -- how many vertices a BONE of a node may name, from what holds above it; 0 for the root, above which there is no node
-abbrev pub boneVertices : Option ℕ → ℕ
-boneVertices none = 0
-boneVertices (some n) = n
+abbrev pub boneLimit : Option ℕ → ℕ
+boneLimit none = 0
+boneLimit (some n) = n
 
 -- there is an ANIM
 abbrev pub animated : Anim → Bool
-animated still = false
+animated noAnim = false
 animated (anim ws) = true
 
 -- how many vertices a BONE below a node may name (E3): `own`, those of the node's own MESH, if the node is the root (none) or has an ANIM (a is true); else
 -- n, as for the node's own BONE. So the nearest node above a bone with an ANIM decides, and the root where there is none
-abbrev pub bonesFrom : Option ℕ → Bool → ℕ → Option ℕ
-bonesFrom none a own = some own
-bonesFrom (some n) true own = some own
-bonesFrom (some n) false own = some n
+abbrev pub boneLimitFrom : Option ℕ → Bool → ℕ → Option ℕ
+boneLimitFrom none a own = some own
+boneLimitFrom (some n) true own = some own
+boneLimitFrom (some n) false own = some n
 
 -- how many vertices a BONE below the node with data d may name, from what holds `above` the node
-abbrev pub bonesBelow : Option ℕ → Data → Option ℕ
-bonesBelow above d = bonesFrom above (animated (d .anim)) (ownVertices (d .kind))
+abbrev pub boneLimitBelow : Option ℕ → Data → Option ℕ
+boneLimitBelow above d = boneLimitFrom above (animated (d .anim)) (ownVertices (d .kind))
 
 -- ---- limits
 

@@ -46,7 +46,7 @@ pub record Keys : Type 0 where
 -- the ANIM of a node
 pub data Anim : Type 0 where
   -- there is no ANIM
-  still : Anim
+  noAnim : Anim
   -- its three values: flags, frames, fps
   anim : List ℕ → Anim
 
@@ -61,7 +61,7 @@ pub record Data : Type 0 where
 -- nodes in file order
 pub data Forest : Type 0 where
   -- no node
-  leaf : Forest
+  noNodes : Forest
   -- the first node, its children, its later siblings
   node : Data → Forest → Forest → Forest
 

@@ -3,7 +3,7 @@ use Prim.Native.Nat.{ℕ, _+_, _*_}
 use mathlib.Core.List.{List, [], _∷_}
 use lib.ListN.{length}
 use Rattle.b3d_spec.specs.Rules.{vertexWords, keyWords}
-use Rattle.b3d_spec.specs.Scene.{Texture, Brush, TriangleSet, Kind, pivot, mesh, bone, Keys, Anim, still, anim, Forest, leaf, node, Scene}
+use Rattle.b3d_spec.specs.Scene.{Texture, Brush, TriangleSet, Kind, pivot, mesh, bone, Keys, Anim, noAnim, anim, Forest, noNodes, node, Scene}
 
 -- the items of TEXS: text, zero, 7 words each
 abbrev pub textureSize : List Texture → ℕ
@@ -43,12 +43,12 @@ keysSize (k ∷ l) = 12 + length (k .items) * (4 * keyWords (k .flags)) + keysSi
 
 -- an ANIM: header, 3 words
 abbrev pub animSize : Anim → ℕ
-animSize still = 0
+animSize noAnim = 0
 animSize (anim ws) = 20
 
 -- the NODEs with what is inside: header, text, zero, 10 words each
 abbrev pub nodesSize : Forest → ℕ
-nodesSize leaf = 0
+nodesSize noNodes = 0
 nodesSize (node d f g) = 49 + length (d .name .bytes) + kindSize (d .kind) + keysSize (d .keys) + animSize (d .anim) + nodesSize f + nodesSize g
 
 -- the bytes of the shortest file of scene t: BB3D's header and version, TEXS, BRUS, NODE

@@ -7,8 +7,8 @@ use Rattle.wire.specs.Test.{if}
 use Rattle.layout.specs.Rules.{NONE}
 use Rattle.layout.specs.Rows.{nameCells, joined}
 use Rattle.b3d_spec.specs.declared.Counts.{Counts}
-use Rattle.b3d_spec.specs.Mask.{spread, vertexMask, keyMask}
-use Rattle.b3d_spec.specs.Scene.{Texture, Brush, TriangleSet, Mesh, Kind, pivot, mesh, bone, Keys, Anim, still, anim, Data, Forest, leaf, node, Scene}
+use Rattle.b3d_spec.specs.Mask.{padded, vertexMask, keyMask}
+use Rattle.b3d_spec.specs.Scene.{Texture, Brush, TriangleSet, Mesh, Kind, pivot, mesh, bone, Keys, Anim, noAnim, anim, Data, Forest, noNodes, node, Scene}
 
 -- how many words a node's row has: 01's 20, and the nodes below it (E4)
 abbrev pub nodeWidth : ℕ
@@ -80,7 +80,7 @@ kindCells (bone ws) n = 2 ∷ n .weights ∷ length ws ∷ []
 
 -- cells ANIM present and its 3 values; 0 where there is no ANIM
 unfoldable pub animCells : Anim → List ℕ
-animCells still = 0 ∷ 0 ∷ 0 ∷ 0 ∷ []
+animCells noAnim = 0 ∷ 0 ∷ 0 ∷ 0 ∷ []
 animCells (anim vs) = 1 ∷ vs
 
 -- the row of a node with data d under parent p, with `below` nodes below it at all depths (E4), when n rows came before
@@ -95,7 +95,7 @@ meshRow m n = n .nodes ∷ m .brush ∷ m .flags ∷ m .sets ∷ m .size ∷ n .
 
 -- the rows of the vertices of mesh m; cells for absent parts hold 0
 unfoldable pub vertexRows : Mesh → List (List ℕ)
-vertexRows m = map (spread (vertexMask (m .flags) (m .sets) (m .size))) (m .vertices)
+vertexRows m = map (padded (vertexMask (m .flags) (m .sets) (m .size))) (m .vertices)
 
 -- the rows of the triangle sets of mesh i, the first triangle being number r: mesh, brush, first triangle, triangles
 unfoldable pub setRows : ℕ → ℕ → List TriangleSet → List (List ℕ)
@@ -115,13 +115,13 @@ listRows i k (x ∷ xs) = (i ∷ x .flags ∷ k ∷ length (x .items) ∷ []) �
 -- the rows of the keys of the lists; cells for absent parts hold 0
 unfoldable pub keyRows : List Keys → List (List ℕ)
 keyRows [] = []
-keyRows (x ∷ xs) = map (spread (keyMask (x .flags))) (x .items) ++ keyRows xs
+keyRows (x ∷ xs) = map (padded (keyMask (x .flags))) (x .items) ++ keyRows xs
 
 -- ---- a node, then the nodes in it, then those after it
 
 -- how many nodes there are, at all depths
 unfoldable pub nodesIn : Forest → ℕ
-nodesIn leaf = 0
+nodesIn noNodes = 0
 nodesIn (node d ch sib) = suc (nodesIn ch + nodesIn sib)
 
 -- the rows of table k that a mesh adds, when n rows came before its node; none without a mesh
@@ -173,12 +173,12 @@ withNode d n =
 
 -- the row counts n after all nodes of a forest
 unfoldable pub withForest : Forest → Counts → Counts
-withForest leaf n = n
+withForest noNodes n = n
 withForest (node d ch sib) n = withForest sib (withForest ch (withNode d n))
 
 -- the rows of table k of the nodes under parent p and the nodes below them, when n rows came before: a node, then the nodes in it, then those after it
 unfoldable pub forestRows : ℕ → Forest → ℕ → Counts → List (List ℕ)
-forestRows k leaf p n = []
+forestRows k noNodes p n = []
 forestRows k (node d ch sib) p n =
     let m = withNode d n in
     ownRows k d p (nodesIn ch) n ++ (forestRows k ch (n .nodes) m ++ forestRows k sib p (withForest ch m))

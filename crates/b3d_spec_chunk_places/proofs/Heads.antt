@@ -12,7 +12,7 @@ use Rattle.wire.specs.declared.Cursor.{Cursor}
 use Rattle.wire.specs.declared.Number.{Number}
 use Rattle.wire.specs.declared.Number.the-variants as number
 use Rattle.wire.proofs.Found.{Numbered, numbered, number-cut, left-length, left-four}
-use Rattle.layout.specs.Out.{got, bad, check}
+use Rattle.layout.specs.Result.{accept, reject, check}
 use Rattle.layout.specs.Parts.{words, judged, row, wordsOf}
 use Rattle.layout.specs.Rules.{Rule, upTo, holds, refusal}
 use Rattle.layout.proofs.StepLaws.{row-short, row-any}
@@ -24,7 +24,7 @@ module _ (s : List ℕ) (at : ℕ) (b : Cursor) (body : Body at b (length s)) wh
   body-inside = record { before = body .room; within = body .within }
 
   module _ (r : Number) (e : r ≡ numberAt s b) where
-    pub head-cut : (rule : Rule) → r ≡ number.Cut → row (rule ∷ []) (at + 8) (left b s) ≡ bad 5 (b .at)
+    pub head-cut : (rule : Rule) → r ≡ number.Cut → row (rule ∷ []) (at + 8) (left b s) ≡ reject 5 (b .at)
     head-cut rule w =
         let short = number-cut s b (sym e ∙ w) in
         rw (← body .head) (row-short (rule ∷ []) (b .at) (left b s) (omega (arith, left-length s b body-inside)))
@@ -44,32 +44,32 @@ module _ (s : List ℕ) (at : ℕ) (b : Cursor) (body : Body at b (length s)) wh
 
       -- by what the rule says of the number
       module _ (rule : Rule) where
-        pub head-bad : holds rule k ≡ false → row (rule ∷ []) (at + 8) (left b s) ≡ bad (refusal rule) (b .at)
+        pub head-bad : holds rule k ≡ false → row (rule ∷ []) (at + 8) (left b s) ≡ reject (refusal rule) (b .at)
         unfolding row words judged check wordAt
         head-bad h = let g = rw (head-numbered .is) at h in rw (← body .head, bytes, g)
 
-        pub head-got : holds rule k ≡ true → row (rule ∷ []) (at + 8) (left b s) ≡ got (record { value = k ∷ []; place = c .at; left = left c s })
+        pub head-got : holds rule k ≡ true → row (rule ∷ []) (at + 8) (left b s) ≡ accept (record { value = k ∷ []; place = c .at; left = left c s })
         unfolding row words judged check wordAt
         head-got h = let f = head-numbered in let g = rw (f .is) at h in rw (← body .head, f .is, bytes, g, ← f .to)
 
         -- by an answer to that
         module _ (ok : Bool) (a : ok ≡ holds rule k) where
-          pub head-refused : not ok ≡ true → row (rule ∷ []) (at + 8) (left b s) ≡ bad (refusal rule) (b .at)
+          pub head-refused : not ok ≡ true → row (rule ∷ []) (at + 8) (left b s) ≡ reject (refusal rule) (b .at)
           head-refused h = head-bad (sym a ∙ not-true ok h)
 
-          pub head-kept : not ok ≡ false → row (rule ∷ []) (at + 8) (left b s) ≡ got (record { value = k ∷ []; place = c .at; left = left c s })
+          pub head-kept : not ok ≡ false → row (rule ∷ []) (at + 8) (left b s) ≡ accept (record { value = k ∷ []; place = c .at; left = left c s })
           head-kept h = head-got (sym a ∙ not-false ok h)
 
       -- of a range
       module _ (m : ℕ) where
-        pub head-over : m < k → row (upTo m ∷ []) (at + 8) (left b s) ≡ bad 6 (b .at)
+        pub head-over : m < k → row (upTo m ∷ []) (at + 8) (left b s) ≡ reject 6 (b .at)
         head-over h = head-bad (upTo m) (lt-leb k m h)
 
-        pub head-within : k ≤ m → row (upTo m ∷ []) (at + 8) (left b s) ≡ got (record { value = k ∷ []; place = c .at; left = left c s })
+        pub head-within : k ≤ m → row (upTo m ∷ []) (at + 8) (left b s) ≡ accept (record { value = k ∷ []; place = c .at; left = left c s })
         head-within h = head-got (upTo m) (le-leb k m h)
 
 pub ruleset heads = (head-before, head-inside)
 
 -- the header of a file: its two words, and what follows
-pub head-is : (s : List ℕ) → 8 ≤ length s → row header 0 s ≡ got (record { value = wordsOf 2 s; place = 8; left = drop 8 s })
+pub head-is : (s : List ℕ) → 8 ≤ length s → row header 0 s ≡ accept (record { value = wordsOf 2 s; place = 8; left = drop 8 s })
 head-is s h = row-any 2 0 s h

@@ -10,7 +10,7 @@ use lib.Seq.{getD-drop, drop-drop, drop-append-seam}
 use lib.Dec.{ltb, leb, ltb→lt, leb→le, nleb→lt, nltb→le}
 use Rattle.wire.specs.Bytes.{AllBytes}
 use Rattle.wire.specs.Test.{if}
-use Rattle.layout.specs.Out.{got}
+use Rattle.layout.specs.Result.{accept}
 use Rattle.layout.specs.Fitting.{Fits}
 use Rattle.layout.specs.Rules.{NONE}
 use Rattle.layout.specs.Rows.{nameCells}
@@ -20,8 +20,8 @@ use Rattle.b3d_spec.specs.declared.Counts.{Counts}
 use Rattle.b3d_spec.specs.declared.Mode.{Mode}
 use Rattle.b3d_spec.specs.Answers.{judge}
 use Rattle.b3d_spec.specs.Rebuild.{Rows, From}
-use Rattle.b3d_spec.specs.Rules.{weightRow, ownVertices, boneVertices, animated, bonesFrom, bonesBelow, levels, rowLimit}
-use Rattle.b3d_spec.specs.Scene.{Kind, pivot, mesh, bone, Anim, still, anim, Data, Forest, leaf, node, Scene}
+use Rattle.b3d_spec.specs.Rules.{weightRow, ownVertices, boneLimit, animated, boneLimitFrom, boneLimitBelow, levels, rowLimit}
+use Rattle.b3d_spec.specs.Scene.{Kind, pivot, mesh, bone, Anim, noAnim, anim, Data, Forest, noNodes, node, Scene}
 use Rattle.b3d_spec.specs.Tables.{start, reached, nodeTables, tables, meshesOf, weightsOf, kindCells, animCells, nodeRow, meshRow, meshRows, ownRows, nodesIn, withNode, withForest, forestRows, rows}
 use Rattle.b3d_spec.proofs.AnswerLaws.{judge-got}
 use Rattle.b3d_spec.proofs.Fitting.{FitData, FitKind, FitNodes}
@@ -32,7 +32,7 @@ use Rattle.b3d_spec.proofs.Rows.RowParts.{cell-past, kind-wide}
 use Rattle.b3d_spec.proofs.Rows.Trees.{from-after}
 use Rattle.b3d_spec.proofs.Rows.WordCounts.{any-words}
 use Rattle.b3d_spec_demands.specs.Branches.{parentOf}
-use Rattle.b3d_spec_demands.specs.Bones.{kindOf, firstOf, countOf, animOf, Nearest, itself, above, meshVertices, weightId, Owned, Bone, BonesNearest}
+use Rattle.b3d_spec_demands.specs.Bones.{kindOf, firstOf, countOf, animOf, Nearest, itself, above, meshVertices, weightId, WeightOf, Bone, BonesNearest}
 
 -- ---- the way up leads to one node
 
@@ -165,12 +165,12 @@ module _ (R : Rows) (few : length (R 3) ≤ rowLimit) where
     not-none e = omega (arith, row-in)
 
     -- what it tells the nodes below it
-    down : (o : Option ℕ) → Upward o p → (a : Anim) → d .anim ≡ a → Upward (bonesFrom o (animated a) (ownVertices (d .kind))) r
+    down : (o : Option ℕ) → Upward o p → (a : Anim) → d .anim ≡ a → Upward (boneLimitFrom o (animated a) (ownVertices (d .kind))) r
     unfolding animCells
     down none u a e = (not-none, (r, itself r refl (inr (parent-is ∙ u)), sym (own-by (d .kind) refl)))
     down (some w) u (anim ws) e = (not-none, (r, itself r refl (inl (anim-is (anim ws) e)), sym (own-by (d .kind) refl)))
-    down (some w) u still e =
-        (not-none, (u .1 .0, above r (anim-is still e) (λ z. u .0 (sym parent-is ∙ z)) (subst (Nearest (R 3) (u .1 .0)) (sym parent-is) (u .1 .1)), u .1 .2))
+    down (some w) u noAnim e =
+        (not-none, (u .1 .0, above r (anim-is noAnim e) (λ z. u .0 (sym parent-is ∙ z)) (subst (Nearest (R 3) (u .1 .0)) (sym parent-is) (u .1 .1)), u .1 .2))
 
     -- its own bone
     claim-by : (k : Kind) → d .kind ≡ k → FitKind b v k → kindOf (R 3) r ≡ 2 → (i : ℕ) → i < countOf (R 3) r → weightId R r i < v
@@ -184,7 +184,7 @@ module _ (R : Rows) (few : length (R 3) ≤ rowLimit) where
         rw (s, z) (fits-at v ws g i (omega arith))
 
     -- its own weights
-    owned-by : (k : Kind) → d .kind ≡ k → (w : ℕ) → n .weights ≤ w → w < n .weights + length (weightsOf k) → Owned (R 3) w
+    owned-by : (k : Kind) → d .kind ≡ k → (w : ℕ) → n .weights ≤ w → w < n .weights + length (weightsOf k) → WeightOf (R 3) w
     unfolding kindCells weightsOf
     owned-by pivot e w lo hi = absurd (omega arith)
     owned-by (mesh m) e w lo hi = absurd (omega arith)
@@ -193,7 +193,7 @@ module _ (R : Rows) (few : length (R 3) ≤ rowLimit) where
         let s : firstOf (R 3) r ≡ n .weights = first-is (bone ws) e in
         record { by = r; number = w - n .weights; row = row-in; kind = kind-is (bone ws) e; few = omega arith; is = omega arith }
 
-    claim : (o : Option ℕ) → v ≡ boneVertices o → Upward o p → Claim r
+    claim : (o : Option ℕ) → v ≡ boneLimit o → Upward o p → Claim r
     claim none e u two i l = let x = claim-by (d .kind) refl (h .kind) two i l in absurd (omega arith)
     claim (some w) e u two i l =
         let x = claim-by (d .kind) refl (h .kind) two i l in
@@ -222,7 +222,7 @@ module _ (R : Rows) (few : length (R 3) ≤ rowLimit) where
   forest-claims : (l b : ℕ) (o : Option ℕ) (t : Forest) (p : ℕ) (n : Counts) (S : Rows) → FitNodes l b o t → All (From R n (λ k. forestRows k t p n ++ S k)) nodeTables → Upward o p
       → (r : ℕ) → n .nodes ≤ r → r < (withForest t n) .nodes → Claim r
   unfolding withForest
-  forest-claims l b o leaf p n S g f u r lo hi = absurd (omega arith)
+  forest-claims l b o noNodes p n S g f u r lo hi = absurd (omega arith)
   forest-claims zero b o (node d ch sib) p n S g f u r lo hi = absurd g
   forest-claims (suc l) b o (node d ch sib) p n S g f u r lo hi =
       let m = withNode d n in
@@ -231,18 +231,18 @@ module _ (R : Rows) (few : length (R 3) ≤ rowLimit) where
       let rest : Rows = λ k. forestRows k sib p q ++ S k in
       let all = split-rows d ch sib p n S f in
       let inner = from-after R n d p (nodesIn ch) (λ k. forestRows k ch (n .nodes) m ++ rest k) all in
-      let v = boneVertices o in
+      let v = boneLimit o in
       by-test (leb (m .nodes) r)
       (λ y. by-test (ltb r (q .nodes))
-      (λ z. forest-claims l b (bonesBelow o d) ch (n .nodes) m rest (g .1) inner (down b v d p (nodesIn ch) n (λ k. forestRows k ch (n .nodes) m ++ rest k) (g .0) all o u (d .anim) refl) r (leb→le (m .nodes) r y) (ltb→lt r (q .nodes) z))
+      (λ z. forest-claims l b (boneLimitBelow o d) ch (n .nodes) m rest (g .1) inner (down b v d p (nodesIn ch) n (λ k. forestRows k ch (n .nodes) m ++ rest k) (g .0) all o u (d .anim) refl) r (leb→le (m .nodes) r y) (ltb→lt r (q .nodes) z))
       (λ z. forest-claims (suc l) b o sib p q S (g .2) (from-forest ch (n .nodes) m rest inner) u r (nltb→le r (q .nodes) z) hi))
       (λ y. let e : n .nodes ≡ r = omega (arith, nleb→lt (m .nodes) r y) in
       subst Claim e (claim b v d p (nodesIn ch) n (λ k. forestRows k ch (n .nodes) m ++ rest k) (g .0) all o refl u))
 
   forest-owners : (l b : ℕ) (o : Option ℕ) (t : Forest) (p : ℕ) (n : Counts) (S : Rows) → FitNodes l b o t → All (From R n (λ k. forestRows k t p n ++ S k)) nodeTables
-      → (w : ℕ) → n .weights ≤ w → w < (withForest t n) .weights → Owned (R 3) w
+      → (w : ℕ) → n .weights ≤ w → w < (withForest t n) .weights → WeightOf (R 3) w
   unfolding withForest
-  forest-owners l b o leaf p n S g f w lo hi = absurd (omega arith)
+  forest-owners l b o noNodes p n S g f w lo hi = absurd (omega arith)
   forest-owners zero b o (node d ch sib) p n S g f w lo hi = absurd g
   forest-owners (suc l) b o (node d ch sib) p n S g f w lo hi =
       let m = withNode d n in
@@ -253,13 +253,13 @@ module _ (R : Rows) (few : length (R 3) ≤ rowLimit) where
       let es : m .weights ≡ n .weights + length (weightsOf (d .kind)) = weights-step d p (nodesIn ch) n in
       by-test (leb (m .weights) w)
       (λ y. by-test (ltb w (q .weights))
-      (λ z. forest-owners l b (bonesBelow o d) ch (n .nodes) m rest (g .1) inner w (leb→le (m .weights) w y) (ltb→lt w (q .weights) z))
+      (λ z. forest-owners l b (boneLimitBelow o d) ch (n .nodes) m rest (g .1) inner w (leb→le (m .weights) w y) (ltb→lt w (q .weights) z))
       (λ z. forest-owners (suc l) b o sib p q S (g .2) (from-forest ch (n .nodes) m rest inner) w (nltb→le w (q .weights) z) hi))
-      (λ y. owned-by b (boneVertices o) d p (nodesIn ch) n (λ k. forestRows k ch (n .nodes) m ++ rest k) (g .0) all (d .kind) refl w lo (omega (arith, nleb→lt (m .weights) w y)))
+      (λ y. owned-by b (boneLimit o) d p (nodesIn ch) n (λ k. forestRows k ch (n .nodes) m ++ rest k) (g .0) all (d .kind) refl w lo (omega (arith, nleb→lt (m .weights) w y)))
 
 -- ---- the tables of a file
 
-module _ (mode : Mode) (s : List ℕ) (bytes : AllBytes s) (t : Scene) (e : judge mode s ≡ got t) where
+module _ (mode : Mode) (s : List ℕ) (bytes : AllBytes s) (t : Scene) (e : judge mode s ≡ accept t) where
   few-nodes : length (rows 3 t) ≤ rowLimit
   unfolding tables nodeTables
   few-nodes = judge-got mode s t e .1 .1 .1 .0
@@ -277,7 +277,7 @@ module _ (mode : Mode) (s : List ℕ) (bytes : AllBytes s) (t : Scene) (e : judg
   unfolding nodeTables rows if start reached
   all-claims r h = forest-claims (λ k. rows k t) few-nodes levels (length (t .brushes)) none (t .nodes) NONE start (λ k. []) fitting standing refl r (omega arith) (omega (arith, rises (t .nodes) NONE start .0))
 
-  all-owners : (w : ℕ) → w < length (rows 8 t) → Owned (rows 3 t) w
+  all-owners : (w : ℕ) → w < length (rows 8 t) → WeightOf (rows 3 t) w
   unfolding nodeTables rows if start reached
   all-owners w h = forest-owners (λ k. rows k t) few-nodes levels (length (t .brushes)) none (t .nodes) NONE start (λ k. []) fitting standing w (omega arith) (omega (arith, rises (t .nodes) NONE start .1 .1 .1 .1 .1 .0))
 

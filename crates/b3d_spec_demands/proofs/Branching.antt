@@ -8,14 +8,14 @@ use mathlib.Core.List.{List, [], _∷_, _++_}
 use lib.ListN.{length, getD, length-append}
 use Rattle.wire.specs.Bytes.{AllBytes}
 use Rattle.wire.specs.Test.{if}
-use Rattle.layout.specs.Out.{got}
+use Rattle.layout.specs.Result.{accept}
 use Rattle.layout.specs.Rules.{NONE}
 use Rattle.layout.specs.Rows.{nameCells}
 use Rattle.b3d_spec.specs.declared.Counts.{Counts}
 use Rattle.b3d_spec.specs.declared.Mode.{Mode}
 use Rattle.b3d_spec.specs.Answers.{judge}
-use Rattle.b3d_spec.specs.Rules.{bonesBelow, boneVertices, levels}
-use Rattle.b3d_spec.specs.Scene.{Forest, leaf, node}
+use Rattle.b3d_spec.specs.Rules.{boneLimitBelow, boneLimit, levels}
+use Rattle.b3d_spec.specs.Scene.{Forest, noNodes, node}
 use Rattle.b3d_spec.specs.Tables.{start, nodeRow, nodesIn, ownRows, withNode, withForest, forestRows, rows, tables, nodeTables}
 use Rattle.b3d_spec.proofs.AnswerLaws.{judge-got}
 use Rattle.b3d_spec.proofs.Fitting.{FitNodes}
@@ -123,14 +123,14 @@ module _ (p i e : ℕ) (away : Away p i e) where
 
 after-nodes : (t : Forest) (n : Counts) → (withForest t n) .nodes ≡ n .nodes + nodesIn t
 unfolding withForest nodesIn
-after-nodes leaf n = omega arith
+after-nodes noNodes n = omega arith
 after-nodes (node d ch sib) n =
     let m = withNode d n in
     omega (arith, after-nodes ch m, after-nodes sib (withForest ch m), nodes-step d n)
 
 rows-long : (t : Forest) (p : ℕ) (n : Counts) → length (forestRows 3 t p n) ≡ nodesIn t
 unfolding forestRows ownRows if nodesIn
-rows-long leaf p n = refl
+rows-long noNodes p n = refl
 rows-long (node d ch sib) p n =
     let m = withNode d n in
     let a = forestRows 3 ch (n .nodes) m in
@@ -185,7 +185,7 @@ module _ (p i m e : ℕ) (away : Away p i e) (x : List ℕ) (inner later : List 
 
 forest-rows : (l b : ℕ) (above : Option ℕ) (t : Forest) (p : ℕ) (n : Counts) (e : ℕ) → FitNodes l b above t → e ≡ n .nodes + nodesIn t → Away p (n .nodes) e → Forested p (n .nodes) e (forestRows 3 t p n)
 unfolding forestRows ownRows if nodesIn nodeRow nameCells
-forest-rows l b above leaf p n e f z a = record { placed = tt; holds = tt }
+forest-rows l b above noNodes p n e f z a = record { placed = tt; holds = tt }
 forest-rows zero b above (node d ch sib) p n e f z a = absurd f
 forest-rows (suc l) b above (node d ch sib) p n e f z a =
     let m = withNode d n in
@@ -195,8 +195,8 @@ forest-rows (suc l) b above (node d ch sib) p n e f z a =
     let inner = forestRows 3 ch (n .nodes) m in
     let later = forestRows 3 sib p k in
     let x = nodeRow d p (nodesIn ch) n in
-    let cell : branch x ≡ nodesIn ch = below-cell b (boneVertices above) d p (nodesIn ch) n (f .0) in
-    let u = forest-rows l b (bonesBelow above d) ch (n .nodes) m (k .nodes) (f .1) ek (inl (omega arith)) in
+    let cell : branch x ≡ nodesIn ch = below-cell b (boneLimit above) d p (nodesIn ch) n (f .0) in
+    let u = forest-rows l b (boneLimitBelow above d) ch (n .nodes) m (k .nodes) (f .1) ek (inl (omega arith)) in
     let v = forest-rows (suc l) b above sib p k e (f .2) (omega arith) (elim a [ inl c ↦ inl (omega arith) | inr c ↦ inr c ]) in
     joined p (n .nodes) (k .nodes) e a x inner later refl (omega (arith, cell)) (omega (arith, rows-long ch (n .nodes) m)) (omega arith)
     (subst (λ (i : ℕ). Forested (n .nodes) i (k .nodes) inner) es u) v

@@ -9,7 +9,7 @@ use lib.Seq.{take-append-seam, drop-append-seam}
 use lib.Dec.{leb, leb→le, nleb→lt}
 use borrow.Author.Tests.{lt-leb, le-leb}
 use Rattle.wire.specs.Bytes.{AllBytes, over}
-use Rattle.layout.specs.Out.{Out, got, bad, check, _>>=_}
+use Rattle.layout.specs.Result.{Result, accept, reject, check, _>>=_}
 use Rattle.layout.proofs.Lists.{All, all-map, all-zip}
 use Rattle.layout.proofs.Outs.{by-test, bad-got, got-inj}
 use Rattle.layout.specs.Rows.{eachOf, joined}
@@ -40,19 +40,19 @@ use Rattle.b3d_spec_demands.proofs.Demand3.{same-copy, demand-3}
 
 -- ---- numbers
 
-bind-bad : {A B : Type 0} (m : Out A) (k : A → Out B) (n p : ℕ) → (m >>= k) ≡ bad n p → (m ≡ bad n p) ⊎ ((a : A) × (m ≡ got a) × (k a ≡ bad n p))
-bind-bad (got a) k n p e = inr (a, refl, e)
-bind-bad (bad m q) k n p e = let x : m ≡ n = cc in let y : q ≡ p = cc in inl (ap₂ bad x y)
+bind-bad : {A B : Type 0} (m : Result A) (k : A → Result B) (n p : ℕ) → (m >>= k) ≡ reject n p → (m ≡ reject n p) ⊎ ((a : A) × (m ≡ accept a) × (k a ≡ reject n p))
+bind-bad (accept a) k n p e = inr (a, refl, e)
+bind-bad (reject m q) k n p e = let x : m ≡ n = cc in let y : q ≡ p = cc in inl (ap₂ reject x y)
 
 module _ (n : ℕ) (size : ℕ → Scene → ℕ) (most : ℕ → ℕ) where
-  held-bad : (t : Scene) (m p : ℕ) → (eachOf n (λ k. leb (size k t) (most k)) tables >>= λ u. got t) ≡ bad m p → (m ≡ n) × Lowest (λ k. size k t ≤ most k) p
+  held-bad : (t : Scene) (m p : ℕ) → (eachOf n (λ k. leb (size k t) (most k)) tables >>= λ u. accept t) ≡ reject m p → (m ≡ n) × Lowest (λ k. size k t ≤ most k) p
   held-bad t m p e =
-      elim (bind-bad (eachOf n (λ k. leb (size k t) (most k)) tables) (λ u. got t) m p e) [
+      elim (bind-bad (eachOf n (λ k. leb (size k t) (most k)) tables) (λ u. accept t) m p e) [
         | inl f ↦ lowest-is n (λ k. size k t) most m p f
         | inr x ↦ bad-got (sym (x .2))
       ]
 
-judge-bad : (mode : Mode) (s : List ℕ) (n p : ℕ) → judge mode s ≡ bad n p → (parse mode s ≡ bad n p) ⊎ ((t : Scene) × (parse mode s ≡ got t) × (n ≡ 10) × Lowest (λ k. length (rows k t) ≤ rowLimit) p)
+judge-bad : (mode : Mode) (s : List ℕ) (n p : ℕ) → judge mode s ≡ reject n p → (parse mode s ≡ reject n p) ⊎ ((t : Scene) × (parse mode s ≡ accept t) × (n ≡ 10) × Lowest (λ k. length (rows k t) ≤ rowLimit) p)
 unfolding judge
 judge-bad mode s n p e =
     elim (bind-bad (parse mode s) _ n p e) [
@@ -60,7 +60,7 @@ judge-bad mode s n p e =
       | inr x ↦ (let h = held-bad 10 (λ k t. length (rows k t)) (λ k. rowLimit) (x .0) n p (x .2) in inr (x .0, x .1, h .0, h .1))
     ]
 
-read-bad : (mode : Mode) (room : ℕ → ℕ) (s : List ℕ) (n p : ℕ) → read mode room s ≡ bad n p → (judge mode s ≡ bad n p) ⊎ ((t : Scene) × (judge mode s ≡ got t) × (n ≡ 11) × Lowest (λ k. width k * length (rows k t) ≤ room k) p)
+read-bad : (mode : Mode) (room : ℕ → ℕ) (s : List ℕ) (n p : ℕ) → read mode room s ≡ reject n p → (judge mode s ≡ reject n p) ⊎ ((t : Scene) × (judge mode s ≡ accept t) × (n ≡ 11) × Lowest (λ k. width k * length (rows k t) ≤ room k) p)
 unfolding read
 read-bad mode room s n p e =
     elim (bind-bad (judge mode s) _ n p e) [
@@ -69,21 +69,21 @@ read-bad mode room s n p e =
     ]
 
 -- 1 to 10, then 1 to 11
-judge-number : (mode : Mode) (s : List ℕ) (n p : ℕ) → judge mode s ≡ bad n p → (1 ≤ n) × (n ≤ 10)
+judge-number : (mode : Mode) (s : List ℕ) (n p : ℕ) → judge mode s ≡ reject n p → (1 ≤ n) × (n ≤ 10)
 judge-number mode s n p e =
     elim (judge-bad mode s n p e) [
       | inl f ↦ (let h = parse-refusal mode s n p f in (h .0, omega (arith, h .1)))
       | inr x ↦ (omega (arith, x .2), omega (arith, x .2))
     ]
 
-read-number : (mode : Mode) (room : ℕ → ℕ) (s : List ℕ) (n p : ℕ) → read mode room s ≡ bad n p → (1 ≤ n) × (n ≤ 11)
+read-number : (mode : Mode) (room : ℕ → ℕ) (s : List ℕ) (n p : ℕ) → read mode room s ≡ reject n p → (1 ≤ n) × (n ≤ 11)
 read-number mode room s n p e =
     elim (read-bad mode room s n p e) [
       | inl f ↦ (let h = judge-number mode s n p f in (h .0, omega (arith, h .1)))
       | inr x ↦ (omega (arith, x .2), omega (arith, x .2))
     ]
 
-judge-ten : (mode : Mode) (s : List ℕ) (p : ℕ) → judge mode s ≡ bad 10 p → (t : Scene) × (parse mode s ≡ got t) × Lowest (λ k. length (rows k t) ≤ rowLimit) p
+judge-ten : (mode : Mode) (s : List ℕ) (p : ℕ) → judge mode s ≡ reject 10 p → (t : Scene) × (parse mode s ≡ accept t) × Lowest (λ k. length (rows k t) ≤ rowLimit) p
 judge-ten mode s p e =
     elim (judge-bad mode s 10 p e) [
       | inl g ↦ absurd (omega (arith, parse-refusal mode s 10 p g .1))
@@ -93,14 +93,14 @@ judge-ten mode s p e =
 -- ---- reader
 
 module _ (mode : Mode) (room : ℕ → ℕ) (s : List ℕ) where
-  reader-ten : (p : ℕ) → read mode room s ≡ bad 10 p → (t : Scene) × (parse mode s ≡ got t) × Lowest (λ k. length (rows k t) ≤ rowLimit) p
+  reader-ten : (p : ℕ) → read mode room s ≡ reject 10 p → (t : Scene) × (parse mode s ≡ accept t) × Lowest (λ k. length (rows k t) ≤ rowLimit) p
   reader-ten p e =
       elim (read-bad mode room s 10 p e) [
         | inl f ↦ judge-ten mode s p f
         | inr x ↦ absurd (omega (arith, x .2))
       ]
 
-  reader-eleven : (p : ℕ) → read mode room s ≡ bad 11 p → (t : Scene) × (judge mode s ≡ got t) × Lowest (λ k. width k * length (rows k t) ≤ room k) p
+  reader-eleven : (p : ℕ) → read mode room s ≡ reject 11 p → (t : Scene) × (judge mode s ≡ accept t) × Lowest (λ k. width k * length (rows k t) ≤ room k) p
   reader-eleven p e =
       elim (read-bad mode room s 11 p e) [
         | inl f ↦ absurd (omega (arith, judge-number mode s 11 p f .1))
@@ -111,8 +111,8 @@ module _ (mode : Mode) (room : ℕ → ℕ) (s : List ℕ) where
   unfolding readAnswer answer readTable tableAfter
   reader-says = by (read mode room s) refl
     where
-      by : (o : Out Scene) → read mode room s ≡ o → ReaderSays mode room s (answer o)
-      by (got t) e = record {
+      by : (o : Result Scene) → read mode room s ≡ o → ReaderSays mode room s (answer o)
+      by (accept t) e = record {
         accepted = λ z. (t, e);
         zero = λ u f. refl;
         most = omega arith;
@@ -120,13 +120,13 @@ module _ (mode : Mode) (room : ℕ → ℕ) (s : List ℕ) where
         ten = λ z. absurd (omega arith);
         eleven = λ z. absurd (omega arith);
       }
-      by (bad n p) e = record {
+      by (reject n p) e = record {
         accepted = λ z. absurd (omega (arith, read-number mode room s n p e .0));
         zero = λ u f. bad-got (sym e ∙ f);
         most = read-number mode room s n p e .1;
         untouched = λ d k xs. rw e;
-        ten = λ z. reader-ten p (e ∙ ap (λ (i : ℕ). bad i p) z);
-        eleven = λ z. reader-eleven p (e ∙ ap (λ (i : ℕ). bad i p) z);
+        ten = λ z. reader-ten p (e ∙ ap (λ (i : ℕ). reject i p) z);
+        eleven = λ z. reader-eleven p (e ∙ ap (λ (i : ℕ). reject i p) z);
       }
 
 -- ---- outputs
@@ -143,25 +143,25 @@ over-long : (b out : List ℕ) → length b ≤ length out → length (over b ou
 unfolding over
 over-long b out h = omega (arith, length-append b (drop (length b) out), length-drop (length b) out)
 
-leaves-got : (b out : List ℕ) → length b ≤ length out → Leaves out (written (got b)) (outputAfter (got b) out)
+leaves-got : (b out : List ℕ) → length b ≤ length out → Leaves out (written (accept b)) (outputAfter (accept b) out)
 unfolding written outputAfter
 leaves-got b out h = record { long = over-long b out h; untouched = λ d. absurd (d refl); stay = λ z. (h, over-rest b out) }
 
-leaves-bad : (n p : ℕ) (out : List ℕ) → 1 ≤ n → Leaves out (written (bad n p)) (outputAfter (bad n p) out)
+leaves-bad : (n p : ℕ) (out : List ℕ) → 1 ≤ n → Leaves out (written (reject n p)) (outputAfter (reject n p) out)
 unfolding written outputAfter
 leaves-bad n p out h = record { long = refl; untouched = λ d. (refl, refl); stay = λ z. absurd (omega arith) }
 
-room-yes : (room : ℕ) (b : List ℕ) → length b ≤ room → roomFor room b ≡ got b
+room-yes : (room : ℕ) (b : List ℕ) → length b ≤ room → roomFor room b ≡ accept b
 unfolding roomFor check
 room-yes room b h = rw (le-leb (length b) room h)
 
-room-no : (room : ℕ) (b : List ℕ) → room < length b → roomFor room b ≡ bad 11 (length b)
+room-no : (room : ℕ) (b : List ℕ) → room < length b → roomFor room b ≡ reject 11 (length b)
 unfolding roomFor check
 room-no room b h = rw (lt-leb (length b) room h)
 
 -- ---- what the reader fills of an accepted file
 
-module _ (mode : Mode) (xs : ℕ → List ℕ) (s : List ℕ) (bytes : AllBytes s) (t : Scene) (e : read mode (λ k. length (xs k)) s ≡ got t) where
+module _ (mode : Mode) (xs : ℕ → List ℕ) (s : List ℕ) (bytes : AllBytes s) (t : Scene) (e : read mode (λ k. length (xs k)) s ≡ accept t) where
   abbrev F : Lent
   F = filled mode xs s
 
@@ -181,7 +181,7 @@ module _ (mode : Mode) (xs : ℕ → List ℕ) (s : List ℕ) (bytes : AllBytes 
   unfolding filled readTable tableAfter over table
   filled-words k = rw e
 
-  accepted : judge mode s ≡ got t
+  accepted : judge mode s ≡ accept t
   accepted = read-got mode (λ k. length (xs k)) s t e .0
 
   filled-rows : All (λ k. lentRows F k ≡ rows k t) tables
@@ -244,10 +244,10 @@ has-back mode b bytes L ns h xs fits = filled-back mode xs b bytes (h .scene) (h
 -- ---- writer
 
 module _ (mode : Mode) (T : Lent) (ns out : List ℕ) where
-  abbrev WSays : Out (List ℕ) → Type 0
+  abbrev WSays : Result (List ℕ) → Type 0
   WSays o = WriterSays mode T ns out (written o) (outputAfter o out)
 
-  unsound-says : ((s : List ℕ) → AllBytes s → Has mode s T ns → ⊥) → WSays (bad 12 0)
+  unsound-says : ((s : List ℕ) → AllBytes s → Has mode s T ns → ⊥) → WSays (reject 12 0)
   unfolding written outputAfter
   unsound-says none-has = record {
     numbers = inr (inr refl);
@@ -261,11 +261,11 @@ module _ (mode : Mode) (T : Lent) (ns out : List ℕ) where
     given-room = λ s b h le. absurd (none-has s b h);
   }
 
-  module _ (b : List ℕ) (bytes : AllBytes b) (h : Has mode b T ns) (eb : write mode T ns (length b) ≡ got b) where
+  module _ (b : List ℕ) (bytes : AllBytes b) (h : Has mode b T ns) (eb : write mode T ns (length b) ≡ accept b) where
     shortest : (s : List ℕ) → AllBytes s → Has mode s T ns → length b ≤ length s
     shortest = demand-2 mode T ns .least (length b) b eb
 
-    written-says : length b ≤ length out → WSays (got b)
+    written-says : length b ≤ length out → WSays (accept b)
     unfolding written outputAfter
     written-says le =
         let f = sym (over-front b out) in
@@ -281,7 +281,7 @@ module _ (mode : Mode) (T : Lent) (ns out : List ℕ) where
           given-room = λ s c k l. refl;
         }
 
-    short-says : length out < length b → WSays (bad 11 (length b))
+    short-says : length out < length b → WSays (reject 11 (length b))
     unfolding written outputAfter
     short-says lt = record {
       numbers = inr (inl refl);
@@ -313,23 +313,23 @@ module _ (mode : Mode) (T : Lent) (ns out : List ℕ) where
 -- ---- clearer
 
 module _ (s : List ℕ) (bytes : AllBytes s) (out : List ℕ) where
-  abbrev CSays : Out (List ℕ) → Type 0
+  abbrev CSays : Result (List ℕ) → Type 0
   CSays o = ClearerSays s out (written o) (outputAfter o out)
 
-  module _ (o : Out (List ℕ)) (e : clear s (length out) ≡ o) where
-    cleared-again : (t : Scene) → judge Lenient s ≡ got t → (out′ : List ℕ) → length out ≡ length out′ → clear (copy t) (length out′) ≡ o
+  module _ (o : Result (List ℕ)) (e : clear s (length out) ≡ o) where
+    cleared-again : (t : Scene) → judge Lenient s ≡ accept t → (out′ : List ℕ) → length out ≡ length out′ → clear (copy t) (length out′) ≡ o
     cleared-again t et out′ l = demand-3 s bytes .again t et (length out′) ∙ ap (clear s) (sym l) ∙ e
 
-    answer-again : (t : Scene) → judge Lenient s ≡ got t → (out′ : List ℕ) → length out ≡ length out′ → clearAnswer (copy t) out′ ≡ written o
+    answer-again : (t : Scene) → judge Lenient s ≡ accept t → (out′ : List ℕ) → length out ≡ length out′ → clearAnswer (copy t) out′ ≡ written o
     unfolding clearAnswer
     answer-again t et out′ l = ap written (cleared-again t et out′ l)
 
-    output-again : (t : Scene) → judge Lenient s ≡ got t → (out′ : List ℕ) → length out ≡ length out′ → clearOutput (copy t) out′ ≡ outputAfter o out′
+    output-again : (t : Scene) → judge Lenient s ≡ accept t → (out′ : List ℕ) → length out ≡ length out′ → clearOutput (copy t) out′ ≡ outputAfter o out′
     unfolding clearOutput
-    output-again t et out′ l = ap (λ (x : Out (List ℕ)). outputAfter x out′) (cleared-again t et out′ l)
+    output-again t et out′ l = ap (λ (x : Result (List ℕ)). outputAfter x out′) (cleared-again t et out′ l)
 
-  module _ (t : Scene) (et : judge Lenient s ≡ got t) where
-    same-length : (u : Scene) → judge Lenient s ≡ got u → length (copy t) ≡ length (copy u)
+  module _ (t : Scene) (et : judge Lenient s ≡ accept t) where
+    same-length : (u : Scene) → judge Lenient s ≡ accept u → length (copy t) ≡ length (copy u)
     same-length u eu = ap (λ (x : Scene). length (copy x)) (got-inj (sym et ∙ eu))
 
     emptied-count : (k : ℕ) → (emptied t) .count k ≡ length (rows k t)
@@ -341,7 +341,7 @@ module _ (s : List ℕ) (bytes : AllBytes s) (out : List ℕ) where
         has-back Lenient (copy t) (demand-3 s bytes .bytes t et) (emptied t) ns (demand-3 s bytes .emptied-has t et ns) xs
         (all-map (λ k. width k * length (rows k t) ≤ length (xs k)) _ (λ k f. subst (λ (n : ℕ). width k * n ≤ length (xs k)) (sym (emptied-count k)) f) tables fits)
 
-    copy-says : length (copy t) ≤ length out → CSays (got (copy t))
+    copy-says : length (copy t) ≤ length out → CSays (accept (copy t))
     unfolding written outputAfter
     copy-says le =
         let e = demand-3 s bytes .enough t et (length out) le in
@@ -357,11 +357,11 @@ module _ (s : List ℕ) (bytes : AllBytes s) (out : List ℕ) where
           enough = λ u eu l. refl;
           first = λ n p eb. bad-got (sym eb ∙ et);
           ten = λ z. absurd (omega arith);
-          again = answer-again (got (copy t)) e;
-          again-bytes = λ u eu out′ l z. ap (take (length (copy t))) (output-again (got (copy t)) e u eu out′ l) ∙ over-front (copy t) out′ ∙ ap copy (got-inj (sym et ∙ eu));
+          again = answer-again (accept (copy t)) e;
+          again-bytes = λ u eu out′ l z. ap (take (length (copy t))) (output-again (accept (copy t)) e u eu out′ l) ∙ over-front (copy t) out′ ∙ ap copy (got-inj (sym et ∙ eu));
         }
 
-    copy-short-says : length out < length (copy t) → CSays (bad 11 (length (copy t)))
+    copy-short-says : length out < length (copy t) → CSays (reject 11 (length (copy t)))
     unfolding written outputAfter
     copy-short-says lt =
         let e = demand-3 s bytes .short t et (length out) lt in
@@ -375,11 +375,11 @@ module _ (s : List ℕ) (bytes : AllBytes s) (out : List ℕ) where
           enough = λ u eu l. absurd (omega (arith, same-length u eu));
           first = λ n p eb. bad-got (sym eb ∙ et);
           ten = λ z. absurd (omega arith);
-          again = answer-again (bad 11 (length (copy t))) e;
+          again = answer-again (reject 11 (length (copy t))) e;
           again-bytes = λ u eu out′ l z. absurd (omega arith);
         }
 
-  refused-says : (n p : ℕ) → judge Lenient s ≡ bad n p → CSays (bad n p)
+  refused-says : (n p : ℕ) → judge Lenient s ≡ reject n p → CSays (reject n p)
   unfolding written outputAfter
   refused-says n p eb =
       let h = judge-number Lenient s n p eb in
@@ -392,27 +392,27 @@ module _ (s : List ℕ) (bytes : AllBytes s) (out : List ℕ) where
         short = λ u eu l. bad-got (sym eb ∙ eu);
         enough = λ u eu l. bad-got (sym eb ∙ eu);
         first = λ m q em. let x : n ≡ m = bad-number (sym eb ∙ em) in let y : p ≡ q = bad-place (sym eb ∙ em) in ap₂ (λ (i j : ℕ). record { number = i; place = j; size = 0 }) x y;
-        ten = λ z. judge-ten Lenient s p (eb ∙ ap (λ (i : ℕ). bad i p) z);
+        ten = λ z. judge-ten Lenient s p (eb ∙ ap (λ (i : ℕ). reject i p) z);
         again = λ u eu. bad-got (sym eb ∙ eu);
         again-bytes = λ u eu. bad-got (sym eb ∙ eu);
       }
     where
-      bad-number : {m q : ℕ} → _≡_ {A = Out Scene} (bad n p) (bad m q) → n ≡ m
+      bad-number : {m q : ℕ} → _≡_ {A = Result Scene} (reject n p) (reject m q) → n ≡ m
       bad-number e = cc
 
-      bad-place : {m q : ℕ} → _≡_ {A = Out Scene} (bad n p) (bad m q) → p ≡ q
+      bad-place : {m q : ℕ} → _≡_ {A = Result Scene} (reject n p) (reject m q) → p ≡ q
       bad-place e = cc
 
   pub clearer-says : ClearerSays s out (clearAnswer s out) (clearOutput s out)
   unfolding clearAnswer clearOutput
   clearer-says = by (judge Lenient s) refl
     where
-      by : (o : Out Scene) → judge Lenient s ≡ o → ClearerSays s out (written (clear s (length out))) (outputAfter (clear s (length out)) out)
-      by (got t) e =
+      by : (o : Result Scene) → judge Lenient s ≡ o → ClearerSays s out (written (clear s (length out))) (outputAfter (clear s (length out)) out)
+      by (accept t) e =
           by-test (leb (length (copy t)) (length out))
           (λ h. let le = leb→le (length (copy t)) (length out) h in subst CSays (sym (demand-3 s bytes .enough t e (length out) le)) (copy-says t e le))
           (λ h. let lt = nleb→lt (length (copy t)) (length out) h in subst CSays (sym (demand-3 s bytes .short t e (length out) lt)) (copy-short-says t e lt))
-      by (bad n p) e = subst CSays (sym (demand-3 s bytes .first n p e (length out))) (refused-says n p e)
+      by (reject n p) e = subst CSays (sym (demand-3 s bytes .first n p e (length out))) (refused-says n p e)
 
 -- ---- two files
 
@@ -456,7 +456,7 @@ is-alike s v a = record {
 }
 
 -- what is left in the output is the copy
-copy-in : (s : List ℕ) → AllBytes s → (out : List ℕ) → (clearAnswer s out) .number ≡ 0 → (t : Scene) → judge Lenient s ≡ got t → copyIn s out ≡ copy t
+copy-in : (s : List ℕ) → AllBytes s → (out : List ℕ) → (clearAnswer s out) .number ≡ 0 → (t : Scene) → judge Lenient s ≡ accept t → copyIn s out ≡ copy t
 copy-in s b out z t e = let c = clearer-says s b out .zero z .1 in c .2 ∙ ap copy (got-inj (sym (c .1) ∙ e))
 
 module _ (s v : List ℕ) (bs : AllBytes s) (bv : AllBytes v) (out out′ : List ℕ) where
@@ -473,7 +473,7 @@ module _ (s v : List ℕ) (bs : AllBytes s) (bv : AllBytes v) (out out′ : List
     bytes = λ z. begin-same a z (ap (λ (w : Written). w .number) (sym (one-answer a l)) ∙ z);
   }
 
-  module _ (t u : Scene) (et : judge Lenient s ≡ got t) (eu : judge Lenient v ≡ got u) (le : length (copy t) ≤ length out) (le′ : length (copy u) ≤ length out′) where
+  module _ (t u : Scene) (et : judge Lenient s ≡ accept t) (eu : judge Lenient v ≡ accept u) (le : length (copy t) ≤ length out) (le′ : length (copy u) ≤ length out′) where
     abbrev zero-one : (clearAnswer s out) .number ≡ 0
     zero-one = clearer-says s bs out .enough t et le
 
@@ -491,7 +491,7 @@ module _ (s v : List ℕ) (bs : AllBytes s) (bv : AllBytes v) (out out′ : List
 
 -- ---- read, then written
 
-module _ (mode : Mode) (xs : ℕ → List ℕ) (s : List ℕ) (bytes : AllBytes s) (t : Scene) (e : read mode (λ k. length (xs k)) s ≡ got t) (out : List ℕ) where
+module _ (mode : Mode) (xs : ℕ → List ℕ) (s : List ℕ) (bytes : AllBytes s) (t : Scene) (e : read mode (λ k. length (xs k)) s ≡ accept t) (out : List ℕ) where
   rewrite-zero : length s ≤ length out → (writeAnswer mode (filled mode xs s) s out) .number ≡ 0
   rewrite-zero = writer-says mode (filled mode xs s) s out .given-room s bytes (filled-has mode xs s bytes t e)
 

@@ -3,7 +3,7 @@ use mathlib.Core.Path.{_≡_}
 use Prim.Native.Nat.{ℕ, _*_, _≤_}
 use mathlib.Core.List.{List}
 use lib.ListN.{length}
-use Rattle.layout.specs.Out.{got, bad}
+use Rattle.layout.specs.Result.{accept, reject}
 use Rattle.b3d_spec.specs.declared.Mode.{Mode}
 use Rattle.b3d_spec.specs.Answers.{judge, read, answer, tableAfter, readAnswer, readTable}
 use Rattle.b3d_spec.specs.Rules.{rowLimit}
@@ -14,11 +14,11 @@ use Rattle.b3d_spec.proofs.AnswerLaws.{judge-got, judge-yes, judge-first, read-
 use Rattle.b3d_spec_demands.specs.Demands.{Lowest, Reading}
 use Rattle.b3d_spec_demands.proofs.Lowest.{is-lowest, names-at}
 
-too-many : (mode : Mode) (s : List ℕ) (t : Scene) → parse mode s ≡ got t → (p : ℕ) → Lowest (λ k. length (rows k t) ≤ rowLimit) p → judge mode s ≡ bad 10 p
+too-many : (mode : Mode) (s : List ℕ) (t : Scene) → parse mode s ≡ accept t → (p : ℕ) → Lowest (λ k. length (rows k t) ≤ rowLimit) p → judge mode s ≡ reject 10 p
 unfolding judge
 too-many mode s t e p h = rw (e, is-lowest 10 (λ k. length (rows k t)) (λ k. rowLimit) p h)
 
-too-short : (mode : Mode) (room : ℕ → ℕ) (s : List ℕ) (t : Scene) → judge mode s ≡ got t → (p : ℕ) → Lowest (λ k. width k * length (rows k t) ≤ room k) p → read mode room s ≡ bad 11 p
+too-short : (mode : Mode) (room : ℕ → ℕ) (s : List ℕ) (t : Scene) → judge mode s ≡ accept t → (p : ℕ) → Lowest (λ k. width k * length (rows k t) ≤ room k) p → read mode room s ≡ reject 11 p
 unfolding read
 too-short mode room s t e p h = rw (e, is-lowest 11 (λ k. width k * length (rows k t)) room p h)
 

@@ -9,7 +9,7 @@ use lib.ListN.{length}
 use lib.Dec.{T, leb, leb→le, nleb→lt}
 use borrow.Author.Tests.{lt-leb, le-leb}
 use Rattle.wire.specs.Bytes.{AllBytes}
-use Rattle.layout.specs.Out.{got, bad, check, _>>=_}
+use Rattle.layout.specs.Result.{accept, reject, check, _>>=_}
 use Rattle.layout.proofs.Lists.{All, all-map, all-zip}
 use Rattle.layout.proofs.Outs.{by-test, bad-got}
 use Rattle.layout.proofs.PlaceLaws.{NameIn}
@@ -68,11 +68,11 @@ module _ (mode : Mode) (L : Lent) (ns : List ℕ) where
     unfolding write shortest check
     sound-room room = rw (e, le-leb (length (encode t)) mostBytes le)
 
-    sound-enough : (room : ℕ) → length (encode t) ≤ room → write mode L ns room ≡ got (encode t)
+    sound-enough : (room : ℕ) → length (encode t) ≤ room → write mode L ns room ≡ accept (encode t)
     unfolding roomFor check
     sound-enough room h = sound-room room ∙ rw (le-leb (length (encode t)) room h)
 
-    sound-short : (room : ℕ) → room < length (encode t) → write mode L ns room ≡ bad 11 (length (encode t))
+    sound-short : (room : ℕ) → room < length (encode t) → write mode L ns room ≡ reject 11 (length (encode t))
     unfolding roomFor check
     sound-short room h = sound-room room ∙ rw (lt-leb (length (encode t)) room h)
 
@@ -81,7 +81,7 @@ module _ (mode : Mode) (L : Lent) (ns : List ℕ) where
     abbrev theirs : Scene
     theirs = placed mode s b L ns h
 
-    parsed : parse mode s ≡ got (h .scene)
+    parsed : parse mode s ≡ accept (h .scene)
     parsed = judge-got mode s (h .scene) (h .accepted) .0
 
     no-longer : length (encode theirs) ≤ length s
@@ -90,39 +90,39 @@ module _ (mode : Mode) (L : Lent) (ns : List ℕ) where
     pub has-written : (room : ℕ) → write mode L ns room ≡ roomFor room (encode theirs)
     has-written = let a = parse-size s (h .scene) (mode-got mode s (h .scene) parsed .0) in let l = no-longer in sound-room theirs (has-rebuild mode s b L ns h) (omega arith)
 
-    has-room : (room : ℕ) → length (encode theirs) ≤ room → write mode L ns room ≡ got (encode theirs)
+    has-room : (room : ℕ) → length (encode theirs) ≤ room → write mode L ns room ≡ accept (encode theirs)
     has-room = let a = parse-size s (h .scene) (mode-got mode s (h .scene) parsed .0) in let l = no-longer in sound-enough theirs (has-rebuild mode s b L ns h) (omega arith)
 
-    has-short : (room : ℕ) → room < length (encode theirs) → write mode L ns room ≡ bad 11 (length (encode theirs))
+    has-short : (room : ℕ) → room < length (encode theirs) → write mode L ns room ≡ reject 11 (length (encode theirs))
     has-short = let a = parse-size s (h .scene) (mode-got mode s (h .scene) parsed .0) in let l = no-longer in sound-short theirs (has-rebuild mode s b L ns h) (omega arith)
 
-    not-unsound : (room : ℕ) → write mode L ns room ≡ bad 12 0 → ⊥
+    not-unsound : (room : ℕ) → write mode L ns room ≡ reject 12 0 → ⊥
     not-unsound room e =
         by-test (leb (length (encode theirs)) room)
         (λ t. bad-got (sym e ∙ has-room room (leb→le (length (encode theirs)) room t)))
-        (λ t. let q : bad 11 (length (encode theirs)) ≡ bad 12 0 = sym (has-short room (nleb→lt (length (encode theirs)) room t)) ∙ e in
+        (λ t. let q : reject 11 (length (encode theirs)) ≡ reject 12 0 = sym (has-short room (nleb→lt (length (encode theirs)) room t)) ∙ e in
         let z : _≡_ {A = ℕ} 11 12 = cc in absurd (omega arith))
 
   -- what is refused other than as unsound has a file
-  sound-or-not : (room : ℕ) → (write mode L ns room ≡ bad 12 0) ⊎ ((t : Scene) × (rebuild mode L ns ≡ some t) × (length (encode t) ≤ mostBytes))
+  sound-or-not : (room : ℕ) → (write mode L ns room ≡ reject 12 0) ⊎ ((t : Scene) × (rebuild mode L ns ≡ some t) × (length (encode t) ≤ mostBytes))
   unfolding write shortest check
   sound-or-not room = by (rebuild mode L ns) refl
     where
-      by : (o : Option Scene) → rebuild mode L ns ≡ o → ((shortest o >>= roomFor room) ≡ bad 12 0) ⊎ ((t : Scene) × (rebuild mode L ns ≡ some t) × (length (encode t) ≤ mostBytes))
+      by : (o : Option Scene) → rebuild mode L ns ≡ o → ((shortest o >>= roomFor room) ≡ reject 12 0) ⊎ ((t : Scene) × (rebuild mode L ns ≡ some t) × (length (encode t) ≤ mostBytes))
       by none e = inl refl
       by (some t) e =
           by-test (leb (length (encode t)) mostBytes) (λ h. inr (t, e, leb→le (length (encode t)) mostBytes h))
           (λ h. inl (rw (lt-leb (length (encode t)) mostBytes (nleb→lt (length (encode t)) mostBytes h))))
 
   -- unsound, or a file that has them is written where it has room
-  pub verdict : (room : ℕ) → (write mode L ns room ≡ bad 12 0) ⊎ ((b : List ℕ) × AllBytes b × Has mode b L ns × ((r : ℕ) → write mode L ns r ≡ roomFor r b))
+  pub verdict : (room : ℕ) → (write mode L ns room ≡ reject 12 0) ⊎ ((b : List ℕ) × AllBytes b × Has mode b L ns × ((r : ℕ) → write mode L ns r ≡ roomFor r b))
   verdict room = elim (sound-or-not room) [ inl e ↦ inl e | inr x ↦ inr (encode (x .0), file-bytes (x .0) (rebuild-fine mode ns L (x .0) (x .1) .0), written-has (x .0) (x .1) (x .2), sound-room (x .0) (x .1) (x .2)) ]
 
-got-has : (mode : Mode) (L : Lent) (ns : List ℕ) (room : ℕ) (b : List ℕ) → write mode L ns room ≡ got b → Has mode b L ns
+got-has : (mode : Mode) (L : Lent) (ns : List ℕ) (room : ℕ) (b : List ℕ) → write mode L ns room ≡ accept b → Has mode b L ns
 got-has mode L ns room b e = let x = write-got mode L ns room b e in subst (λ (c : List ℕ). Has mode c L ns) (x .2) (written-has mode L ns (x .0) (x .1) (rw (x .2) (x .3)))
 
 -- a file that has the tables is read into tables of the counted rows
-pub has-read : (mode : Mode) (s : List ℕ) (L : Lent) (ns : List ℕ) (h : Has mode s L ns) (rooms : ℕ → ℕ) → All (λ k. width k * L .count k ≤ rooms k) tables → read mode rooms s ≡ got (h .scene)
+pub has-read : (mode : Mode) (s : List ℕ) (L : Lent) (ns : List ℕ) (h : Has mode s L ns) (rooms : ℕ → ℕ) → All (λ k. width k * L .count k ≤ rooms k) tables → read mode rooms s ≡ accept (h .scene)
 unfolding lentRows
 has-read mode s L ns h rooms fits =
     read-yes mode rooms s (h .scene) (h .accepted)
@@ -140,7 +140,7 @@ demand-2 mode L ns = record {
       let x = write-got mode L ns room b e in
       let same : x .0 ≡ placed mode s c L ns h = some-inj (sym (x .1) ∙ has-rebuild mode s c L ns h) in
       subst (λ (d : List ℕ). length d ≤ length s) (sym (ap encode same) ∙ x .2) (no-longer mode L ns s c h);
-  enough = λ room b e more h. let x = write-got mode L ns room b e in sound-enough mode L ns (x .0) (x .1) (rw (x .2) (x .3)) more (rw (x .2) h) ∙ ap got (x .2);
-  short = λ room b e less h. let x = write-got mode L ns room b e in sound-short mode L ns (x .0) (x .1) (rw (x .2) (x .3)) less (rw (x .2) h) ∙ ap (λ (c : List ℕ). bad 11 (length c)) (x .2);
+  enough = λ room b e more h. let x = write-got mode L ns room b e in sound-enough mode L ns (x .0) (x .1) (rw (x .2) (x .3)) more (rw (x .2) h) ∙ ap accept (x .2);
+  short = λ room b e less h. let x = write-got mode L ns room b e in sound-short mode L ns (x .0) (x .1) (rw (x .2) (x .3)) less (rw (x .2) h) ∙ ap (λ (c : List ℕ). reject 11 (length c)) (x .2);
   given-room = λ s b h. (encode (placed mode s b L ns h), has-room mode L ns s b h (length s) (no-longer mode L ns s b h));
 }

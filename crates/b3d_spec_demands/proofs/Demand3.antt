@@ -9,13 +9,13 @@ use lib.Dec.{leb}
 use borrow.Author.Tests.{lt-leb, le-leb}
 use Rattle.wire.specs.Bytes.{AllBytes}
 use Rattle.wire.specs.Test.{if}
-use Rattle.layout.specs.Out.{got, bad, check}
+use Rattle.layout.specs.Result.{accept, reject, check}
 use Rattle.layout.proofs.Lists.{All, all-map, all-zip}
 use Rattle.layout.proofs.Outs.{got-inj}
 use Rattle.b3d_spec.specs.declared.Mode.the-variants.{Lenient}
 use Rattle.b3d_spec.specs.Answers.{judge, read, roomFor, write, copy, clear}
 use Rattle.b3d_spec.specs.Encode.{encode}
-use Rattle.b3d_spec.specs.Names.{rename, cleared, bare, named, unplaced, unnamed, nameOff}
+use Rattle.b3d_spec.specs.Names.{rename, cleared, withoutPlaces, named, unplaced, unnamed, nameOff}
 use Rattle.b3d_spec.specs.Rebuild.{Lent, cut, lentRows, names}
 use Rattle.b3d_spec.specs.Rules.{rowLimit}
 use Rattle.b3d_spec.specs.Scene.{Scene}
@@ -38,16 +38,16 @@ use Rattle.b3d_spec_demands.proofs.Having.{named-length, placed, placed
 use Rattle.b3d_spec_demands.proofs.Names.{same-names}
 use Rattle.b3d_spec_demands.proofs.Demand2.{has-written}
 
-module _ (s : List ℕ) (t : Scene) (e : judge Lenient s ≡ got t) where
+module _ (s : List ℕ) (t : Scene) (e : judge Lenient s ≡ accept t) where
   clear-is : (room : ℕ) → clear s room ≡ roomFor room (copy t)
   unfolding clear
   clear-is room = rw e
 
-  clear-enough : (room : ℕ) → length (copy t) ≤ room → clear s room ≡ got (copy t)
+  clear-enough : (room : ℕ) → length (copy t) ≤ room → clear s room ≡ accept (copy t)
   unfolding roomFor check
   clear-enough room h = clear-is room ∙ rw (le-leb (length (copy t)) room h)
 
-  clear-short : (room : ℕ) → room < length (copy t) → clear s room ≡ bad 11 (length (copy t))
+  clear-short : (room : ℕ) → room < length (copy t) → clear s room ≡ reject 11 (length (copy t))
   unfolding roomFor check
   clear-short room h = clear-is room ∙ rw (lt-leb (length (copy t)) room h)
 
@@ -58,7 +58,7 @@ module _ (s : List ℕ) (t : Scene) (e : judge Lenient s ≡ got t) where
 
     copy-cells : All (λ k. named unplaced k (rows k (copy-read .scene)) ≡ named unnamed k (rows k t)) tables
     copy-cells =
-        all-zip (λ k. rows k (bare (copy-read .scene)) ≡ named unplaced k (rows k (copy-read .scene))) (λ k. rows k (cleared t) ≡ named unnamed k (rows k t)) _
+        all-zip (λ k. rows k (withoutPlaces (copy-read .scene)) ≡ named unplaced k (rows k (copy-read .scene))) (λ k. rows k (cleared t) ≡ named unnamed k (rows k t)) _
         (λ k x y. sym x ∙ ap (rows k) (copy-read .is-cleared) ∙ y) tables (bare-rows (copy-read .scene)) (cleared-rows t)
 
     copy-many : All (λ k. length (rows k (copy-read .scene)) ≡ length (rows k t)) tables
@@ -66,19 +66,19 @@ module _ (s : List ℕ) (t : Scene) (e : judge Lenient s ≡ got t) where
         all-map (λ k. named unplaced k (rows k (copy-read .scene)) ≡ named unnamed k (rows k t)) _
         (λ k a. sym (named-length unplaced k (rows k (copy-read .scene))) ∙ ap length a ∙ named-length unnamed k (rows k t)) tables copy-cells
 
-    copy-accepted : judge Lenient (copy t) ≡ got (copy-read .scene)
+    copy-accepted : judge Lenient (copy t) ≡ accept (copy-read .scene)
     unfolding copy
     copy-accepted =
         judge-yes Lenient (encode (cleared t)) (copy-read .scene) (copy-read .accepted)
         (all-zip (λ k. length (rows k (copy-read .scene)) ≡ length (rows k t)) (λ k. length (rows k t) ≤ rowLimit) _ (λ k a few. omega (arith, a, few)) tables copy-many (judge-got Lenient s t e .1))
 
-    copy-fits : (rooms : ℕ → ℕ) → All (λ k. width k * length (rows k t) ≤ rooms k) tables → read Lenient rooms (copy t) ≡ got (copy-read .scene)
+    copy-fits : (rooms : ℕ → ℕ) → All (λ k. width k * length (rows k t) ≤ rooms k) tables → read Lenient rooms (copy t) ≡ accept (copy-read .scene)
     copy-fits rooms fits =
         read-yes Lenient rooms (copy t) (copy-read .scene) copy-accepted
         (all-zip (λ k. length (rows k (copy-read .scene)) ≡ length (rows k t)) (λ k. width k * length (rows k t) ≤ rooms k) _ (λ k a r. subst (λ (n : ℕ). width k * n ≤ rooms k) (sym a) r) tables copy-many fits)
 
     -- the scene read from the copy is that of the file but for names
-    copy-bare : bare (copy-read .scene) ≡ bare (cleared t)
+    copy-bare : withoutPlaces (copy-read .scene) ≡ withoutPlaces (cleared t)
     copy-bare = copy-read .is-cleared ∙ sym (bare-cleared t)
 
     copy-version : (copy-read .scene) .version ≡ t .version
@@ -106,7 +106,7 @@ module _ (s : List ℕ) (t : Scene) (e : judge Lenient s ≡ got t) where
       unfolding copy
       written-copy =
           let u = placed Lenient (copy t) copy-bytes L ns h in
-          sym (file-bare u) ∙ ap encode (placed-bare Lenient (copy t) copy-bytes L ns h ∙ ap bare same-scene ∙ copy-read .is-cleared)
+          sym (file-bare u) ∙ ap encode (placed-bare Lenient (copy t) copy-bytes L ns h ∙ ap withoutPlaces same-scene ∙ copy-read .is-cleared)
 
       copy-written : (room : ℕ) → write Lenient L ns room ≡ clear s room
       copy-written room = has-written Lenient L ns (copy t) copy-bytes h room ∙ ap (roomFor room) written-copy ∙ sym (clear-is room)
@@ -181,7 +181,7 @@ the-slots : (t u : Scene) → cleared t ≡ cleared u → t .slots ≡ u .slots
 unfolding cleared rename
 the-slots t u e = ap (λ (x : Scene). x .slots) e
 
-module _ (s v : List ℕ) (t u : Scene) (et : judge Lenient s ≡ got t) (eu : judge Lenient v ≡ got u) where
+module _ (s v : List ℕ) (t u : Scene) (et : judge Lenient s ≡ accept t) (eu : judge Lenient v ≡ accept u) where
   pub cleared-alike : cleared t ≡ cleared u → Alike s v
   cleared-alike e = record {
     one = t;
@@ -194,7 +194,7 @@ module _ (s v : List ℕ) (t u : Scene) (et : judge Lenient s ≡ got t) (eu : j
         (λ k a b. off-unnamed k (rows k t) (rows k u) (sym a ∙ ap (rows k) e ∙ b)) tables (cleared-rows t) (cleared-rows u);
   }
 
-copies-alike : (s v : List ℕ) (t u : Scene) → judge Lenient s ≡ got t → judge Lenient v ≡ got u → AllBytes s → AllBytes v → copy t ≡ copy u → Alike s v
+copies-alike : (s v : List ℕ) (t u : Scene) → judge Lenient s ≡ accept t → judge Lenient v ≡ accept u → AllBytes s → AllBytes v → copy t ≡ copy u → Alike s v
 unfolding copy
 copies-alike s v t u et eu bs bv e =
     let ps = judge-got Lenient s t et .0 in

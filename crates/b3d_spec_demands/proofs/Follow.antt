@@ -8,7 +8,7 @@ use lib.ListN.{length, take, drop, length-take}
 use lib.Seq.{take-at, drop-at}
 use lib.Dec.{leb, leb→le, nleb→lt}
 use Rattle.wire.specs.Bytes.{word}
-use Rattle.layout.specs.Out.{Out, got, _>>=_}
+use Rattle.layout.specs.Result.{Result, accept, _>>=_}
 use Rattle.layout.specs.Parts.{Name, Step, text, words, wordsOf, judged, row, named, itemsIn, items}
 use Rattle.layout.specs.Rules.{Rule, holds, refusal}
 use Rattle.layout.specs.Write.{writeText}
@@ -17,33 +17,33 @@ use Rattle.layout.proofs.PartLaws.{length-text}
 use Rattle.layout.proofs.StepLaws.{words-enough, words-short, Shrinks, items-step}
 use Rattle.b3d_spec_demands.specs.Private.{IsName}
 
-pub record Gives {A B : Type 0} (R : A → B → Type 0) (a : A) (o : Out B) : Type 0 where
+pub record Gives {A B : Type 0} (R : A → B → Type 0) (a : A) (o : Result B) : Type 0 where
   pub value : B
-  pub is : o ≡ got value
+  pub is : o ≡ accept value
   pub holds : R a value
 
-abbrev pub Follows : {A B : Type 0} → (A → B → Type 0) → Out A → Out B → Type 0
-Follows {A} R m o = (a : A) → m ≡ got a → Gives R a o
+abbrev pub Follows : {A B : Type 0} → (A → B → Type 0) → Result A → Result B → Type 0
+Follows {A} R m o = (a : A) → m ≡ accept a → Gives R a o
 
-pub follow-then : {A B C D : Type 0} (R : A → B → Type 0) (Q : C → D → Type 0) (m : Out A) (o : Out B) (k : A → Out C) (l : B → Out D)
-    → Follows R m o → ((a : A) (b : B) → m ≡ got a → R a b → Follows Q (k a) (l b)) → Follows Q (m >>= k) (o >>= l)
+pub follow-then : {A B C D : Type 0} (R : A → B → Type 0) (Q : C → D → Type 0) (m : Result A) (o : Result B) (k : A → Result C) (l : B → Result D)
+    → Follows R m o → ((a : A) (b : B) → m ≡ accept a → R a b → Follows Q (k a) (l b)) → Follows Q (m >>= k) (o >>= l)
 follow-then {A} {B} R Q m o k l h f c e =
     by-got m k e (λ a ea ek. let g = h a ea in
     let d = f a (g .value) ea (g .holds) c ek in
-    record { value = d .value; is = ap (λ (z : Out B). z >>= l) (g .is) ∙ d .is; holds = d .holds })
+    record { value = d .value; is = ap (λ (z : Result B). z >>= l) (g .is) ∙ d .is; holds = d .holds })
 
-pub follow-bind : {A B C D : Type 0} (R : A → B → Type 0) (Q : C → D → Type 0) (m : Out A) (o : Out B) (k : A → Out C) (l : B → Out D)
+pub follow-bind : {A B C D : Type 0} (R : A → B → Type 0) (Q : C → D → Type 0) (m : Result A) (o : Result B) (k : A → Result C) (l : B → Result D)
     → Follows R m o → ((a : A) (b : B) → R a b → Follows Q (k a) (l b)) → Follows Q (m >>= k) (o >>= l)
 follow-bind R Q m o k l h f = follow-then R Q m o k l h (λ a b ea. f a b)
 
-pub follow-got : {A B : Type 0} (R : A → B → Type 0) (a : A) (b : B) → R a b → Follows R (got a) (got b)
+pub follow-got : {A B : Type 0} (R : A → B → Type 0) (a : A) (b : B) → R a b → Follows R (accept a) (accept b)
 follow-got {A} R a b h x e = record { value = b; is = refl; holds = subst (λ (z : A). R z b) (got-inj e) h }
 
 -- of readings that are the same as these
-pub follow-same : {A B : Type 0} (R : A → B → Type 0) {m n : Out A} {o q : Out B} → m ≡ n → o ≡ q → Follows R n q → Follows R m o
+pub follow-same : {A B : Type 0} (R : A → B → Type 0) {m n : Result A} {o q : Result B} → m ≡ n → o ≡ q → Follows R n q → Follows R m o
 follow-same R e f h a ea = let g = h a (sym e ∙ ea) in record { value = g .value; is = f ∙ g .is; holds = g .holds }
 
-pub follow-map : {A B : Type 0} (R Q : A → B → Type 0) {m : Out A} {o : Out B} → ((a : A) (b : B) → R a b → Q a b) → Follows R m o → Follows Q m o
+pub follow-map : {A B : Type 0} (R Q : A → B → Type 0) {m : Result A} {o : Result B} → ((a : A) (b : B) → R a b → Q a b) → Follows R m o → Follows Q m o
 follow-map R Q f h a ea = let g = h a ea in record { value = g .value; is = g .is; holds = f a (g .value) (g .holds) }
 
 -- ---- words and rows
@@ -78,7 +78,7 @@ words-follow a b n p q s v t x e =
     (λ h. bad-got (sym (words-short a n p s (nleb→lt (4 * n) (length s) h)) ∙ e))
 
 -- words that keep their rules keep them at another place
-judged-again : {A B : Type 0} (rs : List Rule) (p q : ℕ) (ws : List ℕ) (a x : A) (b : B) → judged rs p ws a ≡ got x → (judged rs q ws b ≡ got b) × (a ≡ x)
+judged-again : {A B : Type 0} (rs : List Rule) (p q : ℕ) (ws : List ℕ) (a x : A) (b : B) → judged rs p ws a ≡ accept x → (judged rs q ws b ≡ accept b) × (a ≡ x)
 unfolding judged
 judged-again [] p q ws a x b e = (refl, got-inj e)
 judged-again (r ∷ rs) p q [] a x b e = (refl, got-inj e)
@@ -127,7 +127,7 @@ text-twice a b p q (suc c ∷ s) =
     follow-bind (Beside itself _≡_) (Beside itself _≡_) (text a (p + 1) s) (text b (q + 1) s) _ _ (text-twice a b (p + 1) (q + 1) s)
     (λ x y h. follow-got (Beside itself _≡_) _ _ (ap (λ (l : List ℕ). suc c ∷ l) (h .0), h .1))
 
-text-is : (a p : ℕ) (n r : List ℕ) → IsName n → (x : Step (List ℕ)) × (text a p (writeText n r) ≡ got x) × (x .left ≡ r)
+text-is : (a p : ℕ) (n r : List ℕ) → IsName n → (x : Step (List ℕ)) × (text a p (writeText n r) ≡ accept x) × (x .left ≡ r)
 unfolding text
 text-is a p [] r h = (record { value = []; place = p + 1; left = r }, refl, refl)
 text-is a p (zero ∷ n) r h = absurd (omega (arith, h .0))
@@ -166,14 +166,14 @@ module _ (L : List ℕ → List ℕ → Type 0) where
 
 -- ---- items
 
-module _ {A B : Type 0} (g : A → B) (read : ℕ → List ℕ → Out (Step A)) where
+module _ {A B : Type 0} (g : A → B) (read : ℕ → List ℕ → Result (Step A)) where
   abbrev pub Lists : List A → List A → Type 0
   Lists l m = map g l ≡ map g m
 
   -- an item, then the others
-  step-follow : (L : List ℕ → List ℕ → Type 0) (others : ℕ → List ℕ → Out (List A)) (p q : ℕ) (s v : List ℕ) → Follows (Beside g L) (read p s) (read q v)
+  step-follow : (L : List ℕ → List ℕ → Type 0) (others : ℕ → List ℕ → Result (List A)) (p q : ℕ) (s v : List ℕ) → Follows (Beside g L) (read p s) (read q v)
       → ((i j : ℕ) (a b : List ℕ) → L a b → Follows Lists (others i a) (others j b))
-      → Follows Lists (read p s >>= λ x. others (x .place) (x .left) >>= λ l. got (x .value ∷ l)) (read q v >>= λ x. others (x .place) (x .left) >>= λ l. got (x .value ∷ l))
+      → Follows Lists (read p s >>= λ x. others (x .place) (x .left) >>= λ l. accept (x .value ∷ l)) (read q v >>= λ x. others (x .place) (x .left) >>= λ l. accept (x .value ∷ l))
   step-follow L others p q s v one rest =
       follow-bind (Beside g L) Lists (read p s) (read q v) _ _ one (λ x y e.
       follow-bind Lists Lists (others (x .place) (x .left)) (others (y .place) (y .left)) _ _ (rest (x .place) (y .place) (x .left) (y .left) (e .1)) (λ l m k.

@@ -11,25 +11,25 @@ use lib.Dec.{T as True, leb}
 use mir.Facts.{yes-and}
 use Rattle.wire.specs.Bytes.{AllBytes}
 use Rattle.wire.specs.Test.{if}
-use Rattle.layout.specs.Fit.{all}
-use Rattle.layout.specs.Out.{got}
+use Rattle.layout.specs.WellFormed.{all}
+use Rattle.layout.specs.Result.{accept}
 use Rattle.layout.specs.Rules.{NONE}
 use Rattle.layout.proofs.Lists.{All, all-map, all-zip, all-append, all-left, all-right, all-of-map, all-from-map, cons-head, cons-tail}
 use Rattle.layout.proofs.Outs.{if-yes}
 use Rattle.layout.proofs.Testing.{all-is}
-use Rattle.b3d_spec.specs.Names.{renameTexture, renameBrush, renameForest, rename, bareName, bare, named, unplaced}
+use Rattle.b3d_spec.specs.Names.{renameTexture, renameBrush, renameForest, rename, bareName, withoutPlaces, named, unplaced}
 use Rattle.b3d_spec.specs.Colours.{passes}
 use Rattle.b3d_spec.specs.declared.Mode.{Mode}
 use Rattle.b3d_spec.specs.declared.Mode.the-variants.{Lenient}
 use Rattle.b3d_spec.specs.Parse.{parse}
-use Rattle.b3d_spec.specs.Rebuild.{Lent, cut, lentRows, roomy, together, nodeNames, names, sound, rebuild}
+use Rattle.b3d_spec.specs.Rebuild.{Lent, cut, lentRows, hasCountedRows, assembled, nodeNames, names, sound, rebuild}
 use Rattle.b3d_spec.specs.Rules.{rowLimit, levels}
-use Rattle.b3d_spec.specs.Scene.{Texture, Brush, Forest, leaf, node, Scene}
+use Rattle.b3d_spec.specs.Scene.{Texture, Brush, Forest, noNodes, node, Scene}
 use Rattle.b3d_spec.specs.Tables.{width, start, textureRow, brushRow, forestRows, rows, tables, nodeTables, partTables}
 use Rattle.b3d_spec.proofs.AnswerLaws.{judge-got}
 use Rattle.b3d_spec.proofs.Files.FileLaws.{parse-fine}
 use Rattle.b3d_spec.proofs.Files.PlaceLaws.{parse-names}
-use Rattle.b3d_spec.proofs.Fitting.{FitTexture, FitBrush, FitSlots, FitNodes, OneRoot, Fit}
+use Rattle.b3d_spec.proofs.Fitting.{FitTexture, FitBrush, FitSlots, FitNodes, OneRoot, WellFormed}
 use Rattle.b3d_spec.proofs.Modes.{mode-got, passes-same}
 use Rattle.b3d_spec.proofs.Join.{stand, all-in}
 use Rattle.layout.proofs.PlaceLaws.{NameIn}
@@ -88,13 +88,13 @@ module _ (s ns : List ℕ) where
 -- ---- one root
 
 named-root : (t : Forest) → OneRoot t → OneRoot (renameForest bareName t)
-named-root leaf h = tt
-named-root (node d f leaf) h = tt
+named-root noNodes h = tt
+named-root (node d f noNodes) h = tt
 named-root (node d f (node e g i)) h = absurd h
 
 root-named : (t : Forest) → OneRoot (renameForest bareName t) → OneRoot t
-root-named leaf h = tt
-root-named (node d f leaf) h = tt
+root-named noNodes h = tt
+root-named (node d f noNodes) h = tt
 root-named (node d f (node e g i)) h = absurd h
 
 -- ---- the scene of the lent tables
@@ -129,14 +129,14 @@ module _ (mode : Mode) (s : List ℕ) (bytes : AllBytes s) (T : Lent) (ns : List
   abbrev t : Scene
   t = h .scene
 
-  parsed : parse Lenient s ≡ got t
+  parsed : parse Lenient s ≡ accept t
   parsed = mode-got mode s t (judge-got mode s t (h .accepted) .0) .0
 
   -- the mode takes the colours of the lent tables
   lent-passes : True (passes mode (lentRows T))
   lent-passes = subst True (passes-same mode (λ k. rows k t) (lentRows T) (h .cells)) (mode-got mode s t (judge-got mode s t (h .accepted) .0) .1)
 
-  fit : Fit t
+  fit : WellFormed t
   fit = parse-fine s t bytes parsed .0
 
   stands : All (Stands s) (names t)
@@ -180,8 +180,8 @@ module _ (mode : Mode) (s : List ℕ) (bytes : AllBytes s) (T : Lent) (ns : List
   pub placed : Scene
   placed = record { version = t .version; textures = X .list; slots = t .slots; brushes = B .list; nodes = N .forest }
 
-  pub placed-bare : bare placed ≡ bare t
-  unfolding bare rename placed
+  pub placed-bare : withoutPlaces placed ≡ withoutPlaces t
+  unfolding withoutPlaces rename placed
   placed-bare i = record { version = t .version; textures = X .same i; slots = t .slots; brushes = B .same i; nodes = N .same i }
 
   slots-fit : (n : ℕ) (xs ys : List Brush) → map (renameBrush bareName) ys ≡ map (renameBrush bareName) xs → FitSlots n xs → FitSlots n ys
@@ -190,7 +190,7 @@ module _ (mode : Mode) (s : List ℕ) (bytes : AllBytes s) (T : Lent) (ns : List
   slots-fit n (x ∷ xs) [] e f = let z : _≡_ {A = ℕ} 0 (suc (length (map (renameBrush bareName) xs))) = ap length e in absurd (omega arith)
   slots-fit n (x ∷ xs) (y ∷ ys) e f = f
 
-  placed-fits : Fit placed
+  placed-fits : WellFormed placed
   unfolding placed
   placed-fits =
       let f = fit in
@@ -242,7 +242,7 @@ module _ (mode : Mode) (s : List ℕ) (bytes : AllBytes s) (T : Lent) (ns : List
   pub has-rebuild : rebuild mode T ns ≡ some placed
   unfolding rebuild placed
   has-rebuild =
-      let et : together ns T ≡ placed = together-back ns T placed placed-fits (sym (h .version)) (sym (h .slots)) placed-stands placed-rows in
+      let et : assembled ns T ≡ placed = together-back ns T placed placed-fits (sym (h .version)) (sym (h .slots)) placed-stands placed-rows in
       let ok = sound-is ns T placed .holds (placed-fits, (placed-stands, all-map (λ k. lentRows T k ≡ rows k placed) _ (λ k e. sym e) tables placed-rows)) in
-      if-yes (all (roomy T) tables) _ none (all-is (roomy-is T) tables .holds counted) ∙ ap (λ (x : Scene). if (passes mode (lentRows T) && sound ns T x) (some x) none) et
+      if-yes (all (hasCountedRows T) tables) _ none (all-is (roomy-is T) tables .holds counted) ∙ ap (λ (x : Scene). if (passes mode (lentRows T) && sound ns T x) (some x) none) et
       ∙ if-yes (passes mode (lentRows T) && sound ns T placed) (some placed) none (yes-and (passes mode (lentRows T)) (sound ns T placed) lent-passes ok)

@@ -10,7 +10,7 @@ use lib.Seq.{take-append-seam, getD-append-seam, getD-drop}
 use lib.Dec.{T, leb, leb→le, le→leb, nleb→lt}
 use Rattle.wire.specs.Test.{if}
 use Rattle.wire.specs.Bytes.{AllBytes}
-use Rattle.layout.specs.Out.{Out, got, bad, check, _>>=_}
+use Rattle.layout.specs.Result.{Result, accept, reject, check, _>>=_}
 use Rattle.layout.specs.Parts.{Name}
 use Rattle.layout.specs.Rules.{NONE}
 use Rattle.layout.proofs.Fitting.{FitText}
@@ -21,8 +21,8 @@ use Rattle.layout.specs.Rows.{eachOf, nameCells}
 use Rattle.b3d_spec.specs.declared.Mode.{Mode}
 use Rattle.b3d_spec.specs.declared.Counts.{Counts}
 use Rattle.b3d_spec.specs.Parse.{parse}
-use Rattle.b3d_spec.specs.Rules.{bonesBelow, levels}
-use Rattle.b3d_spec.specs.Scene.{Texture, Brush, Forest, leaf, node, Scene}
+use Rattle.b3d_spec.specs.Rules.{boneLimitBelow, levels}
+use Rattle.b3d_spec.specs.Scene.{Texture, Brush, Forest, noNodes, node, Scene}
 use Rattle.b3d_spec.specs.Tables.{start, textureRow, brushRow, nodeRow, ownRows, withNode, withForest, forestRows, rows, tables, nodeTables}
 use Rattle.b3d_spec.proofs.Laws.{fine}
 use Rattle.b3d_spec.proofs.Files.PlaceLaws.{NodeNames}
@@ -46,12 +46,12 @@ record First (ok : ℕ → Bool) (a : ℕ) (ks : List ℕ) (p : ℕ) : Type 0 wh
   before : (k : ℕ) → a ≤ k → k < p → T (ok k)
 
 module _ (n : ℕ) (ok : ℕ → Bool) where
-  each-bad : (a : ℕ) (ks : List ℕ) → Run a ks → (m p : ℕ) → eachOf n ok ks ≡ bad m p → (m ≡ n) × First ok a ks p
+  each-bad : (a : ℕ) (ks : List ℕ) → Run a ks → (m p : ℕ) → eachOf n ok ks ≡ reject m p → (m ≡ n) × First ok a ks p
   unfolding eachOf check
   each-bad a [] r m p e = bad-got (sym e)
   each-bad a (k ∷ ks) r m p e = by (each-bad (suc a) ks (r .1) m p) (ok k) refl e
     where
-      by : (eachOf n ok ks ≡ bad m p → (m ≡ n) × First ok (suc a) ks p) → (b : Bool) → ok k ≡ b → (check b n k >>= λ u. eachOf n ok ks) ≡ bad m p → (m ≡ n) × First ok a (k ∷ ks) p
+      by : (eachOf n ok ks ≡ reject m p → (m ≡ n) × First ok (suc a) ks p) → (b : Bool) → ok k ≡ b → (check b n k >>= λ u. eachOf n ok ks) ≡ reject m p → (m ≡ n) × First ok a (k ∷ ks) p
       by rest true q f =
           let h = rest f in
           let c = h .1 in (
@@ -76,12 +76,12 @@ module _ (n : ℕ) (ok : ℕ → Bool) where
             },
           )
 
-  each-first : (a : ℕ) (ks : List ℕ) → Run a ks → (p : ℕ) → First ok a ks p → eachOf n ok ks ≡ bad n p
+  each-first : (a : ℕ) (ks : List ℕ) → Run a ks → (p : ℕ) → First ok a ks p → eachOf n ok ks ≡ reject n p
   unfolding eachOf check
   each-first a [] r p h = absurd (omega (arith, h .from, h .to))
   each-first a (k ∷ ks) r p h = by (each-first (suc a) ks (r .1) p) (ok k) refl
     where
-      by : (First ok (suc a) ks p → eachOf n ok ks ≡ bad n p) → (b : Bool) → ok k ≡ b → (check b n k >>= λ u. eachOf n ok ks) ≡ bad n p
+      by : (First ok (suc a) ks p → eachOf n ok ks ≡ reject n p) → (b : Bool) → ok k ≡ b → (check b n k >>= λ u. eachOf n ok ks) ≡ reject n p
       by rest true q =
           by-test (leb (suc a) p)
           (λ t. rest (record { from = leb→le (suc a) p t; to = omega (arith, h .to); fails = h .fails; before = λ j l u. h .before j (omega arith) u }))
@@ -89,24 +89,24 @@ module _ (n : ℕ) (ok : ℕ → Bool) where
       by rest false q =
           by-test (leb (suc a) p)
           (λ t. let le = leb→le (suc a) p t in absurd (subst T q (h .before k (omega (arith, r .0)) (omega (arith, r .0)))))
-          (λ t. let z = nleb→lt (suc a) p t in let ek : k ≡ p = omega (arith, r .0, h .from) in ap (λ (i : ℕ). bad n i) ek)
+          (λ t. let z = nleb→lt (suc a) p t in let ek : k ≡ p = omega (arith, r .0, h .from) in ap (λ (i : ℕ). reject n i) ek)
 
 ten-run : Run 1 tables
 unfolding tables nodeTables
 ten-run = (refl, (refl, (refl, (refl, (refl, (refl, (refl, (refl, (refl, (refl, tt))))))))))
 
 module _ (n : ℕ) (size most : ℕ → ℕ) where
-  abbrev held : Out (Unit {0})
+  abbrev held : Result (Unit {0})
   held = eachOf n (λ k. leb (size k) (most k)) tables
 
-  pub lowest-is : (m p : ℕ) → held ≡ bad m p → (m ≡ n) × Lowest (λ k. size k ≤ most k) p
+  pub lowest-is : (m p : ℕ) → held ≡ reject m p → (m ≡ n) × Lowest (λ k. size k ≤ most k) p
   unfolding tables nodeTables
   lowest-is m p e =
       let h = each-bad n (λ k. leb (size k) (most k)) 1 tables ten-run m p e in
       let c = h .1 in
       (h .0, record { from = c .from; to = omega (arith, c .to); fails = λ le. c .fails (le→leb (size p) (most p) le); before = λ k a b. leb→le (size k) (most k) (c .before k a b) })
 
-  pub is-lowest : (p : ℕ) → Lowest (λ k. size k ≤ most k) p → held ≡ bad n p
+  pub is-lowest : (p : ℕ) → Lowest (λ k. size k ≤ most k) p → held ≡ reject n p
   unfolding tables nodeTables
   is-lowest p h =
       each-first n (λ k. leb (size k) (most k)) 1 tables ten-run p
@@ -127,16 +127,16 @@ name-at s n w h f =
 
 nodes-at : (s : List ℕ) (f : Forest) (l b : ℕ) (above : Option ℕ) (p : ℕ) (n : Counts) → NodeNames s f → FitNodes l b above f → All (NameAt s) (forestRows 3 f p n)
 unfolding forestRows ownRows nodeRow if
-nodes-at s leaf l b above p n h k = tt
+nodes-at s noNodes l b above p n h k = tt
 nodes-at s (node d ch sib) zero b above p n h k = absurd k
 nodes-at s (node d ch sib) (suc l) b above p n h k = (
   name-at s (d .name) _ (h .0) (k .0 .name),
   all-append (NameAt s) (forestRows 3 ch (n .nodes) (withNode d n)) (forestRows 3 sib p (withForest ch (withNode d n)))
-      (nodes-at s ch l b (bonesBelow above d) (n .nodes) (withNode d n) (h .1) (k .1))
+      (nodes-at s ch l b (boneLimitBelow above d) (n .nodes) (withNode d n) (h .1) (k .1))
       (nodes-at s sib (suc l) b above p (withForest ch (withNode d n)) (h .2) (k .2)),
 )
 
-pub names-at : (mode : Mode) (s : List ℕ) (t : Scene) → AllBytes s → parse mode s ≡ got t → All (λ k. All (NameAt s) (rows k t)) (1 ∷ 2 ∷ 3 ∷ [])
+pub names-at : (mode : Mode) (s : List ℕ) (t : Scene) → AllBytes s → parse mode s ≡ accept t → All (λ k. All (NameAt s) (rows k t)) (1 ∷ 2 ∷ 3 ∷ [])
 unfolding rows if textureRow brushRow
 names-at mode s t b e =
     let f = fine mode s t b e .0 in

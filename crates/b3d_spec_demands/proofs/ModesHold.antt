@@ -5,7 +5,7 @@ use Prim.Native.Nat.{ℕ}
 use mathlib.Core.Bool.{false}
 use mathlib.Core.List.{List}
 use Rattle.wire.specs.Bytes.{wordAt}
-use Rattle.layout.specs.Out.{Out, got, bad}
+use Rattle.layout.specs.Result.{Result, accept, reject}
 use Rattle.layout.specs.Rules.{unit, holds}
 use Rattle.b3d_spec.specs.Answers.{judge}
 use Rattle.b3d_spec.specs.Parse.{parse}
@@ -16,14 +16,14 @@ use Rattle.b3d_spec.proofs.Laws.{strict, lenient, bad-colour, no-colour}
 use Rattle.b3d_spec_demands.specs.Demands.{Colours}
 
 -- a refusal of the parser is one of the judge; the others are 10
-others-of : (s : List ℕ) (n p : ℕ) → judge Strict s ≡ bad n p → (judge Lenient s ≡ bad n p) ⊎ ((n ≡ 6) × (holds unit (wordAt s p) ≡ false))
+others-of : (s : List ℕ) (n p : ℕ) → judge Strict s ≡ reject n p → (judge Lenient s ≡ reject n p) ⊎ ((n ≡ 6) × (holds unit (wordAt s p) ≡ false))
 unfolding judge
 others-of s n p e = by (parse Strict s) refl
   where
-    by : (o : Out Scene) → parse Strict s ≡ o → (judge Lenient s ≡ bad n p) ⊎ ((n ≡ 6) × (holds unit (wordAt s p) ≡ false))
-    by (got t) q = inl (rw (strict s t q .0) (rw q at e))
-    by (bad i r) q =
-        let z : bad i r ≡ bad n p = rw q at e in
+    by : (o : Result Scene) → parse Strict s ≡ o → (judge Lenient s ≡ reject n p) ⊎ ((n ≡ 6) × (holds unit (wordAt s p) ≡ false))
+    by (accept t) q = inl (rw (strict s t q .0) (rw q at e))
+    by (reject i r) q =
+        let z : reject i r ≡ reject n p = rw q at e in
         elim (no-colour s n p (q ∙ cc)) [ inl x ↦ inl (rw x) | inr x ↦ inr x ]
 
 pub modes-hold : (s : List ℕ) → Colours s

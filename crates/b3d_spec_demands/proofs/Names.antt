@@ -9,9 +9,9 @@ use Rattle.layout.specs.Rules.{NONE}
 use Rattle.layout.proofs.Lists.{All, all-from-map, all-left, all-right}
 use Rattle.layout.specs.Rows.{nameCells}
 use Rattle.b3d_spec.specs.declared.Counts.{Counts}
-use Rattle.b3d_spec.specs.Names.{renameTexture, renameBrush, renameForest, rename, bareName, bare}
+use Rattle.b3d_spec.specs.Names.{renameTexture, renameBrush, renameForest, rename, bareName, withoutPlaces}
 use Rattle.b3d_spec.specs.Rebuild.{nodeNames, names}
-use Rattle.b3d_spec.specs.Scene.{Texture, Brush, Forest, leaf, node, Scene}
+use Rattle.b3d_spec.specs.Scene.{Texture, Brush, Forest, noNodes, node, Scene}
 use Rattle.b3d_spec.specs.Tables.{start, textureRow, brushRow, nodeRow, ownRows, withNode, withForest, forestRows, rows, tables, nodeTables}
 use Rattle.b3d_spec.proofs.Rows.RebuildLaws.{names-rest}
 use Rattle.b3d_spec.proofs.Rows.RowParts.{Stands}
@@ -38,7 +38,7 @@ module _ {A : Type 0} (name : A → Name) (row r : A → List ℕ) (begins : (x 
 -- the nodes of a forest, before the names r
 forest-names : (ns : List ℕ) (t : Forest) (p : ℕ) (n : Counts) (r : List Name) → All (Stands ns) (nodeNames t r) → map (nameOf ns) (forestRows 3 t p n) ++ map bytesOf r ≡ map bytesOf (nodeNames t r)
 unfolding forestRows nodeNames ownRows if nodeRow
-forest-names ns leaf p n r h = refl
+forest-names ns noNodes p n r h = refl
 forest-names ns (node d ch sib) p n r h =
     let m = withNode d n in
     let q = withForest ch m in
@@ -51,12 +51,12 @@ forest-names ns (node d ch sib) p n r h =
 
 forest-bare : (t : Forest) (r u : List Name) → map bytesOf r ≡ map bytesOf u → map bytesOf (nodeNames (renameForest bareName t) r) ≡ map bytesOf (nodeNames t u)
 unfolding nodeNames
-forest-bare leaf r u e = e
+forest-bare noNodes r u e = e
 forest-bare (node d ch sib) r u e = ap (λ (l : List (Option (List ℕ))). some (d .name .bytes) ∷ l) (forest-bare ch _ _ (forest-bare sib r u e))
 
 -- scenes that differ in name places alone have the same names
-pub same-names : (s ns : List ℕ) (t u : Scene) → bare t ≡ bare u → All (Stands s) (names t) → All (Stands ns) (names u) → All (λ k. namesOf s k (rows k t) ≡ namesOf ns k (rows k u)) tables
-unfolding tables nodeTables rows namesOf if names bare rename textureRow brushRow
+pub same-names : (s ns : List ℕ) (t u : Scene) → withoutPlaces t ≡ withoutPlaces u → All (Stands s) (names t) → All (Stands ns) (names u) → All (λ k. namesOf s k (rows k t) ≡ namesOf ns k (rows k u)) tables
+unfolding tables nodeTables rows namesOf if names withoutPlaces rename textureRow brushRow
 same-names s ns t u e ht hu =
     let textures : (v : Scene) → map (λ (x : Texture). bytesOf (x .name)) (map (renameTexture bareName) (v .textures)) ≡ map (λ (x : Texture). bytesOf (x .name)) (v .textures) =
     λ v. list-bare (λ (x : Texture). x .name) textureRow (λ x. x .words) (λ x. refl) (renameTexture bareName) (λ x. refl) (v .textures) in

@@ -15,8 +15,8 @@ use Rattle.layout.specs.Rows.{nameCells}
 use Rattle.b3d_spec.specs.declared.Counts.{Counts}
 use Rattle.b3d_spec.specs.Names.{renameData, renameForest, bareName}
 use Rattle.b3d_spec.specs.Rebuild.{nodeNames}
-use Rattle.b3d_spec.specs.Rules.{bonesBelow, boneVertices}
-use Rattle.b3d_spec.specs.Scene.{Data, Forest, leaf, node}
+use Rattle.b3d_spec.specs.Rules.{boneLimitBelow, boneLimit}
+use Rattle.b3d_spec.specs.Scene.{Data, Forest, noNodes, node}
 use Rattle.b3d_spec.specs.Tables.{nodeRow, ownRows, withNode, withForest, forestRows, nodesIn}
 use Rattle.b3d_spec.proofs.Fitting.{FitData, FitNodes}
 use Rattle.b3d_spec.proofs.Rows.RebuildLaws.{names-rest}
@@ -73,16 +73,16 @@ module _ (s ns : List ℕ) (n : Name) (h : Stands s n) (r y : List ℕ) (a : Ali
 -- ---- lists of parts whose rows begin with a name
 
 -- the row of a part x is its name's cells and r x; `put` changes its name's place alone
-module _ {A : Type 0} (name : A → Name) (r : A → List ℕ) (put : ℕ → A → A) (bare : A → A) (Ok : A → Type 0)
+module _ {A : Type 0} (name : A → Name) (r : A → List ℕ) (put : ℕ → A → A) (withoutPlaces : A → A) (Ok : A → Type 0)
     (name-put : (p : ℕ) (x : A) → name (put p x) ≡ at-place p (name x)) (r-put : (p : ℕ) (x : A) → r (put p x) ≡ r x)
-    (bare-put : (p : ℕ) (x : A) → bare (put p x) ≡ bare x) (ok-put : (p : ℕ) (x : A) → Ok x → Ok (put p x)) (s ns : List ℕ) where
+    (bare-put : (p : ℕ) (x : A) → withoutPlaces (put p x) ≡ withoutPlaces x) (ok-put : (p : ℕ) (x : A) → Ok x → Ok (put p x)) (s ns : List ℕ) where
   abbrev row : A → List ℕ
   row x = nameCells (name x) ++ r x
 
   pub record PlacedList (xs : List A) (ys : List (List ℕ)) : Type 0 where
     pub list : List A
     pub rows : map row list ≡ ys
-    pub same : map bare list ≡ map bare xs
+    pub same : map withoutPlaces list ≡ map withoutPlaces xs
     pub ok : All Ok list
     pub stand : All (λ x. Stands ns (name x)) list
 
@@ -106,7 +106,7 @@ module _ {A : Type 0} (name : A → Name) (r : A → List ℕ) (put : ℕ → A 
 abbrev put-data : ℕ → Data → Data
 put-data p d = record { name = at-place p (d .name); words = d .words; kind = d .kind; keys = d .keys; anim = d .anim }
 
-same-bones : (p : ℕ) (above : Option ℕ) (d : Data) → bonesBelow above d ≡ bonesBelow above (put-data p d)
+same-bones : (p : ℕ) (above : Option ℕ) (d : Data) → boneLimitBelow above d ≡ boneLimitBelow above (put-data p d)
 same-bones p none d = refl
 same-bones p (some n) d = refl
 
@@ -132,8 +132,8 @@ module _ (s ns : List ℕ) where
 
   pub place-forest : (t : Forest) (p : ℕ) (n : Counts) (S ys : List (List ℕ)) (r : List Name) → All (Stands s) (nodeNames t r) → Alikes s ns (forestRows 3 t p n ++ S) ys → PlacedForest t p n S ys
   unfolding forestRows withForest nodesIn nodeNames ownRows if nodeRow
-  place-forest leaf p n S ys r h a = record {
-    forest = leaf;
+  place-forest noNodes p n S ys r h a = record {
+    forest = noNodes;
     rest = ys;
     rows = refl;
     alike = a;
@@ -174,4 +174,4 @@ module _ (s ns : List ℕ) where
           → FitNodes l b above (node d ch sib) → FitNodes l b above (node (put-data (getD y 0 0) d) (u .forest) (v .forest))
       fits u v zero b above f = f
       fits u v (suc l) b above f =
-          (fit-data b (boneVertices above) (getD y 0 0) d (f .0), rw (← same-bones (getD y 0 0) above d) (u .fit l b (bonesBelow above d) (f .1)), v .fit (suc l) b above (f .2))
+          (fit-data b (boneLimit above) (getD y 0 0) d (f .0), rw (← same-bones (getD y 0 0) above d) (u .fit l b (boneLimitBelow above d) (f .1)), v .fit (suc l) b above (f .2))

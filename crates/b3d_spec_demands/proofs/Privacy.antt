@@ -9,7 +9,7 @@ use lib.Dec.{T, eqb, eqb-refl}
 use Rattle.wire.specs.Bytes.{AllBytes, bytes}
 use Rattle.wire.specs.Test.{if}
 use Rattle.layout.specs.Chunks.{done, stop, chunk, ended}
-use Rattle.layout.specs.Out.{Out, got, bad, _>>=_}
+use Rattle.layout.specs.Result.{Result, accept, reject, _>>=_}
 use Rattle.layout.specs.Parts.{row, number, itemsIn, items}
 use Rattle.layout.proofs.Lists.{All, all-zip}
 use Rattle.layout.proofs.Outs.{by-got, by-check, check-yes, bad-got, bind-bind}
@@ -23,7 +23,7 @@ use Rattle.b3d_spec.specs.Names.{named, unnamed, renameBrush, rename, noName, c
 use Rattle.b3d_spec.specs.Nesting.{inside}
 use Rattle.b3d_spec.specs.Parse.{readOne, readTextures, readBrushes, readNode, readRoot, slotsOf, readBody, parse}
 use Rattle.b3d_spec.specs.Rules.{header, fileHead, levels, rowLimit}
-use Rattle.b3d_spec.specs.Scene.{Texture, Brush, Forest, leaf, node, Scene}
+use Rattle.b3d_spec.specs.Scene.{Texture, Brush, Forest, noNodes, node, Scene}
 use Rattle.b3d_spec.specs.Tables.{rows, tables}
 use Rattle.b3d_spec.specs.declared.Tag.the-variants.{BB3D, TEXS, BRUS, NODE}
 use Rattle.b3d_spec.specs.Tags.{code, Chunks, Found, writeChunk}
@@ -46,21 +46,21 @@ use Rattle.b3d_spec_demands.proofs.Calls.{is-alike, one-copy}
 abbrev Laid : Type 0
 Laid = ℕ × List Brush
 
-abbrev from-node : ℕ → List Texture → Laid → Chunks → Out Scene
+abbrev from-node : ℕ → List Texture → Laid → Chunks → Result Scene
 from-node v ts u cs =
-    readOne NODE leaf (readRoot Lenient (length (u .1))) cs >>= λ n. ended (n .rest) (record { version = v; textures = ts; slots = slotsOf (u .0) (u .1); brushes = u .1; nodes = n .value })
+    readOne NODE noNodes (readRoot Lenient (length (u .1))) cs >>= λ n. ended (n .rest) (record { version = v; textures = ts; slots = slotsOf (u .0) (u .1); brushes = u .1; nodes = n .value })
 
-abbrev from-brus : ℕ → List Texture → Chunks → Out Scene
+abbrev from-brus : ℕ → List Texture → Chunks → Result Scene
 from-brus v ts cs = readOne BRUS (0, []) (readBrushes Lenient (length ts)) cs >>= λ u. from-node v ts (u .value) (u .rest)
 
-abbrev from-texs : ℕ → Chunks → Out Scene
+abbrev from-texs : ℕ → Chunks → Result Scene
 from-texs v cs = readOne TEXS [] readTextures cs >>= λ t. from-brus v (t .value) (t .rest)
 
-abbrev from : Phase → ℕ → List Texture → Laid → Chunks → Out Scene
+abbrev from : Phase → ℕ → List Texture → Laid → Chunks → Result Scene
 from fresh v ts u cs = from-texs v cs
 from textured v ts u cs = from-brus v ts cs
 from brushed v ts u cs = from-node v ts u cs
-from over v ts u cs = bad 0 0
+from over v ts u cs = reject 0 0
 
 -- nothing so far
 abbrev Sofar : Phase → List Texture → Laid → Type 0
@@ -76,7 +76,7 @@ sofar-none brushed e ts u h = absurd e
 sofar-none over e ts u h = absurd e
 
 module _ (v : ℕ) where
-  at-stop : (i : Phase) (ts : List Texture) (u : Laid) (n p : ℕ) (t : Scene) → from i v ts u (stop n p) ≡ got t → ⊥
+  at-stop : (i : Phase) (ts : List Texture) (u : Laid) (n p : ℕ) (t : Scene) → from i v ts u (stop n p) ≡ accept t → ⊥
   unfolding readOne
   at-stop fresh ts u n p t e = bad-got e
   at-stop textured ts u n p t e = bad-got e
@@ -123,7 +123,7 @@ slots-same n m (x ∷ l) (y ∷ k) e h = e
 root-follow : (n : ℕ) (b c : List ℕ) → Without (bodyOf NODE) b c → Short b → (p q : ℕ) → Follows Forests (readRoot Lenient n p b) (readRoot Lenient n q c)
 unfolding readRoot
 root-follow n b c s hb p q =
-    follow-bind Bodies Forests (readNode Lenient levels n none p b) (readNode Lenient levels n none q c) _ _ (node-follow levels n none b c s hb p q) (λ x y k. follow-got Forests _ _ (λ i. node (k .0 i) (k .1 i) leaf))
+    follow-bind Bodies Forests (readNode Lenient levels n none p b) (readNode Lenient levels n none q c) _ _ (node-follow levels n none b c s hb p q) (λ x y k. follow-got Forests _ _ (λ i. node (k .0 i) (k .1 i) noNodes))
 
 -- what follows the NODE
 ended-follow : {r s : Chunks} → Filed over over r s → (t u : Scene) → Cleared t u → Follows Cleared (ended r t) (ended s u)
@@ -142,7 +142,7 @@ module _ (v : ℕ) (ts us : List Texture) (x y : Laid) (et : Textures ts us) (ex
 
   done-follow : Follows Cleared (from-node v ts x done) (from-node v us y done)
   unfolding readOne
-  done-follow = ended-follow f-end _ _ (scenes-same leaf leaf refl)
+  done-follow = ended-follow f-end _ _ (scenes-same noNodes noNodes refl)
 
   abbrev Found-Forests : Found Forest → Found Forest → Type 0
   Found-Forests n m = Forests (n .value) (m .value) × Filed over over (n .rest) (m .rest)
@@ -150,7 +150,7 @@ module _ (v : ℕ) (ts us : List Texture) (x y : Laid) (et : Textures ts us) (ex
   node-phase : (p q : ℕ) (b c : List ℕ) (r s : Chunks) → Without (bodyOf NODE) b c → Short b → Filed over over r s → Follows Cleared (from-node v ts x (chunk NODE p b r)) (from-node v us y (chunk NODE q c s))
   unfolding readOne if
   node-phase p q b c r s h hb z =
-      follow-bind Found-Forests Cleared (readRoot Lenient (length (x .1)) p b >>= λ a. got (record { value = a; rest = r })) (readRoot Lenient (length (y .1)) q c >>= λ a. got (record { value = a; rest = s })) _ _
+      follow-bind Found-Forests Cleared (readRoot Lenient (length (x .1)) p b >>= λ a. accept (record { value = a; rest = r })) (readRoot Lenient (length (y .1)) q c >>= λ a. accept (record { value = a; rest = s })) _ _
       (follow-bind Forests Found-Forests (readRoot Lenient (length (x .1)) p b) (readRoot Lenient (length (y .1)) q c) _ _
       (subst (λ (n : ℕ). Follows Forests (readRoot Lenient (length (x .1)) p b) (readRoot Lenient n q c)) (same-length _ (x .1) (y .1) (ex .1)) (root-follow (length (x .1)) b c h hb p q))
       (λ a d k. follow-got Found-Forests _ _ (k, z)))
@@ -218,7 +218,7 @@ parse-written b lo hi =
       ),
     )
 
-parse-size : (s : List ℕ) (t : Scene) → parse Lenient s ≡ got t → T (sizeFits (length s))
+parse-size : (s : List ℕ) (t : Scene) → parse Lenient s ≡ accept t → T (sizeFits (length s))
 unfolding parse
 parse-size s t e = by-check (sizeFits (length s)) 1 0 _ e (λ z e₁. z)
 
@@ -248,12 +248,12 @@ pub taken-out : (s v : List ℕ) → FileWithout s v → TakenOut s v
 taken-out s v x = record {
   alike = λ t e.
       let p = judge-got Lenient s t e in
-      let g = parse-follow (x .one) (x .other) (x .body) t (subst (λ (w : List ℕ). parse Lenient w ≡ got t) (x .one-is) (p .0)) in
+      let g = parse-follow (x .one) (x .other) (x .body) t (subst (λ (w : List ℕ). parse Lenient w ≡ accept t) (x .one-is) (p .0)) in
       cleared-alike s v t (g .value) e (judge-yes Lenient v (g .value) (ap (parse Lenient) (x .other-is) ∙ g .is) (few-rows t (g .value) (g .holds) (p .1))) (g .holds);
 }
 
 module _ (s v : List ℕ) where
-  met : (w : List ℕ) → FileWithout s w → FileWithout v w → (t u : Scene) → judge Lenient s ≡ got t → judge Lenient v ≡ got u → Alike s v
+  met : (w : List ℕ) → FileWithout s w → FileWithout v w → (t u : Scene) → judge Lenient s ≡ accept t → judge Lenient v ≡ accept u → Alike s v
   met w x y t u et eu =
       let a = taken-out s w x .alike t et in
       let b = taken-out v w y .alike u eu in

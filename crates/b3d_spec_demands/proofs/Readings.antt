@@ -8,7 +8,7 @@ use lib.ListN.{length, take, drop, getD, length-append, length-replicate}
 use Rattle.wire.specs.Bytes.{bytes, IsWord}
 use Rattle.wire.specs.Test.{if}
 use Rattle.wire.proofs.Words.{word-bytes}
-use Rattle.layout.specs.Out.{Out, got, _>>=_}
+use Rattle.layout.specs.Result.{Result, accept, _>>=_}
 use Rattle.layout.specs.Parts.{Name, Step, words, row, number, named, itemsIn, items}
 use Rattle.layout.specs.Rules.{Rule}
 use Rattle.layout.proofs.Outs.{by-got, bad-got, got-inj}
@@ -17,15 +17,15 @@ use Rattle.layout.proofs.ListLaws.{map-id}
 use Rattle.b3d_spec.specs.declared.Mode.the-variants.{Lenient}
 use Rattle.b3d_spec.specs.Names.{renameTexture, renameBrush, renameData, renameForest, noName}
 use Rattle.b3d_spec.specs.Nesting.{inside}
-use Rattle.b3d_spec.specs.Parse.{readOne, readTexture, readTextures, readBrush, readBrushes, Vertices, noVertices, readVertices, readTriangles, readSets, readMesh, readBone, readKeys, filled, readAnim, aMesh, aBone, readKind, Moves as Moving, withKeys, readMoves, Inner, readNodes, readBelow, readNode}
-use Rattle.b3d_spec.specs.Rules.{textureRow, brushesHead, brushRow, brushIds, nodeRow, meshHead, verticesHead, vertexRow, trianglesHead, triangleRow, weightRow, keysHead, keyRow, animRow, boneVertices, bonesBelow, textureId}
-use Rattle.b3d_spec.specs.Scene.{Texture, Brush, TriangleSet, Mesh, Kind, mesh, bone, Keys, Anim, still, anim, Data, Forest, leaf, node}
+use Rattle.b3d_spec.specs.Parse.{readOne, readTexture, readTextures, readBrush, readBrushes, Vertices, noVertices, readVertices, readTriangles, readSets, readMesh, readBone, readKeys, filled, readAnim, aMesh, aBone, readKind, Animation as Moving, withKeys, readAnimation, Inner, readNodes, readBelow, readNode}
+use Rattle.b3d_spec.specs.Rules.{textureRow, brushesHead, brushRow, brushIds, nodeRow, meshHead, verticesHead, vertexRow, trianglesHead, triangleRow, weightRow, keysHead, keyRow, animRow, boneLimit, boneLimitBelow, textureId}
+use Rattle.b3d_spec.specs.Scene.{Texture, Brush, TriangleSet, Mesh, Kind, mesh, bone, Keys, Anim, noAnim, anim, Data, Forest, noNodes, node}
 use Rattle.b3d_spec.specs.declared.Tag.the-variants.{TEXS, BRUS, NODE, MESH, VRTS}
 use Rattle.b3d_spec.specs.Tags.{Chunks, Found}
 use Rattle.b3d_spec_demands.specs.Private.{bodyOf, chunksIn, itemsOf, Without, same, mesh as mesh-body, node as node-body, textures, brushes, item}
 use Rattle.b3d_spec_demands.proofs.Follow.{Follows, follow-then, follow-bind, follow-got, follow-map, Beside, row-twice, head-follow, head-twice, Named, named-twice, named-two, Lists, items-twice, items-two}
 use Rattle.b3d_spec_demands.proofs.Splits.{Short, split-rel}
-use Rattle.b3d_spec_demands.proofs.Shapes.{Sets, s-end, s-cut, s-one, Meshed, v-cut, v-one, meshed, Nodes, n-end, n-cut, n-one, Moves, m-nodes, m-keys, m-anim, m-after, Inside, i-moves, i-mesh, i-bone, noded}
+use Rattle.b3d_spec_demands.proofs.Shapes.{Sets, s-end, s-cut, s-one, AlikeMesh, v-cut, v-one, meshed, Nodes, n-end, n-cut, n-one, AlikeAnimation, m-nodes, m-keys, m-anim, m-after, Inside, i-moves, i-mesh, i-bone, noded}
 
 -- ---- the same body at two places
 
@@ -37,14 +37,14 @@ rows-twice rs p q s = follow-map (Lists itself (row rs)) _≡_ (λ l m e. sym (m
 
 -- a head, then items by it
 module _ {A : Type 0} (rs : List Rule) (rows : List ℕ → List Rule) (build : List ℕ → List (List ℕ) → A) where
-  abbrev headed : ℕ → List ℕ → Out A
-  headed p b = row rs p b >>= λ h. items (row (rows (h .value))) (h .place) (h .left) >>= λ l. got (build (h .value) l)
+  abbrev headed : ℕ → List ℕ → Result A
+  headed p b = row rs p b >>= λ h. items (row (rows (h .value))) (h .place) (h .left) >>= λ l. accept (build (h .value) l)
 
   headed-twice : (p q : ℕ) (b : List ℕ) → Follows _≡_ (headed p b) (headed q b)
   headed-twice p q b =
       follow-bind (Beside itself _≡_) _≡_ (row rs p b) (row rs q b) _ _ (row-twice rs p q b) (λ h k e.
-      subst (λ (w : List ℕ). Follows _≡_ (items (row (rows (h .value))) (h .place) (h .left) >>= λ l. got (build (h .value) l)) (items (row (rows w)) (k .place) (k .left) >>= λ l. got (build w l))) (e .0)
-      (subst (λ (w : List ℕ). Follows _≡_ (items (row (rows (h .value))) (h .place) (h .left) >>= λ l. got (build (h .value) l)) (items (row (rows (h .value))) (k .place) w >>= λ l. got (build (h .value) l))) (e .1)
+      subst (λ (w : List ℕ). Follows _≡_ (items (row (rows (h .value))) (h .place) (h .left) >>= λ l. accept (build (h .value) l)) (items (row (rows w)) (k .place) (k .left) >>= λ l. accept (build w l))) (e .0)
+      (subst (λ (w : List ℕ). Follows _≡_ (items (row (rows (h .value))) (h .place) (h .left) >>= λ l. accept (build (h .value) l)) (items (row (rows (h .value))) (k .place) w >>= λ l. accept (build (h .value) l))) (e .1)
       (follow-bind _≡_ _≡_ (items (row (rows (h .value))) (h .place) (h .left)) (items (row (rows (h .value))) (k .place) (h .left)) _ _ (rows-twice (rows (h .value)) (h .place) (k .place) (h .left))
       (λ l m el. follow-got _≡_ _ _ (ap (build (h .value)) el)))))
 
@@ -89,7 +89,7 @@ sets-follow (s-one {p = p} {q = q} {b = b} {c = c} e y) br n =
 abbrev Verts : Found Vertices → Found Vertices → Type 0
 Verts x y = (x .value ≡ y .value) × Sets (x .rest) (y .rest)
 
-vertices-follow : {cs ds : Chunks} → Meshed cs ds → Follows Verts (readOne VRTS noVertices (readVertices Lenient) cs) (readOne VRTS noVertices (readVertices Lenient) ds)
+vertices-follow : {cs ds : Chunks} → AlikeMesh cs ds → Follows Verts (readOne VRTS noVertices (readVertices Lenient) cs) (readOne VRTS noVertices (readVertices Lenient) ds)
 unfolding readOne if
 vertices-follow v-cut = λ x e. bad-got e
 vertices-follow (v-one {p = p} {q = q} {b = b} {c = c} e z) =
@@ -118,9 +118,9 @@ mesh-follow {b} {c} s hb br p q =
 -- ---- NODE
 
 abbrev Kinds : Found Kind → Found Kind → Type 0
-Kinds x y = (x .value ≡ y .value) × Moves (x .rest) (y .rest)
+Kinds x y = (x .value ≡ y .value) × AlikeAnimation (x .rest) (y .rest)
 
-pivot-follow : {cs ds : Chunks} → Moves cs ds → (br n : ℕ) → Follows Kinds (readKind Lenient br n cs) (readKind Lenient br n ds)
+pivot-follow : {cs ds : Chunks} → AlikeAnimation cs ds → (br n : ℕ) → Follows Kinds (readKind Lenient br n cs) (readKind Lenient br n ds)
 unfolding readKind if
 pivot-follow (m-nodes n-end) br n = follow-got Kinds _ _ (refl, m-nodes n-end)
 pivot-follow (m-nodes n-cut) br n = λ x e. bad-got e
@@ -144,8 +144,8 @@ with-same : (x y : Keys) (l m : Found Moving) → x ≡ y → Moved l m → Move
 unfolding withKeys
 with-same x y l m e h = ((λ i. record { keys = e i ∷ (h .0 i) .keys; anim = (h .0 i) .anim }), h .1)
 
-moves-follow : {cs ds : Chunks} → Moves cs ds → (seen : Anim) → Follows Moved (readMoves seen cs) (readMoves seen ds)
-unfolding readMoves if
+moves-follow : {cs ds : Chunks} → AlikeAnimation cs ds → (seen : Anim) → Follows Moved (readAnimation seen cs) (readAnimation seen ds)
+unfolding readAnimation if
 moves-follow (m-nodes n-end) seen = follow-got Moved _ _ (refl, n-end)
 moves-follow (m-nodes n-cut) seen = λ x e. bad-got e
 moves-follow (m-nodes (n-one a b c)) seen = follow-got Moved _ _ (refl, n-one a b c)
@@ -154,13 +154,13 @@ moves-follow (m-keys {p = p} {q = q} {b = b} {c = c} e z) seen =
     follow-bind Moved Moved _ _ _ _ (moves-follow z seen) (λ l m h. follow-got Moved _ _ (with-same x y l m k h)))
 moves-follow (m-anim {p = p} {q = q} {b = b} {c = c} {r = r} {s = s} e z) seen =
     follow-bind _≡_ Moved (readAnim p b) (readAnim q c) _ _ (subst (λ (w : List ℕ). Follows _≡_ (readAnim p b) (readAnim q w)) e (anim-twice p q b)) (λ x y k.
-    subst (λ (w : List ℕ). Follows Moved (readMoves (anim x) r) (readMoves (anim w) s)) k (moves-follow z (anim x)))
+    subst (λ (w : List ℕ). Follows Moved (readAnimation (anim x) r) (readAnimation (anim w) s)) k (moves-follow z (anim x)))
 moves-follow (m-after {p = p} {p′ = p′} {q = q} {a = a} {b = b} {r = r} {ds = ds} z) seen = λ x e.
     by-got (readAnim p a) _ e (λ ws ew e₁.
     by-got (readKeys p′ b) _ e₁ (λ k ek e₂.
-    by-got (readMoves (anim ws) r) _ e₂ (λ l el e₃.
+    by-got (readAnimation (anim ws) r) _ e₂ (λ l el e₃.
     let i = keys-twice p′ q b k ek in
-    let h = moves-follow z seen l (ap (λ (o : Out (List ℕ)). o >>= λ vs. readMoves (anim vs) r) ew ∙ el) in
+    let h = moves-follow z seen l (ap (λ (o : Result (List ℕ)). o >>= λ vs. readAnimation (anim vs) r) ew ∙ el) in
     record {
       value = withKeys (i .value) (h .value);
       is = rw (i .is, h .is);
@@ -174,10 +174,10 @@ Bodies x y = (renameData noName (x .self) ≡ renameData noName (y .self)) × (r
 abbrev pub Forests : Forest → Forest → Type 0
 Forests f g = renameForest noName f ≡ renameForest noName g
 
-nodes-follow : (one two : ℕ → List ℕ → Out Inner) → ((b c : List ℕ) → Without (bodyOf NODE) b c → Short b → (p q : ℕ) → Follows Bodies (one p b) (two q c))
+nodes-follow : (one two : ℕ → List ℕ → Result Inner) → ((b c : List ℕ) → Without (bodyOf NODE) b c → Short b → (p q : ℕ) → Follows Bodies (one p b) (two q c))
     → {cs ds : Chunks} → Nodes cs ds → Follows Forests (readNodes one cs) (readNodes two ds)
 unfolding readNodes
-nodes-follow one two h n-end = follow-got Forests leaf leaf refl
+nodes-follow one two h n-end = follow-got Forests noNodes noNodes refl
 nodes-follow one two h n-cut = λ x e. bad-got e
 nodes-follow one two h (n-one {p = p} {q = q} {b = b} {c = c} x i z) =
     follow-bind Bodies Forests (one p b) (two q c) _ _ (h b c x i p q) (λ x y k.
@@ -187,8 +187,8 @@ node-head : {b c : List ℕ} → Without (bodyOf NODE) b c → (p q : ℕ) → F
 node-head {b} same p q = named-twice (Without (chunksIn NODE)) nodeRow p q b (λ z. same)
 node-head (node-body {r = r} {q = k} n m w hn hm le l z) p q = named-two (Without (chunksIn NODE)) nodeRow p q n m w r k hn hm l z
 
-same-bones : (above : Option ℕ) (d e : Data) → renameData noName d ≡ renameData noName e → bonesBelow above d ≡ bonesBelow above e
-same-bones above d e h = ap (λ (x : Data). bonesBelow above x) h
+same-bones : (above : Option ℕ) (d e : Data) → renameData noName d ≡ renameData noName e → boneLimitBelow above d ≡ boneLimitBelow above e
+same-bones above d e h = ap (λ (x : Data). boneLimitBelow above x) h
 
 pub node-follow : (l br : ℕ) (above : Option ℕ) (b c : List ℕ) → Without (bodyOf NODE) b c → Short b → (p q : ℕ) → Follows Bodies (readNode Lenient l br above p b) (readNode Lenient l br above q c)
 unfolding readNode readBelow inside
@@ -196,23 +196,23 @@ node-follow zero br above b c s hb p q = λ x e. bad-got e
 node-follow (suc l) br above b c s hb p q =
     follow-then (Named (Without (chunksIn NODE))) Bodies (named nodeRow (p + 8) b) (named nodeRow (q + 8) c) _ _ (node-head s (p + 8) (q + 8)) (λ h g eh i.
     let lh = named-shrinks nodeRow (p + 8) b h eh in
-    follow-bind Kinds Bodies (readKind Lenient br (boneVertices above) (inside NODE p (h .place) (h .left))) (readKind Lenient br (boneVertices above) (inside NODE q (g .place) (g .left))) _ _
-    (kind-follow (noded (split-rel (i .1) (h .place) (g .place) (omega arith)) p q) br (boneVertices above)) (λ k j o.
-    follow-bind Moved Bodies (readMoves still (k .rest)) (readMoves still (j .rest)) _ _ (moves-follow (o .1) still) (λ m n u.
+    follow-bind Kinds Bodies (readKind Lenient br (boneLimit above) (inside NODE p (h .place) (h .left))) (readKind Lenient br (boneLimit above) (inside NODE q (g .place) (g .left))) _ _
+    (kind-follow (noded (split-rel (i .1) (h .place) (g .place) (omega arith)) p q) br (boneLimit above)) (λ k j o.
+    follow-bind Moved Bodies (readAnimation noAnim (k .rest)) (readAnimation noAnim (j .rest)) _ _ (moves-follow (o .1) noAnim) (λ m n u.
     let d : Data = record { name = h .value .0; words = h .value .1; kind = k .value; keys = m .value .keys; anim = m .value .anim } in
     let d′ : Data = record { name = g .value .0; words = g .value .1; kind = j .value; keys = n .value .keys; anim = n .value .anim } in
     let ed : renameData noName d ≡ renameData noName d′ = λ t. record { name = record { place = 0; bytes = [] }; words = i .0 t; kind = o .0 t; keys = (u .0 t) .keys; anim = (u .0 t) .anim } in
-    follow-bind Forests Bodies (readNodes (readNode Lenient l br (bonesBelow above d)) (m .rest)) (readNodes (readNode Lenient l br (bonesBelow above d′)) (n .rest)) _ _
-    (nodes-follow (readNode Lenient l br (bonesBelow above d)) (readNode Lenient l br (bonesBelow above d′))
-    (λ b₁ c₁ s₁ x₁ p₁ q₁. subst (λ (w : Option ℕ). Follows Bodies (readNode Lenient l br (bonesBelow above d) p₁ b₁) (readNode Lenient l br w q₁ c₁)) (same-bones above d d′ ed) (node-follow l br (bonesBelow above d) b₁ c₁ s₁ x₁ p₁ q₁)) (u .1))
+    follow-bind Forests Bodies (readNodes (readNode Lenient l br (boneLimitBelow above d)) (m .rest)) (readNodes (readNode Lenient l br (boneLimitBelow above d′)) (n .rest)) _ _
+    (nodes-follow (readNode Lenient l br (boneLimitBelow above d)) (readNode Lenient l br (boneLimitBelow above d′))
+    (λ b₁ c₁ s₁ x₁ p₁ q₁. subst (λ (w : Option ℕ). Follows Bodies (readNode Lenient l br (boneLimitBelow above d) p₁ b₁) (readNode Lenient l br w q₁ c₁)) (same-bones above d d′ ed) (node-follow l br (boneLimitBelow above d) b₁ c₁ s₁ x₁ p₁ q₁)) (u .1))
     (λ f₁ g₁ h₁. follow-got Bodies _ _ (ed, h₁)))))
 
 -- ---- TEXS and BRUS
 
 -- items of a text and words
 module _ {A B : Type 0} (g : A → B) (rs : List Rule) (build : Name × List ℕ → A) (law : (x y : Name × List ℕ) → x .1 ≡ y .1 → g (build x) ≡ g (build y)) where
-  abbrev read : ℕ → List ℕ → Out (Step A)
-  read p s = named rs p s >>= λ x. got (record { value = build (x .value); place = x .place; left = x .left })
+  abbrev read : ℕ → List ℕ → Result (Step A)
+  read p s = named rs p s >>= λ x. accept (record { value = build (x .value); place = x .place; left = x .left })
 
   shrinks : Shrinks read
   shrinks p s x e = by-got (named rs p s) _ e (λ y ey e₁. let n = named-shrinks rs p s y ey in let q = ap (λ (v : Step A). length (v .left)) (got-inj e₁) in omega arith)
@@ -247,42 +247,42 @@ brush-items n t {b} {c} y p q =
     named-items (renameBrush noName) (brushRow Lenient ++ brushIds n t) (λ x. record { name = x .0; words = take 7 (x .1); ids = drop 7 (x .1) })
     (λ x y e i. record { name = record { place = 0; bytes = [] }; words = take 7 (e i); ids = drop 7 (e i) }) y (omega (arith, length-append (brushRow Lenient) (brushIds n t), length-replicate n (textureId t))) p q
 
-abbrev pub Brushed : ℕ × List Brush → ℕ × List Brush → Type 0
-Brushed x y = (x .0 ≡ y .0) × Brushes (x .1) (y .1)
+abbrev pub AlikeBrushes : ℕ × List Brush → ℕ × List Brush → Type 0
+AlikeBrushes x y = (x .0 ≡ y .0) × Brushes (x .1) (y .1)
 
-slots-is : (z p : ℕ) (b : List ℕ) (x : Step (List ℕ)) → IsWord z → row brushesHead p (bytes z b) ≡ got x → (number x 0 ≡ z) × (x .left ≡ b)
+slots-is : (z p : ℕ) (b : List ℕ) (x : Step (List ℕ)) → IsWord z → row brushesHead p (bytes z b) ≡ accept x → (number x 0 ≡ z) × (x .left ≡ b)
 unfolding row words
 slots-is z p b x w e = let i = judged-got brushesHead p _ _ x e in (ap (λ (y : Step (List ℕ)). number y 0) (sym i) ∙ word-bytes z w, ap (λ (y : Step (List ℕ)). y .left) (sym i))
 
 -- with heads that say the same
 brushes-behind : (t : ℕ) (h k : Step (List ℕ)) → number h 0 ≡ number k 0 → Without (itemsOf (28 + 4 * number h 0)) (h .left) (k .left)
-    → Follows Brushed (items (readBrush Lenient (number h 0) t) (h .place) (h .left) >>= λ l. got (number h 0, l)) (items (readBrush Lenient (number k 0) t) (k .place) (k .left) >>= λ l. got (number k 0, l))
+    → Follows AlikeBrushes (items (readBrush Lenient (number h 0) t) (h .place) (h .left) >>= λ l. accept (number h 0, l)) (items (readBrush Lenient (number k 0) t) (k .place) (k .left) >>= λ l. accept (number k 0, l))
 brushes-behind t h k e y =
-    subst (λ (n : ℕ). Follows Brushed (items (readBrush Lenient (number h 0) t) (h .place) (h .left) >>= λ l. got (number h 0, l)) (items (readBrush Lenient n t) (k .place) (k .left) >>= λ l. got (n, l))) e
-    (follow-bind Brushes Brushed (items (readBrush Lenient (number h 0) t) (h .place) (h .left)) (items (readBrush Lenient (number h 0) t) (k .place) (k .left)) _ _ (brush-items (number h 0) t y (h .place) (k .place))
-    (λ l m o. follow-got Brushed _ _ (refl, o)))
+    subst (λ (n : ℕ). Follows AlikeBrushes (items (readBrush Lenient (number h 0) t) (h .place) (h .left) >>= λ l. accept (number h 0, l)) (items (readBrush Lenient n t) (k .place) (k .left) >>= λ l. accept (n, l))) e
+    (follow-bind Brushes AlikeBrushes (items (readBrush Lenient (number h 0) t) (h .place) (h .left)) (items (readBrush Lenient (number h 0) t) (k .place) (k .left)) _ _ (brush-items (number h 0) t y (h .place) (k .place))
+    (λ l m o. follow-got AlikeBrushes _ _ (refl, o)))
 
-pub brushes-follow : {b c : List ℕ} → Without (bodyOf BRUS) b c → (t p q : ℕ) → Follows Brushed (readBrushes Lenient t p b) (readBrushes Lenient t q c)
+pub brushes-follow : {b c : List ℕ} → Without (bodyOf BRUS) b c → (t p q : ℕ) → Follows AlikeBrushes (readBrushes Lenient t p b) (readBrushes Lenient t q c)
 unfolding readBrushes
 brushes-follow {b} same t p q =
-    follow-bind (Beside itself _≡_) Brushed (row brushesHead (p + 8) b) (row brushesHead (q + 8) b) _ _ (row-twice brushesHead (p + 8) (q + 8) b) (λ h k e.
+    follow-bind (Beside itself _≡_) AlikeBrushes (row brushesHead (p + 8) b) (row brushesHead (q + 8) b) _ _ (row-twice brushesHead (p + 8) (q + 8) b) (λ h k e.
     brushes-behind t h k (ap (λ (w : List ℕ). getD w 0 0) (e .0)) (subst (Without (itemsOf (28 + 4 * number h 0)) (h .left)) (e .1) same))
 brushes-follow (brushes {b = b} {c = c} z w y) t p q =
-    follow-then (Beside itself (λ (l m : List ℕ). (l ≡ b) × (m ≡ c))) Brushed (row brushesHead (p + 8) (bytes z b)) (row brushesHead (q + 8) (bytes z c)) _ _
+    follow-then (Beside itself (λ (l m : List ℕ). (l ≡ b) × (m ≡ c))) AlikeBrushes (row brushesHead (p + 8) (bytes z b)) (row brushesHead (q + 8) (bytes z c)) _ _
     (head-follow (λ (l m : List ℕ). (l ≡ b) × (m ≡ c)) brushesHead (p + 8) (q + 8) (bytes z []) b c refl (refl, refl)) (λ h k eh i.
     brushes-behind t h k (ap (λ (l : List ℕ). getD l 0 0) (i .0)) (rw (slots-is z (p + 8) b h w eh .0, i .1 .0, i .1 .1) y))
 
-none-of : (x : ℕ × List Brush) (read : ℕ → List ℕ → Out (Step Brush)) (m i : ℕ) → (itemsIn 0 read i [] >>= λ l. got (m, l)) ≡ got x → x .1 ≡ []
+none-of : (x : ℕ × List Brush) (read : ℕ → List ℕ → Result (Step Brush)) (m i : ℕ) → (itemsIn 0 read i [] >>= λ l. accept (m, l)) ≡ accept x → x .1 ≡ []
 unfolding itemsIn
 none-of x read m i e = ap (λ (y : ℕ × List Brush). y .1) (sym (got-inj e))
 
 -- a BRUS without items
-pub brushes-none : (n t p : ℕ) (x : ℕ × List Brush) → IsWord n → readBrushes Lenient t p (bytes n []) ≡ got x → x .1 ≡ []
+pub brushes-none : (n t p : ℕ) (x : ℕ × List Brush) → IsWord n → readBrushes Lenient t p (bytes n []) ≡ accept x → x .1 ≡ []
 unfolding readBrushes items
 brushes-none n t p x w e =
     by-got (row brushesHead (p + 8) (bytes n [])) _ e (λ h eh e₁.
     let i = slots-is n (p + 8) [] h w eh in
     none-left (readBrush Lenient (number h 0) t) (number h 0) (h .place) (h .left) (i .1) e₁)
   where
-    none-left : (read : ℕ → List ℕ → Out (Step Brush)) (m i : ℕ) (s : List ℕ) → s ≡ [] → (itemsIn (length s) read i s >>= λ l. got (m, l)) ≡ got x → x .1 ≡ []
-    none-left read m i s es f = none-of x read m i (subst (λ (z : List ℕ). (itemsIn (length z) read i z >>= λ l. got (m, l)) ≡ got x) es f)
+    none-left : (read : ℕ → List ℕ → Result (Step Brush)) (m i : ℕ) (s : List ℕ) → s ≡ [] → (itemsIn (length s) read i s >>= λ l. accept (m, l)) ≡ accept x → x .1 ≡ []
+    none-left read m i s es f = none-of x read m i (subst (λ (z : List ℕ). (itemsIn (length z) read i z >>= λ l. accept (m, l)) ≡ accept x) es f)

@@ -36,12 +36,12 @@ pub data Sets : Chunks → Chunks → Type 0 where
   s-cut : {n p : ℕ} {ds : Chunks} → Sets (stop n p) ds
   s-one : {p q : ℕ} {b c : List ℕ} {r s : Chunks} → b ≡ c → Sets r s → Sets (chunk TRIS p b r) (chunk TRIS q c s)
 
-pub data Meshed : Chunks → Chunks → Type 0 where
-  v-cut : {n p : ℕ} {ds : Chunks} → Meshed (stop n p) ds
-  v-one : {p q : ℕ} {b c : List ℕ} {r s : Chunks} → b ≡ c → Sets r s → Meshed (chunk VRTS p b r) (chunk VRTS q c s)
+pub data AlikeMesh : Chunks → Chunks → Type 0 where
+  v-cut : {n p : ℕ} {ds : Chunks} → AlikeMesh (stop n p) ds
+  v-one : {p q : ℕ} {b c : List ℕ} {r s : Chunks} → b ≡ c → Sets r s → AlikeMesh (chunk VRTS p b r) (chunk VRTS q c s)
 
 in-mesh : {cs ds : Chunks} → Rel MESH cs ds → (h k : ℕ)
-    → Sets (order MESH h (reachedAt 2 false) cs) (order MESH k (reachedAt 2 false) ds) × Sets (order MESH h (reachedAt 1 true) cs) (order MESH k (reachedAt 1 true) ds) × Meshed (order MESH h start cs) (order MESH k start ds)
+    → Sets (order MESH h (reachedAt 2 false) cs) (order MESH k (reachedAt 2 false) ds) × Sets (order MESH h (reachedAt 1 true) cs) (order MESH k (reachedAt 1 true) ds) × AlikeMesh (order MESH h start cs) (order MESH k start ds)
 unfolding order onward next if
 in-mesh ends h k = (s-end, s-cut, v-cut)
 in-mesh stops h k = (s-cut, s-cut, v-cut)
@@ -56,7 +56,7 @@ in-mesh (one {t = BONE} x i y) h k = (s-cut, s-cut, v-cut)
 in-mesh (one {t = KEYS} x i y) h k = (s-cut, s-cut, v-cut)
 in-mesh (one {t = ANIM} x i y) h k = (s-cut, s-cut, v-cut)
 
-pub meshed : {cs ds : Chunks} → Rel MESH cs ds → (h k : ℕ) → Meshed (order MESH h start cs) (order MESH k start ds)
+pub meshed : {cs ds : Chunks} → Rel MESH cs ds → (h k : ℕ) → AlikeMesh (order MESH h start cs) (order MESH k start ds)
 meshed x h k = in-mesh x h k .2
 
 -- ---- in a NODE: a MESH or a BONE, then KEYS and ANIM, then NODE
@@ -66,26 +66,26 @@ pub data Nodes : Chunks → Chunks → Type 0 where
   n-cut : {n p : ℕ} {ds : Chunks} → Nodes (stop n p) ds
   n-one : {p q : ℕ} {b c : List ℕ} {r s : Chunks} → Without (bodyOf NODE) b c → Short b → Nodes r s → Nodes (chunk NODE p b r) (chunk NODE q c s)
 
-pub data Moves : Chunks → Chunks → Type 0 where
-  m-nodes : {cs ds : Chunks} → Nodes cs ds → Moves cs ds
-  m-keys : {p q : ℕ} {b c : List ℕ} {r s : Chunks} → b ≡ c → Moves r s → Moves (chunk KEYS p b r) (chunk KEYS q c s)
-  m-anim : {p q : ℕ} {b c : List ℕ} {r s : Chunks} → b ≡ c → Moves r s → Moves (chunk ANIM p b r) (chunk ANIM q c s)
-  m-after : {p p′ q : ℕ} {a b : List ℕ} {r ds : Chunks} → Moves (chunk ANIM p a r) ds → Moves (chunk ANIM p a (chunk KEYS p′ b r)) (chunk KEYS q b ds)
+pub data AlikeAnimation : Chunks → Chunks → Type 0 where
+  m-nodes : {cs ds : Chunks} → Nodes cs ds → AlikeAnimation cs ds
+  m-keys : {p q : ℕ} {b c : List ℕ} {r s : Chunks} → b ≡ c → AlikeAnimation r s → AlikeAnimation (chunk KEYS p b r) (chunk KEYS q c s)
+  m-anim : {p q : ℕ} {b c : List ℕ} {r s : Chunks} → b ≡ c → AlikeAnimation r s → AlikeAnimation (chunk ANIM p b r) (chunk ANIM q c s)
+  m-after : {p p′ q : ℕ} {a b : List ℕ} {r ds : Chunks} → AlikeAnimation (chunk ANIM p a r) ds → AlikeAnimation (chunk ANIM p a (chunk KEYS p′ b r)) (chunk KEYS q b ds)
 
 pub data Inside : Chunks → Chunks → Type 0 where
-  i-moves : {cs ds : Chunks} → Moves cs ds → Inside cs ds
-  i-mesh : {p q : ℕ} {b c : List ℕ} {r s : Chunks} → Without (bodyOf MESH) b c → Short b → Moves r s → Inside (chunk MESH p b r) (chunk MESH q c s)
-  i-bone : {p q : ℕ} {b c : List ℕ} {r s : Chunks} → b ≡ c → Moves r s → Inside (chunk BONE p b r) (chunk BONE q c s)
+  i-moves : {cs ds : Chunks} → AlikeAnimation cs ds → Inside cs ds
+  i-mesh : {p q : ℕ} {b c : List ℕ} {r s : Chunks} → Without (bodyOf MESH) b c → Short b → AlikeAnimation r s → Inside (chunk MESH p b r) (chunk MESH q c s)
+  i-bone : {p q : ℕ} {b c : List ℕ} {r s : Chunks} → b ≡ c → AlikeAnimation r s → Inside (chunk BONE p b r) (chunk BONE q c s)
 
 -- by how far they have come: reachedAt NODE; among KEYS, without and with ANIM; after a kind; reachedAt the start
 record Turns (h k : ℕ) (cs ds : Chunks) : Type 0 where
   nodes : Nodes (order NODE h (reachedAt 3 false) cs) (order NODE k (reachedAt 3 false) ds)
-  moves : Moves (order NODE h (reachedAt 2 false) cs) (order NODE k (reachedAt 2 false) ds)
-  moved : Moves (order NODE h (reachedAt 2 true) cs) (order NODE k (reachedAt 2 true) ds)
-  kind : Moves (order NODE h (reachedAt 1 true) cs) (order NODE k (reachedAt 1 true) ds)
+  moves : AlikeAnimation (order NODE h (reachedAt 2 false) cs) (order NODE k (reachedAt 2 false) ds)
+  moved : AlikeAnimation (order NODE h (reachedAt 2 true) cs) (order NODE k (reachedAt 2 true) ds)
+  kind : AlikeAnimation (order NODE h (reachedAt 1 true) cs) (order NODE k (reachedAt 1 true) ds)
   all : Inside (order NODE h start cs) (order NODE k start ds)
 
-m-stop : {n p : ℕ} {ds : Chunks} → Moves (stop n p) ds
+m-stop : {n p : ℕ} {ds : Chunks} → AlikeAnimation (stop n p) ds
 m-stop = m-nodes n-cut
 
 in-node : {cs ds : Chunks} → Rel NODE cs ds → (h k : ℕ) → Turns h k cs ds

@@ -9,7 +9,7 @@ use lib.Dec.{T, ltb, ltb→lt}
 use mir.Facts.{and-yes}
 use Rattle.wire.specs.Bytes.{bytes, AllBytes}
 use Rattle.wire.specs.Test.{if}
-use Rattle.layout.specs.Fit.{all}
+use Rattle.layout.specs.WellFormed.{all}
 use Rattle.layout.specs.Rules.{NONE}
 use Rattle.layout.specs.Write.{writeText, writeWords}
 use Rattle.b3d_spec.specs.declared.Tag.the-variants.{BB3D, TEXS, BRUS, NODE, MESH, VRTS, TRIS, KEYS, ANIM}

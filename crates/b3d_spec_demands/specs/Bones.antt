@@ -6,7 +6,7 @@ use mathlib.Core.List.{List, []}
 use lib.ListN.{length, getD}
 use lib.Dec.{eqb}
 use Rattle.wire.specs.Test.{if}
-use Rattle.layout.specs.Out.{got}
+use Rattle.layout.specs.Result.{accept}
 use Rattle.layout.specs.Rules.{NONE}
 use Rattle.b3d_spec.specs.declared.Mode.{Mode}
 use Rattle.b3d_spec.specs.Answers.{judge}
@@ -47,7 +47,7 @@ abbrev pub weightId : Rows → ℕ → ℕ → ℕ
 weightId R r i = getD (getD (R 8) (firstOf (R 3) r + i) []) 0 0
 
 -- row w of the weights is one of a bone's, xs being the node rows
-pub record Owned (xs : List (List ℕ)) (w : ℕ) : Type 0 where
+pub record WeightOf (xs : List (List ℕ)) (w : ℕ) : Type 0 where
   -- the bone's row
   pub by : ℕ
   -- which of its weights, from 0 on
@@ -75,6 +75,6 @@ pub record Bone (R : Rows) (r i : ℕ) : Type 0 where
 -- E3, in the tables of a file s that a mode accepts
 pub record BonesNearest (mode : Mode) (s : List ℕ) : Type 0 where
   -- each weight of each bone names a vertex of the MESH of the nearest node above with an ANIM, else of the root's
-  pub bones : (t : Scene) → judge mode s ≡ got t → (r : ℕ) → r < length (rows 3 t) → kindOf (rows 3 t) r ≡ 2 → (i : ℕ) → i < countOf (rows 3 t) r → Bone (λ k. rows k t) r i
+  pub bones : (t : Scene) → judge mode s ≡ accept t → (r : ℕ) → r < length (rows 3 t) → kindOf (rows 3 t) r ≡ 2 → (i : ℕ) → i < countOf (rows 3 t) r → Bone (λ k. rows k t) r i
   -- each row of the weights is a weight of some bone
-  pub each : (t : Scene) → judge mode s ≡ got t → (w : ℕ) → w < length (rows 8 t) → Owned (rows 3 t) w
+  pub each : (t : Scene) → judge mode s ≡ accept t → (w : ℕ) → w < length (rows 8 t) → WeightOf (rows 3 t) w

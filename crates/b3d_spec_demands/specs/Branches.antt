@@ -3,7 +3,7 @@ use mathlib.Core.Path.{_≡_}
 use Prim.Native.Nat.{ℕ, _+_, _≤_, _<_}
 use mathlib.Core.List.{List, []}
 use lib.ListN.{length, getD}
-use Rattle.layout.specs.Out.{got}
+use Rattle.layout.specs.Result.{accept}
 use Rattle.b3d_spec.specs.declared.Mode.{Mode}
 use Rattle.b3d_spec.specs.Answers.{judge}
 use Rattle.b3d_spec.specs.Scene.{Scene}
@@ -35,4 +35,4 @@ pub record Branch (xs : List (List ℕ)) (r : ℕ) : Type 0 where
 
 -- E4, in table 3 of a file s that a mode accepts: each node's branch is the next rows, as many as its last word says
 abbrev pub Branches : Mode → List ℕ → Type 0
-Branches mode s = (t : Scene) → judge mode s ≡ got t → (r : ℕ) → r < length (rows 3 t) → Branch (rows 3 t) r
+Branches mode s = (t : Scene) → judge mode s ≡ accept t → (r : ℕ) → r < length (rows 3 t) → Branch (rows 3 t) r

@@ -6,7 +6,7 @@ use mathlib.Core.List.{List}
 use lib.ListN.{length, take, drop}
 use Rattle.wire.specs.Bytes.{AllBytes}
 use Rattle.layout.specs.Lists.{All}
-use Rattle.layout.specs.Out.{got, bad}
+use Rattle.layout.specs.Result.{accept, reject}
 use Rattle.b3d_spec.specs.declared.Mode.{Mode}
 use Rattle.b3d_spec.specs.declared.Mode.the-variants.{Lenient}
 use Rattle.b3d_spec.specs.Answers.{judge, read, readTable, writeAnswer, copy, clearAnswer, clearOutput}
@@ -24,17 +24,17 @@ use Rattle.b3d_spec_demands.specs.Demands.{FewRows, HasRoom, Lowest, Ali
 -- what the reader's answer `a` says
 pub record ReaderSays (mode : Mode) (room : ℕ → ℕ) (s : List ℕ) (a : Answer) : Type 0 where
   -- 0 only where the file is read: it is accepted, and each table has room
-  pub accepted : a .number ≡ 0 → (t : Scene) × (read mode room s ≡ got t)
+  pub accepted : a .number ≡ 0 → (t : Scene) × (read mode room s ≡ accept t)
   -- 0 wherever the file is read
-  pub zero : (t : Scene) → read mode room s ≡ got t → a .number ≡ 0
+  pub zero : (t : Scene) → read mode room s ≡ accept t → a .number ≡ 0
   -- any other number is 1 to 11
   pub most : a .number ≤ 11
   -- a refused call changes no lent word
   pub untouched : (a .number ≡ 0 → ⊥) → (k : ℕ) (xs : List ℕ) → readTable mode k room s xs ≡ xs
   -- 10: the file keeps the layout rules, and the place is the lowest table with more rows than the limit
-  pub ten : a .number ≡ 10 → (t : Scene) × (parse mode s ≡ got t) × Lowest (FewRows t) (a .place)
+  pub ten : a .number ≡ 10 → (t : Scene) × (parse mode s ≡ accept t) × Lowest (FewRows t) (a .place)
   -- 11: no table has, and the place is the lowest that is lent too short
-  pub eleven : a .number ≡ 11 → (t : Scene) × (judge mode s ≡ got t) × Lowest (HasRoom room t) (a .place)
+  pub eleven : a .number ≡ 11 → (t : Scene) × (judge mode s ≡ accept t) × Lowest (HasRoom room t) (a .place)
 
 -- ---- an answer, and the output afterwards
 
@@ -79,23 +79,23 @@ pub record ClearerSays (s out : List ℕ) (a : Written) (after : List ℕ) : Typ
   -- the output past the copy stays as found
   pub leaves : Leaves out a after
   -- 0: the file is accepted, and the output begins with its copy
-  pub zero : a .number ≡ 0 → (a .place ≡ 0) × ((t : Scene) × (judge Lenient s ≡ got t) × (take (a .size) after ≡ copy t))
+  pub zero : a .number ≡ 0 → (a .place ≡ 0) × ((t : Scene) × (judge Lenient s ≡ accept t) × (take (a .size) after ≡ copy t))
   -- 0: the reader, lent at least the counted rows, reads the copy back with the file's words and each name empty
-  pub read-back : (t : Scene) → judge Lenient s ≡ got t → a .number ≡ 0 → (ns : List ℕ) (xs : ℕ → List ℕ) → All (HasRoom (λ k. length (xs k)) t) tables → ReadBack Lenient (take (a .size) after) (emptied t) ns xs
+  pub read-back : (t : Scene) → judge Lenient s ≡ accept t → a .number ≡ 0 → (ns : List ℕ) (xs : ℕ → List ℕ) → All (HasRoom (λ k. length (xs k)) t) tables → ReadBack Lenient (take (a .size) after) (emptied t) ns xs
   -- 11 only where the output is shorter than the copy of an accepted file; the place is the copy's length
-  pub eleven : a .number ≡ 11 → (t : Scene) × (judge Lenient s ≡ got t) × (length out < length (copy t)) × (a .place ≡ length (copy t))
+  pub eleven : a .number ≡ 11 → (t : Scene) × (judge Lenient s ≡ accept t) × (length out < length (copy t)) × (a .place ≡ length (copy t))
   -- 11 wherever the output is shorter than the copy of an accepted file
-  pub short : (t : Scene) → judge Lenient s ≡ got t → length out < length (copy t) → a .number ≡ 11
+  pub short : (t : Scene) → judge Lenient s ≡ accept t → length out < length (copy t) → a .number ≡ 11
   -- 0 wherever the output has room for the copy of an accepted file
-  pub enough : (t : Scene) → judge Lenient s ≡ got t → length (copy t) ≤ length out → a .number ≡ 0
+  pub enough : (t : Scene) → judge Lenient s ≡ accept t → length (copy t) ≤ length out → a .number ≡ 0
   -- a file that is not accepted gets the reader's refusal, 1 to 10
-  pub first : (n p : ℕ) → judge Lenient s ≡ bad n p → a ≡ record { number = n; place = p; size = 0 }
+  pub first : (n p : ℕ) → judge Lenient s ≡ reject n p → a ≡ record { number = n; place = p; size = 0 }
   -- 10: the file keeps the layout rules, and the place is the lowest table with more rows than the limit
-  pub ten : a .number ≡ 10 → (t : Scene) × (parse Lenient s ≡ got t) × Lowest (FewRows t) (a .place)
+  pub ten : a .number ≡ 10 → (t : Scene) × (parse Lenient s ≡ accept t) × Lowest (FewRows t) (a .place)
   -- what 01 calls cleared again: the copy's bytes alone as the file, into another output as long, get the same answer
-  pub again : (t : Scene) → judge Lenient s ≡ got t → (out′ : List ℕ) → length out ≡ length out′ → clearAnswer (copy t) out′ ≡ a
+  pub again : (t : Scene) → judge Lenient s ≡ accept t → (out′ : List ℕ) → length out ≡ length out′ → clearAnswer (copy t) out′ ≡ a
   -- where it is not refused, the copy cleared again gives its own bytes
-  pub again-bytes : (t : Scene) → judge Lenient s ≡ got t → (out′ : List ℕ) → length out ≡ length out′ → a .number ≡ 0 → take (a .size) (clearOutput (copy t) out′) ≡ copy t
+  pub again-bytes : (t : Scene) → judge Lenient s ≡ accept t → (out′ : List ℕ) → length out ≡ length out′ → a .number ≡ 0 → take (a .size) (clearOutput (copy t) out′) ≡ copy t
 
 -- what being alike says of two accepted files s and v
 pub record IsAlike (s v : List ℕ) (a : Alike s v) : Type 0 where
@@ -122,9 +122,9 @@ pub record OneCopy (s v out out′ : List ℕ) : Type 0 where
 -- exactly when the files are alike.
 pub record TellsApart (s v out out′ : List ℕ) : Type 0 where
   -- alike files have equal copies
-  pub equal : (t u : Scene) → judge Lenient s ≡ got t → judge Lenient v ≡ got u → length (copy t) ≤ length out → length (copy u) ≤ length out′ → Alike s v → copyIn s out ≡ copyIn v out′
+  pub equal : (t u : Scene) → judge Lenient s ≡ accept t → judge Lenient v ≡ accept u → length (copy t) ≤ length out → length (copy u) ≤ length out′ → Alike s v → copyIn s out ≡ copyIn v out′
   -- files with equal copies are alike
-  pub alike : (t u : Scene) → judge Lenient s ≡ got t → judge Lenient v ≡ got u → length (copy t) ≤ length out → length (copy u) ≤ length out′ → copyIn s out ≡ copyIn v out′ → Alike s v
+  pub alike : (t u : Scene) → judge Lenient s ≡ accept t → judge Lenient v ≡ accept u → length (copy t) ≤ length out → length (copy u) ≤ length out′ → copyIn s out ≡ copyIn v out′ → Alike s v
 
 -- ---- read, then written
 

@@ -6,7 +6,7 @@ use mathlib.Core.List.{List, [], map}
 use lib.ListN.{length, take, drop, getD}
 use lib.Dec.{leb}
 use Rattle.wire.specs.Test.{if}
-use Rattle.layout.specs.Out.{got}
+use Rattle.layout.specs.Result.{accept}
 use Rattle.layout.specs.Lists.{All}
 use Rattle.b3d_spec.specs.declared.Mode.{Mode}
 use Rattle.b3d_spec.specs.Answers.{judge, readAnswer, readTable}
@@ -38,7 +38,7 @@ pub record Has (mode : Mode) (s : List ℕ) (T : Lent) (ns : List ℕ) : Type 0 
   -- what s says
   pub scene : Scene
   -- s is accepted
-  pub accepted : judge mode s ≡ got scene
+  pub accepted : judge mode s ≡ accept scene
   -- the counted rows are lent
   pub lent : All (λ k. width k * T .count k ≤ length (T .words k)) tables
   -- the versions agree

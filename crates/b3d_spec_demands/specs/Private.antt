@@ -7,7 +7,7 @@ use mathlib.Core.List.{List, [], _++_}
 use lib.ListN.{length}
 use Rattle.wire.specs.Bytes.{bytes, IsWord}
 use Rattle.layout.specs.Lists.{All}
-use Rattle.layout.specs.Out.{got}
+use Rattle.layout.specs.Result.{accept}
 use Rattle.layout.specs.Write.{writeText}
 use Rattle.b3d_spec.specs.declared.Mode.the-variants.{Lenient}
 use Rattle.b3d_spec.specs.declared.Tag.{Tag}
@@ -86,12 +86,12 @@ pub record FileWithout (s v : List ℕ) : Type 0 where
 -- Private things taken out of an accepted file leave it accepted, with the same words.
 pub record TakenOut (s v : List ℕ) : Type 0 where
   -- where s is accepted, so is v, and both are alike
-  pub alike : (t : Scene) → judge Lenient s ≡ got t → Alike s v
+  pub alike : (t : Scene) → judge Lenient s ≡ accept t → Alike s v
 
 -- Demand 3: two accepted files that are one file w without what is private are alike, so they get one answer and one copy, whatever
 -- private things each holds.
 pub record KeptPrivate (s v : List ℕ) : Type 0 where
   -- they are alike
-  pub alike : (w : List ℕ) → FileWithout s w → FileWithout v w → (t u : Scene) → judge Lenient s ≡ got t → judge Lenient v ≡ got u → Alike s v
+  pub alike : (w : List ℕ) → FileWithout s w → FileWithout v w → (t u : Scene) → judge Lenient s ≡ accept t → judge Lenient v ≡ accept u → Alike s v
   -- cleared into outputs of equal length, they get one answer and one copy
-  pub one-copy : (w : List ℕ) → FileWithout s w → FileWithout v w → (t u : Scene) → judge Lenient s ≡ got t → judge Lenient v ≡ got u → (out out′ : List ℕ) → length out ≡ length out′ → OneCopy s v out out′
+  pub one-copy : (w : List ℕ) → FileWithout s w → FileWithout v w → (t u : Scene) → judge Lenient s ≡ accept t → judge Lenient v ≡ accept u → (out out′ : List ℕ) → length out ≡ length out′ → OneCopy s v out out′

@@ -6,18 +6,18 @@ use mathlib.Core.List.{List}
 use lib.ListN.{length}
 use lib.Dec.{leb, leb→le, nleb→lt}
 use borrow.Author.Tests.{le-leb, lt-leb}
-use Rattle.layout.specs.Out.{got, bad, check}
+use Rattle.layout.specs.Result.{accept, reject, check}
 use Rattle.layout.proofs.Outs.{by-test}
 use Rattle.b3d_spec.specs.Answers.{roomFor, written}
 use Rattle.b3d_spec.specs.declared.Written.{Written}
 use Rattle.b3d_spec_output_answer.specs.Sizes.{OfSize}
 
 module _ (room : ℕ) (b : List ℕ) where
-  pub room-short : room < length b → roomFor room b ≡ bad 11 (length b)
+  pub room-short : room < length b → roomFor room b ≡ reject 11 (length b)
   unfolding roomFor check
   room-short h = rw (lt-leb (length b) room h)
 
-  pub room-fits : length b ≤ room → roomFor room b ≡ got b
+  pub room-fits : length b ≤ room → roomFor room b ≡ accept b
   unfolding roomFor check
   room-fits h = rw (le-leb (length b) room h)
 

@@ -6,7 +6,7 @@ use mathlib.Core.Path.{_≡_, refl, ap, sym, _∙_}
 use mathlib.Core.List.{List, [], _∷_}
 use lib.ListN.{length, drop, length-drop}
 use lib.Dec.{ltb, ltb→lt, nltb→le}
-use Rattle.layout.specs.Out.{got}
+use Rattle.layout.specs.Result.{accept}
 use Rattle.layout.specs.Parts.{Step, wordsOf, itemsOf, row, itemsIn, items}
 use Rattle.layout.specs.Rules.{Rule}
 use Rattle.layout.proofs.Outs.{by-test, by-got, bad-got, got-inj}
@@ -22,7 +22,7 @@ pub record RowRead (n p : ℕ) (s : List ℕ) (x : Step (List ℕ)) : Type 0 whe
   pub left : x .left ≡ drop (4 * n) s
   pub room : 4 * n ≤ length s
 
-pub row-read : (rs : List Rule) (p : ℕ) (s : List ℕ) (x : Step (List ℕ)) → row rs p s ≡ got x → RowRead (length rs) p s x
+pub row-read : (rs : List Rule) (p : ℕ) (s : List ℕ) (x : Step (List ℕ)) → row rs p s ≡ accept x → RowRead (length rs) p s x
 row-read rs p s x e =
     by-test (ltb (length s) (4 * length rs))
     (λ t. bad-got (sym (row-short rs p s (ltb→lt (length s) (4 * length rs) t)) ∙ e))
@@ -49,7 +49,7 @@ one-read n p s x m l r i e =
       size = omega (arith, suc-mul (length m) (4 * n), i .size, ap length (r .left), length-drop (4 * n) s, r .room);
     })
 
-in-read : (rs : List Rule) (f p : ℕ) (s : List ℕ) (l : List (List ℕ)) → itemsIn f (row rs) p s ≡ got l → ItemsRead (length rs) s l
+in-read : (rs : List Rule) (f p : ℕ) (s : List ℕ) (l : List (List ℕ)) → itemsIn f (row rs) p s ≡ accept l → ItemsRead (length rs) s l
 unfolding itemsIn
 in-read rs zero p [] l e = none-read (length rs) l (got-inj e)
 in-read rs zero p (c ∷ s) l e = bad-got e
@@ -58,7 +58,7 @@ in-read rs (suc f) p (c ∷ s) l e =
     by-got (row rs p (c ∷ s)) _ e (λ x ex e₁. by-got (itemsIn f (row rs) (x .place) (x .left)) _ e₁ (λ m em e₂.
     one-read (length rs) p (c ∷ s) x m l (row-read rs p (c ∷ s) x ex) (in-read rs f (x .place) (x .left) m em) (got-inj e₂)))
 
-pub items-read : (rs : List Rule) (p : ℕ) (s : List ℕ) (l : List (List ℕ)) → items (row rs) p s ≡ got l → ItemsRead (length rs) s l
+pub items-read : (rs : List Rule) (p : ℕ) (s : List ℕ) (l : List (List ℕ)) → items (row rs) p s ≡ accept l → ItemsRead (length rs) s l
 unfolding items
 items-read rs p s l e = in-read rs (length s) p s l e
 

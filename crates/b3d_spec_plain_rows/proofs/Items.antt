@@ -4,21 +4,21 @@ use Prim.Native.Nat.{ℕ, zero, suc, _≤_, _<_}
 use native.Mathlib.Omega.{arith}
 use mathlib.Core.List.{List, [], _∷_}
 use lib.ListN.{length, replicate}
-use Rattle.layout.specs.Out.{Out, got, bad}
+use Rattle.layout.specs.Result.{Result, accept, reject}
 use Rattle.layout.specs.Parts.{Name, Step, text, named}
 use Rattle.layout.specs.Rules.{any}
 use Rattle.layout.proofs.StepLaws.{named-shrinks}
 use Rattle.b3d_spec_plain_rows.specs.Plain.{nextItem, namedIn, namedItems}
 
 module _ (n : ℕ) where
-  abbrev one : ℕ → List ℕ → Out (Step (Name × List ℕ))
+  abbrev one : ℕ → List ℕ → Result (Step (Name × List ℕ))
   one p s = named (replicate n any) p s
 
   next-same : (f g : ℕ → List ℕ → List (Name × List ℕ)) (p : ℕ) (s : List ℕ) → ((q : ℕ) (r : List ℕ) → length r < length s → f q r ≡ g q r)
-      → (o : Out (Step (Name × List ℕ))) → one p s ≡ o → nextItem f o ≡ nextItem g o
+      → (o : Result (Step (Name × List ℕ))) → one p s ≡ o → nextItem f o ≡ nextItem g o
   unfolding nextItem
-  next-same f g p s same (got x) e = ap (λ l. x .value ∷ l) (same (x .place) (x .left) (named-shrinks (replicate n any) p s x e))
-  next-same f g p s same (bad i q) e = refl
+  next-same f g p s same (accept x) e = ap (λ l. x .value ∷ l) (same (x .place) (x .left) (named-shrinks (replicate n any) p s x e))
+  next-same f g p s same (reject i q) e = refl
 
   fuel : (f g p : ℕ) (s : List ℕ) → length s ≤ f → length s ≤ g → namedIn f n p s ≡ namedIn g n p s
   unfolding namedIn nextItem named text

@@ -9,7 +9,7 @@ use lib.ListN.{length, drop, drop-of-length-le}
 use lib.Dec.{T}
 use Rattle.wire.specs.Test.{if}
 use Rattle.layout.specs.Chunks.{done, chunk}
-use Rattle.layout.specs.Out.{got}
+use Rattle.layout.specs.Result.{accept}
 use Rattle.layout.specs.Rules.{NONE}
 use Rattle.layout.proofs.ChunkLaws.{split-none}
 use Rattle.b3d_spec.specs.declared.Mode.the-variants.{Lenient}
@@ -19,7 +19,7 @@ use Rattle.b3d_spec.specs.declared.Tag.the-variants.{TEXS, BRUS, NODE}
 use Rattle.b3d_spec.specs.Answers.{judge}
 use Rattle.b3d_spec.specs.Parse.{readNode, parse, Inner}
 use Rattle.b3d_spec.specs.Rules.{levels}
-use Rattle.b3d_spec.specs.Scene.{Forest, leaf, node, Scene}
+use Rattle.b3d_spec.specs.Scene.{Forest, noNodes, node, Scene}
 use Rattle.b3d_spec.specs.Tables.{start, nodesIn, ownRows, withNode, withForest, forestRows, rows, tables}
 use Rattle.b3d_spec.specs.Tags.{Chunks, split, tagOf, is}
 use Rattle.b3d_spec.proofs.AnswerLaws.{judge-got}
@@ -42,11 +42,11 @@ module _ (s : List ℕ) (k : ℕ) (lo : 4 ≤ k) (hi : k ≤ 10) where
   abbrev Part : ℕ → Forest → Type 0
   Part at f = (n : Counts) → flatRows k n (flatAt s at) ≡ forestRows k f NONE n
 
-  no-parts : (at : ℕ) → rest s at ≡ rest s (length s) → Part at leaf
+  no-parts : (at : ℕ) → rest s at ≡ rest s (length s) → Part at noNodes
   unfolding flatRows forestRows
   no-parts at e n = ap (flatRows k n) (end-done s at e)
 
-  root-part : (brushes at p : ℕ) (b : List ℕ) (x : Inner) → Here s at NODE p b → readNode Lenient levels brushes none p b ≡ got x → Part (p + 8 + length b) leaf → Part at (node (x .self) (x .below) leaf)
+  root-part : (brushes at p : ℕ) (b : List ℕ) (x : Inner) → Here s at NODE p b → readNode Lenient levels brushes none p b ≡ accept x → Part (p + 8 + length b) noNodes → Part at (node (x .self) (x .below) noNodes)
   unfolding forestRows
   root-part brushes at p b x h e more n =
       node-flat s k lo hi levels brushes none p b x e at h n NONE
@@ -60,7 +60,7 @@ module _ (s : List ℕ) (k : ℕ) (lo : 4 ≤ k) (hi : k ≤ 10) where
     root = root-part;
   }
 
-  pub parts-law : (t : Scene) → parse Lenient s ≡ got t → flatRows k start (flatAt s 12) ≡ forestRows k (t .nodes) NONE start
+  pub parts-law : (t : Scene) → parse Lenient s ≡ accept t → flatRows k start (flatAt s 12) ≡ forestRows k (t .nodes) NONE start
   parts-law t e = file-flat s Part says t e .nodes start
 
 -- ---- table 3
@@ -72,9 +72,9 @@ module _ (s : List ℕ) where
 
   record Tree (at : ℕ) (f : Forest) : Type 0 where
     rows : (l : List Open) (n : Counts) → Outside at l → nodeRows l n (flatAt s at) ≡ forestRows 3 f NONE n
-    clean : f ≡ leaf → Clean (flatAt s at)
+    clean : f ≡ noNodes → Clean (flatAt s at)
 
-  no-tree : (at : ℕ) → rest s at ≡ rest s (length s) → Tree at leaf
+  no-tree : (at : ℕ) → rest s at ≡ rest s (length s) → Tree at noNodes
   unfolding nodeRows forestRows
   no-tree at e = record { rows = λ l n h. ap (nodeRows l n) (end-done s at e); clean = λ _. subst Clean (sym (end-done s at e)) done-clean }
 
@@ -88,7 +88,7 @@ module _ (s : List ℕ) where
         clean = λ e. let c = more .clean e in record { kind = ap kindOf r ∙ kinds p b _ ∙ c .kind; anim = ap animOf r ∙ anims p b _ ∙ c .anim };
       }
 
-  root-tree : (brushes at p : ℕ) (b : List ℕ) (x : Inner) → Here s at NODE p b → readNode Lenient levels brushes none p b ≡ got x → Tree (p + 8 + length b) leaf → Tree at (node (x .self) (x .below) leaf)
+  root-tree : (brushes at p : ℕ) (b : List ℕ) (x : Inner) → Here s at NODE p b → readNode Lenient levels brushes none p b ≡ accept x → Tree (p + 8 + length b) noNodes → Tree at (node (x .self) (x .below) noNodes)
   unfolding forestRows
   root-tree brushes at p b x h e more = record {
     rows = λ l n o.
@@ -112,7 +112,7 @@ module _ (s : List ℕ) where
   unfolding parentAt
   none-open p h = refl
 
-  pub tree-law : (t : Scene) → parse Lenient s ≡ got t → nodeRows [] start (flatAt s 12) ≡ forestRows 3 (t .nodes) NONE start
+  pub tree-law : (t : Scene) → parse Lenient s ≡ accept t → nodeRows [] start (flatAt s 12) ≡ forestRows 3 (t .nodes) NONE start
   tree-law t e = file-flat s Tree tree-says t e .nodes .rows [] start none-open
 
 -- ---- the ten
@@ -120,7 +120,7 @@ module _ (s : List ℕ) where
 abbrev Law : List ℕ → Scene → ℕ → Type 0
 Law s t k = fileRows k s ≡ rows k t
 
-module _ (s : List ℕ) (t : Scene) (e : parse Lenient s ≡ got t) where
+module _ (s : List ℕ) (t : Scene) (e : parse Lenient s ≡ accept t) where
   has : Has s (Part s 4 (omega arith) (omega arith)) (says s 4 (omega arith) (omega arith)) 12 (rest s 12) (t .textures) (t .brushes) (t .nodes)
   has = file-flat s (Part s 4 (omega arith) (omega arith)) (says s 4 (omega arith) (omega arith)) t e
 
@@ -131,5 +131,5 @@ module _ (s : List ℕ) (t : Scene) (e : parse Lenient s ≡ got t) where
       (parts-law s 7 (omega arith) (omega arith) t e) (parts-law s 8 (omega arith) (omega arith) t e) (parts-law s 9 (omega arith) (omega arith) t e) (parts-law s 10 (omega arith) (omega arith) t e)
 
 -- table k, from 1 to 10, of an accepted file
-pub rows-law : (s : List ℕ) (t : Scene) → judge Lenient s ≡ got t → (k : ℕ) → 1 ≤ k → k ≤ 10 → fileRows k s ≡ rows k t
+pub rows-law : (s : List ℕ) (t : Scene) → judge Lenient s ≡ accept t → (k : ℕ) → 1 ≤ k → k ≤ 10 → fileRows k s ≡ rows k t
 rows-law s t e k lo hi = table-each (Law s t) (laws s t (judge-got Lenient s t e .0)) k lo hi

@@ -8,7 +8,7 @@ use lib.ListN.{length, getD, length-replicate}
 use lib.Dec.{leb, leb→le}
 use Rattle.wire.specs.Test.{if}
 use Rattle.layout.specs.Chunks.{done, chunk}
-use Rattle.layout.specs.Out.{got}
+use Rattle.layout.specs.Result.{accept}
 use Rattle.layout.specs.Parts.{Step, words, wordsOf, itemsOf, judged, row, number, items}
 use Rattle.layout.specs.Rules.{Rule, any, upTo, holds, refusal}
 use Rattle.layout.proofs.Outs.{by-got, by-check, bad-got, got-inj}
@@ -36,30 +36,30 @@ whole-read n s l pos r =
 
 -- ---- numbers in their ranges
 
-pub first-low : {A : Type 0} (m p : ℕ) (rs : List Rule) (ws : List ℕ) (a b : A) → judged (upTo m ∷ rs) p ws a ≡ got b → getD ws 0 0 ≤ m
+pub first-low : {A : Type 0} (m p : ℕ) (rs : List Rule) (ws : List ℕ) (a b : A) → judged (upTo m ∷ rs) p ws a ≡ accept b → getD ws 0 0 ≤ m
 unfolding judged
 first-low m p rs [] a b e = omega arith
 first-low m p rs (w ∷ ws) a b e = by-check (leb w m) 6 p _ e (λ t _. leb→le w m t)
 
-second-low : {A : Type 0} (r : Rule) (m p : ℕ) (rs : List Rule) (ws : List ℕ) (a b : A) → judged (r ∷ upTo m ∷ rs) p ws a ≡ got b → getD ws 1 0 ≤ m
+second-low : {A : Type 0} (r : Rule) (m p : ℕ) (rs : List Rule) (ws : List ℕ) (a b : A) → judged (r ∷ upTo m ∷ rs) p ws a ≡ accept b → getD ws 1 0 ≤ m
 unfolding judged
 second-low r m p rs [] a b e = omega arith
 second-low r m p rs (w ∷ ws) a b e = by-check (holds r w) (refusal r) p _ e (λ _ e₁. first-low m (p + 4) rs ws a b e₁)
 
-third-low : {A : Type 0} (q r : Rule) (m p : ℕ) (rs : List Rule) (ws : List ℕ) (a b : A) → judged (q ∷ r ∷ upTo m ∷ rs) p ws a ≡ got b → getD ws 2 0 ≤ m
+third-low : {A : Type 0} (q r : Rule) (m p : ℕ) (rs : List Rule) (ws : List ℕ) (a b : A) → judged (q ∷ r ∷ upTo m ∷ rs) p ws a ≡ accept b → getD ws 2 0 ≤ m
 unfolding judged
 third-low q r m p rs [] a b e = omega arith
 third-low q r m p rs (w ∷ ws) a b e = by-check (holds q w) (refusal q) p _ e (λ _ e₁. second-low r m (p + 4) rs ws a b e₁)
 
 -- of a row that was read
-pub judged-row : (rs : List Rule) (p : ℕ) (s : List ℕ) (h : Step (List ℕ)) → row rs p s ≡ got h → judged rs p (h .value) h ≡ got h
+pub judged-row : (rs : List Rule) (p : ℕ) (s : List ℕ) (h : Step (List ℕ)) → row rs p s ≡ accept h → judged rs p (h .value) h ≡ accept h
 unfolding row
 judged-row rs p s h e =
-    by-got (words p (length rs) p s) _ e (λ y ey e₁. let q = judged-got rs p (y .value) y h e₁ in subst (λ (z : Step (List ℕ)). judged rs p (z .value) z ≡ got h) q e₁)
+    by-got (words p (length rs) p s) _ e (λ y ey e₁. let q = judged-got rs p (y .value) y h e₁ in subst (λ (z : Step (List ℕ)). judged rs p (z .value) z ≡ accept h) q e₁)
 
 -- ---- KEYS
 
-keys-made : (f p : ℕ) (s : List ℕ) (l : List (List ℕ)) → f ≤ 7 → items (row (keyRow f)) p s ≡ got l → whole (ones (keyMask f)) s ≡ l
+keys-made : (f p : ℕ) (s : List ℕ) (l : List (List ℕ)) → f ≤ 7 → items (row (keyRow f)) p s ≡ accept l → whole (ones (keyMask f)) s ≡ l
 unfolding keyWords
 keys-made f p s l h e =
     let w = key-words f h in
@@ -68,7 +68,7 @@ keys-made f p s l h e =
 abbrev keysBy : List ℕ → List ℕ → Keys
 keysBy ws s = record { flags = getD ws 0 0; items = whole (ones (keyMask (getD ws 0 0))) s }
 
-pub keys-plain : (p : ℕ) (b : List ℕ) (k : Keys) → readKeys p b ≡ got k → plainKeys b ≡ k
+pub keys-plain : (p : ℕ) (b : List ℕ) (k : Keys) → readKeys p b ≡ accept k → plainKeys b ≡ k
 unfolding readKeys plainKeys
 keys-plain p b k e =
     by-got (row keysHead (p + 8) b) _ e (λ h eh e₁.
@@ -81,7 +81,7 @@ keys-plain p b k e =
 
 -- ---- BONE and ANIM
 
-pub bone-plain : (vertices p : ℕ) (b : List ℕ) (ws : List (List ℕ)) → readBone vertices p b ≡ got ws → plainWeights b ≡ ws
+pub bone-plain : (vertices p : ℕ) (b : List ℕ) (ws : List (List ℕ)) → readBone vertices p b ≡ accept ws → plainWeights b ≡ ws
 unfolding readBone plainWeights
 bone-plain vertices p b ws e = whole-read 2 b ws (omega arith) (items-read (weightRow vertices) (p + 8) b ws e)
 
@@ -89,20 +89,20 @@ three : (b : List ℕ) → 12 ≤ length b → plainAnim b ≡ wordsOf 3 b
 unfolding plainAnim
 three b h = three-cells (wordsOf 3 b) (length-words-of 3 b (omega arith))
 
-pub anim-plain : (p : ℕ) (b ws : List ℕ) → readAnim p b ≡ got ws → plainAnim b ≡ ws
+pub anim-plain : (p : ℕ) (b ws : List ℕ) → readAnim p b ≡ accept ws → plainAnim b ≡ ws
 unfolding readAnim filled
 anim-plain p b ws e =
     by-got (row animRow (p + 8) b) _ e (λ x ex e₁.
     let r = row-read animRow (p + 8) b x ex in
     three b (r .room) ∙ sym (r .value) ∙ go (x .value) (x .left) e₁)
   where
-    go : (vs l : List ℕ) → filled (p + 8) l vs ≡ got ws → vs ≡ ws
+    go : (vs l : List ℕ) → filled (p + 8) l vs ≡ accept ws → vs ≡ ws
     go vs [] h = got-inj h
     go vs (c ∷ l) h = bad-got h
 
 -- ---- VRTS
 
-shape-made : (f n z p : ℕ) (s : List ℕ) (l : List (List ℕ)) → f ≤ 3 → n ≤ 8 → z ≤ 4 → items (row (vertexRow Lenient f n z)) p s ≡ got l → whole (ones (vertexMask f n z)) s ≡ l
+shape-made : (f n z p : ℕ) (s : List ℕ) (l : List (List ℕ)) → f ≤ 3 → n ≤ 8 → z ≤ 4 → items (row (vertexRow Lenient f n z)) p s ≡ accept l → whole (ones (vertexMask f n z)) s ≡ l
 unfolding vertexWords
 shape-made f n z p s l hf hn hz e =
     let w = vertex-words f n z hf hn hz in
@@ -111,7 +111,7 @@ shape-made f n z p s l hf hn hz e =
 abbrev shapeBy : List ℕ → List ℕ → Vertices
 shapeBy ws s = record { flags = getD ws 0 0; sets = getD ws 1 0; size = getD ws 2 0; items = whole (ones (vertexMask (getD ws 0 0) (getD ws 1 0) (getD ws 2 0))) s }
 
-pub vertices-plain : (p : ℕ) (b : List ℕ) (v : Vertices) → readVertices Lenient p b ≡ got v → plainVertices b ≡ v
+pub vertices-plain : (p : ℕ) (b : List ℕ) (v : Vertices) → readVertices Lenient p b ≡ accept v → plainVertices b ≡ v
 unfolding readVertices plainVertices
 vertices-plain p b v e =
     by-got (row verticesHead (p + 8) b) _ e (λ h eh e₁.
@@ -130,7 +130,7 @@ vertices-plain p b v e =
 abbrev setBy : List ℕ → List ℕ → TriangleSet
 setBy ws s = record { brush = getD ws 0 0; triangles = whole 3 s }
 
-pub triangles-plain : (brushes vertices p : ℕ) (b : List ℕ) (x : TriangleSet) → readTriangles brushes vertices p b ≡ got x → plainTriangles b ≡ x
+pub triangles-plain : (brushes vertices p : ℕ) (b : List ℕ) (x : TriangleSet) → readTriangles brushes vertices p b ≡ accept x → plainTriangles b ≡ x
 unfolding readTriangles plainTriangles
 triangles-plain brushes vertices p b x e =
     by-got (row (trianglesHead brushes) (p + 8) b) _ e (λ h eh e₁.
@@ -149,7 +149,7 @@ none-plain : Sets done []
 unfolding setsOf
 none-plain = refl
 
-set-before : (brushes vertices p : ℕ) (b : List ℕ) (r : Chunks) (x : TriangleSet) (l : List TriangleSet) → readTriangles brushes vertices p b ≡ got x → Sets r l → Sets (chunk TRIS p b r) (x ∷ l)
+set-before : (brushes vertices p : ℕ) (b : List ℕ) (r : Chunks) (x : TriangleSet) (l : List TriangleSet) → readTriangles brushes vertices p b ≡ accept x → Sets r l → Sets (chunk TRIS p b r) (x ∷ l)
 unfolding setsOf if
 set-before brushes vertices p b r x l e more = ap₂ _∷_ (triangles-plain brushes vertices p b x e) more
 
@@ -157,17 +157,17 @@ abbrev meshBy : ℕ → Vertices → List TriangleSet → Mesh
 meshBy brush v l = record { brush = brush; flags = v .flags; sets = v .sets; size = v .size; vertices = v .items; triangleSets = l }
 
 module _ (brush : ℕ) where
-  abbrev Shaped : Chunks → Vertices → List TriangleSet → Type 0
-  Shaped cs v l = meshOf brush cs ≡ meshBy brush v l
+  abbrev MeshShape : Chunks → Vertices → List TriangleSet → Type 0
+  MeshShape cs v l = meshOf brush cs ≡ meshBy brush v l
 
-  shape-before : (p : ℕ) (b : List ℕ) (r : Chunks) (v : Vertices) (l : List TriangleSet) → readVertices Lenient p b ≡ got v → Sets r l → Shaped (chunk VRTS p b r) v l
+  shape-before : (p : ℕ) (b : List ℕ) (r : Chunks) (v : Vertices) (l : List TriangleSet) → readVertices Lenient p b ≡ accept v → Sets r l → MeshShape (chunk VRTS p b r) v l
   unfolding meshOf shapeOf setsOf if
   shape-before p b r v l e more = ap₂ (meshBy brush) (vertices-plain p b v e) more
 
-  plain : (brushes : ℕ) → ByShape Lenient brushes Sets Shaped
+  plain : (brushes : ℕ) → ByShape Lenient brushes Sets MeshShape
   plain brushes = record { none = none-plain; sets = set-before brushes; shape = shape-before }
 
-pub mesh-plain : (brushes p : ℕ) (b : List ℕ) (m : Mesh) → readMesh Lenient brushes p b ≡ got m → plainMesh p b ≡ m
+pub mesh-plain : (brushes p : ℕ) (b : List ℕ) (m : Mesh) → readMesh Lenient brushes p b ≡ accept m → plainMesh p b ≡ m
 unfolding readMesh inside plainMesh
 mesh-plain brushes p b m e =
     by-got (row (meshHead brushes) (p + 8) b) _ e (λ h eh e₁.
@@ -177,4 +177,4 @@ mesh-plain brushes p b m e =
     let q : h .place ≡ p + 12 = omega (arith, r .place) in
     ap₂ (λ (ws y : List ℕ). meshOf (getD ws 0 0) (split (p + 12) y)) (sym (r .value)) (sym (r .left))
     ∙ ap (λ (k : ℕ). meshOf (number h 0) (split k (h .left))) (sym q)
-    ∙ shape-read Lenient brushes Sets (Shaped (number h 0)) (plain (number h 0) brushes) p (split (h .place) (h .left)) v ev l el ∙ got-inj e₃)))
+    ∙ shape-read Lenient brushes Sets (MeshShape (number h 0)) (plain (number h 0) brushes) p (split (h .place) (h .left)) v ev l el ∙ got-inj e₃)))

@@ -5,7 +5,7 @@ use native.Mathlib.Omega.{arith}
 use mathlib.Core.List.{List, [], _∷_, _++_, map}
 use lib.ListN.{length, getD, length-append, length-replicate}
 use lib.Dec.{leb, le→leb}
-use Rattle.layout.specs.Out.{Out, got, _>>=_}
+use Rattle.layout.specs.Result.{Result, accept, _>>=_}
 use Rattle.layout.specs.Parts.{Name, Step, text, named, row, number, itemsIn, items}
 use Rattle.layout.specs.Rules.{Rule}
 use Rattle.layout.proofs.Outs.{by-got, bad-got, got-inj, if-yes}
@@ -21,10 +21,10 @@ use Rattle.b3d_spec_plain_rows.specs.Rows.{textureRows, brushesOf, brush
 use Rattle.b3d_spec_plain_rows.proofs.Leaves.{first-low, judged-row}
 
 module _ {A : Type 0} (make : Name × List ℕ → A) (rs : List Rule) where
-  abbrev readBy : ℕ → List ℕ → Out (Step A)
-  readBy p s = named rs p s >>= λ x. got (record { value = make (x .value); place = x .place; left = x .left })
+  abbrev readBy : ℕ → List ℕ → Result (Step A)
+  readBy p s = named rs p s >>= λ x. accept (record { value = make (x .value); place = x .place; left = x .left })
 
-  read-in : (f p : ℕ) (s : List ℕ) (l : List A) → itemsIn f readBy p s ≡ got l → map make (namedIn f (length rs) p s) ≡ l
+  read-in : (f p : ℕ) (s : List ℕ) (l : List A) → itemsIn f readBy p s ≡ accept l → map make (namedIn f (length rs) p s) ≡ l
   unfolding itemsIn namedIn nextItem named text
   read-in zero p [] l e = got-inj e
   read-in zero p (c ∷ s) l e = bad-got e
@@ -35,20 +35,20 @@ module _ {A : Type 0} (make : Name × List ℕ → A) (rs : List Rule) where
       by-got (itemsIn f readBy (x .place) (x .left)) _ e₁ (λ m em e₂.
       let g = got-inj ez in
       let rest = read-in f (y .place) (y .left) m (rw (← g) at em) in
-      ap (λ (o : Out (Step (Name × List ℕ))). map make (nextItem (namedIn f (length rs)) o)) (named-plain rs p (c ∷ s) y ey)
+      ap (λ (o : Result (Step (Name × List ℕ))). map make (nextItem (namedIn f (length rs)) o)) (named-plain rs p (c ∷ s) y ey)
       ∙ ap (λ (r : List A). make (y .value) ∷ r) rest
       ∙ ap (λ (a : Step A). a .value ∷ m) g
       ∙ got-inj e₂)))
 
-  items-plain : (p : ℕ) (s : List ℕ) (l : List A) → items readBy p s ≡ got l → map make (namedItems (length rs) p s) ≡ l
+  items-plain : (p : ℕ) (s : List ℕ) (l : List A) → items readBy p s ≡ accept l → map make (namedItems (length rs) p s) ≡ l
   unfolding items namedItems
   items-plain p s l e = read-in (length s) p s l e
 
-pub textures-plain : (p : ℕ) (b : List ℕ) (l : List Texture) → readTextures p b ≡ got l → textureRows p b ≡ map tables.textureRow l
+pub textures-plain : (p : ℕ) (b : List ℕ) (l : List Texture) → readTextures p b ≡ accept l → textureRows p b ≡ map tables.textureRow l
 unfolding readTextures readTexture textureRows
 textures-plain p b l e = ap (map tables.textureRow) (items-plain textureOf textureRow (p + 8) b l e)
 
-brushes-made : (slots textures p : ℕ) (s : List ℕ) (l : List Brush) → items (readBrush Lenient slots textures) p s ≡ got l → map brushOf (namedItems (7 + slots) p s) ≡ l
+brushes-made : (slots textures p : ℕ) (s : List ℕ) (l : List Brush) → items (readBrush Lenient slots textures) p s ≡ accept l → map brushOf (namedItems (7 + slots) p s) ≡ l
 unfolding readBrush
 brushes-made slots textures p s l e =
     let rs = brushRow Lenient ++ brushIds slots textures in
@@ -59,7 +59,7 @@ few-ids : (ids p : ℕ) (s : List ℕ) → ids ≤ 8 → brushesOf ids p s ≡ m
 unfolding brushesOf
 few-ids ids p s h = if-yes (leb ids 8) _ _ (le→leb ids 8 h)
 
-pub brushes-plain : (textures p : ℕ) (b : List ℕ) (v : ℕ × List Brush) → readBrushes Lenient textures p b ≡ got v → brushRows p b ≡ map tables.brushRow (v .1)
+pub brushes-plain : (textures p : ℕ) (b : List ℕ) (v : ℕ × List Brush) → readBrushes Lenient textures p b ≡ accept v → brushRows p b ≡ map tables.brushRow (v .1)
 unfolding readBrushes brushRows
 brushes-plain textures p b v e =
     by-got (row brushesHead (p + 8) b) _ e (λ h eh e₁.

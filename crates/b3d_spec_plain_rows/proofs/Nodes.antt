@@ -5,7 +5,7 @@ use mathlib.Core.Option.{Option}
 use mathlib.Core.List.{List, [], _∷_, _++_, append-assoc}
 use lib.ListN.{length}
 use Rattle.layout.specs.Chunks.{done, chunk}
-use Rattle.layout.specs.Out.{Out, got}
+use Rattle.layout.specs.Result.{Result, accept}
 use Rattle.layout.specs.Parts.{Name, Step, named}
 use Rattle.layout.proofs.Outs.{by-got, bad-got, got-inj}
 use Rattle.b3d_spec.specs.declared.Mode.the-variants.{Lenient}
@@ -13,9 +13,9 @@ use Rattle.b3d_spec.specs.declared.Counts.{Counts}
 use Rattle.b3d_spec.specs.declared.Tag.{Tag}
 use Rattle.b3d_spec.specs.declared.Tag.the-variants.{NODE, MESH, BONE, KEYS, ANIM}
 use Rattle.b3d_spec.specs.Nesting.{inside}
-use Rattle.b3d_spec.specs.Parse.{readMesh, readBone, readKeys, readAnim, readKind, readMoves, Inner, readNodes, readBelow, readNode}
-use Rattle.b3d_spec.specs.Rules.{nodeRow, boneVertices, bonesBelow}
-use Rattle.b3d_spec.specs.Scene.{Mesh, Kind, pivot, mesh, bone, Keys, Anim, still, anim, Data, Forest, leaf, node}
+use Rattle.b3d_spec.specs.Parse.{readMesh, readBone, readKeys, readAnim, readKind, readAnimation, Inner, readNodes, readBelow, readNode}
+use Rattle.b3d_spec.specs.Rules.{nodeRow, boneLimit, boneLimitBelow}
+use Rattle.b3d_spec.specs.Scene.{Mesh, Kind, pivot, mesh, bone, Keys, Anim, noAnim, anim, Data, Forest, noNodes, node}
 use Rattle.b3d_spec.specs.Tables.{nodesIn, ownRows, withNode, withForest, forestRows}
 use Rattle.b3d_spec.specs.Tags.{Chunks, split}
 use Rattle.b3d_spec_chunk_places.proofs.Nodes.{ByParts, parts-read}
@@ -55,12 +55,12 @@ module _ (s : List ℕ) (k : ℕ) where
     abbrev Flatly : Chunks → Kind → List Keys → Anim → Forest → Type 0
     Flatly cs kind ks a f = (at : ℕ) → Laid s e at cs → (n : Counts) (parent : ℕ) → from n at ≡ kindThen kind ks f parent n e
 
-    none-flat : Flatly done pivot [] still leaf
+    none-flat : Flatly done pivot [] noAnim noNodes
     unfolding kindRows withKind moveRows withLists forestRows withForest
     none-flat at h n parent = ap (flatRows k n) (run-same s at e h)
 
     node-before : (p : ℕ) (b : List ℕ) (r : Chunks) (x : Inner) (f : Forest) → ((at : ℕ) → Here s at NODE p b → (n : Counts) (parent : ℕ) → from n at ≡ nodeThen (x .self) (x .below) parent n (p + 8 + length b))
-        → Flatly r pivot [] still f → Flatly (chunk NODE p b r) pivot [] still (node (x .self) (x .below) f)
+        → Flatly r pivot [] noAnim f → Flatly (chunk NODE p b r) pivot [] noAnim (node (x .self) (x .below) f)
     unfolding kindRows withKind moveRows withLists forestRows withForest
     node-before p b r x f same more at h n parent =
         let m = withNode (x .self) n in
@@ -73,7 +73,7 @@ module _ (s : List ℕ) (k : ℕ) where
         ∙ ap (λ (l : List (List ℕ)). own ++ (below ++ l)) (more (p + 8 + length b) (h .1) q parent)
         ∙ sym (append-assoc own (below ++ later) end ∙ ap (λ (l : List (List ℕ)). own ++ l) (append-assoc below later end))
 
-    keys-before : (p : ℕ) (b : List ℕ) (r : Chunks) (x : Keys) (ks : List Keys) (a : Anim) (f : Forest) → readKeys p b ≡ got x → Flatly r pivot ks a f → Flatly (chunk KEYS p b r) pivot (x ∷ ks) a f
+    keys-before : (p : ℕ) (b : List ℕ) (r : Chunks) (x : Keys) (ks : List Keys) (a : Anim) (f : Forest) → readKeys p b ≡ accept x → Flatly r pivot ks a f → Flatly (chunk KEYS p b r) pivot (x ∷ ks) a f
     unfolding kindRows withKind moveRows withLists addKeys
     keys-before p b r x ks a f g more at h n parent =
         past at KEYS p b (h .0) (run-past s at KEYS p b (h .0) tt) n
@@ -81,25 +81,25 @@ module _ (s : List ℕ) (k : ℕ) where
         ∙ ap (λ (l : List (List ℕ)). keyListRows k (n .nodes - 1) (n .keys) x ++ l) (more (p + 8 + length b) (h .1) (addKeys x n) parent)
         ∙ sym (append-assoc (keyListRows k (n .nodes - 1) (n .keys) x) (moveRows k (n .nodes - 1) (n .keys + length (x .items)) ks) (nodesThen f parent (withLists ks (addKeys x n)) e))
 
-    anim-before : (p : ℕ) (b : List ℕ) (r : Chunks) (ws : List ℕ) (ks : List Keys) (f : Forest) → readAnim p b ≡ got ws → Flatly r pivot ks still f → Flatly (chunk ANIM p b r) pivot ks (anim ws) f
+    anim-before : (p : ℕ) (b : List ℕ) (r : Chunks) (ws : List ℕ) (ks : List Keys) (f : Forest) → readAnim p b ≡ accept ws → Flatly r pivot ks noAnim f → Flatly (chunk ANIM p b r) pivot ks (anim ws) f
     anim-before p b r ws ks f g more at h n parent = past at ANIM p b (h .0) (run-past s at ANIM p b (h .0) tt) n ∙ more (p + 8 + length b) (h .1) n parent
 
-    mesh-before : (brushes p : ℕ) (b : List ℕ) (r : Chunks) (m : Mesh) (ks : List Keys) (a : Anim) (f : Forest) → readMesh Lenient brushes p b ≡ got m → Flatly r pivot ks a f → Flatly (chunk MESH p b r) (mesh m) ks a f
+    mesh-before : (brushes p : ℕ) (b : List ℕ) (r : Chunks) (m : Mesh) (ks : List Keys) (a : Anim) (f : Forest) → readMesh Lenient brushes p b ≡ accept m → Flatly r pivot ks a f → Flatly (chunk MESH p b r) (mesh m) ks a f
     unfolding kindRows withKind
     mesh-before brushes p b r m ks a f g more at h n parent =
         past at MESH p b (h .0) (run-past s at MESH p b (h .0) tt) n
         ∙ ap (λ (z : Mesh). kindRows k (mesh z) (current n) ++ from (withKind (mesh z) n) (p + 8 + length b)) (mesh-plain brushes p b m g)
         ∙ ap (λ (l : List (List ℕ)). kindRows k (mesh m) (current n) ++ l) (more (p + 8 + length b) (h .1) (withKind (mesh m) n) parent)
 
-    bone-before : (vertices p : ℕ) (b : List ℕ) (r : Chunks) (ws : List (List ℕ)) (ks : List Keys) (a : Anim) (f : Forest) → readBone vertices p b ≡ got ws → Flatly r pivot ks a f → Flatly (chunk BONE p b r) (bone ws) ks a f
+    bone-before : (vertices p : ℕ) (b : List ℕ) (r : Chunks) (ws : List (List ℕ)) (ks : List Keys) (a : Anim) (f : Forest) → readBone vertices p b ≡ accept ws → Flatly r pivot ks a f → Flatly (chunk BONE p b r) (bone ws) ks a f
     unfolding kindRows withKind
     bone-before vertices p b r ws ks a f g more at h n parent =
         past at BONE p b (h .0) (run-past s at BONE p b (h .0) tt) n
         ∙ ap (λ (z : List (List ℕ)). kindRows k (bone z) (current n) ++ from (withKind (bone z) n) (p + 8 + length b)) (bone-plain vertices p b ws g)
         ∙ ap (λ (l : List (List ℕ)). kindRows k (bone ws) (current n) ++ l) (more (p + 8 + length b) (h .1) (withKind (bone ws) n) parent)
 
-    flatly : (brushes vertices : ℕ) (read : ℕ → List ℕ → Out Inner)
-        → ((p : ℕ) (b : List ℕ) (x : Inner) → read p b ≡ got x → (at : ℕ) → Here s at NODE p b → (n : Counts) (parent : ℕ) → from n at ≡ nodeThen (x .self) (x .below) parent n (p + 8 + length b))
+    flatly : (brushes vertices : ℕ) (read : ℕ → List ℕ → Result Inner)
+        → ((p : ℕ) (b : List ℕ) (x : Inner) → read p b ≡ accept x → (at : ℕ) → Here s at NODE p b → (n : Counts) (parent : ℕ) → from n at ≡ nodeThen (x .self) (x .below) parent n (p + 8 + length b))
         → ByParts Lenient brushes vertices read Flatly
     flatly brushes vertices read same = record {
       none = none-flat;
@@ -125,24 +125,24 @@ module _ (s : List ℕ) (k : ℕ) where
         ∙ sym (append-assoc (kindRows k kind n) (moveRows k (n .nodes) (n .keys) ks) (nodesThen f (n .nodes) (withNode d n) e))
         ∙ ap (λ (l : List (List ℕ)). l ++ nodesThen f (n .nodes) (withNode d n) e) (sym (own-parts k lo hi d parent (nodesIn f) n))
 
-    into : (at p : ℕ) (b : List ℕ) → Here s at NODE p b → (x : Step (Name × List ℕ)) → named nodeRow (p + 8) b ≡ got x → (n : Counts) → from n at ≡ from (addNode n) (x .place)
+    into : (at p : ℕ) (b : List ℕ) → Here s at NODE p b → (x : Step (Name × List ℕ)) → named nodeRow (p + 8) b ≡ accept x → (n : Counts) → from n at ≡ from (addNode n) (x .place)
     unfolding flatRows
     into at p b h x e n = ap (flatRows k n) (run-into s at NODE p b h x tt e)
 
-    pub node-flat : (l brushes : ℕ) (above : Option ℕ) (p : ℕ) (b : List ℕ) (x : Inner) → readNode Lenient l brushes above p b ≡ got x → (at : ℕ) → Here s at NODE p b
+    pub node-flat : (l brushes : ℕ) (above : Option ℕ) (p : ℕ) (b : List ℕ) (x : Inner) → readNode Lenient l brushes above p b ≡ accept x → (at : ℕ) → Here s at NODE p b
         → (n : Counts) (parent : ℕ) → from n at ≡ nodeThen (x .self) (x .below) parent n (p + 8 + length b)
     unfolding readNode readBelow inside
     node-flat zero brushes above p b x g at here n parent = bad-got g
     node-flat (suc l) brushes above p b x g at here n parent =
         by-got (named nodeRow (p + 8) b) _ g (λ h eh g₁.
-        by-got (readKind Lenient brushes (boneVertices above) (inside NODE p (h .place) (h .left))) _ g₁ (λ kd ek g₂.
-        by-got (readMoves still (kd .rest)) _ g₂ (λ m em g₃.
+        by-got (readKind Lenient brushes (boneLimit above) (inside NODE p (h .place) (h .left))) _ g₁ (λ kd ek g₂.
+        by-got (readAnimation noAnim (kd .rest)) _ g₂ (λ m em g₃.
         let d : Data = record { name = h .value .0; words = h .value .1; kind = kd .value; keys = m .value .keys; anim = m .value .anim } in
-        by-got (readNodes (readNode Lenient l brushes (bonesBelow above d)) (m .rest)) _ g₃ (λ f ef g₄.
+        by-got (readNodes (readNode Lenient l brushes (boneLimitBelow above d)) (m .rest)) _ g₃ (λ f ef g₄.
         let q = p + 8 + length b in
-        let read = readNode Lenient l brushes (bonesBelow above d) in
-        let parts = flatly q brushes (boneVertices above) read (λ p′ b′ y ey. node-flat l brushes (bonesBelow above d) p′ b′ y ey) in
+        let read = readNode Lenient l brushes (boneLimitBelow above d) in
+        let parts = flatly q brushes (boneLimit above) read (λ p′ b′ y ey. node-flat l brushes (boneLimitBelow above d) p′ b′ y ey) in
         into at p b here h eh n
-        ∙ parts-read Lenient brushes (boneVertices above) read (Flatly q) parts p (split (h .place) (h .left)) kd ek m em f ef (h .place) (inside-laid s at NODE p b here h eh) (addNode n) (n .nodes)
+        ∙ parts-read Lenient brushes (boneLimit above) read (Flatly q) parts p (split (h .place) (h .left)) kd ek m em f ef (h .place) (inside-laid s at NODE p b here h eh) (addNode n) (n .nodes)
         ∙ joined d f parent n q
         ∙ ap (λ (y : Inner). nodeThen (y .self) (y .below) parent n q) (got-inj g₄)))))

@@ -6,7 +6,7 @@ use mathlib.Core.List.{List, [], _∷_, _++_, append-nil, map}
 use lib.ListN.{length, length-append, length-map}
 use Rattle.wire.specs.Test.{if}
 use Rattle.b3d_spec.specs.declared.Counts.{Counts}
-use Rattle.b3d_spec.specs.Mask.{spread, keyMask}
+use Rattle.b3d_spec.specs.Mask.{padded, keyMask}
 use Rattle.b3d_spec.specs.Scene.{Mesh, Kind, pivot, mesh, bone, Keys, Data}
 use Rattle.b3d_spec.specs.Tables.{nodeTables, meshesOf, weightsOf, listRows, keyRows, meshRows, ownRows, withMeshes, withNode}
 use Rattle.b3d_spec.proofs.Rows.Numbers.{at-table}
@@ -52,7 +52,7 @@ lists-are i j (x ∷ xs) = ap (λ (l : List (List ℕ)). (i ∷ x .flags ∷ j �
 keys-are : (i j : ℕ) (xs : List Keys) → moveRows 10 i j xs ≡ keyRows xs
 unfolding moveRows keyListRows if keyRows
 keys-are i j [] = refl
-keys-are i j (x ∷ xs) = ap (λ (l : List (List ℕ)). map (spread (keyMask (x .flags))) (x .items) ++ l) (keys-are i (j + length (x .items)) xs)
+keys-are i j (x ∷ xs) = ap (λ (l : List (List ℕ)). map (padded (keyMask (x .flags))) (x .items) ++ l) (keys-are i (j + length (x .items)) xs)
 
 -- rows of the kind only
 by-kind : (k : ℕ) → NoMoves k → (kind : Kind) (n : Counts) (i j : ℕ) (xs : List Keys) (r : List (List ℕ)) → r ≡ kindRows k kind n → r ≡ kindRows k kind n ++ moveRows k i j xs
@@ -81,11 +81,11 @@ own-8 d p below n = by-kind 8 (λ i j x. refl) (d .kind) n (n .nodes) (n .keys) 
 of-lists : (k : ℕ) → ((m : Mesh) (n : Counts) → meshRows k (m ∷ []) n ≡ []) → ((ws : List (List ℕ)) → weightRows k ws ≡ [])
     → ((d : Data) (p below : ℕ) (n : Counts) → ownRows k d p below n ≡ moveRows k (n .nodes) (n .keys) (d .keys)) → Own k
 unfolding kindRows
-of-lists k bare light own d p below n = own d p below n ∙ ap (λ (l : List (List ℕ)). l ++ moveRows k (n .nodes) (n .keys) (d .keys)) (sym (go (d .kind)))
+of-lists k withoutPlaces light own d p below n = own d p below n ∙ ap (λ (l : List (List ℕ)). l ++ moveRows k (n .nodes) (n .keys) (d .keys)) (sym (go (d .kind)))
   where
     go : (kind : Kind) → kindRows k kind n ≡ []
     go pivot = refl
-    go (mesh m) = bare m n
+    go (mesh m) = withoutPlaces m n
     go (bone ws) = light ws
 
 -- of each of the tables 4 to 10
@@ -122,7 +122,7 @@ counts a b c d e f g h = record { nodes = a; meshes = b; vertices = c; sets = d;
 
 key-rows : (x : Keys) (xs : List Keys) → length (keyRows (x ∷ xs)) ≡ length (x .items) + length (keyRows xs)
 unfolding keyRows
-key-rows x xs = length-append (map (spread (keyMask (x .flags))) (x .items)) (keyRows xs) ∙ ap (λ (n : ℕ). n + length (keyRows xs)) (length-map (x .items) (spread (keyMask (x .flags))))
+key-rows x xs = length-append (map (padded (keyMask (x .flags))) (x .items)) (keyRows xs) ∙ ap (λ (n : ℕ). n + length (keyRows xs)) (length-map (x .items) (padded (keyMask (x .flags))))
 
 lists-counted : (xs : List Keys) (n : Counts) → withLists xs n ≡ counts (n .nodes) (n .meshes) (n .vertices) (n .sets) (n .triangles) (n .weights) (n .lists + length xs) (n .keys + length (keyRows xs))
 unfolding withLists addKeys keyRows

@@ -11,7 +11,7 @@ use lib.Dec.{T, leb, leb→le, le→leb, nleb→lt}
 use Rattle.wire.specs.Test.{if}
 use Rattle.wire.specs.Bytes.{word, wordAt}
 use Rattle.layout.specs.Chunks.{done, stop, chunk, keep, splitIn, split as splitOf}
-use Rattle.layout.specs.Out.{Out, got, bad}
+use Rattle.layout.specs.Result.{Result, accept, reject}
 use Rattle.layout.specs.Parts.{Name, Step, named}
 use Rattle.layout.proofs.ChunkLaws.{split-step, split-none}
 use Rattle.layout.proofs.Outs.{if-yes, if-no, if-cong, by-test}
@@ -130,10 +130,10 @@ module _ (s : List ℕ) where
   stop-any zero n p = refl
   stop-any (suc f) n p = refl
 
-  enter-same : (g h : ℕ → Chunks) (p : ℕ) (b : List ℕ) → ((q : ℕ) → p + 8 ≤ q → g q ≡ h q) → (o : Out (Step (Name × List ℕ))) → named nodeRow (p + 8) b ≡ o → enter o p b g ≡ enter o p b h
+  enter-same : (g h : ℕ → Chunks) (p : ℕ) (b : List ℕ) → ((q : ℕ) → p + 8 ≤ q → g q ≡ h q) → (o : Result (Step (Name × List ℕ))) → named nodeRow (p + 8) b ≡ o → enter o p b g ≡ enter o p b h
   unfolding enter
-  enter-same g h p b same (got x) e = let a = named-ahead nodeRow (p + 8) b x e in ap (chunk NODE p b) (same (x .place) (omega (arith, a .place)))
-  enter-same g h p b same (bad n q) e = refl
+  enter-same g h p b same (accept x) e = let a = named-ahead nodeRow (p + 8) b x e in ap (chunk NODE p b) (same (x .place) (omega (arith, a .place)))
+  enter-same g h p b same (reject n q) e = refl
 
   pub fuel-by : (f g at : ℕ) → length s - at ≤ f → length s - at ≤ g → (cs : Chunks) → rest s at ≡ cs → Laid s (length s) at cs → flatIn f s cs ≡ flatIn g s cs
   unfolding flatIn
@@ -195,26 +195,26 @@ module _ (s : List ℕ) where
     run-past y = one ∙ if-no (is t NODE) _ _ y
 
     -- into a NODE
-    pub run-into : (x : Step (Name × List ℕ)) → T (is t NODE) → named nodeRow (p + 8) b ≡ got x → flatAt s at ≡ chunk NODE p b (flatAt s (x .place))
+    pub run-into : (x : Step (Name × List ℕ)) → T (is t NODE) → named nodeRow (p + 8) b ≡ accept x → flatAt s at ≡ chunk NODE p b (flatAt s (x .place))
     unfolding enter
-    run-into x y e = one ∙ if-yes (is t NODE) _ _ y ∙ ap (λ (o : Out (Step (Name × List ℕ))). enter o p b (flatAt s)) e
+    run-into x y e = one ∙ if-yes (is t NODE) _ _ y ∙ ap (λ (o : Result (Step (Name × List ℕ))). enter o p b (flatAt s)) e
 
     -- a NODE without its text or its numbers
-    pub run-none : (n q : ℕ) → T (is t NODE) → named nodeRow (p + 8) b ≡ bad n q → flatAt s at ≡ stop n q
+    pub run-none : (n q : ℕ) → T (is t NODE) → named nodeRow (p + 8) b ≡ reject n q → flatAt s at ≡ stop n q
     unfolding enter
-    run-none n q y e = one ∙ if-yes (is t NODE) _ _ y ∙ ap (λ (o : Out (Step (Name × List ℕ))). enter o p b (flatAt s)) e
+    run-none n q y e = one ∙ if-yes (is t NODE) _ _ y ∙ ap (λ (o : Result (Step (Name × List ℕ))). enter o p b (flatAt s)) e
 
     -- a NODE or an end stands first
     pub run-node : T (is t NODE) → (P : Chunks → Type 0) → ((r : Chunks) → P (chunk NODE p b r)) → ((n q : ℕ) → P (stop n q)) → P (flatAt s at)
     unfolding enter
     run-node y P f g = subst P (sym (one ∙ if-yes (is t NODE) _ _ y)) (go (named nodeRow (p + 8) b))
       where
-        go : (o : Out (Step (Name × List ℕ))) → P (enter o p b (flatAt s))
-        go (got x) = f (flatAt s (x .place))
-        go (bad n q) = g n q
+        go : (o : Result (Step (Name × List ℕ))) → P (enter o p b (flatAt s))
+        go (accept x) = f (flatAt s (x .place))
+        go (reject n q) = g n q
 
     -- the chunks inside a NODE
-    pub inside-laid : (x : Step (Name × List ℕ)) → named nodeRow (p + 8) b ≡ got x → Laid s (p + 8 + length b) (x .place) (split (x .place) (x .left))
+    pub inside-laid : (x : Step (Name × List ℕ)) → named nodeRow (p + 8) b ≡ accept x → Laid s (p + 8 + length b) (x .place) (split (x .place) (x .left))
     inside-laid x e =
         let a = named-ahead nodeRow (p + 8) b x e in
         let q = p + 8 + length b in

@@ -10,7 +10,7 @@ use lib.ListN.{length}
 use lib.Dec.{T, leb, le→leb, leb→le}
 use Rattle.wire.specs.Test.{if}
 use Rattle.layout.specs.Chunks.{done, stop, chunk}
-use Rattle.layout.specs.Out.{Out, got}
+use Rattle.layout.specs.Result.{Result, accept}
 use Rattle.layout.specs.Parts.{Name, Step, named}
 use Rattle.layout.proofs.Outs.{by-got, bad-got, got-inj, if-yes, if-no, by-test}
 use Rattle.b3d_spec.specs.declared.Mode.the-variants.{Lenient}
@@ -18,9 +18,9 @@ use Rattle.b3d_spec.specs.declared.Counts.{Counts}
 use Rattle.b3d_spec.specs.declared.Tag.{Tag}
 use Rattle.b3d_spec.specs.declared.Tag.the-variants.{NODE, MESH, BONE, KEYS, ANIM}
 use Rattle.b3d_spec.specs.Nesting.{inside}
-use Rattle.b3d_spec.specs.Parse.{readMesh, readBone, readKeys, readAnim, readKind, Moves, readMoves, Inner, readNodes, readBelow, readNode}
-use Rattle.b3d_spec.specs.Rules.{nodeRow as nodeWords, boneVertices, bonesBelow}
-use Rattle.b3d_spec.specs.Scene.{Mesh, Kind, pivot, mesh, bone, Keys, Anim, still, anim, Data, Forest, leaf, node}
+use Rattle.b3d_spec.specs.Parse.{readMesh, readBone, readKeys, readAnim, readKind, Animation, readAnimation, Inner, readNodes, readBelow, readNode}
+use Rattle.b3d_spec.specs.Rules.{nodeRow as nodeWords, boneLimit, boneLimitBelow}
+use Rattle.b3d_spec.specs.Scene.{Mesh, Kind, pivot, mesh, bone, Keys, Anim, noAnim, anim, Data, Forest, noNodes, node}
 use Rattle.b3d_spec.specs.Tables.{nodesIn, nodeRow, ownRows, withNode, withForest, forestRows}
 use Rattle.b3d_spec.specs.Tags.{Chunks, split, is}
 use Rattle.b3d_spec_chunk_places.proofs.Nodes.{ByParts, parts-read}
@@ -33,7 +33,7 @@ use Rattle.b3d_spec_plain_rows.proofs.Run.{Here, Laid, rest-laid, run-s
 -- a NODE, or nothing, comes first
 pub record Clean (cs : Chunks) : Type 0 where
   pub kind : kindOf cs ≡ pivot
-  pub anim : animOf cs ≡ still
+  pub anim : animOf cs ≡ noAnim
 
 pub done-clean : Clean done
 unfolding kindOf animOf
@@ -115,7 +115,7 @@ module _ (s : List ℕ) where
     here-clean : (at p : ℕ) (b : List ℕ) → Here s at NODE p b → Clean (flatAt s at)
     here-clean at p b h = run-node s at NODE p b h tt Clean (λ r. node-clean p b r) stop-clean
 
-    no-nodes : (at : ℕ) → rest s at ≡ rest s e → Nodes at e leaf
+    no-nodes : (at : ℕ) → rest s at ≡ rest s e → Nodes at e noNodes
     unfolding forestRows withForest nodesIn
     no-nodes at h l n parent u = record { now = l; closed = λ p k. refl; is = ap (nodeRows l n) (run-same s at e h); before = λ q k. omega (arith, ap (nodesBefore q) (run-same s at e h)) }
 
@@ -142,12 +142,12 @@ module _ (s : List ℕ) where
     abbrev Trees : Chunks → Kind → List Keys → Anim → Forest → Type 0
     Trees cs kind ks a f = (at : ℕ) → Laid s e at cs → Tree at kind ks a f
 
-    none-tree : Trees done pivot [] still leaf
+    none-tree : Trees done pivot [] noAnim noNodes
     unfolding withKind withLists
     none-tree at h = let c = subst Clean (sym (run-same s at e h)) follows in record { kinds = c .kind; anims = c .anim; went = no-nodes at h }
 
-    node-before : (p : ℕ) (b : List ℕ) (r : Chunks) (x : Inner) (f : Forest) → ((at : ℕ) → Here s at NODE p b → NodeWent at p b (x .self) (x .below)) → Trees r pivot [] still f
-        → Trees (chunk NODE p b r) pivot [] still (node (x .self) (x .below) f)
+    node-before : (p : ℕ) (b : List ℕ) (r : Chunks) (x : Inner) (f : Forest) → ((at : ℕ) → Here s at NODE p b → NodeWent at p b (x .self) (x .below)) → Trees r pivot [] noAnim f
+        → Trees (chunk NODE p b r) pivot [] noAnim (node (x .self) (x .below) f)
     unfolding withKind withLists
     node-before p b r x f same more at h =
         let c = here-clean at p b (h .0) in
@@ -170,21 +170,21 @@ module _ (s : List ℕ) where
           (v .went l (counted t p b n) parent (λ q lo hi. u q (omega (arith, h .from)) hi)));
     }
 
-    keys-before : (p : ℕ) (b : List ℕ) (r : Chunks) (x : Keys) (ks : List Keys) (a : Anim) (f : Forest) → readKeys p b ≡ got x → Trees r pivot ks a f → Trees (chunk KEYS p b r) pivot (x ∷ ks) a f
+    keys-before : (p : ℕ) (b : List ℕ) (r : Chunks) (x : Keys) (ks : List Keys) (a : Anim) (f : Forest) → readKeys p b ≡ accept x → Trees r pivot ks a f → Trees (chunk KEYS p b r) pivot (x ∷ ks) a f
     unfolding withKind withLists kindOf animOf if
     keys-before p b r x ks a f g more at h =
         let v = more (p + 8 + length b) (h .1) in
         let run = run-past s at KEYS p b (h .0) tt in
         past-before KEYS at p b (h .0) tt pivot (x ∷ ks) a f (ap kindOf run ∙ v .kinds) (ap animOf run ∙ v .anims) ks (λ n. ap (λ (y : Keys). withLists ks (addKeys y n)) (keys-plain p b x g)) a v
 
-    anim-before : (p : ℕ) (b : List ℕ) (r : Chunks) (ws : List ℕ) (ks : List Keys) (f : Forest) → readAnim p b ≡ got ws → Trees r pivot ks still f → Trees (chunk ANIM p b r) pivot ks (anim ws) f
+    anim-before : (p : ℕ) (b : List ℕ) (r : Chunks) (ws : List ℕ) (ks : List Keys) (f : Forest) → readAnim p b ≡ accept ws → Trees r pivot ks noAnim f → Trees (chunk ANIM p b r) pivot ks (anim ws) f
     unfolding withKind kindOf animOf if
     anim-before p b r ws ks f g more at h =
         let v = more (p + 8 + length b) (h .1) in
         let run = run-past s at ANIM p b (h .0) tt in
-        past-before ANIM at p b (h .0) tt pivot ks (anim ws) f (ap kindOf run ∙ v .kinds) (ap animOf run ∙ ap anim (anim-plain p b ws g)) ks (λ n. refl) still v
+        past-before ANIM at p b (h .0) tt pivot ks (anim ws) f (ap kindOf run ∙ v .kinds) (ap animOf run ∙ ap anim (anim-plain p b ws g)) ks (λ n. refl) noAnim v
 
-    mesh-before : (brushes p : ℕ) (b : List ℕ) (r : Chunks) (m : Mesh) (ks : List Keys) (a : Anim) (f : Forest) → readMesh Lenient brushes p b ≡ got m → Trees r pivot ks a f → Trees (chunk MESH p b r) (mesh m) ks a f
+    mesh-before : (brushes p : ℕ) (b : List ℕ) (r : Chunks) (m : Mesh) (ks : List Keys) (a : Anim) (f : Forest) → readMesh Lenient brushes p b ≡ accept m → Trees r pivot ks a f → Trees (chunk MESH p b r) (mesh m) ks a f
     unfolding withKind kindOf animOf if
     mesh-before brushes p b r m ks a f g more at h =
         let v = more (p + 8 + length b) (h .1) in
@@ -192,7 +192,7 @@ module _ (s : List ℕ) where
         let same = mesh-plain brushes p b m g in
         past-before MESH at p b (h .0) tt (mesh m) ks a f (ap kindOf run ∙ ap mesh same) (ap animOf run ∙ v .anims) ks (λ n. ap (λ (z : Mesh). withLists ks (withKind (mesh z) n)) same) a v
 
-    bone-before : (vertices p : ℕ) (b : List ℕ) (r : Chunks) (ws : List (List ℕ)) (ks : List Keys) (a : Anim) (f : Forest) → readBone vertices p b ≡ got ws → Trees r pivot ks a f → Trees (chunk BONE p b r) (bone ws) ks a f
+    bone-before : (vertices p : ℕ) (b : List ℕ) (r : Chunks) (ws : List (List ℕ)) (ks : List Keys) (a : Anim) (f : Forest) → readBone vertices p b ≡ accept ws → Trees r pivot ks a f → Trees (chunk BONE p b r) (bone ws) ks a f
     unfolding withKind kindOf animOf if
     bone-before vertices p b r ws ks a f g more at h =
         let v = more (p + 8 + length b) (h .1) in
@@ -200,7 +200,7 @@ module _ (s : List ℕ) where
         let same = bone-plain vertices p b ws g in
         past-before BONE at p b (h .0) tt (bone ws) ks a f (ap kindOf run ∙ ap bone same) (ap animOf run ∙ v .anims) ks (λ n. ap (λ (z : List (List ℕ)). withLists ks (withKind (bone z) n)) same) a v
 
-    trees : (brushes vertices : ℕ) (read : ℕ → List ℕ → Out Inner) → ((p : ℕ) (b : List ℕ) (x : Inner) → read p b ≡ got x → (at : ℕ) → Here s at NODE p b → NodeWent at p b (x .self) (x .below))
+    trees : (brushes vertices : ℕ) (read : ℕ → List ℕ → Result Inner) → ((p : ℕ) (b : List ℕ) (x : Inner) → read p b ≡ accept x → (at : ℕ) → Here s at NODE p b → NodeWent at p b (x .self) (x .below))
         → ByParts Lenient brushes vertices read Trees
     trees brushes vertices read same = record {
       none = none-tree;
@@ -227,7 +227,7 @@ module _ (s : List ℕ) where
   unfolding nodeRow
   same-row name ws kind kind′ a a′ ks parent parent′ below below′ n e f g h = rw (e, f, g, h)
 
-  node-went : (at p : ℕ) (b : List ℕ) (h : Step (Name × List ℕ)) (kind : Kind) (m : Moves) (f : Forest) → Here s at NODE p b → named nodeWords (p + 8) b ≡ got h
+  node-went : (at p : ℕ) (b : List ℕ) (h : Step (Name × List ℕ)) (kind : Kind) (m : Animation) (f : Forest) → Here s at NODE p b → named nodeWords (p + 8) b ≡ accept h
       → kindOf (flatAt s (h .place)) ≡ kind → animOf (flatAt s (h .place)) ≡ m .anim
       → ((l : List Open) (n : Counts) (parent : ℕ) → Under l (h .place) (p + 8 + length b) parent
       → Went l n (h .place) (p + 8 + length b) (forestRows 3 f parent (withLists (m .keys) (withKind kind n))) (withForest f (withLists (m .keys) (withKind kind n))) (nodesIn f))
@@ -246,7 +246,7 @@ module _ (s : List ℕ) where
         closed = λ i k. w .closed i k ∙ behind-it q (n .nodes) l i k;
         is =
             ap (nodeRows l n) run
-            ∙ ap (λ (z : Out (Step (Name × List ℕ))). rowOf z (flatAt s (h .place)) (parentAt p l) q n ∷ nodeRows o (addNode n) (flatAt s (h .place))) eh
+            ∙ ap (λ (z : Result (Step (Name × List ℕ))). rowOf z (flatAt s (h .place)) (parentAt p l) q n ∷ nodeRows o (addNode n) (flatAt s (h .place))) eh
             ∙ ap₂ (λ (x : List ℕ) (y : List (List ℕ)). x ∷ y) (same-row (h .value .0) (h .value .1) kind (kindOf (flatAt s (h .place))) (m .anim) (animOf (flatAt s (h .place))) (m .keys) parent (parentAt p l) (nodesIn f) (nodesBefore q (flatAt s (h .place))) n ek ea pe inside) (w .is)
             ∙ ap (λ (z : Counts). nodeRow d parent (nodesIn f) n ∷ (forestRows 3 f (n .nodes) z ++ nodeRows (w .now) (withForest f z) (flatAt s q))) c;
         before = λ i le.
@@ -254,17 +254,17 @@ module _ (s : List ℕ) where
             ∙ by-test (leb i p) (λ t. absurd (omega (arith, leb→le i p t))) (λ t. if-no (leb i p) 0 (suc (nodesBefore i (flatAt s (h .place)))) t ∙ omega (arith, w .before i le));
       }
 
-  pub node-flat : (l brushes : ℕ) (above : Option ℕ) (p : ℕ) (b : List ℕ) (x : Inner) → readNode Lenient l brushes above p b ≡ got x → (at : ℕ) → Here s at NODE p b → NodeWent at p b (x .self) (x .below)
+  pub node-flat : (l brushes : ℕ) (above : Option ℕ) (p : ℕ) (b : List ℕ) (x : Inner) → readNode Lenient l brushes above p b ≡ accept x → (at : ℕ) → Here s at NODE p b → NodeWent at p b (x .self) (x .below)
   unfolding readNode readBelow inside
   node-flat zero brushes above p b x g at here clean = bad-got g
   node-flat (suc l) brushes above p b x g at here clean =
       by-got (named nodeWords (p + 8) b) _ g (λ h eh g₁.
-      by-got (readKind Lenient brushes (boneVertices above) (inside NODE p (h .place) (h .left))) _ g₁ (λ kd ek g₂.
-      by-got (readMoves still (kd .rest)) _ g₂ (λ m em g₃.
+      by-got (readKind Lenient brushes (boneLimit above) (inside NODE p (h .place) (h .left))) _ g₁ (λ kd ek g₂.
+      by-got (readAnimation noAnim (kd .rest)) _ g₂ (λ m em g₃.
       let d : Data = record { name = h .value .0; words = h .value .1; kind = kd .value; keys = m .value .keys; anim = m .value .anim } in
-      by-got (readNodes (readNode Lenient l brushes (bonesBelow above d)) (m .rest)) _ g₃ (λ f ef g₄.
+      by-got (readNodes (readNode Lenient l brushes (boneLimitBelow above d)) (m .rest)) _ g₃ (λ f ef g₄.
       let q = p + 8 + length b in
-      let read = readNode Lenient l brushes (bonesBelow above d) in
-      let parts = trees q clean brushes (boneVertices above) read (λ p′ b′ y ey. node-flat l brushes (bonesBelow above d) p′ b′ y ey) in
-      let v = parts-read Lenient brushes (boneVertices above) read (Trees q clean) parts p (split (h .place) (h .left)) kd ek m em f ef (h .place) (inside-laid s at NODE p b here h eh) in
+      let read = readNode Lenient l brushes (boneLimitBelow above d) in
+      let parts = trees q clean brushes (boneLimit above) read (λ p′ b′ y ey. node-flat l brushes (boneLimitBelow above d) p′ b′ y ey) in
+      let v = parts-read Lenient brushes (boneLimit above) read (Trees q clean) parts p (split (h .place) (h .left)) kd ek m em f ef (h .place) (inside-laid s at NODE p b here h eh) in
       subst (λ (y : Inner). NodeWent at p b (y .self) (y .below)) (got-inj g₄) (node-went at p b h (kd .value) (m .value) f here eh (v .kinds) (v .anims) (v .went)) clean))))

@@ -5,7 +5,7 @@ use mathlib.Core.List.{List}
 use lib.ListN.{length, drop}
 use Rattle.wire.specs.Test.{if}
 use Rattle.layout.specs.Chunks.{done, stop, chunk}
-use Rattle.layout.specs.Out.{Out, got, bad}
+use Rattle.layout.specs.Result.{Result, accept, reject}
 use Rattle.layout.specs.Parts.{Name, Step, named}
 use Rattle.b3d_spec.specs.declared.Tag.the-variants.{NODE}
 use Rattle.b3d_spec.specs.Rules.{nodeRow}
@@ -17,9 +17,9 @@ rest s at = split at (drop at s)
 
 -- the NODE with header place p and body b, then the run `go` from the place behind its text and ten numbers; where these are not all there, the run ends in
 -- that refusal
-unfoldable pub enter : Out (Step (Name × List ℕ)) → ℕ → List ℕ → (ℕ → Chunks) → Chunks
-enter (got x) p b go = chunk NODE p b (go (x .place))
-enter (bad n q) p b go = stop n q
+unfoldable pub enter : Result (Step (Name × List ℕ)) → ℕ → List ℕ → (ℕ → Chunks) → Chunks
+enter (accept x) p b go = chunk NODE p b (go (x .place))
+enter (reject n q) p b go = stop n q
 
 -- at most f chunks of the flat run of the file s that begins with the given chunks: a NODE is entered, every other chunk is passed over
 unfoldable pub flatIn : ℕ → List ℕ → Chunks → Chunks

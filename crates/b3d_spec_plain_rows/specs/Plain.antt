@@ -4,7 +4,7 @@ use mathlib.Core.List.{List, [], _∷_}
 use lib.ListN.{length, drop, getD, replicate}
 use Rattle.wire.specs.Test.{if}
 use Rattle.layout.specs.Chunks.{done, stop, chunk}
-use Rattle.layout.specs.Out.{Out, got, bad}
+use Rattle.layout.specs.Result.{Result, accept, reject}
 use Rattle.layout.specs.Parts.{Name, Step, named, wordsOf, itemsOf}
 use Rattle.layout.specs.Rules.{any}
 use Rattle.b3d_spec.specs.declared.Tag.the-variants.{VRTS, TRIS}
@@ -79,9 +79,9 @@ plainMesh p b = meshOf (getD (wordsOf 1 b) 0 0) (split (p + 12) (drop 4 b))
 -- ---- items that are a text and words
 
 -- the named item that was read, then what `rest` gives behind it; nothing where it was refused
-unfoldable pub nextItem : (ℕ → List ℕ → List (Name × List ℕ)) → Out (Step (Name × List ℕ)) → List (Name × List ℕ)
-nextItem rest (got x) = x .value ∷ rest (x .place) (x .left)
-nextItem rest (bad n p) = []
+unfoldable pub nextItem : (ℕ → List ℕ → List (Name × List ℕ)) → Result (Step (Name × List ℕ)) → List (Name × List ℕ)
+nextItem rest (accept x) = x .value ∷ rest (x .place) (x .left)
+nextItem rest (reject n p) = []
 
 -- the items of a text and `words` words in s, which begins at place p, up to the first that is not all there; at most f items
 unfoldable pub namedIn : ℕ → ℕ → ℕ → List ℕ → List (Name × List ℕ)

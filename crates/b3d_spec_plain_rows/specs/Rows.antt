@@ -5,15 +5,15 @@ use lib.ListN.{length, drop, getD}
 use lib.Dec.{eqb, leb}
 use Rattle.wire.specs.Test.{if}
 use Rattle.layout.specs.Chunks.{done, stop, chunk}
-use Rattle.layout.specs.Out.{Out, got, bad}
+use Rattle.layout.specs.Result.{Result, accept, reject}
 use Rattle.layout.specs.Parts.{Name, Step, named, wordsOf}
 use Rattle.layout.specs.Rules.{NONE}
 use Rattle.b3d_spec.specs.declared.Counts.{Counts}
 use Rattle.b3d_spec.specs.declared.Tag.{Tag}
 use Rattle.b3d_spec.specs.declared.Tag.the-variants.{BB3D, TEXS, BRUS, NODE, MESH, VRTS, TRIS, BONE, KEYS, ANIM}
-use Rattle.b3d_spec.specs.Mask.{spread, keyMask}
+use Rattle.b3d_spec.specs.Mask.{padded, keyMask}
 use Rattle.b3d_spec.specs.Rules.{nodeRow as nodeWords}
-use Rattle.b3d_spec.specs.Scene.{Kind, pivot, mesh, bone, Keys, Anim, still, anim}
+use Rattle.b3d_spec.specs.Scene.{Kind, pivot, mesh, bone, Keys, Anim, noAnim, anim}
 use Rattle.b3d_spec.specs.Tables.{start, textureRow, brushRow, nodeRow, meshRows, withMeshes}
 use Rattle.b3d_spec.specs.Tags.{Chunks, is}
 use Rattle.b3d_spec.specs.Parse.{textureOf, brushOf}
@@ -63,7 +63,7 @@ listRow i j x = i ∷ x .flags ∷ j ∷ length (x .items) ∷ []
 
 -- the rows of table k for a key list x of node i, its first key being number j: one in table 9, one for each key in table 10
 unfoldable pub keyListRows : ℕ → ℕ → ℕ → Keys → List (List ℕ)
-keyListRows k i j x = if (eqb k 9) (listRow i j x ∷ []) (if (eqb k 10) (map (spread (keyMask (x .flags))) (x .items)) [])
+keyListRows k i j x = if (eqb k 9) (listRow i j x ∷ []) (if (eqb k 10) (map (padded (keyMask (x .flags))) (x .items)) [])
 
 -- the rows of table k for one chunk of a tag, with header place p and body b, the counts before it being n
 abbrev pub chunkRows : ℕ → Tag → ℕ → List ℕ → Counts → List (List ℕ)
@@ -92,11 +92,11 @@ kindOf done = pivot
 kindOf (stop n p) = pivot
 kindOf (chunk t p b r) = if (is t NODE) pivot (if (is t MESH) (mesh (plainMesh p b)) (if (is t BONE) (bone (plainWeights b)) (kindOf r)))
 
--- a node's first ANIM, from its chunks before the next NODE; `still` where there is none
+-- a node's first ANIM, from its chunks before the next NODE; `noAnim` where there is none
 unfoldable pub animOf : Chunks → Anim
-animOf done = still
-animOf (stop n p) = still
-animOf (chunk t p b r) = if (is t NODE) still (if (is t ANIM) (anim (plainAnim b)) (animOf r))
+animOf done = noAnim
+animOf (stop n p) = noAnim
+animOf (chunk t p b r) = if (is t NODE) noAnim (if (is t ANIM) (anim (plainAnim b)) (animOf r))
 
 -- a node that may be open at a later place
 pub record Open : Type 0 where
@@ -117,9 +117,9 @@ nodesBefore e (stop n p) = 0
 nodesBefore e (chunk t p b r) = if (is t NODE) (if (leb e p) 0 (suc (nodesBefore e r))) (nodesBefore e r)
 
 -- a node's row by its text and ten numbers, the chunks cs behind them, its parent, its end and the counts n before it; empty where text or numbers are cut
-unfoldable pub rowOf : Out (Step (Name × List ℕ)) → Chunks → ℕ → ℕ → Counts → List ℕ
-rowOf (got x) cs parent end n = nodeRow (record { name = x .value .0; words = x .value .1; kind = kindOf cs; keys = []; anim = animOf cs }) parent (nodesBefore end cs) n
-rowOf (bad i p) cs parent end n = []
+unfoldable pub rowOf : Result (Step (Name × List ℕ)) → Chunks → ℕ → ℕ → Counts → List ℕ
+rowOf (accept x) cs parent end n = nodeRow (record { name = x .value .0; words = x .value .1; kind = kindOf cs; keys = []; anim = animOf cs }) parent (nodesBefore end cs) n
+rowOf (reject i p) cs parent end n = []
 
 -- the list l of nodes with the node number i in front, whose header is at p and whose body is b
 abbrev pub opened : ℕ → List ℕ → ℕ → List Open → List Open

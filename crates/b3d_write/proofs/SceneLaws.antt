@@ -12,7 +12,7 @@ use Rattle.layout.proofs.Lists.{All, all-left, all-right, all-from-map, all-zip
 use Rattle.layout.specs.Rows.{nameCells}
 use Rattle.b3d_spec.specs.declared.Counts.{Counts}
 use Rattle.b3d_spec.specs.declared.Mode.{Mode}
-use Rattle.b3d_spec.specs.Rebuild.{Lent, Rows, lentRows, textureFrom, brushFrom, together, nodeNames, names, rebuild}
+use Rattle.b3d_spec.specs.Rebuild.{Lent, Rows, lentRows, textureFrom, brushFrom, assembled, nodeNames, names, rebuild}
 use Rattle.b3d_spec.specs.Rules.{levels}
 use Rattle.b3d_spec.specs.Scene.{Texture, Brush, Scene}
 use Rattle.b3d_spec.specs.Tables.{width, textureRow, brushRow, rows, tables, nodeTables, nodeWidth}
@@ -45,7 +45,7 @@ module _ (mode : Mode) (v slots : ℕ) (counts t₁ t₂ t₃ t₄ t₅ t₆ t�
   abbrev rs : Rooms (getD counts 0 0) (getD counts 1 0) (partCounts counts) (length t₁) (length t₂) (length t₃) (length t₄) (length t₅) (length t₆) (length t₇) (length t₈) (length t₉) (length t₁₀)
   rs = sound-rooms mode v slots counts t₁ t₂ t₃ t₄ t₅ t₆ t₇ t₈ t₉ t₁₀ ns t e
 
-  is-together : together ns L ≡ t
+  is-together : assembled ns L ≡ t
   is-together =
       together-back ns L t (fit mode v slots counts t₁ t₂ t₃ t₄ t₅ t₆ t₇ t₈ t₉ t₁₀ ns t e) (agree mode v slots counts t₁ t₂ t₃ t₄ t₅ t₆ t₇ t₈ t₉ t₁₀ ns t e .version)
       (agree mode v slots counts t₁ t₂ t₃ t₄ t₅ t₆ t₇ t₈ t₉ t₁₀ ns t e .slots) (agree mode v slots counts t₁ t₂ t₃ t₄ t₅ t₆ t₇ t₈ t₉ t₁₀ ns t e .named) (sound-rows mode v slots counts t₁ t₂ t₃ t₄ t₅ t₆ t₇ t₈ t₉ t₁₀ ns t e)
@@ -103,11 +103,11 @@ module _ (mode : Mode) (v slots : ℕ) (counts t₁ t₂ t₃ t₄ t₅ t₆ t�
       }
 
   texture-made : map (textureFrom ns) (lentRows L 1) ≡ t .textures
-  unfolding together
+  unfolding assembled
   texture-made = ap (λ (x : Scene). x .textures) is-together
 
   brush-made : map (brushFrom ns slots) (lentRows L 2) ≡ t .brushes
-  unfolding together lentOf
+  unfolding assembled lentOf
   brush-made = ap (λ (x : Scene). x .brushes) is-together
 
   slots-made : t .slots ≡ slots

@@ -14,7 +14,7 @@ use Rattle.b3d_spec.specs.Rebuild.{Lent, cut, lentRows, rebuild}
 use Rattle.b3d_spec.specs.Rules.{levels}
 use Rattle.b3d_spec.specs.Scene.{Scene}
 use Rattle.b3d_spec.specs.Tables.{width, start, rows, tables, nodeTables}
-use Rattle.b3d_spec.proofs.Fitting.{Fit, slots-few}
+use Rattle.b3d_spec.proofs.Fitting.{WellFormed, slots-few}
 use Rattle.b3d_spec.proofs.Rows.RebuildLaws.{Agree, rebuild-fine, held-rows}
 use Rattle.b3d_check_table_lengths.specs.LentRooms.{partCounts, Rooms}
 use Rattle.b3d_check.specs.Lent.{lentOf}
@@ -29,7 +29,7 @@ module _ (mode : Mode) (v slots : ℕ) (counts t₁ t₂ t₃ t₄ t₅ t₆ t�
   -- ---- what sound tables have
 
   module _ (t : Scene) (e : rebuild mode L ns ≡ some t) where
-    pub fit : Fit t
+    pub fit : WellFormed t
     fit = rebuild-fine mode ns L t e .0
 
     pub agree : Agree ns L t

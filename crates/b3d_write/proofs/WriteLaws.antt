@@ -8,14 +8,14 @@ use mathlib.Core.List.{List}
 use lib.ListN.{length, getD}
 use borrow.Author.Tests.{not-true, not-false, lt-leb, le-leb}
 use Rattle.wire.specs.Test.{if}
-use Rattle.layout.specs.Out.{got, check}
+use Rattle.layout.specs.Result.{accept, check}
 use Rattle.layout.specs.Rows.{mostBytes}
 use Rattle.shared_output.specs.Writing.{Room}
 use Rattle.b3d_spec.specs.declared.Counts.{Counts}
 use Rattle.b3d_spec.specs.declared.Mode.{Mode}
 use Rattle.b3d_spec.specs.Answers.{shortest, roomFor, write, written, outputAfter, writeAnswer, writeOutput}
 use Rattle.b3d_spec.specs.Encode.{encode}
-use Rattle.b3d_spec.specs.Rebuild.{Lent, together, rebuild}
+use Rattle.b3d_spec.specs.Rebuild.{Lent, assembled, rebuild}
 use Rattle.b3d_spec.specs.Scene.{Scene}
 use Rattle.b3d_check_table_lengths.specs.LentRooms.{partCounts, Rooms}
 use Rattle.b3d_check.specs.Lent.{lentOf}
@@ -30,14 +30,14 @@ module _ (mode : Mode) (v slots : ℕ) (counts t₁ t₂ t₃ t₄ t₅ t₆ t�
   abbrev L : Lent
   L = lentOf v slots counts t₁ t₂ t₃ t₄ t₅ t₆ t₇ t₈ t₉ t₁₀
 
-  module _ (sound : rebuild mode L ns ≡ if s (some (together ns L)) none) where
+  module _ (sound : rebuild mode L ns ≡ if s (some (assembled ns L)) none) where
     pub write-unsound : (out : List ℕ) → not s ≡ true → Writes mode L ns out out (record { number = 12; place = 0; size = 0 })
     unfolding writeAnswer writeOutput write written outputAfter shortest if
     write-unsound out f = record { answer = rw (sound, not-true s f); output = rw (sound, not-true s f) }
 
     module _ (f : not s ≡ false) (all : Counts) (ea : all ≡ partCounts counts) (c₁ c₂ : ℕ) (e₁ : c₁ ≡ getD counts 0 0) (e₂ : c₂ ≡ getD counts 1 0) where
       abbrev t : Scene
-      t = together ns L
+      t = assembled ns L
 
       is-some : rebuild mode L ns ≡ some t
       unfolding if
@@ -61,7 +61,7 @@ module _ (mode : Mode) (v slots : ℕ) (counts t₁ t₂ t₃ t₄ t₅ t₆ t�
         write-long h = let k = lt-leb (length (encode t)) mostBytes (omega (arith, bytes)) in record { answer = rw (is-some, k); output = rw (is-some, k) }
 
         module _ (h : size ≤ mostBytes) where
-          found : shortest (rebuild mode L ns) ≡ got (encode t)
+          found : shortest (rebuild mode L ns) ≡ accept (encode t)
           unfolding shortest check
           found = rw (is-some, le-leb (length (encode t)) mostBytes (omega (arith, bytes)))
 

@@ -67,7 +67,7 @@ pub fn write(
             size: 0,
         };
     }
-    b3d_write_counted::put_counted(
+    b3d_write_counted::write_counted(
         names,
         version,
         slots,

@@ -13,7 +13,7 @@ use Rattle.layout.proofs.ListLaws.{cell-take}
 use Rattle.shared_output.proofs.Appends.{chunks-append}
 use Rattle.shared_output.proofs.Joining.{Both, Begins, both-begins, chunk-is}
 use Rattle.b3d_spec.specs.Encode.{writeKeys, keyChunks, animChunks}
-use Rattle.b3d_spec.specs.Rebuild.{mine, keysFrom, animFrom}
+use Rattle.b3d_spec.specs.Rebuild.{ownedBy, keysFrom, animFrom}
 use Rattle.b3d_spec.specs.Scene.{Keys}
 use Rattle.b3d_spec.specs.Tags.{code}
 use Rattle.b3d_spec.specs.declared.Counts.{Counts}
@@ -25,7 +25,7 @@ use Rattle.b3d_write_row_runs.specs.Lent.{rowsIn}
 use Rattle.b3d_write_items.specs.Chunks.{animBytes}
 use Rattle.b3d_write_item_lists.specs.Runs.{listsBytes}
 use Rattle.b3d_write_row_runs.proofs.Cutting.{rows-length, row-end}
-use Rattle.b3d_write_animation.specs.Moves.{animPart, movesBytes, MovesThere}
+use Rattle.b3d_write_animation.specs.Animation.{animPart, movesBytes, MovesThere}
 use Rattle.b3d_write_row_runs.proofs.Cells.{rows-cell}
 
 -- ---- how many key lists a node has
@@ -33,15 +33,15 @@ use Rattle.b3d_write_row_runs.proofs.Cells.{rows-cell}
 -- those before i are the node's
 pub record Counting (ls : List ℕ) (first node i : ℕ) : Type 0 where
   pub from : first ≤ i
-  pub sum : length (mine node (drop first (rowsIn 4 ls))) ≡ (i - first) + length (mine node (drop i (rowsIn 4 ls)))
+  pub sum : length (ownedBy node (drop first (rowsIn 4 ls))) ≡ (i - first) + length (ownedBy node (drop i (rowsIn 4 ls)))
 
 module _ (ls : List ℕ) (first node : ℕ) where
   pub count-none : Counting ls first node first
   count-none = record { from = omega arith; sum = omega arith }
 
   module _ (i : ℕ) (v : Counting ls first node i) where
-    pub count-done : length ls / 4 ≤ i → i - first ≡ length (mine node (drop first (rowsIn 4 ls)))
-    unfolding mine
+    pub count-done : length ls / 4 ≤ i → i - first ≡ length (ownedBy node (drop first (rowsIn 4 ls)))
+    unfolding ownedBy
     count-done h =
         let l : length (rowsIn 4 ls) ≤ i = rw (rows-length 4 ls) h in
         omega (arith, rw (drop-of-length-le (rowsIn 4 ls) l) at (v .sum))
@@ -54,16 +54,16 @@ module _ (ls : List ℕ) (first node : ℕ) where
       cell = rows-cell 4 ls i 0 h (omega arith) ∙ rw (add-zero (4 * i)) (sym e)
 
       pub count-one : k ≡ node → Counting ls first node (i + 1)
-      unfolding mine if
+      unfolding ownedBy if
       count-one q =
-          let more : length (mine node (drop i (rowsIn 4 ls))) ≡ suc (length (mine node (drop (suc i) (rowsIn 4 ls)))) = rw (next, eq-eqb (getD (getD (rowsIn 4 ls) i []) 0 0) node (cell ∙ q)) in
+          let more : length (ownedBy node (drop i (rowsIn 4 ls))) ≡ suc (length (ownedBy node (drop (suc i) (rowsIn 4 ls)))) = rw (next, eq-eqb (getD (getD (rowsIn 4 ls) i []) 0 0) node (cell ∙ q)) in
           let s : i + 1 ≡ suc i = omega arith in
           record { from = omega arith; sum = rw s (omega (arith, v .sum, v .from)) }
 
-      pub count-stop : (k ≡ node → ⊥) → i - first ≡ length (mine node (drop first (rowsIn 4 ls)))
-      unfolding mine if
+      pub count-stop : (k ≡ node → ⊥) → i - first ≡ length (ownedBy node (drop first (rowsIn 4 ls)))
+      unfolding ownedBy if
       count-stop q =
-          let none : length (mine node (drop i (rowsIn 4 ls))) ≡ 0 = rw (next, ne-eqb (getD (getD (rowsIn 4 ls) i []) 0 0) node (λ z. q (sym cell ∙ z))) in
+          let none : length (ownedBy node (drop i (rowsIn 4 ls))) ≡ 0 = rw (next, ne-eqb (getD (getD (rowsIn 4 ls) i []) 0 0) node (λ z. q (sym cell ∙ z))) in
           omega (arith, v .sum)
 
 pub ruleset count-laws = (count-none, count-done, count-one, count-stop)
@@ -90,8 +90,8 @@ pub keys-append : (l : List Keys) (r : List (Chunk Tag)) → keyChunks l r ≡ k
 keys-append [] r = refl
 keys-append (k ∷ l) r = ap (λ (c : List (Chunk Tag)). record { tag = KEYS; body = writeKeys k } ∷ c) (keys-append l r)
 
-module _ (ds : List ℕ) (i : ℕ) (ls ks : List ℕ) (n : Counts) (count : ℕ) (e : count ≡ length (mine (n .nodes) (drop (n .lists) (rowsIn 4 ls)))) where
-  own-lists : mine (n .nodes) (drop (n .lists) (rowsIn 4 ls)) ≡ take count (drop (n .lists) (rowsIn 4 ls))
+module _ (ds : List ℕ) (i : ℕ) (ls ks : List ℕ) (n : Counts) (count : ℕ) (e : count ≡ length (ownedBy (n .nodes) (drop (n .lists) (rowsIn 4 ls)))) where
+  own-lists : ownedBy (n .nodes) (drop (n .lists) (rowsIn 4 ls)) ≡ take count (drop (n .lists) (rowsIn 4 ls))
   own-lists = rw e (mine-take (n .nodes) (drop (n .lists) (rowsIn 4 ls)))
 
   pub moves-both : Both (movesBytes ds i ls ks n) (listsBytes (take count (drop (n .lists) (rowsIn 4 ls))) (drop (n .keys) (rowsIn 11 ks))) (animPart ds (i + 16))
@@ -104,7 +104,7 @@ module _ (ds : List ℕ) (i : ℕ) (ls ks : List ℕ) (n : Counts) (count : ℕ)
   pub moves-begin : Begins (movesBytes ds i ls ks n) (listsBytes (take count (drop (n .lists) (rowsIn 4 ls))) (drop (n .keys) (rowsIn 11 ks)))
   moves-begin = both-begins moves-both
 
-module _ (ls ks : List ℕ) (n : Counts) (h : MovesThere ls ks n) (count : ℕ) (e : count ≡ length (mine (n .nodes) (drop (n .lists) (rowsIn 4 ls)))) where
+module _ (ls ks : List ℕ) (n : Counts) (h : MovesThere ls ks n) (count : ℕ) (e : count ≡ length (ownedBy (n .nodes) (drop (n .lists) (rowsIn 4 ls)))) where
   pub lists-there : n .lists + count ≤ length ls / 4
   lists-there = omega (arith, h .lists, rows-length 4 ls, length-drop (n .lists) (rowsIn 4 ls), mine-length (n .nodes) (drop (n .lists) (rowsIn 4 ls)))
 

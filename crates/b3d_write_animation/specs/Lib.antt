@@ -1,2 +1,2 @@
 -- The bytes of a node's KEYS and ANIM.
-pub mod Moves
+pub mod Animation

@@ -3,10 +3,10 @@ ghost use mathlib.Core.Path.{_≡_};
 ghost use Prim.Native.Nat.{_+_, _*_, _/_, _<_, _≤_};
 ghost use lib.ListN.{length, drop};
 ghost use Rattle.shared_output.specs.Writing.{Room, Put};
-ghost use Rattle.b3d_spec.specs.Rebuild.{mine};
+ghost use Rattle.b3d_spec.specs.Rebuild.{ownedBy};
 ghost use Rattle.b3d_spec.specs.Tables.{nodeWidth};
 ghost use Rattle.b3d_write_row_runs.specs.Lent.{rowsIn};
-ghost use Rattle.b3d_write_animation.specs.Moves.{animPart, movesBytes, MovesThere};
+ghost use Rattle.b3d_write_animation.specs.Animation.{animPart, movesBytes, MovesThere};
 use b3d_spec::Counts;
 use b3d_write_item_lists::put_runs;
 use b3d_write_items::number;
@@ -26,7 +26,7 @@ fn put_anim(nodes: &[u32], at: usize, out: &mut [u8]) -> usize
 
 // Returns how many rows of `lists` from row `first` on belong to `node`, up to the first that does not.
 fn count_lists(lists: &[u32], first: usize, node: usize) -> usize
-    ensures { λ r. ⌜ r ≡ length (mine node (drop first (rowsIn 4 (now (lists .entry))))) ⌝ }
+    ensures { λ r. ⌜ r ≡ length (ownedBy node (drop first (rowsIn 4 (now (lists .entry))))) ⌝ }
 {
     let mut i = first;
     while i < lists.len() / 4 {
@@ -39,7 +39,7 @@ fn count_lists(lists: &[u32], first: usize, node: usize) -> usize
 }
 
 // Writes the KEYS and the ANIM of the node whose row begins at word `row` of `t3` and which comes after the counts `n`. Returns their size.
-pub fn put_moves(
+pub fn write_animation(
     t3: &[u32],
     row: usize,
     t9: &[u32],

@@ -9,7 +9,7 @@ use b3d_spec::NODE_WIDTH;
 
 // Writes the file of the first `textures` rows of `t1`, the first `brushes` rows of `t2` and the rows that `all` counts, with names in `names`, to the start
 // of `out`. Returns its size. The bytes behind it stay as they were.
-pub fn put_counted(
+pub fn write_counted(
     names: &[u8],
     version: u32,
     slots: u32,
@@ -47,7 +47,7 @@ pub fn put_counted(
     let t8 = &t8[..2 * all.weights];
     let t9 = &t9[..4 * all.lists];
     let t10 = &t10[..11 * all.keys];
-    b3d_write_file::put_file(
+    b3d_write_file::write_file(
         names,
         version,
         slots,

@@ -1,4 +1,4 @@
--- A law for each way through `put_lists` and `put_file`.
+-- A law for each way through `put_lists` and `write_file`.
 use mathlib.Core.Path.{_≡_, refl, ap, sym, _∙_, subst}
 use Prim.Native.Nat.{ℕ, _+_, _-_, _/_, _<_, _≤_}
 use native.Mathlib.Omega.{arith}
@@ -64,7 +64,7 @@ module _ (ns : List ℕ) (slots : ℕ) (t₁ t₂ : List ℕ) where
 
 pub ruleset lists-laws = (lists-both, lists-begin)
 
--- ---- `put_file`
+-- ---- `write_file`
 
 module _ (ns t₁ t₂ : List ℕ) (R : Rows) (version slots : ℕ) (out : List ℕ) where
   as-chunk : (t : Scene) → OfScene ns t₁ t₂ R version slots t → Room (encode t) out → Room (chunk (code BB3D) (bytes version []) (allBytes t)) out

@@ -13,7 +13,7 @@ use Rattle.shared_output.proofs.Joining.{none-put}
 use Rattle.b3d_spec.specs.declared.Counts.{Counts}
 use Rattle.b3d_spec.specs.Encode.{nodeChunks}
 use Rattle.b3d_spec.specs.Rebuild.{Rows}
-use Rattle.b3d_spec.specs.Scene.{Data, Forest, leaf, node}
+use Rattle.b3d_spec.specs.Scene.{Data, Forest, noNodes, node}
 use Rattle.b3d_spec.specs.Tables.{start, reached, ownRows, forestRows, nodeTables, nodeWidth, noRows}
 use Rattle.b3d_spec.proofs.Rows.RowLists.{cut-length}
 use Rattle.b3d_check_spec.proofs.Below.{here-scene, here-root}
@@ -27,7 +27,7 @@ unfolding nodeTables reached if
 there-none R = (omega arith, (omega arith, (omega arith, (omega arith, (omega arith, (omega arith, (omega arith, (omega arith, tt))))))))
 
 -- the first node row
-root-rows : (d : Data) (ch : Forest) → 0 < length (forestRows 3 (node d ch leaf) NONE start)
+root-rows : (d : Data) (ch : Forest) → 0 < length (forestRows 3 (node d ch noNodes) NONE start)
 unfolding forestRows ownRows if
 root-rows d ch = omega arith
 
@@ -42,30 +42,30 @@ module _ (ns : List ℕ) (a : Counts) (t₃ t₄ t₅ t₆ t₇ t₈ t₉ t₁�
   -- without a node row there is no node
   no-root : a .nodes ≡ 0 → (f : Forest) → OfNodes ns R b f → nodesBytes f ≡ []
   unfolding nodesBytes nodeChunks writeChunksOf
-  no-root e leaf h = refl
-  no-root e (node d ch leaf) h = absurd (omega (arith, many-nodes (node d ch leaf) h, root-rows d ch))
+  no-root e noNodes h = refl
+  no-root e (node d ch noNodes) h = absurd (omega (arith, many-nodes (node d ch noNodes) h, root-rows d ch))
   no-root e (node d ch (node c g i)) h = absurd (h .root)
 
   pub root-none : a .nodes ≡ 0 → Each (OfNodes ns R b) nodesBytes out out 0
   root-none e = record { small = omega arith; bytes = λ f h r. none-put (nodesBytes f) out (no-root e f h) }
 
   -- the root stands at the start of its tables
-  root-first : (d : Data) (ch : Forest) → OfNodes ns R b (node d ch leaf) → First ns R 16 b none d ch leaf NONE noRows (λ k. [])
+  root-first : (d : Data) (ch : Forest) → OfNodes ns R b (node d ch noNodes) → First ns R 16 b none d ch noNodes NONE noRows (λ k. [])
   unfolding start forestRows
   root-first d ch h =
-      let g = here-scene R (node d ch leaf) (h .rows) in
+      let g = here-scene R (node d ch noNodes) (h .rows) in
       record { here = g; there = there-none R; below = here-root R d ch g; fits = h .fits; names = h .names }
 
   -- with a node row there is a root
   record Root (f : Forest) : Type 0 where
     own : Data
     children : Forest
-    is : f ≡ node own children leaf
+    is : f ≡ node own children noNodes
 
   a-root : (a .nodes ≡ 0 → ⊥) → (f : Forest) → OfNodes ns R b f → Root f
   unfolding forestRows
-  a-root n leaf h = absurd (n (sym (many-nodes leaf h)))
-  a-root n (node d ch leaf) h = record { own = d; children = ch; is = refl }
+  a-root n noNodes h = absurd (n (sym (many-nodes noNodes h)))
+  a-root n (node d ch noNodes) h = record { own = d; children = ch; is = refl }
   a-root n (node d ch (node c g i)) h = absurd (h .root)
 
   abbrev placed : (f : Forest) (x : Root f) → OfNodes ns R b f → Placed ns R 16 noRows
@@ -74,7 +74,7 @@ module _ (ns : List ℕ) (a : Counts) (t₃ t₄ t₅ t₆ t₇ t₈ t₉ t₁�
     above = none;
     own = x .own;
     children = x .children;
-    siblings = leaf;
+    siblings = noNodes;
     parent = NONE;
     after = λ k. [];
     stand = root-first (x .own) (x .children) (subst (OfNodes ns R b) (x .is) h);

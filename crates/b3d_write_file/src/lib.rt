@@ -48,13 +48,13 @@ fn put_root(
         return 0;
     }
     let n = START;
-    let root = b3d_write_nodes::put_node(names, t3, t4, t5, t6, t7, t8, t9, t10, all, 16, n, out);
+    let root = b3d_write_nodes::write_node(names, t3, t4, t5, t6, t7, t8, t9, t10, all, 16, n, out);
     root.size
 }
 
 // Writes the whole file to the start of `out`: BB3D's header and `version`, TEXS and BRUS, and the nodes. Returns its size. The bytes behind it stay as they
 // were.
-pub fn put_file(
+pub fn write_file(
     names: &[u8],
     version: u32,
     slots: u32,

@@ -9,7 +9,7 @@ use Rattle.layout.specs.Write.{writeWords, writeItems, writeChunks}
 use Rattle.shared_output.proofs.Joining.{chunk-is}
 use Rattle.shared_output.proofs.Appends.{chunks-cons}
 use Rattle.b3d_spec.specs.Encode.{writeTriangles, setChunks, writeKeys, keyChunks}
-use Rattle.b3d_spec.specs.Mask.{squeeze, keyMask}
+use Rattle.b3d_spec.specs.Mask.{presentWords, keyMask}
 use Rattle.b3d_spec.specs.Rebuild.{setsFrom, keysFrom}
 use Rattle.b3d_spec.specs.Tags.{code}
 use Rattle.b3d_spec.specs.declared.Tag.the-variants.{TRIS, KEYS}
@@ -32,8 +32,8 @@ lists-runs [] ks = refl
 lists-runs (x ∷ xs) ks =
     let n = getD x 3 0 in
     let f = getD x 1 0 in
-    chunks-cons code (record { tag = KEYS; body = writeKeys (record { flags = f; items = map (squeeze (keyMask f)) (take n ks) }) }) (keyChunks (keysFrom xs (drop n ks)) [])
-    ∙ ap₂ _++_ (chunk-is code KEYS (bytes f []) (writeItems writeWords (map (squeeze (keyMask f)) (take n ks)))) (lists-runs xs (drop n ks))
+    chunks-cons code (record { tag = KEYS; body = writeKeys (record { flags = f; items = map (presentWords (keyMask f)) (take n ks) }) }) (keyChunks (keysFrom xs (drop n ks)) [])
+    ∙ ap₂ _++_ (chunk-is code KEYS (bytes f []) (writeItems writeWords (map (presentWords (keyMask f)) (take n ks)))) (lists-runs xs (drop n ks))
 
 -- runs of either kind
 pub runs-are : (keys : Bool) (xs is : List (List ℕ)) → runsBytes keys xs is ≡ eachRun (runBytes keys) xs is

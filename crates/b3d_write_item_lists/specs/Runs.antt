@@ -6,7 +6,7 @@ use Rattle.wire.specs.Bytes.{bytes}
 use Rattle.layout.specs.Write.{writeItems, writeWords}
 use Rattle.shared_output.specs.Writing.{chunk}
 use Rattle.b3d_spec.specs.Encode.{setChunks, keyChunks}
-use Rattle.b3d_spec.specs.Mask.{squeeze, keyMask}
+use Rattle.b3d_spec.specs.Mask.{presentWords, keyMask}
 use Rattle.b3d_spec.specs.Rebuild.{setsFrom, keysFrom}
 use Rattle.b3d_spec.specs.Tags.{code, writeChunks}
 use Rattle.b3d_spec.specs.declared.Tag.the-variants.{KEYS}
@@ -14,7 +14,7 @@ use Rattle.b3d_write_items.specs.Chunks.{setBytes}
 
 -- a KEYS of the flags f and the key rows ks
 abbrev pub listBytes : ℕ → List (List ℕ) → List ℕ
-listBytes f ks = chunk (code KEYS) (bytes f []) (writeItems writeWords (map (squeeze (keyMask f)) ks))
+listBytes f ks = chunk (code KEYS) (bytes f []) (writeItems writeWords (map (presentWords (keyMask f)) ks))
 
 -- a TRIS for each of the rows xs of triangle sets, their triangles being the first of ts
 abbrev pub setsBytes : List (List ℕ) → List (List ℕ) → List ℕ

@@ -5,7 +5,7 @@ ghost use Prim.Native.Nat.{_+_, _*_, _/_, _<_, _≤_};
 ghost use lib.ListN.{length};
 ghost use Rattle.layout.specs.Write.{writeWords, writeItems};
 ghost use Rattle.shared_output.specs.Writing.{Room, Put};
-ghost use Rattle.b3d_spec.specs.Mask.{squeeze, keyMask};
+ghost use Rattle.b3d_spec.specs.Mask.{presentWords, keyMask};
 ghost use Rattle.b3d_rule_row_masks.specs.Runs.{Short, OfKey};
 ghost use Rattle.b3d_write_row_runs.specs.Lent.{rowsFrom};
 ghost use Rattle.b3d_write_row_runs.specs.RowBytes.{backBytes, rowBytes};
@@ -36,8 +36,8 @@ fn put_key(g: RowRuns, words: &[u32], base: usize, out: &mut [u8]) -> usize
 // Writes `count` keys from row `first` of `keys` on, by their `flags`, to the start of `out`. Returns the size; 0 where `count` is 0.
 pub fn put_key_rows(flags: u32, keys: &[u32], first: usize, count: usize, out: &mut [u8]) -> usize
     requires { ⌜ first + count ≤ length (now keys) / 11 ⌝ }
-    requires { ⌜ Room (writeItems writeWords (map (squeeze (keyMask flags)) (rowsFrom 11 (now keys) first count))) (now out) ⌝ }
-    ensures { λ r. ⌜ Put (writeItems writeWords (map (squeeze (keyMask flags)) (rowsFrom 11 (now (keys .entry)) first count))) (now (out .entry)) (now (out .exit)) r ⌝ }
+    requires { ⌜ Room (writeItems writeWords (map (presentWords (keyMask flags)) (rowsFrom 11 (now keys) first count))) (now out) ⌝ }
+    ensures { λ r. ⌜ Put (writeItems writeWords (map (presentWords (keyMask flags)) (rowsFrom 11 (now (keys .entry)) first count))) (now (out .entry)) (now (out .exit)) r ⌝ }
 {
     let g = b3d_rule_row_masks::key_runs(flags);
     let mut at: usize = 0;

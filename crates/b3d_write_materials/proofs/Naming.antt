@@ -9,14 +9,14 @@ use lib.ListN.{length, take, drop, getD}
 use lib.Seq.{drop-drop}
 use lib.Dec.{T, leb, leb→le}
 use mir.Facts.{and-yes}
-use Rattle.layout.specs.Fit.{all}
+use Rattle.layout.specs.WellFormed.{all}
 use Rattle.layout.specs.Write.{writeWords, writeText}
 use Rattle.layout.proofs.ListLaws.{cell-take}
 use Rattle.shared_output.specs.Writing.{Room, Put}
 use Rattle.shared_output.proofs.Joining.{Both, Begins, both-begins}
 use Rattle.shared_output.proofs.Appends.{text-append}
 use Rattle.b3d_spec.specs.Rebuild.{cut}
-use Rattle.b3d_check_spec.specs.Check.{nameHere, brushHere}
+use Rattle.b3d_check_spec.specs.Check.{nameValid, brushValid}
 use Rattle.b3d_write_row_runs.specs.Lent.{eachRow}
 use Rattle.b3d_write_materials.specs.Named.{NameThere, NamesThere, namedBytes, rowBytes}
 use Rattle.b3d_write_row_runs.proofs.Cutting.{part-take}
@@ -92,17 +92,17 @@ pub ruleset named-laws = (named-none, named-same, named-done, rows-there, named-
 
 -- ---- what the check of lent tables says of names
 
-names-there : (ns : List ℕ) (f : List ℕ → Bool) → ((x : List ℕ) → T (f x) → T (nameHere ns x)) → (rs : List (List ℕ)) → T (all f rs) → NamesThere ns rs
-unfolding NamesThere nameHere
+names-there : (ns : List ℕ) (f : List ℕ → Bool) → ((x : List ℕ) → T (f x) → T (nameValid ns x)) → (rs : List (List ℕ)) → T (all f rs) → NamesThere ns rs
+unfolding NamesThere nameValid
 names-there ns f h [] t = tt
 names-there ns f h (x ∷ rs) t =
     let u = and-yes (f x) (all f rs) t in
     let l = and-yes (leb (getD x 0 0 + getD x 1 0) (length ns)) _ (h x (u .0)) .0 in
     (leb→le (getD x 0 0 + getD x 1 0) (length ns) l, names-there ns f h rs (u .1))
 
-pub textures-named : (ns : List ℕ) (rs : List (List ℕ)) → all (nameHere ns) rs ≡ true → NamesThere ns rs
-textures-named ns rs e = names-there ns (nameHere ns) (λ x t. t) rs (subst T (sym e) tt)
+pub textures-named : (ns : List ℕ) (rs : List (List ℕ)) → all (nameValid ns) rs ≡ true → NamesThere ns rs
+textures-named ns rs e = names-there ns (nameValid ns) (λ x t. t) rs (subst T (sym e) tt)
 
-pub brushes-named : (ns : List ℕ) (many textures : ℕ) (rs : List (List ℕ)) → all (brushHere ns many textures) rs ≡ true → NamesThere ns rs
-unfolding brushHere
-brushes-named ns many textures rs e = names-there ns (brushHere ns many textures) (λ x t. and-yes (nameHere ns x) _ t .0) rs (subst T (sym e) tt)
+pub brushes-named : (ns : List ℕ) (many textures : ℕ) (rs : List (List ℕ)) → all (brushValid ns many textures) rs ≡ true → NamesThere ns rs
+unfolding brushValid
+brushes-named ns many textures rs e = names-there ns (brushValid ns many textures) (λ x t. and-yes (nameValid ns x) _ t .0) rs (subst T (sym e) tt)

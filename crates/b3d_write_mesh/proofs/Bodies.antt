@@ -6,7 +6,7 @@ use lib.ListN.{length, take, drop, getD}
 use Rattle.layout.specs.Write.{writeWords, writeItems}
 use Rattle.layout.proofs.PartLaws.{words-append}
 use Rattle.shared_output.proofs.Joining.{Both, Begins, both-begins}
-use Rattle.b3d_spec.specs.Mask.{squeeze, vertexMask}
+use Rattle.b3d_spec.specs.Mask.{presentWords, vertexMask}
 use Rattle.b3d_check_spec.specs.CellCounts.{endOf}
 use Rattle.b3d_write_row_runs.specs.Lent.{rowsIn}
 use Rattle.b3d_write_item_lists.specs.Runs.{setsBytes}
@@ -14,7 +14,7 @@ use Rattle.b3d_write_mesh.specs.Mesh.{verticesBody, verticesBytes, MeshT
 
 module _ (ms : List ℕ) (i : ℕ) (vs : List (List ℕ)) where
   pub vertices-both : Both (verticesBody ms i vs) (writeWords (take 3 (drop i ms)) [])
-      (writeItems writeWords (map (squeeze (vertexMask (getD ms i 0) (getD ms (i + 1) 0) (getD ms (i + 2) 0))) vs))
+      (writeItems writeWords (map (presentWords (vertexMask (getD ms i 0) (getD ms (i + 1) 0) (getD ms (i + 2) 0))) vs))
   unfolding verticesBody
   vertices-both = record { is = words-append (take 3 (drop i ms)) _ }
 

@@ -5,7 +5,7 @@ use lib.ListN.{length, take, drop, getD}
 use Rattle.wire.specs.Bytes.{bytes}
 use Rattle.layout.specs.Write.{writeItems, writeWords}
 use Rattle.shared_output.specs.Writing.{chunk}
-use Rattle.b3d_spec.specs.Mask.{squeeze, vertexMask}
+use Rattle.b3d_spec.specs.Mask.{presentWords, vertexMask}
 use Rattle.b3d_spec.specs.Tags.{code}
 use Rattle.b3d_spec.specs.declared.Tag.the-variants.{MESH, VRTS}
 use Rattle.b3d_check_spec.specs.CellCounts.{endOf}
@@ -15,13 +15,13 @@ use Rattle.b3d_write_item_lists.specs.Runs.{setsBytes}
 -- the body of a VRTS: flags, sets and set size, which are the words of ms from word i on, and the vertices of the rows vs
 unfoldable pub verticesBody : List ℕ → ℕ → List (List ℕ) → List ℕ
 verticesBody ms i vs =
-    writeWords (take 3 (drop i ms)) (writeItems writeWords (map (squeeze (vertexMask (getD ms i 0) (getD ms (i + 1) 0) (getD ms (i + 2) 0))) vs))
+    writeWords (take 3 (drop i ms)) (writeItems writeWords (map (presentWords (vertexMask (getD ms i 0) (getD ms (i + 1) 0) (getD ms (i + 2) 0))) vs))
 
 -- the VRTS of the three words of ms from word i on and the vertex rows vs
 abbrev pub verticesBytes : List ℕ → ℕ → List (List ℕ) → List ℕ
 verticesBytes ms i vs = chunk (code VRTS) [] (verticesBody ms i vs)
 
--- what `put_mesh` asks: the mesh row at word i of ms is there, with its vertices, triangle sets and triangles, from rows v, s and t on
+-- what `write_mesh` asks: the mesh row at word i of ms is there, with its vertices, triangle sets and triangles, from rows v, s and t on
 pub record MeshThere (ms : List ℕ) (i : ℕ) (vs : List ℕ) (v : ℕ) (ss : List ℕ) (s : ℕ) (ts : List ℕ) (t : ℕ) : Type 0 where
   -- its row is there
   pub row : i + 9 ≤ length ms

@@ -10,7 +10,7 @@ ghost use Rattle.b3d_write_row_runs.specs.Lent.{rowsFrom};
 ghost use Rattle.b3d_write_mesh.specs.Mesh.{verticesBytes, MeshThere, meshBytes};
 
 // Writes a VRTS of the three words of `t4` from word `from` on (flags, sets, set size) and the `n` vertices of `t5` from row `v` on. Returns its size.
-fn put_vertices(t4: &[u32], from: usize, t5: &[u32], v: usize, n: usize, out: &mut [u8]) -> usize
+fn write_vertices(t4: &[u32], from: usize, t5: &[u32], v: usize, n: usize, out: &mut [u8]) -> usize
     requires { ⌜ from + 3 ≤ length (now t4) ⌝ }
     requires { ⌜ v + n ≤ length (now t5) / 42 ⌝ }
     requires { ⌜ Room (verticesBytes (now t4) from (rowsFrom 42 (now t5) v n)) (now out) ⌝ }
@@ -28,7 +28,7 @@ fn put_vertices(t4: &[u32], from: usize, t5: &[u32], v: usize, n: usize, out: &m
 
 // Writes the MESH whose row begins at word `row` of `meshes`: its brush, the VRTS, the TRIS. Its vertices, triangle sets and triangles are those from rows
 // `v`, `s` and `t` on. Returns its size.
-pub fn put_mesh(
+pub fn write_mesh(
     meshes: &[u32],
     row: usize,
     vertices: &[u32],
@@ -46,7 +46,7 @@ pub fn put_mesh(
     let brush = meshes[row + 1];
     let count = number(meshes, row + 6);
     let many = number(meshes, row + 8);
-    let n = put_vertices(meshes, row + 2, vertices, v, count, &mut out[12..]);
+    let n = write_vertices(meshes, row + 2, vertices, v, count, &mut out[12..]);
     let m = put_runs(false, sets, s, many, triangles, t, &mut out[n + 12..]);
     shared_output::put_opening(out, letters::MESH, n + m, brush);
     n + m + 12

@@ -15,7 +15,7 @@ use Rattle.shared_output.specs.Writing.{Room, Put}
 use Rattle.shared_output.proofs.Joining.{Both, both-begins, both-room, both-inside, both-room-2, both-done}
 use Rattle.b3d_spec.specs.Encode.{writeKeys, kindChunks, keyChunks, animChunks, writeNode}
 use Rattle.b3d_spec.specs.Rebuild.{nameFrom, kindFrom, dataFrom}
-use Rattle.b3d_spec.specs.Scene.{Keys, Anim, still, anim, Data}
+use Rattle.b3d_spec.specs.Scene.{Keys, Anim, noAnim, anim, Data}
 use Rattle.b3d_spec.specs.Tags.{code}
 use Rattle.b3d_spec.specs.declared.Counts.{Counts}
 use Rattle.b3d_spec.specs.declared.Tag.{Tag}
@@ -24,7 +24,7 @@ use Rattle.b3d_spec.specs.Tables.{nodeWidth}
 use Rattle.b3d_write_row_runs.specs.Lent.{rowsIn}
 use Rattle.b3d_write_materials.specs.Named.{namedBytes}
 use Rattle.b3d_write_row_runs.proofs.Cutting.{part-take}
-use Rattle.b3d_write_animation.specs.Moves.{moveChunks, movesBytes}
+use Rattle.b3d_write_animation.specs.Animation.{moveChunks, movesBytes}
 use Rattle.b3d_write_node.specs.Own.{tableRows, kindBytes, partsBytes, ownBytes}
 use Rattle.b3d_write_row_runs.proofs.Cells.{rows-row}
 use Rattle.b3d_write_node.proofs.KindLaws.{kind-append}
@@ -127,7 +127,7 @@ module _ (ns ds ms vs ss ts ws ls ks : List ℕ) (n : Counts) (h : n .nodes < le
 -- ---- what comes after a node's own
 
 moves-append : (l : List Keys) (a : Anim) (r : List (Chunk Tag)) → keyChunks l (animChunks a r) ≡ keyChunks l (animChunks a []) ++ r
-moves-append [] still r = refl
+moves-append [] noAnim r = refl
 moves-append [] (anim ws) r = refl
 moves-append (k ∷ l) a r = ap (λ (c : List (Chunk Tag)). record { tag = KEYS; body = writeKeys k } ∷ c) (moves-append l a r)
 

@@ -14,7 +14,7 @@ use Rattle.b3d_spec.specs.Tables.{nodeWidth}
 use Rattle.b3d_write_row_runs.specs.Lent.{rowsIn}
 use Rattle.b3d_write_materials.specs.Named.{NameThere}
 use Rattle.b3d_write_mesh.specs.Mesh.{MeshThere}
-use Rattle.b3d_write_animation.specs.Moves.{moveChunks, MovesThere}
+use Rattle.b3d_write_animation.specs.Animation.{moveChunks, MovesThere}
 
 -- the rows of table k, 3 to 10, each table given by its words
 unfoldable pub tableRows : List ℕ → List ℕ → List ℕ → List ℕ → List ℕ → List ℕ → List ℕ → List ℕ → Rows
@@ -45,14 +45,14 @@ ownBytes ns ds ms vs ss ts ws ls ks n = writeNode (dataFrom ns (tableRows ds ms 
 
 -- ---- what must be there
 
--- what `put_kind` asks: the rows that kind k and count c name are there after the counts n
+-- what `write_kind` asks: the rows that kind k and count c name are there after the counts n
 pub record KindThere (ms vs ss ts ws : List ℕ) (n : Counts) (k c : ℕ) : Type 0 where
   -- for a mesh its row and all that it names
   pub mesh : k ≡ 1 → MeshThere ms (9 * n .meshes) vs (n .vertices) ss (n .sets) ts (n .triangles)
   -- for a bone its weights
   pub bone : k ≡ 2 → n .weights + c ≤ length ws / 2
 
--- what `put_own` asks of the node after the counts n
+-- what `write_own_chunks` asks of the node after the counts n
 pub record OwnThere (ns ds ms vs ss ts ws ls ks : List ℕ) (n : Counts) : Type 0 where
   -- its row is there
   pub row : n .nodes < length ds / nodeWidth

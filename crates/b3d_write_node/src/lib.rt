@@ -7,14 +7,14 @@ ghost use Rattle.b3d_spec.specs.Tables.{nodeWidth};
 ghost use Rattle.b3d_write_node.specs.Own.{kindBytes, ownBytes, KindThere, OwnThere};
 use b3d_spec::Counts;
 use b3d_spec::NODE_WIDTH;
-use b3d_write_animation::put_moves;
+use b3d_write_animation::write_animation;
 use b3d_write_items::number;
 use b3d_write_items::put_weights;
 use b3d_write_materials::named::put_named;
-use b3d_write_mesh::put_mesh;
+use b3d_write_mesh::write_mesh;
 
 // Writes the MESH or the BONE of the node whose row begins at word `row` of `t3` and which comes after the counts `n`. Returns its size; 0 for a pivot.
-fn put_kind(
+fn write_kind(
     t3: &[u32],
     row: usize,
     t4: &[u32],
@@ -36,7 +36,7 @@ fn put_kind(
         let v = n.vertices;
         let s = n.sets;
         let t = n.triangles;
-        return put_mesh(t4, i, t5, v, t6, s, t7, t, out);
+        return write_mesh(t4, i, t5, v, t6, s, t7, t, out);
     }
     if t3[row + 13] == 2 {
         let many = number(t3, row + 15);
@@ -46,7 +46,7 @@ fn put_kind(
 }
 
 // Writes all that the body of the node after the counts `n` holds before the nodes below it, to the start of `out`. Returns the size.
-pub fn put_own(
+pub fn write_own_chunks(
     names: &[u8],
     t3: &[u32],
     t4: &[u32],
@@ -67,7 +67,7 @@ pub fn put_own(
     let row = NODE_WIDTH * n.nodes;
     let a = put_named(names, t3, row, row + 3, 10, out);
     let rest = &mut out[a..];
-    let b = put_kind(t3, row, t4, t5, t6, t7, t8, n, rest);
-    let c = put_moves(t3, row, t9, t10, n, &mut out[a + b..]);
+    let b = write_kind(t3, row, t4, t5, t6, t7, t8, n, rest);
+    let c = write_animation(t3, row, t9, t10, n, &mut out[a + b..]);
     a + b + c
 }

@@ -1,4 +1,4 @@
--- A law for each way through `put_node`: what is the node's own and the nodes below, behind the eight bytes of the header.
+-- A law for each way through `write_node`: what is the node's own and the nodes below, behind the eight bytes of the header.
 use mathlib.Core.Path.{_≡_, refl, ap, sym, _∙_, subst}
 use Prim.Native.Nat.{ℕ, _+_, _-_, _*_, _<_, _≤_}
 use native.Mathlib.Omega.{arith}
@@ -14,7 +14,7 @@ use Rattle.b3d_spec.specs.declared.Counts.{Counts}
 use Rattle.b3d_spec.specs.declared.Tag.the-variants.{NODE}
 use Rattle.b3d_spec.specs.Encode.{writeNode}
 use Rattle.b3d_spec.specs.Rebuild.{Rows, dataFrom}
-use Rattle.b3d_spec.specs.Rules.{bonesBelow, boneVertices}
+use Rattle.b3d_spec.specs.Rules.{boneLimitBelow, boneLimit}
 use Rattle.b3d_spec.specs.Scene.{Data}
 use Rattle.b3d_spec.specs.Tables.{nodeRow, withNode, withForest, nodeWidth, nodesIn}
 use Rattle.b3d_spec.specs.Tags.{code}
@@ -77,7 +77,7 @@ module _ (ns : List ℕ) (a : Counts) (t₃ t₄ t₅ t₆ t₇ t₈ t₉ t₁�
     row-is = sym (first-of (n .nodes) (R 3)) ∙ here-more R (x .own) (x .children) (x .siblings) (x .parent) n (x .after) (x .stand .here) .0
 
     counts-are : withNode (x .own) n ≡ cellCounts R row n
-    counts-are = here-counts R (x .own) (x .children) (x .siblings) (x .parent) n (x .after) (x .stand .here) ns (x .brushes) (boneVertices (x .above)) (placed-fits ns R l n x) (placed-name ns R l n x)
+    counts-are = here-counts R (x .own) (x .children) (x .siblings) (x .parent) n (x .after) (x .stand .here) ns (x .brushes) (boneLimit (x .above)) (placed-fits ns R l n x) (placed-name ns R l n x)
 
     after-below : Below (withNode (x .own) n) a
     after-below = below-all a t₃ t₄ t₅ t₆ t₇ t₈ t₉ t₁₀ z (withNode (x .own) n) (placed-there ns R l n x)
@@ -99,7 +99,7 @@ module _ (ns : List ℕ) (a : Counts) (t₃ t₄ t₅ t₆ t₇ t₈ t₉ t₁�
     unfolding ownBytes tableRows if
     own-is =
         ap (λ (r : List ℕ). writeNode (dataFrom ns R r n) []) row-is
-        ∙ ap (λ (e : Data). writeNode e []) (here-data R (x .own) (x .children) (x .siblings) (x .parent) n (x .after) (x .stand .here) ns (x .brushes) (boneVertices (x .above)) (placed-fits ns R l n x) (placed-name ns R l n x))
+        ∙ ap (λ (e : Data). writeNode e []) (here-data R (x .own) (x .children) (x .siblings) (x .parent) n (x .after) (x .stand .here) ns (x .brushes) (boneLimit (x .above)) (placed-fits ns R l n x) (placed-name ns R l n x))
 
     counted : after ≡ withNode (x .own) n
     counted = counts-same a t₃ t₄ t₅ t₆ t₇ t₈ t₉ t₁₀ z n row one-node row-is ∙ sym counts-are
@@ -111,7 +111,7 @@ module _ (ns : List ℕ) (a : Counts) (t₃ t₄ t₅ t₆ t₇ t₈ t₉ t₁�
     as-chunk : (out : List ℕ) → Room (nodeBytes (x .own) (x .children)) out → Room (chunk (code NODE) [] body) out
     as-chunk out r = rw (node-chunk (x .own) (x .children)) at r
 
-  -- ---- `put_node`
+  -- ---- `write_node`
 
   module _ (out : List ℕ) (w : WritableFirst ns R l n out) where
     pub node-fits : 8 ≤ length out
@@ -150,7 +150,7 @@ module _ (ns : List ℕ) (a : Counts) (t₃ t₄ t₅ t₆ t₇ t₈ t₉ t₁�
       module _ (m : Counts) (em : m ≡ cellCounts (partRows a t₄ [] t₆ [] [] t₉ []) (rowAt nodeWidth (n .nodes) t₃) n) where
         -- the nodes below any that stands there
         module _ (x : Placed ns R l n) where
-          below-stand : Stand ns R (l - 1) (x .brushes) (bonesBelow (x .above) (x .own)) (x .children) (n .nodes) m (later ns R l n x)
+          below-stand : Stand ns R (l - 1) (x .brushes) (boneLimitBelow (x .above) (x .own)) (x .children) (n .nodes) m (later ns R l n x)
           below-stand = rw (em ∙ counted x) (placed-below ns R l n x)
 
           below-room : Room (nodeBytes (x .own) (x .children)) out → Room (nodesBytes (x .children)) (take (length mid - (o + 8)) (drop (o + 8) mid))
@@ -159,7 +159,7 @@ module _ (ns : List ℕ) (a : Counts) (t₃ t₄ t₅ t₆ t₇ t₈ t₉ t₁�
         pub node-below : Writable ns R (l - 1) (n .nodes) m (take (length mid - (o + 8)) (drop (o + 8) mid))
         node-below =
             let x = w .placed in
-            record { brushes = x .brushes; above = bonesBelow (x .above) (x .own); forest = x .children; after = later ns R l n x; stand = below-stand x; room = below-room x (w .room) }
+            record { brushes = x .brushes; above = boneLimitBelow (x .above) (x .own); forest = x .children; after = later ns R l n x; stand = below-stand x; room = below-room x (w .room) }
 
         module _ (us : List ℕ) (k : ℕ) (c : Counts) (pb : Writes ns R (l - 1) (n .nodes) m (take (length mid - (o + 8)) (drop (o + 8) mid)) us k c) where
           -- the output with the nodes below too
@@ -167,7 +167,7 @@ module _ (ns : List ℕ) (a : Counts) (t₃ t₄ t₅ t₆ t₇ t₈ t₉ t₁�
           last = take (o + 8) mid ++ (us ++ drop (length mid - (o + 8)) (drop (o + 8) mid))
 
           below-put : (x : Placed ns R l n) → Room (nodeBytes (x .own) (x .children)) out → Put (nodesBytes (x .children)) (take (length mid - (o + 8)) (drop (o + 8) mid)) us k
-          below-put x r = pb .bytes (x .brushes) (bonesBelow (x .above) (x .own)) (x .children) (later ns R l n x) (below-stand x) (below-room x r)
+          below-put x r = pb .bytes (x .brushes) (boneLimitBelow (x .above) (x .own)) (x .children) (later ns R l n x) (below-stand x) (below-room x r)
 
           pub node-asks : (8 ≤ length last) × (o + k < 4294967296)
           node-asks =
@@ -186,7 +186,7 @@ module _ (ns : List ℕ) (a : Counts) (t₃ t₄ t₅ t₆ t₇ t₈ t₉ t₁�
             small = node-put zs h (w .placed) (w .room) .small;
             bytes = node-put zs h;
             counts = λ x r.
-                pb .counts (x .brushes) (bonesBelow (x .above) (x .own)) (x .children) (later ns R l n x) (below-stand x) (below-room x r)
+                pb .counts (x .brushes) (boneLimitBelow (x .above) (x .own)) (x .children) (later ns R l n x) (below-stand x) (below-room x r)
                 ∙ ap (withForest (x .children)) (em ∙ counted x);
           }
 

@@ -1,4 +1,4 @@
--- The loop of `put_nodes`: a law for each way.
+-- The loop of `write_nodes`: a law for each way.
 use mathlib.Core.Path.{_≡_, refl, ap, sym, _∙_, subst}
 use mathlib.Core.Logic.{_≢_, _⊎_, inl, inr}
 use Prim.Native.Nat.{ℕ, _+_, _-_, _*_, _<_, _≤_}
@@ -12,7 +12,7 @@ use Rattle.shared_output.proofs.Pieces.{Pieces, pieces-none, piece-room, piece-
 use Rattle.b3d_spec.specs.declared.Counts.{Counts}
 use Rattle.b3d_spec.specs.Encode.{nodeChunks}
 use Rattle.b3d_spec.specs.Rebuild.{Rows, cut}
-use Rattle.b3d_spec.specs.Scene.{Data, Forest, leaf, node}
+use Rattle.b3d_spec.specs.Scene.{Data, Forest, noNodes, node}
 use Rattle.b3d_spec.specs.Tables.{withNode, withForest, nodeWidth}
 use Rattle.layout.specs.Write.{writeChunks as writeChunksOf}
 use Rattle.b3d_spec.proofs.Rows.Nodes.{nodes-step}
@@ -27,7 +27,7 @@ use Rattle.b3d_write_nodes.proofs.NodeBytes.{nodes-both}
 use Rattle.b3d_write_nodes.proofs.Standing.{stand-first, stand-others, first-placed, placed-there}
 use Rattle.b3d_write_nodes.proofs.TableLaws.{first-of, below-all, rows-3}
 
-no-nodes : nodesBytes leaf ≡ []
+no-nodes : nodesBytes noNodes ≡ []
 unfolding nodesBytes nodeChunks writeChunksOf
 no-nodes = refl
 
@@ -86,8 +86,8 @@ module _ (ns : List ℕ) (a : Counts) (t₃ t₄ t₅ t₆ t₇ t₈ t₉ t₁�
     table-length = ap length (rows-3 a t₃ t₄ t₅ t₆ t₇ t₈ t₉ t₁₀ z) ∙ cut-length nodeWidth (a .nodes) t₃
 
     -- no node is left where the table ends, or where the next row is under another node
-    ended : a .nodes ≤ m .nodes ⊎ ((m .nodes < a .nodes) × (getD t₃ (nodeWidth * m .nodes + 2) 0 ≢ p)) → (b : ℕ) (above : Option ℕ) (S : Rows) (t : Forest) → Stand ns R l b above t p m S → t ≡ leaf
-    ended e b above S leaf s = refl
+    ended : a .nodes ≤ m .nodes ⊎ ((m .nodes < a .nodes) × (getD t₃ (nodeWidth * m .nodes + 2) 0 ≢ p)) → (b : ℕ) (above : Option ℕ) (S : Rows) (t : Forest) → Stand ns R l b above t p m S → t ≡ noNodes
+    ended e b above S noNodes s = refl
     ended e b above S (node d ch sib) s =
         let k : Below (withNode d m) a = below-all a t₃ t₄ t₅ t₆ t₇ t₈ t₉ t₁₀ z (withNode d m) (placed-there ns R l m (first-placed ns R l b above d ch sib p m S s)) in
         absurd (elim e [
@@ -125,7 +125,7 @@ module _ (ns : List ℕ) (a : Counts) (t₃ t₄ t₅ t₆ t₇ t₈ t₉ t₁�
         later : Stand ns R l b above others p (withForest children (withNode own m)) S
 
       next : (b : ℕ) (above : Option ℕ) (t : Forest) (S : Rows) → Stand ns R l b above t p m S → Next b above t S
-      next b above leaf S s =
+      next b above noNodes S s =
           absurd (elim (here-end R p m S parent-low (s .here)) [
             | inl e ↦ (let q = ap length e in omega (arith, length-drop (m .nodes) (R 3), table-length))
             | inr d ↦ d (parent-cell h ∙ sym ec ∙ same)

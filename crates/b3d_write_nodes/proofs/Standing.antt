@@ -9,8 +9,8 @@ use Rattle.layout.specs.Parts.{Name}
 use Rattle.layout.proofs.Lists.{All, all-zip}
 use Rattle.b3d_spec.specs.declared.Counts.{Counts}
 use Rattle.b3d_spec.specs.Rebuild.{Rows, nodeNames}
-use Rattle.b3d_spec.specs.Rules.{bonesBelow, boneVertices}
-use Rattle.b3d_spec.specs.Scene.{Data, Forest, leaf, node}
+use Rattle.b3d_spec.specs.Rules.{boneLimitBelow, boneLimit}
+use Rattle.b3d_spec.specs.Scene.{Data, Forest, noNodes, node}
 use Rattle.b3d_spec.specs.Tables.{reached, ownRows, withNode, withForest, forestRows, nodeTables, nodesIn}
 use Rattle.b3d_spec.proofs.Fitting.{FitData, FitNodes}
 use Rattle.b3d_spec.proofs.Rows.Nodes.{From, steps, nodes-step}
@@ -25,7 +25,7 @@ use Rattle.b3d_write_nodes.specs.Walk.{There, Stand, First, Placed}
 
 names-before : (P : Name → Type 0) (t : Forest) (r u : List Name) → All P (nodeNames t r) → All P u → All P (nodeNames t u)
 unfolding nodeNames
-names-before P leaf r u h k = k
+names-before P noNodes r u h k = k
 names-before P (node d ch sib) r u h k =
     (h .0, names-before P ch (nodeNames sib r) (nodeNames sib u) (h .1) (names-before P sib r u (names-rest P ch (nodeNames sib r) (h .1)) k))
 
@@ -36,7 +36,7 @@ one-more (suc l) b above d f g h = omega arith
 fit-level : (l b : ℕ) (above : Option ℕ) (d : Data) (f g : Forest) → FitNodes l b above (node d f g) → FitNodes (suc (l - 1)) b above (node d f g)
 fit-level l b above d f g h = subst (λ (m : ℕ). FitNodes m b above (node d f g)) (one-more l b above d f g h) h
 
-fit-alone : (l b : ℕ) (above : Option ℕ) (d : Data) (f g : Forest) → FitNodes l b above (node d f g) → FitNodes l b above (node d f leaf)
+fit-alone : (l b : ℕ) (above : Option ℕ) (d : Data) (f g : Forest) → FitNodes l b above (node d f g) → FitNodes l b above (node d f noNodes)
 fit-alone zero b above d f g h = h
 fit-alone (suc l) b above d f g h = (h .0, h .1, tt)
 
@@ -100,7 +100,7 @@ module _ (ns : List ℕ) (R : Rows) (l b : ℕ) (above : Option ℕ) (d : Data) 
 
 module _ (ns : List ℕ) (R : Rows) (l : ℕ) (n : Counts) (x : Placed ns R l n) where
   pub placed-levels : 1 ≤ l
-  placed-levels = let e = one-more l (x .brushes) (x .above) (x .own) (x .children) leaf (x .stand .fits) in omega arith
+  placed-levels = let e = one-more l (x .brushes) (x .above) (x .own) (x .children) noNodes (x .stand .fits) in omega arith
 
   pub placed-there : There R (withNode (x .own) n)
   placed-there = there-own ns R l (x .brushes) (x .above) (x .own) (x .children) (x .siblings) (x .parent) n (x .after) (x .stand .here) (x .stand .there)
@@ -109,18 +109,18 @@ module _ (ns : List ℕ) (R : Rows) (l : ℕ) (n : Counts) (x : Placed ns R l n)
   abbrev pub later : Rows
   later k = forestRows k (x .siblings) (x .parent) (withForest (x .children) (withNode (x .own) n)) ++ x .after k
 
-  pub placed-below : Stand ns R (l - 1) (x .brushes) (bonesBelow (x .above) (x .own)) (x .children) (n .nodes) (withNode (x .own) n) later
+  pub placed-below : Stand ns R (l - 1) (x .brushes) (boneLimitBelow (x .above) (x .own)) (x .children) (n .nodes) (withNode (x .own) n) later
   unfolding nodeNames
   placed-below = record {
     here = x .stand .below;
     low = omega (arith, nodes-step (x .own) n);
     there = placed-there;
-    fits = fit-level l (x .brushes) (x .above) (x .own) (x .children) leaf (x .stand .fits) .1;
+    fits = fit-level l (x .brushes) (x .above) (x .own) (x .children) noNodes (x .stand .fits) .1;
     names = x .stand .names .1;
   }
 
-  pub placed-fits : FitData (x .brushes) (boneVertices (x .above)) (x .own)
-  placed-fits = fit-level l (x .brushes) (x .above) (x .own) (x .children) leaf (x .stand .fits) .0
+  pub placed-fits : FitData (x .brushes) (boneLimit (x .above)) (x .own)
+  placed-fits = fit-level l (x .brushes) (x .above) (x .own) (x .children) noNodes (x .stand .fits) .0
 
   pub placed-name : Stands ns (x .own .name)
   unfolding nodeNames

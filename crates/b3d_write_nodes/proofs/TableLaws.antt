@@ -10,7 +10,7 @@ use lib.Dec.{eqb}
 use borrow.Author.Tests.{eq-eqb}
 use Rattle.wire.specs.Test.{if}
 use Rattle.b3d_spec.specs.declared.Counts.{Counts}
-use Rattle.b3d_spec.specs.Rebuild.{Rows, cut, mine}
+use Rattle.b3d_spec.specs.Rebuild.{Rows, cut, ownedBy}
 use Rattle.b3d_spec.specs.Tables.{reached, nodeTables, nodeWidth}
 use Rattle.b3d_spec.proofs.Rows.RowLists.{cut-length}
 use Rattle.b3d_check_spec.specs.CellCounts.{endOf, meshCounts, weightCounts, kindCounts, nodeCounts, cellCounts}
@@ -20,7 +20,7 @@ use Rattle.b3d_check_spec.specs.Rooms.{Limited}
 use Rattle.b3d_check_node_counts.specs.Parts.{partRows, Below}
 use Rattle.b3d_write_row_runs.specs.Lent.{rowsIn}
 use Rattle.b3d_write_mesh.specs.Mesh.{MeshThere}
-use Rattle.b3d_write_animation.specs.Moves.{MovesThere}
+use Rattle.b3d_write_animation.specs.Animation.{MovesThere}
 use Rattle.b3d_write_node.specs.Own.{tableRows, KindThere, OwnThere}
 use Rattle.b3d_write_nodes.specs.Walk.{Sized, There}
 
@@ -114,11 +114,11 @@ module _ (a : Counts) (t₃ t₄ t₅ t₆ t₇ t₈ t₉ t₁₀ : List ℕ) (z
         abbrev mesh : List ℕ
         mesh = getD (drop (n .meshes) (R 4)) 0 []
 
-        after-mesh : cellCounts R x n ≡ nodeCounts (n .lists + length (mine (n .nodes) (drop (n .lists) (R 9)))) (endOf (n .keys) (mine (n .nodes) (drop (n .lists) (R 9)))) (meshCounts mesh (drop (n .sets) (R 6)) n)
+        after-mesh : cellCounts R x n ≡ nodeCounts (n .lists + length (ownedBy (n .nodes) (drop (n .lists) (R 9)))) (endOf (n .keys) (ownedBy (n .nodes) (drop (n .lists) (R 9)))) (meshCounts mesh (drop (n .sets) (R 6)) n)
         unfolding cellCounts kindCounts if
         after-mesh = rw (eq-eqb (getD (drop 13 x) 0 0) 1 (kind-cell 0 (omega arith) ∙ e))
 
-        mesh-below : Below (nodeCounts (n .lists + length (mine (n .nodes) (drop (n .lists) (R 9)))) (endOf (n .keys) (mine (n .nodes) (drop (n .lists) (R 9)))) (meshCounts mesh (drop (n .sets) (R 6)) n)) a
+        mesh-below : Below (nodeCounts (n .lists + length (ownedBy (n .nodes) (drop (n .lists) (R 9)))) (endOf (n .keys) (ownedBy (n .nodes) (drop (n .lists) (R 9)))) (meshCounts mesh (drop (n .sets) (R 6)) n)) a
         mesh-below = subst (λ (c : Counts). Below c a) after-mesh b
 
         one-mesh : n .meshes < a .meshes
@@ -140,7 +140,7 @@ module _ (a : Counts) (t₃ t₄ t₅ t₆ t₇ t₈ t₉ t₁₀ : List ℕ) (z
         }
 
       module _ (e : getD t₃ (nodeWidth * n .nodes + 13) 0 ≡ 2) where
-        after-bone : cellCounts R x n ≡ nodeCounts (n .lists + length (mine (n .nodes) (drop (n .lists) (R 9)))) (endOf (n .keys) (mine (n .nodes) (drop (n .lists) (R 9)))) (weightCounts (getD (drop 13 x) 2 0) n)
+        after-bone : cellCounts R x n ≡ nodeCounts (n .lists + length (ownedBy (n .nodes) (drop (n .lists) (R 9)))) (endOf (n .keys) (ownedBy (n .nodes) (drop (n .lists) (R 9)))) (weightCounts (getD (drop 13 x) 2 0) n)
         unfolding cellCounts kindCounts if
         after-bone = rw (kind-cell 0 (omega arith) ∙ e)
 

@@ -9,7 +9,7 @@ use Rattle.shared_output.specs.Writing.{Room, Put}
 use Rattle.b3d_spec.specs.declared.Counts.{Counts}
 use Rattle.b3d_spec.specs.Encode.{nodeChunks, writeNode}
 use Rattle.b3d_spec.specs.Rebuild.{Rows, nodeNames}
-use Rattle.b3d_spec.specs.Scene.{Data, Forest, leaf, node}
+use Rattle.b3d_spec.specs.Scene.{Data, Forest, noNodes, node}
 use Rattle.b3d_spec.specs.Tables.{reached, withNode, withForest, forestRows, nodeTables, nodeWidth}
 use Rattle.b3d_spec.specs.Tags.{writeChunks}
 use Rattle.b3d_spec.specs.Fitting.{FitNodes, Stands}
@@ -69,13 +69,13 @@ pub record First (ns : List ℕ) (R : Rows) (levels b : ℕ) (above : Option ℕ
   -- the rows of ch follow its own
   pub below : Here R ch (n .nodes) (withNode d n) (λ k. forestRows k sib p (withForest ch (withNode d n)) ++ S k)
   -- it keeps the rules, with those below
-  pub fits : FitNodes levels b above (node d ch leaf)
+  pub fits : FitNodes levels b above (node d ch noNodes)
   -- the names of both are in ns
-  pub names : All (Stands ns) (nodeNames (node d ch leaf) [])
+  pub names : All (Stands ns) (nodeNames (node d ch noNodes) [])
 
 -- ---- what is asked, and what is left
 
--- what `put_nodes` asks: some nodes stand there, and there is room for them
+-- what `write_nodes` asks: some nodes stand there, and there is room for them
 pub record Writable (ns : List ℕ) (R : Rows) (levels p : ℕ) (n : Counts) (out : List ℕ) : Type 0 where
   -- how many brushes there are
   pub brushes : ℕ
@@ -90,7 +90,7 @@ pub record Writable (ns : List ℕ) (R : Rows) (levels p : ℕ) (n : Counts) (ou
   -- their bytes have room in the output
   pub room : Room (nodesBytes forest) out
 
--- what `put_nodes` promises of the output before it (out) and after it (put), the size, and the counts m
+-- what `write_nodes` promises of the output before it (out) and after it (put), the size, and the counts m
 pub record Writes (ns : List ℕ) (R : Rows) (levels p : ℕ) (n : Counts) (out put : List ℕ) (size : ℕ) (m : Counts) : Type 0 where
   -- the size fits a word
   pub small : size < 4294967296
@@ -120,16 +120,16 @@ pub record Placed (ns : List ℕ) (R : Rows) (levels : ℕ) (n : Counts) : Type 
 
 -- the NODE chunk of the node d with the nodes ch below it
 unfoldable pub nodeBytes : Data → Forest → List ℕ
-nodeBytes d ch = nodesBytes (node d ch leaf)
+nodeBytes d ch = nodesBytes (node d ch noNodes)
 
--- what `put_node` asks: a node stands there, and there is room for it
+-- what `write_node` asks: a node stands there, and there is room for it
 pub record WritableFirst (ns : List ℕ) (R : Rows) (levels : ℕ) (n : Counts) (out : List ℕ) : Type 0 where
   -- the node
   pub placed : Placed ns R levels n
   -- its bytes, with those of the nodes below it, have room in the output
   pub room : Room (nodeBytes (placed .own) (placed .children)) out
 
--- what `put_node` promises of the output before it (out) and after it (put), the size, and the counts m
+-- what `write_node` promises of the output before it (out) and after it (put), the size, and the counts m
 pub record WritesFirst (ns : List ℕ) (R : Rows) (levels : ℕ) (n : Counts) (out put : List ℕ) (size : ℕ) (m : Counts) : Type 0 where
   -- the size fits a word
   pub small : size < 4294967296

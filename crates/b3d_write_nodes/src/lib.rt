@@ -13,7 +13,7 @@ pub struct Walked {
 
 // Writes the NODE that comes after the counts `n`, with `levels` levels left: what is its own, the nodes below it, then the header before them. Returns its
 // size and the counts after it.
-pub fn put_node(
+pub fn write_node(
     names: &[u8],
     t3: &[u32],
     t4: &[u32],
@@ -35,12 +35,12 @@ pub fn put_node(
         (now (t8 .entry)) (now (t9 .entry)) (now (t10 .entry))) levels n (now (out .entry)) (now (out .exit)) (r .size) (r .counts) ⌝ }
 {
     let body = &mut out[8..];
-    let own = b3d_write_node::put_own(names, t3, t4, t5, t6, t7, t8, t9, t10, n, body);
+    let own = b3d_write_node::write_own_chunks(names, t3, t4, t5, t6, t7, t8, t9, t10, n, body);
     let m = b3d_check_node_counts::node_counts(n, all, t3, t4, t6, t9);
     let i = n.nodes;
     let l = levels - 1;
     let rest = &mut out[own + 8..];
-    let below = put_nodes(names, t3, t4, t5, t6, t7, t8, t9, t10, all, i, l, m, rest);
+    let below = write_nodes(names, t3, t4, t5, t6, t7, t8, t9, t10, all, i, l, m, rest);
     let long = own + below.size;
     shared_output::put_header(out, letters::NODE, long);
     let size = long + 8;
@@ -50,7 +50,7 @@ pub fn put_node(
 
 // Writes the nodes after the counts `n` whose parent is `parent`, with `levels` levels left, up to the first that has another. Returns their size and the
 // counts after them.
-pub fn put_nodes(
+pub fn write_nodes(
     names: &[u8],
     t3: &[u32],
     t4: &[u32],
@@ -79,7 +79,7 @@ pub fn put_nodes(
             return Walked { size, counts: m };
         }
         let rest = &mut out[size..];
-        let r = put_node(names, t3, t4, t5, t6, t7, t8, t9, t10, all, levels, m, rest);
+        let r = write_node(names, t3, t4, t5, t6, t7, t8, t9, t10, all, levels, m, rest);
         size += r.size;
         m = r.counts;
     }

@@ -16,11 +16,11 @@ use Rattle.b3d_spec.specs.declared.Mode.{Mode}
 use Rattle.b3d_spec.specs.declared.Counts.{Counts}
 use Rattle.b3d_spec.specs.Encode.{encode}
 use Rattle.b3d_spec.specs.Rebuild.{Lent, lentRows, rebuild}
-use Rattle.b3d_spec.specs.Rules.{bonesBelow, boneVertices, levels}
-use Rattle.b3d_spec.specs.Scene.{Texture, Brush, TriangleSet, Kind, pivot, mesh, bone, Keys, Anim, still, anim, Data, Forest, leaf, node, Scene}
+use Rattle.b3d_spec.specs.Rules.{boneLimitBelow, boneLimit, levels}
+use Rattle.b3d_spec.specs.Scene.{Texture, Brush, TriangleSet, Kind, pivot, mesh, bone, Keys, Anim, noAnim, anim, Data, Forest, noNodes, node, Scene}
 use Rattle.b3d_spec.specs.Sizes.{textureSize, texsSize, brushSize, brusSize, setsSize, kindSize, keysSize, animSize, nodesSize, sizeOf}
 use Rattle.b3d_spec.specs.Tables.{start, textureRow, brushRow, kindCells, animCells, nodeRow, meshRow, triangleRows, listRows, meshesOf, weightsOf, meshRows, ownRows, withNode, withForest, forestRows, rows, tables, nodeTables, nodesIn}
-use Rattle.b3d_spec.proofs.Fitting.{FitKind, FitKeys, FitNodes, Fit}
+use Rattle.b3d_spec.proofs.Fitting.{FitKind, FitKeys, FitNodes, WellFormed}
 use Rattle.b3d_spec.proofs.Laws.{file-length}
 use Rattle.b3d_spec.proofs.Rows.RebuildLaws.{Holds, rebuild-fine, held-rows}
 use Rattle.b3d_spec.proofs.Rows.RowParts.{sets-length}
@@ -89,11 +89,11 @@ node-sum d p below n e =
 kind-anim : (k : Kind) (a : Anim) (below : ℕ) (n : Counts) → if (eqb (getD (kindCells k n ++ (animCells a ++ (below ∷ []))) 0 0) 2) 8 0 + if (eqb (getD (kindCells k n ++ (animCells a ++ (below ∷ []))) 3 0) 1) 20 0
     + sum meshBytes (meshRows 4 (meshesOf k) n) + 12 * length (meshRows 6 (meshesOf k) n) + 12 * length (meshRows 7 (meshesOf k) n) + 8 * length (weightsOf k) ≡ kindSize k + animSize a
 unfolding if kindCells animCells sum meshRows meshesOf weightsOf meshBytes meshRow
-kind-anim pivot still below n = refl
+kind-anim pivot noAnim below n = refl
 kind-anim pivot (anim ws) below n = refl
-kind-anim (mesh m) still below n = omega (arith, sets-sum (m .triangleSets), sets-length (n .meshes) (n .triangles) (m .triangleSets))
+kind-anim (mesh m) noAnim below n = omega (arith, sets-sum (m .triangleSets), sets-length (n .meshes) (n .triangles) (m .triangleSets))
 kind-anim (mesh m) (anim ws) below n = omega (arith, sets-sum (m .triangleSets), sets-length (n .meshes) (n .triangles) (m .triangleSets))
-kind-anim (bone ws) still below n = omega arith
+kind-anim (bone ws) noAnim below n = omega arith
 kind-anim (bone ws) (anim vs) below n = omega arith
 
 own-sum : (d : Data) (p below : ℕ) (n : Counts) → length (d .words) ≡ 10 → 49 + length (d .name .bytes) + kindSize (d .kind) + keysSize (d .keys) + animSize (d .anim) ≡ Parts (λ k. ownRows k d p below n)
@@ -107,7 +107,7 @@ parts-append a b =
 
 nodes-sum : (l b : ℕ) (above : Option ℕ) (t : Forest) (p : ℕ) (n : Counts) → FitNodes l b above t → nodesSize t ≡ Parts (λ k. forestRows k t p n)
 unfolding forestRows sum
-nodes-sum l b above leaf p n f = refl
+nodes-sum l b above noNodes p n f = refl
 nodes-sum zero b above (node d ch sib) p n f = absurd f
 nodes-sum (suc l) b above (node d ch sib) p n f =
     let m = withNode d n in
@@ -115,7 +115,7 @@ nodes-sum (suc l) b above (node d ch sib) p n f =
     omega (
       arith,
       own-sum d p (nodesIn ch) n (any-words 10 (d .words) (f .0 .words)),
-      nodes-sum l b (bonesBelow above d) ch (n .nodes) m (f .1),
+      nodes-sum l b (boneLimitBelow above d) ch (n .nodes) m (f .1),
       nodes-sum (suc l) b above sib p q (f .2),
       parts-append (λ k. ownRows k d p (nodesIn ch) n) (λ k. forestRows k ch (n .nodes) m ++ forestRows k sib p q),
       parts-append (λ k. forestRows k ch (n .nodes) m) (λ k. forestRows k sib p q),
@@ -124,7 +124,7 @@ nodes-sum (suc l) b above (node d ch sib) p n f =
 -- ---- the whole
 
 -- the rows of lent tables, each table's with its count, are those of their scene
-scene-sum : (T : Lent) (t : Scene) → Fit t → T .slots ≡ t .slots → All (λ k. T .count k ≡ length (rows k t)) tables → All (λ k. lentRows T k ≡ rows k t) tables → lentSize T ≡ sizeOf t
+scene-sum : (T : Lent) (t : Scene) → WellFormed t → T .slots ≡ t .slots → All (λ k. T .count k ≡ length (rows k t)) tables → All (λ k. lentRows T k ≡ rows k t) tables → lentSize T ≡ sizeOf t
 unfolding lentSize listsBytes nodesBytes rowsBytes rowBytes sizeOf tables nodeTables rows if
 scene-sum T t f es c r =
     let c₆ = c .1 .1 .1 .1 .1 in
@@ -170,13 +170,13 @@ lists-sizable i k (x ∷ l) h = (
 
 pub nodes-sizable : (l b : ℕ) (above : Option ℕ) (t : Forest) (p : ℕ) (n : Counts) → FitNodes l b above t → All (Sizable 4) (forestRows 4 t p n) × All (Sizable 9) (forestRows 9 t p n)
 unfolding forestRows ownRows if
-nodes-sizable l b above leaf p n f = (tt, tt)
+nodes-sizable l b above noNodes p n f = (tt, tt)
 nodes-sizable zero b above (node d ch sib) p n f = absurd f
 nodes-sizable (suc l) b above (node d ch sib) p n f =
     let m = withNode d n in
     let q = withForest ch m in
-    let x = nodes-sizable l b (bonesBelow above d) ch (n .nodes) m (f .1) in
+    let x = nodes-sizable l b (boneLimitBelow above d) ch (n .nodes) m (f .1) in
     let y = nodes-sizable (suc l) b above sib p q (f .2) in (
-      all-append (Sizable 4) (meshRows 4 (meshesOf (d .kind)) n) _ (mesh-sizable b (boneVertices above) (d .kind) n (f .0 .kind)) (all-append (Sizable 4) (forestRows 4 ch (n .nodes) m) _ (x .0) (y .0)),
+      all-append (Sizable 4) (meshRows 4 (meshesOf (d .kind)) n) _ (mesh-sizable b (boneLimit above) (d .kind) n (f .0 .kind)) (all-append (Sizable 4) (forestRows 4 ch (n .nodes) m) _ (x .0) (y .0)),
       all-append (Sizable 9) (listRows (n .nodes) (n .keys) (d .keys)) _ (lists-sizable (n .nodes) (n .keys) (d .keys) (f .0 .keys)) (all-append (Sizable 9) (forestRows 9 ch (n .nodes) m) _ (x .1) (y .1)),
     )

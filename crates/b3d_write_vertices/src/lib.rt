@@ -5,7 +5,7 @@ ghost use Prim.Native.Nat.{_+_, _*_, _/_, _<_, _≤_};
 ghost use lib.ListN.{length, take, drop};
 ghost use Rattle.layout.specs.Write.{writeWords, writeItems};
 ghost use Rattle.shared_output.specs.Writing.{Room, Put};
-ghost use Rattle.b3d_spec.specs.Mask.{squeeze, vertexMask};
+ghost use Rattle.b3d_spec.specs.Mask.{presentWords, vertexMask};
 ghost use Rattle.b3d_rule_row_masks.specs.Runs.{Short, OfVertex};
 ghost use Rattle.b3d_write_row_runs.specs.Lent.{rowsFrom};
 ghost use Rattle.b3d_write_row_runs.specs.RowBytes.{setsBytes, backBytes, rowBytes};
@@ -78,8 +78,8 @@ pub fn put_vertex_rows(
     out: &mut [u8],
 ) -> usize
     requires { ⌜ first + count ≤ length (now vertices) / 42 ⌝ }
-    requires { ⌜ Room (writeItems writeWords (map (squeeze (vertexMask flags sets size)) (rowsFrom 42 (now vertices) first count))) (now out) ⌝ }
-    ensures { λ r. ⌜ Put (writeItems writeWords (map (squeeze (vertexMask flags sets size)) (rowsFrom 42 (now (vertices .entry)) first count))) (now (out .entry)) (now (out .exit)) r ⌝ }
+    requires { ⌜ Room (writeItems writeWords (map (presentWords (vertexMask flags sets size)) (rowsFrom 42 (now vertices) first count))) (now out) ⌝ }
+    ensures { λ r. ⌜ Put (writeItems writeWords (map (presentWords (vertexMask flags sets size)) (rowsFrom 42 (now (vertices .entry)) first count))) (now (out .entry)) (now (out .exit)) r ⌝ }
 {
     let g = b3d_rule_row_masks::vertex_runs(flags, sets, size);
     let mut at: usize = 0;

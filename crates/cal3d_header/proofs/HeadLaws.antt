@@ -11,7 +11,7 @@ use borrow.Author.Tests.{le-leb, lt-leb, eq-eqb, ne-eqb}
 use Rattle.wire.specs.Bytes.{wordAt}
 use Rattle.wire.specs.Cursors.{Inside, left}
 use Rattle.wire.proofs.Left.{span, left-length, left-drop}
-use Rattle.layout.specs.Out.{Out, got, bad, check, _>>=_}
+use Rattle.layout.specs.Result.{Result, accept, reject, check, _>>=_}
 use Rattle.layout.specs.Parts.{Step, wordsOf, judged, row, number}
 use Rattle.layout.specs.Rules.{any}
 use Rattle.layout.proofs.Outs.{bind-bind, bind-cong, by-got, by-check, got-inj}
@@ -27,7 +27,7 @@ head-length version more = let e = length-replicate more any in omega arith
 
 -- two of the numbers are looked at
 head-judged : {A : Type 0} (version more : ℕ) (ws : List ℕ) (a : A) → length ws ≡ 2 + more
-    → judged (headNumbers version more) 4 ws a ≡ (check (eqb (getD ws 0 0) version) 6 4 >>= λ _. check (leb (getD ws 1 0) 2147483647) 6 8 >>= λ _. got a)
+    → judged (headNumbers version more) 4 ws a ≡ (check (eqb (getD ws 0 0) version) 6 4 >>= λ _. check (leb (getD ws 1 0) 2147483647) 6 8 >>= λ _. accept a)
 unfolding judged
 head-judged version more [] a l = absurd (omega arith)
 head-judged version more (v ∷ []) a l = absurd (omega arith)
@@ -46,7 +46,7 @@ headOf more s = wordsOf (2 + more) (left (span 4 (length s)) s)
 pub record HeadAt (s : List ℕ) (magic version more k : ℕ) : Type 0 where
   pub small : length s ≤ 16777216
   pub room : 12 + 4 * more ≤ length s
-  pub is : readHead magic version more s ≡ got (record { value = headOf more s; place = 12 + 4 * more; left = left (span (12 + 4 * more) (length s)) s })
+  pub is : readHead magic version more s ≡ accept (record { value = headOf more s; place = 12 + 4 * more; left = left (span (12 + 4 * more) (length s)) s })
   pub first : wordAt s 4 ≡ version
   pub second : wordAt s 8 ≡ k
 
@@ -61,7 +61,7 @@ module _ (magic version more : ℕ) (s : List ℕ) where
     head-long h = rw (le-leb 12 (length s) lo, lt-leb (length s) 16777216 h)
 
     module _ (hi : length s ≤ 16777216) (m : ℕ) (em : m ≡ wordAt s 0) where
-      first-word : row (any ∷ []) 0 s ≡ got (record { value = wordsOf 1 s; place = 4; left = left (span 4 (length s)) s })
+      first-word : row (any ∷ []) 0 s ≡ accept (record { value = wordsOf 1 s; place = 4; left = left (span 4 (length s)) s })
       first-word =
           let l : left (span 4 (length s)) s ≡ drop 4 s = left-drop s (span 0 (length s)) 4 (span 4 (length s)) refl refl ∙ ap (drop 4) (left-whole s) in
           rw l (row-any 1 0 s (omega arith))
@@ -90,7 +90,7 @@ module _ (magic version more : ℕ) (s : List ℕ) where
         module _ (room : 12 + 4 * more ≤ length s) (v : ℕ) (ev : v ≡ wordAt s 4) where
           numbers : readHead magic version more s
               ≡ (check (eqb (wordAt s 4) version) 6 4 >>= λ _. check (leb (wordAt s 8) 2147483647) 6 8
-              >>= λ _. got (record { value = headOf more s; place = 12 + 4 * more; left = left (span (12 + 4 * more) (length s)) s }))
+              >>= λ _. accept (record { value = headOf more s; place = 12 + 4 * more; left = left (span (12 + 4 * more) (length s)) s }))
           numbers =
               let l = head-length version more in
               let n = 2 + more in
@@ -127,12 +127,12 @@ pub ruleset head = (head-short, head-long, head-magic, head-cut, head-version, h
 -- ---- a file by its head
 
 -- what is read behind the header
-pub head-then : {B : Type 0} (magic version more : ℕ) (s : List ℕ) (rest : Step (List ℕ) → Out B)
+pub head-then : {B : Type 0} (magic version more : ℕ) (s : List ℕ) (rest : Step (List ℕ) → Result B)
     → (check (sizeFits (length s)) 1 0 >>= λ _. row (any ∷ []) 0 s >>= λ m. check (eqb (number m 0) magic) 2 0 >>= λ _. row (headNumbers version more) (m .place) (m .left) >>= rest)
     ≡ (readHead magic version more s >>= rest)
 unfolding readHead
 head-then magic version more s rest =
-    let numbers : Step (List ℕ) → Out (Step (List ℕ)) = λ m. row (headNumbers version more) (m .place) (m .left) in
+    let numbers : Step (List ℕ) → Result (Step (List ℕ)) = λ m. row (headNumbers version more) (m .place) (m .left) in
     sym (bind-bind (check (sizeFits (length s)) 1 0) (λ _. row (any ∷ []) 0 s >>= λ m. check (eqb (number m 0) magic) 2 0 >>= λ _. numbers m) rest
     ∙ bind-cong (check (sizeFits (length s)) 1 0) (λ _ _. bind-bind (row (any ∷ []) 0 s) (λ m. check (eqb (number m 0) magic) 2 0 >>= λ _. numbers m) rest
     ∙ bind-cong (row (any ∷ []) 0 s) (λ m _. bind-bind (check (eqb (number m 0) magic) 2 0) (λ _. numbers m) rest)))
@@ -143,7 +143,7 @@ and-split : (a b : Bool) → T (a && b) → T a × T b
 and-split true b t = (tt, t)
 and-split false b t = absurd t
 
-module _ (magic version more : ℕ) (s : List ℕ) (h : Step (List ℕ)) (e : readHead magic version more s ≡ got h) where
+module _ (magic version more : ℕ) (s : List ℕ) (h : Step (List ℕ)) (e : readHead magic version more s ≡ accept h) where
   at-least : 12 ≤ length s → length s ≤ 16777216 → wordAt s 0 ≡ magic → HeadAt s magic version more (number h 1)
   at-least lo hi hm =
       let i = inside magic version more s lo hi (wordAt s 0) refl hm in
@@ -155,7 +155,7 @@ module _ (magic version more : ℕ) (s : List ℕ) (h : Step (List ℕ)) (e : re
       record {
         small = hi;
         room = room;
-        is = e ∙ ap (λ (z : Step (List ℕ)). got z) (sym q);
+        is = e ∙ ap (λ (z : Step (List ℕ)). accept z) (sym q);
         first = eqb→eq (wordAt s 4) version a;
         second = sym (word-at s (span 4 (length s)) (2 + more) 1 i (omega arith) (omega arith)) ∙ ap (λ (z : Step (List ℕ)). number z 1) q;
       }))
@@ -172,13 +172,13 @@ module _ (magic version more : ℕ) (s : List ℕ) (h : Step (List ℕ)) (e : re
       let w : number m 0 ≡ wordAt s 0 = ap (λ (ws : List ℕ). getD ws 0 0) (v .0) ∙ magic-is magic version more s lo hi (wordAt s 0) refl in
       at-least lo hi (sym w ∙ eqb→eq (number m 0) magic t))))
 
-opened-got : (o : Out (Step (List ℕ))) (k : ℕ) → opened.To k ≡ openedOf o → (h : Step (List ℕ)) × (o ≡ got h) × (number h 1 ≡ k)
-opened-got (got h) k q = (h, refl, cc)
-opened-got (bad n p) k q = let z : _≡_ {A = ℕ} 0 1 = cc in absurd (omega arith)
+opened-got : (o : Result (Step (List ℕ))) (k : ℕ) → opened.To k ≡ openedOf o → (h : Step (List ℕ)) × (o ≡ accept h) × (number h 1 ≡ k)
+opened-got (accept h) k q = (h, refl, cc)
+opened-got (reject n p) k q = let z : _≡_ {A = ℕ} 0 1 = cc in absurd (omega arith)
 
-pub opened-bad : (o : Out (Step (List ℕ))) (e p : ℕ) → opened.Not e p ≡ openedOf o → o ≡ bad e p
-opened-bad (got h) e p q = let z : _≡_ {A = ℕ} 0 1 = cc in absurd (omega arith)
-opened-bad (bad n m) e p q = let a : n ≡ e = cc in let b : m ≡ p = cc in rw (a, b)
+pub opened-bad : (o : Result (Step (List ℕ))) (e p : ℕ) → opened.Not e p ≡ openedOf o → o ≡ reject e p
+opened-bad (accept h) e p q = let z : _≡_ {A = ℕ} 0 1 = cc in absurd (omega arith)
+opened-bad (reject n m) e p q = let a : n ≡ e = cc in let b : m ≡ p = cc in rw (a, b)
 
 pub opened-at : (magic version more : ℕ) (s : List ℕ) (k : ℕ) → opened.To k ≡ openedOf (readHead magic version more s) → HeadAt s magic version more k
 opened-at magic version more s k q =

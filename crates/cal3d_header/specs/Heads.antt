@@ -3,7 +3,7 @@ use Prim.Native.Nat.{ℕ}
 use mathlib.Core.List.{List, [], _∷_}
 use lib.ListN.{length, replicate}
 use lib.Dec.{eqb}
-use Rattle.layout.specs.Out.{Out, got, bad, check, _>>=_}
+use Rattle.layout.specs.Result.{Result, accept, reject, check, _>>=_}
 use Rattle.layout.specs.Parts.{Step, row, number}
 use Rattle.layout.specs.Rows.{sizeFits}
 use Rattle.layout.specs.Rules.{Rule, any, exactly, count}
@@ -15,7 +15,7 @@ abbrev pub headNumbers : ℕ → ℕ → List Rule
 headNumbers version more = exactly version ∷ count ∷ replicate more any
 
 -- the header's numbers of the file s: checks 1 and 2, then the numbers by their rules
-unfoldable pub readHead : ℕ → ℕ → ℕ → List ℕ → Out (Step (List ℕ))
+unfoldable pub readHead : ℕ → ℕ → ℕ → List ℕ → Result (Step (List ℕ))
 readHead magic version more s = do
   _ ← check (sizeFits (length s)) 1 0
   m ← row (any ∷ []) 0 s
@@ -23,6 +23,6 @@ readHead magic version more s = do
   row (headNumbers version more) (m .place) (m .left)
 
 -- what code answers for a header that was read: the number of entries, or the refusal
-abbrev pub openedOf : Out (Step (List ℕ)) → Opened
-openedOf (got h) = opened.To (number h 1)
-openedOf (bad n p) = opened.Not n p
+abbrev pub openedOf : Result (Step (List ℕ)) → Opened
+openedOf (accept h) = opened.To (number h 1)
+openedOf (reject n p) = opened.Not n p

@@ -6,7 +6,7 @@ use mathlib.Core.List.{List, [], _∷_}
 use lib.ListN.{length}
 use lib.Seq.{sets}
 use lib.Dec.{T, leb, leb→le}
-use Rattle.layout.specs.Out.{Out, got, bad}
+use Rattle.layout.specs.Result.{Result, accept, reject}
 use Rattle.layout.specs.Rows.{eachOf}
 use Rattle.layout.proofs.Lists.{All, all-zip}
 use Rattle.layout.proofs.Outs.{by-got, got-inj, each-got}
@@ -29,14 +29,14 @@ use Rattle.cal3d_mesh.specs.Meshes.{readInto, ReadsMesh}
 
 -- a mesh that is read keeps the rules, and its rows have room
 record Given (room : ℕ → ℕ) (bones : ℕ) (s : List ℕ) (t : Mesh) : Type 0 where
-  is : mesh bones s ≡ got t
+  is : mesh bones s ≡ accept t
   fits : All (λ (k : ℕ). T (leb (meshWidth k * length (meshRows k t)) (room k))) meshTables
 
-judge-got : (bones : ℕ) (s : List ℕ) (t : Mesh) → judgeMesh bones s ≡ got t → mesh bones s ≡ got t
+judge-got : (bones : ℕ) (s : List ℕ) (t : Mesh) → judgeMesh bones s ≡ accept t → mesh bones s ≡ accept t
 unfolding judgeMesh
 judge-got bones s t e = by-got (mesh bones s) _ e (λ u eu e₁. by-got (eachOf 10 _ meshTables) _ e₁ (λ y ey e₂. eu ∙ e₂))
 
-read-given : (room : ℕ → ℕ) (bones : ℕ) (s : List ℕ) (t : Mesh) → readMesh room bones s ≡ got t → Given room bones s t
+read-given : (room : ℕ → ℕ) (bones : ℕ) (s : List ℕ) (t : Mesh) → readMesh room bones s ≡ accept t → Given room bones s t
 unfolding readMesh
 read-given room bones s t e =
     by-got (judgeMesh bones s) _ e (λ u eu e₁.
@@ -46,12 +46,12 @@ read-given room bones s t e =
 -- ---- `read_mesh`
 
 -- where it is refused, a table stays
-stays : (k : ℕ) (o : Out Mesh) (n p : ℕ) (xs : List ℕ) → o ≡ bad n p → xs ≡ meshTable k o xs
+stays : (k : ℕ) (o : Result Mesh) (n p : ℕ) (xs : List ℕ) → o ≡ reject n p → xs ≡ meshTable k o xs
 unfolding meshTable
 stays k o n p xs e = rw e
 
 -- where it is accepted, it has the words of its bytes
-holds : (k : ℕ) (o : Out Mesh) (s : List ℕ) (t : Mesh) (xs ys : List ℕ) → o ≡ got t → plainMesh s ≡ t → length (fileWords k s) ≤ length xs → ys ≡ sets xs 0 (fileWords k s) → ys ≡ meshTable k o xs
+holds : (k : ℕ) (o : Result Mesh) (s : List ℕ) (t : Mesh) (xs ys : List ℕ) → o ≡ accept t → plainMesh s ≡ t → length (fileWords k s) ≤ length xs → ys ≡ sets xs 0 (fileWords k s) → ys ≡ meshTable k o xs
 unfolding meshTable
 holds k o s t xs ys e f h g = g ∙ over-all xs (fileWords k s) h ∙ rw (e, ← f)
 
@@ -64,16 +64,16 @@ module _ (bones : ℕ) (s : List ℕ) (l1 l2 l3 l4 l5 l6 : ℕ) (judged : MeshAn
   answers : r ≡ meshAnswer (readMesh room bones s)
   answers = w .answer bones s ej
 
-  by-refusal : (r .number ≡ 0 → ⊥) → {P : Type 0} → ((n p : ℕ) → readMesh room bones s ≡ bad n p → P) → P
+  by-refusal : (r .number ≡ 0 → ⊥) → {P : Type 0} → ((n p : ℕ) → readMesh room bones s ≡ reject n p → P) → P
   by-refusal d f = number-of (readMesh room bones s) (λ z. d (ap (λ (a : MeshAnswer). a .number) answers ∙ z)) f
 
   module _ (z : r .number ≡ 0) where
-    by-mesh : {P : Type 0} → ((t : Mesh) → readMesh room bones s ≡ got t → Plainly s t → P) → P
+    by-mesh : {P : Type 0} → ((t : Mesh) → readMesh room bones s ≡ accept t → Plainly s t → P) → P
     by-mesh f =
         accepted (readMesh room bones s) (read-number room bones s) (sym (ap (λ (a : MeshAnswer). a .number) answers) ∙ z) (λ t e. f t e (mesh-plain s bones t (read-given room bones s t e .is)))
 
     -- each table has room for the words of its bytes
-    rooms : (t : Mesh) → readMesh room bones s ≡ got t → plainMesh s ≡ t → All (λ (k : ℕ). length (fileWords k s) ≤ room k) meshTables
+    rooms : (t : Mesh) → readMesh room bones s ≡ accept t → plainMesh s ≡ t → All (λ (k : ℕ). length (fileWords k s) ≤ room k) meshTables
     rooms t e f =
         all-zip (λ (k : ℕ). length (fileWords k s) ≡ meshWidth k * length (meshRows k (plainMesh s))) (λ (k : ℕ). T (leb (meshWidth k * length (meshRows k t)) (room k))) (λ (k : ℕ). length (fileWords k s) ≤ room k)
         (λ k a b. let c = leb→le (meshWidth k * length (meshRows k t)) (room k) b in
@@ -98,7 +98,7 @@ module _ (bones : ℕ) (s : List ℕ) (l1 l2 l3 l4 l5 l6 : ℕ) (judged : MeshAn
 
 module _ (bones : ℕ) (s t1 t2 t3 t4 t5 t6 : List ℕ) (judged : MeshAnswer) (ej : judged ≡ meshAnswer (judgeMesh bones s)) (r : MeshAnswer)
     (w : WithRoom judged (length t1 ∷ length t2 ∷ length t3 ∷ length t4 ∷ length t5 ∷ length t6 ∷ []) r) where
-  abbrev given : Out Mesh
+  abbrev given : Result Mesh
   given = readInto t1 t2 t3 t4 t5 t6 bones s
 
   answer-is : r ≡ meshAnswer given

@@ -3,14 +3,14 @@ use Prim.Native.Nat.{ℕ}
 use mathlib.Core.Path.{_≡_}
 use mathlib.Core.List.{List, [], _∷_}
 use lib.ListN.{length}
-use Rattle.layout.specs.Out.{Out}
+use Rattle.layout.specs.Result.{Result}
 use Rattle.cal3d_spec.specs.Meshes.{Mesh}
 use Rattle.cal3d_spec.specs.Answers.{readMesh, meshAnswer, meshTable}
 use Rattle.cal3d_spec.specs.declared.MeshAnswer.{MeshAnswer}
 use Rattle.shared_room.specs.Rooms.{numberOf}
 
 -- the mesh of the file s, bone ids being below `bones`, lent six tables as long as these
-abbrev pub readInto : List ℕ → List ℕ → List ℕ → List ℕ → List ℕ → List ℕ → ℕ → List ℕ → Out Mesh
+abbrev pub readInto : List ℕ → List ℕ → List ℕ → List ℕ → List ℕ → List ℕ → ℕ → List ℕ → Result Mesh
 readInto t1 t2 t3 t4 t5 t6 bones s = readMesh (numberOf (length t1 ∷ length t2 ∷ length t3 ∷ length t4 ∷ length t5 ∷ length t6 ∷ [])) bones s
 
 -- the promise of the mesh reader for a file s, a number of bones and six tables t1 to t6: u1 to u6 are the tables after it, r is the answer

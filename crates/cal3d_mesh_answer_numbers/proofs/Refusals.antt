@@ -4,7 +4,7 @@ use native.Mathlib.Omega.{arith}
 use mathlib.Core.Bool.{Bool, true, false}
 use mathlib.Core.Path.{_≡_}
 use mathlib.Core.List.{List, [], _∷_}
-use Rattle.layout.specs.Out.{Out, got, bad, check, _>>=_}
+use Rattle.layout.specs.Result.{Result, accept, reject, check, _>>=_}
 use Rattle.layout.specs.Parts.{Step, row, number}
 use Rattle.layout.specs.Counted.{times, atEnd}
 use Rattle.layout.specs.Rows.{eachOf}
@@ -12,7 +12,7 @@ use Rattle.layout.proofs.RefusalLaws.{Fair, bind-fair, check-fair, row-fair}
 use Rattle.cal3d_spec.specs.Meshes.{readCloth, readVertex, readSubmesh, meshFrom, mesh}
 use Rattle.cal3d_spec.specs.Answers.{judgeMesh, readMesh}
 
-times-fair : {A : Type 0} (read : ℕ → List ℕ → Out (Step A)) → ((p : ℕ) (s : List ℕ) → Fair (read p s)) → (n p : ℕ) (s : List ℕ) → Fair (times n read p s)
+times-fair : {A : Type 0} (read : ℕ → List ℕ → Result (Step A)) → ((p : ℕ) (s : List ℕ) → Fair (read p s)) → (n p : ℕ) (s : List ℕ) → Fair (times n read p s)
 unfolding times
 times-fair read f zero p s = tt
 times-fair read f (suc n) p s = bind-fair _ (read p s) _ (f p s) (λ x. bind-fair _ (times n read (x .place) (x .left)) _ (times-fair read f n (x .place) (x .left)) (λ l. tt))
@@ -60,13 +60,13 @@ mesh-fair bones s =
     bind-fair _ (check _ 2 0) _ (check-fair _ 2 0 (omega arith, omega arith)) (λ v. from-fair _ (m .place) (m .left))))
 
 -- a value, or a refusal that is not 0
-abbrev Told : {A : Type 0} → Out A → Type 0
-Told (got a) = Unit {0}
-Told (bad n p) = 0 < n
+abbrev Told : {A : Type 0} → Result A → Type 0
+Told (accept a) = Unit {0}
+Told (reject n p) = 0 < n
 
-bind-told : {A B : Type 0} (m : Out A) (k : A → Out B) → Told m → ((a : A) → Told (k a)) → Told (m >>= k)
-bind-told (got a) k h f = f a
-bind-told (bad n p) k h f = h
+bind-told : {A B : Type 0} (m : Result A) (k : A → Result B) → Told m → ((a : A) → Told (k a)) → Told (m >>= k)
+bind-told (accept a) k h f = f a
+bind-told (reject n p) k h f = h
 
 check-told : (b : Bool) (n p : ℕ) → 0 < n → Told (check b n p)
 unfolding check
@@ -78,9 +78,9 @@ unfolding eachOf
 each-told n h ok [] = tt
 each-told n h ok (k ∷ ks) = bind-told (check (ok k) n k) _ (check-told (ok k) n k h) (λ u. each-told n h ok ks)
 
-fair-told : {A : Type 0} (o : Out A) → Fair o → Told o
-fair-told (got a) h = tt
-fair-told (bad n p) h = h .0
+fair-told : {A : Type 0} (o : Result A) → Fair o → Told o
+fair-told (accept a) h = tt
+fair-told (reject n p) h = h .0
 
 judge-told : (bones : ℕ) (s : List ℕ) → Told (judgeMesh bones s)
 unfolding judgeMesh
@@ -90,8 +90,8 @@ read-told : (room : ℕ → ℕ) (bones : ℕ) (s : List ℕ) → Told (readMesh
 unfolding readMesh
 read-told room bones s = bind-told (judgeMesh bones s) _ (judge-told bones s) (λ t. bind-told (eachOf 11 _ _) _ (each-told 11 (omega arith) _ _) (λ u. tt))
 
-pub judge-number : (bones : ℕ) (s : List ℕ) (n p : ℕ) → judgeMesh bones s ≡ bad n p → 0 < n
+pub judge-number : (bones : ℕ) (s : List ℕ) (n p : ℕ) → judgeMesh bones s ≡ reject n p → 0 < n
 judge-number bones s n p e = rw e at (judge-told bones s)
 
-pub read-number : (room : ℕ → ℕ) (bones : ℕ) (s : List ℕ) (n p : ℕ) → readMesh room bones s ≡ bad n p → 0 < n
+pub read-number : (room : ℕ → ℕ) (bones : ℕ) (s : List ℕ) (n p : ℕ) → readMesh room bones s ≡ reject n p → 0 < n
 read-number room bones s n p e = rw e at (read-told room bones s)

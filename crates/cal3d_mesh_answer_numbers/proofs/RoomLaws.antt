@@ -6,7 +6,7 @@ use mathlib.Core.List.{List, [], _∷_}
 use lib.ListN.{length, getD}
 use lib.Dec.{ltb}
 use Rattle.wire.specs.Test.{if}
-use Rattle.layout.specs.Out.{Out, got, bad}
+use Rattle.layout.specs.Result.{Result, accept, reject}
 use Rattle.shared_room.specs.Rooms.{numberOf, firstShort}
 use Rattle.shared_room.proofs.Rooms.{short-at-most, each-short, each-room}
 use Rattle.cal3d_spec.specs.Meshes.{Mesh}
@@ -34,27 +34,27 @@ module _ (counts : List ℕ) (l1 l2 l3 l4 l5 l6 n1 n2 n3 n4 n5 n6 r1 r2 r3 r4 r5
 -- ---- `with_room`
 
 -- what a judge's answer says of what was read
-pub number-of : (o : Out Mesh) → (meshAnswer o .number ≡ 0 → ⊥) → {P : Type 0} → ((n p : ℕ) → o ≡ bad n p → P) → P
+pub number-of : (o : Result Mesh) → (meshAnswer o .number ≡ 0 → ⊥) → {P : Type 0} → ((n p : ℕ) → o ≡ reject n p → P) → P
 unfolding meshAnswer
-number-of (got t) d f = absurd (d refl)
-number-of (bad n p) d f = f n p refl
+number-of (accept t) d f = absurd (d refl)
+number-of (reject n p) d f = f n p refl
 
-pub accepted : (o : Out Mesh) → ((n p : ℕ) → o ≡ bad n p → 0 < n) → meshAnswer o .number ≡ 0 → {P : Type 0} → ((t : Mesh) → o ≡ got t → P) → P
+pub accepted : (o : Result Mesh) → ((n p : ℕ) → o ≡ reject n p → 0 < n) → meshAnswer o .number ≡ 0 → {P : Type 0} → ((t : Mesh) → o ≡ accept t → P) → P
 unfolding meshAnswer
-accepted (got t) h e f = f t refl
-accepted (bad n p) h e f = absurd (omega (arith, h n p refl))
+accepted (accept t) h e f = f t refl
+accepted (reject n p) h e f = absurd (omega (arith, h n p refl))
 
 -- the counts of the answer are those of what was read
-counts-of : (t : Mesh) (room : ℕ → ℕ) → firstShort meshWidth (numberOf (meshAnswer (got t) .counts)) room meshTables ≡ firstShort meshWidth (λ (k : ℕ). length (meshRows k t)) room meshTables
+counts-of : (t : Mesh) (room : ℕ → ℕ) → firstShort meshWidth (numberOf (meshAnswer (accept t) .counts)) room meshTables ≡ firstShort meshWidth (λ (k : ℕ). length (meshRows k t)) room meshTables
 unfolding meshAnswer firstShort
 counts-of t room = refl
 
-module _ (room : ℕ → ℕ) (bones : ℕ) (s : List ℕ) (t : Mesh) (f : judgeMesh bones s ≡ got t) where
-  read-short : (n : ℕ) → firstShort meshWidth (λ (k : ℕ). length (meshRows k t)) room meshTables ≡ n → (n ≡ 0 → ⊥) → readMesh room bones s ≡ bad 11 n
+module _ (room : ℕ → ℕ) (bones : ℕ) (s : List ℕ) (t : Mesh) (f : judgeMesh bones s ≡ accept t) where
+  read-short : (n : ℕ) → firstShort meshWidth (λ (k : ℕ). length (meshRows k t)) room meshTables ≡ n → (n ≡ 0 → ⊥) → readMesh room bones s ≡ reject 11 n
   unfolding readMesh
   read-short n e d = rw (f, each-short meshWidth (λ (k : ℕ). length (meshRows k t)) room 11 meshTables (λ q. d (sym e ∙ q)), e)
 
-  read-room : firstShort meshWidth (λ (k : ℕ). length (meshRows k t)) room meshTables ≡ 0 → readMesh room bones s ≡ got t
+  read-room : firstShort meshWidth (λ (k : ℕ). length (meshRows k t)) room meshTables ≡ 0 → readMesh room bones s ≡ accept t
   unfolding readMesh
   read-room e = rw (f, each-room meshWidth (λ (k : ℕ). length (meshRows k t)) room 11 meshTables (omega arith, (omega arith, (omega arith, (omega arith, (omega arith, (omega arith, tt)))))) e)
 
@@ -66,11 +66,11 @@ module _ (judged : MeshAnswer) (rooms : List ℕ) where
   }
 
   module _ (z : judged .number ≡ 0) (n : ℕ) (en : n ≡ firstShort meshWidth (numberOf (judged .counts)) (numberOf rooms) meshTables) where
-    short-of : (bones : ℕ) (s : List ℕ) (t : Mesh) → judged ≡ meshAnswer (judgeMesh bones s) → judgeMesh bones s ≡ got t
+    short-of : (bones : ℕ) (s : List ℕ) (t : Mesh) → judged ≡ meshAnswer (judgeMesh bones s) → judgeMesh bones s ≡ accept t
         → firstShort meshWidth (λ (k : ℕ). length (meshRows k t)) (numberOf rooms) meshTables ≡ n
     short-of bones s t e f = sym (counts-of t (numberOf rooms)) ∙ ap (λ (a : MeshAnswer). firstShort meshWidth (numberOf (a .counts)) (numberOf rooms) meshTables) (sym (e ∙ ap meshAnswer f)) ∙ sym en
 
-    pub room-short : (n ≡ 0 → ⊥) → (r : MeshAnswer) → r ≡ meshAnswer (bad 11 n) → WithRoom judged rooms r
+    pub room-short : (n ≡ 0 → ⊥) → (r : MeshAnswer) → r ≡ meshAnswer (reject 11 n) → WithRoom judged rooms r
     room-short d r er = record {
       answer = λ bones s e. accepted (judgeMesh bones s) (judge-number bones s) (sym (ap (λ (a : MeshAnswer). a .number) e) ∙ z) (λ t f.
           er ∙ ap meshAnswer (sym (read-short (numberOf rooms) bones s t f n (short-of bones s t e f) d)));

@@ -19,12 +19,12 @@ fn first_short(
 ) -> usize
     ensures { λ r. ⌜ (r ≡ firstShort meshWidth (numberOf counts) (numberOf (l1 ∷ l2 ∷ l3 ∷ l4 ∷ l5 ∷ l6 ∷ [])) meshTables) × (r ≤ 6) ⌝ }
 {
-    let from6 = shared_room::short_or(6, 3, wire::size(counts[5]), l6, 0);
-    let from5 = shared_room::short_or(5, 4, wire::size(counts[4]), l5, from6);
-    let from4 = shared_room::short_or(4, 2, wire::size(counts[3]), l4, from5);
-    let from3 = shared_room::short_or(3, 2, wire::size(counts[2]), l3, from4);
-    let from2 = shared_room::short_or(2, 12, wire::size(counts[1]), l2, from3);
-    shared_room::short_or(1, 9, wire::size(counts[0]), l1, from2)
+    let from6 = shared_room::short_table_or(6, 3, wire::size(counts[5]), l6, 0);
+    let from5 = shared_room::short_table_or(5, 4, wire::size(counts[4]), l5, from6);
+    let from4 = shared_room::short_table_or(4, 2, wire::size(counts[3]), l4, from5);
+    let from3 = shared_room::short_table_or(3, 2, wire::size(counts[2]), l3, from4);
+    let from2 = shared_room::short_table_or(2, 12, wire::size(counts[1]), l2, from3);
+    shared_room::short_table_or(1, 9, wire::size(counts[0]), l1, from2)
 }
 
 // Returns the reader's answer with tables of `l1` to `l6` words, where the judge's is `judged`.

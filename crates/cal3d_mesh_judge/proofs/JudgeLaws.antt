@@ -10,7 +10,7 @@ use Rattle.wire.specs.Test.{if}
 use Rattle.wire.specs.Cursors.{Inside, left}
 use Rattle.wire.specs.declared.Cursor.{Cursor}
 use Rattle.wire.proofs.Left.{span, left-length}
-use Rattle.layout.specs.Out.{Out, got, bad, _>>=_}
+use Rattle.layout.specs.Result.{Result, accept, reject, _>>=_}
 use Rattle.layout.specs.Parts.{Step, number}
 use Rattle.layout.specs.Counted.{times}
 use Rattle.layout.specs.Rows.{eachOf}
@@ -55,8 +55,8 @@ abbrev made-of : List ℕ → List Submesh → Mesh
 made-of ws l = record { head = ws; submeshes = l }
 
 -- the row limits
-abbrev limits : Mesh → Out Mesh
-limits t = eachOf 10 (λ k. leb (length (meshRows k t)) mostRows) meshTables >>= λ _. got t
+abbrev limits : Mesh → Result Mesh
+limits t = eachOf 10 (λ k. leb (length (meshRows k t)) mostRows) meshTables >>= λ _. accept t
 
 mesh-head : (bones : ℕ) (s : List ℕ) → mesh bones s ≡ (readHead meshMagic 700 0 s >>= λ h. toEnd (made-of (h .value)) (times (number h 1) (readSubmesh (namedBones bones)) (h .place) (h .left)))
 unfolding mesh meshFrom
@@ -65,7 +65,7 @@ mesh-head bones s = head-then meshMagic 700 0 s (λ h. toEnd (made-of (h .value)
 -- ---- the limits of a mesh
 
 -- as they are answered
-limits-answer : (t : Mesh) (k n : ℕ) (x : Contents) → firstOver 1 (countsOf t) ≡ k → meshAnswer (got t) ≡ acceptedAs n x → meshAnswer (limits t) ≡ overAs k n x
+limits-answer : (t : Mesh) (k n : ℕ) (x : Contents) → firstOver 1 (countsOf t) ≡ k → meshAnswer (accept t) ≡ acceptedAs n x → meshAnswer (limits t) ≡ overAs k n x
 unfolding overOut overAs
 limits-answer t zero n x e q = rw (limits-are t, e) q
 limits-answer t (suc k) n x e q = rw (limits-are t, e)
@@ -79,11 +79,11 @@ two (a ∷ b ∷ d ∷ l) e = absurd (omega arith)
 -- ---- the ways through `judge`
 
 -- a refusal, as it is answered
-answer-bad : (o : Out Mesh) (n p : ℕ) → o ≡ bad n p → (a : MeshAnswer) → a ≡ meshAnswer (bad n p) → a ≡ meshAnswer o
+answer-bad : (o : Result Mesh) (n p : ℕ) → o ≡ reject n p → (a : MeshAnswer) → a ≡ meshAnswer (reject n p) → a ≡ meshAnswer o
 answer-bad o n p e a q = q ∙ ap meshAnswer (sym e)
 
 module _ (bones : ℕ) (s : List ℕ) (r : Opened) (e : r ≡ openedOf (readHead 4607299 700 0 s)) where
-  pub judge-head : (n p : ℕ) → r ≡ opened.Not n p → (a : MeshAnswer) → a ≡ meshAnswer (bad n p) → a ≡ meshAnswer (judgeMesh bones s)
+  pub judge-head : (n p : ℕ) → r ≡ opened.Not n p → (a : MeshAnswer) → a ≡ meshAnswer (reject n p) → a ≡ meshAnswer (judgeMesh bones s)
   unfolding judgeMesh
   judge-head n p w = answer-bad (judgeMesh bones s) n p (rw (mesh-head bones s, opened-bad (readHead 4607299 700 0 s) n p (sym w ∙ e)))
 
@@ -119,13 +119,13 @@ module _ (bones : ℕ) (s : List ℕ) (r : Opened) (e : r ≡ openedOf (readHead
       pub judge-place : (n p : ℕ) → y ≡ contained.Not n p → p < 4294967296
       judge-place n p z = let h : p ≤ length s = rw z at (v .passes) in let m = judge-small in omega arith
 
-      pub judge-walk : (n p : ℕ) → y ≡ contained.Not n p → (a : MeshAnswer) → a ≡ meshAnswer (bad n p) → a ≡ meshAnswer (judgeMesh bones s)
+      pub judge-walk : (n p : ℕ) → y ≡ contained.Not n p → (a : MeshAnswer) → a ≡ meshAnswer (reject n p) → a ≡ meshAnswer (judgeMesh bones s)
       judge-walk n p z =
           answer-bad (judgeMesh bones s) n p
           (walked ∙ ended-bad (made-of (headOf 0 s)) limits (times x (readSubmesh b) 12 (left (span 12 (length s)) s)) n p (contained-bad contentsIn (length s) (times x (readSubmesh b) 12 (left (span 12 (length s)) s)) n p (sym z ∙ v .is)))
 
       module _ (t : Contents) (c : Cursor) (z : y ≡ contained.To t c) where
-        read : (l : Step (List Submesh)) × (times x (readSubmesh b) 12 (left (span 12 (length s)) s) ≡ got l) × (t ≡ contentsIn (l .value)) × (c ≡ record { at = l .place; end = length s })
+        read : (l : Step (List Submesh)) × (times x (readSubmesh b) 12 (left (span 12 (length s)) s) ≡ accept l) × (t ≡ contentsIn (l .value)) × (c ≡ record { at = l .place; end = length s })
         read = contained-got contentsIn (length s) (times x (readSubmesh b) 12 (left (span 12 (length s)) s)) t c (sym z ∙ v .is)
 
         place : c .at ≡ read .0 .place
@@ -137,10 +137,10 @@ module _ (bones : ℕ) (s : List ℕ) (r : Opened) (e : r ≡ openedOf (readHead
         pub judge-end : c .at < 4294967296
         judge-end = let h = rw z at (v .passes) in let m = judge-small in let p = h .before in let q = h .same in omega arith
 
-        pub judge-spare : c .at < length s → (a : MeshAnswer) → a ≡ meshAnswer (bad 5 (c .at)) → a ≡ meshAnswer (judgeMesh bones s)
+        pub judge-spare : c .at < length s → (a : MeshAnswer) → a ≡ meshAnswer (reject 5 (c .at)) → a ≡ meshAnswer (judgeMesh bones s)
         judge-spare h =
             answer-bad (judgeMesh bones s) 5 (c .at)
-            (walked ∙ ended-spare (made-of (headOf 0 s)) limits (times x (readSubmesh b) 12 (left (span 12 (length s)) s)) (read .0) (read .1) (omega (arith, over)) ∙ ap (λ (p : ℕ). bad 5 p) (sym place))
+            (walked ∙ ended-spare (made-of (headOf 0 s)) limits (times x (readSubmesh b) 12 (left (span 12 (length s)) s)) (read .0) (read .1) (omega (arith, over)) ∙ ap (λ (p : ℕ). reject 5 p) (sym place))
 
         module _ (h : length s ≤ c .at) where
           made : Mesh
@@ -156,7 +156,7 @@ module _ (bones : ℕ) (s : List ℕ) (r : Opened) (e : r ≡ openedOf (readHead
               let n : length (read .0 .value) ≡ k = times-length (readSubmesh b) x 12 (left (span 12 (length s)) s) (read .0) (read .1) ∙ ex in
               ap (λ (i : ℕ). rowCounts i (contentsIn (read .0 .value))) n ∙ ap (rowCounts k) (sym (read .2))
 
-          answer : meshAnswer (got made) ≡ acceptedAs k t
+          answer : meshAnswer (accept made) ≡ acceptedAs k t
           unfolding meshAnswer made
           answer = rw (counts-are made, counts, head-is)
 

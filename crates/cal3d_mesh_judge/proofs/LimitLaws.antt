@@ -8,7 +8,7 @@ use lib.ListN.{length}
 use lib.Dec.{leb, leb→le, nleb→lt}
 use borrow.Author.Tests.{le-leb, lt-leb}
 use Rattle.wire.specs.Test.{if}
-use Rattle.layout.specs.Out.{Out, got, bad, check, _>>=_}
+use Rattle.layout.specs.Result.{Result, accept, reject, check, _>>=_}
 use Rattle.layout.specs.Rows.{eachOf}
 use Rattle.layout.proofs.Outs.{by-test}
 use Rattle.cal3d_spec.specs.Meshes.{Submesh, Mesh}
@@ -80,13 +80,13 @@ few n t e =
     record { vertices = v; maps = m; influences = i; springs = g; faces = f }))))))
 
 -- the answer by the first table that is over
-over-answer : (k n : ℕ) (t : Contents) → (k ≡ 0 → ⊥) → meshAnswer (bad 10 k) ≡ overAs k n t
+over-answer : (k n : ℕ) (t : Contents) → (k ≡ 0 → ⊥) → meshAnswer (reject 10 k) ≡ overAs k n t
 unfolding overAs
 over-answer zero n t h = absurd (h refl)
 over-answer (suc k) n t h = refl
 
 module _ (n : ℕ) (t : Contents) (o : ℕ) (eo : o ≡ firstOver 1 (rowCounts n t)) where
-  pub limited-over : (o ≡ 0 → ⊥) → (a : MeshAnswer) → a ≡ meshAnswer (bad 10 o) → a ≡ limitedAs n t
+  pub limited-over : (o ≡ 0 → ⊥) → (a : MeshAnswer) → a ≡ meshAnswer (reject 10 o) → a ≡ limitedAs n t
   unfolding limitedAs
   limited-over h a q = rw (← eo) (q ∙ over-answer o n t h)
 
@@ -116,12 +116,12 @@ unfolding meshRows if contentsIn mapsIn influencesIn
 counts-are t = rw (submesh-rows 0 0 0 (t .submeshes), vertex-rows-length 0 0 (verticesOf (t .submeshes)))
 
 -- 10 at the first table that is over
-unfoldable pub overOut : ℕ → Out (Unit {0})
-overOut zero = got tt
-overOut (suc k) = bad 10 (suc k)
+unfoldable pub overOut : ℕ → Result (Unit {0})
+overOut zero = accept tt
+overOut (suc k) = reject 10 (suc k)
 
 over-cases : (a b c d e f : Bool)
-    → (check a 10 1 >>= λ _. check b 10 2 >>= λ _. check c 10 3 >>= λ _. check d 10 4 >>= λ _. check e 10 5 >>= λ _. check f 10 6 >>= λ _. got tt)
+    → (check a 10 1 >>= λ _. check b 10 2 >>= λ _. check c 10 3 >>= λ _. check d 10 4 >>= λ _. check e 10 5 >>= λ _. check f 10 6 >>= λ _. accept tt)
     ≡ overOut (if a (if b (if c (if d (if e (if f 0 6) 5) 4) 3) 2) 1)
 unfolding check if overOut
 over-cases false b c d e f = refl

@@ -1,6 +1,6 @@
 // The judge of mesh files: 02's answer to every file, without any table.
 ghost use mathlib.Core.Path.{_≡_};
-ghost use Rattle.layout.specs.Out.{bad};
+ghost use Rattle.layout.specs.Result.{reject};
 ghost use Rattle.cal3d_spec.specs.Rules.{namedBones};
 ghost use Rattle.cal3d_spec.specs.Answers.{judgeMesh, meshAnswer};
 ghost use Rattle.cal3d_mesh_submesh_lists.specs.Contents.{Within};
@@ -13,7 +13,7 @@ use wire::Cursor;
 
 // Returns the answer of a refusal with `number` at `place`.
 pub fn refused(number: u32, place: u32) -> MeshAnswer
-    ensures { λ r. ⌜ r ≡ meshAnswer (bad number place) ⌝ }
+    ensures { λ r. ⌜ r ≡ meshAnswer (reject number place) ⌝ }
 {
     MeshAnswer {
         number,

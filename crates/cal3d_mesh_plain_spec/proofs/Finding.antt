@@ -6,7 +6,7 @@ use mathlib.Core.List.{List, [], _∷_}
 use lib.ListN.{length}
 use Rattle.wire.specs.Cursors.{Inside, left}
 use Rattle.wire.proofs.Left.{span, left-length, left-drop}
-use Rattle.layout.specs.Out.{Out, got}
+use Rattle.layout.specs.Result.{Result, accept}
 use Rattle.layout.specs.Parts.{Step, row}
 use Rattle.layout.specs.Rules.{Rule}
 use Rattle.layout.specs.Counted.{before, times}
@@ -28,12 +28,12 @@ pub record Found {A : Type 0} (s : List ℕ) (x : Step A) (value : A) (end : ℕ
   pub within : end ≤ length s
 
 -- what a reading gives is this entry, wherever it starts
-abbrev pub Finds : {A : Type 0} → List ℕ → (ℕ → List ℕ → Out (Step A)) → (ℕ → A) → (ℕ → ℕ) → Type 0
-Finds {A} s read entry next = (p : ℕ) (x : Step A) → p ≤ length s → read p (after s p) ≡ got x → Found s x (entry p) (next p)
+abbrev pub Finds : {A : Type 0} → List ℕ → (ℕ → List ℕ → Result (Step A)) → (ℕ → A) → (ℕ → ℕ) → Type 0
+Finds {A} s read entry next = (p : ℕ) (x : Step A) → p ≤ length s → read p (after s p) ≡ accept x → Found s x (entry p) (next p)
 
 module _ {A B : Type 0} (s : List ℕ) (x : Step A) (value : A) (end : ℕ) (f : Found s x value end) where
   -- what is read next starts there
-  pub found-next : (read : ℕ → List ℕ → Out (Step B)) (y : Step B) → read (x .place) (x .left) ≡ got y → read end (after s end) ≡ got y
+  pub found-next : (read : ℕ → List ℕ → Result (Step B)) (y : Step B) → read (x .place) (x .left) ≡ accept y → read end (after s end) ≡ accept y
   found-next read y e = rw (f .to, f .rest) at e
 
   pub found-as : (y : Step B) (other : B) → y .value ≡ other → y .place ≡ x .place → y .left ≡ x .left → Found s y other end
@@ -62,7 +62,7 @@ unfolding before
 before-found s y l a others p end f g = record { is = rw (f .is, g .is); to = g .to; rest = g .rest; within = g .within }
 
 -- entries by their count
-pub times-finds : {A : Type 0} (s : List ℕ) (read : ℕ → List ℕ → Out (Step A)) (entry : ℕ → A) (next : ℕ → ℕ) → Finds s read entry next
+pub times-finds : {A : Type 0} (s : List ℕ) (read : ℕ → List ℕ → Result (Step A)) (entry : ℕ → A) (next : ℕ → ℕ) → Finds s read entry next
     → (n : ℕ) → Finds s (times n read) (entriesAt entry next n) (endAfter next n)
 unfolding times entriesAt endAfter
 times-finds {A} s read entry next f zero p x h e =

@@ -9,7 +9,7 @@ use lib.Dec.{leb, leb→le}
 use mir.Facts.{and-yes}
 use Rattle.wire.specs.Bytes.{wordAt}
 use Rattle.wire.specs.Cursors.{left}
-use Rattle.layout.specs.Out.{got}
+use Rattle.layout.specs.Result.{accept}
 use Rattle.layout.specs.Parts.{Step, row, number}
 use Rattle.layout.specs.Rows.{sizeFits}
 use Rattle.layout.specs.Rules.{any}
@@ -120,7 +120,7 @@ pub record Plainly (s : List ℕ) (t : Mesh) : Type 0 where
   pub head : 12 ≤ length s
 
 module _ (s : List ℕ) (bones : ℕ) (t : Mesh) where
-  from-four : (limit : ℕ) → 4 ≤ length s → meshFrom limit 4 (after s 4) ≡ got t → (plainMesh s ≡ t) × (meshEnd s ≤ length s)
+  from-four : (limit : ℕ) → 4 ≤ length s → meshFrom limit 4 (after s 4) ≡ accept t → (plainMesh s ≡ t) × (meshEnd s ≤ length s)
   unfolding meshFrom meshEnd
   from-four limit f e =
       by-got (row meshHead 4 (after s 4)) _ e (λ h eh e₁.
@@ -134,7 +134,7 @@ module _ (s : List ℕ) (bones : ℕ) (t : Mesh) where
   unfolding left
   whole = take-all (length s) s (omega arith)
 
-  pub mesh-plain : mesh bones s ≡ got t → Plainly s t
+  pub mesh-plain : mesh bones s ≡ accept t → Plainly s t
   unfolding mesh
   mesh-plain e =
       by-check (sizeFits (length s)) 1 0 _ e (λ z e₁.

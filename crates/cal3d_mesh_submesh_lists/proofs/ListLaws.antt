@@ -6,7 +6,7 @@ use mathlib.Core.List.{List, []}
 use lib.ListN.{length}
 use Rattle.wire.specs.Cursors.{Inside, left}
 use Rattle.wire.specs.declared.Cursor.{Cursor}
-use Rattle.layout.specs.Out.{got}
+use Rattle.layout.specs.Result.{accept}
 use Rattle.layout.specs.Parts.{row}
 use Rattle.layout.specs.Counted.{times}
 use Rattle.layout.proofs.CountLaws.{row-moves, times-moves, times-length}
@@ -100,7 +100,7 @@ module _ (s : List ℕ) (c : Cursor) (bones vertices springs maps faces : ℕ) (
               (sym (times-length (row (springNumbers vertices)) springs (n .at) (left n s) _ (second .is)))
               (sym (times-length (row (faceNumbers vertices)) faces (m .at) (left m s) _ (t .is))) in
               let whole : readLists bones vertices springs maps faces (c .at) (left c s)
-              ≡ got (record { value = record { numbers = []; vertices = first .value; springs = second .value; faces = t .value }; place = next .at; left = left next s }) = rw (first .is, second .is, t .is) in
+              ≡ accept (record { value = record { numbers = []; vertices = first .value; springs = second .value; faces = t .value }; place = next .at; left = left next s }) = rw (first .is, second .is, t .is) in
               record {
                 is = ap (λ (a : Contents). contained.To a next) same
                     ∙ ap (λ (i : ℕ). contained.To (record { vertices = length (first .value); maps = mapsIn (first .value); influences = influencesIn (first .value); springs = length (second .value); faces = length (t .value) }) (record { at = next .at; end = i })) end

@@ -4,7 +4,7 @@ use mathlib.Core.Path.{_≡_}
 use mathlib.Core.List.{List, [], map}
 use lib.ListN.{length}
 use Rattle.wire.specs.declared.Cursor.{Cursor}
-use Rattle.layout.specs.Out.{Out, got, bad, _>>=_}
+use Rattle.layout.specs.Result.{Result, accept, reject, _>>=_}
 use Rattle.layout.specs.Parts.{Step, row}
 use Rattle.layout.specs.Counted.{times}
 use Rattle.layout.specs.Rows.{joined}
@@ -45,17 +45,17 @@ pub record Within (t : Contents) (most : ℕ) : Type 0 where
   pub faces : t .faces ≤ most
 
 -- the submesh at p after its numbers, which are left out, by its counts; bone ids are below `bones`
-unfoldable pub readLists : ℕ → ℕ → ℕ → ℕ → ℕ → ℕ → List ℕ → Out (Step Submesh)
+unfoldable pub readLists : ℕ → ℕ → ℕ → ℕ → ℕ → ℕ → List ℕ → Result (Step Submesh)
 readLists bones vertices springs maps faces p s = do
   v ← times vertices (readVertex bones vertices springs maps) p s
   g ← times springs (row (springNumbers vertices)) (v .place) (v .left)
   f ← times faces (row (faceNumbers vertices)) (g .place) (g .left)
-  got (record { value = record { numbers = []; vertices = v .value; springs = g .value; faces = f .value }; place = f .place; left = f .left })
+  accept (record { value = record { numbers = []; vertices = v .value; springs = g .value; faces = f .value }; place = f .place; left = f .left })
 
 -- what code answers for what was read: how many entries it holds and the cursor after it, up to the same end; or the refusal
-abbrev pub containedOf : {A : Type 0} → (A → Contents) → ℕ → Out (Step A) → Contained
-containedOf contents end (got x) = contained.To (contents (x .value)) (record { at = x .place; end = end })
-containedOf contents end (bad n p) = contained.Not n p
+abbrev pub containedOf : {A : Type 0} → (A → Contents) → ℕ → Result (Step A) → Contained
+containedOf contents end (accept x) = contained.To (contents (x .value)) (record { at = x .place; end = end })
+containedOf contents end (reject n p) = contained.Not n p
 
 -- from c to n there are at least k bytes, and one for each entry of any one kind
 pub record Takes (c : Cursor) (k : ℕ) (t : Contents) (n : Cursor) : Type 0 where
@@ -80,7 +80,7 @@ ContentPasses c k (contained.To t n) = Takes c k t n
 ContentPasses c k (contained.Not e p) = p ≤ c .end
 
 -- r is what code answers for o, which was read at c and has at least k bytes
-pub record Contains {A : Type 0} (contents : A → Contents) (o : Out (Step A)) (c : Cursor) (k : ℕ) (r : Contained) : Type 0 where
+pub record Contains {A : Type 0} (contents : A → Contents) (o : Result (Step A)) (c : Cursor) (k : ℕ) (r : Contained) : Type 0 where
   -- r is o's numbers of entries and cursor, or its refusal
   pub is : r ≡ containedOf contents (c .end) o
   -- at least these bytes were passed

@@ -10,11 +10,11 @@ use borrow.Author.Tests.{leb-true}
 use Rattle.wire.specs.Bytes.{wordAt}
 use Rattle.wire.specs.Cursors.{Inside, left}
 use Rattle.wire.specs.declared.Cursor.{Cursor}
-use Rattle.layout.specs.Out.{Out, got, bad, _>>=_}
+use Rattle.layout.specs.Result.{Result, accept, reject, _>>=_}
 use Rattle.layout.specs.Parts.{Step, wordsOf, row, number}
 use Rattle.layout.specs.Counted.{times}
 use Rattle.layout.proofs.Outs.{by-got, got-inj}
-use Rattle.layout.proofs.CountLaws.{Moves, moved-as, moved-on, row-moves, row-got, times-moves}
+use Rattle.layout.proofs.CountLaws.{Advances, moved-as, moved-on, row-moves, row-got, times-moves}
 use Rattle.shared_counted_lists.specs.Runs.{Passes, Runs}
 use Rattle.shared_counted_lists.specs.declared.Ran.{Ran}
 use Rattle.shared_counted_lists.specs.declared.Ran.the-variants as ran
@@ -34,24 +34,24 @@ Rows = List (List ℕ)
 abbrev made : List ℕ → List Vertex → Rows → Step Rows → Step Submesh
 made ws v g f = record { value = record { numbers = ws; vertices = v; springs = g; faces = f .value }; place = f .place; left = f .left }
 
-abbrev listed : List ℕ → Out (Step (List Vertex)) → (Step (List Vertex) → Out (Step Rows)) → (Step Rows → Out (Step Rows)) → Out (Step Submesh)
-listed ws o t u = o >>= λ v. t v >>= λ g. u g >>= λ f. got (made ws (v .value) (g .value) f)
+abbrev listed : List ℕ → Result (Step (List Vertex)) → (Step (List Vertex) → Result (Step Rows)) → (Step Rows → Result (Step Rows)) → Result (Step Submesh)
+listed ws o t u = o >>= λ v. t v >>= λ g. u g >>= λ f. accept (made ws (v .value) (g .value) f)
 
 -- its numbers do not change what it contains
-numbers-same : (end : ℕ) (ws zs : List ℕ) (o : Out (Step (List Vertex))) (t : Step (List Vertex) → Out (Step Rows)) (u : Step Rows → Out (Step Rows))
+numbers-same : (end : ℕ) (ws zs : List ℕ) (o : Result (Step (List Vertex))) (t : Step (List Vertex) → Result (Step Rows)) (u : Step Rows → Result (Step Rows))
     → containedOf contentsOf end (listed ws o t u) ≡ containedOf contentsOf end (listed zs o t u)
 unfolding contentsOf
-numbers-same end ws zs (bad n p) t u = refl
-numbers-same end ws zs (got v) t u = second (t v)
+numbers-same end ws zs (reject n p) t u = refl
+numbers-same end ws zs (accept v) t u = second (t v)
   where
-    third : (g : Step Rows) (o : Out (Step Rows)) → containedOf contentsOf end (o >>= λ f. got (made ws (v .value) (g .value) f)) ≡ containedOf contentsOf end (o >>= λ f. got (made zs (v .value) (g .value) f))
-    third g (got f) = refl
-    third g (bad n p) = refl
+    third : (g : Step Rows) (o : Result (Step Rows)) → containedOf contentsOf end (o >>= λ f. accept (made ws (v .value) (g .value) f)) ≡ containedOf contentsOf end (o >>= λ f. accept (made zs (v .value) (g .value) f))
+    third g (accept f) = refl
+    third g (reject n p) = refl
 
-    second : (o : Out (Step Rows))
-        → containedOf contentsOf end (o >>= λ g. u g >>= λ f. got (made ws (v .value) (g .value) f)) ≡ containedOf contentsOf end (o >>= λ g. u g >>= λ f. got (made zs (v .value) (g .value) f))
-    second (got g) = third g (u g)
-    second (bad n p) = refl
+    second : (o : Result (Step Rows))
+        → containedOf contentsOf end (o >>= λ g. u g >>= λ f. accept (made ws (v .value) (g .value) f)) ≡ containedOf contentsOf end (o >>= λ g. u g >>= λ f. accept (made zs (v .value) (g .value) f))
+    second (accept g) = third g (u g)
+    second (reject n p) = refl
 
 -- more bytes passed on the way
 content-then : (c n : Cursor) (k : ℕ) (x : Contained) → Passes c k (ran.To n) → ContentPasses n 0 x → ContentPasses c k x
@@ -102,7 +102,7 @@ module _ (s : List ℕ) (c : Cursor) (bones : ℕ) (inside : Inside c (length s)
 pub ruleset submesh = (submesh-counts, submesh-room, submesh-inside, submesh-lists)
 
 -- where a submesh leaves off
-pub submesh-moves : (bones : ℕ) → Moves (readSubmesh bones)
+pub submesh-moves : (bones : ℕ) → Advances (readSubmesh bones)
 unfolding readSubmesh
 submesh-moves bones p s x e =
     by-got (row submeshNumbers p s) _ e (λ y ey e₁.

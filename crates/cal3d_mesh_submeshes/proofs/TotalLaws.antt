@@ -6,7 +6,7 @@ use mathlib.Core.List.{List, [], _∷_, _++_, map}
 use lib.ListN.{length, length-append}
 use Rattle.wire.specs.Cursors.{Inside, left}
 use Rattle.wire.specs.declared.Cursor.{Cursor}
-use Rattle.layout.specs.Out.{Out, got, bad}
+use Rattle.layout.specs.Result.{Result, accept, reject}
 use Rattle.layout.specs.Parts.{Step}
 use Rattle.layout.specs.Counted.{times}
 use Rattle.layout.specs.Rows.{joined}
@@ -23,14 +23,14 @@ use Rattle.cal3d_mesh_submeshes.proofs.SubmeshLaws.{submesh-moves}
 
 -- ---- answers
 
-pub contained-bad : {A : Type 0} (f : A → Contents) (end : ℕ) (o : Out (Step A)) (e p : ℕ) → contained.Not e p ≡ containedOf f end o → o ≡ bad e p
-contained-bad f end (got x) e p q = let z : _≡_ {A = ℕ} 0 1 = cc in absurd (omega arith)
-contained-bad f end (bad n m) e p q = let a : n ≡ e = cc in let b : m ≡ p = cc in rw (a, b)
+pub contained-bad : {A : Type 0} (f : A → Contents) (end : ℕ) (o : Result (Step A)) (e p : ℕ) → contained.Not e p ≡ containedOf f end o → o ≡ reject e p
+contained-bad f end (accept x) e p q = let z : _≡_ {A = ℕ} 0 1 = cc in absurd (omega arith)
+contained-bad f end (reject n m) e p q = let a : n ≡ e = cc in let b : m ≡ p = cc in rw (a, b)
 
-pub contained-got : {A : Type 0} (f : A → Contents) (end : ℕ) (o : Out (Step A)) (t : Contents) (n : Cursor) → contained.To t n ≡ containedOf f end o
-    → (x : Step A) × (o ≡ got x) × (t ≡ f (x .value)) × (n ≡ record { at = x .place; end = end })
-contained-got f end (got x) t n q = (x, refl, cc, cc)
-contained-got f end (bad m p) t n q = let z : _≡_ {A = ℕ} 0 1 = cc in absurd (omega arith)
+pub contained-got : {A : Type 0} (f : A → Contents) (end : ℕ) (o : Result (Step A)) (t : Contents) (n : Cursor) → contained.To t n ≡ containedOf f end o
+    → (x : Step A) × (o ≡ accept x) × (t ≡ f (x .value)) × (n ≡ record { at = x .place; end = end })
+contained-got f end (accept x) t n q = (x, refl, cc, cc)
+contained-got f end (reject m p) t n q = let z : _≡_ {A = ℕ} 0 1 = cc in absurd (omega arith)
 
 -- ---- what submeshes contain
 
@@ -91,9 +91,9 @@ after t l = both t (contentsIn l)
 after-one : (t : Contents) (x : Submesh) (l : List Submesh) → after t (x ∷ l) ≡ after (both t (contentsOf x)) l
 after-one t x l = ap (λ (d : Contents). both t d) (one-in x l) ∙ both-assoc t (contentsOf x) (contentsIn l)
 
-after-none : (end : ℕ) (o : Out (Step (List Submesh))) → containedOf contentsIn end o ≡ containedOf (λ t. t) end (mapped (after none) o)
-after-none end (got x) = ap (λ (t : Contents). contained.To t (record { at = x .place; end = end })) (sym (none-both (contentsIn (x .value))))
-after-none end (bad n p) = refl
+after-none : (end : ℕ) (o : Result (Step (List Submesh))) → containedOf contentsIn end o ≡ containedOf (λ t. t) end (mapped (after none) o)
+after-none end (accept x) = ap (λ (t : Contents). contained.To t (record { at = x .place; end = end })) (sym (none-both (contentsIn (x .value))))
+after-none end (reject n p) = refl
 
 -- submeshes have been passed up to c, with these contents; so many are left
 pub record Totalling (s : List ℕ) (bones n : ℕ) (from c : Cursor) (more : ℕ) (all : Contents) : Type 0 where

@@ -25,7 +25,7 @@ fn pass_counts(s: &[u8], c: Cursor) -> Ran
     if end - at < 24 {
         return Ran::Not(5, at);
     }
-    let good = shared_ids::first_bad(s, Cursor { at: at + 4, end }, 5, 2147483648, false);
+    let good = shared_ids::first_invalid(s, Cursor { at: at + 4, end }, 5, 2147483648, false);
     if good < 5 {
         return Ran::Not(6, at + 4 + 4 * good);
     }

@@ -5,7 +5,7 @@ use native.Mathlib.Nat.{suc-mul, zero-mul}
 use mathlib.Core.Path.{_≡_, refl, ap, sym, _∙_}
 use mathlib.Core.List.{List, [], _∷_, map}
 use lib.ListN.{length, length-append}
-use Rattle.layout.specs.Out.{got}
+use Rattle.layout.specs.Result.{accept}
 use Rattle.layout.specs.Parts.{Step, row}
 use Rattle.layout.specs.Counted.{before, times}
 use Rattle.layout.specs.Rows.{joined}
@@ -24,7 +24,7 @@ unfolding mapsIn joined
 more-maps x l = length-append (x .maps) (joined (map (λ (y : Vertex). y .maps) l))
 
 module _ (bones vertices springs maps : ℕ) where
-  vertex-maps : (p : ℕ) (s : List ℕ) (x : Step Vertex) → readVertex bones vertices springs maps p s ≡ got x → length (x .value .maps) ≡ maps
+  vertex-maps : (p : ℕ) (s : List ℕ) (x : Step Vertex) → readVertex bones vertices springs maps p s ≡ accept x → length (x .value .maps) ≡ maps
   unfolding readVertex
   vertex-maps p s x e =
       by-got (row (vertexNumbers vertices) p s) _ e (λ y ey e₁.
@@ -34,7 +34,7 @@ module _ (bones vertices springs maps : ℕ) where
       by-got (readCloth springs (i .place) (i .left)) _ e₄ (λ w ew e₅.
       sym (ap (λ (z : Step Vertex). length (z .value .maps)) (got-inj e₅)) ∙ times-length (row mapNumbers) maps (y .place) (y .left) m em)))))
 
-  pub maps-are : (n p : ℕ) (s : List ℕ) (x : Step (List Vertex)) → times n (readVertex bones vertices springs maps) p s ≡ got x → mapsIn (x .value) ≡ n * maps
+  pub maps-are : (n p : ℕ) (s : List ℕ) (x : Step (List Vertex)) → times n (readVertex bones vertices springs maps) p s ≡ accept x → mapsIn (x .value) ≡ n * maps
   unfolding before
   maps-are zero p s x e =
       let v : [] ≡ x .value = ap (λ (y : Step (List Vertex)). y .value) (got-inj (sym (times-none (readVertex bones vertices springs maps) p s) ∙ e)) in

@@ -8,12 +8,12 @@ use Rattle.wire.specs.Cursors.{Inside, left, numberAt}
 use Rattle.wire.specs.declared.Cursor.{Cursor}
 use Rattle.wire.specs.declared.Number.{Number}
 use Rattle.wire.specs.declared.Number.the-variants as number
-use Rattle.layout.specs.Out.{got, _>>=_}
+use Rattle.layout.specs.Result.{accept, _>>=_}
 use Rattle.layout.specs.Parts.{Step, row}
 use Rattle.layout.specs.Rules.{any, count}
 use Rattle.layout.specs.Counted.{times}
 use Rattle.layout.proofs.Outs.{by-got, got-inj}
-use Rattle.layout.proofs.CountLaws.{Moved, Moves, moved-as, moved-on, row-moves, times-moves, times-length}
+use Rattle.layout.proofs.CountLaws.{Moved, Advances, moved-as, moved-on, row-moves, times-moves, times-length}
 use Rattle.shared_ids.specs.Ids.{idRow}
 use Rattle.shared_counted_lists.specs.Runs.{ranOf, Runs}
 use Rattle.shared_counted_lists.specs.Sums.{Sums}
@@ -49,7 +49,7 @@ module _ (s : List ℕ) (c : Cursor) (vertices maps : ℕ) (inside : Inside c (l
           passes = passes-then c m 32 (maps * 8) r h (v .passes);
         }
 
-pub mapped-moves : (vertices maps : ℕ) → Moves (readMapped vertices maps)
+pub mapped-moves : (vertices maps : ℕ) → Advances (readMapped vertices maps)
 unfolding readMapped
 mapped-moves vertices maps p s x e =
     by-got (row (vertexNumbers vertices) p s) _ e (λ y ey e₁.
@@ -93,7 +93,7 @@ module _ (s : List ℕ) (c : Cursor) (bones : ℕ) (inside : Inside c (length s)
           let end : next .end ≡ c .end = g .2 ∙ f .same in
           record { is = rw (all, y .is, l, ← end); passes = (omega (arith, f .to), g .1, end) }
 
-pub influences-moves : (bones : ℕ) → Moves (readInfluences bones)
+pub influences-moves : (bones : ℕ) → Advances (readInfluences bones)
 unfolding readInfluences
 influences-moves bones p s x e =
     by-got (row influencesHead p s) _ e (λ k ek e₁.
@@ -107,7 +107,7 @@ module _ (s : List ℕ) (c : Cursor) (springs : ℕ) (inside : Inside c (length 
   cloth-none h = let e : springs ≡ 0 = omega arith in record { is = rw e; passes = (omega arith, inside .before, refl) }
 
   module _ (h : 0 < springs) (r : Number) (e : r ≡ numberAt s c) where
-    some : (n : ℕ) → n ≡ springs → (readCloth springs (c .at) (left c s) ≡ (row clothNumbers (c .at) (left c s) >>= λ w. got (record { value = Rattle.layout.specs.Parts.number w 0; place = w .place; left = w .left })))
+    some : (n : ℕ) → n ≡ springs → (readCloth springs (c .at) (left c s) ≡ (row clothNumbers (c .at) (left c s) >>= λ w. accept (record { value = Rattle.layout.specs.Parts.number w 0; place = w .place; left = w .left })))
     unfolding readCloth
     some zero q = absurd (omega arith)
     some (suc n) q = rw (← q)
@@ -120,7 +120,7 @@ module _ (s : List ℕ) (c : Cursor) (springs : ℕ) (inside : Inside c (length 
         let f = head-numbered s c inside r e k n w in
         record { is = rw (some springs refl, head-got s c inside r e k n w any refl, ← f .same); passes = (omega (arith, f .to), omega (arith, f .to, f .same, f .room), f .same) }
 
-pub cloth-moves : (springs : ℕ) → Moves (readCloth springs)
+pub cloth-moves : (springs : ℕ) → Advances (readCloth springs)
 unfolding readCloth
 cloth-moves zero p s x e = subst (λ (y : Step ℕ). Moved p s y) (got-inj e) (record { by = 0; to = omega arith; room = omega arith; rest = refl })
 cloth-moves (suc springs) p s x e =

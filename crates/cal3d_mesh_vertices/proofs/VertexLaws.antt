@@ -6,12 +6,12 @@ use mathlib.Core.List.{List, [], _∷_, map}
 use lib.ListN.{length, length-append}
 use Rattle.wire.specs.Cursors.{Inside, left}
 use Rattle.wire.specs.declared.Cursor.{Cursor}
-use Rattle.layout.specs.Out.{Out, got, bad, _>>=_}
+use Rattle.layout.specs.Result.{Result, accept, reject, _>>=_}
 use Rattle.layout.specs.Parts.{Step, row, number}
 use Rattle.layout.specs.Counted.{times}
 use Rattle.layout.specs.Rows.{joined}
 use Rattle.layout.proofs.Outs.{by-got, got-inj, bind-bind, bind-cong}
-use Rattle.layout.proofs.CountLaws.{Moves, moved-as, moved-on}
+use Rattle.layout.proofs.CountLaws.{Advances, moved-as, moved-on}
 use Rattle.shared_counted_lists.specs.Runs.{Passes, Runs}
 use Rattle.shared_counted_lists.specs.Sums.{summedOf, SumPasses, Sums}
 use Rattle.shared_counted_lists.specs.declared.Ran.{Ran}
@@ -26,18 +26,18 @@ use Rattle.cal3d_mesh_vertices.specs.Vertices.{readMapped, readInfluence
 use Rattle.cal3d_mesh_vertices.proofs.PartLaws.{mapped-moves, influences-moves, cloth-moves}
 
 -- two readings, with both values
-abbrev paired : {A B : Type 0} → Out (Step A) → (Step A → Out (Step B)) → Out (Step (A × B))
-paired o t = o >>= λ x. t x >>= λ m. got (record { value = (x .value, m .value); place = m .place; left = m .left })
+abbrev paired : {A B : Type 0} → Result (Step A) → (Step A → Result (Step B)) → Result (Step (A × B))
+paired o t = o >>= λ x. t x >>= λ m. accept (record { value = (x .value, m .value); place = m .place; left = m .left })
 
 -- and another reading behind them
-pair-then : {A B C : Type 0} (o : Out (Step A)) (t : Step A → Out (Step B)) (k : A → B → ℕ → List ℕ → Out C)
+pair-then : {A B C : Type 0} (o : Result (Step A)) (t : Step A → Result (Step B)) (k : A → B → ℕ → List ℕ → Result C)
     → (o >>= λ x. t x >>= λ m. k (x .value) (m .value) (m .place) (m .left)) ≡ (paired o t >>= λ y. k (y .value .0) (y .value .1) (y .place) (y .left))
-pair-then (bad n p) t k = refl
-pair-then {A} {B} {C} (got x) t k = go (t x)
+pair-then (reject n p) t k = refl
+pair-then {A} {B} {C} (accept x) t k = go (t x)
   where
-    go : (o : Out (Step B)) → (o >>= λ m. k (x .value) (m .value) (m .place) (m .left)) ≡ (paired (got x) (λ _. o) >>= λ y. k (y .value .0) (y .value .1) (y .place) (y .left))
-    go (got m) = refl
-    go (bad n p) = refl
+    go : (o : Result (Step B)) → (o >>= λ m. k (x .value) (m .value) (m .place) (m .left)) ≡ (paired (accept x) (λ _. o) >>= λ y. k (y .value .0) (y .value .1) (y .place) (y .left))
+    go (accept m) = refl
+    go (reject n p) = refl
 
 module _ (bones vertices springs maps p : ℕ) (s : List ℕ) where
   -- the vertex that these parts make
@@ -45,16 +45,16 @@ module _ (bones vertices springs maps p : ℕ) (s : List ℕ) where
   made x i w = record { value = record { numbers = x .0; maps = x .1; influences = i; cloth = w .value }; place = w .place; left = w .left }
 
   vertex-parts : readVertex bones vertices springs maps p s
-      ≡ (readMapped vertices maps p s >>= λ y. readInfluences bones (y .place) (y .left) >>= λ i. readCloth springs (i .place) (i .left) >>= λ w. got (made (y .value) (i .value) w))
+      ≡ (readMapped vertices maps p s >>= λ y. readInfluences bones (y .place) (y .left) >>= λ i. readCloth springs (i .place) (i .left) >>= λ w. accept (made (y .value) (i .value) w))
   unfolding readVertex readMapped readInfluences
   vertex-parts =
       pair-then (row (vertexNumbers vertices) p s) (λ x. times maps (row mapNumbers) (x .place) (x .left))
-      (λ n m q r. row influencesHead q r >>= λ k. times (number k 0) (row (influenceNumbers bones)) (k .place) (k .left) >>= λ i. readCloth springs (i .place) (i .left) >>= λ w. got (made (n, m) (i .value) w))
+      (λ n m q r. row influencesHead q r >>= λ k. times (number k 0) (row (influenceNumbers bones)) (k .place) (k .left) >>= λ i. readCloth springs (i .place) (i .left) >>= λ w. accept (made (n, m) (i .value) w))
       ∙ bind-cong (readMapped vertices maps p s) (λ y _.
-      sym (bind-bind (row influencesHead (y .place) (y .left)) (λ k. times (number k 0) (row (influenceNumbers bones)) (k .place) (k .left)) (λ i. readCloth springs (i .place) (i .left) >>= λ w. got (made (y .value) (i .value) w))))
+      sym (bind-bind (row influencesHead (y .place) (y .left)) (λ k. times (number k 0) (row (influenceNumbers bones)) (k .place) (k .left)) (λ i. readCloth springs (i .place) (i .left) >>= λ w. accept (made (y .value) (i .value) w))))
 
 -- where a vertex leaves off
-pub vertex-moves : (bones vertices springs maps : ℕ) → Moves (readVertex bones vertices springs maps)
+pub vertex-moves : (bones vertices springs maps : ℕ) → Advances (readVertex bones vertices springs maps)
 vertex-moves bones vertices springs maps p s x e =
     by-got (readMapped vertices maps p s) _ (sym (vertex-parts bones vertices springs maps p s) ∙ e) (λ y ey e₁.
     by-got (readInfluences bones (y .place) (y .left)) _ e₁ (λ i ei e₂.
@@ -66,7 +66,7 @@ vertex-moves bones vertices springs maps p s x e =
 
 module _ (s : List ℕ) (c : Cursor) (bones vertices springs maps : ℕ) (inside : Inside c (length s)) (r : Ran) (v : Runs (readMapped vertices maps (c .at) (left c s)) c (32 + maps * 8) r) where
   parts : readVertex bones vertices springs maps (c .at) (left c s)
-      ≡ (readMapped vertices maps (c .at) (left c s) >>= λ y. readInfluences bones (y .place) (y .left) >>= λ i. readCloth springs (i .place) (i .left) >>= λ w. got (made bones vertices springs maps (c .at) (left c s) (y .value) (i .value) w))
+      ≡ (readMapped vertices maps (c .at) (left c s) >>= λ y. readInfluences bones (y .place) (y .left) >>= λ i. readCloth springs (i .place) (i .left) >>= λ w. accept (made bones vertices springs maps (c .at) (left c s) (y .value) (i .value) w))
   parts = vertex-parts bones vertices springs maps (c .at) (left c s)
 
   pub vertex-mapped : (e p : ℕ) → r ≡ ran.Not e p → Sums influenceCount (readVertex bones vertices springs maps (c .at) (left c s)) c (36 + maps * 8) (summed.Not e p)
@@ -115,7 +115,7 @@ module _ (s : List ℕ) (c : Cursor) (bones vertices springs maps : ℕ) (inside
               let l = runs-passed (readCloth springs (m .at) (left m s)) m 0 y f next g in
               let t = runs-read (readCloth springs) (cloth-moves springs) s m vertex-weighed 0 y f next g in
               let end : next .end ≡ c .end = l .2 ∙ k .2 ∙ h .2 in
-              let whole : readVertex bones vertices springs maps (c .at) (left c s) ≡ got (made bones vertices springs maps (c .at) (left c s) (first .value) (second .value) (record { value = t .value; place = next .at; left = left next s })) = rw (parts, first .is, second .is, t .is) in
+              let whole : readVertex bones vertices springs maps (c .at) (left c s) ≡ accept (made bones vertices springs maps (c .at) (left c s) (first .value) (second .value) (record { value = t .value; place = next .at; left = left next s })) = rw (parts, first .is, second .is, t .is) in
               record {
                 is = ap (λ (i : ℕ). summed.To i next) (second .many)
                     ∙ ap (λ (i : ℕ). summed.To (length (second .value)) (record { at = next .at; end = i })) end

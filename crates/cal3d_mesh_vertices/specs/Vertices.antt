@@ -2,7 +2,7 @@
 use Prim.Native.Nat.{ℕ}
 use mathlib.Core.List.{List, map}
 use lib.ListN.{length}
-use Rattle.layout.specs.Out.{Out, got, _>>=_}
+use Rattle.layout.specs.Result.{Result, accept, _>>=_}
 use Rattle.layout.specs.Parts.{Step, row, number}
 use Rattle.layout.specs.Counted.{times}
 use Rattle.layout.specs.Rows.{joined}
@@ -10,14 +10,14 @@ use Rattle.cal3d_spec.specs.Rules.{vertexNumbers, mapNumbers, influencesHead, i
 use Rattle.cal3d_spec.specs.Meshes.{Vertex}
 
 -- the numbers and the maps of the vertex at p, in a submesh with these numbers of vertices and maps
-unfoldable pub readMapped : ℕ → ℕ → ℕ → List ℕ → Out (Step (List ℕ × List (List ℕ)))
+unfoldable pub readMapped : ℕ → ℕ → ℕ → List ℕ → Result (Step (List ℕ × List (List ℕ)))
 readMapped vertices maps p s = do
   x ← row (vertexNumbers vertices) p s
   m ← times maps (row mapNumbers) (x .place) (x .left)
-  got (record { value = (x .value, m .value); place = m .place; left = m .left })
+  accept (record { value = (x .value, m .value); place = m .place; left = m .left })
 
 -- the influences at p after their number, bone ids being below `bones`
-unfoldable pub readInfluences : ℕ → ℕ → List ℕ → Out (Step (List (List ℕ)))
+unfoldable pub readInfluences : ℕ → ℕ → List ℕ → Result (Step (List (List ℕ)))
 readInfluences bones p s = do
   k ← row influencesHead p s
   times (number k 0) (row (influenceNumbers bones)) (k .place) (k .left)

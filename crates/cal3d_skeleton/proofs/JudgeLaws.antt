@@ -6,7 +6,7 @@ use mathlib.Core.List.{List, [], _∷_}
 use lib.ListN.{length, getD}
 use Rattle.wire.specs.Test.{if}
 use Rattle.wire.proofs.Left.{span}
-use Rattle.layout.specs.Out.{Out, got, bad, _>>=_}
+use Rattle.layout.specs.Result.{Result, accept, reject, _>>=_}
 use Rattle.layout.proofs.Outs.{by-got, got-inj}
 use Rattle.cal3d_spec.specs.Skeletons.{Skeleton}
 use Rattle.cal3d_spec.specs.Trees.{trees}
@@ -25,26 +25,26 @@ use Rattle.cal3d_skeleton_tree_file.specs.declared.Told.{Told}
 use Rattle.cal3d_skeleton_tree_file.specs.declared.Told.the-variants as told
 use Rattle.cal3d_skeleton.specs.Skeletons.{acceptedAs}
 
-verdict-bad : (o : Out Skeleton) (n p : ℕ) → verdict.Bad n p ≡ verdictOf o → o ≡ bad n p
+verdict-bad : (o : Result Skeleton) (n p : ℕ) → verdict.Bad n p ≡ verdictOf o → o ≡ reject n p
 unfolding verdictOf
-verdict-bad (got t) n p e = let z : _≡_ {A = ℕ} 0 1 = cc in absurd (omega arith)
-verdict-bad (bad m q) n p e = let a : m ≡ n = cc in let b : q ≡ p = cc in rw (a, b)
+verdict-bad (accept t) n p e = let z : _≡_ {A = ℕ} 0 1 = cc in absurd (omega arith)
+verdict-bad (reject m q) n p e = let a : m ≡ n = cc in let b : q ≡ p = cc in rw (a, b)
 
-pub verdict-good : (o : Out Skeleton) (x : Summary) → verdict.Good x ≡ verdictOf o
-    → (t : Skeleton) × (o ≡ got t) × (x ≡ record { bones = getD (t .head) 1 0; red = getD (t .head) 2 0; green = getD (t .head) 3 0; blue = getD (t .head) 4 0; children = childrenIn (t .bones) })
+pub verdict-good : (o : Result Skeleton) (x : Summary) → verdict.Good x ≡ verdictOf o
+    → (t : Skeleton) × (o ≡ accept t) × (x ≡ record { bones = getD (t .head) 1 0; red = getD (t .head) 2 0; green = getD (t .head) 3 0; blue = getD (t .head) 4 0; children = childrenIn (t .bones) })
 unfolding verdictOf
-verdict-good (got t) x e = (t, refl, cc)
-verdict-good (bad m q) x e = let z : _≡_ {A = ℕ} 0 1 = cc in absurd (omega arith)
+verdict-good (accept t) x e = (t, refl, cc)
+verdict-good (reject m q) x e = let z : _≡_ {A = ℕ} 0 1 = cc in absurd (omega arith)
 
-told-bad : (o : Out (Unit {0})) (n p : ℕ) → told.Not n p ≡ toldOf o → o ≡ bad n p
+told-bad : (o : Result (Unit {0})) (n p : ℕ) → told.Not n p ≡ toldOf o → o ≡ reject n p
 unfolding toldOf
-told-bad (got t) n p e = let z : _≡_ {A = ℕ} 0 1 = cc in absurd (omega arith)
-told-bad (bad m q) n p e = let a : m ≡ n = cc in let b : q ≡ p = cc in rw (a, b)
+told-bad (accept t) n p e = let z : _≡_ {A = ℕ} 0 1 = cc in absurd (omega arith)
+told-bad (reject m q) n p e = let a : m ≡ n = cc in let b : q ≡ p = cc in rw (a, b)
 
-told-same : (o : Out (Unit {0})) → told.Same ≡ toldOf o → o ≡ got tt
+told-same : (o : Result (Unit {0})) → told.Same ≡ toldOf o → o ≡ accept tt
 unfolding toldOf
-told-same (got tt) e = refl
-told-same (bad m q) e = let z : _≡_ {A = ℕ} 0 1 = cc in absurd (omega arith)
+told-same (accept tt) e = refl
+told-same (reject m q) e = let z : _≡_ {A = ℕ} 0 1 = cc in absurd (omega arith)
 
 -- the bones of a file, by the number that its header says
 module _ (s : List ℕ) (t : Skeleton) (l : BonesStand s t) where
@@ -64,7 +64,7 @@ module _ (s : List ℕ) (t : Skeleton) (l : BonesStand s t) where
 
 -- the answer for an accepted file
 pub answer-good : (t : Skeleton) (s : List ℕ) → BonesStand s t
-    → skeletonAnswer (got t) ≡ record {
+    → skeletonAnswer (accept t) ≡ record {
       number = 0;
       place = 0;
       head = 1300 ∷ getD (t .head) 1 0 ∷ getD (t .head) 2 0 ∷ getD (t .head) 3 0 ∷ getD (t .head) 4 0 ∷ [];
@@ -79,7 +79,7 @@ module _ (s : List ℕ) (v : Verdict) (e : v ≡ verdictOf (limitedSkeleton s)) 
   judge-limited n p w = rw (verdict-bad (limitedSkeleton s) n p (sym w ∙ e))
 
   module _ (x : Summary) (w : v ≡ verdict.Good x) where
-    found : (t : Skeleton) × (limitedSkeleton s ≡ got t) × (x ≡ record { bones = getD (t .head) 1 0; red = getD (t .head) 2 0; green = getD (t .head) 3 0; blue = getD (t .head) 4 0; children = childrenIn (t .bones) })
+    found : (t : Skeleton) × (limitedSkeleton s ≡ accept t) × (x ≡ record { bones = getD (t .head) 1 0; red = getD (t .head) 2 0; green = getD (t .head) 3 0; blue = getD (t .head) 4 0; children = childrenIn (t .bones) })
     found = verdict-good (limitedSkeleton s) x (sym w ∙ e)
 
     module _ (k : ℕ) (ek : k ≡ x .bones) where
@@ -96,14 +96,14 @@ module _ (s : List ℕ) (v : Verdict) (e : v ≡ verdictOf (limitedSkeleton s)) 
         pub judge-stray : (n p : ℕ) → u ≡ told.Not n p → verdict.Bad n p ≡ verdictOf (judgeSkeleton s)
         unfolding judgeSkeleton verdictOf
         judge-stray n p q =
-            let z : trees (found .0 .bones) ≡ bad n p = ap trees (sym bones) ∙ told-bad (trees (bonesAt s (record { at = 24; end = length s }) k)) n p (sym q ∙ eu) in
+            let z : trees (found .0 .bones) ≡ reject n p = ap trees (sym bones) ∙ told-bad (trees (bonesAt s (record { at = 24; end = length s }) k)) n p (sym q ∙ eu) in
             rw (found .1, z)
 
         pub judge-same : u ≡ told.Same → verdict.Good x ≡ verdictOf (judgeSkeleton s)
         unfolding judgeSkeleton verdictOf
         judge-same q =
-            let z : trees (found .0 .bones) ≡ got tt = ap trees (sym bones) ∙ told-same (trees (bonesAt s (record { at = 24; end = length s }) k)) (sym q ∙ eu) in
-            let j : judgeSkeleton s ≡ got (found .0) = rw (found .1, z) in
+            let z : trees (found .0 .bones) ≡ accept tt = ap trees (sym bones) ∙ told-same (trees (bonesAt s (record { at = 24; end = length s }) k)) (sym q ∙ eu) in
+            let j : judgeSkeleton s ≡ accept (found .0) = rw (found .1, z) in
             ap (λ (y : Summary). verdict.Good y) (found .2) ∙ ap verdictOf (sym j)
 
 pub ruleset judges = (judge-limited, judge-good, judge-stray, judge-same)
@@ -111,27 +111,27 @@ pub ruleset judges = (judge-limited, judge-good, judge-stray, judge-same)
 -- ---- an accepted file
 
 -- a judged file is limited
-pub judged-limited : (s : List ℕ) (t : Skeleton) → judgeSkeleton s ≡ got t → BonesStand s t
+pub judged-limited : (s : List ℕ) (t : Skeleton) → judgeSkeleton s ≡ accept t → BonesStand s t
 unfolding judgeSkeleton
 judged-limited s t e =
     by-got (limitedSkeleton s) _ e (λ u eu e₁.
     by-got (trees (u .bones)) _ e₁ (λ _ _ e₂. rw (got-inj e₂) at (limited-good s u eu)))
 
 module _ (s : List ℕ) (v : Verdict) (e : v ≡ verdictOf (judgeSkeleton s)) where
-  pub refused-bad : (n p : ℕ) → v ≡ verdict.Bad n p → judgeSkeleton s ≡ bad n p
+  pub refused-bad : (n p : ℕ) → v ≡ verdict.Bad n p → judgeSkeleton s ≡ reject n p
   refused-bad n p w = verdict-bad (judgeSkeleton s) n p (sym w ∙ e)
 
-  pub answer-bad : (n p : ℕ) → v ≡ verdict.Bad n p → (r : SkeletonAnswer) → r ≡ skeletonAnswer (bad n p) → r ≡ skeletonAnswer (judgeSkeleton s)
+  pub answer-bad : (n p : ℕ) → v ≡ verdict.Bad n p → (r : SkeletonAnswer) → r ≡ skeletonAnswer (reject n p) → r ≡ skeletonAnswer (judgeSkeleton s)
   answer-bad n p w r q = q ∙ ap skeletonAnswer (sym (refused-bad n p w))
 
   module _ (x : Summary) (w : v ≡ verdict.Good x) where
-    pub accepted-good : (t : Skeleton) × (judgeSkeleton s ≡ got t) × (x ≡ record { bones = getD (t .head) 1 0; red = getD (t .head) 2 0; green = getD (t .head) 3 0; blue = getD (t .head) 4 0; children = childrenIn (t .bones) })
+    pub accepted-good : (t : Skeleton) × (judgeSkeleton s ≡ accept t) × (x ≡ record { bones = getD (t .head) 1 0; red = getD (t .head) 2 0; green = getD (t .head) 3 0; blue = getD (t .head) 4 0; children = childrenIn (t .bones) })
     accepted-good = verdict-good (judgeSkeleton s) x (sym w ∙ e)
 
     pub accepted-kids : x .children ≤ 16383
     accepted-kids = rw (ap (λ (y : Summary). y .children) (accepted-good .2)) (judged-limited s (accepted-good .0) (accepted-good .1) .kids)
 
-    pub accepted-answer : (r : SkeletonAnswer) → r ≡ acceptedAs x → r ≡ skeletonAnswer (got (accepted-good .0))
+    pub accepted-answer : (r : SkeletonAnswer) → r ≡ acceptedAs x → r ≡ skeletonAnswer (accept (accepted-good .0))
     accepted-answer r f = f ∙ ap acceptedAs (accepted-good .2) ∙ sym (answer-good (accepted-good .0) s (judged-limited s (accepted-good .0) (accepted-good .1)))
 
     pub answer-accepted : (r : SkeletonAnswer) → r ≡ acceptedAs x → r ≡ skeletonAnswer (judgeSkeleton s)

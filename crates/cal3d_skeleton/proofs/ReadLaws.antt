@@ -9,7 +9,7 @@ use lib.Dec.{leb}
 use borrow.Author.Tests.{le-leb, lt-leb}
 use Rattle.wire.specs.Test.{if}
 use Rattle.wire.specs.Bytes.{over}
-use Rattle.layout.specs.Out.{Out, got, bad, check, _>>=_}
+use Rattle.layout.specs.Result.{Result, accept, reject, check, _>>=_}
 use Rattle.layout.specs.Rows.{joined, eachOf}
 use Rattle.cal3d_spec.specs.Skeletons.{Bone, Skeleton}
 use Rattle.cal3d_spec.specs.Tables.{boneRows, childRows, skeletonWidth, skeletonRows}
@@ -27,34 +27,34 @@ use Rattle.cal3d_skeleton.specs.Skeletons.{acceptedAs, ReadsSkeleton}
 use Rattle.cal3d_skeleton.proofs.JudgeLaws.{bones-good, bones-are, judged-limited, refused-bad, accepted-good, accepted-answer}
 
 -- table k of an accepted file
-table-first : (t : Skeleton) (xs : List ℕ) → skeletonTable 1 (got t) xs ≡ over (joined (boneRows 0 (t .bones))) xs
+table-first : (t : Skeleton) (xs : List ℕ) → skeletonTable 1 (accept t) xs ≡ over (joined (boneRows 0 (t .bones))) xs
 unfolding skeletonTable skeletonRows if
 table-first t xs = refl
 
-table-second : (t : Skeleton) (xs : List ℕ) → skeletonTable 2 (got t) xs ≡ over (joined (childRows (t .bones))) xs
+table-second : (t : Skeleton) (xs : List ℕ) → skeletonTable 2 (accept t) xs ≡ over (joined (childRows (t .bones))) xs
 unfolding skeletonTable skeletonRows if
 table-second t xs = refl
 
-refused-as : (s b k : List ℕ) (n p : ℕ) (r : SkeletonAnswer) → readSkeleton (skeletonRoom (length b) (length k)) s ≡ bad n p → r ≡ skeletonAnswer (bad n p) → ReadsSkeleton s b k b k r
+refused-as : (s b k : List ℕ) (n p : ℕ) (r : SkeletonAnswer) → readSkeleton (skeletonRoom (length b) (length k)) s ≡ reject n p → r ≡ skeletonAnswer (reject n p) → ReadsSkeleton s b k b k r
 unfolding skeletonTable
 refused-as s b k n p r e q =
     record {
       answer = q ∙ ap skeletonAnswer (sym e);
-      first = sym (ap (λ (o : Out Skeleton). skeletonTable 1 o b) e);
-      second = sym (ap (λ (o : Out Skeleton). skeletonTable 2 o k) e);
+      first = sym (ap (λ (o : Result Skeleton). skeletonTable 1 o b) e);
+      second = sym (ap (λ (o : Result Skeleton). skeletonTable 2 o k) e);
     }
 
-abbrev fine : Out (Unit {0})
-fine = got tt
+abbrev fine : Result (Unit {0})
+fine = accept tt
 
-both-rooms : (t : Skeleton) (p q : Bool) → ((check p 11 1 >>= λ _. (check q 11 2 >>= λ _. fine)) >>= λ _. got t) ≡ (check p 11 1 >>= λ _. (check q 11 2 >>= λ _. got t))
+both-rooms : (t : Skeleton) (p q : Bool) → ((check p 11 1 >>= λ _. (check q 11 2 >>= λ _. fine)) >>= λ _. accept t) ≡ (check p 11 1 >>= λ _. (check q 11 2 >>= λ _. accept t))
 unfolding check
 both-rooms t true true = refl
 both-rooms t true false = refl
 both-rooms t false q = refl
 
 module _ (s b k : List ℕ) (v : Verdict) (e : v ≡ verdictOf (judgeSkeleton s)) where
-  pub read-refused : (n p : ℕ) → v ≡ verdict.Bad n p → (r : SkeletonAnswer) → r ≡ skeletonAnswer (bad n p) → ReadsSkeleton s b k b k r
+  pub read-refused : (n p : ℕ) → v ≡ verdict.Bad n p → (r : SkeletonAnswer) → r ≡ skeletonAnswer (reject n p) → ReadsSkeleton s b k b k r
   unfolding readSkeleton
   read-refused n p w r q = refused-as s b k n p r (rw (refused-bad s v e n p w)) q
 
@@ -62,7 +62,7 @@ module _ (s b k : List ℕ) (v : Verdict) (e : v ≡ verdictOf (judgeSkeleton s)
     t : Skeleton
     t = accepted-good s v e x w .0
 
-    is : judgeSkeleton s ≡ got t
+    is : judgeSkeleton s ≡ accept t
     unfolding t
     is = accepted-good s v e x w .1
 
@@ -77,12 +77,12 @@ module _ (s b k : List ℕ) (v : Verdict) (e : v ≡ verdictOf (judgeSkeleton s)
     unfolding t
     kids = ap (λ (y : Summary). y .children) (accepted-good s v e x w .2)
 
-    told : (r : SkeletonAnswer) → r ≡ acceptedAs x → r ≡ skeletonAnswer (got t)
+    told : (r : SkeletonAnswer) → r ≡ acceptedAs x → r ≡ skeletonAnswer (accept t)
     unfolding t
     told r q = accepted-answer s v e x w r q
 
     rooms : readSkeleton (skeletonRoom (length b) (length k)) s
-        ≡ (check (leb (23 * length (boneRows 0 (t .bones))) (length b)) 11 1 >>= λ _. (check (leb (1 * childrenIn (t .bones)) (length k)) 11 2 >>= λ _. got t))
+        ≡ (check (leb (23 * length (boneRows 0 (t .bones))) (length b)) 11 1 >>= λ _. (check (leb (1 * childrenIn (t .bones)) (length k)) 11 2 >>= λ _. accept t))
     unfolding readSkeleton eachOf skeletonWidth skeletonRows childrenIn if
     rooms = rw is (both-rooms t (leb (23 * length (boneRows 0 (t .bones))) (length b)) (leb (1 * length (childRows (t .bones))) (length k)))
 
@@ -93,7 +93,7 @@ module _ (s b k : List ℕ) (v : Verdict) (e : v ≡ verdictOf (judgeSkeleton s)
       rows : length (boneRows 0 (t .bones)) ≡ count
       rows = bone-rows 0 (t .bones) ∙ limited .bones ∙ sym same
 
-      pub read-short-first : length b / 23 < count → (r : SkeletonAnswer) → r ≡ skeletonAnswer (bad 11 1) → ReadsSkeleton s b k b k r
+      pub read-short-first : length b / 23 < count → (r : SkeletonAnswer) → r ≡ skeletonAnswer (reject 11 1) → ReadsSkeleton s b k b k r
       unfolding check
       read-short-first h r q =
           let m : length b < 23 * length (boneRows 0 (t .bones)) = omega (arith, rows) in
@@ -103,7 +103,7 @@ module _ (s b k : List ℕ) (v : Verdict) (e : v ≡ verdictOf (judgeSkeleton s)
         enough : 23 * length (boneRows 0 (t .bones)) ≤ length b
         enough = omega (arith, rows)
 
-        pub read-short-second : length k < x .children → (r : SkeletonAnswer) → r ≡ skeletonAnswer (bad 11 2) → ReadsSkeleton s b k b k r
+        pub read-short-second : length k < x .children → (r : SkeletonAnswer) → r ≡ skeletonAnswer (reject 11 2) → ReadsSkeleton s b k b k r
         unfolding check
         read-short-second g r q =
             let m : length k < 1 * childrenIn (t .bones) = omega (arith, kids) in
@@ -131,11 +131,11 @@ module _ (s b k : List ℕ) (v : Verdict) (e : v ≡ verdictOf (judgeSkeleton s)
         unfolding check
         read-done g b′ k′ eb ek r q =
             let m : 1 * childrenIn (t .bones) ≤ length k = omega (arith, kids) in
-            let o : readSkeleton (skeletonRoom (length b) (length k)) s ≡ got t = rooms ∙ rw (le-leb (23 * length (boneRows 0 (t .bones))) (length b) enough, le-leb (1 * childrenIn (t .bones)) (length k) m) in
+            let o : readSkeleton (skeletonRoom (length b) (length k)) s ≡ accept t = rooms ∙ rw (le-leb (23 * length (boneRows 0 (t .bones))) (length b) enough, le-leb (1 * childrenIn (t .bones)) (length k) m) in
             record {
               answer = told r q ∙ ap skeletonAnswer (sym o);
-              first = eb ∙ ap (λ (l : List Bone). over (joined (boneRows 0 l)) b) bones ∙ sym (ap (λ (z : Out Skeleton). skeletonTable 1 z b) o ∙ table-first t b);
-              second = ek ∙ ap (λ (l : List Bone). over (joined (childRows l)) k) bones ∙ sym (ap (λ (z : Out Skeleton). skeletonTable 2 z k) o ∙ table-second t k);
+              first = eb ∙ ap (λ (l : List Bone). over (joined (boneRows 0 l)) b) bones ∙ sym (ap (λ (z : Result Skeleton). skeletonTable 1 z b) o ∙ table-first t b);
+              second = ek ∙ ap (λ (l : List Bone). over (joined (childRows l)) k) bones ∙ sym (ap (λ (z : Result Skeleton). skeletonTable 2 z k) o ∙ table-second t k);
             }
 
 pub ruleset reads = (read-refused, read-short-first, read-short-second, read-room, read-good, read-few, read-kids, read-done)

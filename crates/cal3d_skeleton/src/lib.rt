@@ -1,7 +1,7 @@
 // The reader of skeleton files: bones and children into lent tables, with 02's answer to every file and to tables of every length.
 ghost use mathlib.Core.Path.{_≡_};
 ghost use Prim.Native.Nat.{_≤_};
-ghost use Rattle.layout.specs.Out.{bad};
+ghost use Rattle.layout.specs.Result.{reject};
 ghost use Rattle.cal3d_spec.specs.Answers.{judgeSkeleton, skeletonAnswer};
 ghost use Rattle.cal3d_skeleton_limits.specs.Verdicts.{verdictOf};
 ghost use Rattle.cal3d_skeleton.specs.Skeletons.{acceptedAs, ReadsSkeleton};
@@ -13,7 +13,7 @@ use wire::Cursor;
 
 // Returns the answer of a refusal with `number` at `place`.
 fn refused(number: u32, place: u32) -> SkeletonAnswer
-    ensures { λ r. ⌜ r ≡ skeletonAnswer (bad number place) ⌝ }
+    ensures { λ r. ⌜ r ≡ skeletonAnswer (reject number place) ⌝ }
 {
     SkeletonAnswer {
         number,

@@ -6,11 +6,11 @@ use mathlib.Core.List.{List}
 use lib.ListN.{length}
 use Rattle.wire.specs.Cursors.{Inside, left}
 use Rattle.wire.specs.declared.Cursor.{Cursor}
-use Rattle.layout.specs.Out.{Out, got, bad, _>>=_}
+use Rattle.layout.specs.Result.{Result, accept, reject, _>>=_}
 use Rattle.layout.specs.Parts.{Name, Step, row, number}
 use Rattle.layout.specs.Counted.{sized, times}
 use Rattle.layout.proofs.Outs.{by-got, got-inj}
-use Rattle.layout.proofs.CountLaws.{Moves, moved-as, moved-on, row-moves, sized-moves, times-moves}
+use Rattle.layout.proofs.CountLaws.{Advances, moved-as, moved-on, row-moves, sized-moves, times-moves}
 use Rattle.shared_counted_lists.specs.Runs.{Runs}
 use Rattle.shared_counted_lists.specs.declared.Ran.{Ran}
 use Rattle.shared_counted_lists.specs.declared.Ran.the-variants as ran
@@ -23,17 +23,17 @@ use Rattle.shared_counted_lists.specs.declared.Summed.{Summed}
 use Rattle.shared_counted_lists.specs.declared.Summed.the-variants as summed
 
 -- a bone behind its name, and its numbers and children alone, count and end alike
-links-same : (end p : ℕ) (n : Name) (m : Out (Step (List ℕ))) (t : Step (List ℕ) → Out (Step (List (List ℕ))))
-    → summedOf linkCount end (m >>= λ x. t x >>= λ l. got (record { value = (x .value, l .value); place = l .place; left = l .left }))
-    ≡ summedOf childCount end (m >>= λ x. t x >>= λ l. got (record { value = record { place = p; name = n; numbers = x .value; children = l .value }; place = l .place; left = l .left }))
-links-same end p n (bad e q) t = refl
-links-same end p n (got x) t = go (t x)
+links-same : (end p : ℕ) (n : Name) (m : Result (Step (List ℕ))) (t : Step (List ℕ) → Result (Step (List (List ℕ))))
+    → summedOf linkCount end (m >>= λ x. t x >>= λ l. accept (record { value = (x .value, l .value); place = l .place; left = l .left }))
+    ≡ summedOf childCount end (m >>= λ x. t x >>= λ l. accept (record { value = record { place = p; name = n; numbers = x .value; children = l .value }; place = l .place; left = l .left }))
+links-same end p n (reject e q) t = refl
+links-same end p n (accept x) t = go (t x)
   where
-    go : (o : Out (Step (List (List ℕ))))
-        → summedOf linkCount end (o >>= λ l. got (record { value = (x .value, l .value); place = l .place; left = l .left }))
-        ≡ summedOf childCount end (o >>= λ l. got (record { value = record { place = p; name = n; numbers = x .value; children = l .value }; place = l .place; left = l .left }))
-    go (got l) = refl
-    go (bad e q) = refl
+    go : (o : Result (Step (List (List ℕ))))
+        → summedOf linkCount end (o >>= λ l. accept (record { value = (x .value, l .value); place = l .place; left = l .left }))
+        ≡ summedOf childCount end (o >>= λ l. accept (record { value = record { place = p; name = n; numbers = x .value; children = l .value }; place = l .place; left = l .left }))
+    go (accept l) = refl
+    go (reject e q) = refl
 
 -- more bytes passed on the way
 passes-on : (c n : Cursor) (k : ℕ) (x : Summed) → c .at + k ≤ n .at → n .end ≡ c .end → SumPasses n 80 x → SumPasses c (k + 80) x
@@ -62,7 +62,7 @@ module _ (s : List ℕ) (c : Cursor) (bones : ℕ) (inside : Inside c (length s)
 pub ruleset bone = (bone-bad, numbers-inside, bone-links)
 
 -- where a bone leaves off
-pub bone-moves : (bones : ℕ) → Moves (readBone bones)
+pub bone-moves : (bones : ℕ) → Advances (readBone bones)
 unfolding readBone
 bone-moves bones p s x e =
     by-got (sized p s) _ e (λ n en e₁.

@@ -9,7 +9,7 @@ use Rattle.wire.specs.Bytes.{word}
 use Rattle.wire.specs.Cursors.{Inside, left}
 use Rattle.wire.specs.declared.Cursor.{Cursor}
 use Rattle.wire.proofs.Left.{left-length, left-drop}
-use Rattle.layout.specs.Out.{Out, got, bad, _>>=_}
+use Rattle.layout.specs.Result.{Result, accept, reject, _>>=_}
 use Rattle.layout.specs.Parts.{Name, Step, wordsOf, words, judged, row, number}
 use Rattle.layout.specs.Counted.{sized, before, times}
 use Rattle.layout.specs.Rows.{nameCells, joined}
@@ -31,7 +31,7 @@ use Rattle.shared_counted_lists.specs.declared.Summed.the-variants as summed
 use Rattle.shared_counted_lists.proofs.Sums.{summed-bad, summed-got}
 
 -- one id, and then others
-id-read : (limit n p : ℕ) (s : List ℕ) (x : Step (List (List ℕ))) (y : Step (List ℕ)) (l : Step (List (List ℕ))) → row (names limit ∷ []) p s ≡ got y → before (y .value) l ≡ x
+id-read : (limit n p : ℕ) (s : List ℕ) (x : Step (List (List ℕ))) (y : Step (List ℕ)) (l : Step (List (List ℕ))) → row (names limit ∷ []) p s ≡ accept y → before (y .value) l ≡ x
     → (joined (l .value) ≡ wordsOf n (y .left)) × All (λ (k : ℕ). k < limit) (joined (l .value))
     → (joined (x .value) ≡ wordsOf (suc n) s) × All (λ (k : ℕ). k < limit) (joined (x .value))
 unfolding row words judged joined before
@@ -47,7 +47,7 @@ id-read limit n p (a ∷ b ∷ c ∷ d ∷ s) x y l ey q i =
     rw (← v) (ap (λ (ws : List ℕ). word a b c d ∷ ws) (i .0 ∙ ap (wordsOf n) (sym r)), (h, i .1)))
 
 -- ids that were read one after the other: the words that stand there, each below the limit
-ids-read : (limit n p : ℕ) (s : List ℕ) (x : Step (List (List ℕ))) → times n (row (names limit ∷ [])) p s ≡ got x
+ids-read : (limit n p : ℕ) (s : List ℕ) (x : Step (List (List ℕ))) → times n (row (names limit ∷ [])) p s ≡ accept x
     → (joined (x .value) ≡ wordsOf n s) × All (λ (k : ℕ). k < limit) (joined (x .value))
 unfolding times joined
 ids-read limit zero p s x e = let v : [] ≡ x .value = ap (λ (y : Step (List (List ℕ))). y .value) (got-inj e) in rw (← v) (refl, tt)
@@ -58,14 +58,14 @@ ids-read limit (suc n) p s x e =
 record Linked (s : List ℕ) (n : Cursor) (bones j : ℕ) (m : Cursor) : Type 0 where
   numbers : Step (List ℕ)
   children : Step (List (List ℕ))
-  first : row (boneNumbers bones) (n .at) (left n s) ≡ got numbers
-  second : times (number numbers childrenAt) (row (childNumbers bones)) (numbers .place) (numbers .left) ≡ got children
+  first : row (boneNumbers bones) (n .at) (left n s) ≡ accept numbers
+  second : times (number numbers childrenAt) (row (childNumbers bones)) (numbers .place) (numbers .left) ≡ accept children
   many : length (children .value) ≡ j
   at : children .place ≡ m .at
   left-over : children .left ≡ left m s
 
 module _ (s : List ℕ) (n : Cursor) (bones : ℕ) (x : Summed) (b : Sums linkCount (readLinks bones (n .at) (left n s)) n 80 x) where
-  no-links : (e p : ℕ) → x ≡ summed.Not e p → readLinks bones (n .at) (left n s) ≡ bad e p
+  no-links : (e p : ℕ) → x ≡ summed.Not e p → readLinks bones (n .at) (left n s) ≡ reject e p
   no-links e p q = summed-bad linkCount (n .end) (readLinks bones (n .at) (left n s)) e p (sym q ∙ b .is)
 
   linked : (j : ℕ) (m : Cursor) → x ≡ summed.To j m → Linked s n bones j m
@@ -93,7 +93,7 @@ module _ (s : List ℕ) (n : Cursor) (bones : ℕ) (x : Summed) (b : Sums linkCo
 module _ (s : List ℕ) (c : Cursor) (bones : ℕ) (inside : Inside c (length s)) (r : Ran) (v : Runs (sized (c .at) (left c s)) c 4 r) where
   pub lay-no-name : (e p : ℕ) → r ≡ ran.Not e p → NoBone (readBone bones (c .at) (left c s))
   unfolding readBone
-  lay-no-name e p w = let z : readBone bones (c .at) (left c s) ≡ bad e p = rw (runs-bad (sized (c .at) (left c s)) c 4 r v e p w) in record { none = λ x q. bad-got (sym z ∙ q) }
+  lay-no-name e p w = let z : readBone bones (c .at) (left c s) ≡ reject e p = rw (runs-bad (sized (c .at) (left c s)) c 4 r v e p w) in record { none = λ x q. bad-got (sym z ∙ q) }
 
   module _ (n : Cursor) (w : r ≡ ran.To n) (x : Summed) (b : Sums linkCount (readLinks bones (n .at) (left n s)) n 80 x) where
     pub lay-no-links : (e p : ℕ) → x ≡ summed.Not e p → NoBone (readBone bones (c .at) (left c s))
@@ -106,8 +106,8 @@ module _ (s : List ℕ) (c : Cursor) (bones : ℕ) (inside : Inside c (length s)
               let same = got-inj (sym eu ∙ y .is) in
               by-got (row (boneNumbers bones) (u .place) (u .left)) _ f₁ (λ h eh f₂.
               by-got (times (number h childrenAt) (row (childNumbers bones)) (h .place) (h .left)) _ f₂ (λ l el f₃.
-              let first : row (boneNumbers bones) (n .at) (left n s) ≡ got h = ap (λ (k : Step Name). row (boneNumbers bones) (k .place) (k .left)) (sym same) ∙ eh in
-              let all : _≡_ {A = Out (Step (List ℕ × List (List ℕ)))} (readLinks bones (n .at) (left n s)) (got (record { value = (h .value, l .value); place = l .place; left = l .left })) = rw (first, el) in
+              let first : row (boneNumbers bones) (n .at) (left n s) ≡ accept h = ap (λ (k : Step Name). row (boneNumbers bones) (k .place) (k .left)) (sym same) ∙ eh in
+              let all : _≡_ {A = Result (Step (List ℕ × List (List ℕ)))} (readLinks bones (n .at) (left n s)) (accept (record { value = (h .value, l .value); place = l .place; left = l .left })) = rw (first, el) in
               bad-got (sym g ∙ all))));
         }
 

@@ -11,7 +11,7 @@ use Rattle.wire.specs.Bytes.{wordAt}
 use Rattle.wire.specs.Cursors.{Inside, left}
 use Rattle.wire.specs.declared.Cursor.{Cursor}
 use Rattle.wire.proofs.Left.{left-length}
-use Rattle.layout.specs.Out.{Out, got, _>>=_}
+use Rattle.layout.specs.Result.{Result, accept, _>>=_}
 use Rattle.layout.specs.Parts.{Step, wordsOf, row}
 use Rattle.layout.specs.Rules.{namesOrNone, holds, NONE}
 use Rattle.layout.specs.Counted.{times}
@@ -35,7 +35,7 @@ or-split true b t = inl tt
 or-split false b t = inr t
 
 -- the parent among numbers that were read
-pub numbers-parent : (bones p : ℕ) (s : List ℕ) (x : Step (List ℕ)) → row (boneNumbers bones) p s ≡ got x → (getD (x .value) 14 0 ≡ NONE) ⊎ (getD (x .value) 14 0 < bones)
+pub numbers-parent : (bones p : ℕ) (s : List ℕ) (x : Step (List ℕ)) → row (boneNumbers bones) p s ≡ accept x → (getD (x .value) 14 0 ≡ NONE) ⊎ (getD (x .value) 14 0 < bones)
 numbers-parent bones p s x e =
     let g = row-got (boneNumbers bones) p s x e in
     let w = getD (wordsOf 20 s) 14 0 in
@@ -57,10 +57,10 @@ module _ (s : List ℕ) (c : Cursor) (bones : ℕ) (inside : Inside c (length s)
 
     module _ (stored : ℕ) (q : stored ≡ wordAt s (c .at + 76)) (n : ℕ) (z : n ≡ stored) where
       -- the children behind the numbers
-      kids : Out (Step (List (List ℕ)))
+      kids : Result (Step (List (List ℕ)))
       kids = times n (row (childNumbers bones)) (m .at) (left m s)
 
-      all : (y : Read s (row (boneNumbers bones) (c .at) (left c s)) c m) → readLinks bones (c .at) (left c s) ≡ (kids >>= λ l. got (record { value = (y .value, l .value); place = l .place; left = l .left }))
+      all : (y : Read s (row (boneNumbers bones) (c .at) (left c s)) c m) → readLinks bones (c .at) (left c s) ≡ (kids >>= λ l. accept (record { value = (y .value, l .value); place = l .place; left = l .left }))
       unfolding readLinks kids
       all y =
           let g = row-got (boneNumbers bones) (c .at) (left c s) _ (y .is) in

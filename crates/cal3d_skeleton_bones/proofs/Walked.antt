@@ -6,7 +6,7 @@ use mathlib.Core.List.{List, [], _∷_, _++_, append-assoc}
 use lib.ListN.{length, length-append}
 use Rattle.wire.specs.Cursors.{Inside, left}
 use Rattle.wire.specs.declared.Cursor.{Cursor}
-use Rattle.layout.specs.Out.{got}
+use Rattle.layout.specs.Result.{accept}
 use Rattle.layout.specs.Parts.{Step}
 use Rattle.layout.specs.Counted.{before, times}
 use Rattle.layout.proofs.Outs.{got-inj}
@@ -19,7 +19,7 @@ use Rattle.cal3d_skeleton_bones.specs.declared.Laid.the-variants as laid
 pub record Walked (s : List ℕ) (bones : ℕ) (all : List Bone) (c : Cursor) (i : ℕ) (done : List Bone) (rest : Step (List Bone)) : Type 0 where
   pub inside : Inside c (length s)
   pub upto : i ≤ bones
-  pub is : times (bones - i) (readBone bones) (c .at) (left c s) ≡ got rest
+  pub is : times (bones - i) (readBone bones) (c .at) (left c s) ≡ accept rest
   pub joins : done ++ rest .value ≡ all
   pub many : length done ≡ i
 
@@ -40,7 +40,7 @@ module _ (s : List ℕ) (bones : ℕ) where
         sym (ap (λ (x : Step (List Bone)). x .value) (got-inj e))
 
     module _ (h : i < bones) where
-      first : times (suc (bones - (i + 1))) (readBone bones) (c .at) (left c s) ≡ got rest
+      first : times (suc (bones - (i + 1))) (readBone bones) (c .at) (left c s) ≡ accept rest
       first = let less : bones - i ≡ suc (bones - (i + 1)) = omega arith in rw less at (w .is)
 
       -- one is there

@@ -6,7 +6,7 @@ use lib.ListN.{length}
 use Rattle.wire.specs.Bytes.{wordAt}
 use Rattle.wire.specs.Cursors.{left}
 use Rattle.wire.specs.declared.Cursor.{Cursor}
-use Rattle.layout.specs.Out.{Out, got, bad, _>>=_}
+use Rattle.layout.specs.Result.{Result, accept, reject, _>>=_}
 use Rattle.layout.specs.Parts.{Step, wordsOf, row, number}
 use Rattle.layout.specs.Counted.{times}
 use Rattle.layout.specs.Rows.{nameCells}
@@ -18,11 +18,11 @@ use Rattle.cal3d_skeleton_bones.specs.declared.Laid.{Laid}
 use Rattle.cal3d_skeleton_bones.specs.declared.Laid.the-variants as laid
 
 -- the numbers at p of a bone of a skeleton with this number of bones, and its children
-unfoldable pub readLinks : ℕ → ℕ → List ℕ → Out (Step (List ℕ × List (List ℕ)))
+unfoldable pub readLinks : ℕ → ℕ → List ℕ → Result (Step (List ℕ × List (List ℕ)))
 readLinks bones p s = do
   x ← row (boneNumbers bones) p s
   l ← times (number x childrenAt) (row (childNumbers bones)) (x .place) (x .left)
-  got (record { value = (x .value, l .value); place = l .place; left = l .left })
+  accept (record { value = (x .value, l .value); place = l .place; left = l .left })
 
 -- how many children stand beside a bone's numbers
 abbrev pub linkCount : List ℕ × List (List ℕ) → ℕ
@@ -37,11 +37,11 @@ unfoldable pub childrenIn : List Bone → ℕ
 childrenIn bs = length (childRows bs)
 
 -- a bone was read at c: its numbers stand at `numbers`, after its name, and `count` children after them, up to `next`
-pub record LaidAt (s : List ℕ) (bones : ℕ) (o : Out (Step Bone)) (c : Cursor) (numbers count : ℕ) (next : Cursor) : Type 0 where
+pub record LaidAt (s : List ℕ) (bones : ℕ) (o : Result (Step Bone)) (c : Cursor) (numbers count : ℕ) (next : Cursor) : Type 0 where
   -- the bone
   pub bone : Bone
   -- the bone is what was read, and `next` is the cursor after it
-  pub is : o ≡ got (record { value = bone; place = next .at; left = left next s })
+  pub is : o ≡ accept (record { value = bone; place = next .at; left = left next s })
   -- the bone's first byte is at c
   pub place : bone .place ≡ c .at
   -- the bone's name stands after its length, up to its numbers
@@ -66,23 +66,23 @@ pub record LaidAt (s : List ℕ) (bones : ℕ) (o : Out (Step Bone)) (c : Cursor
   pub same : next .end ≡ c .end
 
 -- no bone stands there
-pub record NoBone (o : Out (Step Bone)) : Type 0 where
+pub record NoBone (o : Result (Step Bone)) : Type 0 where
   -- o is a refusal
-  pub none : (x : Step Bone) → o ≡ got x → ⊥
+  pub none : (x : Step Bone) → o ≡ accept x → ⊥
 
 -- what code answers for o, which was read at c: the parts of the bone, or that none stands there
-abbrev pub Lays : List ℕ → ℕ → Out (Step Bone) → Cursor → Laid → Type 0
+abbrev pub Lays : List ℕ → ℕ → Result (Step Bone) → Cursor → Laid → Type 0
 Lays s bones o c (laid.At numbers count next) = LaidAt s bones o c numbers count next
 Lays s bones o c laid.Gone = NoBone o
 
 -- bones were read without a refusal
-pub record Whole (o : Out (Step (List Bone))) : Type 0 where
+pub record Whole (o : Result (Step (List Bone))) : Type 0 where
   -- what was read
   pub read : Step (List Bone)
   -- o gives it
-  pub is : o ≡ got read
+  pub is : o ≡ accept read
 
 -- the bones that were read; none on a refusal
-unfoldable pub bonesIn : Out (Step (List Bone)) → List Bone
-bonesIn (got x) = x .value
-bonesIn (bad n p) = []
+unfoldable pub bonesIn : Result (Step (List Bone)) → List Bone
+bonesIn (accept x) = x .value
+bonesIn (reject n p) = []

@@ -10,7 +10,7 @@ use Rattle.wire.specs.Test.{if}
 use Rattle.wire.specs.Bytes.{wordAt}
 use Rattle.wire.specs.Cursors.{Inside, left}
 use Rattle.wire.specs.declared.Cursor.{Cursor}
-use Rattle.layout.specs.Out.{Out, got, bad, check, _>>=_}
+use Rattle.layout.specs.Result.{Result, accept, reject, check, _>>=_}
 use Rattle.layout.specs.Parts.{Step, number}
 use Rattle.layout.specs.Counted.{times, atEnd}
 use Rattle.layout.specs.Rows.{eachOf}
@@ -46,19 +46,19 @@ abbrev from : List ℕ → ℕ → Cursor
 from s p = record { at = p; end = length s }
 
 -- the row limits, of a skeleton with so many bones and children
-abbrev pub limits : Skeleton → Out Skeleton
-limits t = eachOf 10 (λ k. leb (length (skeletonRows k t)) mostRows) (1 ∷ 2 ∷ []) >>= λ _. got t
+abbrev pub limits : Skeleton → Result Skeleton
+limits t = eachOf 10 (λ k. leb (length (skeletonRows k t)) mostRows) (1 ∷ 2 ∷ []) >>= λ _. accept t
 
 module _ (t : Skeleton) where
-  first-limit : mostRows < length (t .bones) → limits t ≡ bad 10 1
+  first-limit : mostRows < length (t .bones) → limits t ≡ reject 10 1
   unfolding eachOf skeletonRows if check
   first-limit h = rw (bone-rows 0 (t .bones), lt-leb (length (t .bones)) mostRows h)
 
-  second-limit : length (t .bones) ≤ mostRows → mostRows < childrenIn (t .bones) → limits t ≡ bad 10 2
+  second-limit : length (t .bones) ≤ mostRows → mostRows < childrenIn (t .bones) → limits t ≡ reject 10 2
   unfolding eachOf skeletonRows if check childrenIn
   second-limit h k = rw (bone-rows 0 (t .bones), le-leb (length (t .bones)) mostRows h, lt-leb (length (childRows (t .bones))) mostRows k)
 
-  no-limit : length (t .bones) ≤ mostRows → childrenIn (t .bones) ≤ mostRows → limits t ≡ got t
+  no-limit : length (t .bones) ≤ mostRows → childrenIn (t .bones) ≤ mostRows → limits t ≡ accept t
   unfolding eachOf skeletonRows if check childrenIn
   no-limit h k = rw (bone-rows 0 (t .bones), le-leb (length (t .bones)) mostRows h, le-leb (length (childRows (t .bones))) mostRows k)
 
@@ -67,15 +67,15 @@ abbrev made-of : List ℕ → List Bone → Skeleton
 made-of ws l = record { head = ws; bones = l }
 
 -- bones to the end of the file, under this header
-abbrev pub ended : List ℕ → Out (Step (List Bone)) → Out Skeleton
+abbrev pub ended : List ℕ → Result (Step (List Bone)) → Result Skeleton
 ended ws o = toEnd (made-of ws) o >>= limits
 
 -- a refusal, as the judge answers it
-refused : (o : Out Skeleton) (e p : ℕ) → o ≡ bad e p → verdict.Bad e p ≡ verdictOf o
+refused : (o : Result Skeleton) (e p : ℕ) → o ≡ reject e p → verdict.Bad e p ≡ verdictOf o
 unfolding verdictOf
 refused o e p q = rw q
 
-accepted : (o : Out Skeleton) (t : Skeleton) (b x y z j : ℕ) → o ≡ got t → b ≡ getD (t .head) 1 0 → x ≡ getD (t .head) 2 0 → y ≡ getD (t .head) 3 0 → z ≡ getD (t .head) 4 0
+accepted : (o : Result Skeleton) (t : Skeleton) (b x y z j : ℕ) → o ≡ accept t → b ≡ getD (t .head) 1 0 → x ≡ getD (t .head) 2 0 → y ≡ getD (t .head) 3 0 → z ≡ getD (t .head) 4 0
     → j ≡ childrenIn (t .bones) → verdict.Good (record { bones = b; red = x; green = y; blue = z; children = j }) ≡ verdictOf o
 unfolding verdictOf
 accepted o t b x y z j q eb ex ey ez ej = rw (q, eb, ex, ey, ez, ej)
@@ -84,8 +84,8 @@ accepted o t b x y z j q eb ex ey ez ej = rw (q, eb, ex, ey, ez, ej)
 pub skeleton-head : (s : List ℕ) → limitedSkeleton s ≡ (readHead skeletonMagic 1300 3 s >>= λ h. ended (h .value) (times (number h 1) (readBone (number h 1)) (h .place) (h .left)))
 unfolding limitedSkeleton skeleton skeletonFrom
 skeleton-head s =
-    let rest : Step (List ℕ) → Out Skeleton = λ h. times (number h 1) (readBone (number h 1)) (h .place) (h .left) >>= λ l. atEnd (l .place) (l .left) >>= λ _. got (record { head = h .value; bones = l .value }) in
-    ap (λ (o : Out Skeleton). o >>= limits) (head-then skeletonMagic 1300 3 s rest) ∙ bind-bind (readHead skeletonMagic 1300 3 s) rest limits
+    let rest : Step (List ℕ) → Result Skeleton = λ h. times (number h 1) (readBone (number h 1)) (h .place) (h .left) >>= λ l. atEnd (l .place) (l .left) >>= λ _. accept (record { head = h .value; bones = l .value }) in
+    ap (λ (o : Result Skeleton). o >>= limits) (head-then skeletonMagic 1300 3 s rest) ∙ bind-bind (readHead skeletonMagic 1300 3 s) rest limits
 
 module _ (s : List ℕ) (x : Opened) (ex : x ≡ openedOf (readHead 4608835 1300 3 s)) where
   pub file-head : (e p : ℕ) → x ≡ opened.Not e p → verdict.Bad e p ≡ verdictOf (limitedSkeleton s)
@@ -133,7 +133,7 @@ module _ (s : List ℕ) (x : Opened) (ex : x ≡ openedOf (readHead 4608835 1300
             (walked ∙ ended-bad (made-of (headOf 3 s)) limits (times k (readBone k) 24 (left (from s 24) s)) e p (summed-bad childrenIn (length s) (times k (readBone k) 24 (left (from s 24) s)) e p (sym q ∙ b .is)))
 
         module _ (j : ℕ) (n : Cursor) (u : r ≡ summed.To j n) where
-          read : (x : Step (List Bone)) × (times k (readBone k) 24 (left (from s 24) s) ≡ got x) × (j ≡ childrenIn (x .value)) × (n ≡ record { at = x .place; end = length s })
+          read : (x : Step (List Bone)) × (times k (readBone k) 24 (left (from s 24) s) ≡ accept x) × (j ≡ childrenIn (x .value)) × (n ≡ record { at = x .place; end = length s })
           read = summed-got childrenIn (length s) (times k (readBone k) 24 (left (from s 24) s)) j n (sym u ∙ b .is)
 
           place : n .at ≡ read .0 .place
@@ -148,7 +148,7 @@ module _ (s : List ℕ) (x : Opened) (ex : x ≡ openedOf (readHead 4608835 1300
           pub file-spare : n .at < length s → verdict.Bad 5 (n .at) ≡ verdictOf (limitedSkeleton s)
           file-spare h =
               refused (limitedSkeleton s) 5 (n .at)
-              (walked ∙ ended-spare (made-of (headOf 3 s)) limits (times k (readBone k) 24 (left (from s 24) s)) (read .0) (read .1) (omega (arith, over)) ∙ ap (λ (p : ℕ). bad 5 p) (sym place))
+              (walked ∙ ended-spare (made-of (headOf 3 s)) limits (times k (readBone k) 24 (left (from s 24) s)) (read .0) (read .1) (omega (arith, over)) ∙ ap (λ (p : ℕ). reject 5 p) (sym place))
 
           module _ (h : length s ≤ n .at) where
             made : Skeleton

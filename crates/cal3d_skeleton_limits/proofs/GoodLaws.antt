@@ -11,7 +11,7 @@ use Rattle.wire.proofs.Left.{span, left-length}
 use Rattle.shared_ids.proofs.Ids.{word-at}
 use Rattle.cal3d_header.specs.Heads.{readHead}
 use Rattle.cal3d_header.proofs.HeadLaws.{headOf, HeadAt, head-at}
-use Rattle.layout.specs.Out.{got, check, _>>=_}
+use Rattle.layout.specs.Result.{accept, check, _>>=_}
 use Rattle.layout.specs.Parts.{Step, number}
 use Rattle.layout.specs.Counted.{times, atEnd}
 use Rattle.layout.specs.Rows.{eachOf}
@@ -30,7 +30,7 @@ pub record BonesStand (s : List ℕ) (t : Skeleton) : Type 0 where
   pub small : length s ≤ 16777216
   pub long : 24 ≤ length s
   pub read : Step (List Bone)
-  pub is : times (getD (t .head) 1 0) (readBone (getD (t .head) 1 0)) 24 (left (span 24 (length s)) s) ≡ got read
+  pub is : times (getD (t .head) 1 0) (readBone (getD (t .head) 1 0)) 24 (left (span 24 (length s)) s) ≡ accept read
   pub same : read .value ≡ t .bones
   pub numbers : t .head ≡ 1300 ∷ getD (t .head) 1 0 ∷ getD (t .head) 2 0 ∷ getD (t .head) 3 0 ∷ getD (t .head) 4 0 ∷ []
   pub bones : length (t .bones) ≡ getD (t .head) 1 0
@@ -46,21 +46,21 @@ five (a ∷ b ∷ c ∷ d ∷ []) e = absurd (omega arith)
 five (a ∷ b ∷ c ∷ d ∷ f ∷ []) e = refl
 five (a ∷ b ∷ c ∷ d ∷ f ∷ g ∷ l) e = absurd (omega arith)
 
-limits-good : (t u : Skeleton) → (eachOf 10 (λ k. leb (length (skeletonRows k t)) mostRows) (1 ∷ 2 ∷ []) >>= λ _. got t) ≡ got u
+limits-good : (t u : Skeleton) → (eachOf 10 (λ k. leb (length (skeletonRows k t)) mostRows) (1 ∷ 2 ∷ []) >>= λ _. accept t) ≡ accept u
     → (t ≡ u) × (length (skeletonRows 1 t) ≤ 16383) × (length (skeletonRows 2 t) ≤ 16383)
 unfolding eachOf mostRows
 limits-good t u e =
-    by-got (check (leb (length (skeletonRows 1 t)) 16383) 10 1 >>= λ _. (check (leb (length (skeletonRows 2 t)) 16383) 10 2 >>= λ _. got tt)) _ e (λ _ el e₁.
+    by-got (check (leb (length (skeletonRows 1 t)) 16383) 10 1 >>= λ _. (check (leb (length (skeletonRows 2 t)) 16383) 10 2 >>= λ _. accept tt)) _ e (λ _ el e₁.
     by-check (leb (length (skeletonRows 1 t)) 16383) 10 1 _ el (λ a el₁.
     by-check (leb (length (skeletonRows 2 t)) 16383) 10 2 _ el₁ (λ b _.
     (got-inj e₁, leb→le (length (skeletonRows 1 t)) 16383 a, leb→le (length (skeletonRows 2 t)) 16383 b))))
 
 -- behind the header
 from-good : (s : List ℕ) (t : Skeleton) (k : ℕ) → HeadAt s 4608835 1300 3 k
-    → ended (headOf 3 s) (times (getD (headOf 3 s) 1 0) (readBone (getD (headOf 3 s) 1 0)) 24 (left (span 24 (length s)) s)) ≡ got t → BonesStand s t
+    → ended (headOf 3 s) (times (getD (headOf 3 s) 1 0) (readBone (getD (headOf 3 s) 1 0)) 24 (left (span 24 (length s)) s)) ≡ accept t → BonesStand s t
 unfolding skeletonRows childrenIn if
 from-good s t k a e =
-    by-got (times (getD (headOf 3 s) 1 0) (readBone (getD (headOf 3 s) 1 0)) 24 (left (span 24 (length s)) s) >>= λ l. atEnd (l .place) (l .left) >>= λ _. got (record { head = headOf 3 s; bones = l .value })) limits e (λ u eu e₁.
+    by-got (times (getD (headOf 3 s) 1 0) (readBone (getD (headOf 3 s) 1 0)) 24 (left (span 24 (length s)) s) >>= λ l. atEnd (l .place) (l .left) >>= λ _. accept (record { head = headOf 3 s; bones = l .value })) limits e (λ u eu e₁.
     by-got (times (getD (headOf 3 s) 1 0) (readBone (getD (headOf 3 s) 1 0)) 24 (left (span 24 (length s)) s)) _ eu (λ l el e₂.
     by-got (atEnd (l .place) (l .left)) _ e₂ (λ _ _ e₃.
     let g = limits-good u t e₁ in
@@ -87,7 +87,7 @@ from-good s t k a e =
       kids = rw (g .0) at (g .2);
     })))
 
-pub limited-good : (s : List ℕ) (t : Skeleton) → limitedSkeleton s ≡ got t → BonesStand s t
+pub limited-good : (s : List ℕ) (t : Skeleton) → limitedSkeleton s ≡ accept t → BonesStand s t
 limited-good s t e =
     by-got (readHead skeletonMagic 1300 3 s) _ (sym (skeleton-head s) ∙ e) (λ h eh e₁.
     let a = head-at 4608835 1300 3 s h eh in

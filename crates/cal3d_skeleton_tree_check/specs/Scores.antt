@@ -8,7 +8,7 @@ use lib.ListN.{length, getD, set}
 use lib.Dec.{eqb, ltb}
 use Rattle.wire.specs.Test.{if}
 use Rattle.wire.specs.Bytes.{wordAt}
-use Rattle.layout.specs.Out.{Out, got, bad}
+use Rattle.layout.specs.Result.{Result, accept, reject}
 use Rattle.layout.specs.Rules.{NONE}
 use Rattle.cal3d_spec.specs.Skeletons.{Bone}
 use Rattle.cal3d_spec.specs.Trees.{occurs, ends}
@@ -81,5 +81,5 @@ placeAt (x ∷ xs) zero = x .place
 placeAt (x ∷ xs) (suc i) = placeAt xs i
 
 -- 16 at the first byte of bone r, if there is such a bone
-abbrev pub strayAt : ℕ → List Bone → Out (Unit {0})
-strayAt r bs = if (ltb r (length bs)) (bad 16 (placeAt bs r)) (got tt)
+abbrev pub strayAt : ℕ → List Bone → Result (Unit {0})
+strayAt r bs = if (ltb r (length bs)) (reject 16 (placeAt bs r)) (accept tt)

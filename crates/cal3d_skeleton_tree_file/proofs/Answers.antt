@@ -10,7 +10,7 @@ use borrow.Author.Tests.{lt-ltb, le-ltb}
 use Rattle.wire.specs.Test.{if}
 use Rattle.wire.specs.Cursors.{left}
 use Rattle.wire.specs.declared.Cursor.{Cursor}
-use Rattle.layout.specs.Out.{got, _>>=_}
+use Rattle.layout.specs.Result.{accept, _>>=_}
 use Rattle.layout.specs.Parts.{Step, row, number}
 use Rattle.layout.specs.Rules.{NONE}
 use Rattle.layout.specs.Counted.{sized, before, times}
@@ -30,7 +30,7 @@ use Rattle.cal3d_skeleton_tree_file.specs.declared.Told.the-variants as 
 abbrev OneOf : ℕ → ℕ → Type 0
 OneOf bones p = (p ≡ NONE) ⊎ (p < bones)
 
-bone-parent : (bones p : ℕ) (s : List ℕ) (y : Step Bone) → readBone bones p s ≡ got y → OneOf bones (parentOf (y .value))
+bone-parent : (bones p : ℕ) (s : List ℕ) (y : Step Bone) → readBone bones p s ≡ accept y → OneOf bones (parentOf (y .value))
 unfolding readBone parentOf
 bone-parent bones p s y e =
     by-got (sized p s) _ e (λ n en e₁.
@@ -39,7 +39,7 @@ bone-parent bones p s y e =
     let q : x .value ≡ y .value .numbers = ap (λ (z : Step Bone). z .value .numbers) (got-inj e₃) in
     rw q at (numbers-parent bones (n .place) (n .left) x ex))))
 
-parents-named : (bones n p : ℕ) (s : List ℕ) (x : Step (List Bone)) → times n (readBone bones) p s ≡ got x
+parents-named : (bones n p : ℕ) (s : List ℕ) (x : Step (List Bone)) → times n (readBone bones) p s ≡ accept x
     → (i : ℕ) → i < length (map parentOf (x .value)) → OneOf bones (getD (map parentOf (x .value)) i 0)
 unfolding times before
 parents-named bones zero p s x e i h = let v : x .value ≡ [] = sym (ap (λ (y : Step (List Bone)). y .value) (got-inj e)) in let k = rw v at h in absurd (omega arith)

@@ -6,7 +6,7 @@ use mathlib.Core.List.{List, [], _∷_, _++_}
 use lib.ListN.{length}
 use Rattle.wire.specs.Cursors.{Inside, left}
 use Rattle.wire.specs.declared.Cursor.{Cursor}
-use Rattle.layout.specs.Out.{got}
+use Rattle.layout.specs.Result.{accept}
 use Rattle.layout.specs.Parts.{Step, row, number}
 use Rattle.layout.specs.Counted.{sized, before, times}
 use Rattle.layout.proofs.Outs.{by-got, got-inj}
@@ -24,7 +24,7 @@ place-after : (l m : List Bone) (b : Bone) → placeAt (l ++ b ∷ m) (length l)
 place-after [] m b = refl
 place-after (x ∷ l) m b = place-after l m b
 
-bone-place : (bones p : ℕ) (s : List ℕ) (y : Step Bone) → readBone bones p s ≡ got y → y .value .place ≡ p
+bone-place : (bones p : ℕ) (s : List ℕ) (y : Step Bone) → readBone bones p s ≡ accept y → y .value .place ≡ p
 unfolding readBone
 bone-place bones p s y e =
     by-got (sized p s) _ e (λ n en e₁.

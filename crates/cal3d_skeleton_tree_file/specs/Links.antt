@@ -5,7 +5,7 @@ use mathlib.Core.List.{List}
 use lib.ListN.{length}
 use Rattle.wire.specs.Cursors.{Inside, left}
 use Rattle.wire.specs.declared.Cursor.{Cursor}
-use Rattle.layout.specs.Out.{Out, got, bad}
+use Rattle.layout.specs.Result.{Result, accept, reject}
 use Rattle.layout.specs.Counted.{times}
 use Rattle.cal3d_spec.specs.Skeletons.{Bone, readBone}
 use Rattle.cal3d_skeleton_bones.specs.Bones.{Whole, bonesIn}
@@ -30,6 +30,6 @@ abbrev pub bonesAt : List ℕ → Cursor → ℕ → List Bone
 bonesAt s from bones = bonesIn (times bones (readBone bones) (from .at) (left from s))
 
 -- the answer on the trees as code holds it
-unfoldable pub toldOf : Out (Unit {0}) → Told
-toldOf (got x) = told.Same
-toldOf (bad n p) = told.Not n p
+unfoldable pub toldOf : Result (Unit {0}) → Told
+toldOf (accept x) = told.Same
+toldOf (reject n p) = told.Not n p

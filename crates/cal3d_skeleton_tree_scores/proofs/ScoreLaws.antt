@@ -11,7 +11,7 @@ use lib.Seq.{getD-set-same, getD-set-other}
 use lib.Dec.{eqb, ltb}
 use borrow.Author.Tests.{eq-eqb, ne-eqb, lt-ltb, le-ltb, ltb-true, ltb-false}
 use Rattle.wire.specs.Test.{if}
-use Rattle.layout.specs.Out.{check}
+use Rattle.layout.specs.Result.{check}
 use Rattle.layout.specs.Rules.{NONE}
 use Rattle.layout.proofs.Testing.{and-false, and-true}
 use Rattle.cal3d_spec.specs.Skeletons.{Bone, parentOf, listOf}

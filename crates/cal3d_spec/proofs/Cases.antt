@@ -4,7 +4,7 @@ use mathlib.Core.Path.{_≡_, refl}
 use Prim.Native.Nat.{ℕ, _+_}
 use mathlib.Core.List.{List, [], _∷_, _++_, map}
 use lib.ListN.{replicate, take}
-use Rattle.layout.specs.Out.{Out, got, bad}
+use Rattle.layout.specs.Result.{Result, accept, reject}
 use Rattle.layout.specs.Rules.{NONE}
 use Rattle.layout.specs.Rows.{joined}
 use Rattle.layout.specs.Write.{writeWords}
@@ -18,13 +18,13 @@ use Rattle.cal3d_spec.specs.declared.MeshAnswer.{MeshAnswer}
 use Rattle.cal3d_spec.proofs.Computing.{computing}
 
 -- what is told of a file: 0, 0 and its tables' words, or the refusal and its place
-abbrev toldSkeleton : Out Skeleton → List ℕ
-toldSkeleton (got t) = 0 ∷ 0 ∷ joined (map (λ (k : ℕ). joined (skeletonRows k t)) skeletonTables)
-toldSkeleton (bad n p) = n ∷ p ∷ []
+abbrev toldSkeleton : Result Skeleton → List ℕ
+toldSkeleton (accept t) = 0 ∷ 0 ∷ joined (map (λ (k : ℕ). joined (skeletonRows k t)) skeletonTables)
+toldSkeleton (reject n p) = n ∷ p ∷ []
 
-abbrev toldMesh : Out Mesh → List ℕ
-toldMesh (got t) = 0 ∷ 0 ∷ joined (map (λ (k : ℕ). joined (meshRows k t)) meshTables)
-toldMesh (bad n p) = n ∷ p ∷ []
+abbrev toldMesh : Result Mesh → List ℕ
+toldMesh (accept t) = 0 ∷ 0 ∷ joined (map (λ (k : ℕ). joined (meshRows k t)) meshTables)
+toldMesh (reject n p) = n ∷ p ∷ []
 
 -- ---- skeletons
 
@@ -139,13 +139,13 @@ abbrev plain : List ℕ
 plain = meshOf 1 (writeWords (NONE ∷ 1 ∷ 0 ∷ 0 ∷ 0 ∷ 1 ∷ []) (writeWords (8 ∷ 8 ∷ 8 ∷ 8 ∷ 8 ∷ 8 ∷ NONE ∷ 0 ∷ 5 ∷ 6 ∷ 1 ∷ 1 ∷ 7 ∷ []) []))
 
 -- a vertex without maps and influences: 8 numbers and a count
-abbrev bare : ℕ → List ℕ
-bare collapse = 8 ∷ 8 ∷ 8 ∷ 8 ∷ 8 ∷ 8 ∷ collapse ∷ 0 ∷ 0 ∷ []
+abbrev emptyVertex : ℕ → List ℕ
+emptyVertex collapse = 8 ∷ 8 ∷ 8 ∷ 8 ∷ 8 ∷ 8 ∷ collapse ∷ 0 ∷ 0 ∷ []
 
 -- a submesh of two bare vertices, then one of a bare vertex and a face with this last id
 abbrev twoOf : ℕ → List ℕ
 twoOf last =
-    meshOf 2 (writeWords (0 ∷ 2 ∷ 0 ∷ 0 ∷ 0 ∷ 0 ∷ []) (writeWords (bare 1 ++ bare NONE) (writeWords (1 ∷ 1 ∷ 1 ∷ 0 ∷ 0 ∷ 0 ∷ []) (writeWords (bare NONE) (writeWords (0 ∷ 0 ∷ last ∷ []) [])))))
+    meshOf 2 (writeWords (0 ∷ 2 ∷ 0 ∷ 0 ∷ 0 ∷ 0 ∷ []) (writeWords (emptyVertex 1 ++ emptyVertex NONE) (writeWords (1 ∷ 1 ∷ 1 ∷ 0 ∷ 0 ∷ 0 ∷ []) (writeWords (emptyVertex NONE) (writeWords (0 ∷ 0 ∷ last ∷ []) [])))))
 
 -- one submesh with these counts of vertices, faces, lod steps, springs and maps, and then these words
 abbrev countsOf : ℕ → ℕ → ℕ → ℕ → ℕ → List ℕ → List ℕ

@@ -1,7 +1,7 @@
 -- What worked files are computed with: to unfold `computing` is to unfold every definition of the two formats.
 use Rattle.wire.specs.Test.{if}
 use Rattle.wire.specs.Bytes.{word, over}
-use Rattle.layout.specs.Out.{check}
+use Rattle.layout.specs.Result.{check}
 use Rattle.layout.specs.Parts.{words, judged, row}
 use Rattle.layout.specs.Counted.{run, nameOf, sized, before, times, atEnd}
 use Rattle.layout.specs.Rows.{nameCells, joined, eachOf}

@@ -3,7 +3,7 @@ use Prim.Native.Nat.{ℕ}
 use mathlib.Core.List.{List, [], _∷_}
 use lib.ListN.{length, getD}
 use lib.Dec.{eqb}
-use Rattle.layout.specs.Out.{Out, got, check, _>>=_}
+use Rattle.layout.specs.Result.{Result, accept, check, _>>=_}
 use Rattle.layout.specs.Parts.{Name, Step, row, number}
 use Rattle.layout.specs.Counted.{sized, times, atEnd}
 use Rattle.layout.specs.Rows.{joined, sizeFits}
@@ -31,23 +31,23 @@ unfoldable pub listOf : Bone → List ℕ
 listOf b = joined (b .children)
 
 -- the bone at p of a skeleton with this number of bones: its name, its numbers, its children
-unfoldable pub readBone : ℕ → ℕ → List ℕ → Out (Step Bone)
+unfoldable pub readBone : ℕ → ℕ → List ℕ → Result (Step Bone)
 readBone bones p s = do
   n ← sized p s
   x ← row (boneNumbers bones) (n .place) (n .left)
   l ← times (number x childrenAt) (row (childNumbers bones)) (x .place) (x .left)
-  got (record { value = record { place = p; name = n .value; numbers = x .value; children = l .value }; place = l .place; left = l .left })
+  accept (record { value = record { place = p; name = n .value; numbers = x .value; children = l .value }; place = l .place; left = l .left })
 
 -- the skeleton after the magic: the header's numbers, as many bones as they say, and nothing more
-unfoldable pub skeletonFrom : ℕ → List ℕ → Out Skeleton
+unfoldable pub skeletonFrom : ℕ → List ℕ → Result Skeleton
 skeletonFrom p s = do
   h ← row skeletonHead p s
   l ← times (number h 1) (readBone (number h 1)) (h .place) (h .left)
   _ ← atEnd (l .place) (l .left)
-  got (record { head = h .value; bones = l .value })
+  accept (record { head = h .value; bones = l .value })
 
 -- the skeleton of the file s, or the first of its refusals 1 to 7
-unfoldable pub skeleton : List ℕ → Out Skeleton
+unfoldable pub skeleton : List ℕ → Result Skeleton
 skeleton s = do
   _ ← check (sizeFits (length s)) 1 0
   m ← row (any ∷ []) 0 s

@@ -5,7 +5,7 @@ use mathlib.Core.List.{List, [], _∷_, map}
 use lib.ListN.{length, getD}
 use lib.Dec.{eqb}
 use Rattle.wire.specs.Test.{if}
-use Rattle.layout.specs.Out.{Out, got, check, _>>=_}
+use Rattle.layout.specs.Result.{Result, accept, check, _>>=_}
 use Rattle.layout.specs.Rules.{NONE}
 use Rattle.cal3d_spec.specs.Skeletons.{Bone, parentOf, listOf}
 
@@ -30,12 +30,12 @@ unfoldable pub stands : List ℕ → List (List ℕ) → ℕ → Bool
 stands ps ls b = listed b (getD ps b 0) 0 ls && ends ps (length ps) b
 
 -- check 16: bones b, b + 1, .. are right; else 16 at the first byte of the lowest that is not
-unfoldable pub standing : List ℕ → List (List ℕ) → ℕ → List Bone → Out (Unit {0})
-standing ps ls b [] = got tt
+unfoldable pub standing : List ℕ → List (List ℕ) → ℕ → List Bone → Result (Unit {0})
+standing ps ls b [] = accept tt
 standing ps ls b (x ∷ xs) = do
   _ ← check (stands ps ls b) 16 (x .place)
   standing ps ls (b + 1) xs
 
 -- check 16 of all bones: child lists and parents tell the same trees
-unfoldable pub trees : List Bone → Out (Unit {0})
+unfoldable pub trees : List Bone → Result (Unit {0})
 trees bs = standing (map parentOf bs) (map listOf bs) 0 bs

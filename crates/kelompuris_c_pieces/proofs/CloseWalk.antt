@@ -13,7 +13,7 @@ use mir.Val.{Val, vbool, vint, vptr, WT, hasTy}
 use base.Logic.{SProp, ent, id⊢, emp}
 use base.Fml.{Lft, Share, Fml, ftrue, fat, froom, fdies, flft, fobor, fshr-bor}
 use prog.Memory.{size}
-use prog.Wp.{Heap, Out, Env, afterSeq, afterBlock, afterTurn, Calls, Loops, Wp, atReturn, WpFn, Tables}
+use prog.Wp.{Heap, Result, Env, afterSeq, afterBlock, afterTurn, Calls, Loops, Wp, atReturn, WpFn, Tables}
 use ghost.Atoms.{Atoms}
 use sound.WpLaws.{FmC, fmOf}
 use types.Kit.{Given, Sq, params′, runs, Item, ‵, ⋆, mean, anyQ, atRet, _$_, _∵_, !, qed, by, move, keep, use1, drop, pick, learn, rewrite, await}
@@ -79,8 +79,8 @@ module _ {M : Type 1} (𝓤 : URA M) (H : Heap 𝓤) (A : Atoms 𝓤) (W : Given
   top t = getD xs (c .get t) none
 
   -- what the row owns, and beside it its borrow, which is looked into
-  abbrev pub Owned : List (Item 𝓤)
-  Owned = ‵ (fshr-bor κ (λ s. arr-parts (shares R) n .part s xs b o)) ∷ ‵ (flft κ q) ∷ ‵ Row ∷ []
+  abbrev pub LoopOwns : List (Item 𝓤)
+  LoopOwns = ‵ (fshr-bor κ (λ s. arr-parts (shares R) n .part s xs b o)) ∷ ‵ (flft κ q) ∷ ‵ Row ∷ []
 
   -- what the walk is to know
   pub record Knows : Type 2 where
@@ -120,7 +120,7 @@ module _ {M : Type 1} (𝓤 : URA M) (H : Heap 𝓤) (A : Atoms 𝓤) (W : Given
       abbrev En : Env 𝓤 H
       En = (φ, l₀) ∷ (σ, l₁) ∷ (ρ, l₂) ∷ (τ, l₃) ∷ (word, l₄) ∷ (tyBool, l₅) ∷ (word, l₆) ∷ (tyPtr, l₇) ∷ (e .ty, l₈) ∷ []
 
-      abbrev Left : Out → SProp 𝓤
+      abbrev Left : Result → SProp 𝓤
       Left = afterBlock 𝓤 H (afterSeq 𝓤 H (Wp 𝓤 H C Λ En (after-loop #last) (atReturn 𝓤 H En Post)) (atReturn 𝓤 H En Post))
 
       module _ (q′ : Share) where
@@ -180,7 +180,7 @@ module _ {M : Type 1} (𝓤 : URA M) (H : Heap 𝓤) (A : Atoms 𝓤) (W : Given
       -- before the loop: the locals, those of the parameters and the first two others as given, and what the row owns
       abbrev Before : Item 𝓤 → Item 𝓤 → Item 𝓤 → Item 𝓤 → List (Item 𝓤)
       Before i₁ i₂ i₃ i₄ = ‵ (froom (e .ty) l₈ 0) ∷ ‵ (fdies (e .ty) l₈) ∷ ‵ (froom tyPtr l₇ 0) ∷ ‵ (fdies tyPtr l₇) ∷ ‵ (froom word l₆ 0) ∷ ‵ (fdies word l₆) ∷ ‵ (froom tyBool l₅ 0) ∷ ‵ (fdies tyBool l₅)
-          ∷ i₄ ∷ ‵ (fdies word l₄) ∷ i₃ ∷ ‵ (fdies τ l₃) ∷ i₂ ∷ ‵ (fdies ρ l₂) ∷ i₁ ∷ ‵ (fdies σ l₁) ∷ ‵ (froom φ l₀ 0) ∷ ‵ (fdies φ l₀) ∷ Owned
+          ∷ i₄ ∷ ‵ (fdies word l₄) ∷ i₃ ∷ ‵ (fdies τ l₃) ∷ i₂ ∷ ‵ (fdies ρ l₂) ∷ i₁ ∷ ‵ (fdies σ l₁) ∷ ‵ (froom φ l₀ 0) ∷ ‵ (fdies φ l₀) ∷ LoopOwns
 
       abbrev Passed : Item 𝓤 → List (Item 𝓤)
       Passed i₃ = Before (‵ (fat fullShare σ l₁ 0 state)) (‵ (fat fullShare ρ l₂ 0 (sliceVal (b, o) n))) i₃ (‵ (fat fullShare word l₄ 0 (vint w64 n)))
@@ -214,8 +214,8 @@ module _ {M : Type 1} (𝓤 : URA M) (H : Heap 𝓤) (A : Atoms 𝓤) (W : Given
           assigns ! (of-opd ! (load ! (from ! (fld ! refl (stop !))) (look-in ! 12 (sub ! 1 refl (whole !))))) (from ! (stop !)) (init ! 8 refl (tt, record { fits = k .row-fits })) $
           by ! begins
 
-    pub walk : ent 𝓤 (⋆ 𝓤 H A Owned) (WpFn 𝓤 H C Λ (function #first #test #last φ σ ρ τ (e .ty)) (state ∷ sliceVal (b, o) n ∷ []) Post)
+    pub walk : ent 𝓤 (⋆ 𝓤 H A LoopOwns) (WpFn 𝓤 H C Λ (function #first #test #last φ σ ρ τ (e .ty)) (state ∷ sliceVal (b, o) n ∷ []) Post)
     walk =
-        qed W Owned ∵ enter ! C Λ (function #first #test #last φ σ ρ τ (e .ty)) (state ∷ sliceVal (b, o) n ∷ []) _ $
+        qed W LoopOwns ∵ enter ! C Λ (function #first #test #last φ σ ρ τ (e .ty)) (state ∷ sliceVal (b, o) n ∷ []) _ $
         alloc1 ! (λ l₀. alloc1 ! (λ l₁. alloc1 ! (λ l₂. alloc1 ! (λ l₃. alloc1 ! (λ l₄. alloc1 ! (λ l₅. alloc1 ! (λ l₆. alloc1 ! (λ l₇. alloc1 ! (λ l₈. alloc0 ! $
         passing l₀ l₁ l₂ l₃ l₄ l₅ l₆ l₇ l₈)))))))))

@@ -13,7 +13,7 @@ use mir.Val.{Val, vbool, vint, vptr, WT, hasTy}
 use base.Logic.{SProp, ent, sep, id⊢, emp}
 use base.Fml.{Lft, GName, Share, Fml, ftrue, fat, froom, fdies, flft, fobs, fauth, fbor, fobor}
 use prog.Memory.{size}
-use prog.Wp.{Heap, Out, Env, afterSeq, afterBlock, afterTurn, Calls, Loops, Wp, atReturn, WpFn, Tables}
+use prog.Wp.{Heap, Result, Env, afterSeq, afterBlock, afterTurn, Calls, Loops, Wp, atReturn, WpFn, Tables}
 use ghost.Atoms.{Atoms, sem}
 use sound.WpLaws.{FmC, fmOf}
 use types.Kit.{Given, Sq, params′, runs, Item, ‵, _⊛_, ⋆, mean, anyQ, atRet, _$_, _∵_, !, qed, by, move, keep, use1, drop, split, join, pick, learn, rewrite, await}
@@ -87,8 +87,8 @@ module _ {M : Type 1} (𝓤 : URA M) (H : Heap 𝓤) (A : Atoms 𝓤) (W : Given
   after r rs = set rs (c .put r) (c .rec r)
 
   -- what the parameters own but for the state, and what is left of it at the end
-  abbrev pub Owned : List (e .Of) → List (Item 𝓤)
-  Owned rs = ‵ (fobs γ (codedHoleys R .code (heres R rs))) ∷ ‵ (fbor κ (Held R (length rs) b o γ)) ∷ ‵ (flft κ q) ∷ ‵ (flft κ₂ q₂) ∷ ‵ Piece ∷ []
+  abbrev pub LoopOwns : List (e .Of) → List (Item 𝓤)
+  LoopOwns rs = ‵ (fobs γ (codedHoleys R .code (heres R rs))) ∷ ‵ (fbor κ (Held R (length rs) b o γ)) ∷ ‵ (flft κ q) ∷ ‵ (flft κ₂ q₂) ∷ ‵ Piece ∷ []
 
   -- what the walk is to know
   pub record Knows : Type 2 where
@@ -117,7 +117,7 @@ module _ {M : Type 1} (𝓤 : URA M) (H : Heap 𝓤) (A : Atoms 𝓤) (W : Given
     pub Last : c .Of → F → Type 0
     pub last : (t : c .Of) (rs : List (e .Of)) → Inv t rs → c .go t ≡ false → ent 𝓤 (emp 𝓤) (𝓣 .C #last (low t ∷ state ∷ []) (λ v. mean 𝓤 H A (Gives 𝓤 H A F (λ r v. IsF r v × Last t r) (‵ ftrue) v)))
     pub result-typed : (r : F) (v : Val) → IsF r v → T (hasTy φ v) × WT v
-    pub ends : (t : c .Of) (rs : List (e .Of)) → Inv t rs → c .go t ≡ false → (r : F) (v : Val) → IsF r v → Last t r → ent 𝓤 (⋆ 𝓤 H A (Owned rs)) (Post v)
+    pub ends : (t : c .Of) (rs : List (e .Of)) → Inv t rs → c .go t ≡ false → (r : F) (v : Val) → IsF r v → Last t r → ent 𝓤 (⋆ 𝓤 H A (LoopOwns rs)) (Post v)
 
   module _ (k : Knows) where
     abbrev C : Calls 𝓤 H
@@ -143,7 +143,7 @@ module _ {M : Type 1} (𝓤 : URA M) (H : Heap 𝓤) (A : Atoms 𝓤) (W : Given
       abbrev At : c .Of → List (e .Of) → List (Item 𝓤)
       At t rs = ‵ (row R fullShare rs b o) ∷ ‵ (fat fullShare τ l₄ 0 (low t)) ∷ ‵ (froom tyBool l₇ 0) ∷ ‵ (froom word l₈ 0) ∷ ‵ (froom tyPtr l₉ 0) ∷ ‵ (froom (e .ty) l₁₀ 0) ∷ ‵ (froom tyPtr l₁₁ 0) ∷ Frame
 
-      abbrev Left : Out → SProp 𝓤
+      abbrev Left : Result → SProp 𝓤
       Left = afterBlock 𝓤 H (afterSeq 𝓤 H (Wp 𝓤 H C Λ En (after-loop #last) (atReturn 𝓤 H En Post)) (atReturn 𝓤 H En Post))
 
       -- a turn
@@ -209,7 +209,7 @@ module _ {M : Type 1} (𝓤 : URA M) (H : Heap 𝓤) (A : Atoms 𝓤) (W : Given
       -- before the loop: the locals, those of the parameters and the first three others as given, and what the parameters own
       abbrev Before : Item 𝓤 → Item 𝓤 → Item 𝓤 → Item 𝓤 → Item 𝓤 → Item 𝓤 → List (Item 𝓤)
       Before i₁ i₂ i₃ i₄ i₅ i₆ = ‵ (froom tyPtr l₁₁ 0) ∷ ‵ (fdies tyPtr l₁₁) ∷ ‵ (froom (e .ty) l₁₀ 0) ∷ ‵ (fdies (e .ty) l₁₀) ∷ ‵ (froom tyPtr l₉ 0) ∷ ‵ (fdies tyPtr l₉) ∷ ‵ (froom word l₈ 0) ∷ ‵ (fdies word l₈) ∷ ‵ (froom tyBool l₇ 0) ∷ ‵ (fdies tyBool l₇)
-          ∷ i₆ ∷ ‵ (fdies word l₆) ∷ i₅ ∷ ‵ (fdies word l₅) ∷ i₄ ∷ ‵ (fdies τ l₄) ∷ i₃ ∷ ‵ (fdies β l₃) ∷ i₂ ∷ ‵ (fdies ρ l₂) ∷ i₁ ∷ ‵ (fdies σ l₁) ∷ ‵ (froom φ l₀ 0) ∷ ‵ (fdies φ l₀) ∷ Owned xs
+          ∷ i₆ ∷ ‵ (fdies word l₆) ∷ i₅ ∷ ‵ (fdies word l₅) ∷ i₄ ∷ ‵ (fdies τ l₄) ∷ i₃ ∷ ‵ (fdies β l₃) ∷ i₂ ∷ ‵ (fdies ρ l₂) ∷ i₁ ∷ ‵ (fdies σ l₁) ∷ ‵ (froom φ l₀ 0) ∷ ‵ (fdies φ l₀) ∷ LoopOwns xs
 
       abbrev Passed : Item 𝓤 → List (Item 𝓤)
       Passed i₄ = Before (‵ (fat fullShare σ l₁ 0 state)) (‵ (fat fullShare ρ l₂ 0 (sliceVal (b, o) n))) (‵ (fat fullShare β l₃ 0 (sliceVal (b₂, o₂) m))) i₄ (‵ (fat fullShare word l₅ 0 (vint w64 n))) (‵ (fat fullShare word l₆ 0 (vint w64 m)))
@@ -244,8 +244,8 @@ module _ {M : Type 1} (𝓤 : URA M) (H : Heap 𝓤) (A : Atoms 𝓤) (W : Given
           assigns ! (of-opd ! (load ! (from ! (fld ! refl (stop !))) (look-in ! 16 (sub ! 1 refl (whole !))))) (from ! (stop !)) (init ! 10 refl (tt, record { fits = k .piece-fits })) $
           by ! begins
 
-    pub walk : ent 𝓤 (⋆ 𝓤 H A (Owned xs)) (WpFn 𝓤 H C Λ (function #first #next #last φ σ ρ β τ (e .ty)) (state ∷ sliceVal (b, o) n ∷ sliceVal (b₂, o₂) m ∷ []) Post)
+    pub walk : ent 𝓤 (⋆ 𝓤 H A (LoopOwns xs)) (WpFn 𝓤 H C Λ (function #first #next #last φ σ ρ β τ (e .ty)) (state ∷ sliceVal (b, o) n ∷ sliceVal (b₂, o₂) m ∷ []) Post)
     walk =
-        qed W (Owned xs) ∵ enter ! C Λ (function #first #next #last φ σ ρ β τ (e .ty)) (state ∷ sliceVal (b, o) n ∷ sliceVal (b₂, o₂) m ∷ []) _ $
+        qed W (LoopOwns xs) ∵ enter ! C Λ (function #first #next #last φ σ ρ β τ (e .ty)) (state ∷ sliceVal (b, o) n ∷ sliceVal (b₂, o₂) m ∷ []) _ $
         alloc1 ! (λ l₀. alloc1 ! (λ l₁. alloc1 ! (λ l₂. alloc1 ! (λ l₃. alloc1 ! (λ l₄. alloc1 ! (λ l₅. alloc1 ! (λ l₆. alloc1 ! (λ l₇. alloc1 ! (λ l₈. alloc1 ! (λ l₉. alloc1 ! (λ l₁₀. alloc1 ! (λ l₁₁. alloc0 ! $
         passing l₀ l₁ l₂ l₃ l₄ l₅ l₆ l₇ l₈ l₉ l₁₀ l₁₁))))))))))))

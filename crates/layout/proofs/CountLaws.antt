@@ -7,7 +7,7 @@ use lib.ListN.{length, take, drop, getD, replicate, length-drop}
 use lib.Seq.{drop-drop, length-take-le}
 use lib.Dec.{leb, leb→le, nleb→lt}
 use borrow.Author.Tests.{le-leb, lt-leb}
-use Rattle.layout.specs.Out.{Out, got, bad, check, _>>=_}
+use Rattle.layout.specs.Result.{Result, accept, reject, check, _>>=_}
 use Rattle.layout.specs.Rules.{Rule, any, count, holds, refusal}
 use Rattle.layout.specs.Parts.{Name, Step, wordsOf, words, judged, row, number}
 use Rattle.layout.specs.Counted.{run, nameOf, sized, before, times, atEnd}
@@ -23,8 +23,8 @@ pub record Moved {A : Type 0} (p : ℕ) (s : List ℕ) (x : Step A) : Type 0 whe
   pub room : by ≤ length s
   pub rest : x .left ≡ drop by s
 
-abbrev pub Moves : {A : Type 0} → (ℕ → List ℕ → Out (Step A)) → Type 0
-Moves {A} read = (p : ℕ) (s : List ℕ) (x : Step A) → read p s ≡ got x → Moved p s x
+abbrev pub Advances : {A : Type 0} → (ℕ → List ℕ → Result (Step A)) → Type 0
+Advances {A} read = (p : ℕ) (s : List ℕ) (x : Step A) → read p s ≡ accept x → Moved p s x
 
 module _ {A B : Type 0} where
   -- the same step with another value
@@ -37,7 +37,7 @@ module _ {A B : Type 0} where
       let l = ap length (m .rest) in
       record { by = m .by + n .by; to = omega arith; room = omega arith; rest = n .rest ∙ ap (λ (r : List ℕ). drop (n .by) r) (m .rest) ∙ drop-drop (n .by) (m .by) s }
 
-words-moved : (start n p : ℕ) (s : List ℕ) (x : Step (List ℕ)) → words start n p s ≡ got x → Moved p s x
+words-moved : (start n p : ℕ) (s : List ℕ) (x : Step (List ℕ)) → words start n p s ≡ accept x → Moved p s x
 unfolding words
 words-moved start zero p s x e = subst (λ (y : Step (List ℕ)). Moved p s y) (got-inj e) (record { by = 0; to = omega arith; room = omega arith; rest = refl })
 words-moved start (suc n) p [] x e = bad-got e
@@ -49,30 +49,30 @@ words-moved start (suc n) p (a ∷ b ∷ c ∷ d ∷ s) x e =
     subst (λ (z : Step (List ℕ)). Moved p (a ∷ b ∷ c ∷ d ∷ s) z) (got-inj e₁)
     (record { by = suc (suc (suc (suc (m .by)))); to = omega arith; room = omega arith; rest = m .rest }))
 
-pub row-moves : (rs : List Rule) → Moves (row rs)
+pub row-moves : (rs : List Rule) → Advances (row rs)
 unfolding row
 row-moves rs p s x e =
     by-got (words p (length rs) p s) _ e (λ y ey e₁. let q = judged-got rs p (y .value) y x e₁ in
     subst (λ (z : Step (List ℕ)). Moved p s z) q (words-moved p (length rs) p s y ey))
 
-run-moves : (n : ℕ) → Moves (run n)
+run-moves : (n : ℕ) → Advances (run n)
 unfolding run
 run-moves n p s x e =
     by-check (leb n (length s)) 5 p _ e (λ t e₁. let h = leb→le n (length s) t in
     subst (λ (z : Step (List ℕ)). Moved p s z) (got-inj e₁) (record { by = n; to = refl; room = h; rest = refl }))
 
-pub name-moves : (n : ℕ) → Moves (nameOf n)
+pub name-moves : (n : ℕ) → Advances (nameOf n)
 unfolding nameOf
 name-moves n p s x e =
     by-got (run n p s) _ e (λ y ey e₁. let q = got-inj e₁ in
     subst (λ (z : Step Name). Moved p s z) q (moved-as y (record { value = record { place = p; bytes = y .value }; place = y .place; left = y .left }) (run-moves n p s y ey) refl refl))
 
-pub sized-moves : Moves sized
+pub sized-moves : Advances sized
 unfolding sized
 sized-moves p s x e = by-got (row _ p s) _ e (λ h eh e₁. moved-on h x (row-moves _ p s h eh) (name-moves _ (h .place) (h .left) x e₁))
 
-module _ {A : Type 0} (item : ℕ → List ℕ → Out (Step A)) (moves : Moves item) where
-  pub times-moves : (n : ℕ) → Moves (times n item)
+module _ {A : Type 0} (item : ℕ → List ℕ → Result (Step A)) (moves : Advances item) where
+  pub times-moves : (n : ℕ) → Advances (times n item)
   unfolding times before
   times-moves zero p s x e = subst (λ (y : Step (List A)). Moved p s y) (got-inj e) (record { by = 0; to = omega arith; room = omega arith; rest = refl })
   times-moves (suc n) p s x e =
@@ -83,23 +83,23 @@ module _ {A : Type 0} (item : ℕ → List ℕ → Out (Step A)) (moves : Moves 
 
 -- ---- steps
 
-module _ {A : Type 0} (item : ℕ → List ℕ → Out (Step A)) (p : ℕ) (s : List ℕ) where
-  pub times-none : times 0 item p s ≡ got (record { value = []; place = p; left = s })
+module _ {A : Type 0} (item : ℕ → List ℕ → Result (Step A)) (p : ℕ) (s : List ℕ) where
+  pub times-none : times 0 item p s ≡ accept (record { value = []; place = p; left = s })
   unfolding times
   times-none = refl
 
-  pub times-one : (n : ℕ) → times (suc n) item p s ≡ (item p s >>= λ x. times n item (x .place) (x .left) >>= λ l. got (before (x .value) l))
+  pub times-one : (n : ℕ) → times (suc n) item p s ≡ (item p s >>= λ x. times n item (x .place) (x .left) >>= λ l. accept (before (x .value) l))
   unfolding times
   times-one n = refl
 
   -- an item that is refused refuses them all
-  pub times-bad : (n m q : ℕ) → 0 < n → item p s ≡ bad m q → times n item p s ≡ bad m q
+  pub times-bad : (n m q : ℕ) → 0 < n → item p s ≡ reject m q → times n item p s ≡ reject m q
   unfolding times
   times-bad zero m q h e = absurd (omega arith)
   times-bad (suc n) m q h e = rw e
 
 -- as many as were asked for
-pub times-length : {A : Type 0} (item : ℕ → List ℕ → Out (Step A)) (n p : ℕ) (s : List ℕ) (x : Step (List A)) → times n item p s ≡ got x → length (x .value) ≡ n
+pub times-length : {A : Type 0} (item : ℕ → List ℕ → Result (Step A)) (n p : ℕ) (s : List ℕ) (x : Step (List A)) → times n item p s ≡ accept x → length (x .value) ≡ n
 unfolding times before
 times-length item zero p s x e = sym (ap (λ (y : Step (List _)). length (y .value)) (got-inj e))
 times-length item (suc n) p s x e =
@@ -107,20 +107,20 @@ times-length item (suc n) p s x e =
     by-got (times n item (y .place) (y .left)) _ e₁ (λ l el e₂. let k = times-length item n (y .place) (y .left) l el in
     sym (ap (λ (z : Step (List _)). length (z .value)) (got-inj e₂)) ∙ ap suc k))
 
-pub name-whole : (n p : ℕ) (s : List ℕ) → n ≤ length s → nameOf n p s ≡ got (record { value = record { place = p; bytes = take n s }; place = p + n; left = drop n s })
+pub name-whole : (n p : ℕ) (s : List ℕ) → n ≤ length s → nameOf n p s ≡ accept (record { value = record { place = p; bytes = take n s }; place = p + n; left = drop n s })
 unfolding nameOf run check
 name-whole n p s h = rw (le-leb n (length s) h)
 
-pub name-short : (n p : ℕ) (s : List ℕ) → length s < n → nameOf n p s ≡ bad 5 p
+pub name-short : (n p : ℕ) (s : List ℕ) → length s < n → nameOf n p s ≡ reject 5 p
 unfolding nameOf run check
 name-short n p s h = rw (lt-leb n (length s) h)
 
-pub end-none : (p : ℕ) (s : List ℕ) → length s ≡ 0 → atEnd p s ≡ got tt
+pub end-none : (p : ℕ) (s : List ℕ) → length s ≡ 0 → atEnd p s ≡ accept tt
 unfolding atEnd
 end-none p [] h = refl
 end-none p (c ∷ s) h = absurd (omega arith)
 
-pub end-some : (p : ℕ) (s : List ℕ) → 0 < length s → atEnd p s ≡ bad 5 p
+pub end-some : (p : ℕ) (s : List ℕ) → 0 < length s → atEnd p s ≡ reject 5 p
 unfolding atEnd
 end-some p [] h = absurd (omega arith)
 end-some p (c ∷ s) h = refl
@@ -140,7 +140,7 @@ judged-one (suc k) r rs p (w ∷ ws) a h =
 -- ---- what was read
 
 -- a row that was read: its words, and room for them
-pub row-got : (rs : List Rule) (p : ℕ) (s : List ℕ) (x : Step (List ℕ)) → row rs p s ≡ got x → (x .value ≡ wordsOf (length rs) s) × (4 * length rs ≤ length s) × (x .place ≡ p + 4 * length rs)
+pub row-got : (rs : List Rule) (p : ℕ) (s : List ℕ) (x : Step (List ℕ)) → row rs p s ≡ accept x → (x .value ≡ wordsOf (length rs) s) × (4 * length rs ≤ length s) × (x .place ≡ p + 4 * length rs)
 row-got rs p s x e =
     by-test (leb (4 * length rs) (length s))
     (λ t. let h = leb→le (4 * length rs) (length s) t in
@@ -150,7 +150,7 @@ row-got rs p s x e =
     bad-got (sym (row-short rs p s h) ∙ e))
 
 -- a name that was read behind its length: its place, and where it ends
-pub sized-got : (p : ℕ) (s : List ℕ) (x : Step Name) → sized p s ≡ got x → (x .value .place ≡ p + 4) × (x .place ≡ p + 4 + length (x .value .bytes))
+pub sized-got : (p : ℕ) (s : List ℕ) (x : Step Name) → sized p s ≡ accept x → (x .value .place ≡ p + 4) × (x .place ≡ p + 4 + length (x .value .bytes))
 unfolding sized nameOf run
 sized-got p s x e =
     by-got (row (count ∷ []) p s) _ e (λ h eh e₁.
@@ -168,8 +168,8 @@ sized-got p s x e =
     (omega (arith, r .2), omega (arith, r .2)))))
 
 -- the first item of those that were read, and the others
-pub times-got {ℓ} : {A : Type 0} {P : Type ℓ} (item : ℕ → List ℕ → Out (Step A)) (n p : ℕ) (s : List ℕ) (x : Step (List A)) → times (suc n) item p s ≡ got x
-    → ((y : Step A) (l : Step (List A)) → item p s ≡ got y → times n item (y .place) (y .left) ≡ got l → before (y .value) l ≡ x → P) → P
+pub times-got {ℓ} : {A : Type 0} {P : Type ℓ} (item : ℕ → List ℕ → Result (Step A)) (n p : ℕ) (s : List ℕ) (x : Step (List A)) → times (suc n) item p s ≡ accept x
+    → ((y : Step A) (l : Step (List A)) → item p s ≡ accept y → times n item (y .place) (y .left) ≡ accept l → before (y .value) l ≡ x → P) → P
 unfolding times
 times-got item n p s x e f =
     by-got (item p s) _ e (λ y ey e₁.

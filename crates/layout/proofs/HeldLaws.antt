@@ -10,10 +10,10 @@ use lib.ListN.{length, take, drop, replicate, getD, length-map}
 use lib.Dec.{T}
 use lib.Seq.{getD-drop}
 use Rattle.wire.specs.Bytes.{word, wordAt}
-use Rattle.layout.specs.Out.{Out, got, bad, check, _>>=_}
+use Rattle.layout.specs.Result.{Result, accept, reject, check, _>>=_}
 use Rattle.layout.specs.Rules.{Rule, any, upTo, exactly, names, namesOrNone, unit, holds}
 use Rattle.layout.specs.Parts.{Name, Step, text, words, judged, row, named, itemsIn, items}
-use Rattle.layout.specs.Fit.{all}
+use Rattle.layout.specs.WellFormed.{all}
 use Rattle.layout.proofs.Outs.{by-got, bad-got, got-inj}
 use Rattle.layout.proofs.PlaceLaws.{At, at-four, text-at}
 use Rattle.layout.proofs.StepLaws.{judged-got}
@@ -63,7 +63,7 @@ passes-unit (suc n) rs (w ∷ ws) =
 
 -- ---- words
 
-pub words-count : (start n p : ℕ) (s : List ℕ) (x : Step (List ℕ)) → words start n p s ≡ got x → length (x .value) ≡ n
+pub words-count : (start n p : ℕ) (s : List ℕ) (x : Step (List ℕ)) → words start n p s ≡ accept x → length (x .value) ≡ n
 unfolding words
 words-count start zero p s x e = sym (ap (λ (v : Step (List ℕ)). length (v .value)) (got-inj e))
 words-count start (suc n) p [] x e = bad-got e
@@ -86,56 +86,56 @@ module _ (file : List ℕ) where
   Outside n p = (n ≡ 6) × (holds unit (wordAt file p) ≡ false)
 
   -- the strict one, then the other; P: what passes
-  abbrev pub Held : {A : Type 0} → (A → Bool) → Out A → Out A → Type 0
-  Held P (got a) (got b) = (a ≡ b) × (P b ≡ true)
-  Held P (got a) (bad n p) = ⊥
-  Held P (bad n p) (got b) = Outside n p × (P b ≡ false)
-  Held P (bad n p) (bad m q) = ((n ≡ m) × (p ≡ q)) ⊎ Outside n p
+  abbrev pub Held : {A : Type 0} → (A → Bool) → Result A → Result A → Type 0
+  Held P (accept a) (accept b) = (a ≡ b) × (P b ≡ true)
+  Held P (accept a) (reject n p) = ⊥
+  Held P (reject n p) (accept b) = Outside n p × (P b ≡ false)
+  Held P (reject n p) (reject m q) = ((n ≡ m) × (p ≡ q)) ⊎ Outside n p
 
-  stopped : {A : Type 0} (P : A → Bool) (n p : ℕ) (o : Out A) → Outside n p → ((a : A) → o ≡ got a → P a ≡ false) → Held P (bad n p) o
-  stopped P n p (got a) e f = (e, f a refl)
-  stopped P n p (bad i q) e f = inr e
+  stopped : {A : Type 0} (P : A → Bool) (n p : ℕ) (o : Result A) → Outside n p → ((a : A) → o ≡ accept a → P a ≡ false) → Held P (reject n p) o
+  stopped P n p (accept a) e f = (e, f a refl)
+  stopped P n p (reject i q) e f = inr e
 
   -- one reading beside itself
-  pub same-held : {A : Type 0} (P : A → Bool) (o : Out A) → ((a : A) → o ≡ got a → P a ≡ true) → Held P o o
-  same-held P (got a) f = (refl, f a refl)
-  same-held P (bad n p) f = inl (refl, refl)
+  pub same-held : {A : Type 0} (P : A → Bool) (o : Result A) → ((a : A) → o ≡ accept a → P a ≡ true) → Held P o o
+  same-held P (accept a) f = (refl, f a refl)
+  same-held P (reject n p) f = inl (refl, refl)
 
   -- what passes, said otherwise
-  pub held-as : {A : Type 0} (P Q : A → Bool) (o o′ : Out A) → ((a : A) → o′ ≡ got a → Q a ≡ P a) → Held P o o′ → Held Q o o′
-  held-as P Q (got a) (got b) f h = (h .0, f b refl ∙ h .1)
-  held-as P Q (got a) (bad n p) f h = absurd h
-  held-as P Q (bad n p) (got b) f h = (h .0, f b refl ∙ h .1)
-  held-as P Q (bad n p) (bad m q) f h = h
+  pub held-as : {A : Type 0} (P Q : A → Bool) (o o′ : Result A) → ((a : A) → o′ ≡ accept a → Q a ≡ P a) → Held P o o′ → Held Q o o′
+  held-as P Q (accept a) (accept b) f h = (h .0, f b refl ∙ h .1)
+  held-as P Q (accept a) (reject n p) f h = absurd h
+  held-as P Q (reject n p) (accept b) f h = (h .0, f b refl ∙ h .1)
+  held-as P Q (reject n p) (reject m q) f h = h
 
   module _ {A B : Type 0} where
     -- a step that both take, then one each
-    pub first-held : (R : B → Bool) (m : Out A) (k k′ : A → Out B) → ((a : A) → m ≡ got a → Held R (k a) (k′ a)) → Held R (m >>= k) (m >>= k′)
-    first-held R (got a) k k′ f = f a refl
-    first-held R (bad n p) k k′ f = inl (refl, refl)
+    pub first-held : (R : B → Bool) (m : Result A) (k k′ : A → Result B) → ((a : A) → m ≡ accept a → Held R (k a) (k′ a)) → Held R (m >>= k) (m >>= k′)
+    first-held R (accept a) k k′ f = f a refl
+    first-held R (reject n p) k k′ f = inl (refl, refl)
 
     -- one step each, then one each: the first passes, or nothing that comes of it does
-    pub bind-held : (P : A → Bool) (R : B → Bool) (m m′ : Out A) (k k′ : A → Out B) → Held P m m′
-        → ((a : A) → m′ ≡ got a → P a ≡ true → Held R (k a) (k′ a))
-        → ((a : A) (b : B) → P a ≡ false → k′ a ≡ got b → R b ≡ false) → Held R (m >>= k) (m′ >>= k′)
-    bind-held P R (got a) (got b) k k′ h go fails = subst (λ (x : A). Held R (k x) (k′ b)) (sym (h .0)) (go b refl (h .1))
-    bind-held P R (got a) (bad n p) k k′ h go fails = absurd h
-    bind-held P R (bad n p) (got b) k k′ h go fails = stopped R n p (k′ b) (h .0) (λ c e. fails b c (h .1) e)
-    bind-held P R (bad n p) (bad i q) k k′ h go fails = h
+    pub bind-held : (P : A → Bool) (R : B → Bool) (m m′ : Result A) (k k′ : A → Result B) → Held P m m′
+        → ((a : A) → m′ ≡ accept a → P a ≡ true → Held R (k a) (k′ a))
+        → ((a : A) (b : B) → P a ≡ false → k′ a ≡ accept b → R b ≡ false) → Held R (m >>= k) (m′ >>= k′)
+    bind-held P R (accept a) (accept b) k k′ h go fails = subst (λ (x : A). Held R (k x) (k′ b)) (sym (h .0)) (go b refl (h .1))
+    bind-held P R (accept a) (reject n p) k k′ h go fails = absurd h
+    bind-held P R (reject n p) (accept b) k k′ h go fails = stopped R n p (k′ b) (h .0) (λ c e. fails b c (h .1) e)
+    bind-held P R (reject n p) (reject i q) k k′ h go fails = h
 
     -- one step each, then one that both take and that keeps what passes
-    pub then-held : (P : A → Bool) (R : B → Bool) (m m′ : Out A) (k : A → Out B) → Held P m m′
-        → ((a : A) (b : B) → k a ≡ got b → R b ≡ P a) → Held R (m >>= k) (m′ >>= k)
+    pub then-held : (P : A → Bool) (R : B → Bool) (m m′ : Result A) (k : A → Result B) → Held P m m′
+        → ((a : A) (b : B) → k a ≡ accept b → R b ≡ P a) → Held R (m >>= k) (m′ >>= k)
     then-held P R m m′ k h keeps =
         bind-held P R m m′ k k h (λ a e t. same-held R (k a) (λ b eb. keeps a b eb ∙ t)) (λ a b n e. keeps a b e ∙ n)
 
-    pub map-held : (P : A → Bool) (R : B → Bool) (f : A → B) (m m′ : Out A) → Held P m m′ → ((a : A) → R (f a) ≡ P a)
-        → Held R (m >>= λ a. got (f a)) (m′ >>= λ a. got (f a))
-    map-held P R f m m′ h keeps = then-held P R m m′ (λ a. got (f a)) h (λ a b e. ap R (sym (got-inj e)) ∙ keeps a)
+    pub map-held : (P : A → Bool) (R : B → Bool) (f : A → B) (m m′ : Result A) → Held P m m′ → ((a : A) → R (f a) ≡ P a)
+        → Held R (m >>= λ a. accept (f a)) (m′ >>= λ a. accept (f a))
+    map-held P R f m m′ h keeps = then-held P R m m′ (λ a. accept (f a)) h (λ a b e. ap R (sym (got-inj e)) ∙ keeps a)
 
   -- ---- rules
 
-  unit-held : {A : Type 0} (b c : Bool) (p : ℕ) (m m′ : Out A) → holds unit (wordAt file p) ≡ b → Held (λ _. c) m m′ → Held (λ _. b && c) (check b 6 p >>= λ _. m) m′
+  unit-held : {A : Type 0} (b c : Bool) (p : ℕ) (m m′ : Result A) → holds unit (wordAt file p) ≡ b → Held (λ _. c) m m′ → Held (λ _. b && c) (check b 6 p >>= λ _. m) m′
   unfolding check
   unit-held true c p m m′ w h = h
   unit-held false c p m m′ w h = stopped (λ _. false) 6 p m′ (refl, w) (λ a e. refl)
@@ -152,7 +152,7 @@ module _ (file : List ℕ) where
       let z : p ≡ p + 0 = omega arith in
       rw (byte 1, byte 2, byte 3, z, byte 0)
 
-  pub words-in : (start n p : ℕ) (b : List ℕ) (x : Step (List ℕ)) → At file p b → words start n p b ≡ got x → WordsIn p (x .value)
+  pub words-in : (start n p : ℕ) (b : List ℕ) (x : Step (List ℕ)) → At file p b → words start n p b ≡ accept x → WordsIn p (x .value)
   unfolding words
   words-in start zero p b x h e = subst (λ (y : Step (List ℕ)). WordsIn p (y .value)) (got-inj e) tt
   words-in start (suc n) p [] x h e = bad-got e
@@ -197,8 +197,8 @@ module _ (file : List ℕ) where
         (λ z ez. ap (λ (v : Step (Name × List ℕ)). P (v .value .1)) (sym (judged-got (map loose rs) (n .place) (x .value) y z ez)) ∙ says (x .value) (words-count p (length rs) (n .place) (n .left) x e))
         (judged-held rs (n .place) (x .value) y (words-in p (length rs) (n .place) (n .left) x (text-at file p p s n at en .0) e)))))
 
-  module _ {A : Type 0} (P : A → Bool) (one other : ℕ → List ℕ → Out (Step A)) (held : (p : ℕ) (s : List ℕ) → At file p s → Held (λ x. P (x .value)) (one p s) (other p s))
-      (stays : (p : ℕ) (s : List ℕ) (x : Step A) → At file p s → other p s ≡ got x → At file (x .place) (x .left)) where
+  module _ {A : Type 0} (P : A → Bool) (one other : ℕ → List ℕ → Result (Step A)) (held : (p : ℕ) (s : List ℕ) → At file p s → Held (λ x. P (x .value)) (one p s) (other p s))
+      (stays : (p : ℕ) (s : List ℕ) (x : Step A) → At file p s → other p s ≡ accept x → At file (x .place) (x .left)) where
     in-held : (f p : ℕ) (s : List ℕ) → At file p s → Held (all P) (itemsIn f one p s) (itemsIn f other p s)
     unfolding itemsIn
     in-held zero p [] at = (refl, refl)
@@ -217,34 +217,34 @@ module _ (file : List ℕ) where
 
   module _ {A : Type 0} (P : A → Bool) where
     -- the strict one gives nothing else than the other, and only what passes
-    pub held-got : (o o′ : Out A) (a : A) → Held P o o′ → o ≡ got a → (o′ ≡ got a) × T (P a)
-    held-got (got b) (got c) a h e =
+    pub held-got : (o o′ : Result A) (a : A) → Held P o o′ → o ≡ accept a → (o′ ≡ accept a) × T (P a)
+    held-got (accept b) (accept c) a h e =
         let q : c ≡ a = sym (h .0) ∙ got-inj e in
-        (ap got q, subst (λ (x : A). T (P x)) q (subst T (sym (h .1)) tt))
-    held-got (got b) (bad n p) a h e = absurd h
-    held-got (bad n p) o′ a h e = bad-got e
+        (ap accept q, subst (λ (x : A). T (P x)) q (subst T (sym (h .1)) tt))
+    held-got (accept b) (reject n p) a h e = absurd h
+    held-got (reject n p) o′ a h e = bad-got e
 
     -- and all that passes
-    pub held-yes : (o o′ : Out A) (a : A) → Held P o o′ → o′ ≡ got a → T (P a) → o ≡ got a
-    held-yes (got b) (got c) a h e t = ap got (h .0 ∙ got-inj e)
-    held-yes (got b) (bad n p) a h e t = absurd h
-    held-yes (bad n p) (got c) a h e t = absurd (subst T (h .1) (subst (λ (x : A). T (P x)) (sym (got-inj e)) t))
-    held-yes (bad n p) (bad m q) a h e t = bad-got e
+    pub held-yes : (o o′ : Result A) (a : A) → Held P o o′ → o′ ≡ accept a → T (P a) → o ≡ accept a
+    held-yes (accept b) (accept c) a h e t = ap accept (h .0 ∙ got-inj e)
+    held-yes (accept b) (reject n p) a h e t = absurd h
+    held-yes (reject n p) (accept c) a h e t = absurd (subst T (h .1) (subst (λ (x : A). T (P x)) (sym (got-inj e)) t))
+    held-yes (reject n p) (reject m q) a h e t = bad-got e
 
     -- what does not pass is refused with 6
-    pub held-no : (o o′ : Out A) (a : A) → Held P o o′ → o′ ≡ got a → T (not (P a)) → (p : ℕ) × (o ≡ bad 6 p) × (holds unit (wordAt file p) ≡ false)
-    held-no (got b) (got c) a h e t = absurd (subst (λ (x : Bool). T (not x)) (ap P (sym (got-inj e)) ∙ h .1) t)
-    held-no (got b) (bad n p) a h e t = absurd h
-    held-no (bad n p) (got c) a h e t = (p, ap (λ (i : ℕ). bad i p) (h .0 .0), h .0 .1)
-    held-no (bad n p) (bad m q) a h e t = bad-got e
+    pub held-no : (o o′ : Result A) (a : A) → Held P o o′ → o′ ≡ accept a → T (not (P a)) → (p : ℕ) × (o ≡ reject 6 p) × (holds unit (wordAt file p) ≡ false)
+    held-no (accept b) (accept c) a h e t = absurd (subst (λ (x : Bool). T (not x)) (ap P (sym (got-inj e)) ∙ h .1) t)
+    held-no (accept b) (reject n p) a h e t = absurd h
+    held-no (reject n p) (accept c) a h e t = (p, ap (λ (i : ℕ). reject i p) (h .0 .0), h .0 .1)
+    held-no (reject n p) (reject m q) a h e t = bad-got e
 
     -- another refusal is the other's too
-    pub held-bad : (o o′ : Out A) (n p : ℕ) → Held P o o′ → o ≡ bad n p → (o′ ≡ bad n p) ⊎ Outside n p
-    held-bad (got b) o′ n p h e = bad-got (sym e)
-    held-bad (bad i q) (got c) n p h e = let z : i ≡ n = cc in
+    pub held-bad : (o o′ : Result A) (n p : ℕ) → Held P o o′ → o ≡ reject n p → (o′ ≡ reject n p) ⊎ Outside n p
+    held-bad (accept b) o′ n p h e = bad-got (sym e)
+    held-bad (reject i q) (accept c) n p h e = let z : i ≡ n = cc in
         let y : q ≡ p = cc in
         inr (subst (λ (j : ℕ). Outside j p) z (subst (λ (r : ℕ). Outside i r) y (h .0)))
-    held-bad (bad i q) (bad j r) n p h e =
+    held-bad (reject i q) (reject j r) n p h e =
         let z : i ≡ n = cc in
         let y : q ≡ p = cc in
-        elim h [ inl x ↦ inl (ap₂ bad (sym (x .0) ∙ z) (sym (x .1) ∙ y)) | inr x ↦ inr (subst (λ (j : ℕ). Outside j p) z (subst (λ (k : ℕ). Outside i k) y x)) ]
+        elim h [ inl x ↦ inl (ap₂ reject (sym (x .0) ∙ z) (sym (x .1) ∙ y)) | inr x ↦ inr (subst (λ (j : ℕ). Outside j p) z (subst (λ (k : ℕ). Outside i k) y x)) ]

@@ -4,7 +4,7 @@ use native.Mathlib.Omega.{arith}
 use mathlib.Core.Bool.{Bool, true, false}
 use mathlib.Core.List.{List, [], _∷_}
 use lib.ListN.{length}
-use Rattle.layout.specs.Out.{Out, got, bad, check, _>>=_}
+use Rattle.layout.specs.Result.{Result, accept, reject, check, _>>=_}
 use Rattle.layout.specs.Rules.{Rule, any, upTo, exactly, names, namesOrNone, unit, holds, refusal}
 use Rattle.layout.specs.Parts.{words, judged, row}
 
@@ -12,17 +12,17 @@ abbrev pub OneToNine : ℕ → Type 0
 OneToNine n = (1 ≤ n) × (n ≤ 9)
 
 -- a value with P, or a refusal from 1 to 9
-abbrev pub Sane : {A : Type 0} → (A → Type 0) → Out A → Type 0
-Sane P (got a) = P a
-Sane P (bad n p) = OneToNine n
+abbrev pub Sane : {A : Type 0} → (A → Type 0) → Result A → Type 0
+Sane P (accept a) = P a
+Sane P (reject n p) = OneToNine n
 
 -- a value, or such a refusal
-abbrev pub Fair : {A : Type 0} → Out A → Type 0
+abbrev pub Fair : {A : Type 0} → Result A → Type 0
 Fair {A} o = Sane (λ (a : A). Unit {0}) o
 
-pub bind-fair : {A B : Type 0} (Q : B → Type 0) (m : Out A) (k : A → Out B) → Fair m → ((a : A) → Sane Q (k a)) → Sane Q (m >>= k)
-bind-fair Q (got a) k h f = f a
-bind-fair Q (bad n p) k h f = h
+pub bind-fair : {A B : Type 0} (Q : B → Type 0) (m : Result A) (k : A → Result B) → Fair m → ((a : A) → Sane Q (k a)) → Sane Q (m >>= k)
+bind-fair Q (accept a) k h f = f a
+bind-fair Q (reject n p) k h f = h
 
 pub check-fair : (b : Bool) (n p : ℕ) → OneToNine n → Fair (check b n p)
 unfolding check

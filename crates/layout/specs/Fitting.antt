@@ -1,4 +1,4 @@
--- What the tests of Fit say, as statements.
+-- What the tests of WellFormed say, as statements.
 use Prim.Native.Nat.{ℕ, _<_}
 use mathlib.Core.List.{List, [], _∷_}
 use lib.Dec.{T}

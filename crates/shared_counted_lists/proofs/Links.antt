@@ -11,7 +11,7 @@ use Rattle.wire.specs.Bytes.{wordAt}
 use Rattle.wire.specs.Cursors.{Inside, left}
 use Rattle.wire.specs.declared.Cursor.{Cursor}
 use Rattle.wire.proofs.Left.{left-length}
-use Rattle.layout.specs.Out.{got, check, _>>=_}
+use Rattle.layout.specs.Result.{accept, check, _>>=_}
 use Rattle.layout.specs.Parts.{wordsOf, judged, row}
 use Rattle.layout.specs.Rules.{any, namesOrNone, count, holds}
 use Rattle.layout.proofs.Outs.{bind-cong}
@@ -28,12 +28,12 @@ link-length front between limit = simp (length-append, length-replicate) (omega 
 -- two of the words are looked at
 pub link-judged : {A : Type 0} (front between limit p : ℕ) (ws : List ℕ) (a : A) → length ws ≡ front + between + 2
     → judged (linkRow front between limit) p ws a
-    ≡ (check (holds (namesOrNone limit) (getD ws front 0)) 7 (p + 4 * front) >>= λ _. check (holds count (getD ws (suc front + between) 0)) 6 (p + 4 * front + 4 + 4 * between) >>= λ _. got a)
+    ≡ (check (holds (namesOrNone limit) (getD ws front 0)) 7 (p + 4 * front) >>= λ _. check (holds count (getD ws (suc front + between) 0)) 6 (p + 4 * front + 4 + 4 * between) >>= λ _. accept a)
 unfolding judged
 link-judged front between limit p ws a l =
     let d = length-drop (suc front) ws in
     let g = getD-drop (suc front) ws between 0 in
-    let last : judged (replicate between any ++ (count ∷ [])) (p + 4 * front + 4) (drop (suc front) ws) a ≡ (check (holds count (getD ws (suc front + between) 0)) 6 (p + 4 * front + 4 + 4 * between) >>= λ _. got a) = judged-one between count [] (p + 4 * front + 4) (drop (suc front) ws) a (omega arith) ∙ rw g in
+    let last : judged (replicate between any ++ (count ∷ [])) (p + 4 * front + 4) (drop (suc front) ws) a ≡ (check (holds count (getD ws (suc front + between) 0)) 6 (p + 4 * front + 4 + 4 * between) >>= λ _. accept a) = judged-one between count [] (p + 4 * front + 4) (drop (suc front) ws) a (omega arith) ∙ rw g in
     judged-one front (namesOrNone limit) (replicate between any ++ (count ∷ [])) p ws a (omega arith)
     ∙ bind-cong (check (holds (namesOrNone limit) (getD ws front 0)) 7 (p + 4 * front)) (λ _ _. last)
 
@@ -47,7 +47,7 @@ module _ (s : List ℕ) (c : Cursor) (front between limit : ℕ) (inside : Insid
     words : row (linkRow front between limit) (c .at) (left c s)
         ≡ (check (holds (namesOrNone limit) (wordAt s (c .at + 4 * front))) 7 (c .at + 4 * front)
         >>= λ _. check (holds count (wordAt s (c .at + 4 * front + 4 + 4 * between))) 6 (c .at + 4 * front + 4 + 4 * between)
-        >>= λ _. got (record { value = wordsOf (front + between + 2) (left c s); place = c .at + 4 * (front + between + 2); left = drop (4 * (front + between + 2)) (left c s) }))
+        >>= λ _. accept (record { value = wordsOf (front + between + 2) (left c s); place = c .at + 4 * (front + between + 2); left = drop (4 * (front + between + 2)) (left c s) }))
     words =
         let n = front + between + 2 in
         let l = link-length front between limit in

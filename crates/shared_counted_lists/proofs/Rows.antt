@@ -8,7 +8,7 @@ use lib.ListN.{length, drop, length-append, length-replicate}
 use Rattle.wire.specs.Cursors.{Inside, left}
 use Rattle.wire.specs.declared.Cursor.{Cursor}
 use Rattle.wire.proofs.Left.{span, left-length, left-drop}
-use Rattle.layout.specs.Out.{Out, got, bad, _>>=_}
+use Rattle.layout.specs.Result.{Result, accept, reject, _>>=_}
 use Rattle.layout.specs.Parts.{Step, wordsOf, judged, row}
 use Rattle.layout.specs.Counted.{before, times}
 use Rattle.layout.specs.Rules.{names}
@@ -20,14 +20,14 @@ use Rattle.shared_counted_lists.specs.declared.Ran.the-variants as ran
 use Rattle.shared_ids.proofs.Ids.{row-good, row-bad}
 
 -- the rows from a place on
-abbrev pub rowsAt : List ℕ → ℕ → ℕ → ℕ → ℕ → ℕ → ℕ → Out (Step (List (List ℕ)))
+abbrev pub rowsAt : List ℕ → ℕ → ℕ → ℕ → ℕ → ℕ → ℕ → Result (Step (List (List ℕ)))
 rowsAt s words ids limit end n at = times n (row (idRow ids (words - ids) limit)) at (left (span at end) s)
 
 -- a value before others does not change where they end
-ran-before : {A : Type 0} (end : ℕ) (a : A) (o : Out (Step (List A))) → ranOf end (o >>= λ l. got (before a l)) ≡ ranOf end o
+ran-before : {A : Type 0} (end : ℕ) (a : A) (o : Result (Step (List A))) → ranOf end (o >>= λ l. accept (before a l)) ≡ ranOf end o
 unfolding before
-ran-before end a (got l) = refl
-ran-before end a (bad n p) = refl
+ran-before end a (accept l) = refl
+ran-before end a (reject n p) = refl
 
 -- rows have been passed up to a place, and so many are left
 pub record Passing (s : List ℕ) (words ids limit : ℕ) (from : Cursor) (count at more : ℕ) : Type 0 where

@@ -7,28 +7,28 @@ use lib.ListN.{length}
 use Rattle.wire.specs.Cursors.{Inside, left}
 use Rattle.wire.specs.declared.Cursor.{Cursor}
 use Rattle.wire.proofs.Left.{left-drop}
-use Rattle.layout.specs.Out.{Out, got, bad, _>>=_}
+use Rattle.layout.specs.Result.{Result, accept, reject, _>>=_}
 use Rattle.layout.specs.Parts.{Step}
-use Rattle.layout.proofs.CountLaws.{Moves}
+use Rattle.layout.proofs.CountLaws.{Advances}
 use Rattle.shared_counted_lists.specs.Runs.{ranOf, Passes, Runs}
 use Rattle.shared_counted_lists.specs.declared.Ran.{Ran}
 use Rattle.shared_counted_lists.specs.declared.Ran.the-variants as ran
 
 -- what was read up to n, the end being c's
-pub record Read {A : Type 0} (s : List ℕ) (o : Out (Step A)) (c n : Cursor) : Type 0 where
+pub record Read {A : Type 0} (s : List ℕ) (o : Result (Step A)) (c n : Cursor) : Type 0 where
   pub value : A
-  pub is : o ≡ got (record { value = value; place = n .at; left = left n s })
+  pub is : o ≡ accept (record { value = value; place = n .at; left = left n s })
 
-pub ran-bad : {A : Type 0} (end : ℕ) (o : Out (Step A)) (e p : ℕ) → ranOf end o ≡ ran.Not e p → o ≡ bad e p
-ran-bad end (got x) e p q = let z : _≡_ {A = ℕ} 0 1 = cc in absurd (omega arith)
-ran-bad end (bad n m) e p q = let a : n ≡ e = cc in let b : m ≡ p = cc in rw (a, b)
+pub ran-bad : {A : Type 0} (end : ℕ) (o : Result (Step A)) (e p : ℕ) → ranOf end o ≡ ran.Not e p → o ≡ reject e p
+ran-bad end (accept x) e p q = let z : _≡_ {A = ℕ} 0 1 = cc in absurd (omega arith)
+ran-bad end (reject n m) e p q = let a : n ≡ e = cc in let b : m ≡ p = cc in rw (a, b)
 
-ran-got : {A : Type 0} (end : ℕ) (o : Out (Step A)) (n : Cursor) → ranOf end o ≡ ran.To n → (x : Step A) × (o ≡ got x) × (record { at = x .place; end = end } ≡ n)
-ran-got end (got x) n q = (x, refl, cc)
-ran-got end (bad m p) n q = let z : _≡_ {A = ℕ} 0 1 = cc in absurd (omega arith)
+ran-got : {A : Type 0} (end : ℕ) (o : Result (Step A)) (n : Cursor) → ranOf end o ≡ ran.To n → (x : Step A) × (o ≡ accept x) × (record { at = x .place; end = end } ≡ n)
+ran-got end (accept x) n q = (x, refl, cc)
+ran-got end (reject m p) n q = let z : _≡_ {A = ℕ} 0 1 = cc in absurd (omega arith)
 
-module _ {A : Type 0} (o : Out (Step A)) (c : Cursor) (k : ℕ) (r : Ran) (v : Runs o c k r) where
-  pub runs-bad : (e p : ℕ) → r ≡ ran.Not e p → o ≡ bad e p
+module _ {A : Type 0} (o : Result (Step A)) (c : Cursor) (k : ℕ) (r : Ran) (v : Runs o c k r) where
+  pub runs-bad : (e p : ℕ) → r ≡ ran.Not e p → o ≡ reject e p
   runs-bad e p w = ran-bad (c .end) o e p (sym (v .is) ∙ w)
 
   pub runs-place : (e p : ℕ) → r ≡ ran.Not e p → p ≤ c .end
@@ -47,15 +47,15 @@ passes-then c n k j (ran.To m) h p = (omega arith, p .1, p .2 ∙ h .2)
 passes-then c n k j (ran.Not e q) h p = omega arith
 
 -- another value does not change where a reading ends
-pub ran-as : {A B : Type 0} (end : ℕ) (f : A → B) (o : Out (Step A)) → ranOf end (o >>= λ x. got (record { value = f (x .value); place = x .place; left = x .left })) ≡ ranOf end o
-ran-as end f (got x) = refl
-ran-as end f (bad n p) = refl
+pub ran-as : {A B : Type 0} (end : ℕ) (f : A → B) (o : Result (Step A)) → ranOf end (o >>= λ x. accept (record { value = f (x .value); place = x .place; left = x .left })) ≡ ranOf end o
+ran-as end f (accept x) = refl
+ran-as end f (reject n p) = refl
 
-pub same-step : (A : Type 0) (a : A) (p q : ℕ) (s t : List ℕ) → p ≡ q → s ≡ t → _≡_ {A = Out (Step A)} (got (record { value = a; place = p; left = s })) (got (record { value = a; place = q; left = t }))
+pub same-step : (A : Type 0) (a : A) (p q : ℕ) (s t : List ℕ) → p ≡ q → s ≡ t → _≡_ {A = Result (Step A)} (accept (record { value = a; place = p; left = s })) (accept (record { value = a; place = q; left = t }))
 same-step A a p q s t e f = rw (e, f)
 
 -- the same of a reading at a cursor
-module _ {A : Type 0} (read : ℕ → List ℕ → Out (Step A)) (moves : Moves read) (s : List ℕ) (c : Cursor) (inside : Inside c (length s)) (k : ℕ) (r : Ran)
+module _ {A : Type 0} (read : ℕ → List ℕ → Result (Step A)) (moves : Advances read) (s : List ℕ) (c : Cursor) (inside : Inside c (length s)) (k : ℕ) (r : Ran)
     (v : Runs (read (c .at) (left c s)) c k r) (n : Cursor) (w : r ≡ ran.To n) where
   pub runs-read : Read s (read (c .at) (left c s)) c n
   runs-read =

@@ -8,10 +8,10 @@ use lib.ListN.{length}
 use Rattle.wire.specs.Cursors.{Inside, left}
 use Rattle.wire.specs.declared.Cursor.{Cursor}
 use Rattle.wire.proofs.Left.{left-drop}
-use Rattle.layout.specs.Out.{Out, got, bad}
+use Rattle.layout.specs.Result.{Result, accept, reject}
 use Rattle.layout.specs.Parts.{Step}
 use Rattle.layout.specs.Counted.{times}
-use Rattle.layout.proofs.CountLaws.{Moves}
+use Rattle.layout.proofs.CountLaws.{Advances}
 use Rattle.shared_counted_lists.specs.Sums.{summedOf, SumPasses, Sums}
 use Rattle.shared_counted_lists.specs.declared.Summed.{Summed}
 use Rattle.shared_counted_lists.specs.declared.Summed.the-variants as summed
@@ -20,25 +20,25 @@ use Rattle.shared_counted_lists.proofs.Walks.{mapped, Walk, walk-start,
 
 -- ---- answers
 
-pub summed-bad : {A : Type 0} (f : A → ℕ) (end : ℕ) (o : Out (Step A)) (e p : ℕ) → summed.Not e p ≡ summedOf f end o → o ≡ bad e p
-summed-bad f end (got x) e p q = let z : _≡_ {A = ℕ} 0 1 = cc in absurd (omega arith)
-summed-bad f end (bad n m) e p q = let a : n ≡ e = cc in let b : m ≡ p = cc in rw (a, b)
+pub summed-bad : {A : Type 0} (f : A → ℕ) (end : ℕ) (o : Result (Step A)) (e p : ℕ) → summed.Not e p ≡ summedOf f end o → o ≡ reject e p
+summed-bad f end (accept x) e p q = let z : _≡_ {A = ℕ} 0 1 = cc in absurd (omega arith)
+summed-bad f end (reject n m) e p q = let a : n ≡ e = cc in let b : m ≡ p = cc in rw (a, b)
 
-pub summed-got : {A : Type 0} (f : A → ℕ) (end : ℕ) (o : Out (Step A)) (j : ℕ) (n : Cursor) → summed.To j n ≡ summedOf f end o
-    → (x : Step A) × (o ≡ got x) × (j ≡ f (x .value)) × (n ≡ record { at = x .place; end = end })
-summed-got f end (got x) j n q = (x, refl, cc, cc)
-summed-got f end (bad m p) j n q = let z : _≡_ {A = ℕ} 0 1 = cc in absurd (omega arith)
+pub summed-got : {A : Type 0} (f : A → ℕ) (end : ℕ) (o : Result (Step A)) (j : ℕ) (n : Cursor) → summed.To j n ≡ summedOf f end o
+    → (x : Step A) × (o ≡ accept x) × (j ≡ f (x .value)) × (n ≡ record { at = x .place; end = end })
+summed-got f end (accept x) j n q = (x, refl, cc, cc)
+summed-got f end (reject m p) j n q = let z : _≡_ {A = ℕ} 0 1 = cc in absurd (omega arith)
 
-pub summed-place : {A : Type 0} (f : A → ℕ) (o : Out (Step A)) (c : Cursor) (k : ℕ) (r : Summed) → Sums f o c k r → (e p : ℕ) → r ≡ summed.Not e p → p ≤ c .end
+pub summed-place : {A : Type 0} (f : A → ℕ) (o : Result (Step A)) (c : Cursor) (k : ℕ) (r : Summed) → Sums f o c k r → (e p : ℕ) → r ≡ summed.Not e p → p ≤ c .end
 summed-place f o c k r b e p q = rw q at (b .passes)
 
 -- what was read up to n, with so many entries
-pub record SumRead {A : Type 0} (count : A → ℕ) (s : List ℕ) (o : Out (Step A)) (j : ℕ) (n : Cursor) : Type 0 where
+pub record SumRead {A : Type 0} (count : A → ℕ) (s : List ℕ) (o : Result (Step A)) (j : ℕ) (n : Cursor) : Type 0 where
   pub value : A
-  pub is : o ≡ got (record { value = value; place = n .at; left = left n s })
+  pub is : o ≡ accept (record { value = value; place = n .at; left = left n s })
   pub many : j ≡ count value
 
-module _ {A : Type 0} (count : A → ℕ) (read : ℕ → List ℕ → Out (Step A)) (moves : Moves read) (s : List ℕ) (c : Cursor) (k : ℕ) (r : Summed)
+module _ {A : Type 0} (count : A → ℕ) (read : ℕ → List ℕ → Result (Step A)) (moves : Advances read) (s : List ℕ) (c : Cursor) (k : ℕ) (r : Summed)
     (v : Sums count (read (c .at) (left c s)) c k r) (j : ℕ) (n : Cursor) (w : r ≡ summed.To j n) where
   pub summed-passed : SumPasses c k (summed.To j n)
   summed-passed = rw w at (v .passes)
@@ -56,21 +56,21 @@ module _ {A : Type 0} (count : A → ℕ) (read : ℕ → List ℕ → Out (Step
 -- ---- items
 
 -- how the entries that items hold are counted
-pub record Adds {A : Type 0} (item : ℕ → List ℕ → Out (Step A)) (count : A → ℕ) (total : List A → ℕ) : Type 0 where
-  pub moves : Moves item
+pub record Adds {A : Type 0} (item : ℕ → List ℕ → Result (Step A)) (count : A → ℕ) (total : List A → ℕ) : Type 0 where
+  pub moves : Advances item
   pub one : (a : A) (l : List A) → total (a ∷ l) ≡ count a + total l
 
 -- items of at least k bytes have been passed up to c, with so many entries; so many items are left
-pub record Summing {A : Type 0} (item : ℕ → List ℕ → Out (Step A)) (total : List A → ℕ) (k : ℕ) (s : List ℕ) (n : ℕ) (from c : Cursor) (more sum : ℕ) : Type 0 where
+pub record Summing {A : Type 0} (item : ℕ → List ℕ → Result (Step A)) (total : List A → ℕ) (k : ℕ) (s : List ℕ) (n : ℕ) (from c : Cursor) (more sum : ℕ) : Type 0 where
   pub walk : Walk item (λ j l. j + total l) s n from c 0 more sum
   pub few : from .at + 4 * sum ≤ c .at
   pub passed : from .at + n * k + 4 * sum ≤ c .at + more * k
 
-from-none : {A : Type 0} (total : A → ℕ) (end : ℕ) (o : Out (Step A)) → summedOf total end o ≡ summedOf (λ j. j) end (mapped (λ a. 0 + total a) o)
-from-none total end (got x) = let e : total (x .value) ≡ 0 + total (x .value) = omega arith in ap (λ (j : ℕ). summed.To j (record { at = x .place; end = end })) e
-from-none total end (bad n p) = refl
+from-none : {A : Type 0} (total : A → ℕ) (end : ℕ) (o : Result (Step A)) → summedOf total end o ≡ summedOf (λ j. j) end (mapped (λ a. 0 + total a) o)
+from-none total end (accept x) = let e : total (x .value) ≡ 0 + total (x .value) = omega arith in ap (λ (j : ℕ). summed.To j (record { at = x .place; end = end })) e
+from-none total end (reject n p) = refl
 
-module _ {A : Type 0} (item : ℕ → List ℕ → Out (Step A)) (total : List A → ℕ) (k : ℕ) (s : List ℕ) (n : ℕ) (from : Cursor) where
+module _ {A : Type 0} (item : ℕ → List ℕ → Result (Step A)) (total : List A → ℕ) (k : ℕ) (s : List ℕ) (n : ℕ) (from : Cursor) where
   pub sums-start : Inside from (length s) → Summing item total k s n from from n 0
   sums-start i = record { walk = walk-start item (λ j l. j + total l) s n from 0 i; few = omega arith; passed = omega arith }
 

@@ -2,15 +2,15 @@
 use Prim.Native.Nat.{ℕ, _+_, _*_, _≤_}
 use mathlib.Core.Path.{_≡_}
 use Rattle.wire.specs.declared.Cursor.{Cursor}
-use Rattle.layout.specs.Out.{Out, got, bad}
+use Rattle.layout.specs.Result.{Result, accept, reject}
 use Rattle.layout.specs.Parts.{Step}
 use Rattle.shared_counted_lists.specs.declared.Summed.{Summed}
 use Rattle.shared_counted_lists.specs.declared.Summed.the-variants as summed
 
 -- what code answers for what was read: how many entries it has, by `count`, and the cursor after it, up to the same end; or the refusal
-abbrev pub summedOf : {A : Type 0} → (A → ℕ) → ℕ → Out (Step A) → Summed
-summedOf count end (got x) = summed.To (count (x .value)) (record { at = x .place; end = end })
-summedOf count end (bad n p) = summed.Not n p
+abbrev pub summedOf : {A : Type 0} → (A → ℕ) → ℕ → Result (Step A) → Summed
+summedOf count end (accept x) = summed.To (count (x .value)) (record { at = x .place; end = end })
+summedOf count end (reject n p) = summed.Not n p
 
 -- at least k bytes after c were passed, and four for each entry, up to the same end; a refusal's place is not past the end
 abbrev pub SumPasses : Cursor → ℕ → Summed → Type 0
@@ -18,7 +18,7 @@ SumPasses c k (summed.To j n) = (c .at + k + 4 * j ≤ n .at) × (n .at ≤ n .e
 SumPasses c k (summed.Not e p) = p ≤ c .end
 
 -- r is what code answers for o, which was read at c and has at least k bytes and four for each entry
-pub record Sums {A : Type 0} (count : A → ℕ) (o : Out (Step A)) (c : Cursor) (k : ℕ) (r : Summed) : Type 0 where
+pub record Sums {A : Type 0} (count : A → ℕ) (o : Result (Step A)) (c : Cursor) (k : ℕ) (r : Summed) : Type 0 where
   -- r is o's number of entries and cursor, or its refusal
   pub is : r ≡ summedOf count (c .end) o
   -- at least these bytes were passed

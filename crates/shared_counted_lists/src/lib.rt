@@ -35,7 +35,7 @@ pub fn id_rows(s: &[u8], from: Cursor, count: usize, words: usize, ids: usize, l
         if end - at < size {
             return Ran::Not(5, at);
         }
-        let good = shared_ids::first_bad(s, Cursor { at, end }, ids, limit, false);
+        let good = shared_ids::first_invalid(s, Cursor { at, end }, ids, limit, false);
         if good < ids {
             return Ran::Not(7, at + 4 * good);
         }
@@ -58,7 +58,7 @@ pub fn link_row(s: &[u8], c: Cursor, front: usize, between: usize, limit: usize)
         return Ran::Not(5, at);
     }
     let id = at + 4 * front;
-    if !shared_ids::id_named(wire::number_at(s, id), limit, true) {
+    if !shared_ids::id_valid(wire::number_at(s, id), limit, true) {
         return Ran::Not(7, id);
     }
     let last = id + 4 + 4 * between;

@@ -1,4 +1,4 @@
--- Ids: the answers of `id_named` and `first_bad`, and what they say of a row's rules.
+-- Ids: the answers of `id_valid` and `first_invalid`, and what they say of a row's rules.
 use Prim.Native.Nat.{ℕ, zero, suc, _+_, _*_, _<_, _≤_}
 use native.Mathlib.Omega.{arith}
 use mathlib.Core.Bool.{Bool, true, false, not, _||_}
@@ -14,7 +14,7 @@ use Rattle.wire.specs.Bytes.{wordAt}
 use Rattle.wire.specs.Cursors.{Inside, left}
 use Rattle.wire.specs.declared.Cursor.{Cursor}
 use Rattle.wire.proofs.Found.{left-length, left-drop}
-use Rattle.layout.specs.Out.{got, bad, check}
+use Rattle.layout.specs.Result.{accept, reject, check}
 use Rattle.layout.specs.Parts.{wordsOf, judged}
 use Rattle.layout.specs.Rules.{NONE, Rule, any, names, count, holds, refusal}
 use Rattle.layout.proofs.Outs.{by-test}
@@ -141,7 +141,7 @@ module _ {A : Type 0} (r : Rule) where
 
   -- one of them does not
   pub ids-stop : (n p : ℕ) (ws vs : List ℕ) (rs : List Rule) (a : A) → length ws ≡ n → firstBad r ws < n
-      → judged (replicate n r ++ rs) p (ws ++ vs) a ≡ bad (refusal r) (p + 4 * firstBad r ws)
+      → judged (replicate n r ++ rs) p (ws ++ vs) a ≡ reject (refusal r) (p + 4 * firstBad r ws)
   unfolding judged check firstBad if
   ids-stop zero p ws vs rs a l e = absurd (omega arith)
   ids-stop (suc n) p [] vs rs a l e = absurd (omega arith)
@@ -151,25 +151,25 @@ module _ {A : Type 0} (r : Rule) where
       let q : p + 4 + 4 * firstBad r ws ≡ p + 4 * suc (firstBad r ws) = omega arith in
       rw (h, ← q) (ids-stop n (p + 4) ws vs rs a (omega arith) (omega arith)))
       (λ h. let q : p ≡ p + 4 * 0 = omega arith in
-      rw h (ap (bad (refusal r)) q))
+      rw h (ap (reject (refusal r)) q))
 
   module _ (n p : ℕ) (ws : List ℕ) (a : A) (l : length ws ≡ n) where
-    pub ids-good : firstBad r ws ≡ n → judged (replicate n r) p ws a ≡ got a
+    pub ids-good : firstBad r ws ≡ n → judged (replicate n r) p ws a ≡ accept a
     unfolding judged
     ids-good e = simp append-nil at (ids-pass n p ws [] [] a l e)
 
-    pub ids-bad : firstBad r ws < n → judged (replicate n r) p ws a ≡ bad (refusal r) (p + 4 * firstBad r ws)
+    pub ids-bad : firstBad r ws < n → judged (replicate n r) p ws a ≡ reject (refusal r) (p + 4 * firstBad r ws)
     ids-bad e = simp append-nil at (ids-stop n p ws [] [] a l e)
 
 -- ids, and then words that are not looked at
 module _ {A : Type 0} (m n k p : ℕ) (l : List ℕ) (a : A) (h : 4 * n ≤ length l) where
-  pub row-good : firstBad (names m) (wordsOf n l) ≡ n → judged (idRow n k m) p (wordsOf (n + k) l) a ≡ got a
+  pub row-good : firstBad (names m) (wordsOf n l) ≡ n → judged (idRow n k m) p (wordsOf (n + k) l) a ≡ accept a
   row-good e = rw (words-add n k l h, ids-pass (names m) n p (wordsOf n l) (wordsOf k (drop (4 * n) l)) (replicate k any) a (length-words-of n l h) e) (judged-any k (p + 4 * n) (wordsOf k (drop (4 * n) l)) a)
 
-  pub row-bad : firstBad (names m) (wordsOf n l) < n → judged (idRow n k m) p (wordsOf (n + k) l) a ≡ bad 7 (p + 4 * firstBad (names m) (wordsOf n l))
+  pub row-bad : firstBad (names m) (wordsOf n l) < n → judged (idRow n k m) p (wordsOf (n + k) l) a ≡ reject 7 (p + 4 * firstBad (names m) (wordsOf n l))
   row-bad e = rw (words-add n k l h) (ids-stop (names m) n p (wordsOf n l) (wordsOf k (drop (4 * n) l)) (replicate k any) a (length-words-of n l h) e)
 
--- words at w that are not looked at, and then ids, at d; g is the answer of `first_bad` there
+-- words at w that are not looked at, and then ids, at d; g is the answer of `first_invalid` there
 module _
     {A : Type 0} (s : List ℕ) (w d : Cursor) (r : Rule) (k n : ℕ) (a : A) (i : Inside w (length s)) (room : w .at + 4 * (k + n) ≤ w .end)
     (to : d .at ≡ w .at + 4 * k) (same : d .end ≡ w .end) (g : ℕ) (e : g ≡ firstBad r (wordsOf n (left d s))) where
@@ -181,10 +181,10 @@ module _
   long-ids : length (wordsOf n (left d s)) ≡ n
   long-ids = length-words-of n (left d s) (omega (arith, left-length s d (omega arith)))
 
-  pub after-good : n ≤ g → g ≤ n → judged (replicate k any ++ replicate n r) (w .at) (wordsOf (k + n) (left w s)) a ≡ got a
+  pub after-good : n ≤ g → g ≤ n → judged (replicate k any ++ replicate n r) (w .at) (wordsOf (k + n) (left w s)) a ≡ accept a
   after-good h q = after ∙ ids-good r n (d .at) (wordsOf n (left d s)) a long-ids (omega arith)
 
-  pub after-bad : g < n → judged (replicate k any ++ replicate n r) (w .at) (wordsOf (k + n) (left w s)) a ≡ bad (refusal r) (d .at + 4 * g)
+  pub after-bad : g < n → judged (replicate k any ++ replicate n r) (w .at) (wordsOf (k + n) (left w s)) a ≡ reject (refusal r) (d .at + 4 * g)
   after-bad h = rw e (after ∙ ids-bad r n (d .at) (wordsOf n (left d s)) a long-ids (omega arith))
 
 -- a count is an id below a limit

@@ -9,7 +9,7 @@ ghost use Rattle.shared_ids.specs.Ids.{idRule, firstBad};
 use wire::Cursor;
 
 // Returns whether `id` names one of `limit` entries, which count from 0; -1 too if `absent` is set.
-pub fn id_named(id: u32, limit: usize, absent: bool) -> bool
+pub fn id_valid(id: u32, limit: usize, absent: bool) -> bool
     ensures { λ r. ⌜ r ≡ holds (idRule absent limit) id ⌝ }
 {
     if wire::size(id) < limit {
@@ -23,7 +23,7 @@ pub fn id_named(id: u32, limit: usize, absent: bool) -> bool
 
 // Returns how many of the first `n` words that `c` has left are right ids before the first that is not: they are below `limit`, or -1 if `absent` is set.
 // Returns `n` if all are.
-pub fn first_bad(s: &[u8], c: Cursor, n: usize, limit: usize, absent: bool) -> usize
+pub fn first_invalid(s: &[u8], c: Cursor, n: usize, limit: usize, absent: bool) -> usize
     requires { ⌜ Inside c (length (now s)) × (c .at + 4 * n ≤ c .end) × (n ≤ 64) ⌝ }
     ensures { λ r. ⌜ (r ≡ firstBad (idRule absent limit) (wordsOf n (left c (now (s .entry))))) × (r ≤ n) ⌝ }
 {
@@ -31,7 +31,7 @@ pub fn first_bad(s: &[u8], c: Cursor, n: usize, limit: usize, absent: bool) -> u
     let mut i: usize = 0;
     while i < n {
         let id = wire::number_at(s, start + 4 * i);
-        if !id_named(id, limit, absent) {
+        if !id_valid(id, limit, absent) {
             return i;
         }
         i += 1;

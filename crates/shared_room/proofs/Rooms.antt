@@ -9,7 +9,7 @@ use lib.Dec.{leb, ltb, ltb→lt, nltb→le}
 use borrow.Author.Tests.{lt-leb, le-leb, lt-ltb, le-ltb}
 use Rattle.wire.specs.Test.{if}
 use Rattle.layout.specs.Lists.{All}
-use Rattle.layout.specs.Out.{got, bad, check}
+use Rattle.layout.specs.Result.{accept, reject, check}
 use Rattle.layout.specs.Rows.{eachOf}
 use Rattle.layout.proofs.Outs.{by-test, if-yes, if-no}
 use Rattle.shared_room.specs.Rooms.{firstShort}
@@ -50,7 +50,7 @@ module _ (width count room : ℕ → ℕ) where
       (λ t. rw (if-no (short k) k (firstShort width count room ks) t) (short-at-most n ks (h .1)))
 
   -- the first that is too short is refused
-  pub each-short : (e : ℕ) (ks : List ℕ) → (firstShort width count room ks ≡ 0 → ⊥) → eachOf e fits ks ≡ bad e (firstShort width count room ks)
+  pub each-short : (e : ℕ) (ks : List ℕ) → (firstShort width count room ks ≡ 0 → ⊥) → eachOf e fits ks ≡ reject e (firstShort width count room ks)
   unfolding firstShort eachOf check
   each-short e [] d = absurd (d refl)
   each-short e (k ∷ ks) d =
@@ -60,7 +60,7 @@ module _ (width count room : ℕ → ℕ) where
       rw (le-leb (width k * count k) (room k) (nltb→le (room k) (width k * count k) t), z) (each-short e ks (λ q. d (z ∙ q))))
 
   -- where there is none, each has room
-  pub each-room : (e : ℕ) (ks : List ℕ) → All (λ (k : ℕ). 0 < k) ks → firstShort width count room ks ≡ 0 → eachOf e fits ks ≡ got tt
+  pub each-room : (e : ℕ) (ks : List ℕ) → All (λ (k : ℕ). 0 < k) ks → firstShort width count room ks ≡ 0 → eachOf e fits ks ≡ accept tt
   unfolding firstShort eachOf check
   each-room e [] h q = refl
   each-room e (k ∷ ks) h q =

@@ -5,7 +5,7 @@ ghost use lib.Dec.{ltb};
 ghost use Rattle.wire.specs.Test.{if};
 
 // Returns `k` if `rows` rows of `width` words do not fit in `room` words, else `later`.
-pub fn short_or(k: usize, width: usize, rows: usize, room: usize, later: usize) -> usize
+pub fn short_table_or(k: usize, width: usize, rows: usize, room: usize, later: usize) -> usize
     requires { ⌜ 0 < width ⌝ }
     ensures { λ r. ⌜ r ≡ if (ltb room (width * rows)) k later ⌝ }
 {

@@ -3,7 +3,7 @@ use mathlib.Core.Path.{_≡_, refl}
 use Prim.Native.Nat.{ℕ}
 use mathlib.Core.List.{List, [], _∷_, map}
 use Rattle.wire.specs.Test.{if}
-use Rattle.layout.specs.Out.{Out, got, bad, check}
+use Rattle.layout.specs.Result.{Result, accept, reject, check}
 use Rattle.layout.specs.Parts.{Step}
 use Rattle.shared_seven_bit_groups.specs.Groups.{frontIn, front, groups, groupsOf, goesOn, last, readIn, readNumber}
 
@@ -32,37 +32,37 @@ forms-hold = refl
 pub record Case : Type 0 where
   pub most : ℕ
   pub from : List ℕ
-  pub gives : Out (Step ℕ)
+  pub gives : Result (Step ℕ)
 
 -- a number up to the place after it, and what is left
-abbrev pub is : ℕ → ℕ → List ℕ → Out (Step ℕ)
-is n p r = got (record { value = n; place = p; left = r })
+abbrev pub is : ℕ → ℕ → List ℕ → Result (Step ℕ)
+is n p r = accept (record { value = n; place = p; left = r })
 
 abbrev pub cases : List Case
 cases =
     -- a number, with bytes after it
     record { most = 16383; from = 0x81 ∷ 0x00 ∷ 0x05 ∷ []; gives = is 128 9 (0x05 ∷ []) }
     -- cut: at the end of the bytes
-    ∷ record { most = 16383; from = []; gives = bad 13 7 }
-    ∷ record { most = 16383; from = 0x81 ∷ []; gives = bad 13 8 }
+    ∷ record { most = 16383; from = []; gives = reject 13 7 }
+    ∷ record { most = 16383; from = 0x81 ∷ []; gives = reject 13 8 }
     -- an empty first group is wrong at once: a longer form
-    ∷ record { most = 16383; from = 0x80 ∷ []; gives = bad 13 7 }
-    ∷ record { most = 16383; from = 0x80 ∷ 0x05 ∷ []; gives = bad 13 7 }
+    ∷ record { most = 16383; from = 0x80 ∷ []; gives = reject 13 7 }
+    ∷ record { most = 16383; from = 0x80 ∷ 0x05 ∷ []; gives = reject 13 7 }
     -- a top bit where no further group is allowed is wrong at once
-    ∷ record { most = 16383; from = 0x81 ∷ 0x80 ∷ []; gives = bad 13 7 }
-    ∷ record { most = 2097151; from = 0x81 ∷ 0x80 ∷ []; gives = bad 13 9 }
-    ∷ record { most = 99; from = 0x81 ∷ []; gives = bad 13 7 }
+    ∷ record { most = 16383; from = 0x81 ∷ 0x80 ∷ []; gives = reject 13 7 }
+    ∷ record { most = 2097151; from = 0x81 ∷ 0x80 ∷ []; gives = reject 13 9 }
+    ∷ record { most = 99; from = 0x81 ∷ []; gives = reject 13 7 }
     -- a group out of range
     ∷ record { most = 99; from = 0x63 ∷ []; gives = is 99 8 [] }
-    ∷ record { most = 99; from = 0x64 ∷ []; gives = bad 13 7 }
+    ∷ record { most = 99; from = 0x64 ∷ []; gives = reject 13 7 }
     -- first groups that no last group can bring into range are wrong at once
-    ∷ record { most = 300; from = 0x82 ∷ []; gives = bad 13 8 }
+    ∷ record { most = 300; from = 0x82 ∷ []; gives = reject 13 8 }
     ∷ record { most = 300; from = 0x82 ∷ 0x2C ∷ []; gives = is 300 9 [] }
-    ∷ record { most = 300; from = 0x82 ∷ 0x2D ∷ []; gives = bad 13 7 }
-    ∷ record { most = 300; from = 0x83 ∷ []; gives = bad 13 7 }
+    ∷ record { most = 300; from = 0x82 ∷ 0x2D ∷ []; gives = reject 13 7 }
+    ∷ record { most = 300; from = 0x83 ∷ []; gives = reject 13 7 }
     -- numbers of four bytes
     ∷ record { most = 4294967295; from = 0x8F ∷ 0xFF ∷ 0xFF ∷ 0xFF ∷ 0x7F ∷ []; gives = is 4294967295 12 [] }
-    ∷ record { most = 4294967295; from = 0x90 ∷ 0x80 ∷ 0x80 ∷ 0x80 ∷ []; gives = bad 13 7 }
+    ∷ record { most = 4294967295; from = 0x90 ∷ 0x80 ∷ 0x80 ∷ 0x80 ∷ []; gives = reject 13 7 }
     ∷ []
 
 pub cases-hold : map (λ c. readNumber (c .most) 7 (c .from)) cases ≡ map (λ c. c .gives) cases

@@ -8,7 +8,7 @@ use native.Mathlib.Omega.{arith}
 use mathlib.Core.List.{List, [], _∷_, _++_}
 use lib.ListN.{length, drop, getD, set, length-set, length-append, drop-of-length-le}
 use lib.Seq.{sets, drop-cons}
-use Rattle.layout.specs.Out.{Out, bad, check, _>>=_}
+use Rattle.layout.specs.Result.{Result, reject, check, _>>=_}
 use Rattle.layout.specs.Parts.{Step}
 use Rattle.shared_seven_bit_groups.specs.Groups.{front, groups, groupsOf, goesOn, last, readIn, readNumber, grouped}
 use Rattle.shared_seven_bit_groups.specs.Puts.{PutAt}
@@ -109,12 +109,12 @@ module _ (s : List ℕ) (at most : ℕ) where
   groups-start left e = record { rest = rw e; low = omega arith }
 
   module _ (left v p : ℕ) (g : GroupsLeft s at most left v p) where
-    gives : (o : Out (Step ℕ)) → readIn at most left v p (drop p s) ≡ o → (r : Grouped) → r ≡ grouped o → r ≡ grouped (readNumber most at (drop at s))
+    gives : (o : Result (Step ℕ)) → readIn at most left v p (drop p s) ≡ o → (r : Grouped) → r ≡ grouped o → r ≡ grouped (readNumber most at (drop at s))
     gives o e r h = h ∙ ap grouped (sym e ∙ g .rest)
 
     pub no-group : left ≤ 0 → number.Not 13 at ≡ grouped (readNumber most at (drop at s))
     unfolding readIn
-    no-group h = let z : left ≡ 0 = omega arith in gives (bad 13 at) (rw z) (number.Not 13 at) refl
+    no-group h = let z : left ≡ 0 = omega arith in gives (reject 13 at) (rw z) (number.Not 13 at) refl
 
     module _ (h : 0 < left) where
       one : left ≡ suc (left - 1)
@@ -122,7 +122,7 @@ module _ (s : List ℕ) (at most : ℕ) where
 
       pub bytes-end : length s ≤ p → number.Not 13 p ≡ grouped (readNumber most at (drop at s))
       unfolding readIn
-      bytes-end i = gives (bad 13 p) (rw (one, drop-of-length-le s i)) (number.Not 13 p) refl
+      bytes-end i = gives (reject 13 p) (rw (one, drop-of-length-le s i)) (number.Not 13 p) refl
 
       module _ (i : p < length s) where
         abbrev b : ℕ
@@ -136,7 +136,7 @@ module _ (s : List ℕ) (at most : ℕ) where
           is-last = here ∙ read-last at most (left - 1) v p b (drop (p + 1) s) j
 
           pub number-over : most < v * 128 + getD s p 0 → number.Not 13 at ≡ grouped (readNumber most at (drop at s))
-          number-over k = gives (bad 13 at) (is-last ∙ last-over at most (v * 128 + b) (p + 1) (drop (p + 1) s) k) (number.Not 13 at) refl
+          number-over k = gives (reject 13 at) (is-last ∙ last-over at most (v * 128 + b) (p + 1) (drop (p + 1) s) k) (number.Not 13 at) refl
 
           pub number-is : v * 128 + getD s p 0 ≤ most → number.Is (v * 128 + getD s p 0) (p + 1) ≡ grouped (readNumber most at (drop at s))
           number-is k = gives _ (is-last ∙ last-fits at most (v * 128 + b) (p + 1) (drop (p + 1) s) k) (number.Is (v * 128 + b) (p + 1)) refl
@@ -149,10 +149,10 @@ module _ (s : List ℕ) (at most : ℕ) where
           is-more = here ∙ read-more at most (left - 1) v p b (drop (p + 1) s) j
 
           pub number-empty : v * 128 + (getD s p 0 - 128) ≡ 0 → number.Not 13 at ≡ grouped (readNumber most at (drop at s))
-          number-empty k = gives (bad 13 at) (is-more ∙ goes-not at most w _ (inl k)) (number.Not 13 at) refl
+          number-empty k = gives (reject 13 at) (is-more ∙ goes-not at most w _ (inl k)) (number.Not 13 at) refl
 
           pub number-far : most / 128 < v * 128 + (getD s p 0 - 128) → number.Not 13 at ≡ grouped (readNumber most at (drop at s))
-          number-far k = gives (bad 13 at) (is-more ∙ goes-not at most w _ (inr (omega arith))) (number.Not 13 at) refl
+          number-far k = gives (reject 13 at) (is-more ∙ goes-not at most w _ (inr (omega arith))) (number.Not 13 at) refl
 
           pub groups-next : (v * 128 + (getD s p 0 - 128) ≡ 0 → ⊥) → v * 128 + (getD s p 0 - 128) ≤ most / 128
               → GroupsLeft s at most (left - 1) (v * 128 + (getD s p 0 - 128)) (p + 1)

@@ -9,7 +9,7 @@ use borrow.Author.Tests.{lt-ltb, le-ltb, le-leb, lt-leb}
 use mir.Facts.{and-yes}
 use Rattle.wire.specs.Test.{if}
 use Rattle.wire.specs.Bytes.{AllBytes}
-use Rattle.layout.specs.Out.{Out, got, bad, check, _>>=_}
+use Rattle.layout.specs.Result.{Result, accept, reject, check, _>>=_}
 use Rattle.layout.specs.Parts.{Step}
 use Rattle.layout.proofs.Outs.{by-if, by-check, by-got, bad-got}
 use Rattle.shared_seven_bit_groups.specs.Groups.{AtMost, front, groups, groupsOf, writeNumbers, goesOn, last, readIn, readNumber, readNumbers}
@@ -27,20 +27,20 @@ module _ (start most k v p b : ℕ) (s : List ℕ) where
   unfolding readIn if
   read-more h = rw (le-ltb b 128 h)
 
-pub last-fits : (start most n p : ℕ) (s : List ℕ) → n ≤ most → last start most n p s ≡ got (record { value = n; place = p; left = s })
+pub last-fits : (start most n p : ℕ) (s : List ℕ) → n ≤ most → last start most n p s ≡ accept (record { value = n; place = p; left = s })
 unfolding last check
 last-fits start most n p s h = rw (le-leb n most h)
 
-pub goes-on : (start most w : ℕ) → 0 < w → w * 128 ≤ most → check (goesOn most w) 13 start ≡ got tt
+pub goes-on : (start most w : ℕ) → 0 < w → w * 128 ≤ most → check (goesOn most w) 13 start ≡ accept tt
 unfolding goesOn check
 goes-on start most w h i = rw (lt-ltb 0 w h, le-leb (w * 128) most i)
 
-pub last-over : (start most n p : ℕ) (s : List ℕ) → most < n → last start most n p s ≡ bad 13 start
+pub last-over : (start most n p : ℕ) (s : List ℕ) → most < n → last start most n p s ≡ reject 13 start
 unfolding last check
 last-over start most n p s h = rw (lt-leb n most h)
 
 -- an empty first group, or one that no group can bring into range
-pub goes-not : {A : Type 0} (start most w : ℕ) (o : Out A) → (w ≡ 0) ⊎ (most < w * 128) → (check (goesOn most w) 13 start >>= λ _. o) ≡ bad 13 start
+pub goes-not : {A : Type 0} (start most w : ℕ) (o : Result A) → (w ≡ 0) ⊎ (most < w * 128) → (check (goesOn most w) 13 start >>= λ _. o) ≡ reject 13 start
 unfolding goesOn check
 goes-not start most w o (inl e) = rw (le-ltb 0 w (omega arith))
 goes-not start most w o (inr h) = rw (lt-ltb 0 w (omega arith), lt-leb (w * 128) most h)
@@ -79,7 +79,7 @@ module _ (start most : ℕ) where
       (front-back k u (omega arith) (omega arith) (suc j) p (b ∷ r) ∙ read-more start most j u (p + frontOf u) b r (omega arith)
       ∙ rw (is, goes-on start most (suc w) (omega arith) i))
 
-pub number-back : (most n p : ℕ) (r : List ℕ) → n ≤ most → readNumber most p (groups n r) ≡ got (record { value = n; place = p + groupsOf n; left = r })
+pub number-back : (most n p : ℕ) (r : List ℕ) → n ≤ most → readNumber most p (groups n r) ≡ accept (record { value = n; place = p + groupsOf n; left = r })
 unfolding readNumber groups
 number-back most n p r h =
     let w = n / 128 in
@@ -93,7 +93,7 @@ number-back most n p r h =
     ∙ rw (is, to) (last-fits p most n (p + groupsOf n) r h))
 
 pub numbers-back : (ms ns : List ℕ) → AtMost ms ns → (p : ℕ) (r : List ℕ)
-    → (q : ℕ) × (readNumbers ms p (writeNumbers ns r) ≡ got (record { value = ns; place = q; left = r }))
+    → (q : ℕ) × (readNumbers ms p (writeNumbers ns r) ≡ accept (record { value = ns; place = q; left = r }))
 unfolding readNumbers writeNumbers
 numbers-back [] [] h p r = (p, refl)
 numbers-back [] (n ∷ ns) h p r = absurd h
@@ -111,7 +111,7 @@ pub record One (most v : ℕ) (s : List ℕ) (x : Step ℕ) : Type 0 where
   pub bytes : AllBytes (x .left)
 
 module _ (start most : ℕ) where
-  last-one : (v b p : ℕ) (s : List ℕ) (x : Step ℕ) → b < 128 → AllBytes s → last start most (v * 128 + b) p s ≡ got x → One most v (b ∷ s) x
+  last-one : (v b p : ℕ) (s : List ℕ) (x : Step ℕ) → b < 128 → AllBytes s → last start most (v * 128 + b) p s ≡ accept x → One most v (b ∷ s) x
   unfolding last groups
   last-one v b p s x h l e =
       let n = v * 128 + b in
@@ -121,7 +121,7 @@ module _ (start most : ℕ) where
       (λ t e₁. let g : x ≡ record { value = n; place = p; left = s } = cc in
       rw g (record { is = rw (high, low); fits = leb→le n most t; bytes = l }))
 
-  pub read-one : (k v p : ℕ) (s : List ℕ) (x : Step ℕ) → AllBytes s → readIn start most k v p s ≡ got x → One most v s x
+  pub read-one : (k v p : ℕ) (s : List ℕ) (x : Step ℕ) → AllBytes s → readIn start most k v p s ≡ accept x → One most v s x
   unfolding readIn
   read-one zero v p s x l e = bad-got e
   read-one (suc k) v p [] x l e = bad-got e
@@ -137,7 +137,7 @@ module _ (start most : ℕ) where
       let low : w % 128 + 128 ≡ b = omega (arith, l .0) in
       record { is = sym (front-more w s some ∙ rw (high, low)) ∙ y .is; fits = y .fits; bytes = y .bytes }))
 
-pub number-one : (most p : ℕ) (s : List ℕ) (x : Step ℕ) → AllBytes s → readNumber most p s ≡ got x → One most 0 s x
+pub number-one : (most p : ℕ) (s : List ℕ) (x : Step ℕ) → AllBytes s → readNumber most p s ≡ accept x → One most 0 s x
 unfolding readNumber
 number-one most p s x l e = read-one p most (groupsOf most) 0 p s x l e
 
@@ -147,7 +147,7 @@ pub record Several (ms s : List ℕ) (x : Step (List ℕ)) : Type 0 where
   pub fits : AtMost ms (x .value)
   pub bytes : AllBytes (x .left)
 
-pub numbers-one : (ms : List ℕ) (p : ℕ) (s : List ℕ) (x : Step (List ℕ)) → AllBytes s → readNumbers ms p s ≡ got x → Several ms s x
+pub numbers-one : (ms : List ℕ) (p : ℕ) (s : List ℕ) (x : Step (List ℕ)) → AllBytes s → readNumbers ms p s ≡ accept x → Several ms s x
 unfolding readNumbers writeNumbers
 numbers-one [] p s x l e = let g : x ≡ record { value = []; place = p; left = s } = cc in rw g (record { is = refl; fits = tt; bytes = l })
 numbers-one (m ∷ ms) p s x l e =

@@ -8,7 +8,7 @@ use mathlib.Core.Bool.{Bool, true, false, not}
 use mathlib.Core.List.{List, [], _∷_, _++_, append-assoc}
 use lib.ListN.{length, replicate}
 use lib.Dec.{T, leb, ltb, leb→le, ltb→lt, nltb→le}
-use Rattle.layout.specs.Out.{Out, got, bad, check, _>>=_}
+use Rattle.layout.specs.Result.{Result, accept, reject, check, _>>=_}
 use Rattle.layout.specs.Parts.{Step}
 use Rattle.layout.proofs.Outs.{by-test}
 use Rattle.shared_seven_bit_groups.specs.Groups.{AtMost, groupsOf, writeNumbers, goesOn, last, readIn, readNumber, readNumbers}
@@ -16,11 +16,11 @@ use Rattle.shared_seven_bit_groups.proofs.Fronts.{count-is}
 use Rattle.shared_seven_bit_groups.proofs.Laws.{read-last, read-more, last-fits, goes-low, numbers-back}
 use Rattle.shared_seven_bit_groups.proofs.Places.{Placed, number-placed}
 
-module _ {A : Type 0} (f : List ℕ → Out (Step A)) (s : List ℕ) (end q : ℕ) where
+module _ {A : Type 0} (f : List ℕ → Result (Step A)) (s : List ℕ) (end q : ℕ) where
   -- refused at q before the end of the bytes, whatever comes after them
   pub record Wrong : Type 0 where
     pub before : q < end
-    pub stays : (r : List ℕ) → f (s ++ r) ≡ bad 13 q
+    pub stays : (r : List ℕ) → f (s ++ r) ≡ reject 13 q
 
   -- refused at the end of the bytes, and with others after them all is read
   pub record Short : Type 0 where
@@ -28,33 +28,33 @@ module _ {A : Type 0} (f : List ℕ → Out (Step A)) (s : List ℕ) (end q : �
     pub rest : List ℕ
     pub value : A
     pub place : ℕ
-    pub goes : f (s ++ rest) ≡ got (record { value = value; place = place; left = [] })
+    pub goes : f (s ++ rest) ≡ accept (record { value = value; place = place; left = [] })
 
 -- what was made of the bytes s, which end at `end`, says of those and more
-abbrev pub SoFar : {A : Type 0} → (List ℕ → Out (Step A)) → List ℕ → ℕ → Out (Step A) → Type 0
-SoFar f s end (got x) = (r : List ℕ) → f (s ++ r) ≡ got (record { value = x .value; place = x .place; left = x .left ++ r })
-SoFar f s end (bad n q) = (n ≡ 13) × (Wrong f s end q ⊎ Short f s end q)
+abbrev pub SoFar : {A : Type 0} → (List ℕ → Result (Step A)) → List ℕ → ℕ → Result (Step A) → Type 0
+SoFar f s end (accept x) = (r : List ℕ) → f (s ++ r) ≡ accept (record { value = x .value; place = x .place; left = x .left ++ r })
+SoFar f s end (reject n q) = (n ≡ 13) × (Wrong f s end q ⊎ Short f s end q)
 
-so-far-same : {A : Type 0} (f g : List ℕ → Out (Step A)) (s t : List ℕ) → ((r : List ℕ) → f (s ++ r) ≡ g (t ++ r)) → (m n : ℕ) → m ≡ n
-    → (o : Out (Step A)) → SoFar g t m o → SoFar f s n o
-so-far-same f g s t e m n h (got x) k = λ r. e r ∙ k r
-so-far-same f g s t e m n h (bad a q) k = (k .0, turn (k .1))
+so-far-same : {A : Type 0} (f g : List ℕ → Result (Step A)) (s t : List ℕ) → ((r : List ℕ) → f (s ++ r) ≡ g (t ++ r)) → (m n : ℕ) → m ≡ n
+    → (o : Result (Step A)) → SoFar g t m o → SoFar f s n o
+so-far-same f g s t e m n h (accept x) k = λ r. e r ∙ k r
+so-far-same f g s t e m n h (reject a q) k = (k .0, turn (k .1))
   where
     turn : Wrong g t m q ⊎ Short g t m q → Wrong f s n q ⊎ Short f s n q
     turn (inl w) = inl (record { before = omega (arith, w .before); stays = λ r. e r ∙ w .stays r })
     turn (inr c) = inr (record { at = c .at ∙ h; rest = c .rest; value = c .value; place = c .place; goes = e (c .rest) ∙ c .goes })
 
-check-not : {A : Type 0} (b : Bool) (n p : ℕ) (o : Out A) → T (not b) → (check b n p >>= λ _. o) ≡ bad n p
+check-not : {A : Type 0} (b : Bool) (n p : ℕ) (o : Result A) → T (not b) → (check b n p >>= λ _. o) ≡ reject n p
 unfolding check
 check-not true n p o t = absurd t
 check-not false n p o t = refl
 
-check-so : {A : Type 0} (b : Bool) (n p : ℕ) (o : Out A) → T b → (check b n p >>= λ _. o) ≡ o
+check-so : {A : Type 0} (b : Bool) (n p : ℕ) (o : Result A) → T b → (check b n p >>= λ _. o) ≡ o
 unfolding check
 check-so true n p o t = refl
 check-so false n p o t = absurd t
 
-last-not : (start most n p : ℕ) (s : List ℕ) → T (not (leb n most)) → last start most n p s ≡ bad 13 start
+last-not : (start most n p : ℕ) (s : List ℕ) → T (not (leb n most)) → last start most n p s ≡ reject 13 start
 unfolding last
 last-not start most n p s t = check-not (leb n most) 13 start _ t
 
@@ -112,7 +112,7 @@ zeros-fit [] = tt
 zeros-fit (m ∷ ms) = (omega arith, zeros-fit ms)
 
 module _ (m : ℕ) (ms : List ℕ) (p : ℕ) (s : List ℕ) where
-  abbrev all : List ℕ → Out (Step (List ℕ))
+  abbrev all : List ℕ → Result (Step (List ℕ))
   all = readNumbers (m ∷ ms) p
 
   -- the number is cut: its own bytes, then the lowest others
@@ -131,21 +131,21 @@ module _ (m : ℕ) (ms : List ℕ) (p : ℕ) (s : List ℕ) where
       }
 
   -- the number is read, and the others from there on
-  module _ (x : Step ℕ) (e : readNumber m p s ≡ got x) (h : SoFar (readNumber m p) s (p + length s) (got x)) where
-    others : (o : Out (Step (List ℕ))) → SoFar (readNumbers ms (x .place)) (x .left) (p + length s) o
-        → SoFar all s (p + length s) (o >>= λ l. got (record { value = x .value ∷ l .value; place = l .place; left = l .left }))
+  module _ (x : Step ℕ) (e : readNumber m p s ≡ accept x) (h : SoFar (readNumber m p) s (p + length s) (accept x)) where
+    others : (o : Result (Step (List ℕ))) → SoFar (readNumbers ms (x .place)) (x .left) (p + length s) o
+        → SoFar all s (p + length s) (o >>= λ l. accept (record { value = x .value ∷ l .value; place = l .place; left = l .left }))
     unfolding readNumbers
-    others (got l) k = λ r. rw (h r, k r)
-    others (bad n q) (z, inl w) = (z, inl (record { before = w .before; stays = λ r. rw (h r, w .stays r) }))
-    others (bad n q) (z, inr c) = (z, inr (record { at = c .at; rest = c .rest; value = x .value ∷ c .value; place = c .place; goes = rw (h (c .rest), c .goes) }))
+    others (accept l) k = λ r. rw (h r, k r)
+    others (reject n q) (z, inl w) = (z, inl (record { before = w .before; stays = λ r. rw (h r, w .stays r) }))
+    others (reject n q) (z, inr c) = (z, inr (record { at = c .at; rest = c .rest; value = x .value ∷ c .value; place = c .place; goes = rw (h (c .rest), c .goes) }))
 
   -- from what the others say, whatever was read before them
-  first : (o : Out (Step ℕ)) → readNumber m p s ≡ o → SoFar (readNumber m p) s (p + length s) o → Placed p (groupsOf m) s o
+  first : (o : Result (Step ℕ)) → readNumber m p s ≡ o → SoFar (readNumber m p) s (p + length s) o → Placed p (groupsOf m) s o
       → ((q : ℕ) (l : List ℕ) → SoFar (readNumbers ms q) l (q + length l) (readNumbers ms q l)) → SoFar all s (p + length s) (all s)
   unfolding readNumbers
-  first (got x) e h k rest = rw e (others x e h (readNumbers ms (x .place) (x .left)) (rw (← k .to) (rest (x .place) (x .left))))
-  first (bad n q) e (z, inl w) k rest = rw e (z, inl (record { before = w .before; stays = λ r. rw (w .stays r) }))
-  first (bad n q) e (z, inr c) k rest = rw e (z, inr (number-short q c))
+  first (accept x) e h k rest = rw e (others x e h (readNumbers ms (x .place) (x .left)) (rw (← k .to) (rest (x .place) (x .left))))
+  first (reject n q) e (z, inl w) k rest = rw e (z, inl (record { before = w .before; stays = λ r. rw (w .stays r) }))
+  first (reject n q) e (z, inr c) k rest = rw e (z, inr (number-short q c))
 
 pub numbers-so-far : (ms : List ℕ) (p : ℕ) (s : List ℕ) → SoFar (readNumbers ms p) s (p + length s) (readNumbers ms p s)
 unfolding readNumbers

@@ -5,7 +5,7 @@ use mathlib.Core.List.{List, [], _∷_}
 use lib.ListN.{length}
 use lib.Dec.{leb, ltb}
 use Rattle.wire.specs.Test.{if}
-use Rattle.layout.specs.Out.{Out, got, bad, check, _>>=_}
+use Rattle.layout.specs.Result.{Result, accept, reject, check, _>>=_}
 use Rattle.layout.specs.Parts.{Step}
 use Rattle.shared_seven_bit_groups.specs.declared.Grouped.{Grouped}
 use Rattle.shared_seven_bit_groups.specs.declared.Grouped.the-variants as number
@@ -52,34 +52,34 @@ unfoldable pub goesOn : ℕ → ℕ → Bool
 goesOn most w = ltb 0 w && leb (w * 128) most
 
 -- the last group makes the number n, which ends at p: refused with 13 at `start` if it is more than `most`
-unfoldable pub last : ℕ → ℕ → ℕ → ℕ → List ℕ → Out (Step ℕ)
+unfoldable pub last : ℕ → ℕ → ℕ → ℕ → List ℕ → Result (Step ℕ)
 last start most n p s = do
   _ ← check (leb n most) 13 start
-  got (record { value = n; place = p; left = s })
+  accept (record { value = n; place = p; left = s })
 
 -- the number that begins at `start` and is at most `most`, from its group at p on, in at most this many groups more; the groups before make the number v
-unfoldable pub readIn : ℕ → ℕ → ℕ → ℕ → ℕ → List ℕ → Out (Step ℕ)
-readIn start most zero v p s = bad 13 start
-readIn start most (suc k) v p [] = bad 13 p
+unfoldable pub readIn : ℕ → ℕ → ℕ → ℕ → ℕ → List ℕ → Result (Step ℕ)
+readIn start most zero v p s = reject 13 start
+readIn start most (suc k) v p [] = reject 13 p
 readIn start most (suc k) v p (b ∷ s) =
     let w = v * 128 + (b - 128) in
     if (ltb b 128) (last start most (v * 128 + b) (p + 1) s) (check (goesOn most w) 13 start >>= λ _. readIn start most k w (p + 1) s)
 
 -- the number at p, which is at most `most`, in no more groups than `most` takes
-unfoldable pub readNumber : ℕ → ℕ → List ℕ → Out (Step ℕ)
+unfoldable pub readNumber : ℕ → ℕ → List ℕ → Result (Step ℕ)
 readNumber most p s = readIn p most (groupsOf most) 0 p s
 
 -- the numbers from p on, one for each limit of the list and at most that
-unfoldable pub readNumbers : List ℕ → ℕ → List ℕ → Out (Step (List ℕ))
-readNumbers [] p s = got (record { value = []; place = p; left = s })
+unfoldable pub readNumbers : List ℕ → ℕ → List ℕ → Result (Step (List ℕ))
+readNumbers [] p s = accept (record { value = []; place = p; left = s })
 readNumbers (m ∷ ms) p s = do
   x ← readNumber m p s
   l ← readNumbers ms (x .place) (x .left)
-  got (record { value = x .value ∷ l .value; place = l .place; left = l .left })
+  accept (record { value = x .value ∷ l .value; place = l .place; left = l .left })
 
 -- ---- what the code answers for what was read
 
 -- what code answers for a number that was read
-abbrev pub grouped : Out (Step ℕ) → Grouped
-grouped (got x) = number.Is (x .value) (x .place)
-grouped (bad n p) = number.Not n p
+abbrev pub grouped : Result (Step ℕ) → Grouped
+grouped (accept x) = number.Is (x .value) (x .place)
+grouped (reject n p) = number.Not n p

@@ -5,7 +5,7 @@ use mathlib.Core.List.{List, [], _∷_, _++_, map}
 use lib.ListN.{replicate}
 use Rattle.wire.specs.Bytes.{over}
 use Rattle.wire.specs.Test.{if}
-use Rattle.layout.specs.Out.{Out, got, bad, check}
+use Rattle.layout.specs.Result.{Result, accept, reject, check}
 use Rattle.shared_seven_bit_groups.specs.Groups.{frontIn, front, groups, groupsOf, writeNumbers, goesOn, last, readIn, readNumber, readNumbers}
 use Rattle.b3d_spec.specs.Rules.{rowLimit}
 use Rattle.b3d_spec.specs.Answers.{roomFor, written, outputAfter}
@@ -76,30 +76,30 @@ write-cases-hold = refl
 pub record ReadCase : Type 0 where
   pub rows : ℕ
   pub slip : List ℕ
-  pub gives : Out (List ℕ)
+  pub gives : Result (List ℕ)
 
 abbrev pub readCases : List ReadCase
 readCases =
-    record { rows = rowLimit; slip = 1 ∷ zeros 11; gives = got (1 ∷ zeros 11) }
-    ∷ record { rows = rowLimit; slip = 0x63 ∷ 0x08 ∷ threes 10; gives = got most }
+    record { rows = rowLimit; slip = 1 ∷ zeros 11; gives = accept (1 ∷ zeros 11) }
+    ∷ record { rows = rowLimit; slip = 0x63 ∷ 0x08 ∷ threes 10; gives = accept most }
     -- an older slip reads the same; an older reader refuses three groups as soon as the second says that there is a third
-    ∷ record { rows = rowLimit; slip = 0x63 ∷ 0x08 ∷ twos 10; gives = got mostBefore }
-    ∷ record { rows = 16383; slip = 0x63 ∷ 0x08 ∷ twos 10; gives = got mostBefore }
-    ∷ record { rows = 16383; slip = 0x63 ∷ 0x08 ∷ threes 10; gives = bad 13 2 }
-    ∷ record { rows = 16383; slip = 1 ∷ 0 ∷ 0x81 ∷ 0x80 ∷ []; gives = bad 13 2 }
+    ∷ record { rows = rowLimit; slip = 0x63 ∷ 0x08 ∷ twos 10; gives = accept mostBefore }
+    ∷ record { rows = 16383; slip = 0x63 ∷ 0x08 ∷ twos 10; gives = accept mostBefore }
+    ∷ record { rows = 16383; slip = 0x63 ∷ 0x08 ∷ threes 10; gives = reject 13 2 }
+    ∷ record { rows = 16383; slip = 1 ∷ 0 ∷ 0x81 ∷ 0x80 ∷ []; gives = reject 13 2 }
     -- cut: at the slip's length
-    ∷ record { rows = rowLimit; slip = []; gives = bad 13 0 }
-    ∷ record { rows = rowLimit; slip = zeros 11; gives = bad 13 11 }
-    ∷ record { rows = rowLimit; slip = 1 ∷ 0 ∷ 0x81 ∷ []; gives = bad 13 3 }
+    ∷ record { rows = rowLimit; slip = []; gives = reject 13 0 }
+    ∷ record { rows = rowLimit; slip = zeros 11; gives = reject 13 11 }
+    ∷ record { rows = rowLimit; slip = 1 ∷ 0 ∷ 0x81 ∷ []; gives = reject 13 3 }
     -- spare: at the first spare byte
-    ∷ record { rows = rowLimit; slip = zeros 14; gives = bad 13 12 }
+    ∷ record { rows = rowLimit; slip = zeros 14; gives = reject 13 12 }
     -- wrong at once, even where the slip is cut right after: a longer form, a fourth group, a second group of n_texs
-    ∷ record { rows = rowLimit; slip = 1 ∷ 0 ∷ 0x80 ∷ []; gives = bad 13 2 }
-    ∷ record { rows = rowLimit; slip = 1 ∷ 0 ∷ 0x81 ∷ 0x80 ∷ 0x80 ∷ []; gives = bad 13 2 }
-    ∷ record { rows = rowLimit; slip = 1 ∷ 0x81 ∷ []; gives = bad 13 1 }
+    ∷ record { rows = rowLimit; slip = 1 ∷ 0 ∷ 0x80 ∷ []; gives = reject 13 2 }
+    ∷ record { rows = rowLimit; slip = 1 ∷ 0 ∷ 0x81 ∷ 0x80 ∷ 0x80 ∷ []; gives = reject 13 2 }
+    ∷ record { rows = rowLimit; slip = 1 ∷ 0x81 ∷ []; gives = reject 13 1 }
     -- out of range
-    ∷ record { rows = rowLimit; slip = 0x64 ∷ zeros 11; gives = bad 13 0 }
-    ∷ record { rows = rowLimit; slip = 1 ∷ 9 ∷ []; gives = bad 13 1 }
+    ∷ record { rows = rowLimit; slip = 0x64 ∷ zeros 11; gives = reject 13 0 }
+    ∷ record { rows = rowLimit; slip = 1 ∷ 9 ∷ []; gives = reject 13 1 }
     ∷ []
 
 pub read-cases-hold : map (λ c. readWithin (c .rows) (c .slip)) readCases ≡ map (λ c. c .gives) readCases

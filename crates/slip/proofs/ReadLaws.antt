@@ -8,7 +8,7 @@ use lib.ListN.{length, take, drop, set, length-set, length-drop, drop-of-length-
 use lib.Seq.{take-all, take-suc-set, drop-drop}
 use lib.Dec.{leb}
 use borrow.Author.Tests.{lt-leb}
-use Rattle.layout.specs.Out.{Out, got, bad, check, _>>=_}
+use Rattle.layout.specs.Result.{Result, accept, reject, check, _>>=_}
 use Rattle.layout.specs.Parts.{Step}
 use Rattle.shared_seven_bit_groups.specs.Groups.{groupsOf, readNumber, readNumbers, grouped}
 use Rattle.shared_seven_bit_groups.specs.declared.Grouped.{Grouped}
@@ -20,43 +20,43 @@ use Rattle.slip.specs.declared.Slip.{Slip}
 use Rattle.slip.proofs.Coding.{limit-word, limits-next, limits-end}
 
 -- numbers that were read before others
-abbrev ahead : List ℕ → Out (Step (List ℕ)) → Out (Step (List ℕ))
-ahead vs (got l) = got (record { value = vs ++ l .value; place = l .place; left = l .left })
-ahead vs (bad n p) = bad n p
+abbrev ahead : List ℕ → Result (Step (List ℕ)) → Result (Step (List ℕ))
+ahead vs (accept l) = accept (record { value = vs ++ l .value; place = l .place; left = l .left })
+ahead vs (reject n p) = reject n p
 
-ahead-none : (o : Out (Step (List ℕ))) → o ≡ ahead [] o
-ahead-none (got l) = refl
-ahead-none (bad n p) = refl
+ahead-none : (o : Result (Step (List ℕ))) → o ≡ ahead [] o
+ahead-none (accept l) = refl
+ahead-none (reject n p) = refl
 
-ahead-one : (vs : List ℕ) (n : ℕ) (ws : List ℕ) → ws ≡ vs ++ (n ∷ []) → (o : Out (Step (List ℕ)))
-    → ahead vs (o >>= λ l. got (record { value = n ∷ l .value; place = l .place; left = l .left })) ≡ ahead ws o
-ahead-one vs n ws e (got l) = rw (e, append-assoc vs (n ∷ []) (l .value))
-ahead-one vs n ws e (bad k p) = refl
+ahead-one : (vs : List ℕ) (n : ℕ) (ws : List ℕ) → ws ≡ vs ++ (n ∷ []) → (o : Result (Step (List ℕ)))
+    → ahead vs (o >>= λ l. accept (record { value = n ∷ l .value; place = l .place; left = l .left })) ≡ ahead ws o
+ahead-one vs n ws e (accept l) = rw (e, append-assoc vs (n ∷ []) (l .value))
+ahead-one vs n ws e (reject k p) = refl
 
 module _ (m : ℕ) (ms : List ℕ) (p : ℕ) (s vs : List ℕ) where
-  first-bad : (n q : ℕ) → readNumber m p s ≡ bad n q → ahead vs (readNumbers (m ∷ ms) p s) ≡ bad n q
+  first-invalid : (n q : ℕ) → readNumber m p s ≡ reject n q → ahead vs (readNumbers (m ∷ ms) p s) ≡ reject n q
   unfolding readNumbers
-  first-bad n q e = rw e
+  first-invalid n q e = rw e
 
-  first-is : (x : Step ℕ) → readNumber m p s ≡ got x
-      → ahead vs (readNumbers (m ∷ ms) p s) ≡ ahead vs (readNumbers ms (x .place) (x .left) >>= λ l. got (record { value = x .value ∷ l .value; place = l .place; left = l .left }))
+  first-is : (x : Step ℕ) → readNumber m p s ≡ accept x
+      → ahead vs (readNumbers (m ∷ ms) p s) ≡ ahead vs (readNumbers ms (x .place) (x .left) >>= λ l. accept (record { value = x .value ∷ l .value; place = l .place; left = l .left }))
   unfolding readNumbers
   first-is x e = rw e
 
 -- what an answer says of what was read
-record Was (o : Out (Step ℕ)) (n q : ℕ) : Type 0 where
+record Was (o : Result (Step ℕ)) (n q : ℕ) : Type 0 where
   step : Step ℕ
-  is : o ≡ got step
+  is : o ≡ accept step
   value : step .value ≡ n
   place : step .place ≡ q
 
-was-number : (o : Out (Step ℕ)) (n q : ℕ) → grouped o ≡ number.Is n q → Was o n q
-was-number (got x) n q e = record { step = x; is = refl; value = cc; place = cc }
-was-number (bad k p) n q e = let z : _≡_ {A = ℕ} 0 1 = cc in absurd (omega arith)
+was-number : (o : Result (Step ℕ)) (n q : ℕ) → grouped o ≡ number.Is n q → Was o n q
+was-number (accept x) n q e = record { step = x; is = refl; value = cc; place = cc }
+was-number (reject k p) n q e = let z : _≡_ {A = ℕ} 0 1 = cc in absurd (omega arith)
 
-was-refused : (o : Out (Step ℕ)) (k p : ℕ) → grouped o ≡ number.Not k p → o ≡ bad k p
-was-refused (got x) k p e = let z : _≡_ {A = ℕ} 0 1 = cc in absurd (omega arith)
-was-refused (bad n q) k p e = cc
+was-refused : (o : Result (Step ℕ)) (k p : ℕ) → grouped o ≡ number.Not k p → o ≡ reject k p
+was-refused (accept x) k p e = let z : _≡_ {A = ℕ} 0 1 = cc in absurd (omega arith)
+was-refused (reject n q) k p e = cc
 
 -- ---- the loop: the numbers from i on are left, at `at`; those before are held
 
@@ -70,15 +70,15 @@ module _ (s : List ℕ) where
   pub left-start : (numbers : List ℕ) → length numbers ≡ 12 → SlipLeft s numbers 0 0
   left-start numbers l = record { long = l; few = omega arith; near = omega arith; rest = ahead-none (readNumbers limits 0 s) }
 
-  answers : (o : Out (List ℕ)) → readSlip s ≡ o → (r : Slip) → r ≡ slipOf o → r ≡ readSlipAnswer s
+  answers : (o : Result (List ℕ)) → readSlip s ≡ o → (r : Slip) → r ≡ slipOf o → r ≡ readSlipAnswer s
   unfolding readSlipAnswer
   answers o e r h = h ∙ ap slipOf (sym e)
 
-  read-bad : (n p : ℕ) → readNumbers limits 0 s ≡ bad n p → readSlip s ≡ bad n p
+  read-bad : (n p : ℕ) → readNumbers limits 0 s ≡ reject n p → readSlip s ≡ reject n p
   unfolding readWithin
   read-bad n p e = rw e
 
-  read-all : (x : Step (List ℕ)) → readNumbers limits 0 s ≡ got x → readSlip s ≡ (check (leb (length (x .left)) 0) 13 (x .place) >>= λ _. got (x .value))
+  read-all : (x : Step (List ℕ)) → readNumbers limits 0 s ≡ accept x → readSlip s ≡ (check (leb (length (x .left)) 0) 13 (x .place) >>= λ _. accept (x .value))
   unfolding readWithin
   read-all x e = rw e
 
@@ -92,19 +92,19 @@ module _ (s : List ℕ) where
 
       -- refused
       module _ (k p : ℕ) (z : r ≡ number.Not k p) where
-        refused : readNumber m at (drop at s) ≡ bad k p
+        refused : readNumber m at (drop at s) ≡ reject k p
         refused = was-refused (readNumber m at (drop at s)) k p (sym f ∙ z)
 
-        placed : Placed at (groupsOf m) (drop at s) (bad k p)
+        placed : Placed at (groupsOf m) (drop at s) (reject k p)
         placed = rw refused at (number-placed m at (drop at s))
 
         pub place-near : p ≤ 60
         place-near = omega (arith, placed .1, groups-few, g .near)
 
-        pub slip-refused : (a : Slip) → a ≡ slipOf (bad 13 p) → a ≡ readSlipAnswer s
+        pub slip-refused : (a : Slip) → a ≡ slipOf (reject 13 p) → a ≡ readSlipAnswer s
         slip-refused a j =
             let n : k ≡ 13 = placed .0 in
-            answers (bad 13 p) (read-bad 13 p (here ∙ first-bad m (drop (i + 1) limits) at (drop at s) (take i numbers) 13 p (rw n at refused))) a j
+            answers (reject 13 p) (read-bad 13 p (here ∙ first-invalid m (drop (i + 1) limits) at (drop at s) (take i numbers) 13 p (rw n at refused))) a j
 
       -- a number
       module _ (n q : ℕ) (z : r ≡ number.Is n q) where
@@ -130,7 +130,7 @@ module _ (s : List ℕ) where
 
     -- all numbers are read
     module _ (h : 12 ≤ i) where
-      all : readNumbers limits 0 s ≡ got (record { value = numbers; place = at; left = drop at s })
+      all : readNumbers limits 0 s ≡ accept (record { value = numbers; place = at; left = drop at s })
       unfolding readNumbers
       all =
           g .rest
@@ -139,12 +139,12 @@ module _ (s : List ℕ) where
       pub at-near : at ≤ 60
       at-near = omega (arith, g .near, g .few)
 
-      pub slip-spare : at < length s → (a : Slip) → a ≡ slipOf (bad 13 at) → a ≡ readSlipAnswer s
+      pub slip-spare : at < length s → (a : Slip) → a ≡ slipOf (reject 13 at) → a ≡ readSlipAnswer s
       unfolding check
-      slip-spare k a j = answers (bad 13 at) (read-all _ all ∙ rw (length-drop, lt-leb (length s - at) 0 (omega arith))) a j
+      slip-spare k a j = answers (reject 13 at) (read-all _ all ∙ rw (length-drop, lt-leb (length s - at) 0 (omega arith))) a j
 
       pub slip-read : length s ≤ at → record { number = 0; place = 0; numbers = numbers } ≡ readSlipAnswer s
       unfolding check slipOf
-      slip-read k = answers (got numbers) (read-all _ all ∙ rw (drop-of-length-le s k)) _ refl
+      slip-read k = answers (accept numbers) (read-all _ all ∙ rw (drop-of-length-le s k)) _ refl
 
 pub ruleset read-laws = (left-start, place-near, slip-refused, left-next, at-near, slip-spare, slip-read)

@@ -9,7 +9,7 @@ use lib.Dec.{leb, ltb, leb→le, ltb→lt, nltb→le}
 use borrow.Author.Tests.{le-leb, lt-leb, le-ltb}
 use Rattle.wire.specs.Bytes.{AllBytes}
 use Rattle.wire.specs.Test.{if}
-use Rattle.layout.specs.Out.{Out, got, bad, check, _>>=_}
+use Rattle.layout.specs.Result.{Result, accept, reject, check, _>>=_}
 use Rattle.layout.specs.Parts.{Step}
 use Rattle.layout.specs.Rules.{upTo}
 use Rattle.layout.proofs.Outs.{by-test, by-check, by-got, bad-got, got-inj, if-yes, if-no}
@@ -64,7 +64,7 @@ some-over d (m ∷ ms) (n ∷ ns) l h =
     let x = some-over d ms ns (omega arith) (omega (arith, h)) in
     rw e (record { out = x .out; before = (nltb→le m n t, x .before) }))
 
-same-bad : (A : Type 0) (m p n q : ℕ) → _≡_ {A = Out A} (bad m p) (bad n q) → (n ≡ m) × (q ≡ p)
+same-bad : (A : Type 0) (m p n q : ℕ) → _≡_ {A = Result A} (reject m p) (reject n q) → (n ≡ m) × (q ≡ p)
 same-bad A m p n q e = (cc, cc)
 
 at-most-length : (ms ns : List ℕ) → AtMost ms ns → length ns ≡ length ms
@@ -126,7 +126,7 @@ module _ (rows : ℕ) where
   unfolding limitsWithin
   twelve-limits = refl
 
-  module _ (ns b : List ℕ) (e : slipWithin rows ns ≡ got b) where
+  module _ (ns b : List ℕ) (e : slipWithin rows ns ≡ accept b) where
     bytes-are : b ≡ writeNumbers ns []
     unfolding slipWithin
     bytes-are = by-check _ 13 _ _ e (λ t e₁. cc)
@@ -136,18 +136,18 @@ module _ (rows : ℕ) where
     obeys l = by-check (leb 12 (firstOver (limitsWithin rows) ns)) 13 _ _ e
         (λ t e₁. let h = leb→le 12 (firstOver (limitsWithin rows) ns) t in none-over (limitsWithin rows) ns (omega (arith, twelve-limits)) (omega (arith, twelve-limits)))
 
-  slip-got : (ns : List ℕ) → 12 ≤ firstOver (limitsWithin rows) ns → slipWithin rows ns ≡ got (writeNumbers ns [])
+  slip-got : (ns : List ℕ) → 12 ≤ firstOver (limitsWithin rows) ns → slipWithin rows ns ≡ accept (writeNumbers ns [])
   unfolding slipWithin check
   slip-got ns h = rw (le-leb 12 (firstOver (limitsWithin rows) ns) h)
 
-  slip-bad : (ns : List ℕ) → firstOver (limitsWithin rows) ns < 12 → slipWithin rows ns ≡ bad 13 (firstOver (limitsWithin rows) ns)
+  slip-bad : (ns : List ℕ) → firstOver (limitsWithin rows) ns < 12 → slipWithin rows ns ≡ reject 13 (firstOver (limitsWithin rows) ns)
   unfolding slipWithin check
   slip-bad ns h = rw (lt-leb 12 (firstOver (limitsWithin rows) ns) h)
 
-  pub written : (ns : List ℕ) → AtMost (limitsWithin rows) ns → slipWithin rows ns ≡ got (writeNumbers ns [])
+  pub written : (ns : List ℕ) → AtMost (limitsWithin rows) ns → slipWithin rows ns ≡ accept (writeNumbers ns [])
   written ns h = slip-got ns (omega (arith, over-none (limitsWithin rows) ns h, twelve-limits))
 
-  out-of : (ns : List ℕ) (n i : ℕ) → length ns ≡ 12 → slipWithin rows ns ≡ bad n i → (n ≡ 13) × FirstOut rows ns i
+  out-of : (ns : List ℕ) (n i : ℕ) → length ns ≡ 12 → slipWithin rows ns ≡ reject n i → (n ≡ 13) × FirstOut rows ns i
   out-of ns n i l e =
       let k = firstOver (limitsWithin rows) ns in
       by-test (ltb k 12)
@@ -157,11 +157,11 @@ module _ (rows : ℕ) where
       (same .0, rw (same .1) (record { one = small; out = x .out; before = x .before })))
       (λ t. bad-got (sym e ∙ slip-got ns (nltb→le k 12 t)))
 
-  first : (ns : List ℕ) (n i room : ℕ) → slipWithin rows ns ≡ bad n i → writeWithin rows ns room ≡ bad n i
+  first : (ns : List ℕ) (n i room : ℕ) → slipWithin rows ns ≡ reject n i → writeWithin rows ns room ≡ reject n i
   unfolding writeWithin
   first ns n i room e = rw e
 
-  then : (ns b : List ℕ) (room : ℕ) → slipWithin rows ns ≡ got b → writeWithin rows ns room ≡ roomFor room b
+  then : (ns b : List ℕ) (room : ℕ) → slipWithin rows ns ≡ accept b → writeWithin rows ns room ≡ roomFor room b
   unfolding writeWithin
   then ns b room e = rw e
 
@@ -171,44 +171,44 @@ module _ (rows : ℕ) where
     -- a slip that was read
     record Whole (ns : List ℕ) : Type 0 where
       place : ℕ
-      is : readNumbers (limitsWithin rows) 0 s ≡ got (record { value = ns; place = place; left = [] })
+      is : readNumbers (limitsWithin rows) 0 s ≡ accept (record { value = ns; place = place; left = [] })
 
-    whole : (ns : List ℕ) → readWithin rows s ≡ got ns → Whole ns
+    whole : (ns : List ℕ) → readWithin rows s ≡ accept ns → Whole ns
     unfolding readWithin
     whole ns e =
         by-got (readNumbers (limitsWithin rows) 0 s) _ e
         (λ x e₁ e₂. by-check (leb (length (x .left)) 0) 13 (x .place) _ e₂
         (λ t e₃. let g : x .value ≡ ns = cc in record { place = x .place; is = e₁ ∙ rw (← g, ← empty (x .left) (leb→le (length (x .left)) 0 t)) refl }))
 
-    read-whole : (ns : List ℕ) (q : ℕ) → readNumbers (limitsWithin rows) 0 s ≡ got (record { value = ns; place = q; left = [] }) → readWithin rows s ≡ got ns
+    read-whole : (ns : List ℕ) (q : ℕ) → readNumbers (limitsWithin rows) 0 s ≡ accept (record { value = ns; place = q; left = [] }) → readWithin rows s ≡ accept ns
     unfolding readWithin check
     read-whole ns q e = rw e
 
-    several : (ns : List ℕ) → AllBytes s → (e : readWithin rows s ≡ got ns) → (s ≡ writeNumbers ns []) × AtMost (limitsWithin rows) ns
+    several : (ns : List ℕ) → AllBytes s → (e : readWithin rows s ≡ accept ns) → (s ≡ writeNumbers ns []) × AtMost (limitsWithin rows) ns
     several ns h e =
         let w = whole ns e in
         let x = numbers-one (limitsWithin rows) 0 s _ h (w .is) in
         (x .is, x .fits)
 
-  reads-back : (ns b : List ℕ) → length ns ≡ 12 → slipWithin rows ns ≡ got b → readWithin rows b ≡ got ns
+  reads-back : (ns b : List ℕ) → length ns ≡ 12 → slipWithin rows ns ≡ accept b → readWithin rows b ≡ accept ns
   reads-back ns b l e =
       let (q, back) = numbers-back (limitsWithin rows) ns (obeys ns b e l) 0 [] in
       read-whole b ns q (ap (readNumbers (limitsWithin rows) 0) (bytes-are ns b e) ∙ back)
 
   -- ---- as soon as its bytes make it wrong
 
-  still-bad : (s : List ℕ) (n p : ℕ) → readNumbers (limitsWithin rows) 0 s ≡ bad n p → readWithin rows s ≡ bad n p
+  still-bad : (s : List ℕ) (n p : ℕ) → readNumbers (limitsWithin rows) 0 s ≡ reject n p → readWithin rows s ≡ reject n p
   unfolding readWithin
   still-bad s n p e = rw e
 
-  spare-is : (s v : List ℕ) (q : ℕ) (l : List ℕ) → readNumbers (limitsWithin rows) 0 s ≡ got (record { value = v; place = q; left = l }) → 0 < length l → readWithin rows s ≡ bad 13 q
+  spare-is : (s v : List ℕ) (q : ℕ) (l : List ℕ) → readNumbers (limitsWithin rows) 0 s ≡ accept (record { value = v; place = q; left = l }) → 0 < length l → readWithin rows s ≡ reject 13 q
   unfolding readWithin check
   spare-is s v q l e h = rw (e, lt-leb (length l) 0 h)
 
   module _ (s : List ℕ) where
-    refused : (o : Out (Step (List ℕ))) → readNumbers (limitsWithin rows) 0 s ≡ o → SoFar (readNumbers (limitsWithin rows) 0) s (0 + length s) o
-        → (n p : ℕ) → readWithin rows s ≡ bad n p → (n ≡ 13) × (Wrong rows s p ⊎ Cut rows s p)
-    refused (got x) e h n p f =
+    refused : (o : Result (Step (List ℕ))) → readNumbers (limitsWithin rows) 0 s ≡ o → SoFar (readNumbers (limitsWithin rows) 0) s (0 + length s) o
+        → (n p : ℕ) → readWithin rows s ≡ reject n p → (n ≡ 13) × (Wrong rows s p ⊎ Cut rows s p)
+    refused (accept x) e h n p f =
         by-test (ltb 0 (length (x .left)))
         (λ t. let some = ltb→lt 0 (length (x .left)) t in
         let same = same-bad (List ℕ) 13 (x .place) n p (sym (spare-is s (x .value) (x .place) (x .left) e some) ∙ f) in (
@@ -222,10 +222,10 @@ module _ (rows : ℕ) where
         ))
         (λ t. let none = empty (x .left) (nltb→le 0 (length (x .left)) t) in
         bad-got (sym f ∙ read-whole s (x .value) (x .place) (e ∙ rw (← none))))
-    refused (bad k q) e (z, inl w) n p f =
+    refused (reject k q) e (z, inl w) n p f =
         let same = same-bad (List ℕ) k q n p (sym (still-bad s k q e) ∙ f) in
         (same .0 ∙ z, inl (rw (same .1) (record { before = omega (arith, w .before); stays = λ r. still-bad (s ++ r) 13 q (w .stays r) })))
-    refused (bad k q) e (z, inr c) n p f =
+    refused (reject k q) e (z, inr c) n p f =
         let same = same-bad (List ℕ) k q n p (sym (still-bad s k q e) ∙ f) in (
           same .0 ∙ z,
           inr
@@ -237,7 +237,7 @@ module _ (rows : ℕ) where
   one-slip =
       record {
         reads-back = reads-back;
-        one = λ s ns h e. let x = several s ns h e in written ns (x .1) ∙ ap got (sym (x .0));
+        one = λ s ns h e. let x = several s ns h e in written ns (x .1) ∙ ap accept (sym (x .0));
         twelve = λ s ns h e. at-most-length (limitsWithin rows) ns (several s ns h e .1) ∙ twelve-limits;
         least = λ ns b l e. let x = numbers-length (limitsWithin rows) ns (obeys ns b e l) in omega (arith, ap length (bytes-are ns b e), twelve-limits);
         most = λ ns b l e. let x = numbers-length (limitsWithin rows) ns (obeys ns b e l) in omega (arith, ap length (bytes-are ns b e), longest-is rows);
@@ -265,27 +265,27 @@ module _ (low high : ℕ) (more : low ≤ high) where
   up (v ∷ []) h = absurd (h .1)
   up (v ∷ n ∷ ns) h = (h .0, (h .1 .0, up-counts 10 ns (h .1 .1)))
 
-  same-reading : (s ns : List ℕ) → AllBytes s → readWithin low s ≡ got ns → readWithin high s ≡ got ns
+  same-reading : (s ns : List ℕ) → AllBytes s → readWithin low s ≡ accept ns → readWithin high s ≡ accept ns
   same-reading s ns h e =
       let x = several low s ns h e in
-      reads-back high ns s (at-most-length (limitsWithin low) ns (x .1) ∙ twelve-limits low) (written high ns (up ns (x .1)) ∙ ap got (sym (x .0)))
+      reads-back high ns s (at-most-length (limitsWithin low) ns (x .1) ∙ twelve-limits low) (written high ns (up ns (x .1)) ∙ ap accept (sym (x .0)))
 
-  too-much : (ns b : List ℕ) → length ns ≡ 12 → slipWithin high ns ≡ got b → (AtMost (limitsWithin low) ns → ⊥) → (p : ℕ) × (readWithin low b ≡ bad 13 p)
+  too-much : (ns b : List ℕ) → length ns ≡ 12 → slipWithin high ns ≡ accept b → (AtMost (limitsWithin low) ns → ⊥) → (p : ℕ) × (readWithin low b ≡ reject 13 p)
   too-much ns b l e d = go (readWithin low b) refl
     where
       all : AllBytes b
       all = one-slip high .bytes ns b e
 
-      go : (o : Out (List ℕ)) → readWithin low b ≡ o → (p : ℕ) × (readWithin low b ≡ bad 13 p)
-      go (got ms) f =
+      go : (o : Result (List ℕ)) → readWithin low b ≡ o → (p : ℕ) × (readWithin low b ≡ reject 13 p)
+      go (accept ms) f =
           let same : ms ≡ ns = got-inj (sym (same-reading b ms all f) ∙ reads-back high ns b l e) in
           absurd (d (subst (AtMost (limitsWithin low)) same (several low b ms all f .1)))
-      go (bad n p) f = (p, f ∙ ap (λ (k : ℕ). bad k p) (one-slip low .refused b n p f .0))
+      go (reject n p) f = (p, f ∙ ap (λ (k : ℕ). reject k p) (one-slip low .refused b n p f .0))
 
   pub raised : Raised low high
   raised =
       record {
-        bytes = λ ns b l e. written high ns (up ns (obeys low ns b e l)) ∙ ap got (sym (bytes-are low ns b e));
+        bytes = λ ns b l e. written high ns (up ns (obeys low ns b e l)) ∙ ap accept (sym (bytes-are low ns b e));
         reading = same-reading;
         refused = too-much;
       }

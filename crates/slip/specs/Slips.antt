@@ -5,7 +5,7 @@ use mathlib.Core.List.{List, [], _∷_}
 use lib.ListN.{length, replicate, getD}
 use lib.Dec.{leb, ltb}
 use Rattle.wire.specs.Test.{if}
-use Rattle.layout.specs.Out.{Out, got, bad, check, _>>=_}
+use Rattle.layout.specs.Result.{Result, accept, reject, check, _>>=_}
 use Rattle.shared_seven_bit_groups.specs.Groups.{writeNumbers, readNumbers}
 use Rattle.b3d_spec.specs.Rules.{rowLimit}
 use Rattle.b3d_spec.specs.Answers.{roomFor, written, outputAfter}
@@ -37,23 +37,23 @@ firstOver [] ns = 0
 firstOver (m ∷ ms) [] = 0
 
 -- the slip of the numbers ns, where a table has at most `rows` rows; 13 at the position of the first that is out of its range
-unfoldable pub slipWithin : ℕ → List ℕ → Out (List ℕ)
+unfoldable pub slipWithin : ℕ → List ℕ → Result (List ℕ)
 slipWithin rows ns = do
   _ ← check (leb 12 (firstOver (limitsWithin rows) ns)) 13 (firstOver (limitsWithin rows) ns)
-  got (writeNumbers ns [])
+  accept (writeNumbers ns [])
 
 -- the slip of the numbers ns for an output of `room` bytes, where a table has at most `rows` rows: 13, then 11
-unfoldable pub writeWithin : ℕ → List ℕ → ℕ → Out (List ℕ)
+unfoldable pub writeWithin : ℕ → List ℕ → ℕ → Result (List ℕ)
 writeWithin rows ns room = do
   b ← slipWithin rows ns
   roomFor room b
 
 -- the slip of the numbers ns with today's row limit
-abbrev pub slipFor : List ℕ → Out (List ℕ)
+abbrev pub slipFor : List ℕ → Result (List ℕ)
 slipFor ns = slipWithin rowLimit ns
 
 -- the slip of the numbers ns for an output of `room` bytes with today's row limit
-abbrev pub writeSlip : List ℕ → ℕ → Out (List ℕ)
+abbrev pub writeSlip : List ℕ → ℕ → Result (List ℕ)
 writeSlip ns room = writeWithin rowLimit ns room
 
 -- what the slip writer answers for the numbers ns, lent the output `out`
@@ -67,20 +67,20 @@ writeSlipOutput ns out = outputAfter (writeSlip ns (length out)) out
 -- ---- reading
 
 -- the twelve numbers of the slip s, where a table has at most `rows` rows; after them 13 at the first spare byte
-unfoldable pub readWithin : ℕ → List ℕ → Out (List ℕ)
+unfoldable pub readWithin : ℕ → List ℕ → Result (List ℕ)
 readWithin rows s = do
   x ← readNumbers (limitsWithin rows) 0 s
   _ ← check (leb (length (x .left)) 0) 13 (x .place)
-  got (x .value)
+  accept (x .value)
 
 -- the twelve numbers of the slip s with today's row limit
-abbrev pub readSlip : List ℕ → Out (List ℕ)
+abbrev pub readSlip : List ℕ → Result (List ℕ)
 readSlip s = readWithin rowLimit s
 
 -- the reader's answer by what was read: the numbers, or a refusal and twelve zeros
-unfoldable pub slipOf : Out (List ℕ) → Slip
-slipOf (got ns) = record { number = 0; place = 0; numbers = ns }
-slipOf (bad n p) = record { number = n; place = p; numbers = replicate 12 0 }
+unfoldable pub slipOf : Result (List ℕ) → Slip
+slipOf (accept ns) = record { number = 0; place = 0; numbers = ns }
+slipOf (reject n p) = record { number = n; place = p; numbers = replicate 12 0 }
 
 -- what the slip reader answers for the slip s
 unfoldable pub readSlipAnswer : List ℕ → Slip

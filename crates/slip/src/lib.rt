@@ -4,7 +4,7 @@ ghost use mathlib.Core.List.{[]};
 ghost use Prim.Native.Nat.{_≤_};
 ghost use lib.ListN.{length};
 ghost use Rattle.wire.specs.Bytes.{over};
-ghost use Rattle.layout.specs.Out.{bad};
+ghost use Rattle.layout.specs.Result.{reject};
 ghost use Rattle.shared_seven_bit_groups.specs.Groups.{writeNumbers};
 ghost use Rattle.slip.specs.Slips.{limits, limitAt, firstOver, slipOf, writeSlipAnswer, writeSlipOutput, readSlipAnswer};
 use b3d_spec::Written;
@@ -104,7 +104,7 @@ pub fn write_slip(numbers: [u32; 12], out: &mut [u8]) -> Written
 // Returns the answer of a slip that is refused with 13 at `place`.
 fn refused(place: usize) -> Slip
     requires { ⌜ place ≤ 60 ⌝ }
-    ensures { λ r. ⌜ r ≡ slipOf (bad 13 place) ⌝ }
+    ensures { λ r. ⌜ r ≡ slipOf (reject 13 place) ⌝ }
 {
     Slip {
         number: 13,

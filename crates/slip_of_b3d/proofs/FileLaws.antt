@@ -6,7 +6,7 @@ use mathlib.Core.List.{List, [], _∷_}
 use lib.ListN.{length, replicate}
 use lib.Dec.{leb, leb→le}
 use Rattle.wire.specs.Bytes.{AllBytes}
-use Rattle.layout.specs.Out.{Out, got, bad}
+use Rattle.layout.specs.Result.{Result, accept, reject}
 use Rattle.layout.proofs.Outs.{by-check}
 use Rattle.shared_seven_bit_groups.specs.Groups.{AtMost, writeNumbers}
 use Rattle.b3d_spec.specs.declared.Mode.{Mode}
@@ -35,35 +35,35 @@ unfolding counts tables nodeTables
 twelve t = refl
 
 module _ (s : List ℕ) (all : AllBytes s) where
-  in-range : (t : Scene) → judge Lenient s ≡ got t → AtMost limits (sceneNumbers t)
+  in-range : (t : Scene) → judge Lenient s ≡ accept t → AtMost limits (sceneNumbers t)
   unfolding limitsWithin
   in-range t e =
       let j = judge-got Lenient s t e in
       let f = parse-fine s t all (j .0) .0 in
       (leb→le (t .version) 99 (f .version .1), (slots-few (t .slots) (t .brushes) (f .slots), counts-low t (j .1)))
 
-  the-slip : (t : Scene) (e : judge Lenient s ≡ got t) → slipFor (sceneNumbers t) ≡ got (writeNumbers (sceneNumbers t) [])
+  the-slip : (t : Scene) (e : judge Lenient s ≡ accept t) → slipFor (sceneNumbers t) ≡ accept (writeNumbers (sceneNumbers t) [])
   the-slip t e = written rowLimit (sceneNumbers t) (in-range t e)
 
-  numbers : (t : Scene) (e : judge Lenient s ≡ got t) → readSlip (writeNumbers (sceneNumbers t) []) ≡ got (sceneNumbers t)
+  numbers : (t : Scene) (e : judge Lenient s ≡ accept t) → readSlip (writeNumbers (sceneNumbers t) []) ≡ accept (sceneNumbers t)
   numbers t e = one-slip rowLimit .reads-back (sceneNumbers t) (writeNumbers (sceneNumbers t) []) (twelve t) (the-slip t e)
 
-  then : (t : Scene) (e : judge Lenient s ≡ got t) (room : ℕ) → fileSlip s room ≡ roomFor room (writeNumbers (sceneNumbers t) [])
+  then : (t : Scene) (e : judge Lenient s ≡ accept t) (room : ℕ) → fileSlip s room ≡ roomFor room (writeNumbers (sceneNumbers t) [])
   unfolding fileSlip
   then t e room = rw e (one-slip rowLimit .then (sceneNumbers t) (writeNumbers (sceneNumbers t) []) room (the-slip t e))
 
-  room-got : (room : ℕ) (b c : List ℕ) → roomFor room b ≡ got c → c ≡ b
+  room-got : (room : ℕ) (b c : List ℕ) → roomFor room b ≡ accept c → c ≡ b
   unfolding roomFor
   room-got room b c e = by-check (leb (length b) room) 11 (length b) _ e (λ t e₁. cc)
 
-  reader : (mode : Mode) (o : Out Scene) (rooms : ℕ → ℕ) → read mode rooms s ≡ o → answer o .number ≡ 0 → (room : ℕ) (b : List ℕ) → fileSlip s room ≡ got b
-      → readSlip b ≡ got (answer o .version ∷ answer o .«n_texs» ∷ answer o .counts)
+  reader : (mode : Mode) (o : Result Scene) (rooms : ℕ → ℕ) → read mode rooms s ≡ o → answer o .number ≡ 0 → (room : ℕ) (b : List ℕ) → fileSlip s room ≡ accept b
+      → readSlip b ≡ accept (answer o .version ∷ answer o .«n_texs» ∷ answer o .counts)
   unfolding answer
-  reader mode (got t) rooms e z room b f =
+  reader mode (accept t) rooms e z room b f =
       let j = judge-lenient mode s t (read-got mode rooms s t e .0) in
       let same : b ≡ writeNumbers (sceneNumbers t) [] = room-got room (writeNumbers (sceneNumbers t) []) b (sym (then t j room) ∙ f) in
       rw same (numbers t j)
-  reader mode (bad n p) rooms e z room b f = absurd (omega (arith, read-number mode rooms s n p e, z))
+  reader mode (reject n p) rooms e z room b f = absurd (omega (arith, read-number mode rooms s n p e, z))
 
 pub carries : (s : List ℕ) → AllBytes s → Carries s
 unfolding fileSlip readAnswer

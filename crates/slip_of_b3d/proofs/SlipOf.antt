@@ -6,7 +6,7 @@ use native.Mathlib.Omega.{arith}
 use mathlib.Core.List.{List, [], _∷_}
 use lib.ListN.{length, drop, getD, drop-of-length-le}
 use lib.Seq.{drop-cons}
-use Rattle.layout.specs.Out.{Out, got, bad}
+use Rattle.layout.specs.Result.{Result, accept, reject}
 use Rattle.b3d_spec.specs.declared.Mode.the-variants.{Lenient}
 use Rattle.b3d_spec.specs.Answers.{judge, answer, written, outputAfter}
 use Rattle.b3d_spec.specs.Scene.{Scene}
@@ -35,56 +35,56 @@ numbers-are v n l h = ap (λ (r : List ℕ). v ∷ n ∷ r) (each-all 10 0 l h)
 -- ---- `slip_of`
 
 module _ (s out : List ℕ) where
-  answered : (o : Out (List ℕ)) → fileSlip s (length out) ≡ o → (w : Written) → w ≡ written o → w ≡ fileSlipAnswer s out
+  answered : (o : Result (List ℕ)) → fileSlip s (length out) ≡ o → (w : Written) → w ≡ written o → w ≡ fileSlipAnswer s out
   unfolding fileSlipAnswer
   answered o e w h = h ∙ ap written (sym e)
 
-  left-so : (o : Out (List ℕ)) → fileSlip s (length out) ≡ o → (ys : List ℕ) → ys ≡ outputAfter o out → ys ≡ fileSlipOutput s out
+  left-so : (o : Result (List ℕ)) → fileSlip s (length out) ≡ o → (ys : List ℕ) → ys ≡ outputAfter o out → ys ≡ fileSlipOutput s out
   unfolding fileSlipOutput
-  left-so o e ys h = h ∙ ap (λ (x : Out (List ℕ)). outputAfter x out) (sym e)
+  left-so o e ys h = h ∙ ap (λ (x : Result (List ℕ)). outputAfter x out) (sym e)
 
-  bad-slip : (n p : ℕ) → judge Lenient s ≡ bad n p → fileSlip s (length out) ≡ bad n p
+  bad-slip : (n p : ℕ) → judge Lenient s ≡ reject n p → fileSlip s (length out) ≡ reject n p
   unfolding fileSlip
   bad-slip n p e = rw e
 
-  got-slip : (t : Scene) → judge Lenient s ≡ got t → fileSlip s (length out) ≡ writeSlip (sceneNumbers t) (length out)
+  got-slip : (t : Scene) → judge Lenient s ≡ accept t → fileSlip s (length out) ≡ writeSlip (sceneNumbers t) (length out)
   unfolding fileSlip
   got-slip t e = rw e
 
   -- what was answered, by what the file is
   pub record Refused (a : Answer) : Type 0 where
-    pub is : judge Lenient s ≡ bad (a .number) (a .place)
+    pub is : judge Lenient s ≡ reject (a .number) (a .place)
 
   pub record Accepted (a : Answer) : Type 0 where
     pub scene : Scene
-    pub is : judge Lenient s ≡ got scene
+    pub is : judge Lenient s ≡ accept scene
     pub numbers : a .version ∷ a .«n_texs» ∷ a .counts ≡ sceneNumbers scene
 
-  pub refused-as : (o : Out Scene) → judge Lenient s ≡ o → (a : Answer) → a ≡ answer o → (a .number ≡ 0 → ⊥) → Refused a
+  pub refused-as : (o : Result Scene) → judge Lenient s ≡ o → (a : Answer) → a ≡ answer o → (a .number ≡ 0 → ⊥) → Refused a
   unfolding answer
-  refused-as (got t) e a h d = absurd (d (ap (λ (x : Answer). x .number) h))
-  refused-as (bad n p) e a h d = rw h (record { is = e })
+  refused-as (accept t) e a h d = absurd (d (ap (λ (x : Answer). x .number) h))
+  refused-as (reject n p) e a h d = rw h (record { is = e })
 
-  pub accepted-as : (o : Out Scene) → judge Lenient s ≡ o → (a : Answer) → a ≡ answer o → a .number ≡ 0 → Accepted a
+  pub accepted-as : (o : Result Scene) → judge Lenient s ≡ o → (a : Answer) → a ≡ answer o → a .number ≡ 0 → Accepted a
   unfolding answer
-  accepted-as (got t) e a h z = record { scene = t; is = e; numbers = rw h }
-  accepted-as (bad n p) e a h z =
+  accepted-as (accept t) e a h z = record { scene = t; is = e; numbers = rw h }
+  accepted-as (reject n p) e a h z =
       let some = read-number Lenient (λ k. k) s n p (judge-first Lenient s n p e (λ k. k)) in
       let none : n ≡ 0 = sym (ap (λ (x : Answer). x .number) h) ∙ z in
       absurd (omega arith)
 
   module _ (a : Answer) (e : a ≡ answer (judge Lenient s)) where
     module _ (d : a .number ≡ 0 → ⊥) where
-      refused : fileSlip s (length out) ≡ bad (a .number) (a .place)
+      refused : fileSlip s (length out) ≡ reject (a .number) (a .place)
       refused = bad-slip (a .number) (a .place) (refused-as (judge Lenient s) refl a e d .is)
 
       pub file-refused : record { number = a .number; place = a .place; size = 0 } ≡ fileSlipAnswer s out
       unfolding written
-      file-refused = answered (bad (a .number) (a .place)) refused _ refl
+      file-refused = answered (reject (a .number) (a .place)) refused _ refl
 
       pub file-kept : out ≡ fileSlipOutput s out
       unfolding outputAfter
-      file-kept = left-so (bad (a .number) (a .place)) refused out refl
+      file-kept = left-so (reject (a .number) (a .place)) refused out refl
 
     module _ (z : a .number ≡ 0) (ns : List ℕ) (h : ns ≡ a .version ∷ a .«n_texs» ∷ a .counts) where
       accepted : fileSlip s (length out) ≡ writeSlip ns (length out)

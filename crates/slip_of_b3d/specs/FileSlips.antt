@@ -2,7 +2,7 @@
 use Prim.Native.Nat.{ℕ}
 use mathlib.Core.List.{List, _∷_}
 use lib.ListN.{length}
-use Rattle.layout.specs.Out.{Out, _>>=_}
+use Rattle.layout.specs.Result.{Result, _>>=_}
 use Rattle.b3d_spec.specs.declared.Mode.the-variants.{Lenient}
 use Rattle.b3d_spec.specs.Answers.{judge, written, outputAfter}
 use Rattle.b3d_spec.specs.Scene.{Scene}
@@ -15,7 +15,7 @@ abbrev pub sceneNumbers : Scene → List ℕ
 sceneNumbers t = t .version ∷ t .slots ∷ counts t
 
 -- the slip of the file s for an output of `room` bytes: the file's 1 to 10, then 11
-unfoldable pub fileSlip : List ℕ → ℕ → Out (List ℕ)
+unfoldable pub fileSlip : List ℕ → ℕ → Result (List ℕ)
 fileSlip s room = do
   t ← judge Lenient s
   writeSlip (sceneNumbers t) room

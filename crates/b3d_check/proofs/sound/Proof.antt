@@ -44,9 +44,9 @@ says c r e =
     (all-bytes (a .names .now) (λ i. omega (arith, c .shared-slice-known11 .given i)))) r e
 
 -- the counted rows are there
-rooms-here : (c : tie.Else1) → let a = entry (c .before .before .before .before .before .before .before) .args in
+tables-have-rows : (c : tie.Else1) → let a = entry (c .before .before .before .before .before .before .before) .args in
     Rooms (c .before .before .before .before .size .result) (c .before .before .before .size2 .result) (c .before .before .sizes .result) (length (a .t1 .now)) (length (a .t2 .now)) (length (a .t3 .now)) (length (a .t4 .now)) (length (a .t5 .now)) (length (a .t6 .now)) (length (a .t7 .now)) (length (a .t8 .now)) (length (a .t9 .now)) (length (a .t10 .now))
-rooms-here c = rooms-true _ _ _ _ _ _ _ _ _ _ _ _ _ _ (c .before .rooms-here .ensures) (c .if1 .left)
+tables-have-rows c = rooms-true _ _ _ _ _ _ _ _ _ _ _ _ _ _ (c .before .tables-have-rows .ensures) (c .if1 .left)
 
 pub sound-spec : {M : Type 1} → statement M
 sound-spec =
@@ -58,15 +58,15 @@ sound-spec =
     (λ c κs. search needs)
     (λ c κs. search needs)
     (λ c κs. search needs)
-    (λ c. says (c .before .before .before .before .before .before .before) false (no-rooms _ _ _ _ _ _ _ _ _ _ _ _ _ _ _ _ _ _ (c .before .before .before .before .size .ensures) (c .before .before .before .size2 .ensures) (c .before .before .sizes .ensures) _ (c .before .rooms-here .ensures) (c .if1 .taken)))
-    (λ c. says (c .before .before .before .before .before .before .before .before) false (no-version _ _ _ _ _ _ _ _ _ _ _ _ _ _ _ _ _ _ (c .before .before .before .before .before .size .ensures) (c .before .before .before .before .size2 .ensures) (c .before .before .before .sizes .ensures) _ (c .before .before .rooms-here .ensures) (c .before .if1 .left) (c .if2 .taken)))
+    (λ c. says (c .before .before .before .before .before .before .before) false (no-rooms _ _ _ _ _ _ _ _ _ _ _ _ _ _ _ _ _ _ (c .before .before .before .before .size .ensures) (c .before .before .before .size2 .ensures) (c .before .before .sizes .ensures) _ (c .before .tables-have-rows .ensures) (c .if1 .taken)))
+    (λ c. says (c .before .before .before .before .before .before .before .before) false (no-version _ _ _ _ _ _ _ _ _ _ _ _ _ _ _ _ _ _ (c .before .before .before .before .before .size .ensures) (c .before .before .before .before .size2 .ensures) (c .before .before .before .sizes .ensures) _ (c .before .before .tables-have-rows .ensures) (c .before .if1 .left) (c .if2 .taken)))
     (λ c κs. search needs)
-    (λ c. says (c .before .before .before .before .before .before .before .before .before .before) false (no-slots _ _ _ _ _ _ _ _ _ _ _ _ _ _ _ _ _ _ (c .before .before .before .before .before .before .before .size .ensures) (c .before .before .before .before .before .before .size2 .ensures) (c .before .before .before .before .before .sizes .ensures) _ (c .before .before .before .before .rooms-here .ensures) (c .before .before .before .if1 .left) (c .before .before .if2 .left) _ (c .before .slots-here .ensures) (c .if3 .taken)))
-    (λ c κs. (rooms-here (c .before .before .before)) .room₁)
-    (λ c. says (c .before .before .before .before .before .before .before .before .before .before .before .before) false (no-textures _ _ _ _ _ _ _ _ _ _ _ _ _ _ _ _ _ _ (c .before .before .before .before .before .before .before .before .before .size .ensures) (c .before .before .before .before .before .before .before .before .size2 .ensures) (c .before .before .before .before .before .before .before .sizes .ensures) _ (c .before .before .before .before .before .before .rooms-here .ensures) (c .before .before .before .before .before .if1 .left) (c .before .before .before .before .if2 .left) _ (c .before .before .before .slots-here .ensures) (c .before .before .if3 .left) _ (c .before .textures-here .ensures) (c .if4 .taken)))
-    (λ c κs. (slots-eight _ _ _ (c .before .before .before .slots-here .ensures) (c .before .before .if3 .left), (rooms-here (c .before .before .before .before .before)) .room₂))
-    (λ c. says (c .before .before .before .before .before .before .before .before .before .before .before .before .before .before) false (no-brushes _ _ _ _ _ _ _ _ _ _ _ _ _ _ _ _ _ _ (c .before .before .before .before .before .before .before .before .before .before .before .size .ensures) (c .before .before .before .before .before .before .before .before .before .before .size2 .ensures) (c .before .before .before .before .before .before .before .before .before .sizes .ensures) _ (c .before .before .before .before .before .before .before .before .rooms-here .ensures) (c .before .before .before .before .before .before .before .if1 .left) (c .before .before .before .before .before .before .if2 .left) _ (c .before .before .before .before .before .slots-here .ensures) (c .before .before .before .before .if3 .left) _ (c .before .before .before .textures-here .ensures) (c .before .before .if4 .left) _ (c .before .brushes-here .ensures) (c .if5 .taken)))
-    (λ c κs. let h = (rooms-here (c .before .before .before .before .before .before .before)) in ((h .limited, h .kinds), (h .room₃, h .lists)))
-    (λ c. says (c .before .before .before .before .before .before .before .before .before .before .before .before .before .before .before .before) false (no-tree _ _ _ _ _ _ _ _ _ _ _ _ _ _ _ _ _ _ (c .before .before .before .before .before .before .before .before .before .before .before .before .before .size .ensures) (c .before .before .before .before .before .before .before .before .before .before .before .before .size2 .ensures) (c .before .before .before .before .before .before .before .before .before .before .before .sizes .ensures) _ (c .before .before .before .before .before .before .before .before .before .before .rooms-here .ensures) (c .before .before .before .before .before .before .before .before .before .if1 .left) (c .before .before .before .before .before .before .before .before .if2 .left) _ (c .before .before .before .before .before .before .before .slots-here .ensures) (c .before .before .before .before .before .before .if3 .left) _ (c .before .before .before .before .before .textures-here .ensures) (c .before .before .before .before .if4 .left) _ (c .before .before .before .brushes-here .ensures) (c .before .before .if5 .left) _ (c .before .tree-here .ensures) (c .if6 .taken)))
-    (λ c κs. let h = (rooms-here (c .before .before .before .before .before .before .before .before .before)) in (h .room₂, h .kinds .room₅))
-    (λ c. says (c .before .before .before .before .before .before .before .before .before .before .before .before .before .before .before .before .before) _ (by-colours _ _ _ _ _ _ _ _ _ _ _ _ _ _ _ _ _ _ (c .before .before .before .before .before .before .before .before .before .before .before .before .before .before .size .ensures) (c .before .before .before .before .before .before .before .before .before .before .before .before .before .size2 .ensures) (c .before .before .before .before .before .before .before .before .before .before .before .before .sizes .ensures) _ (c .before .before .before .before .before .before .before .before .before .before .before .rooms-here .ensures) (c .before .before .before .before .before .before .before .before .before .before .if1 .left) (c .before .before .before .before .before .before .before .before .before .if2 .left) _ (c .before .before .before .before .before .before .before .before .slots-here .ensures) (c .before .before .before .before .before .before .before .if3 .left) _ (c .before .before .before .before .before .before .textures-here .ensures) (c .before .before .before .before .before .if4 .left) _ (c .before .before .before .before .brushes-here .ensures) (c .before .before .before .if5 .left) _ (c .before .before .tree-here .ensures) (c .before .if6 .left) _ (c .colours-here .ensures))))
+    (λ c. says (c .before .before .before .before .before .before .before .before .before .before) false (no-slots _ _ _ _ _ _ _ _ _ _ _ _ _ _ _ _ _ _ (c .before .before .before .before .before .before .before .size .ensures) (c .before .before .before .before .before .before .size2 .ensures) (c .before .before .before .before .before .sizes .ensures) _ (c .before .before .before .before .tables-have-rows .ensures) (c .before .before .before .if1 .left) (c .before .before .if2 .left) _ (c .before .slots-valid .ensures) (c .if3 .taken)))
+    (λ c κs. (tables-have-rows (c .before .before .before)) .room₁)
+    (λ c. says (c .before .before .before .before .before .before .before .before .before .before .before .before) false (no-textures _ _ _ _ _ _ _ _ _ _ _ _ _ _ _ _ _ _ (c .before .before .before .before .before .before .before .before .before .size .ensures) (c .before .before .before .before .before .before .before .before .size2 .ensures) (c .before .before .before .before .before .before .before .sizes .ensures) _ (c .before .before .before .before .before .before .tables-have-rows .ensures) (c .before .before .before .before .before .if1 .left) (c .before .before .before .before .if2 .left) _ (c .before .before .before .slots-valid .ensures) (c .before .before .if3 .left) _ (c .before .textures-valid .ensures) (c .if4 .taken)))
+    (λ c κs. (slots-eight _ _ _ (c .before .before .before .slots-valid .ensures) (c .before .before .if3 .left), (tables-have-rows (c .before .before .before .before .before)) .room₂))
+    (λ c. says (c .before .before .before .before .before .before .before .before .before .before .before .before .before .before) false (no-brushes _ _ _ _ _ _ _ _ _ _ _ _ _ _ _ _ _ _ (c .before .before .before .before .before .before .before .before .before .before .before .size .ensures) (c .before .before .before .before .before .before .before .before .before .before .size2 .ensures) (c .before .before .before .before .before .before .before .before .before .sizes .ensures) _ (c .before .before .before .before .before .before .before .before .tables-have-rows .ensures) (c .before .before .before .before .before .before .before .if1 .left) (c .before .before .before .before .before .before .if2 .left) _ (c .before .before .before .before .before .slots-valid .ensures) (c .before .before .before .before .if3 .left) _ (c .before .before .before .textures-valid .ensures) (c .before .before .if4 .left) _ (c .before .brushes-valid .ensures) (c .if5 .taken)))
+    (λ c κs. let h = (tables-have-rows (c .before .before .before .before .before .before .before)) in ((h .limited, h .kinds), (h .room₃, h .lists)))
+    (λ c. says (c .before .before .before .before .before .before .before .before .before .before .before .before .before .before .before .before) false (no-tree _ _ _ _ _ _ _ _ _ _ _ _ _ _ _ _ _ _ (c .before .before .before .before .before .before .before .before .before .before .before .before .before .size .ensures) (c .before .before .before .before .before .before .before .before .before .before .before .before .size2 .ensures) (c .before .before .before .before .before .before .before .before .before .before .before .sizes .ensures) _ (c .before .before .before .before .before .before .before .before .before .before .tables-have-rows .ensures) (c .before .before .before .before .before .before .before .before .before .if1 .left) (c .before .before .before .before .before .before .before .before .if2 .left) _ (c .before .before .before .before .before .before .before .slots-valid .ensures) (c .before .before .before .before .before .before .if3 .left) _ (c .before .before .before .before .before .textures-valid .ensures) (c .before .before .before .before .if4 .left) _ (c .before .before .before .brushes-valid .ensures) (c .before .before .if5 .left) _ (c .before .tree-valid .ensures) (c .if6 .taken)))
+    (λ c κs. let h = (tables-have-rows (c .before .before .before .before .before .before .before .before .before)) in (h .room₂, h .kinds .room₅))
+    (λ c. says (c .before .before .before .before .before .before .before .before .before .before .before .before .before .before .before .before .before) _ (by-colours _ _ _ _ _ _ _ _ _ _ _ _ _ _ _ _ _ _ (c .before .before .before .before .before .before .before .before .before .before .before .before .before .before .size .ensures) (c .before .before .before .before .before .before .before .before .before .before .before .before .before .size2 .ensures) (c .before .before .before .before .before .before .before .before .before .before .before .before .sizes .ensures) _ (c .before .before .before .before .before .before .before .before .before .before .before .tables-have-rows .ensures) (c .before .before .before .before .before .before .before .before .before .before .if1 .left) (c .before .before .before .before .before .before .before .before .before .if2 .left) _ (c .before .before .before .before .before .before .before .before .slots-valid .ensures) (c .before .before .before .before .before .before .before .if3 .left) _ (c .before .before .before .before .before .before .textures-valid .ensures) (c .before .before .before .before .before .if4 .left) _ (c .before .before .before .before .brushes-valid .ensures) (c .before .before .before .if5 .left) _ (c .before .before .tree-valid .ensures) (c .before .if6 .left) _ (c .colours-valid .ensures))))

@@ -1,4 +1,4 @@
--- `vertices_left` answers `rowsHere` of vertices.
+-- `vertices_left` answers `rowsValid` of vertices.
 use Rattle.b3d_check_mesh.proofs.MeshLaws.{left-laws}
 use borrow.Author.Needs.{needs}
 use Rattle.b3d_check_mesh.proofs.vertices_left.Statement.{statement}

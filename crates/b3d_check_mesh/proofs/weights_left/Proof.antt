@@ -1,4 +1,4 @@
--- `weights_left` answers `rowsHere` of weights.
+-- `weights_left` answers `rowsValid` of weights.
 use Rattle.b3d_check_mesh.proofs.MeshLaws.{left-laws}
 use borrow.Author.Needs.{needs}
 use Rattle.b3d_check_mesh.proofs.weights_left.Statement.{statement}

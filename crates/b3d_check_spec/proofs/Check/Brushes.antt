@@ -9,7 +9,7 @@ use lib.Seq.{drop-at, drop-drop}
 use lib.Dec.{eqb, eqb·suc-zero}
 use Rattle.wire.specs.Bytes.{IsWord, AllBytes}
 use Rattle.wire.specs.Test.{if}
-use Rattle.layout.specs.Fit.{all}
+use Rattle.layout.specs.WellFormed.{all}
 use Rattle.layout.specs.Parts.{Name}
 use Rattle.layout.specs.Rules.{NONE, holds}
 use Rattle.layout.proofs.Fitting.{Fits}
@@ -22,7 +22,7 @@ use Rattle.b3d_spec.specs.Scene.{Brush}
 use Rattle.b3d_spec.specs.Tables.{textureRow, brushRow}
 use Rattle.b3d_spec.proofs.Fitting.{FitTexture, FitBrush, FitSlots}
 use Rattle.b3d_spec.proofs.Rows.RowParts.{Stands}
-use Rattle.b3d_check_spec.specs.Check.{keeps, nameHere, brushHere, slotsHere}
+use Rattle.b3d_check_spec.specs.Check.{keeps, nameValid, brushValid, slotsValid}
 use Rattle.b3d_check_spec.proofs.Check.Testing.{yes-if, same-is}
 use Rattle.b3d_check_spec.proofs.Check.Rows.{Full, full-take, full-drop, cells, cells-front, keeps-is, one-is, any-fits}
 use Rattle.b3d_check_spec.proofs.Check.Kinds.{name-is}
@@ -31,7 +31,7 @@ use Rattle.b3d_check_spec.proofs.Check.Kinds.{name-is}
 abbrev pub PartIs : {A : Type 0} → (A → Type 0) → (Name → Type 0) → (A → Name) → (A → List ℕ) → List ℕ → A → Type 0
 PartIs Ok In name row x a = Ok a × In (name a) × (row a ≡ x)
 
-pub texture-is : (ns x : List ℕ) → AllBytes ns → Full 9 x → Tests (nameHere ns x) (PartIs FitTexture (Stands ns) (λ t. t .name) textureRow x (textureFrom ns x))
+pub texture-is : (ns x : List ℕ) → AllBytes ns → Full 9 x → Tests (nameValid ns x) (PartIs FitTexture (Stands ns) (λ t. t .name) textureRow x (textureFrom ns x))
 unfolding textureFrom textureRow nameCells nameFrom cells
 texture-is ns x wn w =
     via
@@ -53,8 +53,8 @@ ids-is s t z le w =
     (both (keeps-is (brushIds s t) ids (subst (λ (k : ℕ). Full k ids) (sym wr) wi)) (same-is NONE (8 - length ids) (drop s z) lr))
 
 pub brush-is : (ns : List ℕ) (s t : ℕ) (x : List ℕ) → s ≤ 8 → AllBytes ns → Full 17 x
-    → Tests (brushHere ns s t x) (PartIs (FitBrush s t) (Stands ns) (λ b. b .name) brushRow x (brushFrom ns s x))
-unfolding brushHere brushFrom brushRow nameCells nameFrom cells
+    → Tests (brushValid ns s t x) (PartIs (FitBrush s t) (Stands ns) (λ b. b .name) brushRow x (brushFrom ns s x))
+unfolding brushValid brushFrom brushRow nameCells nameFrom cells
 brush-is ns s t x le wn w =
     let v = take 7 (drop 2 x) in
     let wv : Full 7 v = full-take 7 15 (drop 2 x) (omega arith) (full-drop 2 15 x w) in
@@ -66,8 +66,8 @@ brush-is ns s t x le wn w =
     (λ h. ((h .0 .0, h .1, ap (λ (r : List ℕ). getD r 1 0) (h .2)), (h .0 .2, sym (drop-at v _ 7 (wv .0)) ∙ ap (λ (r : List ℕ). drop 9 r) (h .2))))
     (both (name-is ns x wn) (ids-is s t (drop 9 x) le (full-drop 9 8 x w)))
 
-pub slots-is : (s : ℕ) (bs : List Brush) → IsWord s → Tests (slotsHere s (length bs)) (FitSlots s bs)
-unfolding slotsHere if
+pub slots-is : (s : ℕ) (bs : List Brush) → IsWord s → Tests (slotsValid s (length bs)) (FitSlots s bs)
+unfolding slotsValid if
 slots-is s [] w = eq-is s 0
 slots-is s (b ∷ bs) w = subst (λ (c : Bool). Tests (if c (eqb s 0) (holds slots s)) (Fits brushesHead (s ∷ []))) (sym (eqb·suc-zero (length bs))) (one-is slots s w)
 

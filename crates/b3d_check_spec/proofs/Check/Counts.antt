@@ -10,13 +10,13 @@ use lib.ListN.{length, take, drop, getD}
 use lib.Seq.{getD-drop, getD-take}
 use lib.Dec.{eqb}
 use Rattle.wire.specs.Test.{if}
-use Rattle.b3d_spec.specs.Rebuild.{setsFrom, meshFrom, mine, keysFrom, animFrom, Rows, kindFrom, dataFrom}
-use Rattle.b3d_spec.specs.Rules.{ownVertices, animated, bonesFrom, bonesBelow}
-use Rattle.b3d_spec.specs.Scene.{Kind, pivot, mesh, bone, still, anim}
+use Rattle.b3d_spec.specs.Rebuild.{setsFrom, meshFrom, ownedBy, keysFrom, animFrom, Rows, kindFrom, dataFrom}
+use Rattle.b3d_spec.specs.Rules.{ownVertices, animated, boneLimitFrom, boneLimitBelow}
+use Rattle.b3d_spec.specs.Scene.{Kind, pivot, mesh, bone, noAnim, anim}
 use Rattle.b3d_spec.specs.Tables.{start, meshesOf, weightsOf, kindCells, meshRow, setRows, keyRows, meshRows, withMeshes, withNode}
 use Rattle.b3d_spec.specs.declared.Counts.{Counts}
 use Rattle.b3d_spec.proofs.Rows.RowParts.{sets-length}
-use Rattle.b3d_check_spec.specs.CellCounts.{endOf, meshCounts, weightCounts, kindCounts, nodeCounts, cellCounts, cellBones}
+use Rattle.b3d_check_spec.specs.CellCounts.{endOf, meshCounts, weightCounts, kindCounts, nodeCounts, cellCounts, cellBoneLimit}
 use Rattle.b3d_check_spec.proofs.Check.Testing.{if-both}
 use Rattle.b3d_check_spec.proofs.Check.Rows.{begins-take}
 use Rattle.b3d_check_spec.proofs.Check.Runs.{runs-length, runs-end, setsRun, sets-law, listsRun, lists-law}
@@ -78,12 +78,12 @@ own-more pivot n = omega arith
 own-more (mesh m) n = refl
 own-more (bone ws) n = omega arith
 
-anim-there : (c : Bool) (ws : List ℕ) → animated (if c (anim ws) still) ≡ c
+anim-there : (c : Bool) (ws : List ℕ) → animated (if c (anim ws) noAnim) ≡ c
 unfolding if
 anim-there true ws = refl
 anim-there false ws = refl
 
-bones-if : (told own : ℕ) (c : Bool) → bonesFrom (some told) c own ≡ some (if c own told)
+bones-if : (told own : ℕ) (c : Bool) → boneLimitFrom (some told) c own ≡ some (if c own told)
 unfolding if
 bones-if told own true = refl
 bones-if told own false = refl
@@ -96,7 +96,7 @@ module _ (ns : List ℕ) (b c : ℕ) (R : Rows) (x : List ℕ) (n : Counts) (her
       let p = node-from ns b c R x n here in
       let y = drop 13 x in
       let k = kindFrom R n (getD y 0 0) (getD y 2 0) in
-      let ls = mine (n .nodes) (drop (n .lists) (R 9)) in
+      let ls = ownedBy (n .nodes) (drop (n .lists) (R 9)) in
       let ks = drop (n .keys) (R 10) in
       let s = same-rest k n in
       let e : withKind k n ≡ kindCounts R n y = kind-counts b c R n y (p .1 .0) in
@@ -112,14 +112,14 @@ module _ (ns : List ℕ) (b c : ℕ) (R : Rows) (x : List ℕ) (n : Counts) (her
       omega (arith, own-more ((dataFrom ns R x n) .kind) n)
 
   -- what this node says of bones, where it was told so many vertices
-  pub cell-bones : (told : ℕ) → bonesBelow (some told) (dataFrom ns R x n) ≡ some (cellBones told R x n)
-  unfolding dataFrom animFrom cellBones
+  pub cell-bones : (told : ℕ) → boneLimitBelow (some told) (dataFrom ns R x n) ≡ some (cellBoneLimit told R x n)
+  unfolding dataFrom animFrom cellBoneLimit
   cell-bones told =
       let c : animated ((dataFrom ns R x n) .anim) ≡ eqb (getD x 16 0) 1 =
       anim-there (eqb (getD (take 4 (drop 3 (drop 13 x))) 0 0) 1) _ ∙ ap (λ (z : ℕ). eqb z 1) (getD-take 4 (drop 3 (drop 13 x)) 0 0 (omega arith) ∙ getD-drop 3 (drop 13 x) 0 0 ∙ getD-drop 13 x 3 0) in
-      ap₂ (bonesFrom (some told)) c own-cells ∙ bones-if told ((cellCounts R x n) .vertices - n .vertices) (eqb (getD x 16 0) 1)
+      ap₂ (boneLimitFrom (some told)) c own-cells ∙ bones-if told ((cellCounts R x n) .vertices - n .vertices) (eqb (getD x 16 0) 1)
 
 -- what the root says
-pub root-bones : (ns : List ℕ) (b c : ℕ) (R : Rows) (x : List ℕ) → NodeIs ns b c R x start (dataFrom ns R x start) → bonesBelow none (dataFrom ns R x start) ≡ some ((cellCounts R x start) .vertices)
+pub root-bones : (ns : List ℕ) (b c : ℕ) (R : Rows) (x : List ℕ) → NodeIs ns b c R x start (dataFrom ns R x start) → boneLimitBelow none (dataFrom ns R x start) ≡ some ((cellCounts R x start) .vertices)
 unfolding start
 root-bones ns b c R x h = let e : (cellCounts R x start) .vertices - 0 ≡ (cellCounts R x start) .vertices = omega arith in ap some (own-cells ns b c R x start h ∙ e)

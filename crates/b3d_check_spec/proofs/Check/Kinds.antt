@@ -21,7 +21,7 @@ use Rattle.b3d_spec.specs.Tables.{meshesOf, weightsOf, kindCells, animCells, me
 use Rattle.b3d_spec.specs.declared.Counts.{Counts}
 use Rattle.b3d_spec.proofs.Fitting.{FitKind, FitAnim}
 use Rattle.b3d_spec.proofs.Rows.RowParts.{Stands}
-use Rattle.b3d_check_spec.specs.Check.{rowsHere, nameHere, meshHere, kindHere, animHere, keeps}
+use Rattle.b3d_check_spec.specs.Check.{rowsValid, nameValid, meshValid, kindValid, animValid, keeps}
 use Rattle.b3d_check_spec.proofs.Check.Testing.{yes-if, then, all-on, if-both, same-is}
 use Rattle.b3d_check_spec.proofs.Check.Rows.{Begins, take-begins, all-take, all-drop, take-is, Full, full-drop, cells, cells-take, cells-front, keeps-is, any-fits}
 use Rattle.b3d_check_spec.proofs.Check.Meshes.{mesh-is}
@@ -36,8 +36,8 @@ text-fits : (bs : List ℕ) → All (λ (b : ℕ). 0 < b) bs → AllBytes bs →
 text-fits [] h w = tt
 text-fits (b ∷ bs) h w = ((h .0, w .0), text-fits bs (h .1) (w .1))
 
-pub name-is : (ns x : List ℕ) → AllBytes ns → Tests (nameHere ns x) (NameIs ns x (nameFrom ns x))
-unfolding nameHere nameFrom
+pub name-is : (ns x : List ℕ) → AllBytes ns → Tests (nameValid ns x) (NameIs ns x (nameFrom ns x))
+unfolding nameValid nameFrom
 name-is ns x wn =
     let p = getD x 0 0 in
     let c = getD x 1 0 in
@@ -101,7 +101,7 @@ module _ (b c : ℕ) (R : Rows) (n : Counts) (y : List ℕ) (whole : Whole R) (w
 
   mesh-kind : getD y 0 0 ≡ 1
       → Tests (eqb (getD y 1 0) (n .meshes) && (eqb (getD y 2 0) 1 && (ltb 0 (length l)
-      && meshHere b n (getD l 0 []) (drop (n .vertices) (R 5)) (drop (n .sets) (R 6)) (drop (n .triangles) (R 7)))))
+      && meshValid b n (getD l 0 []) (drop (n .vertices) (R 5)) (drop (n .sets) (R 6)) (drop (n .triangles) (R 7)))))
       (KindIs b c R n y (mesh (meshFrom (getD l 0 []) (drop (n .vertices) (R 5)) (drop (n .sets) (R 6)) (drop (n .triangles) (R 7)))))
   unfolding kindCells meshRows meshesOf weightsOf if
   mesh-kind e =
@@ -123,9 +123,9 @@ module _ (b c : ℕ) (R : Rows) (n : Counts) (y : List ℕ) (whole : Whole R) (w
       (all-drop (Full 4) (n .sets) (R 6) (whole .sets)) (all-drop (Full 3) (n .triangles) (R 7) (whole .triangles))))))
 
   bone-kind : getD y 0 0 ≡ 2
-      → Tests (eqb (getD y 1 0) (n .weights) && rowsHere (keeps (weightRow c)) (getD y 2 0) (drop (n .weights) (R 8)))
+      → Tests (eqb (getD y 1 0) (n .weights) && rowsValid (keeps (weightRow c)) (getD y 2 0) (drop (n .weights) (R 8)))
       (KindIs b c R n y (bone (take (getD y 2 0) (drop (n .weights) (R 8)))))
-  unfolding kindCells meshRows meshesOf weightsOf rowsHere
+  unfolding kindCells meshRows meshesOf weightsOf rowsValid
   bone-kind e =
       let r = drop (n .weights) (R 8) in
       let k = getD y 2 0 in
@@ -147,8 +147,8 @@ module _ (b c : ℕ) (R : Rows) (n : Counts) (y : List ℕ) (whole : Whole R) (w
       (t 0 (omega arith), (t 1 (omega arith), t 2 (omega arith))))
       (both (eq-is (getD y 0 0) 0) (both (eq-is (getD y 1 0) 0) (eq-is (getD y 2 0) 0)))
 
-  pub kind-is : Tests (kindHere b c R n y) (KindIs b c R n y (kindFrom R n (getD y 0 0) (getD y 2 0)))
-  unfolding kindHere kindFrom
+  pub kind-is : Tests (kindValid b c R n y) (KindIs b c R n y (kindFrom R n (getD y 0 0) (getD y 2 0)))
+  unfolding kindValid kindFrom
   kind-is =
       let is : Bool → Kind → Type 0 = λ a k. Tests a (KindIs b c R n y k) in
       if-both is (eqb (getD y 0 0) 1) _ _ _ _ (λ h. mesh-kind (eqb→eq (getD y 0 0) 1 h))
@@ -159,8 +159,8 @@ module _ (b c : ℕ) (R : Rows) (n : Counts) (y : List ℕ) (whole : Whole R) (w
 abbrev pub AnimIs : List ℕ → Anim → Type 0
 AnimIs z a = (animCells a ≡ z) × FitAnim a
 
-pub anim-is : (z : List ℕ) → Full 4 z → Tests (animHere z) (AnimIs z (animFrom z))
-unfolding animHere animFrom animCells cells
+pub anim-is : (z : List ℕ) → Full 4 z → Tests (animValid z) (AnimIs z (animFrom z))
+unfolding animValid animFrom animCells cells
 anim-is z w =
     if-both (λ a k. Tests a (AnimIs z k)) (eqb (getD z 0 0) 1) _ _ _ _
     (λ h. yes-if (ap (λ (k : ℕ). k ∷ drop 1 z) (sym (eqb→eq (getD z 0 0) 1 h)) ∙ cells-front z 1 (omega arith), any-fits 3 (drop 1 z) (full-drop 1 3 z w)))

@@ -6,12 +6,12 @@ use mathlib.Core.Bool.{Bool, true, false}
 use mathlib.Core.List.{List, [], _∷_, map}
 use lib.ListN.{length, replicate}
 use lib.Dec.{leb→le}
-use Rattle.layout.specs.Fit.{all}
+use Rattle.layout.specs.WellFormed.{all}
 use Rattle.layout.specs.Rules.{any}
 use Rattle.layout.proofs.Fitting.{Fits}
 use Rattle.layout.proofs.Lists.{All, all-map, all-of-map, map-back, cons-head, cons-tail}
 use Rattle.layout.proofs.Testing.{Tests, both, via, eq-is}
-use Rattle.b3d_spec.specs.Mask.{ones, spread, squeeze, vertexHas, vertexMask, keyHas, keyMask}
+use Rattle.b3d_spec.specs.Mask.{ones, padded, presentWords, vertexHas, vertexMask, keyHas, keyMask}
 use Rattle.b3d_spec.specs.declared.Mode.the-variants.{Lenient}
 use Rattle.b3d_spec.specs.Rules.{verticesHead, vertexRow, vertexWords, keysHead, keyRow, keyWords}
 use Rattle.b3d_spec.proofs.Rows.MaskLaws.{mask-length, vertex-words, key-words}
@@ -19,16 +19,16 @@ use Rattle.b3d_check_spec.specs.Check.{clean}
 use Rattle.b3d_check_spec.proofs.Check.Testing.{yes-if, all-on}
 use Rattle.b3d_check_spec.proofs.Check.Rows.{Full, any-fits}
 
-clean-is : (m : List Bool) (r : List ℕ) → length r ≡ length m → Tests (clean m r) (spread m (squeeze m r) ≡ r)
-unfolding clean spread squeeze
+clean-is : (m : List Bool) (r : List ℕ) → length r ≡ length m → Tests (clean m r) (padded m (presentWords m r) ≡ r)
+unfolding clean padded presentWords
 clean-is [] [] e = yes-if refl
 clean-is [] (x ∷ r) e = absurd (suc-ne-zero (length r) e)
 clean-is (b ∷ m) [] e = absurd (suc-ne-zero (length m) (sym e))
 clean-is (true ∷ m) (x ∷ r) e = via (λ h. ap (λ (l : List ℕ). x ∷ l) h) (λ h. cons-tail h) (clean-is m r (suc-inj e))
 clean-is (false ∷ m) (x ∷ r) e = via (λ h. ap₂ _∷_ (sym (h .0)) (h .1)) (λ h. (sym (cons-head h), cons-tail h)) (both (eq-is x 0) (clean-is m r (suc-inj e)))
 
-squeeze-full : (m : List Bool) (r : List ℕ) → Full (length m) r → Full (ones m) (squeeze m r)
-unfolding squeeze ones
+squeeze-full : (m : List Bool) (r : List ℕ) → Full (length m) r → Full (ones m) (presentWords m r)
+unfolding presentWords ones
 squeeze-full [] r f = (refl, tt)
 squeeze-full (b ∷ m) [] f = absurd (suc-ne-zero (length m) (sym (f .0)))
 squeeze-full (true ∷ m) (x ∷ r) f = let g = squeeze-full m r (suc-inj (f .0), f .1 .1) in (ap suc (g .0), (f .1 .0, g .1))
@@ -43,14 +43,14 @@ module _ (m : List Bool) (w : ℕ) (wide : length m ≡ w) (l : List (List ℕ))
   known = subst (λ (k : ℕ). All (Full k) l) (sym wide) full
 
   -- rows are clean just where they are those of the words that are there
-  pub masked-is : Tests (all (clean m) l) (map (spread m) (map (squeeze m) l) ≡ l)
-  masked-is = via (map-back (squeeze m) (spread m) l) (map-same (spread m) (squeeze m) l) (all-on (Full (length m)) (λ r f. clean-is m r (f .0)) l known)
+  pub masked-is : Tests (all (clean m) l) (map (padded m) (map (presentWords m) l) ≡ l)
+  masked-is = via (map-back (presentWords m) (padded m) l) (map-same (padded m) (presentWords m) l) (all-on (Full (length m)) (λ r f. clean-is m r (f .0)) l known)
 
   -- and these are so many words
-  masked-fit : (n : ℕ) → ones m ≡ n → All (Fits (replicate n any)) (map (squeeze m) l)
+  masked-fit : (n : ℕ) → ones m ≡ n → All (Fits (replicate n any)) (map (presentWords m) l)
   masked-fit n e =
-      subst (λ (k : ℕ). All (Fits (replicate k any)) (map (squeeze m) l)) e
-      (all-of-map (Fits (replicate (ones m) any)) (squeeze m) l (all-map (Full (length m)) _ (λ r f. any-fits (ones m) (squeeze m r) (squeeze-full m r f)) l known))
+      subst (λ (k : ℕ). All (Fits (replicate k any)) (map (presentWords m) l)) e
+      (all-of-map (Fits (replicate (ones m) any)) (presentWords m) l (all-map (Full (length m)) _ (λ r f. any-fits (ones m) (presentWords m r) (squeeze-full m r f)) l known))
 
 -- ---- vertices and keys
 
@@ -62,9 +62,9 @@ pub key-wide : (f : ℕ) → length (keyMask f) ≡ 11
 unfolding keyMask
 key-wide f = mask-length (keyHas f) 11 0
 
-pub vertices-fit : (f s z : ℕ) (l : List (List ℕ)) → All (Full 42) l → Fits verticesHead (f ∷ s ∷ z ∷ []) → All (Fits (vertexRow Lenient f s z)) (map (squeeze (vertexMask f s z)) l)
+pub vertices-fit : (f s z : ℕ) (l : List (List ℕ)) → All (Full 42) l → Fits verticesHead (f ∷ s ∷ z ∷ []) → All (Fits (vertexRow Lenient f s z)) (map (presentWords (vertexMask f s z)) l)
 vertices-fit f s z l w h =
     masked-fit (vertexMask f s z) 42 (vertex-wide f s z) l w (vertexWords f s z) (vertex-words f s z (leb→le _ _ (h .1)) (leb→le _ _ (h .2 .1)) (leb→le _ _ (h .2 .2 .1)))
 
-pub keys-fit : (f : ℕ) (l : List (List ℕ)) → All (Full 11) l → Fits keysHead (f ∷ []) → All (Fits (keyRow f)) (map (squeeze (keyMask f)) l)
+pub keys-fit : (f : ℕ) (l : List (List ℕ)) → All (Full 11) l → Fits keysHead (f ∷ []) → All (Fits (keyRow f)) (map (presentWords (keyMask f)) l)
 keys-fit f l w h = masked-fit (keyMask f) 11 (key-wide f) l w (keyWords f) (key-words f (leb→le _ _ (h .1)))

@@ -7,31 +7,31 @@ use lib.ListN.{length, take, getD, length-map}
 use Rattle.layout.proofs.Fitting.{Fits}
 use Rattle.layout.proofs.Lists.{All}
 use Rattle.layout.proofs.Testing.{Tests, both, via, lt-is, eq-is}
-use Rattle.b3d_spec.specs.Mask.{spread, squeeze, vertexMask, keyMask}
+use Rattle.b3d_spec.specs.Mask.{padded, presentWords, vertexMask, keyMask}
 use Rattle.b3d_spec.specs.Rebuild.{setsFrom, meshFrom}
 use Rattle.b3d_spec.specs.Rules.{vertexFlags, sets, setSize, keyFlags, brushId, verticesHead, triangleRow}
 use Rattle.b3d_spec.specs.Tables.{meshRow, vertexRows, setRows, triangleRows}
 use Rattle.b3d_spec.specs.declared.Counts.{Counts}
 use Rattle.b3d_spec.proofs.Fitting.{FitTriangles, FitMesh, FitKeys}
 use Rattle.b3d_spec.proofs.Rows.RowParts.{sets-length}
-use Rattle.b3d_check_spec.specs.Check.{rowsHere, runsHere, setHere, meshHere, listHere}
+use Rattle.b3d_check_spec.specs.Check.{rowsValid, groupsValid, setValid, meshValid, keyListValid}
 use Rattle.b3d_check_spec.proofs.Check.Testing.{all-on}
 use Rattle.b3d_check_spec.proofs.Check.Rows.{Begins, begins-take, take-begins, all-take, take-is, Full, cell-word, cells, cells-are, keeps-is, one-is}
 use Rattle.b3d_check_spec.proofs.Check.Masks.{masked-is, vertex-wide, key-wide, vertices-fit, keys-fit}
 use Rattle.b3d_check_spec.proofs.Check.Runs.{RunsAre, runs-length, runs-is, setsRun, sets-law, listsRun, lists-law}
 
-pub lists-is : (i k : ℕ) (xs ks : List (List ℕ)) → All (λ x. Full 4 x × (getD x 0 0 ≡ i)) xs → All (Full 11) ks → Tests (runsHere listHere k xs ks) (RunsAre listsRun FitKeys i k xs ks)
-unfolding listHere
+pub lists-is : (i k : ℕ) (xs ks : List (List ℕ)) → All (λ x. Full 4 x × (getD x 0 0 ≡ i)) xs → All (Full 11) ks → Tests (groupsValid keyListValid k xs ks) (RunsAre listsRun FitKeys i k xs ks)
+unfolding keyListValid
 lists-is i k =
-    runs-is listsRun lists-law FitKeys i 11 (λ x. Full 4 x × (getD x 0 0 ≡ i)) listHere (λ x f. f .0 .0)
+    runs-is listsRun lists-law FitKeys i 11 (λ x. Full 4 x × (getD x 0 0 ≡ i)) keyListValid (λ x f. f .0 .0)
     (λ x l f w. via (λ h. (f .1, (h .0, keys-fit (getD x 1 0) l w (h .0)), h .1)) (λ h. (h .1 .0, h .2))
     (both (one-is keyFlags (getD x 1 0) (cell-word 4 1 x (f .0) (omega arith))) (masked-is (keyMask (getD x 1 0)) 11 (key-wide (getD x 1 0)) l w)))
     k
 
-sets-are : (b v i r : ℕ) (xs ts : List (List ℕ)) → All (Full 4) xs → All (Full 3) ts → Tests (runsHere (setHere b v i) r xs ts) (RunsAre setsRun (FitTriangles b v) i r xs ts)
-unfolding setHere
+sets-are : (b v i r : ℕ) (xs ts : List (List ℕ)) → All (Full 4) xs → All (Full 3) ts → Tests (groupsValid (setValid b v i) r xs ts) (RunsAre setsRun (FitTriangles b v) i r xs ts)
+unfolding setValid
 sets-are b v i r =
-    runs-is setsRun sets-law (FitTriangles b v) i 3 (Full 4) (setHere b v i) (λ x f. f .0)
+    runs-is setsRun sets-law (FitTriangles b v) i 3 (Full 4) (setValid b v i) (λ x f. f .0)
     (λ x l f w. via (λ h. (h .0, h .1, refl)) (λ h. (h .0, h .1))
     (both (eq-is (getD x 0 0) i) (both (one-is (brushId b) (getD x 1 0) (cell-word 4 1 x f (omega arith))) (all-on (Full 3) (keeps-is (triangleRow v)) l w))))
     r
@@ -47,8 +47,8 @@ unfolding cells
 nine-cells a b c d e f g h i x w e₀ e₁ e₂ e₃ e₄ e₅ e₆ e₇ e₈ = cc (cells-are x 9 w)
 
 pub mesh-is : (b : ℕ) (n : Counts) (x : List ℕ) (vs ss ts : List (List ℕ)) → Full 9 x → All (Full 42) vs → All (Full 4) ss → All (Full 3) ts
-    → Tests (meshHere b n x vs ss ts) (MeshIs b n x vs ss ts)
-unfolding meshHere rowsHere meshFrom meshRow vertexRows
+    → Tests (meshValid b n x vs ss ts) (MeshIs b n x vs ss ts)
+unfolding meshValid rowsValid meshFrom meshRow vertexRows
 mesh-is b n x vs ss ts w wv ws wt =
     let f = getD x 2 0 in
     let s = getD x 3 0 in
@@ -58,8 +58,8 @@ mesh-is b n x vs ss ts w wv ws wt =
     let mask = vertexMask f s z in
     let vx = take c vs in
     let wx = all-take (Full 42) c vs wv in
-    let mv = map (squeeze mask) vx in
-    let lv : length mv ≡ length vx = length-map vx (squeeze mask) in
+    let mv = map (presentWords mask) vx in
+    let lv : length mv ≡ length vx = length-map vx (presentWords mask) in
     let sx = take k ss in
     let S = setsFrom sx ts in
     let lS : length S ≡ length sx = runs-length setsRun sets-law sx ts in
@@ -78,7 +78,7 @@ mesh-is b n x vs ss ts w wv ws wt =
         triangles = subst (λ (j : ℕ). All (FitTriangles b j) S) (sym m) (hs .1);
         some-set = subst (λ (j : ℕ). 0 < j) (sym l) h₈;
       },
-      take-begins c (map (spread mask) mv) vs hv,
+      take-begins c (map (padded mask) mv) vs hv,
       take-begins k (setRows (n .meshes) (n .triangles) S) ss (hs .0),
       hs .2,
     ))
@@ -88,7 +88,7 @@ mesh-is b n x vs ss ts w wv ws wt =
     let m : length mv ≡ c = cell 6 in
     let l : length S ≡ k = cell 8 in
     let q = g .head in
-    let ev = begins-take (map (spread mask) mv) vs c (length-map mv (spread mask) ∙ m) (h .2) in
+    let ev = begins-take (map (padded mask) mv) vs c (length-map mv (padded mask) ∙ m) (h .2) in
     let es = begins-take (setRows (n .meshes) (n .triangles) S) ss k (sets-length (n .meshes) (n .triangles) S ∙ l) (h .3) in
     let ft = subst (λ (j : ℕ). All (FitTriangles b j) S) m (g .triangles) in
     let some = subst (λ (j : ℕ). 0 < j) l (g .some-set) in

@@ -12,7 +12,7 @@ use Rattle.layout.proofs.Lists.{All}
 use Rattle.layout.proofs.Testing.{Tests, both, via}
 use Rattle.layout.proofs.Outs.{if-case}
 use Rattle.layout.specs.Rows.{nameCells}
-use Rattle.b3d_spec.specs.Rebuild.{nameFrom, mine, keysFrom, animFrom, Rows, kindFrom, dataFrom}
+use Rattle.b3d_spec.specs.Rebuild.{nameFrom, ownedBy, keysFrom, animFrom, Rows, kindFrom, dataFrom}
 use Rattle.b3d_spec.specs.Scene.{Data}
 use Rattle.b3d_spec.specs.Tables.{reached, partTables, kindCells, animCells, nodeRow, listRows, ownRows, nodeWidth}
 use Rattle.b3d_spec.specs.declared.Counts.{Counts}
@@ -20,7 +20,7 @@ use Rattle.b3d_spec.proofs.Fitting.{FitKeys, FitData}
 use Rattle.b3d_spec.proofs.Rows.RowParts.{Stands, kind-wide, anim-wide, lists-length}
 use Rattle.b3d_spec.proofs.Rows.WordCounts.{any-words}
 use Rattle.b3d_spec.proofs.Rows.RowLists.{mine-take}
-use Rattle.b3d_check_spec.specs.Check.{nodeHere}
+use Rattle.b3d_check_spec.specs.Check.{nodeValid}
 use Rattle.b3d_check_spec.proofs.Check.Rows.{Begins, begins-take, take-begins, all-drop, Full, full-take, full-drop, cells, cells-front, last-cell, any-fits}
 use Rattle.b3d_check_spec.proofs.Check.Runs.{RunsAre, runs-length, listsRun, lists-law}
 use Rattle.b3d_check_spec.proofs.Check.Meshes.{lists-is}
@@ -28,11 +28,11 @@ use Rattle.b3d_check_spec.proofs.Check.Kinds.{NameIs, name-is, Whole, K
 
 -- ---- a node's key lists
 
-mine-are : (P : List ℕ → Type 0) (i : ℕ) (ls : List (List ℕ)) → All P ls → All (λ x. P x × (getD x 0 0 ≡ i)) (mine i ls)
-unfolding mine
+mine-are : (P : List ℕ → Type 0) (i : ℕ) (ls : List (List ℕ)) → All P ls → All (λ x. P x × (getD x 0 0 ≡ i)) (ownedBy i ls)
+unfolding ownedBy
 mine-are P i [] h = tt
 mine-are P i (x ∷ ls) h =
-    if-case (All (λ y. P y × (getD y 0 0 ≡ i))) (eqb (getD x 0 0) i) (x ∷ mine i ls) [] (λ e. ((h .0, eqb→eq (getD x 0 0) i e), mine-are P i ls (h .1))) (λ e. tt)
+    if-case (All (λ y. P y × (getD y 0 0 ≡ i))) (eqb (getD x 0 0) i) (x ∷ ownedBy i ls) [] (λ e. ((h .0, eqb→eq (getD x 0 0) i e), mine-are P i ls (h .1))) (λ e. tt)
 
 -- ---- a node
 
@@ -49,7 +49,7 @@ NodeParts ns b c R x n =
     let y = drop 13 x in
     NameIs ns x (nameFrom ns x)
     × (KindIs b c R n y (kindFrom R n (getD y 0 0) (getD y 2 0))
-    × (RunsAre listsRun FitKeys (n .nodes) (n .keys) (mine (n .nodes) (drop (n .lists) (R 9))) (drop (n .keys) (R 10)) × AnimIs (take 4 (drop 3 y)) (animFrom (take 4 (drop 3 y)))))
+    × (RunsAre listsRun FitKeys (n .nodes) (n .keys) (ownedBy (n .nodes) (drop (n .lists) (R 9))) (drop (n .keys) (R 10)) × AnimIs (take 4 (drop 3 y)) (animFrom (take 4 (drop 3 y)))))
 
 module _ (ns : List ℕ) (b c : ℕ) (R : Rows) (x : List ℕ) (n : Counts) where
   node-to : Full nodeWidth x → NodeParts ns b c R x n → NodeIs ns b c R x n (dataFrom ns R x n)
@@ -70,7 +70,7 @@ module _ (ns : List ℕ) (b c : ℕ) (R : Rows) (x : List ℕ) (n : Counts) wher
       let ew : w ++ (kindCells k n ++ r) ≡ drop 3 x = ap (λ (z : List ℕ). w ++ z) (ey ∙ sym (drop-drop 10 3 x)) ∙ take-append-drop 10 (drop 3 x) in
       let ex = (λ i. getD x 0 0 ∷ h .0 .2 i ∷ getD x 2 0 ∷ ew i) ∙ cells-front x 3 (omega (arith, full .0)) in
       let fw = any-fits 10 w (full-take 10 18 (drop 3 x) (omega arith) (full-drop 3 18 x full)) in
-      let bl = take-begins (length (mine (n .nodes) ls)) _ ls (ll .0 ∙ mine-take (n .nodes) ls) in
+      let bl = take-begins (length (ownedBy (n .nodes) ls)) _ ls (ll .0 ∙ mine-take (n .nodes) ls) in
       let fit : FitData b c (dataFrom ns R x n) = record { name = h .0 .0; words = fw; kind = kk .1; keys = ll .1; anim = aa .1 } in
       (ex, fit, h .0 .1, (kk .2, (kk .3, (kk .4, (kk .5, (kk .6, (bl, (ll .2, tt))))))))
 
@@ -84,7 +84,7 @@ module _ (ns : List ℕ) (b c : ℕ) (R : Rows) (x : List ℕ) (n : Counts) wher
       let r = animCells a ++ (getD x 20 0 ∷ []) in
       let ls = drop (n .lists) (R 9) in
       let ks = drop (n .keys) (R 10) in
-      let xs = mine (n .nodes) ls in
+      let xs = ownedBy (n .nodes) ls in
       let S = keysFrom xs ks in
       let f = h .1 in
       let g = h .3 in
@@ -97,8 +97,8 @@ module _ (ns : List ℕ) (b c : ℕ) (R : Rows) (x : List ℕ) (n : Counts) wher
       let en = ap (λ (r : List ℕ). getD r 1 0) (h .0) in
       ((f .name, h .2, en), ((ek, f .kind, g .0, g .1 .0, g .1 .1 .0, g .1 .1 .1 .0, q .0), ((el, f .keys, q .1 .1 .0), (ea, f .anim))))
 
-  pub node-is : Full nodeWidth x → AllBytes ns → Whole R → Tests (nodeHere ns b c R x n) (NodeIs ns b c R x n (dataFrom ns R x n))
-  unfolding nodeHere
+  pub node-is : Full nodeWidth x → AllBytes ns → Whole R → Tests (nodeValid ns b c R x n) (NodeIs ns b c R x n (dataFrom ns R x n))
+  unfolding nodeValid
   node-is full bytes whole =
       let y = drop 13 x in
       let wy = full-drop 13 8 x full in
@@ -106,5 +106,5 @@ module _ (ns : List ℕ) (b c : ℕ) (R : Rows) (x : List ℕ) (n : Counts) wher
       let ls = drop (n .lists) (R 9) in
       via (node-to full) node-from
       (both (name-is ns x bytes) (both (kind-is b c R n y whole (wy .0))
-      (both (lists-is i (n .keys) (mine i ls) (drop (n .keys) (R 10)) (mine-are (Full 4) i ls (all-drop (Full 4) (n .lists) (R 9) (whole .lists))) (all-drop (Full 11) (n .keys) (R 10) (whole .keys)))
+      (both (lists-is i (n .keys) (ownedBy i ls) (drop (n .keys) (R 10)) (mine-are (Full 4) i ls (all-drop (Full 4) (n .lists) (R 9) (whole .lists))) (all-drop (Full 11) (n .keys) (R 10) (whole .keys)))
       (anim-is (take 4 (drop 3 y)) (full-take 4 5 (drop 3 y) (omega arith) (full-drop 3 5 y wy))))))

@@ -10,8 +10,8 @@ use lib.Dec.{T, eqb, eqb→eq, eqb-refl}
 use Rattle.layout.proofs.Lists.{cons-head, cons-tail}
 use Rattle.layout.proofs.Outs.{if-yes, if-case}
 use Rattle.b3d_spec.specs.Rebuild.{Placed, Group, Off, off, groups}
-use Rattle.b3d_spec.specs.Rules.{ownVertices, boneVertices, animated, bonesFrom, bonesBelow, levels}
-use Rattle.b3d_spec.specs.Scene.{Data, Forest, leaf, node}
+use Rattle.b3d_spec.specs.Rules.{ownVertices, boneLimit, animated, boneLimitFrom, boneLimitBelow, levels}
+use Rattle.b3d_spec.specs.Scene.{Data, Forest, noNodes, node}
 use Rattle.b3d_spec.specs.Tables.{nodesIn, withNode, withForest}
 use Rattle.b3d_spec.specs.declared.Counts.{Counts}
 use Rattle.b3d_spec.proofs.Fitting.{FitData, FitNodes, no-nodes}
@@ -93,10 +93,10 @@ module _ (fs : List Placed) (m : Counts) (e : m .nodes ≡ 1) (l : (off 0 (group
 -- ---- levels
 
 -- what a node says of bones is a number, where it was told one
-said-is : (told : ℕ) (d : Data) → bonesBelow (some told) d ≡ some (said told d)
+said-is : (told : ℕ) (d : Data) → boneLimitBelow (some told) d ≡ some (said told d)
 said-is told d = either (animated (d .anim)) (ownVertices (d .kind))
   where
-    either : (a : Bool) (own : ℕ) → bonesFrom (some told) a own ≡ some (boneVertices (bonesFrom (some told) a own))
+    either : (a : Bool) (own : ℕ) → boneLimitFrom (some told) a own ≡ some (boneLimit (boneLimitFrom (some told) a own))
     either true own = refl
     either false own = refl
 
@@ -116,11 +116,11 @@ module _ (b : ℕ) where
   Taken j q path o = FitNodes (levels - suc (length path)) b (some (q .bones)) (o .took) × (q .end ≡ j + nodesIn (o .took)) × Hangs (j + nodesIn (o .took)) (o .left) path
 
   -- it takes none
-  none-taken : (j : ℕ) (q : Level) (path : List Level) (gs : List Group) → q .end ≡ j → Hangs j gs path → Taken j q path (record { took = leaf; left = gs })
+  none-taken : (j : ℕ) (q : Level) (path : List Level) (gs : List Group) → q .end ≡ j → Hangs j gs path → Taken j q path (record { took = noNodes; left = gs })
   unfolding nodesIn
   none-taken j q path gs e h = let z : j ≡ j + 0 = omega arith in (no-nodes (levels - suc (length path)) b (some (q .bones)), e ∙ z, subst (λ (k : ℕ). Hangs k gs path) z h)
 
-  taken-none : (j : ℕ) (q : Level) (path : List Level) (gs : List Group) → Taken j q path (record { took = leaf; left = gs }) → (q .end ≡ j) × Hangs j gs path
+  taken-none : (j : ℕ) (q : Level) (path : List Level) (gs : List Group) → Taken j q path (record { took = noNodes; left = gs }) → (q .end ≡ j) × Hangs j gs path
   unfolding nodesIn
   taken-none j q path gs t = let z : j + 0 ≡ j = omega arith in (t .1 ∙ z, subst (λ (k : ℕ). Hangs k gs path) z (t .2))
 
@@ -130,7 +130,7 @@ module _ (b : ℕ) where
   off-hangs j q (g ∷ gs) path =
       let at = HangsAt (g .nodes) (j + nodesIn (g .nodes)) (Hangs (j + nodesIn (g .nodes)) gs) in
       if-both (λ o r. at r → Taken j q path o) (eqb (g .of) (q .node)) _ _ _ _ (λ t k. k)
-      (λ t. if-case (λ r. at r → Taken j q path (record { took = leaf; left = g ∷ gs })) (eqb (q .end) j) _ _ (λ u k. none-taken j q path (g ∷ gs) (eqb→eq (q .end) j u) k) (λ u k. absurd k))
+      (λ t. if-case (λ r. at r → Taken j q path (record { took = noNodes; left = g ∷ gs })) (eqb (q .end) j) _ _ (λ u k. none-taken j q path (g ∷ gs) (eqb→eq (q .end) j u) k) (λ u k. absurd k))
 
   hangs-off : (j : ℕ) (q : Level) (gs : List Group) (path : List Level) → Taken j q path (off (q .node) gs) → Hangs j gs (q ∷ path)
   unfolding off upTo

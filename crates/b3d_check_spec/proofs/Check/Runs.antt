@@ -8,12 +8,12 @@ use mathlib.Core.List.{List, [], _∷_, _++_, map}
 use lib.ListN.{length, take, drop, getD, length-append, length-map}
 use Rattle.layout.proofs.Lists.{All, cons-head, cons-tail}
 use Rattle.layout.proofs.Testing.{Tests, both, via, eq-is}
-use Rattle.b3d_spec.specs.Mask.{spread, squeeze, keyMask}
+use Rattle.b3d_spec.specs.Mask.{padded, presentWords, keyMask}
 use Rattle.b3d_spec.specs.Rebuild.{setsFrom, keysFrom}
 use Rattle.b3d_spec.specs.Scene.{TriangleSet, Keys}
 use Rattle.b3d_spec.specs.Tables.{setRows, triangleRows, listRows, keyRows}
 use Rattle.b3d_check_spec.specs.CellCounts.{endOf}
-use Rattle.b3d_check_spec.specs.Check.{runsHere}
+use Rattle.b3d_check_spec.specs.Check.{groupsValid}
 use Rattle.b3d_check_spec.proofs.Check.Testing.{yes-if}
 use Rattle.b3d_check_spec.proofs.Check.Rows.{Begins, begins-join, begins-split, begins-take, take-begins, all-take, all-drop, take-is, Full, cells, cells-are}
 
@@ -71,8 +71,8 @@ module _ {A : Type 0} (k : Run A) (law : Lawful k) where
 
   module _ (Ok : A → Type 0) (i w : ℕ) (Row : List ℕ → Type 0) (f : List ℕ → List (List ℕ) → Bool) (four : (x : List ℕ) → Row x → length x ≡ 4)
       (each : (x : List ℕ) (l : List (List ℕ)) → Row x → All (Full w) l → Tests (f x l) ((getD x 0 0 ≡ i) × Ok (k .make x l) × (k .own (k .make x l) ≡ l))) where
-    pub runs-is : (r : ℕ) (xs is : List (List ℕ)) → All Row xs → All (Full w) is → Tests (runsHere f r xs is) (RunsAre k Ok i r xs is)
-    unfolding runsHere
+    pub runs-is : (r : ℕ) (xs is : List (List ℕ)) → All Row xs → All (Full w) is → Tests (groupsValid f r xs is) (RunsAre k Ok i r xs is)
+    unfolding groupsValid
     runs-is r [] is wx wi = rw (law .nil i r is .2, law .nil i r is .0, law .nil i r is .1) (yes-if (refl, tt, tt))
     runs-is r (x ∷ xs) is wx wi =
         let c = getD x 3 0 in
@@ -120,8 +120,8 @@ listsRun =
     record {
       word = λ k. k .flags;
       size = λ k. length (k .items);
-      own = λ k. map (spread (keyMask (k .flags))) (k .items);
-      make = λ x l. record { flags = getD x 1 0; items = map (squeeze (keyMask (getD x 1 0))) l };
+      own = λ k. map (padded (keyMask (k .flags))) (k .items);
+      make = λ x l. record { flags = getD x 1 0; items = map (presentWords (keyMask (getD x 1 0))) l };
       rows = listRows;
       items = keyRows;
       from = keysFrom;
@@ -135,8 +135,8 @@ pub lists-law : Lawful listsRun
 unfolding listRows keyRows keysFrom
 lists-law =
     record {
-      sized = λ k. length-map (k .items) (spread (keyMask (k .flags)));
-      made = λ x l. (refl, length-map l (squeeze (keyMask (getD x 1 0))));
+      sized = λ k. length-map (k .items) (padded (keyMask (k .flags)));
+      made = λ x l. (refl, length-map l (presentWords (keyMask (getD x 1 0))));
       nil = λ i r is. (refl, refl, refl);
       cons = λ i r a s. (refl, refl);
       step = λ x xs is. refl;

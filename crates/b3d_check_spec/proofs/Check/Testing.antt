@@ -8,7 +8,7 @@ use lib.ListN.{length, replicate}
 use lib.Dec.{T, eqb}
 use mir.Facts.{and-yes, yes-and}
 use Rattle.wire.specs.Test.{if}
-use Rattle.layout.specs.Fit.{all}
+use Rattle.layout.specs.WellFormed.{all}
 use Rattle.layout.proofs.Lists.{All, cons-head, cons-tail}
 use Rattle.layout.proofs.Testing.{Tests, both, via, eq-is}
 

@@ -9,7 +9,7 @@ use lib.ListN.{length, drop, length-drop, length-map}
 use lib.Seq.{length-take-le}
 use Rattle.wire.specs.Bytes.{IsWord, AllBytes}
 use Rattle.wire.specs.Test.{if}
-use Rattle.layout.specs.Fit.{all}
+use Rattle.layout.specs.WellFormed.{all}
 use Rattle.layout.specs.Rules.{holds}
 use Rattle.layout.proofs.Fitting.{Fits}
 use Rattle.layout.proofs.Lists.{All, all-zip, all-append, all-left, all-right}
@@ -17,16 +17,16 @@ use Rattle.layout.proofs.Testing.{Tests, both, via, all-is}
 use Rattle.b3d_spec.specs.Colours.{passes}
 use Rattle.b3d_spec.specs.declared.Mode.{Mode}
 use Rattle.b3d_spec.specs.declared.Mode.the-variants.{Lenient}
-use Rattle.b3d_spec.specs.Rebuild.{Lent, cut, lentRows, roomy, textureFrom, brushFrom, Rows, walk, tree, together, names, sound, rebuild}
+use Rattle.b3d_spec.specs.Rebuild.{Lent, cut, lentRows, hasCountedRows, textureFrom, brushFrom, Rows, walk, tree, assembled, names, sound, rebuild}
 use Rattle.b3d_spec.specs.Rules.{version, fileHead, rowLimit}
 use Rattle.b3d_spec.specs.Scene.{Texture, Brush, Forest, Scene}
 use Rattle.b3d_spec.specs.Tables.{width, start, textureRow, brushRow, nodeTables, tables, rows, nodeWidth}
-use Rattle.b3d_spec.proofs.Fitting.{FitTexture, FitBrush, FitSlots, Fit, slots-few}
+use Rattle.b3d_spec.proofs.Fitting.{FitTexture, FitBrush, FitSlots, WellFormed, slots-few}
 use Rattle.b3d_spec.proofs.Modes.{rebuild-mode}
 use Rattle.b3d_spec.proofs.Rows.RebuildLaws.{roomy-is, sound-is}
 use Rattle.b3d_spec.proofs.Rows.RowLists.{cut-length}
 use Rattle.b3d_spec.proofs.Rows.RowParts.{Stands}
-use Rattle.b3d_check_spec.specs.Check.{nameHere, brushHere, treeHere, slotsHere, check, checkIn}
+use Rattle.b3d_check_spec.specs.Check.{nameValid, brushValid, treeValid, slotsValid, check, checkIn}
 use Rattle.b3d_check_spec.proofs.Check.Testing.{then, same-test, if-and}
 use Rattle.b3d_check_spec.proofs.Check.Rows.{all-take, all-drop, Full, one-is}
 use Rattle.b3d_check_spec.proofs.Check.Kinds.{Whole}
@@ -86,9 +86,9 @@ module _ (T : Lent) (ns : List ℕ) where
   abbrev rest : ℕ → ℕ → Bool
   rest textures brushes =
       holds version (T .version)
-      && (slotsHere (T .slots) brushes
-      && (all (nameHere ns) (lentRows T 1)
-      && (all (brushHere ns (T .slots) textures) (lentRows T 2) && treeHere ns brushes (lentRows T) (lentRows T 3))))
+      && (slotsValid (T .slots) brushes
+      && (all (nameValid ns) (lentRows T 1)
+      && (all (brushValid ns (T .slots) textures) (lentRows T 2) && treeValid ns brushes (lentRows T) (lentRows T 3))))
 
   abbrev Rest : Type 0
   Rest =
@@ -99,10 +99,10 @@ module _ (T : Lent) (ns : List ℕ) where
       × TreeIs ns (length B) (lentRows T) N)))
 
   abbrev pub Sound : Type 0
-  Sound = Fit (together ns T) × (All (Stands ns) (names (together ns T)) × All (λ k. rows k (together ns T) ≡ lentRows T k) tables)
+  Sound = WellFormed (assembled ns T) × (All (Stands ns) (names (assembled ns T)) × All (λ k. rows k (assembled ns T) ≡ lentRows T k) tables)
 
   rest-to : Rest → Sound
-  unfolding together names tables nodeTables rows if
+  unfolding assembled names tables nodeTables rows if
   rest-to h =
       let x = h .1 .1 .0 in
       let b = h .1 .1 .1 .0 in
@@ -111,7 +111,7 @@ module _ (T : Lent) (ns : List ℕ) where
       (record { version = h .0; textures = x .0; slots = h .1 .0; brushes = b .0; nodes = t .0; root = t .1 }, (st, (x .2, (b .2, t .3))))
 
   rest-from : Sound → Rest
-  unfolding together names tables nodeTables rows if
+  unfolding assembled names tables nodeTables rows if
   rest-from h =
       let f = h .0 in
       let e = h .1 .1 in
@@ -123,10 +123,10 @@ module _ (T : Lent) (ns : List ℕ) where
       (f .version, (f .slots, ((f .textures, sx, e .0), ((f .brushes, sb, e .1 .0), (f .nodes, f .root, all-right (Stands ns) bs _ s, e .1 .1)))))
 
   -- the counts that the tests name are those of the parts
-  counted : check T ns ≡ (all (roomy T) tables && rest (length X) (length B))
+  counted : check T ns ≡ (all (hasCountedRows T) tables && rest (length X) (length B))
   unfolding check
   counted =
-      ap₂ (λ (m n : ℕ). all (roomy T) tables && rest m n) (sym (length-map (lentRows T 1) (textureFrom ns) ∙ lent-length T 1))
+      ap₂ (λ (m n : ℕ). all (hasCountedRows T) tables && rest m n) (sym (length-map (lentRows T 1) (textureFrom ns) ∙ lent-length T 1))
       (sym (length-map (lentRows T 2) (brushFrom ns (T .slots)) ∙ lent-length T 2))
 
   module _ (typed : Typed T ns) where
@@ -143,18 +143,18 @@ module _ (T : Lent) (ns : List ℕ) where
     check-is = subst (λ (c : Bool). Tests c (All (Room T) tables × Sound)) (sym counted) (then (all-is (roomy-is T) tables) (λ room. via rest-to rest-from (rest-is room)))
 
     -- so `rebuild` is the row-by-row test, and then what the rows give
-    pub rebuild-check : rebuild Lenient T ns ≡ if (check T ns) (some (together ns T)) none
+    pub rebuild-check : rebuild Lenient T ns ≡ if (check T ns) (some (assembled ns T)) none
     unfolding rebuild passes
     rebuild-check =
-        let t = together ns T in
+        let t = assembled ns T in
         let e = same-test check-is (both (all-is (roomy-is T) tables) (sound-is ns T t)) in
-        sym (ap (λ (c : Bool). if c (some t) none) e ∙ if-and (all (roomy T) tables) (sound ns T t) (some t) none)
+        sym (ap (λ (c : Bool). if c (some t) none) e ∙ if-and (all (hasCountedRows T) tables) (sound ns T t) (some t) none)
 
-    pub rebuild-check-in : (mode : Mode) → rebuild mode T ns ≡ if (checkIn mode T ns) (some (together ns T)) none
+    pub rebuild-check-in : (mode : Mode) → rebuild mode T ns ≡ if (checkIn mode T ns) (some (assembled ns T)) none
     unfolding checkIn if
     rebuild-check-in mode = rebuild-mode mode T ns ∙ ap (λ (o : Option Scene). if (passes mode (lentRows T)) o none) rebuild-check ∙ by (passes mode (lentRows T)) (check T ns)
       where
-        by : (a b : Bool) → if a (if b (some (together ns T)) none) none ≡ if (b && a) (some (together ns T)) none
+        by : (a b : Bool) → if a (if b (some (assembled ns T)) none) none ≡ if (b && a) (some (assembled ns T)) none
         by true true = refl
         by true false = refl
         by false true = refl

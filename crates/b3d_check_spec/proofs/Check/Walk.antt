@@ -14,7 +14,7 @@ use Rattle.wire.specs.Test.{if}
 use Rattle.layout.proofs.Lists.{All, all-map, all-zip}
 use Rattle.layout.proofs.Testing.{Tests, both, via, no-is, le-is, lt-is, eq-is, all-is}
 use Rattle.b3d_spec.specs.Rebuild.{Rows, dataFrom, Placed, walk}
-use Rattle.b3d_spec.specs.Rules.{boneVertices, bonesBelow, levels}
+use Rattle.b3d_spec.specs.Rules.{boneLimit, boneLimitBelow, levels}
 use Rattle.b3d_spec.specs.Scene.{Data}
 use Rattle.b3d_spec.specs.Tables.{start, reached, nodeRow, ownRows, withNode, partTables, nodeTables, nodeWidth}
 use Rattle.b3d_spec.specs.declared.Counts.{Counts}
@@ -22,8 +22,8 @@ use Rattle.b3d_spec.proofs.Fitting.{FitData}
 use Rattle.b3d_spec.proofs.Rows.Nodes.{Step, steps, nodes-step, From}
 use Rattle.b3d_spec.proofs.Rows.RowParts.{Stands}
 use Rattle.b3d_spec.proofs.Rows.Trees.{flatRows, from-after}
-use Rattle.b3d_check_spec.specs.CellCounts.{cellCounts, cellBones}
-use Rattle.b3d_check_spec.specs.Check.{nodeHere, spent, Level, upTo, toldBy, endHere, endFrom, nodesHere}
+use Rattle.b3d_check_spec.specs.CellCounts.{cellCounts, cellBoneLimit}
+use Rattle.b3d_check_spec.specs.Check.{nodeValid, spent, Level, upTo, boneLimitOf, allEnd, endFrom, nodesValid}
 use Rattle.b3d_check_spec.proofs.Check.Testing.{then}
 use Rattle.b3d_check_spec.proofs.Check.Rows.{Begins, begins-is, is-begins, Full}
 use Rattle.b3d_check_spec.proofs.Check.Kinds.{Whole}
@@ -88,7 +88,7 @@ module _ (ns : List ℕ) (b c : ℕ) (R : Rows) (x : List ℕ) (xs : List (List 
 
 -- what a node says of bones to those below, where it was told so many vertices
 abbrev pub said : ℕ → Data → ℕ
-said told d = boneVertices (bonesBelow (some told) d)
+said told d = boneLimit (boneLimitBelow (some told) d)
 
 -- node d, number i, with its end below the first of a path: it is not too deep, it fits what is said there of bones, and so do the nodes after it
 abbrev pub ToldAt : ℕ → Data → ℕ → ℕ → (List Level → Type 0) → List Level → Type 0
@@ -114,14 +114,14 @@ WalkIs ns b R path n fs = Told b path (n .nodes) fs × (NamedIn ns fs × All (Fr
 module _ (ns : List ℕ) (b : ℕ) (R : Rows) (bytes : AllBytes ns) (whole : Whole R) where
   -- a node below the first of q, and those after it
   walk-step : (x : List ℕ) (xs : List (List ℕ)) (n : Counts) → Full nodeWidth x → drop (n .nodes) (R 3) ≡ x ∷ xs
-      → ((path : List Level) (m : Counts) → drop (m .nodes) (R 3) ≡ xs → Tests (nodesHere ns b R path xs m) (WalkIs ns b R path m (walk ns R xs m)))
+      → ((path : List Level) (m : Counts) → drop (m .nodes) (R 3) ≡ xs → Tests (nodesValid ns b R path xs m) (WalkIs ns b R path m (walk ns R xs m)))
       → (q : List Level)
-      → Tests (ltb 0 (length q) && (ltb (length q) levels && (nodeHere ns b (toldBy q) R x n
-      && nodesHere ns b R (record { node = n .nodes; end = endFrom (n .nodes) x; bones = cellBones (toldBy q) R x n } ∷ q) xs (cellCounts R x n))))
+      → Tests (ltb 0 (length q) && (ltb (length q) levels && (nodeValid ns b (boneLimitOf q) R x n
+      && nodesValid ns b R (record { node = n .nodes; end = endFrom (n .nodes) x; bones = cellBoneLimit (boneLimitOf q) R x n } ∷ q) xs (cellCounts R x n))))
       (ToldAt b (dataFrom ns R x n) (n .nodes) (endFrom (n .nodes) x) (λ p. Told b p (suc (n .nodes)) (walk ns R xs (withNode (dataFrom ns R x n) n))) q
       × (NamedIn ns (record { parent = getD x 2 0; below = getD x 20 0; item = dataFrom ns R x n } ∷ walk ns R xs (withNode (dataFrom ns R x n) n))
       × All (From R n (flatRows (record { parent = getD x 2 0; below = getD x 20 0; item = dataFrom ns R x n } ∷ walk ns R xs (withNode (dataFrom ns R x n) n)) n)) nodeTables))
-  unfolding flatRows toldBy
+  unfolding flatRows boneLimitOf
   walk-step x xs n w e rest [] = via (λ h. absurd h) (λ h. absurd (h .0)) no-is
   walk-step x xs n w e rest (r ∷ rs) =
       let c = r .bones in
@@ -139,11 +139,11 @@ module _ (ns : List ℕ) (b : ℕ) (R : Rows) (bytes : AllBytes ns) (whole : Who
       let z = next-from ns b c R x xs n d e (flatRows fs m) ((h .0 .1 .0, h .1 .0 .0), h .1 .1) in
       (omega arith, (h .0 .0, (z .0, (subst (λ (i : ℕ). Told b (path (said c d)) i fs) (sym (nodes-step d n)) (h .0 .1 .1), (h .1 .0 .1, z .1))))))
       (both (lt-is 0 k) (both (lt-is k levels) (then (node-is ns b c R x n w bytes whole) (λ h.
-      subst (λ (v : ℕ). Tests (nodesHere ns b R (path v) xs (cellCounts R x n)) (WalkIs ns b R (path (said c d)) m fs)) (ap boneVertices (cell-bones ns b c R x n h c))
-      (subst (λ (j : Counts). Tests (nodesHere ns b R (path (said c d)) xs j) (WalkIs ns b R (path (said c d)) m fs)) (cell-counts ns b c R x n h)
+      subst (λ (v : ℕ). Tests (nodesValid ns b R (path v) xs (cellCounts R x n)) (WalkIs ns b R (path (said c d)) m fs)) (ap boneLimit (cell-bones ns b c R x n h c))
+      (subst (λ (j : Counts). Tests (nodesValid ns b R (path (said c d)) xs j) (WalkIs ns b R (path (said c d)) m fs)) (cell-counts ns b c R x n h)
       (rest (path (said c d)) m (after ns b c R x xs n d e)))))))
 
-  pub walk-is : (xs : List (List ℕ)) (path : List Level) (n : Counts) → All (Full nodeWidth) xs → drop (n .nodes) (R 3) ≡ xs → Tests (nodesHere ns b R path xs n) (WalkIs ns b R path n (walk ns R xs n))
-  unfolding nodesHere endHere walk flatRows nodeTables reached if
+  pub walk-is : (xs : List (List ℕ)) (path : List Level) (n : Counts) → All (Full nodeWidth) xs → drop (n .nodes) (R 3) ≡ xs → Tests (nodesValid ns b R path xs n) (WalkIs ns b R path n (walk ns R xs n))
+  unfolding nodesValid allEnd walk flatRows nodeTables reached if
   walk-is [] path n w e = via (λ h. (h .0, (tt, (e, h .1)))) (λ h. (h .0, h .1 .1 .1)) (both (all-is (λ (q : Level). eq-is (q .end) (n .nodes)) path) (spent-is R n))
   walk-is (x ∷ xs) path n w e = walk-step x xs n (w .0) e (λ p m g. walk-is xs p m (w .1) g) (upTo (n .nodes) (getD x 2 0) path)

@@ -13,8 +13,8 @@ Inv-loop s slots textures mode c₀ count₀ c count = Brushes mode slots textur
 abbrev μ-loop : tie.MeasureT-loop
 μ-loop s slots textures mode c₀ count₀ c count = c .end - c .at
 
-first-bad-requires : tie.Need-first-bad-requires Inv-loop μ-loop
-first-bad-requires c κs = (search (ids-inside, needs), search (ids-room, needs), search needs)
+first-invalid-requires : tie.Need-first-invalid-requires Inv-loop μ-loop
+first-invalid-requires c κs = (search (ids-inside, needs), search (ids-room, needs), search needs)
 
 add-t20 : tie.Need-add-t20 Inv-loop μ-loop
 add-t20 c = search (ids-fit, needs)
@@ -49,7 +49,7 @@ brush-items-spec =
     (λ c. search (brushes, needs))
     (λ c. search (brushes, needs))
     add-t20
-    first-bad-requires
+    first-invalid-requires
     (λ c. search needs)
     add-t22
     returns-3

@@ -16,16 +16,16 @@ returns c =
     let c2 = c3 .before in
     let c1 = c2 .before in
     rw (
-      c .short-or10 .ensures,
-      c9 .short-or9 .ensures,
-      c8 .short-or8 .ensures,
-      c7 .short-or7 .ensures,
-      c6 .short-or6 .ensures,
-      c5 .short-or5 .ensures,
-      c4 .short-or4 .ensures,
-      c3 .short-or3 .ensures,
-      c2 .short-or2 .ensures,
-      c1 .short-or .ensures,
+      c .short-table-or10 .ensures,
+      c9 .short-table-or9 .ensures,
+      c8 .short-table-or8 .ensures,
+      c7 .short-table-or7 .ensures,
+      c6 .short-table-or6 .ensures,
+      c5 .short-table-or5 .ensures,
+      c4 .short-table-or4 .ensures,
+      c3 .short-table-or3 .ensures,
+      c2 .short-table-or2 .ensures,
+      c1 .short-table-or .ensures,
       short-ten,
     )
 

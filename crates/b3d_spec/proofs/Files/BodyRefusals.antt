@@ -6,7 +6,7 @@ use mathlib.Core.Bool.{Bool, true, false}
 use mathlib.Core.List.{List, [], _∷_, _++_}
 use lib.ListN.{length}
 use Rattle.wire.specs.Test.{if}
-use Rattle.layout.specs.Out.{Out, got, bad, check, _>>=_}
+use Rattle.layout.specs.Result.{Result, accept, reject, check, _>>=_}
 use Rattle.layout.specs.Parts.{Step, text, words, judged, row, number, named, itemsIn, items}
 use Rattle.layout.specs.Rules.{Rule, holds, refusal}
 use Rattle.b3d_spec.specs.declared.Mode.{Mode}
@@ -20,15 +20,15 @@ Any a = Unit {0}
 
 module _ (Told : ℕ → ℕ → Type 0) where
   -- a value with P, or a refusal of which that is said
-  abbrev pub Low : {A : Type 0} → (A → Type 0) → Out A → Type 0
-  Low P (got a) = P a
-  Low P (bad n p) = Told n p
+  abbrev pub Low : {A : Type 0} → (A → Type 0) → Result A → Type 0
+  Low P (accept a) = P a
+  Low P (reject n p) = Told n p
 
-  pub bind-low : {A B : Type 0} (P : A → Type 0) (Q : B → Type 0) (m : Out A) (k : A → Out B) → Low P m → ((a : A) → P a → Low Q (k a)) → Low Q (m >>= k)
-  bind-low P Q (got a) k h f = f a h
-  bind-low P Q (bad n p) k h f = h
+  pub bind-low : {A B : Type 0} (P : A → Type 0) (Q : B → Type 0) (m : Result A) (k : A → Result B) → Low P m → ((a : A) → P a → Low Q (k a)) → Low Q (m >>= k)
+  bind-low P Q (accept a) k h f = f a h
+  bind-low P Q (reject n p) k h f = h
 
-  pub if-low : {A : Type 0} (P : A → Type 0) (b : Bool) (x y : Out A) → Low P x → Low P y → Low P (if b x y)
+  pub if-low : {A : Type 0} (P : A → Type 0) (b : Bool) (x y : Result A) → Low P x → Low P y → Low P (if b x y)
   unfolding if
   if-low P true x y h k = h
   if-low P false x y h k = k
@@ -85,7 +85,7 @@ module _ (most : ℕ) (Told : ℕ → ℕ → Type 0) (five : (p : ℕ) → p �
       bind-low Told (Words (n .place)) Left (words p (length rs) (n .place) (n .left)) _ (words-low p (length rs) (n .place) (n .left) (omega arith) hn) (λ x hx.
       judged-low Left rs (n .place) (x .value) _ (omega (arith, hx .0, hx .1)) (hx .1)))
 
-  module _ {A : Type 0} (one : ℕ → List ℕ → Out (Step A)) (low : (p : ℕ) (s : List ℕ) → p + length s ≤ most → Low Told Left (one p s)) where
+  module _ {A : Type 0} (one : ℕ → List ℕ → Result (Step A)) (low : (p : ℕ) (s : List ℕ) → p + length s ≤ most → Low Told Left (one p s)) where
     in-low : (f p : ℕ) (s : List ℕ) → p + length s ≤ most → Low Told Any (itemsIn f one p s)
     unfolding itemsIn
     in-low zero p [] h = tt
@@ -99,7 +99,7 @@ module _ (most : ℕ) (Told : ℕ → ℕ → Type 0) (five : (p : ℕ) → p �
     items-low p s h = in-low (length s) p s h
 
   -- a reader of a chunk's body
-  abbrev pub Body : {A : Type 0} → (ℕ → List ℕ → Out A) → Type 0
+  abbrev pub Body : {A : Type 0} → (ℕ → List ℕ → Result A) → Type 0
   Body one = (p : ℕ) (b : List ℕ) → p + 8 + length b ≤ most → Low Told Any (one p b)
 
   -- bodies

@@ -9,11 +9,11 @@ use Rattle.layout.specs.Write.{writeWords, writeText, writeItems, writeChunks a
 use Rattle.layout.proofs.Fitting.{FitText}
 use Rattle.layout.proofs.Lists.{All}
 use Rattle.b3d_spec.specs.Encode.{writeTexture, writeBrush, writeVertices, writeTriangles, setChunks, writeMesh, writeKeys, kindChunks, keyChunks, animChunks, writeNode, nodeChunks, textureChunks, brushChunks, writeScene, encode}
-use Rattle.b3d_spec.specs.Rules.{bonesBelow, levels}
-use Rattle.b3d_spec.specs.Scene.{Texture, Brush, TriangleSet, Mesh, Kind, pivot, mesh, bone, Keys, Anim, still, anim, Data, Forest, leaf, node, Scene}
+use Rattle.b3d_spec.specs.Rules.{boneLimitBelow, levels}
+use Rattle.b3d_spec.specs.Scene.{Texture, Brush, TriangleSet, Mesh, Kind, pivot, mesh, bone, Keys, Anim, noAnim, anim, Data, Forest, noNodes, node, Scene}
 use Rattle.b3d_spec.specs.declared.Tag.the-variants.{BB3D}
 use Rattle.b3d_spec.specs.Tags.{code, Chunk, writeChunks}
-use Rattle.b3d_spec.proofs.Fitting.{FitTexture, FitBrush, FitNodes, Fit}
+use Rattle.b3d_spec.proofs.Fitting.{FitTexture, FitBrush, FitNodes, WellFormed}
 
 -- the same as `AllBytes`, under a name that does not compute
 record Good (b : List ℕ) : Type 0 where
@@ -68,7 +68,7 @@ keys-bytes [] l h = h
 keys-bytes (k ∷ ks) l h = (words-bytes (k .flags ∷ []) _ (rows-bytes (k .items)), keys-bytes ks l h)
 
 anim-bytes : (a : Anim) (l : List Chunk) → Bodies l → Bodies (animChunks a l)
-anim-bytes still l h = h
+anim-bytes noAnim l h = h
 anim-bytes (anim ws) l h = (words-bytes ws [] (record { ok = tt }), h)
 
 node-bytes : (d : Data) (l : List Chunk) → FitText (d .name .bytes) → Bodies l → Good (writeNode d l)
@@ -78,11 +78,11 @@ node-bytes d l h k =
 
 nodes-bytes : (l brushes : ℕ) (above : Option ℕ) (f : Forest) → FitNodes l brushes above f → Bodies (nodeChunks f)
 unfolding nodeChunks
-nodes-bytes zero brushes above leaf h = tt
+nodes-bytes zero brushes above noNodes h = tt
 nodes-bytes zero brushes above (node d f g) h = absurd h
-nodes-bytes (suc l) brushes above leaf h = tt
+nodes-bytes (suc l) brushes above noNodes h = tt
 nodes-bytes (suc l) brushes above (node d f g) h =
-    (node-bytes d (nodeChunks f) (h .0 .name) (nodes-bytes l brushes (bonesBelow above d) f (h .1)), nodes-bytes (suc l) brushes above g (h .2))
+    (node-bytes d (nodeChunks f) (h .0 .name) (nodes-bytes l brushes (boneLimitBelow above d) f (h .1)), nodes-bytes (suc l) brushes above g (h .2))
 
 textures-bytes : (l : List Texture) → All FitTexture l → Good (writeItems writeTexture l)
 textures-bytes [] h = record { ok = tt }
@@ -101,7 +101,7 @@ brush-chunks-bytes : (n textures : ℕ) (l : List Brush) (r : List Chunk) → Al
 brush-chunks-bytes n textures [] r h k = k
 brush-chunks-bytes n textures (b ∷ l) r h k = (words-bytes (n ∷ []) _ (brushes-bytes n textures (b ∷ l) h), k)
 
-pub encode-bytes : (t : Scene) → Fit t → AllBytes (encode t)
+pub encode-bytes : (t : Scene) → WellFormed t → AllBytes (encode t)
 unfolding encode writeScene
 encode-bytes t h =
     (words-bytes (code BB3D ∷ length (writeScene t) ∷ []) _ (words-bytes (t .version ∷ []) _ (chunks-bytes _

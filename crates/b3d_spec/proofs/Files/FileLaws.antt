@@ -11,7 +11,7 @@ use lib.Dec.{T, eqb, leb, eqb-refl, leb→le, le→leb}
 use Rattle.wire.specs.Bytes.{AllBytes}
 use Rattle.wire.specs.Test.{if}
 use Rattle.layout.specs.Chunks.{done, stop, chunk, ended}
-use Rattle.layout.specs.Out.{Out, got}
+use Rattle.layout.specs.Result.{Result, accept}
 use Rattle.layout.specs.Parts.{row}
 use Rattle.layout.specs.Write.{writeWords, writeItems, writeChunks as writeChunksOf}
 use Rattle.layout.proofs.ChunkLaws.{length-chunk, lay, Of, ended-fine}
@@ -22,15 +22,15 @@ use Rattle.layout.proofs.PartLaws.{length-words, length-fits, row-back, row-fin
 use Rattle.layout.specs.Rows.{sizeFits}
 use Rattle.b3d_spec.specs.declared.Mode.the-variants.{Lenient}
 use Rattle.b3d_spec.specs.Encode.{writeTexture, writeBrush, writeNode, nodeChunks, textureChunks, brushChunks, writeScene, encode}
-use Rattle.b3d_spec.specs.Names.{renameTexture, renameBrush, renameForest, rename, bareName, bare}
+use Rattle.b3d_spec.specs.Names.{renameTexture, renameBrush, renameForest, rename, bareName, withoutPlaces}
 use Rattle.b3d_spec.specs.Nesting.{inside}
 use Rattle.b3d_spec.specs.Parse.{readTextures, readBrushes, Inner, readNode, readRoot, readOne, slotsOf, readBody, parse}
-use Rattle.b3d_spec.specs.Rules.{version, bonesBelow, levels, header, fileHead}
-use Rattle.b3d_spec.specs.Scene.{Texture, Brush, Data, Forest, leaf, node, Scene}
+use Rattle.b3d_spec.specs.Rules.{version, boneLimitBelow, levels, header, fileHead}
+use Rattle.b3d_spec.specs.Scene.{Texture, Brush, Data, Forest, noNodes, node, Scene}
 use Rattle.b3d_spec.specs.declared.Tag.{Tag}
 use Rattle.b3d_spec.specs.declared.Tag.the-variants.{BB3D, TEXS, BRUS, NODE}
 use Rattle.b3d_spec.specs.Tags.{code, is, Chunks, Found, Chunk, writeChunks}
-use Rattle.b3d_spec.proofs.Fitting.{FitTexture, FitBrush, FitNodes, OneRoot, FitSlots, Fit}
+use Rattle.b3d_spec.proofs.Fitting.{FitTexture, FitBrush, FitNodes, OneRoot, FitSlots, WellFormed}
 use Rattle.b3d_spec.proofs.Files.LeafLaws.{head-one, textures-back, textures-fine, brushes-back, BrushesOK, brushes-fine}
 use Rattle.b3d_spec.proofs.Files.NestingLaws.{file-keeps, inside-back, inside-fine}
 use Rattle.b3d_spec.proofs.Files.NodeLaws.{node-back, nodes-back, BackNode, NodeOK, node-fine, FineS, below-short}
@@ -44,15 +44,15 @@ abbrev Not : Tag → List Chunk → Type 0
 Not k [] = Unit {0}
 Not k (c ∷ l) = T (not (is (c .tag) k))
 
-one-none : {A : Type 0} (k : Tag) (a : A) (one : ℕ → List ℕ → Out A) (l : List Chunk) (p : ℕ) → Not k l
-    → readOne k a one (lay p l) ≡ got (record { value = a; rest = lay p l })
+one-none : {A : Type 0} (k : Tag) (a : A) (one : ℕ → List ℕ → Result A) (l : List Chunk) (p : ℕ) → Not k l
+    → readOne k a one (lay p l) ≡ accept (record { value = a; rest = lay p l })
 unfolding readOne
 one-none k a one [] p h = refl
 one-none k a one (c ∷ l) p h = if-no (is (c .tag) k) _ _ h
 
 abbrev TexturesBack : List Texture → List Chunk → ℕ → Type 0
 TexturesBack l r p =
-    (m : List Texture) × (q : ℕ) × (readOne TEXS [] readTextures (lay p (textureChunks l r)) ≡ got (record { value = m; rest = lay q r }))
+    (m : List Texture) × (q : ℕ) × (readOne TEXS [] readTextures (lay p (textureChunks l r)) ≡ accept (record { value = m; rest = lay q r }))
     × (map (renameTexture bareName) m ≡ map (renameTexture bareName) l)
 
 one-textures : (l : List Texture) → All FitTexture l → (r : List Chunk) → Not TEXS r → (p : ℕ) → TexturesBack l r p
@@ -76,7 +76,7 @@ same-length {A} f l m e = sym (length-map l f) ∙ ap (λ (v : List A). length v
 
 abbrev BrushesBack : ℕ → ℕ → List Brush → List Chunk → ℕ → Type 0
 BrushesBack n textures l r p =
-    (x : ℕ × List Brush) × (q : ℕ) × (readOne BRUS (0, []) (readBrushes Lenient textures) (lay p (brushChunks n l r)) ≡ got (record { value = x; rest = lay q r }))
+    (x : ℕ × List Brush) × (q : ℕ) × (readOne BRUS (0, []) (readBrushes Lenient textures) (lay p (brushChunks n l r)) ≡ accept (record { value = x; rest = lay q r }))
     × (slotsOf (x .0) (x .1) ≡ n) × (map (renameBrush bareName) (x .1) ≡ map (renameBrush bareName) l)
 
 one-brushes : (n textures : ℕ) (l : List Brush) → FitSlots n l → All (FitBrush n textures) l → (r : List Chunk) → Not BRUS r → (p : ℕ) → BrushesBack n textures l r p
@@ -89,31 +89,31 @@ one-brushes n textures (b ∷ l) hn h r k p =
 
 abbrev RootBack : ℕ → Forest → ℕ → Type 0
 RootBack brushes f p =
-    (g : Forest) × (readOne NODE leaf (readRoot Lenient brushes) (lay p (nodeChunks f)) ≡ got (record { value = g; rest = done })) × (renameForest bareName g ≡ renameForest bareName f)
+    (g : Forest) × (readOne NODE noNodes (readRoot Lenient brushes) (lay p (nodeChunks f)) ≡ accept (record { value = g; rest = done })) × (renameForest bareName g ≡ renameForest bareName f)
 
-root-of : (brushes : ℕ) (d : Data) (f : Forest) (p : ℕ) → BackNode (readNode Lenient levels brushes none p (writeNode d (nodeChunks f))) d f → RootBack brushes (node d f leaf) p
+root-of : (brushes : ℕ) (d : Data) (f : Forest) (p : ℕ) → BackNode (readNode Lenient levels brushes none p (writeNode d (nodeChunks f))) d f → RootBack brushes (node d f noNodes) p
 unfolding readOne readRoot if nodeChunks
 root-of brushes d f p x =
-    (node (x .inner .self) (x .inner .below) leaf, rw (x .is-got), cc (x .self, x .below))
+    (node (x .inner .self) (x .inner .below) noNodes, rw (x .is-got), cc (x .self, x .below))
 
 one-root : (brushes : ℕ) (f : Forest) → FitNodes levels brushes none f → OneRoot f → length (writeChunks (nodeChunks f)) < 4294967296 → (p : ℕ) → RootBack brushes f p
 unfolding readOne nodeChunks writeChunksOf
-one-root brushes leaf h o n p = (leaf, refl, refl)
-one-root brushes (node d f leaf) h o n p =
-    let lc = length-chunk code NODE (writeNode d (nodeChunks f)) (writeChunks (nodeChunks leaf)) in
+one-root brushes noNodes h o n p = (noNodes, refl, refl)
+one-root brushes (node d f noNodes) h o n p =
+    let lc = length-chunk code NODE (writeNode d (nodeChunks f)) (writeChunks (nodeChunks noNodes)) in
     let lb = below-short d (nodeChunks f) in
-    root-of brushes d f p (node-back 15 brushes none d f (h .0) (omega arith) (nodes-back 15 brushes (bonesBelow none d) f (h .1) (omega arith)) p)
+    root-of brushes d f p (node-back 15 brushes none d f (h .0) (omega arith) (nodes-back 15 brushes (boneLimitBelow none d) f (h .1) (omega arith)) p)
 one-root brushes (node d f (node e g i)) h o n p = absurd o
 
 not-texs : (n : ℕ) (l : List Brush) (f : Forest) → Not TEXS (brushChunks n l (nodeChunks f))
 unfolding nodeChunks
 not-texs n (b ∷ l) f = tt
-not-texs n [] leaf = tt
+not-texs n [] noNodes = tt
 not-texs n [] (node d f g) = tt
 
 not-brus : (f : Forest) → Not BRUS (nodeChunks f)
 unfolding nodeChunks
-not-brus leaf = tt
+not-brus noNodes = tt
 not-brus (node d f g) = tt
 
 nodes-short : (n : ℕ) (ts : List Texture) (bs : List Brush) (l : List Chunk) → length (writeChunks l) ≤ length (writeChunks (textureChunks ts (brushChunks n bs l)))
@@ -124,11 +124,11 @@ nodes-short n [] (b ∷ bs) l = omega (arith, length-chunk code BRUS (writeWords
 nodes-short n (t ∷ ts) (b ∷ bs) l =
     omega (arith, length-chunk code TEXS (writeItems writeTexture (t ∷ ts)) (writeChunks (brushChunks n (b ∷ bs) l)), length-chunk code BRUS (writeWords (n ∷ []) (writeItems writeBrush (b ∷ bs))) (writeChunks l))
 
-abbrev SceneBack : Out Scene → Scene → Type 0
-SceneBack o t = (u : Scene) × (o ≡ got u) × (bare u ≡ bare t)
+abbrev SceneBack : Result Scene → Scene → Type 0
+SceneBack o t = (u : Scene) × (o ≡ accept u) × (withoutPlaces u ≡ withoutPlaces t)
 
-body-back : (t : Scene) → Fit t → length (writeScene t) < 4294967296 → (p : ℕ) → SceneBack (readBody Lenient p (writeScene t)) t
-unfolding readBody writeScene ended bare rename
+body-back : (t : Scene) → WellFormed t → length (writeScene t) < 4294967296 → (p : ℕ) → SceneBack (readBody Lenient p (writeScene t)) t
+unfolding readBody writeScene ended withoutPlaces rename
 body-back t h n p =
     let ns = nodeChunks (t .nodes) in
     let bs = brushChunks (t .slots) (t .brushes) ns in
@@ -171,7 +171,7 @@ scene-long : (t : Scene) → 4 ≤ length (writeScene t)
 unfolding writeScene
 scene-long t = omega arith
 
-pub parse-back : (t : Scene) → Fit t → length (encode t) ≤ 16777216 → (u : Scene) × (parse Lenient (encode t) ≡ got u) × (bare u ≡ bare t)
+pub parse-back : (t : Scene) → WellFormed t → length (encode t) ≤ 16777216 → (u : Scene) × (parse Lenient (encode t) ≡ accept u) × (withoutPlaces u ≡ withoutPlaces t)
 unfolding parse encode
 parse-back t h n =
     let b = writeScene t in
@@ -191,9 +191,9 @@ parse-back t h n =
 -- ---- fine
 
 module _ {A : Type 0} (Ok : A → Type 0) (put : A → List Chunk → List Chunk) (a : A) (ok-none : Ok a) (put-none : (l : List Chunk) → put a l ≡ l) where
-  one-fine : (k : Tag) (one : ℕ → List ℕ → Out A)
-      → ((p : ℕ) (b : List ℕ) (x : A) → AllBytes b → one p b ≡ got x → Ok x × ((l : List Chunk) → length (writeChunks (put x l)) ≤ 8 + length b + length (writeChunks l)))
-      → (n : ℕ) (cs : Chunks) (x : Found A) → Of n cs → readOne k a one cs ≡ got x → FineS Ok put n x
+  one-fine : (k : Tag) (one : ℕ → List ℕ → Result A)
+      → ((p : ℕ) (b : List ℕ) (x : A) → AllBytes b → one p b ≡ accept x → Ok x × ((l : List Chunk) → length (writeChunks (put x l)) ≤ 8 + length b + length (writeChunks l)))
+      → (n : ℕ) (cs : Chunks) (x : Found A) → Of n cs → readOne k a one cs ≡ accept x → FineS Ok put n x
   unfolding readOne
   one-fine k one go n done x h e = subst (FineS Ok put n) (got-inj e) (record { ok = ok-none; size = n; of = tt; short = λ l. rw (put-none l) (omega arith) })
   one-fine k one go n (stop i p) x h e = bad-got e
@@ -208,7 +208,7 @@ unfolding writeChunksOf
 texture-chunks [] r = omega arith
 texture-chunks (t ∷ l) r = omega (arith, length-chunk code TEXS (writeItems writeTexture (t ∷ l)) (writeChunks r))
 
-textures-found : (n : ℕ) (cs : Chunks) (x : Found (List Texture)) → Of n cs → readOne TEXS [] readTextures cs ≡ got x → FineS (All FitTexture) textureChunks n x
+textures-found : (n : ℕ) (cs : Chunks) (x : Found (List Texture)) → Of n cs → readOne TEXS [] readTextures cs ≡ accept x → FineS (All FitTexture) textureChunks n x
 textures-found =
     one-fine (All FitTexture) textureChunks [] tt (λ l. refl) TEXS readTextures
     (λ p b x h e. let f = textures-fine p b x h e in (f .0, λ l. omega (arith, f .1, texture-chunks x l)))
@@ -229,7 +229,7 @@ unfolding slotsOf writeChunksOf
 brushes-ok textures m n [] h = ((refl, tt), λ r. omega arith)
 brushes-ok textures m n (b ∷ l) h = ((h .0, h .1), λ r. omega (arith, h .2, length-chunk code BRUS (writeWords (n ∷ []) (writeItems writeBrush (b ∷ l))) (writeChunks r)))
 
-brushes-found : (textures n : ℕ) (cs : Chunks) (x : Found (ℕ × List Brush)) → Of n cs → readOne BRUS (0, []) (readBrushes Lenient textures) cs ≡ got x
+brushes-found : (textures n : ℕ) (cs : Chunks) (x : Found (ℕ × List Brush)) → Of n cs → readOne BRUS (0, []) (readBrushes Lenient textures) cs ≡ accept x
     → FineS (FitBrushes textures) putBrushes n x
 brushes-found textures =
     one-fine (FitBrushes textures) putBrushes (0, []) (slots-none 0, tt) (λ l. refl) BRUS (readBrushes Lenient textures)
@@ -240,33 +240,33 @@ FitRoot brushes f = FitNodes levels brushes none f × OneRoot f
 
 -- the first node's chunk, before what follows
 abbrev putRoot : Forest → List Chunk → List Chunk
-putRoot leaf l = l
+putRoot noNodes l = l
 putRoot (node d f g) l = record { tag = NODE; body = writeNode d (nodeChunks f) } ∷ l
 
 root-chunks : (f : Forest) → OneRoot f → putRoot f [] ≡ nodeChunks f
 unfolding nodeChunks
-root-chunks leaf o = refl
-root-chunks (node d f leaf) o = refl
+root-chunks noNodes o = refl
+root-chunks (node d f noNodes) o = refl
 root-chunks (node d f (node e g h)) o = absurd o
 
 root-ok : (brushes m : ℕ) (x : Inner) → NodeOK levels brushes none m x
-    → FitRoot brushes (node (x .self) (x .below) leaf) × ((l : List Chunk) → length (writeChunks (putRoot (node (x .self) (x .below) leaf) l)) ≤ 8 + m + length (writeChunks l))
+    → FitRoot brushes (node (x .self) (x .below) noNodes) × ((l : List Chunk) → length (writeChunks (putRoot (node (x .self) (x .below) noNodes) l)) ≤ 8 + m + length (writeChunks l))
 unfolding writeChunksOf
 root-ok brushes m x h =
     (((h .0, h .1, tt), tt), λ l. omega (arith, h .2, length-chunk code NODE (writeNode (x .self) (nodeChunks (x .below))) (writeChunks l)))
 
-root-found : (brushes n : ℕ) (cs : Chunks) (x : Found Forest) → Of n cs → readOne NODE leaf (readRoot Lenient brushes) cs ≡ got x → FineS (FitRoot brushes) putRoot n x
+root-found : (brushes n : ℕ) (cs : Chunks) (x : Found Forest) → Of n cs → readOne NODE noNodes (readRoot Lenient brushes) cs ≡ accept x → FineS (FitRoot brushes) putRoot n x
 unfolding readRoot
 root-found brushes =
-    one-fine (FitRoot brushes) putRoot leaf (tt, tt) (λ l. refl) NODE (readRoot Lenient brushes)
+    one-fine (FitRoot brushes) putRoot noNodes (tt, tt) (λ l. refl) NODE (readRoot Lenient brushes)
     (λ p b f h e. by-got (readNode Lenient levels brushes none p b) _ e (λ x ex e₁.
     subst (λ (g : Forest). FitRoot brushes g × ((l : List Chunk) → length (writeChunks (putRoot g l)) ≤ 8 + length b + length (writeChunks l))) (got-inj e₁)
     (root-ok brushes (length b) x (node-fine levels brushes none p b x h ex))))
 
 abbrev SceneOK : ℕ → Scene → Type 0
-SceneOK n t = Fit t × (length (writeScene t) ≤ n)
+SceneOK n t = WellFormed t × (length (writeScene t) ≤ n)
 
-body-fine : (p : ℕ) (s : List ℕ) (t : Scene) → AllBytes s → readBody Lenient p s ≡ got t → SceneOK (length s) t
+body-fine : (p : ℕ) (s : List ℕ) (t : Scene) → AllBytes s → readBody Lenient p s ≡ accept t → SceneOK (length s) t
 unfolding readBody writeScene writeChunksOf
 body-fine p s t h e =
     by-got (row fileHead p s) _ e (λ v ev e₁. let f = row-fine fileHead p s v h ev in
@@ -274,7 +274,7 @@ body-fine p s t h e =
     let cs = inside BB3D 0 (v .place) (v .left) in
     by-got (readOne TEXS [] readTextures cs) _ e₁ (λ x ex e₂. let g = textures-found (length (v .left)) cs x (inside-fine BB3D 0 (v .place) (v .left) (f .bytes)) ex in
     by-got (readOne BRUS (0, []) (readBrushes Lenient (length (x .value))) (x .rest)) _ e₂ (λ y ey e₃. let i = brushes-found (length (x .value)) (g .size) (x .rest) y (g .of) ey in
-    by-got (readOne NODE leaf (readRoot Lenient (length (y .value .1))) (y .rest)) _ e₃ (λ z ez e₄. let j = root-found (length (y .value .1)) (i .size) (y .rest) z (i .of) ez in
+    by-got (readOne NODE noNodes (readRoot Lenient (length (y .value .1))) (y .rest)) _ e₃ (λ z ez e₄. let j = root-found (length (y .value .1)) (i .size) (y .rest) z (i .of) ez in
     let ns = nodeChunks (z .value) in
     let bs = brushChunks (Slots (y .value)) (y .value .1) ns in
     let k₀ = f .short (writeChunks (textureChunks (x .value) bs)) in
@@ -286,7 +286,7 @@ body-fine p s t h e =
     subst (SceneOK (length s)) (ended-fine (z .rest) _ t e₄)
     (record { version = subst (Fits fileHead) one (f .ok); textures = g .ok; slots = i .ok .0; brushes = i .ok .1; nodes = j .ok .0; root = j .ok .1 }, omega arith)))))
 
-pub parse-fine : (s : List ℕ) (t : Scene) → AllBytes s → parse Lenient s ≡ got t → Fit t × (length (encode t) ≤ length s)
+pub parse-fine : (s : List ℕ) (t : Scene) → AllBytes s → parse Lenient s ≡ accept t → WellFormed t × (length (encode t) ≤ length s)
 unfolding parse
 parse-fine s t h e =
     by-check (sizeFits (length s)) 1 0 _ e (λ z e₁. let lo = size-low (length s) z in
@@ -296,6 +296,6 @@ parse-fine s t h e =
     let n = length-fits header (x .value) (f .ok) in
     (g .0, omega (arith, g .1, f .short [], length-words (x .value) [], length-encode t))))))
 
-pub parse-size : (s : List ℕ) (t : Scene) → parse Lenient s ≡ got t → length s ≤ 16777216
+pub parse-size : (s : List ℕ) (t : Scene) → parse Lenient s ≡ accept t → length s ≤ 16777216
 unfolding parse
 parse-size s t e = by-check (sizeFits (length s)) 1 0 _ e (λ u e₁. size-bound (length s) u)

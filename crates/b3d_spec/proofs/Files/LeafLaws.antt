@@ -11,7 +11,7 @@ use lib.Dec.{ltb, ltb→lt, nltb→le}
 use Rattle.wire.specs.Bytes.{bytes, AllBytes}
 use Rattle.wire.specs.Test.{if}
 use Rattle.layout.specs.Chunks.{done, stop, chunk}
-use Rattle.layout.specs.Out.{got, bad}
+use Rattle.layout.specs.Result.{accept, reject}
 use Rattle.layout.specs.Parts.{Step, row, named, items, wordsOf}
 use Rattle.layout.specs.Rules.{Rule, any}
 use Rattle.layout.specs.Write.{writeWords, writeItems, writeChunks as writeChunksOf}
@@ -38,12 +38,12 @@ use Rattle.b3d_spec.proofs.Files.TagCodes.{by-tag}
 
 -- ---- rows of one rule list
 
-pub rows-back : (rs : List Rule) → 0 < length rs → (l : List (List ℕ)) → All (Fits rs) l → (p : ℕ) → items (row rs) p (writeItems writeWords l) ≡ got l
+pub rows-back : (rs : List Rule) → 0 < length rs → (l : List (List ℕ)) → All (Fits rs) l → (p : ℕ) → items (row rs) p (writeItems writeWords l) ≡ accept l
 rows-back rs n l h p =
     let x = items-back (row-item rs n) l h p in
-    x .1 ∙ ap (λ (m : List (List ℕ)). got m) (sym (map-id (x .0)) ∙ x .2 ∙ map-id l)
+    x .1 ∙ ap (λ (m : List (List ℕ)). accept m) (sym (map-id (x .0)) ∙ x .2 ∙ map-id l)
 
-pub rows-fine : (rs : List Rule) → 0 < length rs → (p : ℕ) (s : List ℕ) (l : List (List ℕ)) → AllBytes s → items (row rs) p s ≡ got l
+pub rows-fine : (rs : List Rule) → 0 < length rs → (p : ℕ) (s : List ℕ) (l : List (List ℕ)) → AllBytes s → items (row rs) p s ≡ accept l
     → All (Fits rs) l × (length (writeItems writeWords l) ≤ length s)
 rows-fine rs n p s l h e = items-fine (row-item rs n) p s l h e
 
@@ -81,11 +81,11 @@ texture-item = record {
 }
 
 pub textures-back : (l : List Texture) → All FitTexture l → (p : ℕ)
-    → (m : List Texture) × (readTextures p (writeItems writeTexture l) ≡ got m) × (map (renameTexture bareName) m ≡ map (renameTexture bareName) l)
+    → (m : List Texture) × (readTextures p (writeItems writeTexture l) ≡ accept m) × (map (renameTexture bareName) m ≡ map (renameTexture bareName) l)
 unfolding readTextures
 textures-back l h p = items-back texture-item l h (p + 8)
 
-pub textures-fine : (p : ℕ) (s : List ℕ) (l : List Texture) → AllBytes s → readTextures p s ≡ got l → All FitTexture l × (length (writeItems writeTexture l) ≤ length s)
+pub textures-fine : (p : ℕ) (s : List ℕ) (l : List Texture) → AllBytes s → readTextures p s ≡ accept l → All FitTexture l × (length (writeItems writeTexture l) ≤ length s)
 unfolding readTextures
 textures-fine p s l h e = items-fine texture-item (p + 8) s l h e
 
@@ -119,7 +119,7 @@ module _ (n textures : ℕ) where
         same = refl;
       }
 
-  brush-fine : (p : ℕ) (s : List ℕ) (x : Step Brush) → AllBytes s → readBrush Lenient n textures p s ≡ got x → Fine (FitBrush n textures) writeBrush s x
+  brush-fine : (p : ℕ) (s : List ℕ) (x : Step Brush) → AllBytes s → readBrush Lenient n textures p s ≡ accept x → Fine (FitBrush n textures) writeBrush s x
   unfolding readBrush
   brush-fine p s x h e =
       by-got (named (brushRow Lenient ++ brushIds n textures) p s) _ e (λ y ey e₁. let f = named-fine (brushRow Lenient ++ brushIds n textures) p s y h ey in
@@ -138,7 +138,7 @@ module _ (n textures : ℕ) where
   }
 
 pub brushes-back : (n textures : ℕ) (l : List Brush) → Fits brushesHead (n ∷ []) → All (FitBrush n textures) l → (p : ℕ)
-    → (m : List Brush) × (readBrushes Lenient textures p (writeWords (n ∷ []) (writeItems writeBrush l)) ≡ got (n, m)) × (map (renameBrush bareName) m ≡ map (renameBrush bareName) l)
+    → (m : List Brush) × (readBrushes Lenient textures p (writeWords (n ∷ []) (writeItems writeBrush l)) ≡ accept (n, m)) × (map (renameBrush bareName) m ≡ map (renameBrush bareName) l)
 unfolding readBrushes
 brushes-back n textures l hn h p =
     let x = row-back brushesHead (n ∷ []) hn (p + 8) (writeItems writeBrush l) in
@@ -149,7 +149,7 @@ abbrev pub BrushesOK : ℕ → ℕ → ℕ × List Brush → Type 0
 BrushesOK textures n x =
     Fits brushesHead (x .0 ∷ []) × All (FitBrush (x .0) textures) (x .1) × (length (writeWords (x .0 ∷ []) (writeItems writeBrush (x .1))) ≤ n)
 
-pub brushes-fine : (textures p : ℕ) (s : List ℕ) (x : ℕ × List Brush) → AllBytes s → readBrushes Lenient textures p s ≡ got x → BrushesOK textures (length s) x
+pub brushes-fine : (textures p : ℕ) (s : List ℕ) (x : ℕ × List Brush) → AllBytes s → readBrushes Lenient textures p s ≡ accept x → BrushesOK textures (length s) x
 unfolding readBrushes
 brushes-fine textures p s x h e =
     by-got (row brushesHead (p + 8) s) _ e (λ y ey e₁. let f = row-fine brushesHead (p + 8) s y h ey in
@@ -164,7 +164,7 @@ brushes-fine textures p s x h e =
 
 -- ---- keys, weights, animation
 
-pub keys-back : (k : Keys) → FitKeys k → (p : ℕ) → readKeys p (writeKeys k) ≡ got k
+pub keys-back : (k : Keys) → FitKeys k → (p : ℕ) → readKeys p (writeKeys k) ≡ accept k
 unfolding readKeys writeKeys
 keys-back k h p =
     let x = row-back keysHead (k .flags ∷ []) (h .0) (p + 8) (writeItems writeWords (k .items)) in
@@ -173,7 +173,7 @@ keys-back k h p =
 abbrev KeysOK : ℕ → Keys → Type 0
 KeysOK n k = FitKeys k × (length (writeKeys k) ≤ n)
 
-pub keys-fine : (p : ℕ) (s : List ℕ) (k : Keys) → AllBytes s → readKeys p s ≡ got k → KeysOK (length s) k
+pub keys-fine : (p : ℕ) (s : List ℕ) (k : Keys) → AllBytes s → readKeys p s ≡ accept k → KeysOK (length s) k
 unfolding readKeys writeKeys
 keys-fine p s k h e =
     by-got (row keysHead (p + 8) s) _ e (λ y ey e₁. let f = row-fine keysHead (p + 8) s y h ey in
@@ -186,24 +186,24 @@ keys-fine p s k h e =
     subst (KeysOK (length s)) (got-inj e₂)
     ((subst (Fits keysHead) one (f .ok), g .0), omega arith)))
 
-pub bone-back : (n : ℕ) (l : List (List ℕ)) → All (Fits (weightRow n)) l → (p : ℕ) → readBone n p (writeItems writeWords l) ≡ got l
+pub bone-back : (n : ℕ) (l : List (List ℕ)) → All (Fits (weightRow n)) l → (p : ℕ) → readBone n p (writeItems writeWords l) ≡ accept l
 unfolding readBone
 bone-back n l h p = rows-back (weightRow n) (omega arith) l h (p + 8)
 
-pub bone-fine : (n p : ℕ) (s : List ℕ) (l : List (List ℕ)) → AllBytes s → readBone n p s ≡ got l → All (Fits (weightRow n)) l × (length (writeItems writeWords l) ≤ length s)
+pub bone-fine : (n p : ℕ) (s : List ℕ) (l : List (List ℕ)) → AllBytes s → readBone n p s ≡ accept l → All (Fits (weightRow n)) l × (length (writeItems writeWords l) ≤ length s)
 unfolding readBone
 bone-fine n p s l h e = rows-fine (weightRow n) (omega arith) (p + 8) s l h e
 
-pub anim-back : (ws : List ℕ) → Fits animRow ws → (p : ℕ) → readAnim p (writeWords ws []) ≡ got ws
+pub anim-back : (ws : List ℕ) → Fits animRow ws → (p : ℕ) → readAnim p (writeWords ws []) ≡ accept ws
 unfolding readAnim filled
 anim-back ws h p = let x = row-back animRow ws h (p + 8) [] in rw (x .1)
 
-filled-got : (p : ℕ) (s ws vs : List ℕ) → filled p s ws ≡ got vs → ws ≡ vs
+filled-got : (p : ℕ) (s ws vs : List ℕ) → filled p s ws ≡ accept vs → ws ≡ vs
 unfolding filled
 filled-got p [] ws vs e = got-inj e
 filled-got p (c ∷ s) ws vs e = bad-got e
 
-pub anim-fine : (p : ℕ) (s ws : List ℕ) → AllBytes s → readAnim p s ≡ got ws → Fits animRow ws × (length (writeWords ws []) ≤ length s)
+pub anim-fine : (p : ℕ) (s ws : List ℕ) → AllBytes s → readAnim p s ≡ accept ws → Fits animRow ws × (length (writeWords ws []) ≤ length s)
 unfolding readAnim
 anim-fine p s ws h e =
     by-got (row animRow (p + 8) s) _ e (λ y ey e₁. let f = row-fine animRow (p + 8) s y h ey in
@@ -213,7 +213,7 @@ anim-fine p s ws h e =
 -- ---- a mesh
 
 vertices-back : (brushes : ℕ) (m : Mesh) → FitMesh brushes m → (p : ℕ)
-    → readVertices Lenient p (writeVertices m) ≡ got (record { flags = m .flags; sets = m .sets; size = m .size; items = m .vertices })
+    → readVertices Lenient p (writeVertices m) ≡ accept (record { flags = m .flags; sets = m .sets; size = m .size; items = m .vertices })
 unfolding readVertices writeVertices
 vertices-back brushes m h p =
     let x = row-back verticesHead (m .flags ∷ m .sets ∷ m .size ∷ []) (h .head) (p + 8) (writeItems writeWords (m .vertices)) in
@@ -224,7 +224,7 @@ record VerticesOK (n : ℕ) (v : Vertices) : Type 0 where
   all : All (Fits (vertexRow Lenient (v .flags) (v .sets) (v .size))) (v .items)
   short : length (writeWords (v .flags ∷ v .sets ∷ v .size ∷ []) (writeItems writeWords (v .items))) ≤ n
 
-vertices-fine : (p : ℕ) (s : List ℕ) (v : Vertices) → AllBytes s → readVertices Lenient p s ≡ got v → VerticesOK (length s) v
+vertices-fine : (p : ℕ) (s : List ℕ) (v : Vertices) → AllBytes s → readVertices Lenient p s ≡ accept v → VerticesOK (length s) v
 unfolding readVertices
 vertices-fine p s v h e =
     by-got (row verticesHead (p + 8) s) _ e (λ y ey e₁. let f = row-fine verticesHead (p + 8) s y h ey in
@@ -252,19 +252,19 @@ record VrtsFound (head size : ℕ) (x : Found Vertices) : Type 0 where
   of : Of (size - (8 + length body)) before
   rest-is : order MESH head vrtsRead before ≡ x .rest
 
-vrts-found : (head size : ℕ) (cs : Chunks) (x : Found Vertices) → Of size cs → readOne VRTS noVertices (readVertices Lenient) (order MESH head start cs) ≡ got x → VrtsFound head size x
+vrts-found : (head size : ℕ) (cs : Chunks) (x : Found Vertices) → Of size cs → readOne VRTS noVertices (readVertices Lenient) (order MESH head start cs) ≡ accept x → VrtsFound head size x
 unfolding readOne order onward next if
 vrts-found head size done x h e = bad-got e
 vrts-found head size (stop i p) x h e = bad-got e
 vrts-found head size (chunk t p b r) x h e =
-    let P : Tag → Type 0 = λ k. readOne VRTS noVertices (readVertices Lenient) (order MESH head start (chunk k p b r)) ≡ got x → VrtsFound head size x in
+    let P : Tag → Type 0 = λ k. readOne VRTS noVertices (readVertices Lenient) (order MESH head start (chunk k p b r)) ≡ accept x → VrtsFound head size x in
     let vrts : P VRTS = λ e. by-got (readVertices Lenient p b) _ e (λ v ev e₁.
     subst (VrtsFound head size) (got-inj e₁)
     (record { body = b; before = r; fine = vertices-fine p b v (h .0) ev; fits = h .1; of = h .2; rest-is = refl })) in
     by-tag P (bad-got, bad-got, bad-got, bad-got, bad-got, vrts, bad-got, bad-got, bad-got, bad-got) t e
 
 module _ (brushes n : ℕ) where
-  triangles-back : (x : TriangleSet) → FitTriangles brushes n x → (p : ℕ) → readTriangles brushes n p (writeTriangles x) ≡ got x
+  triangles-back : (x : TriangleSet) → FitTriangles brushes n x → (p : ℕ) → readTriangles brushes n p (writeTriangles x) ≡ accept x
   unfolding readTriangles writeTriangles
   triangles-back x h p =
       let y = row-back (trianglesHead brushes) (x .brush ∷ []) (h .0) (p + 8) (writeItems writeWords (x .triangles)) in
@@ -273,7 +273,7 @@ module _ (brushes n : ℕ) where
   abbrev TrianglesOK : ℕ → TriangleSet → Type 0
   TrianglesOK size x = FitTriangles brushes n x × (length (writeTriangles x) ≤ size)
 
-  triangles-fine : (p : ℕ) (s : List ℕ) (x : TriangleSet) → AllBytes s → readTriangles brushes n p s ≡ got x → TrianglesOK (length s) x
+  triangles-fine : (p : ℕ) (s : List ℕ) (x : TriangleSet) → AllBytes s → readTriangles brushes n p s ≡ accept x → TrianglesOK (length s) x
   unfolding readTriangles writeTriangles
   triangles-fine p s x h e =
       by-got (row (meshHead brushes) (p + 8) s) _ e (λ y ey e₁. let f = row-fine (meshHead brushes) (p + 8) s y h ey in
@@ -285,7 +285,7 @@ module _ (brushes n : ℕ) where
       subst (TrianglesOK (length s)) (got-inj e₂)
       ((subst (Fits (meshHead brushes)) one (f .ok), g .0), omega arith)))
 
-  sets-back : (l : List TriangleSet) → All (FitTriangles brushes n) l → (p : ℕ) → readSets brushes n (lay p (setChunks l)) ≡ got l
+  sets-back : (l : List TriangleSet) → All (FitTriangles brushes n) l → (p : ℕ) → readSets brushes n (lay p (setChunks l)) ≡ accept l
   unfolding readSets
   sets-back [] h p = refl
   sets-back (x ∷ l) h p = rw (triangles-back x (h .0) p, sets-back l (h .1) (p + 8 + length (writeTriangles x)))
@@ -293,7 +293,7 @@ module _ (brushes n : ℕ) where
   abbrev SetsOK : ℕ → List TriangleSet → Type 0
   SetsOK size l = All (FitTriangles brushes n) l × (length (writeChunks (setChunks l)) ≤ size)
 
-  sets-fine : (size : ℕ) (cs : Chunks) (l : List TriangleSet) → Of size cs → readSets brushes n cs ≡ got l → SetsOK size l
+  sets-fine : (size : ℕ) (cs : Chunks) (l : List TriangleSet) → Of size cs → readSets brushes n cs ≡ accept l → SetsOK size l
   unfolding readSets writeChunksOf
   sets-fine size done l h e = subst (SetsOK size) (got-inj e) (tt, omega arith)
   sets-fine size (stop i p) l h e = bad-got e
@@ -304,7 +304,7 @@ module _ (brushes n : ℕ) where
       ((f .0, g .0), omega (arith, h .1, f .1, g .1, length-chunk code TRIS (writeTriangles x) (writeChunks (setChunks k))))))
 
   onward-some : (o : Option Reached) (t : Tag) (p : ℕ) (b : List ℕ) (go : Reached → Chunks) (l : List TriangleSet)
-      → readSets brushes n (onward o p (λ q. chunk t p b (go q))) ≡ got l → 0 < length l
+      → readSets brushes n (onward o p (λ q. chunk t p b (go q))) ≡ accept l → 0 < length l
   unfolding readSets onward
   onward-some none t p b go l e = bad-got e
   onward-some (some q) t p b go l e =
@@ -312,7 +312,7 @@ module _ (brushes n : ℕ) where
       by-got (readSets brushes n (go q)) _ e₁ (λ k ek e₂. subst (λ (m : List TriangleSet). 0 < length m) (got-inj e₂) (omega arith)))
 
   -- after a VRTS a mesh has one TRIS at least
-  sets-some : (head : ℕ) (cs : Chunks) (l : List TriangleSet) → readSets brushes n (order MESH head vrtsRead cs) ≡ got l → 0 < length l
+  sets-some : (head : ℕ) (cs : Chunks) (l : List TriangleSet) → readSets brushes n (order MESH head vrtsRead cs) ≡ accept l → 0 < length l
   unfolding readSets order if
   sets-some head done l e = bad-got e
   sets-some head (stop i p) l e = bad-got e
@@ -322,7 +322,7 @@ abbrev partChunks : Mesh → List Chunk
 partChunks m = record { tag = VRTS; body = writeVertices m } ∷ setChunks (m .triangleSets)
 
 module _ (brushes : ℕ) where
-  pub mesh-back : (m : Mesh) → FitMesh brushes m → length (writeMesh m) < 4294967296 → (p : ℕ) → readMesh Lenient brushes p (writeMesh m) ≡ got m
+  pub mesh-back : (m : Mesh) → FitMesh brushes m → length (writeMesh m) < 4294967296 → (p : ℕ) → readMesh Lenient brushes p (writeMesh m) ≡ accept m
   unfolding readMesh writeMesh readOne if
   mesh-back m h n p =
       let x = row-back (meshHead brushes) (m .brush ∷ []) (h .brush) (p + 8) (writeChunks (partChunks m)) in
@@ -336,7 +336,7 @@ module _ (brushes : ℕ) where
   abbrev MeshOK : ℕ → Mesh → Type 0
   MeshOK n m = FitMesh brushes m × (length (writeMesh m) ≤ n)
 
-  pub mesh-fine : (p : ℕ) (s : List ℕ) (m : Mesh) → AllBytes s → readMesh Lenient brushes p s ≡ got m → MeshOK (length s) m
+  pub mesh-fine : (p : ℕ) (s : List ℕ) (m : Mesh) → AllBytes s → readMesh Lenient brushes p s ≡ accept m → MeshOK (length s) m
   unfolding readMesh writeMesh writeChunksOf writeVertices inside
   mesh-fine p s m h e =
       by-got (row (meshHead brushes) (p + 8) s) _ e (λ y ey e₁. let f = row-fine (meshHead brushes) (p + 8) s y h ey in
@@ -349,7 +349,7 @@ module _ (brushes : ℕ) where
       by-got (readSets brushes k (v .rest)) _ e₂ (λ l el e₃.
       let o : Of size (v .rest) = subst (Of size) (g .rest-is) (order-of MESH p vrtsRead size (g .before) (g .of)) in
       let i = sets-fine brushes k size (v .rest) l o el in
-      let j = sets-some brushes k p (g .before) l (subst (λ (z : Chunks). readSets brushes k z ≡ got l) (sym (g .rest-is)) el) in
+      let j = sets-some brushes k p (g .before) l (subst (λ (z : Chunks). readSets brushes k z ≡ accept l) (sym (g .rest-is)) el) in
       let w = writeWords (v .value .flags ∷ v .value .sets ∷ v .value .size ∷ []) (writeItems writeWords (v .value .items)) in
       let cw = writeChunk VRTS w (writeChunks (setChunks l)) in
       let k₀ = f .short cw in
@@ -369,21 +369,21 @@ module _ (brushes : ℕ) where
 
 -- ---- an ANIM
 
-pub anim-whole : (p : ℕ) (b : List ℕ) → length b ≡ 12 → readAnim p b ≡ got (wordsOf 3 b)
+pub anim-whole : (p : ℕ) (b : List ℕ) → length b ≡ 12 → readAnim p b ≡ accept (wordsOf 3 b)
 unfolding readAnim filled
 anim-whole p b h = rw (row-any 3 (p + 8) b (omega arith)) (nothing (drop 12 b) (length-drop 12 b ∙ omega arith))
   where
-    nothing : (r : List ℕ) → length r ≡ 0 → filled (p + 8) r (wordsOf 3 b) ≡ got (wordsOf 3 b)
+    nothing : (r : List ℕ) → length r ≡ 0 → filled (p + 8) r (wordsOf 3 b) ≡ accept (wordsOf 3 b)
     nothing [] e = refl
     nothing (c ∷ r) e = absurd (omega arith)
 
-pub anim-other : (p : ℕ) (b : List ℕ) → (length b ≡ 12 → ⊥) → readAnim p b ≡ bad 5 (p + 8)
+pub anim-other : (p : ℕ) (b : List ℕ) → (length b ≡ 12 → ⊥) → readAnim p b ≡ reject 5 (p + 8)
 unfolding readAnim filled
 anim-other p b h =
     by-test (ltb (length b) 12)
     (λ t. let l = ltb→lt (length b) 12 t in rw (any-short 3 (p + 8) b (omega arith)))
     (λ t. let l = nltb→le (length b) 12 t in rw (row-any 3 (p + 8) b (omega arith)) (more (drop 12 b) (length-drop 12 b) l))
   where
-    more : (r : List ℕ) → length r ≡ length b - 12 → 12 ≤ length b → filled (p + 8) r (wordsOf 3 b) ≡ bad 5 (p + 8)
+    more : (r : List ℕ) → length r ≡ length b - 12 → 12 ≤ length b → filled (p + 8) r (wordsOf 3 b) ≡ reject 5 (p + 8)
     more [] e l = absurd (h (omega arith))
     more (c ∷ r) e l = refl

@@ -11,8 +11,8 @@ use lib.ListN.{length, take, drop, replicate}
 use lib.Dec.{eqb}
 use Rattle.wire.specs.Test.{if}
 use Rattle.layout.specs.Chunks.{done, stop, chunk, ended}
-use Rattle.layout.specs.Fit.{all}
-use Rattle.layout.specs.Out.{Out, got, check, _>>=_}
+use Rattle.layout.specs.WellFormed.{all}
+use Rattle.layout.specs.Result.{Result, accept, check, _>>=_}
 use Rattle.layout.specs.Parts.{Name, Step, row, number, named, items}
 use Rattle.layout.specs.Rules.{Rule, any, unit, holds}
 use Rattle.layout.proofs.HeldLaws.{Held, same-held, held-as, first-held, bind-held, then-held, map-held, loose, passes as passesRules, passes-any, passes-unit, Says, row-held, named-held, items-held}
@@ -25,11 +25,11 @@ use Rattle.b3d_spec.specs.declared.Mode.the-variants.{Strict, Lenient}
 use Rattle.b3d_spec.specs.declared.Tag.{Tag}
 use Rattle.b3d_spec.specs.declared.Tag.the-variants.{BB3D, TEXS, BRUS, NODE, MESH, VRTS, BONE}
 use Rattle.b3d_spec.specs.declared.Counts.{Counts}
-use Rattle.b3d_spec.specs.Mask.{mask, spread, vertexHas, vertexMask}
+use Rattle.b3d_spec.specs.Mask.{mask, padded, vertexHas, vertexMask}
 use Rattle.b3d_spec.specs.Nesting.{inside}
-use Rattle.b3d_spec.specs.Parse.{readOne, readTextures, readBrush, readBrushes, Vertices, noVertices, readVertices, readSets, readMesh, readBone, aMesh, aBone, readKind, readMoves, Inner, readNodes, readBelow, readNode, readRoot, readBody, parse}
-use Rattle.b3d_spec.specs.Rules.{textureId, when, vertexWords, brushRow, brushIds, vertexRow, nodeRow, header, fileHead, brushesHead, meshHead, verticesHead, boneVertices, bonesBelow, levels}
-use Rattle.b3d_spec.specs.Scene.{Brush, Mesh, Kind, pivot, mesh, bone, still, Data, Forest, leaf, node, Scene}
+use Rattle.b3d_spec.specs.Parse.{readOne, readTextures, readBrush, readBrushes, Vertices, noVertices, readVertices, readSets, readMesh, readBone, aMesh, aBone, readKind, readAnimation, Inner, readNodes, readBelow, readNode, readRoot, readBody, parse}
+use Rattle.b3d_spec.specs.Rules.{textureId, when, vertexWords, brushRow, brushIds, vertexRow, nodeRow, header, fileHead, brushesHead, meshHead, verticesHead, boneLimit, boneLimitBelow, levels}
+use Rattle.b3d_spec.specs.Scene.{Brush, Mesh, Kind, pivot, mesh, bone, noAnim, Data, Forest, noNodes, node, Scene}
 use Rattle.b3d_spec.specs.Tables as tables
 use Rattle.b3d_spec.specs.Tables.{meshesOf, vertexRows, meshRows, ownRows, withNode, withForest, forestRows, rows, nodesIn}
 use Rattle.b3d_spec.specs.Tags.{code, is, Chunks, Found}
@@ -102,15 +102,15 @@ brush-says n k (a ∷ b ∷ c ∷ d ∷ ws) e =
     ∙ and-true (all (holds unit) (a ∷ b ∷ c ∷ d ∷ [])))
 
 -- a row's next words by a mask
-spread-on : (m : List Bool) (ws : List ℕ) → drop 3 (spread (true ∷ true ∷ true ∷ m) ws) ≡ spread m (drop 3 ws)
-unfolding spread
+spread-on : (m : List Bool) (ws : List ℕ) → drop 3 (padded (true ∷ true ∷ true ∷ m) ws) ≡ padded m (drop 3 ws)
+unfolding padded
 spread-on m [] = refl
 spread-on m (a ∷ []) = refl
 spread-on m (a ∷ b ∷ []) = refl
 spread-on m (a ∷ b ∷ c ∷ ws) = refl
 
-spread-four : (m : List Bool) (ws : List ℕ) → all (holds unit) (take 4 (spread (true ∷ true ∷ true ∷ true ∷ m) ws)) ≡ all (holds unit) (take 4 ws)
-unfolding spread
+spread-four : (m : List Bool) (ws : List ℕ) → all (holds unit) (take 4 (padded (true ∷ true ∷ true ∷ true ∷ m) ws)) ≡ all (holds unit) (take 4 ws)
+unfolding padded
 spread-four m [] = refl
 spread-four m (a ∷ []) = refl
 spread-four m (a ∷ b ∷ []) = refl
@@ -123,8 +123,8 @@ bits x y m =
     true ∷ true ∷ true ∷ eqb x 1 ∷ eqb x 1 ∷ eqb x 1 ∷ eqb y 1 ∷ eqb y 1 ∷ eqb y 1 ∷ eqb y 1 ∷ m
 
 four-says : (y : ℕ) → y < 2 → (m : List Bool) (ws : List ℕ)
-    → all (holds unit) (take 4 (spread (eqb y 1 ∷ eqb y 1 ∷ eqb y 1 ∷ eqb y 1 ∷ m) ws)) ≡ all (holds unit) (take (y * 4) ws)
-unfolding spread
+    → all (holds unit) (take 4 (padded (eqb y 1 ∷ eqb y 1 ∷ eqb y 1 ∷ eqb y 1 ∷ m) ws)) ≡ all (holds unit) (take (y * 4) ws)
+unfolding padded
 four-says zero l m ws = refl
 four-says (suc zero) l m ws = spread-four m ws
 four-says (suc (suc y)) l m ws = absurd (omega arith)
@@ -136,21 +136,21 @@ six (a ∷ b ∷ []) = refl
 six (a ∷ b ∷ c ∷ v) = refl
 
 bits-say : (x y : ℕ) → x < 2 → y < 2 → (m : List Bool) (ws : List ℕ)
-    → all (holds unit) (take 4 (drop 6 (spread (bits x y m) ws))) ≡ all (holds unit) (take (y * 4) (drop (3 + x * 3) ws))
-unfolding spread
+    → all (holds unit) (take 4 (drop 6 (padded (bits x y m) ws))) ≡ all (holds unit) (take (y * 4) (drop (3 + x * 3) ws))
+unfolding padded
 bits-say zero y k l m ws =
     let c = eqb y 1 in
-    ap (λ (r : List ℕ). all (holds unit) (take 4 r)) (six (spread (bits 0 y m) ws) ∙ ap (drop 3) (spread-on (false ∷ false ∷ false ∷ c ∷ c ∷ c ∷ c ∷ m) ws)) ∙ four-says y l m (drop 3 ws)
+    ap (λ (r : List ℕ). all (holds unit) (take 4 r)) (six (padded (bits 0 y m) ws) ∙ ap (drop 3) (spread-on (false ∷ false ∷ false ∷ c ∷ c ∷ c ∷ c ∷ m) ws)) ∙ four-says y l m (drop 3 ws)
 bits-say (suc zero) y k l m ws =
     let c = eqb y 1 in
     ap (λ (r : List ℕ). all (holds unit) (take 4 r))
-    (six (spread (bits 1 y m) ws) ∙ ap (drop 3) (spread-on (true ∷ true ∷ true ∷ c ∷ c ∷ c ∷ c ∷ m) ws) ∙ spread-on (c ∷ c ∷ c ∷ c ∷ m) (drop 3 ws))
+    (six (padded (bits 1 y m) ws) ∙ ap (drop 3) (spread-on (true ∷ true ∷ true ∷ c ∷ c ∷ c ∷ c ∷ m) ws) ∙ spread-on (c ∷ c ∷ c ∷ c ∷ m) (drop 3 ws))
     ∙ four-says y l m (drop 3 (drop 3 ws))
     ∙ ap (λ (r : List ℕ). all (holds unit) (take (y * 4) r)) (sym (six ws))
 bits-say (suc (suc x)) y k l m ws = absurd (omega arith)
 
 abbrev vertexPasses : ℕ → ℕ → ℕ → List ℕ → Bool
-vertexPasses f s z ws = coloured 6 (spread (vertexMask f s z) ws)
+vertexPasses f s z ws = coloured 6 (padded (vertexMask f s z) ws)
 
 mask-bits : (f s z : ℕ) → vertexMask f s z ≡ bits (f % 2) (f / 2 % 2) (mask (vertexHas f s z) 32 10)
 unfolding vertexMask mask vertexHas if
@@ -163,7 +163,7 @@ vertex-says f s z ws _ =
     let b : f / 2 % 2 < 2 = omega arith in
     let e : f % 2 ≡ f / 1 % 2 = omega arith in
     let before = drop (3 + when 1 f 3) ws in
-    ap (λ (m : List Bool). all (holds unit) (take 4 (drop 6 (spread m ws)))) (mask-bits f s z)
+    ap (λ (m : List Bool). all (holds unit) (take 4 (drop 6 (padded m ws)))) (mask-bits f s z)
     ∙ bits-say (f % 2) (f / 2 % 2) a b (mask (vertexHas f s z) 32 10) ws
     ∙ ap (λ (x : ℕ). all (holds unit) (take (when 2 f 4) (drop (3 + x * 3) ws))) e
     ∙ sym (passes-any (3 + when 1 f 3) _ ws
@@ -185,7 +185,7 @@ kindPasses (mesh m) = meshPasses m
 kindPasses (bone ws) = true
 
 abbrev forestPasses : Forest → Bool
-forestPasses leaf = true
+forestPasses noNodes = true
 forestPasses (node d f g) = kindPasses (d .kind) && (forestPasses f && forestPasses g)
 
 abbrev innerPasses : Inner → Bool
@@ -197,7 +197,7 @@ with-next x l = sym (and-assoc (kindPasses (x .self .kind)) (forestPasses (x .be
 abbrev scenePasses : Scene → Bool
 scenePasses t = all brushPasses (t .brushes) && forestPasses (t .nodes)
 
-ended-got : {A : Type 0} (cs : Chunks) (a b : A) → ended cs a ≡ got b → a ≡ b
+ended-got : {A : Type 0} (cs : Chunks) (a b : A) → ended cs a ≡ accept b → a ≡ b
 unfolding ended
 ended-got done a b e = got-inj e
 ended-got (stop n p) a b e = absurd (let z : _≡_ {A = ℕ} 0 1 = cc in omega arith)
@@ -207,7 +207,7 @@ ended-got (chunk t p c r) a b e = ended-got r a b e
 
 forest-rows : (f : Forest) (p : ℕ) (n : Counts) → all (coloured 6) (forestRows 5 f p n) ≡ forestPasses f
 unfolding forestRows ownRows meshRows meshesOf vertexRows if
-forest-rows leaf p n = refl
+forest-rows noNodes p n = refl
 forest-rows (node d f g) p n =
     all-append (coloured 6) (ownRows 5 d p (nodesIn f) n) _
     ∙ ap₂ _&&_ (own (d .kind))
@@ -215,7 +215,7 @@ forest-rows (node d f g) p n =
   where
     own : (k : Kind) → all (coloured 6) (meshRows 5 (meshesOf k) n) ≡ kindPasses k
     own pivot = refl
-    own (mesh m) = all-map (coloured 6) (spread (vertexMask (m .flags) (m .sets) (m .size))) (m .vertices)
+    own (mesh m) = all-map (coloured 6) (padded (vertexMask (m .flags) (m .sets) (m .size))) (m .vertices)
     own (bone ws) = refl
 
 pub scene-rows : (t : Scene) → passes Strict (λ k. rows k t) ≡ scenePasses t
@@ -227,16 +227,16 @@ scene-rows t = ap₂ _&&_ (all-map (coloured 2) tables.brushRow (t .brushes)) (f
 module _ (file : List ℕ) where
   -- ---- chunks
 
-  if-held : {A : Type 0} (P : A → Bool) (b : Bool) (x x′ y y′ : Out A) → Held file P x x′ → Held file P y y′ → Held file P (if b x y) (if b x′ y′)
+  if-held : {A : Type 0} (P : A → Bool) (b : Bool) (x x′ y y′ : Result A) → Held file P x x′ → Held file P y y′ → Held file P (if b x y) (if b x′ y′)
   unfolding if
   if-held P true x x′ y y′ h k = h
   if-held P false x x′ y y′ h k = k
 
   -- a reader of a chunk's body
-  abbrev HeldBody : {A : Type 0} → (A → Bool) → (ℕ → List ℕ → Out A) → (ℕ → List ℕ → Out A) → Type 0
+  abbrev HeldBody : {A : Type 0} → (A → Bool) → (ℕ → List ℕ → Result A) → (ℕ → List ℕ → Result A) → Type 0
   HeldBody P one other = (p : ℕ) (b : List ℕ) → At file (p + 8) b → Held file P (one p b) (other p b)
 
-  one-held : {A : Type 0} (P : A → Bool) (k : Tag) (a : A) → P a ≡ true → (one other : ℕ → List ℕ → Out A) → HeldBody P one other → (cs : Chunks) → Stands file cs
+  one-held : {A : Type 0} (P : A → Bool) (k : Tag) (a : A) → P a ≡ true → (one other : ℕ → List ℕ → Result A) → HeldBody P one other → (cs : Chunks) → Stands file cs
       → Held file (λ (x : Found A). P (x .value)) (readOne k a one cs) (readOne k a other cs)
   unfolding readOne
   one-held P k a t one other h done st = (refl, t)
@@ -294,7 +294,7 @@ module _ (file : List ℕ) where
       (map-held file meshPasses _ (λ m. record { value = mesh m; rest = r }) (readMesh Strict brushes p b) (readMesh Lenient brushes p b) (mesh-held brushes p b (st .0)) (λ m. refl))
       (if-held _ (is t BONE) _ _ _ _ (same-held file _ (readBone n p b >>= _) (λ x e. by-got (readBone n p b) _ e (λ ws ew e₁. ap (λ (y : Found Kind). kindPasses (y .value)) (sym (got-inj e₁))))) (refl, refl))
 
-  nodes-held : (one other : ℕ → List ℕ → Out Inner) → HeldBody innerPasses one other → (cs : Chunks) → Stands file cs → Held file forestPasses (readNodes one cs) (readNodes other cs)
+  nodes-held : (one other : ℕ → List ℕ → Result Inner) → HeldBody innerPasses one other → (cs : Chunks) → Stands file cs → Held file forestPasses (readNodes one cs) (readNodes other cs)
   unfolding readNodes
   nodes-held one other h done st = (refl, refl)
   nodes-held one other h (stop n p) st = inl (refl, refl)
@@ -311,21 +311,21 @@ module _ (file : List ℕ) where
       first-held file _ (named nodeRow (p + 8) b) _ _ (λ h e.
       let cs = inside NODE p (h .place) (h .left) in
       let st : Stands file cs = inside-at file NODE p (h .place) (h .left) (named-at file nodeRow (p + 8) b h at e .0) in
-      bind-held file (λ (x : Found Kind). kindPasses (x .value)) innerPasses (readKind Strict brushes (boneVertices above) cs) (readKind Lenient brushes (boneVertices above) cs) _ _ (kind-held brushes (boneVertices above) cs st)
-      (λ k ek y. first-held file innerPasses (readMoves still (k .rest)) _ _ (λ m em.
+      bind-held file (λ (x : Found Kind). kindPasses (x .value)) innerPasses (readKind Strict brushes (boneLimit above) cs) (readKind Lenient brushes (boneLimit above) cs) _ _ (kind-held brushes (boneLimit above) cs st)
+      (λ k ek y. first-held file innerPasses (readAnimation noAnim (k .rest)) _ _ (λ m em.
       let d : Data = record { name = h .value .0; words = h .value .1; kind = k .value; keys = m .value .keys; anim = m .value .anim } in
-      let one = readNode Strict l brushes (bonesBelow above d) in
-      let other = readNode Lenient l brushes (bonesBelow above d) in
+      let one = readNode Strict l brushes (boneLimitBelow above d) in
+      let other = readNode Lenient l brushes (boneLimitBelow above d) in
       map-held file forestPasses innerPasses (λ f. record { self = d; below = f }) (readNodes one (m .rest)) (readNodes other (m .rest))
-      (nodes-held one other (node-held l brushes (bonesBelow above d)) (m .rest) (moves-at file (k .rest) still m (kind-at file brushes (boneVertices above) cs k st ek) em)) (λ f. ap (λ (c : Bool). c && forestPasses f) y)))
-      (λ k x n ex. by-got (readMoves still (k .rest)) _ ex (λ m em e₁.
+      (nodes-held one other (node-held l brushes (boneLimitBelow above d)) (m .rest) (moves-at file (k .rest) noAnim m (kind-at file brushes (boneLimit above) cs k st ek) em)) (λ f. ap (λ (c : Bool). c && forestPasses f) y)))
+      (λ k x n ex. by-got (readAnimation noAnim (k .rest)) _ ex (λ m em e₁.
       by-got (readNodes _ (m .rest)) _ e₁ (λ f ef e₂. ap innerPasses (sym (got-inj e₂)) ∙ ap (λ (c : Bool). c && forestPasses f) n))))
 
   root-held : (brushes : ℕ) → HeldBody forestPasses (readRoot Strict brushes) (readRoot Lenient brushes)
   unfolding readRoot
   root-held brushes p b at =
-      map-held file innerPasses forestPasses (λ x. node (x .self) (x .below) leaf) (readNode Strict levels brushes none p b) (readNode Lenient levels brushes none p b) (node-held levels brushes none p b at)
-      (λ x. with-next x leaf ∙ and-true (innerPasses x))
+      map-held file innerPasses forestPasses (λ x. node (x .self) (x .below) noNodes) (readNode Strict levels brushes none p b) (readNode Lenient levels brushes none p b) (node-held levels brushes none p b at)
+      (λ x. with-next x noNodes ∙ and-true (innerPasses x))
 
   -- ---- the file
 
@@ -340,10 +340,10 @@ module _ (file : List ℕ) where
       (readOne BRUS (0, []) (readBrushes Strict (length (t .value))) (t .rest)) (readOne BRUS (0, []) (readBrushes Lenient (length (t .value))) (t .rest)) _ _
       (one-held (λ x. all brushPasses (x .1)) BRUS (0, []) refl (readBrushes Strict (length (t .value))) (readBrushes Lenient (length (t .value))) (brushes-held (length (t .value))) (t .rest) st)
       (λ u eu y. then-held file (λ (x : Found Forest). forestPasses (x .value)) scenePasses
-      (readOne NODE leaf (readRoot Strict (length (u .value .1))) (u .rest)) (readOne NODE leaf (readRoot Lenient (length (u .value .1))) (u .rest)) _
-      (one-held forestPasses NODE leaf refl (readRoot Strict (length (u .value .1))) (readRoot Lenient (length (u .value .1))) (root-held (length (u .value .1))) (u .rest) (one-at file (λ _. Unit {0}) BRUS (0, []) tt (readBrushes Lenient (length (t .value))) (λ q c x i f. tt) (t .rest) u st eu .1))
+      (readOne NODE noNodes (readRoot Strict (length (u .value .1))) (u .rest)) (readOne NODE noNodes (readRoot Lenient (length (u .value .1))) (u .rest)) _
+      (one-held forestPasses NODE noNodes refl (readRoot Strict (length (u .value .1))) (readRoot Lenient (length (u .value .1))) (root-held (length (u .value .1))) (u .rest) (one-at file (λ _. Unit {0}) BRUS (0, []) tt (readBrushes Lenient (length (t .value))) (λ q c x i f. tt) (t .rest) u st eu .1))
       (λ n s es. ap scenePasses (sym (ended-got (n .rest) _ s es)) ∙ ap (λ (c : Bool). c && forestPasses (n .value)) y))
-      (λ u s n es. by-got (readOne NODE leaf (readRoot Lenient (length (u .value .1))) (u .rest)) _ es (λ f ef e₁.
+      (λ u s n es. by-got (readOne NODE noNodes (readRoot Lenient (length (u .value .1))) (u .rest)) _ es (λ f ef e₁.
       ap scenePasses (sym (ended-got (f .rest) _ s e₁)) ∙ ap (λ (c : Bool). c && forestPasses (f .value)) n))))
 
 -- the one law

@@ -6,7 +6,7 @@ use mathlib.Core.Option.{Option, none, some}
 use mathlib.Core.List.{List, [], _∷_, map}
 use lib.ListN.{length, length-map}
 use Rattle.wire.specs.Bytes.{AllBytes}
-use Rattle.layout.specs.Out.{got}
+use Rattle.layout.specs.Result.{accept}
 use Rattle.layout.specs.Parts.{Name}
 use Rattle.layout.specs.Write.{writeWords, writeItems, writeChunks as writeChunksOf}
 use Rattle.layout.proofs.ChunkLaws.{length-chunk}
@@ -15,14 +15,14 @@ use Rattle.layout.proofs.Outs.{got-inj}
 use Rattle.layout.proofs.PartLaws.{length-words, length-text}
 use Rattle.b3d_spec.specs.declared.Mode.the-variants.{Lenient}
 use Rattle.b3d_spec.specs.Encode.{writeTexture, writeBrush, writeMesh, writeKeys, kindChunks, keyChunks, animChunks, writeNode, nodeChunks, textureChunks, brushChunks, writeScene, encode}
-use Rattle.b3d_spec.specs.Names.{renameTexture, renameBrush, renameData, renameForest, rename, bareName, noName, bare, cleared}
+use Rattle.b3d_spec.specs.Names.{renameTexture, renameBrush, renameData, renameForest, rename, bareName, noName, withoutPlaces, cleared}
 use Rattle.b3d_spec.specs.Parse.{parse}
-use Rattle.b3d_spec.specs.Rules.{boneVertices, bonesBelow, levels}
-use Rattle.b3d_spec.specs.Scene.{Texture, Brush, Kind, pivot, mesh, bone, Keys, Anim, still, anim, Data, Forest, leaf, node, Scene}
+use Rattle.b3d_spec.specs.Rules.{boneLimit, boneLimitBelow, levels}
+use Rattle.b3d_spec.specs.Scene.{Texture, Brush, Kind, pivot, mesh, bone, Keys, Anim, noAnim, anim, Data, Forest, noNodes, node, Scene}
 use Rattle.b3d_spec.specs.declared.Tag.the-variants.{TEXS, BRUS, NODE, MESH, BONE, KEYS, ANIM}
 use Rattle.b3d_spec.specs.Tags.{Chunk, writeChunks, code}
 use Rattle.b3d_spec.proofs.Files.FileLaws.{parse-back, parse-fine, parse-size}
-use Rattle.b3d_spec.proofs.Fitting.{FitTexture, FitBrush, FitData, FitNodes, OneRoot, FitSlots, Fit}
+use Rattle.b3d_spec.proofs.Fitting.{FitTexture, FitBrush, FitData, FitNodes, OneRoot, FitSlots, WellFormed}
 
 -- ---- one change of names after another
 
@@ -36,19 +36,19 @@ module _ (f g : Name → Name) where
   twice-brushes (b ∷ l) = ap (λ (m : List Brush). renameBrush (λ n. f (g n)) b ∷ m) (twice-brushes l)
 
   twice-forest : (t : Forest) → renameForest f (renameForest g t) ≡ renameForest (λ n. f (g n)) t
-  twice-forest leaf = refl
+  twice-forest noNodes = refl
   twice-forest (node d t u) = ap₂ (node (renameData (λ n. f (g n)) d)) (twice-forest t) (twice-forest u)
 
   pub rename-twice : (t : Scene) → rename f (rename g t) ≡ rename (λ n. f (g n)) t
   unfolding rename
   rename-twice t = rw (twice-textures (t .textures), twice-brushes (t .brushes), twice-forest (t .nodes))
 
-pub bare-cleared : (t : Scene) → bare (cleared t) ≡ cleared t
-unfolding bare cleared
+pub bare-cleared : (t : Scene) → withoutPlaces (cleared t) ≡ cleared t
+unfolding withoutPlaces cleared
 bare-cleared t = rename-twice bareName noName t
 
-pub cleared-bare : (t : Scene) → cleared (bare t) ≡ cleared t
-unfolding bare cleared
+pub cleared-bare : (t : Scene) → cleared (withoutPlaces t) ≡ cleared t
+unfolding withoutPlaces cleared
 cleared-bare t = rename-twice noName bareName t
 
 pub cleared-twice : (t : Scene) → cleared (cleared t) ≡ cleared t
@@ -67,7 +67,7 @@ bare-brushes (b ∷ l) = ap (writeBrush b) (bare-brushes l)
 
 bare-nodes : (f : Forest) → nodeChunks (renameForest bareName f) ≡ nodeChunks f
 unfolding nodeChunks writeNode
-bare-nodes leaf = refl
+bare-nodes noNodes = refl
 bare-nodes (node d f g) = rw (bare-nodes f, bare-nodes g)
 
 bare-texture-chunks : (l : List Texture) (r : List Chunk) → textureChunks (map (renameTexture bareName) l) r ≡ textureChunks l r
@@ -78,8 +78,8 @@ bare-brush-chunks : (n : ℕ) (l : List Brush) (r : List Chunk) → brushChunks 
 bare-brush-chunks n [] r = refl
 bare-brush-chunks n (t ∷ l) r = ap (λ (b : List ℕ). record { tag = BRUS; body = writeWords (n ∷ []) b } ∷ r) (bare-brushes (t ∷ l))
 
-pub encode-bare : (t : Scene) → encode (bare t) ≡ encode t
-unfolding encode writeScene bare rename
+pub encode-bare : (t : Scene) → encode (withoutPlaces t) ≡ encode t
+unfolding encode writeScene withoutPlaces rename
 encode-bare t =
     rw (bare-nodes (t .nodes), bare-brush-chunks (t .slots) (t .brushes) (nodeChunks (t .nodes)), bare-texture-chunks (t .textures) (brushChunks (t .slots) (t .brushes) (nodeChunks (t .nodes))))
 
@@ -97,7 +97,7 @@ clear-slots : (n : ℕ) (l : List Brush) → FitSlots n l → FitSlots n (map (r
 clear-slots n [] h = h
 clear-slots n (b ∷ l) h = h
 
-clear-bones : (above : Option ℕ) (d : Data) → bonesBelow above (renameData noName d) ≡ bonesBelow above d
+clear-bones : (above : Option ℕ) (d : Data) → boneLimitBelow above (renameData noName d) ≡ boneLimitBelow above d
 clear-bones none d = refl
 clear-bones (some n) d = refl
 
@@ -105,21 +105,21 @@ clear-data : (brushes n : ℕ) (d : Data) → FitData brushes n d → FitData br
 clear-data brushes n d h = record { name = tt; words = h .words; kind = h .kind; keys = h .keys; anim = h .anim }
 
 clear-nodes : (l brushes : ℕ) (above : Option ℕ) (f : Forest) → FitNodes l brushes above f → FitNodes l brushes above (renameForest noName f)
-clear-nodes zero brushes above leaf h = tt
+clear-nodes zero brushes above noNodes h = tt
 clear-nodes zero brushes above (node d f g) h = absurd h
-clear-nodes (suc l) brushes above leaf h = tt
+clear-nodes (suc l) brushes above noNodes h = tt
 clear-nodes (suc l) brushes above (node d f g) h = (
-  clear-data brushes (boneVertices above) d (h .0),
-  rw (clear-bones above d) (clear-nodes l brushes (bonesBelow above d) f (h .1)),
+  clear-data brushes (boneLimit above) d (h .0),
+  rw (clear-bones above d) (clear-nodes l brushes (boneLimitBelow above d) f (h .1)),
   clear-nodes (suc l) brushes above g (h .2),
 )
 
 clear-root : (f : Forest) → OneRoot f → OneRoot (renameForest noName f)
-clear-root leaf o = tt
-clear-root (node d f leaf) o = tt
+clear-root noNodes o = tt
+clear-root (node d f noNodes) o = tt
 clear-root (node d f (node e g h)) o = absurd o
 
-pub cleared-fits : (t : Scene) → Fit t → Fit (cleared t)
+pub cleared-fits : (t : Scene) → WellFormed t → WellFormed (cleared t)
 unfolding cleared rename
 cleared-fits t h = record {
   version = h .version;
@@ -166,7 +166,7 @@ short-keys (k ∷ ks) l m h =
 
 short-anim : (a : Anim) (l m : List Chunk) → Shorter l m → Shorter (animChunks a l) (animChunks a m)
 unfolding writeChunksOf
-short-anim still l m h = h
+short-anim noAnim l m h = h
 short-anim (anim ws) l m h =
     omega (arith, length-chunk code ANIM (writeWords ws []) (writeChunks l), length-chunk code ANIM (writeWords ws []) (writeChunks m))
 
@@ -187,7 +187,7 @@ short-node d l m h =
 
 short-nodes : (f : Forest) → Shorter (nodeChunks (renameForest noName f)) (nodeChunks f)
 unfolding nodeChunks writeChunksOf
-short-nodes leaf = omega arith
+short-nodes noNodes = omega arith
 short-nodes (node d f g) =
     let f′ = nodeChunks (renameForest noName f) in
     let g′ = nodeChunks (renameForest noName g) in
@@ -225,17 +225,17 @@ cleared-short t =
 
 pub record Copied (t : Scene) : Type 0 where
   pub scene : Scene
-  pub accepted : parse Lenient (encode (cleared t)) ≡ got scene
-  pub is-cleared : bare scene ≡ cleared t
+  pub accepted : parse Lenient (encode (cleared t)) ≡ accept scene
+  pub is-cleared : withoutPlaces scene ≡ cleared t
   pub again : encode (cleared scene) ≡ encode (cleared t)
 
-pub copy-back : (s : List ℕ) (t : Scene) → AllBytes s → parse Lenient s ≡ got t → Copied t
+pub copy-back : (s : List ℕ) (t : Scene) → AllBytes s → parse Lenient s ≡ accept t → Copied t
 copy-back s t h e =
     let f = parse-fine s t h e in
     let n = parse-size s t e in
     let k = cleared-short t in
     let x = parse-back (cleared t) (cleared-fits t (f .0)) (omega arith) in
-    let b : bare (x .0) ≡ cleared t = x .2 ∙ bare-cleared t in
+    let b : withoutPlaces (x .0) ≡ cleared t = x .2 ∙ bare-cleared t in
     record {
       scene = x .0;
       accepted = x .1;
@@ -244,19 +244,19 @@ copy-back s t h e =
     }
 
 -- the copy is no longer than the file
-pub copy-short : (s : List ℕ) (t : Scene) → AllBytes s → parse Lenient s ≡ got t → length (encode (cleared t)) ≤ length s
+pub copy-short : (s : List ℕ) (t : Scene) → AllBytes s → parse Lenient s ≡ accept t → length (encode (cleared t)) ≤ length s
 copy-short s t h e = let f = parse-fine s t h e in omega (arith, f .1, cleared-short t)
 
 -- two scenes that fit have one copy exactly where they differ in names alone
-pub same-copy : (t u : Scene) → Fit t → Fit u → length (encode (cleared t)) ≤ 16777216 → encode (cleared t) ≡ encode (cleared u) → cleared t ≡ cleared u
+pub same-copy : (t u : Scene) → WellFormed t → WellFormed u → length (encode (cleared t)) ≤ 16777216 → encode (cleared t) ≡ encode (cleared u) → cleared t ≡ cleared u
 same-copy t u ht hu n e =
     let x = parse-back (cleared t) (cleared-fits t ht) n in
     let y = parse-back (cleared u) (cleared-fits u hu) (subst (λ (l : List ℕ). length l ≤ 16777216) e n) in
     let z : x .0 ≡ y .0 = got-inj (sym (x .1) ∙ ap (λ (l : List ℕ). parse Lenient l) e ∙ y .1) in
-    sym (bare-cleared t) ∙ sym (x .2) ∙ ap (λ (v : Scene). bare v) z ∙ y .2 ∙ bare-cleared u
+    sym (bare-cleared t) ∙ sym (x .2) ∙ ap (λ (v : Scene). withoutPlaces v) z ∙ y .2 ∙ bare-cleared u
 
 -- no file that holds this scene, name places aside, is shorter than what `encode` writes
-pub shortest : (s : List ℕ) (t u : Scene) → AllBytes s → parse Lenient s ≡ got u → bare u ≡ bare t → length (encode t) ≤ length s
+pub shortest : (s : List ℕ) (t u : Scene) → AllBytes s → parse Lenient s ≡ accept u → withoutPlaces u ≡ withoutPlaces t → length (encode t) ≤ length s
 shortest s t u h e b =
     let f = parse-fine s u h e in
     subst (λ (l : List ℕ). length l ≤ length s) (sym (encode-bare u) ∙ ap (λ (v : Scene). encode v) b ∙ encode-bare t) (f .1)

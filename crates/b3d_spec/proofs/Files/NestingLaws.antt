@@ -11,8 +11,8 @@ use Rattle.wire.specs.Test.{if}
 use Rattle.layout.specs.Chunks.{done, stop, chunk}
 use Rattle.layout.proofs.ChunkLaws.{lay, split-back, Of, split-fine}
 use Rattle.b3d_spec.specs.Encode.{setChunks, kindChunks, keyChunks, animChunks, nodeChunks, textureChunks, brushChunks}
-use Rattle.b3d_spec.specs.Nesting.{nesting, Reached, start, owed, end, next, onward, order, inside, reachedAt}
-use Rattle.b3d_spec.specs.Scene.{Texture, Brush, TriangleSet, Kind, pivot, mesh, bone, Keys, Anim, still, anim, Forest, leaf, node}
+use Rattle.b3d_spec.specs.Nesting.{nesting, Reached, start, requiredBetween, end, next, onward, order, inside, reachedAt}
+use Rattle.b3d_spec.specs.Scene.{Texture, Brush, TriangleSet, Kind, pivot, mesh, bone, Keys, Anim, noAnim, anim, Forest, noNodes, node}
 use Rattle.b3d_spec.specs.declared.Tag.{Tag}
 use Rattle.b3d_spec.specs.declared.Tag.the-variants.{BB3D, TEXS, BRUS, NODE, MESH, VRTS, TRIS, BONE, KEYS, ANIM}
 use Rattle.b3d_spec.specs.Tags.{Chunks, split, Chunk, writeChunks, code, tagOf}
@@ -46,19 +46,19 @@ mesh-keeps b (x ∷ l) n =
 
 nodes-keep : (f : Forest) → Keeps NODE (reachedAt 3 false) (nodeChunks f)
 unfolding order next if nodeChunks
-nodes-keep leaf = λ head p. refl
+nodes-keep noNodes = λ head p. refl
 nodes-keep (node d f g) = step NODE (reachedAt 3 false) (reachedAt 3 false) NODE _ (nodeChunks g) refl (nodes-keep g)
 
 -- nodes after anything before them
 below-keeps : (n : ℕ) (b : Bool) → next (nesting NODE) (nesting NODE) (reachedAt n b) NODE ≡ some (reachedAt 3 false) → (f : Forest) → Keeps NODE (reachedAt n b) (nodeChunks f)
 unfolding order if nodeChunks
-below-keeps n b e leaf = λ head p. refl
+below-keeps n b e noNodes = λ head p. refl
 below-keeps n b e (node d f g) = step NODE (reachedAt n b) (reachedAt 3 false) NODE _ (nodeChunks g) e (nodes-keep g)
 
 anim-keeps : (n : ℕ) → next (nesting NODE) (nesting NODE) (reachedAt n false) ANIM ≡ some (reachedAt 2 true) → next (nesting NODE) (nesting NODE) (reachedAt n false) NODE ≡ some (reachedAt 3 false)
     → (a : Anim) (f : Forest) → Keeps NODE (reachedAt n false) (animChunks a (nodeChunks f))
 unfolding next if
-anim-keeps n ea en still f = below-keeps n false en f
+anim-keeps n ea en noAnim f = below-keeps n false en f
 anim-keeps n ea en (anim ws) f = step NODE (reachedAt n false) (reachedAt 2 true) ANIM _ (nodeChunks f) ea (below-keeps 2 true refl f)
 
 keys-keep : (ks : List Keys) (a : Anim) (f : Forest) → Keeps NODE (reachedAt 2 false) (keyChunks ks (animChunks a (nodeChunks f)))
@@ -74,7 +74,7 @@ fresh-keeps (k ∷ ks) a f = step NODE start (reachedAt 2 false) KEYS _ (keyChun
 
 kind-keeps : (ks : List Keys) (a : Anim) (f : Forest) → Keeps NODE (reachedAt 1 true) (keyChunks ks (animChunks a (nodeChunks f)))
 unfolding next if
-kind-keeps [] still f = below-keeps 1 true refl f
+kind-keeps [] noAnim f = below-keeps 1 true refl f
 kind-keeps [] (anim ws) f = step NODE (reachedAt 1 true) (reachedAt 2 true) ANIM _ (nodeChunks f) refl (below-keeps 2 true refl f)
 kind-keeps (k ∷ ks) a f = step NODE (reachedAt 1 true) (reachedAt 2 false) KEYS _ (keyChunks ks (animChunks a (nodeChunks f))) refl (keys-keep ks a f)
 
@@ -86,8 +86,8 @@ node-keeps (bone ws) ks a f = step NODE start (reachedAt 1 true) BONE _ (keyChun
 
 root-keeps : (n : ℕ) (b : Bool) → next (nesting BB3D) (nesting BB3D) (reachedAt n b) NODE ≡ some (reachedAt 3 true) → (f : Forest) → OneRoot f → Keeps BB3D (reachedAt n b) (nodeChunks f)
 unfolding order if nodeChunks
-root-keeps n b e leaf o = λ head p. refl
-root-keeps n b e (node d f leaf) o = step BB3D (reachedAt n b) (reachedAt 3 true) NODE _ [] e (λ head p. refl)
+root-keeps n b e noNodes o = λ head p. refl
+root-keeps n b e (node d f noNodes) o = step BB3D (reachedAt n b) (reachedAt 3 true) NODE _ [] e (λ head p. refl)
 root-keeps n b e (node d f (node c g h)) o = absurd o
 
 brushes-keep : (n : ℕ) (b : Bool) → next (nesting BB3D) (nesting BB3D) (reachedAt n b) BRUS ≡ some (reachedAt 2 true) → next (nesting BB3D) (nesting BB3D) (reachedAt n b) NODE ≡ some (reachedAt 3 true)
@@ -120,7 +120,7 @@ onward-of n (some r) p go h = h r
 
 pub order-of : (k : Tag) (head : ℕ) (r : Reached) (n : ℕ) (cs : Chunks) → Of n cs → Of n (order k head r cs)
 unfolding order
-order-of k head r n done h = end-of n (owed (nesting k) (r .turn) end) head
+order-of k head r n done h = end-of n (requiredBetween (nesting k) (r .turn) end) head
 order-of k head r n (stop i p) h = tt
 order-of k head r n (chunk t p b l) h = onward-of n (next (nesting k) (nesting k) r t) p _ (λ q. (h .0, h .1, order-of k head q (n - (8 + length b)) l (h .2)))
 

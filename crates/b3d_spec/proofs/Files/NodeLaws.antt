@@ -10,7 +10,7 @@ use lib.Dec.{T}
 use Rattle.wire.specs.Bytes.{AllBytes}
 use Rattle.wire.specs.Test.{if}
 use Rattle.layout.specs.Chunks.{done, stop, chunk}
-use Rattle.layout.specs.Out.{Out, got}
+use Rattle.layout.specs.Result.{Result, accept}
 use Rattle.layout.specs.Parts.{Name, named}
 use Rattle.layout.specs.Write.{writeWords, writeItems, writeChunks as writeChunksOf}
 use Rattle.layout.proofs.ChunkLaws.{length-chunk, lay, Of}
@@ -21,9 +21,9 @@ use Rattle.b3d_spec.specs.declared.Mode.the-variants.{Lenient}
 use Rattle.b3d_spec.specs.Encode.{writeMesh, writeKeys, kindChunks, keyChunks, animChunks, writeNode, nodeChunks}
 use Rattle.b3d_spec.specs.Names.{renameData, renameForest, bareName}
 use Rattle.b3d_spec.specs.Nesting.{inside}
-use Rattle.b3d_spec.specs.Parse.{readMesh, readBone, readKeys, readAnim, aMesh, aBone, readKind, Moves, withKeys, readMoves, Inner, readNodes, readBelow, readNode}
-use Rattle.b3d_spec.specs.Rules.{nodeRow, boneVertices, bonesBelow}
-use Rattle.b3d_spec.specs.Scene.{Kind, pivot, mesh, bone, Keys, Anim, still, anim, Data, Forest, leaf, node}
+use Rattle.b3d_spec.specs.Parse.{readMesh, readBone, readKeys, readAnim, aMesh, aBone, readKind, Animation, withKeys, readAnimation, Inner, readNodes, readBelow, readNode}
+use Rattle.b3d_spec.specs.Rules.{nodeRow, boneLimit, boneLimitBelow}
+use Rattle.b3d_spec.specs.Scene.{Kind, pivot, mesh, bone, Keys, Anim, noAnim, anim, Data, Forest, noNodes, node}
 use Rattle.b3d_spec.specs.declared.Tag.the-variants.{NODE, MESH, BONE, KEYS, ANIM}
 use Rattle.b3d_spec.specs.Tags.{is, Chunks, Found, Chunk, writeChunks, code}
 use Rattle.b3d_spec.proofs.Fitting.{FitKind, FitKeys, FitAnim, FitData, FitNodes, no-nodes}
@@ -41,11 +41,11 @@ no-kind : (ks : List Keys) (a : Anim) (f : Forest) → NoKind (keyChunks ks (ani
 unfolding nodeChunks
 no-kind (k ∷ ks) a f = (tt, tt)
 no-kind [] (anim ws) f = (tt, tt)
-no-kind [] still leaf = tt
-no-kind [] still (node d g h) = (tt, tt)
+no-kind [] noAnim noNodes = tt
+no-kind [] noAnim (node d g h) = (tt, tt)
 
 kind-back : (brushes n : ℕ) (k : Kind) → FitKind brushes n k → (l : List Chunk) → NoKind l → length (writeChunks (kindChunks k l)) < 4294967296 → (p : ℕ)
-    → (q : ℕ) × (readKind Lenient brushes n (lay p (kindChunks k l)) ≡ got (record { value = k; rest = lay q l }))
+    → (q : ℕ) × (readKind Lenient brushes n (lay p (kindChunks k l)) ≡ accept (record { value = k; rest = lay q l }))
 unfolding readKind aMesh aBone if writeChunksOf
 kind-back brushes n pivot h [] s m p = (p, refl)
 kind-back brushes n pivot h (c ∷ l) s m p = (p, if-no (is (c .tag) MESH) _ _ (s .0) ∙ if-no (is (c .tag) BONE) _ _ (s .1))
@@ -56,15 +56,15 @@ kind-back brushes n (bone ws) h l s m p = (p + 8 + length (writeItems writeWords
 
 -- the ANIM seen stays where no KEYS and no ANIM follow
 moves-stop : (a : Anim) (f : Forest) (p : ℕ)
-    → readMoves a (lay p (nodeChunks f)) ≡ got (record { value = record { keys = []; anim = a }; rest = lay p (nodeChunks f) })
-unfolding readMoves if nodeChunks
-moves-stop a leaf p = refl
+    → readAnimation a (lay p (nodeChunks f)) ≡ accept (record { value = record { keys = []; anim = a }; rest = lay p (nodeChunks f) })
+unfolding readAnimation if nodeChunks
+moves-stop a noNodes p = refl
 moves-stop a (node d g h) p = refl
 
 moves-back : (ks : List Keys) (a : Anim) (f : Forest) → All FitKeys ks → FitAnim a → (p : ℕ)
-    → (q : ℕ) × (readMoves still (lay p (keyChunks ks (animChunks a (nodeChunks f)))) ≡ got (record { value = record { keys = ks; anim = a }; rest = lay q (nodeChunks f) }))
-unfolding readMoves withKeys if
-moves-back [] still f hk ha p = (p, moves-stop still f p)
+    → (q : ℕ) × (readAnimation noAnim (lay p (keyChunks ks (animChunks a (nodeChunks f)))) ≡ accept (record { value = record { keys = ks; anim = a }; rest = lay q (nodeChunks f) }))
+unfolding readAnimation withKeys if
+moves-back [] noAnim f hk ha p = (p, moves-stop noAnim f p)
 moves-back [] (anim ws) f hk ha p =
     let q = p + 8 + length (writeWords ws []) in
     (q, rw (anim-back ws ha p, moves-stop (anim ws) f q))
@@ -74,13 +74,13 @@ moves-back (k ∷ ks) a f hk ha p =
 
 -- what is said of bones does not depend on the name
 bones-same : (above : Option ℕ) (d : Data) (n : Name)
-    → bonesBelow above (record { name = n; words = d .words; kind = d .kind; keys = d .keys; anim = d .anim }) ≡ bonesBelow above d
+    → boneLimitBelow above (record { name = n; words = d .words; kind = d .kind; keys = d .keys; anim = d .anim }) ≡ boneLimitBelow above d
 bones-same none d n = refl
 bones-same (some m) d n = refl
 
 moves-longer : (ks : List Keys) (a : Anim) (l : List Chunk) → length (writeChunks l) ≤ length (writeChunks (keyChunks ks (animChunks a l)))
 unfolding writeChunksOf
-moves-longer [] still l = omega arith
+moves-longer [] noAnim l = omega arith
 moves-longer [] (anim ws) l = omega (arith, length-chunk code ANIM (writeWords ws []) (writeChunks l))
 moves-longer (k ∷ ks) a l = omega (arith, moves-longer ks a l, length-chunk code KEYS (writeKeys k) (writeChunks (keyChunks ks (animChunks a l))))
 
@@ -99,19 +99,19 @@ below-short d l =
     omega (arith, length-text (d .name .bytes) (writeWords (d .words) (writeChunks cs)), length-words (d .words) (writeChunks cs), kind-longer (d .kind) ms, moves-longer (d .keys) (d .anim) l)
 
 -- nodes that are read again, but for name places
-pub record BackNodes (o : Out Forest) (f : Forest) : Type 0 where
+pub record BackNodes (o : Result Forest) (f : Forest) : Type 0 where
   pub nodes : Forest
-  pub is-got : o ≡ got nodes
+  pub is-got : o ≡ accept nodes
   pub same : renameForest bareName nodes ≡ renameForest bareName f
 
-pub record BackNode (o : Out Inner) (d : Data) (f : Forest) : Type 0 where
+pub record BackNode (o : Result Inner) (d : Data) (f : Forest) : Type 0 where
   pub inner : Inner
-  pub is-got : o ≡ got inner
+  pub is-got : o ≡ accept inner
   pub self : renameData bareName (inner .self) ≡ renameData bareName d
   pub below : renameForest bareName (inner .below) ≡ renameForest bareName f
 
-pub node-back : (l brushes : ℕ) (above : Option ℕ) (d : Data) (f : Forest) → FitData brushes (boneVertices above) d → length (writeNode d (nodeChunks f)) < 4294967296
-    → ((q : ℕ) → BackNodes (readNodes (readNode Lenient l brushes (bonesBelow above d)) (lay q (nodeChunks f))) f)
+pub node-back : (l brushes : ℕ) (above : Option ℕ) (d : Data) (f : Forest) → FitData brushes (boneLimit above) d → length (writeNode d (nodeChunks f)) < 4294967296
+    → ((q : ℕ) → BackNodes (readNodes (readNode Lenient l brushes (boneLimitBelow above d)) (lay q (nodeChunks f))) f)
     → (p : ℕ) → BackNode (readNode Lenient (suc l) brushes above p (writeNode d (nodeChunks f))) d f
 unfolding readNode readBelow writeNode
 node-back l brushes above d f h n go p =
@@ -119,7 +119,7 @@ node-back l brushes above d f h n go p =
     let lt = length-text (d .name .bytes) (writeWords (d .words) (writeChunks cs)) in
     let lw = length-words (d .words) (writeChunks cs) in
     let x = named-back nodeRow (d .name .bytes) (d .words) (h .name) (h .words) (p + 8) (writeChunks cs) in
-    let k = kind-back brushes (boneVertices above) (d .kind) (h .kind) (keyChunks (d .keys) (animChunks (d .anim) (nodeChunks f))) (no-kind (d .keys) (d .anim) f) (omega arith) (x .0) in
+    let k = kind-back brushes (boneLimit above) (d .kind) (h .kind) (keyChunks (d .keys) (animChunks (d .anim) (nodeChunks f))) (no-kind (d .keys) (d .anim) f) (omega arith) (x .0) in
     let m = moves-back (d .keys) (d .anim) f (h .keys) (h .anim) (k .0) in
     let y = go (m .0) in
     record {
@@ -130,7 +130,7 @@ node-back l brushes above d f h n go p =
     }
 
 -- one node more
-more-back : (one : ℕ → List ℕ → Out Inner) (d : Data) (f g : Forest) (p : ℕ) → BackNode (one p (writeNode d (nodeChunks f))) d f
+more-back : (one : ℕ → List ℕ → Result Inner) (d : Data) (f g : Forest) (p : ℕ) → BackNode (one p (writeNode d (nodeChunks f))) d f
     → BackNodes (readNodes one (lay (p + 8 + length (writeNode d (nodeChunks f))) (nodeChunks g))) g → BackNodes (readNodes one (lay p (nodeChunks (node d f g)))) (node d f g)
 unfolding readNodes nodeChunks
 more-back one d f g p x y = record {
@@ -149,18 +149,18 @@ first-short d f g n h =
     let lb = below-short d (nodeChunks f) in
     (omega arith, omega arith, omega arith)
 
-none-back : (one : ℕ → List ℕ → Out Inner) (p : ℕ) → BackNodes (readNodes one (lay p (nodeChunks leaf))) leaf
+none-back : (one : ℕ → List ℕ → Result Inner) (p : ℕ) → BackNodes (readNodes one (lay p (nodeChunks noNodes))) noNodes
 unfolding readNodes nodeChunks
-none-back one p = record { nodes = leaf; is-got = refl; same = refl }
+none-back one p = record { nodes = noNodes; is-got = refl; same = refl }
 
 pub nodes-back : (l brushes : ℕ) (above : Option ℕ) (f : Forest) → FitNodes l brushes above f → length (writeChunks (nodeChunks f)) < 4294967296
     → (p : ℕ) → BackNodes (readNodes (readNode Lenient l brushes above) (lay p (nodeChunks f))) f
-nodes-back zero brushes above leaf h n p = none-back (readNode Lenient zero brushes above) p
+nodes-back zero brushes above noNodes h n p = none-back (readNode Lenient zero brushes above) p
 nodes-back zero brushes above (node d f g) h n p = absurd h
-nodes-back (suc l) brushes above leaf h n p = none-back (readNode Lenient (suc l) brushes above) p
+nodes-back (suc l) brushes above noNodes h n p = none-back (readNode Lenient (suc l) brushes above) p
 nodes-back (suc l) brushes above (node d f g) h n p =
     more-back (readNode Lenient (suc l) brushes above) d f g p
-    (node-back l brushes above d f (h .0) (first-short d f g 4294967296 n .0) (nodes-back l brushes (bonesBelow above d) f (h .1) (first-short d f g 4294967296 n .1)) p)
+    (node-back l brushes above d f (h .0) (first-short d f g 4294967296 n .0) (nodes-back l brushes (boneLimitBelow above d) f (h .1) (first-short d f g 4294967296 n .1)) p)
     (nodes-back (suc l) brushes above g (h .2) (first-short d f g 4294967296 n .2) (p + 8 + length (writeNode d (nodeChunks f))))
 
 -- ---- fine
@@ -173,7 +173,7 @@ pub record FineS {A : Type 0} (Ok : A → Type 0) (put : A → List Chunk → Li
   pub short : (l : List Chunk) → length (writeChunks (put (x .value) l)) + size ≤ n + length (writeChunks l)
 
 module _ (brushes m : ℕ) where
-  kind-fine : (n : ℕ) (cs : Chunks) (x : Found Kind) → Of n cs → readKind Lenient brushes m cs ≡ got x → FineS (FitKind brushes m) kindChunks n x
+  kind-fine : (n : ℕ) (cs : Chunks) (x : Found Kind) → Of n cs → readKind Lenient brushes m cs ≡ accept x → FineS (FitKind brushes m) kindChunks n x
   unfolding readKind aMesh aBone writeChunksOf
   kind-fine n done x h e = subst (FineS (FitKind brushes m) kindChunks n) (got-inj e) (record { ok = tt; size = n; of = tt; short = λ l. omega arith })
   kind-fine n (stop i p) x h e = bad-got e
@@ -189,21 +189,21 @@ module _ (brushes m : ℕ) where
       (λ v e₂. subst (FineS (FitKind brushes m) kindChunks n) (got-inj e₂) (record { ok = tt; size = n; of = h; short = λ l. omega arith })))
 
 -- the same for KEYS and ANIM, where an ANIM seen before is counted already
-record FineM (seen : Anim) (n : ℕ) (x : Found Moves) : Type 0 where
+record FineM (seen : Anim) (n : ℕ) (x : Found Animation) : Type 0 where
   keys : All FitKeys (x .value .keys)
   anim-fits : FitAnim (x .value .anim)
   size : ℕ
   of : Of size (x .rest)
   short : (l : List Chunk) → length (writeChunks (keyChunks (x .value .keys) (animChunks (x .value .anim) l))) + size ≤ n + length (writeChunks (animChunks seen l))
 
-moves-fine : (n : ℕ) (cs : Chunks) (seen : Anim) (x : Found Moves) → FitAnim seen → Of n cs → readMoves seen cs ≡ got x → FineM seen n x
-unfolding readMoves withKeys writeChunksOf
+moves-fine : (n : ℕ) (cs : Chunks) (seen : Anim) (x : Found Animation) → FitAnim seen → Of n cs → readAnimation seen cs ≡ accept x → FineM seen n x
+unfolding readAnimation withKeys writeChunksOf
 moves-fine n done seen x ha h e = subst (FineM seen n) (got-inj e) (record { keys = tt; anim-fits = ha; size = n; of = tt; short = λ l. omega arith })
 moves-fine n (stop i p) seen x ha h e = bad-got e
 moves-fine n (chunk t p b r) seen x ha h e =
     by-if (is t KEYS) _ _ e
     (λ u e₁. by-got (readKeys p b) _ e₁ (λ k ek e₂. let f = keys-fine p b k (h .0) ek in
-    by-got (readMoves seen r) _ e₂ (λ y ey e₃. let g = moves-fine (n - (8 + length b)) r seen y ha (h .2) ey in
+    by-got (readAnimation seen r) _ e₂ (λ y ey e₃. let g = moves-fine (n - (8 + length b)) r seen y ha (h .2) ey in
     subst (FineM seen n) (got-inj e₃)
     (record {
       keys = (f .0, g .keys);
@@ -228,7 +228,7 @@ moves-fine n (chunk t p b r) seen x ha h e =
 abbrev pub NodeOK : ℕ → ℕ → Option ℕ → ℕ → Inner → Type 0
 NodeOK zero brushes above n x = ⊥
 NodeOK (suc l) brushes above n x =
-    FitData brushes (boneVertices above) (x .self) × FitNodes l brushes (bonesBelow above (x .self)) (x .below) × (length (writeNode (x .self) (nodeChunks (x .below))) ≤ n)
+    FitData brushes (boneLimit above) (x .self) × FitNodes l brushes (boneLimitBelow above (x .self)) (x .below) × (length (writeNode (x .self) (nodeChunks (x .below))) ≤ n)
 
 abbrev NodesOK : ℕ → ℕ → Option ℕ → ℕ → Forest → Type 0
 NodesOK l brushes above n f = FitNodes l brushes above f × (length (writeChunks (nodeChunks f)) ≤ n)
@@ -240,9 +240,9 @@ one-more zero brushes above n b x g h k hg = absurd h
 one-more (suc l) brushes above n b x g h k hg =
     ((h .0, h .1, hg .0), omega (arith, h .2, hg .1, length-chunk code NODE (writeNode (x .self) (nodeChunks (x .below))) (writeChunks (nodeChunks g))))
 
-nodes-fine : (l brushes : ℕ) (above : Option ℕ) (one : ℕ → List ℕ → Out Inner)
-    → ((p : ℕ) (b : List ℕ) (x : Inner) → AllBytes b → one p b ≡ got x → NodeOK l brushes above (length b) x)
-    → (n : ℕ) (cs : Chunks) (f : Forest) → Of n cs → readNodes one cs ≡ got f → NodesOK l brushes above n f
+nodes-fine : (l brushes : ℕ) (above : Option ℕ) (one : ℕ → List ℕ → Result Inner)
+    → ((p : ℕ) (b : List ℕ) (x : Inner) → AllBytes b → one p b ≡ accept x → NodeOK l brushes above (length b) x)
+    → (n : ℕ) (cs : Chunks) (f : Forest) → Of n cs → readNodes one cs ≡ accept f → NodesOK l brushes above n f
 unfolding readNodes writeChunksOf nodeChunks
 nodes-fine l brushes above one go n done f h e = subst (NodesOK l brushes above n) (got-inj e) (no-nodes l brushes above, omega arith)
 nodes-fine l brushes above one go n (stop i p) f h e = bad-got e
@@ -252,19 +252,19 @@ nodes-fine l brushes above one go n (chunk t p b r) f h e =
     subst (NodesOK l brushes above n) (got-inj e₂)
     (one-more l brushes above n b x g (go p b x (h .0) ex) (h .1) (nodes-fine l brushes above one go (n - (8 + length b)) r g (h .2) eg))))
 
-pub node-fine : (l brushes : ℕ) (above : Option ℕ) (p : ℕ) (b : List ℕ) (x : Inner) → AllBytes b → readNode Lenient l brushes above p b ≡ got x → NodeOK l brushes above (length b) x
+pub node-fine : (l brushes : ℕ) (above : Option ℕ) (p : ℕ) (b : List ℕ) (x : Inner) → AllBytes b → readNode Lenient l brushes above p b ≡ accept x → NodeOK l brushes above (length b) x
 unfolding readNode readBelow writeNode
 node-fine zero brushes above p b x h e = bad-got e
 node-fine (suc l) brushes above p b x h e =
     by-got (named nodeRow (p + 8) b) _ e (λ y ey e₁. let f = named-fine nodeRow (p + 8) b y h ey in
     let cs = inside NODE p (y .place) (y .left) in
-    by-got (readKind Lenient brushes (boneVertices above) cs) _ e₁ (λ k ek e₂.
-    let g = kind-fine brushes (boneVertices above) (length (y .left)) cs k (inside-fine NODE p (y .place) (y .left) (f .bytes)) ek in
-    by-got (readMoves still (k .rest)) _ e₂ (λ m em e₃.
-    let i = moves-fine (g .size) (k .rest) still m tt (g .of) em in
+    by-got (readKind Lenient brushes (boneLimit above) cs) _ e₁ (λ k ek e₂.
+    let g = kind-fine brushes (boneLimit above) (length (y .left)) cs k (inside-fine NODE p (y .place) (y .left) (f .bytes)) ek in
+    by-got (readAnimation noAnim (k .rest)) _ e₂ (λ m em e₃.
+    let i = moves-fine (g .size) (k .rest) noAnim m tt (g .of) em in
     let d : Data = record { name = y .value .0; words = y .value .1; kind = k .value; keys = m .value .keys; anim = m .value .anim } in
-    by-got (readNodes (readNode Lenient l brushes (bonesBelow above d)) (m .rest)) _ e₃ (λ w ew e₄.
-    let j = nodes-fine l brushes (bonesBelow above d) (readNode Lenient l brushes (bonesBelow above d)) (node-fine l brushes (bonesBelow above d)) (i .size) (m .rest) w (i .of) ew in
+    by-got (readNodes (readNode Lenient l brushes (boneLimitBelow above d)) (m .rest)) _ e₃ (λ w ew e₄.
+    let j = nodes-fine l brushes (boneLimitBelow above d) (readNode Lenient l brushes (boneLimitBelow above d)) (node-fine l brushes (boneLimitBelow above d)) (i .size) (m .rest) w (i .of) ew in
     let ms = keyChunks (d .keys) (animChunks (d .anim) (nodeChunks w)) in
     subst (NodeOK (suc l) brushes above (length b)) (got-inj e₄) (
       record { name = f .ok .0; words = f .ok .1; kind = g .ok; keys = i .keys; anim = i .anim-fits },

@@ -14,13 +14,13 @@ use Rattle.layout.proofs.Lists.{All}
 use Rattle.layout.proofs.PartLaws.{length-words, length-fits, length-text}
 use Rattle.b3d_spec.specs.declared.Mode.the-variants.{Lenient}
 use Rattle.b3d_spec.specs.Encode.{writeTexture, writeBrush, writeVertices, writeTriangles, setChunks, writeMesh, writeKeys, kindChunks, keyChunks, animChunks, writeNode, nodeChunks, textureChunks, brushChunks, writeScene, encode}
-use Rattle.b3d_spec.specs.Rules.{vertexWords, keyWords, textureRow, brushRow, brushIds, nodeRow, vertexRow, triangleRow, weightRow, keyRow, animRow, textureId, boneVertices, bonesBelow, levels}
-use Rattle.b3d_spec.specs.Scene.{Texture, Brush, TriangleSet, Mesh, Kind, pivot, mesh, bone, Keys, Anim, still, anim, Data, Forest, leaf, node, Scene}
+use Rattle.b3d_spec.specs.Rules.{vertexWords, keyWords, textureRow, brushRow, brushIds, nodeRow, vertexRow, triangleRow, weightRow, keyRow, animRow, textureId, boneLimit, boneLimitBelow, levels}
+use Rattle.b3d_spec.specs.Scene.{Texture, Brush, TriangleSet, Mesh, Kind, pivot, mesh, bone, Keys, Anim, noAnim, anim, Data, Forest, noNodes, node, Scene}
 use Rattle.b3d_spec.specs.Sizes.{textureSize, texsSize, brushSize, brusSize, setsSize, kindSize, keysSize, animSize, nodesSize, sizeOf}
 use Rattle.b3d_spec.specs.declared.Tag.the-variants.{TEXS, BRUS, NODE, MESH, VRTS, TRIS, BONE, KEYS, ANIM}
 use Rattle.b3d_spec.specs.Tags.{Chunk, writeChunks, code}
 use Rattle.b3d_spec.proofs.Files.FileLaws.{length-encode}
-use Rattle.b3d_spec.proofs.Fitting.{FitTexture, FitBrush, FitTriangles, FitMesh, FitKeys, FitKind, FitAnim, FitData, FitNodes, Fit}
+use Rattle.b3d_spec.proofs.Fitting.{FitTexture, FitBrush, FitTriangles, FitMesh, FitKeys, FitKind, FitAnim, FitData, FitNodes, WellFormed}
 
 rows-size : (rs : List Rule) (l : List (List ℕ)) → All (Fits rs) l → length (writeItems writeWords l) ≡ length l * (4 * length rs)
 rows-size rs [] h = sym (zero-mul (4 * length rs))
@@ -89,7 +89,7 @@ keys-size (k ∷ ks) l h = omega (arith, keys-size ks l (h .1), key-size k (h .0
 
 anim-size : (a : Anim) (l : List Chunk) → FitAnim a → length (writeChunks (animChunks a l)) ≡ animSize a + length (writeChunks l)
 unfolding writeChunksOf
-anim-size still l h = omega arith
+anim-size noAnim l h = omega arith
 anim-size (anim ws) l h = omega (arith, length-words ws [], length-fits animRow ws h, length-chunk code ANIM (writeWords ws []) (writeChunks l))
 
 node-size : (brushes n : ℕ) (d : Data) (l : List Chunk) → FitData brushes n d
@@ -111,14 +111,14 @@ node-size brushes n d l h =
 
 nodes-size : (l brushes : ℕ) (above : Option ℕ) (f : Forest) → FitNodes l brushes above f → length (writeChunks (nodeChunks f)) ≡ nodesSize f
 unfolding nodeChunks writeChunksOf
-nodes-size zero brushes above leaf h = refl
+nodes-size zero brushes above noNodes h = refl
 nodes-size zero brushes above (node d f g) h = absurd h
-nodes-size (suc l) brushes above leaf h = refl
+nodes-size (suc l) brushes above noNodes h = refl
 nodes-size (suc l) brushes above (node d f g) h =
     omega (
       arith,
-      node-size brushes (boneVertices above) d (nodeChunks f) (h .0),
-      nodes-size l brushes (bonesBelow above d) f (h .1),
+      node-size brushes (boneLimit above) d (nodeChunks f) (h .0),
+      nodes-size l brushes (boneLimitBelow above d) f (h .1),
       nodes-size (suc l) brushes above g (h .2),
       length-chunk code NODE (writeNode d (nodeChunks f)) (writeChunks (nodeChunks g)),
     )
@@ -134,7 +134,7 @@ brus-size n textures [] r h = omega arith
 brus-size n textures (b ∷ l) r h =
     omega (arith, brushes-size n textures (b ∷ l) h, length-chunk code BRUS (writeWords (n ∷ []) (writeItems writeBrush (b ∷ l))) (writeChunks r))
 
-pub encode-size : (t : Scene) → Fit t → length (encode t) ≡ sizeOf t
+pub encode-size : (t : Scene) → WellFormed t → length (encode t) ≡ sizeOf t
 unfolding sizeOf writeScene
 encode-size t h =
     let ns = nodeChunks (t .nodes) in

@@ -8,10 +8,10 @@ use lib.ListN.{length, length-append, length-map}
 use Rattle.wire.specs.Test.{if}
 use Rattle.layout.specs.Rules.{NONE}
 use Rattle.layout.proofs.Lists.{All, all-pure, all-map, all-zip}
-use Rattle.b3d_spec.specs.Scene.{Forest, leaf, node, Scene}
+use Rattle.b3d_spec.specs.Scene.{Forest, noNodes, node, Scene}
 use Rattle.b3d_spec.specs.Tables.{width, start, reached, nodeTables, ownRows, textureRow, brushRow, withNode, withForest, forestRows, rows, table, tables, counts, nodesIn}
 use Rattle.b3d_spec.specs.declared.Counts.{Counts}
-use Rattle.b3d_spec.proofs.Fitting.{Fit}
+use Rattle.b3d_spec.proofs.Fitting.{WellFormed}
 use Rattle.b3d_spec.proofs.Rows.Nodes.{Step, steps}
 use Rattle.b3d_spec.proofs.Rows.RebuildLaws.{rows-wide}
 use Rattle.b3d_spec.proofs.Rows.RowLists.{words-length}
@@ -23,7 +23,7 @@ Rise t p n k = reached k (withForest t n) ≡ reached k n + length (forestRows k
 
 pub rises : (t : Forest) (p : ℕ) (n : Counts) → All (Rise t p n) nodeTables
 unfolding withForest forestRows
-rises leaf p n = all-pure _ (λ k. sym (add-zero (reached k n))) nodeTables
+rises noNodes p n = all-pure _ (λ k. sym (add-zero (reached k n))) nodeTables
 rises (node d ch sib) p n =
     let m = withNode d n in
     let q = withForest ch m in
@@ -50,7 +50,7 @@ counts-are t n e =
     (ap₂ _∷_ (o (λ x. x .sets) 6 (r .1 .1 .1 .0)) (ap₂ _∷_ (o (λ x. x .triangles) 7 (r .1 .1 .1 .1 .0)) (ap₂ _∷_ (o (λ x. x .weights) 8 (r .1 .1 .1 .1 .1 .0))
     (ap₂ _∷_ (o (λ x. x .lists) 9 (r .1 .1 .1 .1 .1 .1 .0)) (ap₂ _∷_ (o (λ x. x .keys) 10 (r .1 .1 .1 .1 .1 .1 .1 .0)) refl)))))))))
 
-pub table-length : (t : Scene) → Fit t → All (λ k. length (table k t) ≡ width k * length (rows k t)) tables
+pub table-length : (t : Scene) → WellFormed t → All (λ k. length (table k t) ≡ width k * length (rows k t)) tables
 unfolding table
 table-length t f = all-map (λ k. All (Wide (width k)) (rows k t)) _ (λ k h. words-length (width k) (rows k t) h) tables (rows-wide t f)
 

@@ -12,7 +12,7 @@ use mir.Facts.{and-yes, eqb-no}
 use Rattle.wire.specs.Test.{if}
 use Rattle.layout.proofs.Outs.{by-test}
 use Rattle.b3d_spec.specs.Rules.{vertexWords, keyWords}
-use Rattle.b3d_spec.specs.Mask.{mask, ones, spread, squeeze, vertexHas, vertexMask, keyHas, keyMask}
+use Rattle.b3d_spec.specs.Mask.{mask, ones, padded, presentWords, vertexHas, vertexMask, keyHas, keyMask}
 
 pub mask-length : (f : ℕ → Bool) (n w : ℕ) → length (mask f n w) ≡ n
 unfolding mask
@@ -24,15 +24,15 @@ unfolding mask
 mask-same f g zero w h = refl
 mask-same f g (suc k) w h = ap₂ _∷_ (h w (omega arith)) (mask-same f g k (w + 1) (λ j l. h j (omega arith)))
 
-pub spread-length : (m : List Bool) (ws : List ℕ) → length (spread m ws) ≡ length m
-unfolding spread
+pub spread-length : (m : List Bool) (ws : List ℕ) → length (padded m ws) ≡ length m
+unfolding padded
 spread-length [] ws = refl
 spread-length (true ∷ m) [] = ap suc (spread-length m [])
 spread-length (true ∷ m) (w ∷ ws) = ap suc (spread-length m ws)
 spread-length (false ∷ m) ws = ap suc (spread-length m ws)
 
-pub squeeze-spread : (m : List Bool) (ws : List ℕ) → length ws ≡ ones m → squeeze m (spread m ws) ≡ ws
-unfolding squeeze spread ones
+pub squeeze-spread : (m : List Bool) (ws : List ℕ) → length ws ≡ ones m → presentWords m (padded m ws) ≡ ws
+unfolding presentWords padded ones
 squeeze-spread [] [] e = refl
 squeeze-spread [] (w ∷ ws) e = absurd (suc-ne-zero (length ws) e)
 squeeze-spread (true ∷ m) [] e = absurd (suc-ne-zero (ones m) (sym e))

@@ -9,7 +9,7 @@ use lib.Seq.{take-append-seam, take-at, drop-at}
 use Rattle.wire.specs.Test.{if}
 use Rattle.layout.proofs.Lists.{All, all-map}
 pub use Rattle.b3d_spec.specs.Rebuild.{From}
-use Rattle.b3d_spec.specs.Rebuild.{Rows, nameFrom, mine, keysFrom, animFrom, kindFrom, dataFrom}
+use Rattle.b3d_spec.specs.Rebuild.{Rows, nameFrom, ownedBy, keysFrom, animFrom, kindFrom, dataFrom}
 use Rattle.b3d_spec.specs.Scene.{Mesh, Kind, pivot, mesh, bone, Data}
 use Rattle.b3d_spec.specs.Tables.{width, reached, nodeTables, meshesOf, weightsOf, kindCells, animCells, nodeRow, meshRow, listRows, keyRows, meshRows, ownRows, withMeshes, withNode}
 use Rattle.b3d_spec.specs.declared.Counts.{Counts}
@@ -116,8 +116,8 @@ data-back ns b c R S n d p below h s f o =
     let ey = drop-at (d .words) y 10 (any-words 10 (d .words) (h .words)) in
     let g = f .1 .1 .1 .1 .1 in
     let ek = kind-back b c R S n (d .kind) (h .kind) (f .1 .0) (f .1 .1 .0) (f .1 .1 .1 .0) (f .1 .1 .1 .1 .0) (g .0) r in
-    let em : mine (n .nodes) (drop (n .lists) (R 9)) ≡ listRows (n .nodes) (n .keys) (d .keys) = rw (g .1 .0) (mine-back (n .nodes) (n .keys) (d .keys) (S 9) o) in
-    let el : keysFrom (mine (n .nodes) (drop (n .lists) (R 9))) (drop (n .keys) (R 10)) ≡ d .keys =
+    let em : ownedBy (n .nodes) (drop (n .lists) (R 9)) ≡ listRows (n .nodes) (n .keys) (d .keys) = rw (g .1 .0) (mine-back (n .nodes) (n .keys) (d .keys) (S 9) o) in
+    let el : keysFrom (ownedBy (n .nodes) (drop (n .lists) (R 9))) (drop (n .keys) (R 10)) ≡ d .keys =
     rw (em, g .1 .1 .0) (keys-back (n .nodes) (n .keys) (d .keys) (S 10) (h .keys)) in
     let ed : drop 3 y ≡ r = drop-at (kindCells (d .kind) n) r 3 (kind-wide (d .kind) n) in
     let ea : animFrom (take 4 (drop 3 (drop 10 (d .words ++ y)))) ≡ d .anim = rw (ey, ed, take-at a (below ∷ []) 4 (anim-wide (d .anim) (h .anim))) (anim-back (d .anim)) in

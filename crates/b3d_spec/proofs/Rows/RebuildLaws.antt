@@ -6,7 +6,7 @@ use mathlib.Core.Option.{Option, none, some}
 use mathlib.Core.List.{List, [], _∷_, _++_, map, append-nil}
 use lib.ListN.{length, take, drop, take-append-drop}
 use Rattle.wire.specs.Test.{if}
-use Rattle.layout.specs.Fit.{all}
+use Rattle.layout.specs.WellFormed.{all}
 use Rattle.layout.specs.Parts.{Name}
 use Rattle.layout.specs.Rules.{NONE}
 use Rattle.layout.proofs.Lists.{All, all-pure, all-map, all-zip, all-append, all-left, all-right, all-of-map, all-from-map, map-back}
@@ -14,13 +14,13 @@ use Rattle.layout.proofs.Outs.{if-yes, if-no, by-test}
 use Rattle.layout.proofs.Testing.{Tests, both, le-is, all-is}
 use Rattle.b3d_spec.specs.declared.Mode.{Mode}
 use Rattle.b3d_spec.specs.Colours.{passes}
-use Rattle.b3d_spec.specs.Rebuild.{Lent, cut, lentRows, roomy, textureFrom, brushFrom, Rows, Placed, walk, tree, together, nodeNames, names, stands, sound, rebuild}
-use Rattle.b3d_spec.specs.Rules.{bonesBelow, levels, rowLimit, boneVertices}
-use Rattle.b3d_spec.specs.Scene.{Texture, Brush, Forest, leaf, node, Scene}
+use Rattle.b3d_spec.specs.Rebuild.{Lent, cut, lentRows, hasCountedRows, textureFrom, brushFrom, Rows, Placed, walk, tree, assembled, nodeNames, names, stands, sound, rebuild}
+use Rattle.b3d_spec.specs.Rules.{boneLimitBelow, levels, rowLimit, boneLimit}
+use Rattle.b3d_spec.specs.Scene.{Texture, Brush, Forest, noNodes, node, Scene}
 use Rattle.layout.specs.Rows.{joined}
 use Rattle.b3d_spec.specs.Tables.{width, start, reached, textureRow, brushRow, ownRows, withNode, withForest, forestRows, rows, table, nodeTables, tables, nodesIn}
 use Rattle.b3d_spec.specs.declared.Counts.{Counts}
-use Rattle.b3d_spec.proofs.Fitting.{FitTexture, FitBrush, FitSlots, FitNodes, OneRoot, Fit, fits-is}
+use Rattle.b3d_spec.proofs.Fitting.{FitTexture, FitBrush, FitSlots, FitNodes, OneRoot, WellFormed, fits-is}
 use Rattle.b3d_spec.proofs.Rows.Nodes.{OwnWide, own-wide, From}
 use Rattle.b3d_spec.proofs.Rows.RowLists.{same-is, same-rows-is, cut-length, words-cut, cut-words}
 use Rattle.b3d_spec.proofs.Rows.RowParts.{Wide, Stands, texture-wide, texture-back, brush-wide, brush-back}
@@ -33,7 +33,7 @@ use mathlib.Core.Bool.{_&&_}
 
 pub forest-wide : (l b : ℕ) (above : Option ℕ) (t : Forest) (p : ℕ) (n : Counts) → FitNodes l b above t → All (λ k. All (Wide (width k)) (forestRows k t p n)) nodeTables
 unfolding forestRows
-forest-wide l b above leaf p n h = all-pure _ (λ k. tt) nodeTables
+forest-wide l b above noNodes p n h = all-pure _ (λ k. tt) nodeTables
 forest-wide zero b above (node d ch sib) p n h = absurd h
 forest-wide (suc l) b above (node d ch sib) p n h =
     let m = withNode d n in
@@ -41,16 +41,16 @@ forest-wide (suc l) b above (node d ch sib) p n h =
     all-zip (OwnWide d p (nodesIn ch) n) (λ k. All (Wide (width k)) (forestRows k ch (n .nodes) m) × All (Wide (width k)) (forestRows k sib p q)) _
     (λ k x y. all-append (Wide (width k)) (ownRows k d p (nodesIn ch) n) (forestRows k ch (n .nodes) m ++ forestRows k sib p q) x
     (all-append (Wide (width k)) (forestRows k ch (n .nodes) m) (forestRows k sib p q) (y .0) (y .1)))
-    nodeTables (own-wide b (boneVertices above) d p (nodesIn ch) n (h .0))
+    nodeTables (own-wide b (boneLimit above) d p (nodesIn ch) n (h .0))
     (all-zip (λ k. All (Wide (width k)) (forestRows k ch (n .nodes) m)) (λ k. All (Wide (width k)) (forestRows k sib p q)) _ (λ k x y. (x, y))
-    nodeTables (forest-wide l b (bonesBelow above d) ch (n .nodes) m (h .1)) (forest-wide (suc l) b above sib p q (h .2)))
+    nodeTables (forest-wide l b (boneLimitBelow above d) ch (n .nodes) m (h .1)) (forest-wide (suc l) b above sib p q (h .2)))
 
 brushes-wide : (t s : ℕ) (bs : List Brush) → FitSlots s bs → All (FitBrush s t) bs → All (Wide 17) (map brushRow bs)
 brushes-wide t s [] h f = tt
 brushes-wide t s (b ∷ bs) h f = let le = leb→le s 8 (h .1) in (brush-wide t s b le (f .0), all-of-map (Wide 17) brushRow bs (all-map (FitBrush s t) _ (λ x g. brush-wide t s x le g) bs (f .1)))
 
 -- every row of table k has its width
-pub rows-wide : (t : Scene) → Fit t → All (λ k. All (Wide (width k)) (rows k t)) tables
+pub rows-wide : (t : Scene) → WellFormed t → All (λ k. All (Wide (width k)) (rows k t)) tables
 unfolding tables rows width if nodeTables
 rows-wide t h = (
   all-of-map (Wide 9) textureRow (t .textures) (all-map FitTexture _ (λ x f. texture-wide x f) (t .textures) (h .textures)),
@@ -97,19 +97,19 @@ rows-holds T t k few room e =
 
 pub names-rest : (P : Name → Type 0) (t : Forest) (r : List Name) → All P (nodeNames t r) → All P r
 unfolding nodeNames
-names-rest P leaf r h = h
+names-rest P noNodes r h = h
 names-rest P (node d ch sib) r h = names-rest P sib r (names-rest P ch (nodeNames sib r) (h .1))
 
 pub flat-known : (ns : List ℕ) (l b : ℕ) (above : Option ℕ) (t : Forest) (p : ℕ) (n : Counts) (r : List Name) (fs : List Placed)
     → FitNodes l b above t → All (Stands ns) (nodeNames t r) → All (Known ns b) fs → All (Known ns b) (flat p n t fs)
 unfolding flat nodeNames
-flat-known ns l b above leaf p n r fs h s k = k
+flat-known ns l b above noNodes p n r fs h s k = k
 flat-known ns zero b above (node d ch sib) p n r fs h s k = absurd h
 flat-known ns (suc l) b above (node d ch sib) p n r fs h s k =
     let m = withNode d n in
     let q = withForest ch m in
     let rest = flat-known ns (suc l) b above sib p q r fs (h .2) (names-rest (Stands ns) ch (nodeNames sib r) (s .1)) k in
-    ((boneVertices above, (h .0, s .0)), flat-known ns l b (bonesBelow above d) ch (n .nodes) m (nodeNames sib r) (flat p q sib fs) (h .1) (s .1) rest)
+    ((boneLimit above, (h .0, s .0)), flat-known ns l b (boneLimitBelow above d) ch (n .nodes) m (nodeNames sib r) (flat p q sib fs) (h .1) (s .1) rest)
 
 start-from : (R : Rows) (t : Forest) → All (λ k. R k ≡ forestRows k t NONE start) nodeTables → All (From R start (flatRows (flat NONE start t []) start)) nodeTables
 unfolding nodeTables reached start if flatRows
@@ -120,8 +120,8 @@ start-from R t h =
 
 tree-back : (t : Forest) → OneRoot t → tree (flat NONE start t []) ≡ t
 unfolding tree flat
-tree-back leaf h = refl
-tree-back (node d ch leaf) h = tree-flat d ch
+tree-back noNodes h = refl
+tree-back (node d ch noNodes) h = tree-flat d ch
 tree-back (node d ch (node e x y)) h = absurd h
 
 first : (R : Rows) (t : Forest) → All (λ k. R k ≡ forestRows k t NONE start) nodeTables → R 3 ≡ flatRows (flat NONE start t []) start 3
@@ -141,9 +141,9 @@ unfolding nodeTables rows if
 forest-rows T t h = h
 
 -- a scene that fits is put together from its own rows
-pub together-back : (ns : List ℕ) (T : Lent) (t : Scene) → Fit t → T .version ≡ t .version → T .slots ≡ t .slots → All (Stands ns) (names t)
-    → All (λ k. lentRows T k ≡ rows k t) tables → together ns T ≡ t
-unfolding together tables rows names if
+pub together-back : (ns : List ℕ) (T : Lent) (t : Scene) → WellFormed t → T .version ≡ t .version → T .slots ≡ t .slots → All (Stands ns) (names t)
+    → All (λ k. lentRows T k ≡ rows k t) tables → assembled ns T ≡ t
+unfolding assembled tables rows names if
 together-back ns T t f ev es st h =
     let tn = map (λ (x : Texture). x .name) (t .textures) in
     let bn = map (λ (x : Brush). x .name) (t .brushes) in
@@ -167,28 +167,28 @@ pub stands-is : (ns : List ℕ) (x : Name) → Tests (stands ns x) (Stands ns x)
 unfolding stands
 stands-is ns x = both (le-is (x .place + length (x .bytes)) (length ns)) (same-is (take (length (x .bytes)) (drop (x .place) ns)) (x .bytes))
 
-pub roomy-is : (T : Lent) (k : ℕ) → Tests (roomy T k) ((T .count k ≤ rowLimit) × (width k * T .count k ≤ length (T .words k)))
-unfolding roomy
+pub roomy-is : (T : Lent) (k : ℕ) → Tests (hasCountedRows T k) ((T .count k ≤ rowLimit) × (width k * T .count k ≤ length (T .words k)))
+unfolding hasCountedRows
 roomy-is T k = both (le-is (T .count k) rowLimit) (le-is (width k * T .count k) (length (T .words k)))
 
-pub sound-is : (ns : List ℕ) (T : Lent) (t : Scene) → Tests (sound ns T t) (Fit t × (All (Stands ns) (names t) × All (λ k. rows k t ≡ lentRows T k) tables))
+pub sound-is : (ns : List ℕ) (T : Lent) (t : Scene) → Tests (sound ns T t) (WellFormed t × (All (Stands ns) (names t) × All (λ k. rows k t ≡ lentRows T k) tables))
 unfolding sound
 sound-is ns T t = both (fits-is t) (both (all-is (stands-is ns) (names t)) (all-is (λ k. same-rows-is (rows k t) (lentRows T k)) tables))
 
 -- ---- the two laws
 
 -- the counted rows of T are those of t
-pub held-rows : (T : Lent) (t : Scene) → Fit t → All (Holds T t) tables → All (λ k. lentRows T k ≡ rows k t) tables
+pub held-rows : (T : Lent) (t : Scene) → WellFormed t → All (Holds T t) tables → All (λ k. lentRows T k ≡ rows k t) tables
 held-rows T t f h = all-zip (Holds T t) (λ k. All (Wide (width k)) (rows k t)) (λ k. lentRows T k ≡ rows k t) (λ k a w. holds-rows T t k a w) tables h (rows-wide t f)
 
-pub rebuild-back : (mode : Mode) (ns : List ℕ) (T : Lent) (t : Scene) → Fit t → Agree ns T t → True (passes mode (lentRows T)) → rebuild mode T ns ≡ some t
+pub rebuild-back : (mode : Mode) (ns : List ℕ) (T : Lent) (t : Scene) → WellFormed t → Agree ns T t → True (passes mode (lentRows T)) → rebuild mode T ns ≡ some t
 unfolding rebuild
 rebuild-back mode ns T t f a c =
     let er = held-rows T t f (a .held) in
-    let et : together ns T ≡ t = together-back ns T t f (a .version) (a .slots) (a .named) er in
+    let et : assembled ns T ≡ t = together-back ns T t f (a .version) (a .slots) (a .named) er in
     let room = all-is (roomy-is T) tables .holds (all-map (Holds T t) _ (λ k h. (h .few, h .room)) tables (a .held)) in
     let ok = sound-is ns T t .holds (f, (a .named, all-map (λ k. lentRows T k ≡ rows k t) _ (λ k e. sym e) tables er)) in
-    if-yes (all (roomy T) tables) _ none room
+    if-yes (all (hasCountedRows T) tables) _ none room
     ∙ ap (λ (x : Scene). if (passes mode (lentRows T) && sound ns T x) (some x) none) et
     ∙ if-yes (passes mode (lentRows T) && sound ns T t) (some t) none (yes-and (passes mode (lentRows T)) (sound ns T t) c ok)
 
@@ -198,18 +198,18 @@ none-some e = let z : _≡_ {A = ℕ} 0 1 = cc in absurd (omega arith)
 some-inj : {x y : Scene} → some x ≡ some y → x ≡ y
 some-inj e = cc
 
-together-version : (ns : List ℕ) (T : Lent) → T .version ≡ (together ns T) .version
-unfolding together
+together-version : (ns : List ℕ) (T : Lent) → T .version ≡ (assembled ns T) .version
+unfolding assembled
 together-version ns T = refl
 
-together-slots : (ns : List ℕ) (T : Lent) → T .slots ≡ (together ns T) .slots
-unfolding together
+together-slots : (ns : List ℕ) (T : Lent) → T .slots ≡ (assembled ns T) .slots
+unfolding assembled
 together-slots ns T = refl
 
 fine-at : (ns : List ℕ) (T : Lent) → All (λ k. (T .count k ≤ rowLimit) × (width k * T .count k ≤ length (T .words k))) tables
-    → Fit (together ns T) × (All (Stands ns) (names (together ns T)) × All (λ k. rows k (together ns T) ≡ lentRows T k) tables) → Fit (together ns T) × Agree ns T (together ns T)
+    → WellFormed (assembled ns T) × (All (Stands ns) (names (assembled ns T)) × All (λ k. rows k (assembled ns T) ≡ lentRows T k) tables) → WellFormed (assembled ns T) × Agree ns T (assembled ns T)
 fine-at ns T room h =
-    let x = together ns T in (
+    let x = assembled ns T in (
       h .0,
       record {
         version = together-version ns T;
@@ -219,18 +219,18 @@ fine-at ns T room h =
       },
     )
 
-pub rebuild-fine : (mode : Mode) (ns : List ℕ) (T : Lent) (t : Scene) → rebuild mode T ns ≡ some t → Fit t × Agree ns T t × True (passes mode (lentRows T))
+pub rebuild-fine : (mode : Mode) (ns : List ℕ) (T : Lent) (t : Scene) → rebuild mode T ns ≡ some t → WellFormed t × Agree ns T t × True (passes mode (lentRows T))
 unfolding rebuild
 rebuild-fine mode ns T t e =
-    let x = together ns T in
+    let x = assembled ns T in
     let c = passes mode (lentRows T) && sound ns T x in
-    by-test (all (roomy T) tables)
-    (λ y. let e₁ = sym (if-yes (all (roomy T) tables) (if c (some x) none) none y) ∙ e in
+    by-test (all (hasCountedRows T) tables)
+    (λ y. let e₁ = sym (if-yes (all (hasCountedRows T) tables) (if c (some x) none) none y) ∙ e in
     let room = all-is (roomy-is T) tables .says y in
     by-test c
     (λ z. let q : x ≡ t = some-inj (sym (if-yes c (some x) none z) ∙ e₁) in
     let (a, b) = and-yes (passes mode (lentRows T)) (sound ns T x) z in
-    let f = subst (λ (u : Scene). Fit u × Agree ns T u) q (fine-at ns T room (sound-is ns T x .says b)) in
+    let f = subst (λ (u : Scene). WellFormed u × Agree ns T u) q (fine-at ns T room (sound-is ns T x .says b)) in
     (f .0, f .1, a))
     (λ z. none-some (sym (if-no c (some x) none z) ∙ e₁)))
-    (λ y. none-some (sym (if-no (all (roomy T) tables) (if c (some x) none) none y) ∙ e))
+    (λ y. none-some (sym (if-no (all (hasCountedRows T) tables) (if c (some x) none) none y) ∙ e))

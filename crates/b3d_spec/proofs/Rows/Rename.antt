@@ -11,12 +11,12 @@ use Rattle.layout.specs.Parts.{Name}
 use Rattle.layout.specs.Rules.{NONE}
 use Rattle.layout.proofs.Lists.{All, all-pure, all-map, all-zip, all-append, all-of-map}
 use Rattle.layout.specs.Rows.{nameCells, joined}
-use Rattle.b3d_spec.specs.Names.{renameTexture, renameBrush, renameData, renameForest, rename, bareName, noName, bare, cleared, named, unplaced, unnamed, nameOff}
+use Rattle.b3d_spec.specs.Names.{renameTexture, renameBrush, renameData, renameForest, rename, bareName, noName, withoutPlaces, cleared, named, unplaced, unnamed, nameOff}
 use Rattle.b3d_spec.specs.Rebuild.{Lent, cut, lentRows, nodeNames, names}
-use Rattle.b3d_spec.specs.Scene.{Texture, Brush, Data, Forest, leaf, node, Scene}
+use Rattle.b3d_spec.specs.Scene.{Texture, Brush, Data, Forest, noNodes, node, Scene}
 use Rattle.b3d_spec.specs.Tables.{width, start, textureRow, brushRow, nodeRow, ownRows, withNode, withForest, forestRows, rows, table, nodeTables, tables, nodesIn}
 use Rattle.b3d_spec.specs.declared.Counts.{Counts}
-use Rattle.b3d_spec.proofs.Fitting.{Fit}
+use Rattle.b3d_spec.proofs.Fitting.{WellFormed}
 use Rattle.b3d_spec.proofs.Rows.RebuildLaws.{rows-wide, together-back}
 use Rattle.b3d_spec.proofs.Rows.RowLists.{cut-words}
 use Rattle.b3d_spec.proofs.Rows.RowParts.{Wide, Stands}
@@ -49,12 +49,12 @@ module _ (g : List ℕ → List ℕ) where
 module _ (f : Name → Name) (g : List ℕ → List ℕ) (law : (n : Name) (r : List ℕ) → nameCells (f n) ++ r ≡ g (nameCells n ++ r)) where
   same-counts : (t : Forest) (n : Counts) → withForest (renameForest f t) n ≡ withForest t n
   unfolding withForest withNode
-  same-counts leaf n = refl
+  same-counts noNodes n = refl
   same-counts (node d ch sib) n = ap (withForest (renameForest f sib)) (same-counts ch (withNode d n)) ∙ same-counts sib (withForest ch (withNode d n))
 
   same-nodes : (t : Forest) → nodesIn (renameForest f t) ≡ nodesIn t
   unfolding nodesIn
-  same-nodes leaf = refl
+  same-nodes noNodes = refl
   same-nodes (node d ch sib) = omega (arith, same-nodes ch, same-nodes sib)
 
   own-renamed : (d : Data) (p below : ℕ) (n : Counts) → All (λ k. ownRows k (renameData f d) p below n ≡ named g k (ownRows k d p below n)) nodeTables
@@ -67,7 +67,7 @@ module _ (f : Name → Name) (g : List ℕ → List ℕ) (law : (n : Name) (r : 
 
   forest-renamed : (t : Forest) (p : ℕ) (n : Counts) → All (λ k. forestRows k (renameForest f t) p n ≡ named g k (forestRows k t p n)) nodeTables
   unfolding forestRows
-  forest-renamed leaf p n = all-pure (λ k. [] ≡ named g k []) (named-nil g) nodeTables
+  forest-renamed noNodes p n = all-pure (λ k. [] ≡ named g k []) (named-nil g) nodeTables
   forest-renamed (node d ch sib) p n =
       let m = withNode d n in
       let q = withForest ch m in
@@ -104,8 +104,8 @@ module _ (f : Name → Name) (g : List ℕ → List ℕ) (law : (n : Name) (r : 
   renamed-rows t =
       (map-renamed textureRow (renameTexture f) texture-renamed (t .textures), (map-renamed brushRow (renameBrush f) brush-renamed (t .brushes), forest-renamed (t .nodes) NONE start))
 
-pub bare-rows : (t : Scene) → All (λ k. rows k (bare t) ≡ named unplaced k (rows k t)) tables
-unfolding bare unplaced nameCells
+pub bare-rows : (t : Scene) → All (λ k. rows k (withoutPlaces t) ≡ named unplaced k (rows k t)) tables
+unfolding withoutPlaces unplaced nameCells
 bare-rows t = renamed-rows bareName unplaced (λ n r. refl) t
 
 pub cleared-rows : (t : Scene) → All (λ k. rows k (cleared t) ≡ named unnamed k (rows k t)) tables
@@ -113,9 +113,9 @@ unfolding cleared unnamed nameCells
 cleared-rows t = renamed-rows noName unnamed (λ n r. refl) t
 
 -- the same scene but for name places: the same cells but for those
-pub bare-same : (t u : Scene) → bare t ≡ bare u → All (λ k. named unplaced k (rows k t) ≡ named unplaced k (rows k u)) tables
+pub bare-same : (t u : Scene) → withoutPlaces t ≡ withoutPlaces u → All (λ k. named unplaced k (rows k t) ≡ named unplaced k (rows k u)) tables
 bare-same t u e =
-    all-zip (λ k. rows k (bare t) ≡ named unplaced k (rows k t)) (λ k. rows k (bare u) ≡ named unplaced k (rows k u)) _
+    all-zip (λ k. rows k (withoutPlaces t) ≡ named unplaced k (rows k t)) (λ k. rows k (withoutPlaces u) ≡ named unplaced k (rows k u)) _
     (λ k a b. sym a ∙ ap (rows k) e ∙ b) tables (bare-rows t) (bare-rows u)
 
 -- ---- empty names stand anywhere
@@ -125,7 +125,7 @@ empty-stands ns n = (omega arith, refl)
 
 nodes-stand : (ns : List ℕ) (t : Forest) (r : List Name) → All (Stands ns) r → All (Stands ns) (nodeNames (renameForest noName t) r)
 unfolding nodeNames
-nodes-stand ns leaf r h = h
+nodes-stand ns noNodes r h = h
 nodes-stand ns (node d ch sib) r h = (empty-stands ns (d .name), nodes-stand ns ch (nodeNames (renameForest noName sib) r) (nodes-stand ns sib r h))
 
 pub cleared-stands : (ns : List ℕ) (t : Scene) → All (Stands ns) (names (cleared t))
@@ -145,7 +145,7 @@ cleared-stands ns t =
 unfoldable pub lentOf : Scene → Lent
 lentOf t = record { version = t .version; slots = t .slots; count = λ k. length (rows k t); words = λ k. table k t }
 
-own-rows : (t : Scene) → Fit t → All (λ k. lentRows (lentOf t) k ≡ rows k t) tables
+own-rows : (t : Scene) → WellFormed t → All (λ k. lentRows (lentOf t) k ≡ rows k t) tables
 unfolding lentRows lentOf table
 own-rows t f =
     all-map (λ k. All (Wide (width k)) (rows k t)) (λ k. cut (width k) (length (rows k t)) (joined (rows k t)) ≡ rows k t)
@@ -160,7 +160,7 @@ unfolding lentOf
 own-slots t = refl
 
 -- scenes that fit, with the same tables and names in the same bytes, are the same
-pub same-tables : (ns : List ℕ) (t u : Scene) → Fit t → Fit u → t .version ≡ u .version → t .slots ≡ u .slots → All (Stands ns) (names t) → All (Stands ns) (names u)
+pub same-tables : (ns : List ℕ) (t u : Scene) → WellFormed t → WellFormed u → t .version ≡ u .version → t .slots ≡ u .slots → All (Stands ns) (names t) → All (Stands ns) (names u)
     → All (λ k. rows k t ≡ rows k u) tables → t ≡ u
 same-tables ns t u ft fu ev es st su e =
     sym (together-back ns (lentOf t) t ft (own-version t) (own-slots t) st (own-rows t ft))
@@ -188,7 +188,7 @@ off-same k a b e = go (leb k 3) e
     go false h = h
 
 -- equal cells but for name places and lengths: the same scene without names
-pub same-cells : (t u : Scene) → Fit t → Fit u → t .version ≡ u .version → t .slots ≡ u .slots
+pub same-cells : (t u : Scene) → WellFormed t → WellFormed u → t .version ≡ u .version → t .slots ≡ u .slots
     → All (λ k. named nameOff k (rows k t) ≡ named nameOff k (rows k u)) tables → cleared t ≡ cleared u
 same-cells t u ft fu ev es h =
     same-tables [] (cleared t) (cleared u) (cleared-fits t ft) (cleared-fits u fu) (cleared-version t u ev) (cleared-slots t u es) (cleared-stands [] t) (cleared-stands [] u)

@@ -10,7 +10,7 @@ use mir.Facts.{and-yes, yes-and}
 use Rattle.layout.proofs.Lists.{All}
 use Rattle.layout.proofs.Testing.{Tests}
 use Rattle.layout.proofs.Outs.{if-case}
-use Rattle.b3d_spec.specs.Rebuild.{cut, same, sameRows, mine}
+use Rattle.b3d_spec.specs.Rebuild.{cut, same, sameRows, ownedBy}
 use Rattle.layout.specs.Rows.{joined}
 
 -- ---- comparing
@@ -75,14 +75,14 @@ cut-words w (r ∷ rs) ws h =
 
 -- ---- the rows of one node, the first so many
 
-pub mine-take : (i : ℕ) (ls : List (List ℕ)) → mine i ls ≡ take (length (mine i ls)) ls
-unfolding mine
+pub mine-take : (i : ℕ) (ls : List (List ℕ)) → ownedBy i ls ≡ take (length (ownedBy i ls)) ls
+unfolding ownedBy
 mine-take i [] = refl
 mine-take i (x ∷ ls) =
-    if-case (λ r. r ≡ take (length r) (x ∷ ls)) (eqb (getD x 0 0) i) (x ∷ mine i ls) [] (λ e. ap (λ (r : List (List ℕ)). x ∷ r) (mine-take i ls)) (λ e. refl)
+    if-case (λ r. r ≡ take (length r) (x ∷ ls)) (eqb (getD x 0 0) i) (x ∷ ownedBy i ls) [] (λ e. ap (λ (r : List (List ℕ)). x ∷ r) (mine-take i ls)) (λ e. refl)
 
-pub mine-length : (i : ℕ) (xs : List (List ℕ)) → length (mine i xs) ≤ length xs
-unfolding mine
+pub mine-length : (i : ℕ) (xs : List (List ℕ)) → length (ownedBy i xs) ≤ length xs
+unfolding ownedBy
 mine-length i [] = omega arith
 mine-length i (x ∷ xs) =
-    if-case (λ (l : List (List ℕ)). length l ≤ suc (length xs)) (eqb (getD x 0 0) i) (x ∷ mine i xs) [] (λ t. omega (arith, mine-length i xs)) (λ t. omega arith)
+    if-case (λ (l : List (List ℕ)). length l ≤ suc (length xs)) (eqb (getD x 0 0) i) (x ∷ ownedBy i xs) [] (λ t. omega (arith, mine-length i xs)) (λ t. omega arith)

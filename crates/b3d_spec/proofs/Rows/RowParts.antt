@@ -14,9 +14,9 @@ use Rattle.layout.proofs.Lists.{All, all-pure, all-map, all-append, all-of-map,
 use Rattle.layout.proofs.Outs.{if-yes, if-no}
 use Rattle.b3d_spec.specs.declared.Mode.the-variants.{Lenient}
 pub use Rattle.b3d_spec.specs.Fitting.{Stands}
-use Rattle.b3d_spec.specs.Mask.{mask, spread, squeeze, vertexMask, vertexHas, keyMask, keyHas}
-use Rattle.b3d_spec.specs.Rebuild.{nameFrom, textureFrom, brushFrom, setsFrom, meshFrom, mine, keysFrom, animFrom}
-use Rattle.b3d_spec.specs.Scene.{Texture, Brush, TriangleSet, Mesh, Kind, pivot, mesh, bone, Keys, Anim, still, anim, Data}
+use Rattle.b3d_spec.specs.Mask.{mask, padded, presentWords, vertexMask, vertexHas, keyMask, keyHas}
+use Rattle.b3d_spec.specs.Rebuild.{nameFrom, textureFrom, brushFrom, setsFrom, meshFrom, ownedBy, keysFrom, animFrom}
+use Rattle.b3d_spec.specs.Scene.{Texture, Brush, TriangleSet, Mesh, Kind, pivot, mesh, bone, Keys, Anim, noAnim, anim, Data}
 use Rattle.b3d_spec.specs.Tables.{textureRow, brushRow, kindCells, animCells, nodeRow, meshRow, vertexRows, setRows, triangleRows, listRows, keyRows, nodeWidth}
 use Rattle.b3d_spec.specs.declared.Counts.{Counts}
 use Rattle.b3d_spec.proofs.Fitting.{FitTexture, FitBrush, FitTriangles, FitMesh, FitKeys, FitAnim, FitData}
@@ -86,18 +86,18 @@ pub vertices-wide : (m : Mesh) → All (Wide 42) (vertexRows m)
 unfolding vertexRows vertexMask
 vertices-wide m =
     let k = mask (vertexHas (m .flags) (m .sets) (m .size)) 42 0 in
-    all-of-map (Wide 42) (spread k) (m .vertices) (all-pure _ (λ v. spread-length k v ∙ mask-length (vertexHas (m .flags) (m .sets) (m .size)) 42 0) (m .vertices))
+    all-of-map (Wide 42) (padded k) (m .vertices) (all-pure _ (λ v. spread-length k v ∙ mask-length (vertexHas (m .flags) (m .sets) (m .size)) 42 0) (m .vertices))
 
 pub vertices-length : (m : Mesh) → length (vertexRows m) ≡ length (m .vertices)
 unfolding vertexRows
-vertices-length m = length-map (m .vertices) (spread (vertexMask (m .flags) (m .sets) (m .size)))
+vertices-length m = length-map (m .vertices) (padded (vertexMask (m .flags) (m .sets) (m .size)))
 
-vertices-back : (m : Mesh) (n : ℕ) → FitMesh n m → map (squeeze (vertexMask (m .flags) (m .sets) (m .size))) (vertexRows m) ≡ m .vertices
+vertices-back : (m : Mesh) (n : ℕ) → FitMesh n m → map (presentWords (vertexMask (m .flags) (m .sets) (m .size))) (vertexRows m) ≡ m .vertices
 unfolding vertexRows
 vertices-back m n h =
     let k = vertexMask (m .flags) (m .sets) (m .size) in
-    map-back (spread k) (squeeze k) (m .vertices)
-    (all-map (Fits (vertexRow Lenient (m .flags) (m .sets) (m .size))) (λ v. squeeze k (spread k v) ≡ v) (λ v f. squeeze-spread k v (vertex-ones n m h v f)) (m .vertices) (h .vertices))
+    map-back (padded k) (presentWords k) (m .vertices)
+    (all-map (Fits (vertexRow Lenient (m .flags) (m .sets) (m .size))) (λ v. presentWords k (padded k v) ≡ v) (λ v f. squeeze-spread k v (vertex-ones n m h v f)) (m .vertices) (h .vertices))
 
 pub mesh-back : (n : ℕ) (m : Mesh) (c : Counts) (i r : ℕ) (vs ss ts : List (List ℕ)) → FitMesh n m
     → meshFrom (meshRow m c) (vertexRows m ++ vs) (setRows i r (m .triangleSets) ++ ss) (triangleRows (m .triangleSets) ++ ts) ≡ m
@@ -106,7 +106,7 @@ mesh-back n m c i r vs ss ts h =
     let k = vertexMask (m .flags) (m .sets) (m .size) in
     let ev = take-at (vertexRows m) vs (length (m .vertices)) (vertices-length m) in
     let es = take-at (setRows i r (m .triangleSets)) ss (length (m .triangleSets)) (sets-length i r (m .triangleSets)) in
-    let bv : map (squeeze k) (take (length (m .vertices)) (vertexRows m ++ vs)) ≡ m .vertices = rw ev (vertices-back m n h) in
+    let bv : map (presentWords k) (take (length (m .vertices)) (vertexRows m ++ vs)) ≡ m .vertices = rw ev (vertices-back m n h) in
     let bs : setsFrom (take (length (m .triangleSets)) (setRows i r (m .triangleSets) ++ ss)) (triangleRows (m .triangleSets) ++ ts) ≡ m .triangleSets =
     rw es (sets-back i r (m .triangleSets) ts) in
     λ j. record { brush = m .brush; flags = m .flags; sets = m .sets; size = m .size; vertices = bv j; triangleSets = bs j }
@@ -128,50 +128,50 @@ unfolding keyRows keyMask
 keys-wide [] = tt
 keys-wide (x ∷ xs) =
     let k = mask (keyHas (x .flags)) 11 0 in
-    all-append (Wide 11) (map (spread k) (x .items)) (keyRows xs)
-    (all-of-map (Wide 11) (spread k) (x .items) (all-pure _ (λ v. spread-length k v ∙ mask-length (keyHas (x .flags)) 11 0) (x .items))) (keys-wide xs)
+    all-append (Wide 11) (map (padded k) (x .items)) (keyRows xs)
+    (all-of-map (Wide 11) (padded k) (x .items) (all-pure _ (λ v. spread-length k v ∙ mask-length (keyHas (x .flags)) 11 0) (x .items))) (keys-wide xs)
 
 -- the first of these rows is not one of node i
 abbrev pub Others : ℕ → List (List ℕ) → Type 0
 Others i [] = Unit {0}
 Others i (x ∷ xs) = getD x 0 0 ≢ i
 
-mine-others : (i : ℕ) (rs : List (List ℕ)) → Others i rs → mine i rs ≡ []
-unfolding mine
+mine-others : (i : ℕ) (rs : List (List ℕ)) → Others i rs → ownedBy i rs ≡ []
+unfolding ownedBy
 mine-others i [] h = refl
-mine-others i (x ∷ xs) h = if-no (eqb (getD x 0 0) i) (x ∷ mine i xs) [] (no-eqb h)
+mine-others i (x ∷ xs) h = if-no (eqb (getD x 0 0) i) (x ∷ ownedBy i xs) [] (no-eqb h)
 
-pub mine-back : (i k : ℕ) (xs : List Keys) (rs : List (List ℕ)) → Others i rs → mine i (listRows i k xs ++ rs) ≡ listRows i k xs
-unfolding listRows mine
+pub mine-back : (i k : ℕ) (xs : List Keys) (rs : List (List ℕ)) → Others i rs → ownedBy i (listRows i k xs ++ rs) ≡ listRows i k xs
+unfolding listRows ownedBy
 mine-back i k [] rs h = mine-others i rs h
 mine-back i k (x ∷ xs) rs h =
     let r = i ∷ x .flags ∷ k ∷ length (x .items) ∷ [] in
     let m = k + length (x .items) in
-    if-yes (eqb i i) (r ∷ mine i (listRows i m xs ++ rs)) [] (eqb-refl i) ∙ ap (λ (z : List (List ℕ)). r ∷ z) (mine-back i m xs rs h)
+    if-yes (eqb i i) (r ∷ ownedBy i (listRows i m xs ++ rs)) [] (eqb-refl i) ∙ ap (λ (z : List (List ℕ)). r ∷ z) (mine-back i m xs rs h)
 
 pub keys-back : (i k : ℕ) (xs : List Keys) (ks : List (List ℕ)) → All FitKeys xs → keysFrom (listRows i k xs) (keyRows xs ++ ks) ≡ xs
 unfolding keysFrom listRows keyRows
 keys-back i k [] ks h = refl
 keys-back i k (x ∷ xs) ks h =
     let m = keyMask (x .flags) in
-    let own = map (spread m) (x .items) in
+    let own = map (padded m) (x .items) in
     let c = length (x .items) in
-    let et = take-at own (keyRows xs ++ ks) c (length-map (x .items) (spread m)) in
-    let ed = drop-at own (keyRows xs ++ ks) c (length-map (x .items) (spread m)) in
-    let bi : map (squeeze m) own ≡ x .items =
-    map-back (spread m) (squeeze m) (x .items) (all-map (Fits (keyRow (x .flags))) (λ v. squeeze m (spread m v) ≡ v) (λ v f. squeeze-spread m v (key-ones x (h .0) v f)) (x .items) (h .0 .1)) in
+    let et = take-at own (keyRows xs ++ ks) c (length-map (x .items) (padded m)) in
+    let ed = drop-at own (keyRows xs ++ ks) c (length-map (x .items) (padded m)) in
+    let bi : map (presentWords m) own ≡ x .items =
+    map-back (padded m) (presentWords m) (x .items) (all-map (Fits (keyRow (x .flags))) (λ v. presentWords m (padded m v) ≡ v) (λ v f. squeeze-spread m v (key-ones x (h .0) v f)) (x .items) (h .0 .1)) in
     rw (append-assoc own (keyRows xs) ks, et, ed, bi, keys-back i (k + c) xs ks (h .1))
 
 -- ---- a node's own cells
 
 pub anim-back : (a : Anim) → animFrom (animCells a) ≡ a
 unfolding animFrom animCells if
-anim-back still = refl
+anim-back noAnim = refl
 anim-back (anim vs) = refl
 
 pub anim-wide : (a : Anim) → FitAnim a → Wide 4 (animCells a)
 unfolding animCells
-anim-wide still h = refl
+anim-wide noAnim h = refl
 anim-wide (anim vs) h = ap suc (any-words 3 vs h)
 
 pub kind-wide : (k : Kind) (n : Counts) → Wide 3 (kindCells k n)

@@ -14,7 +14,7 @@ use Rattle.layout.proofs.Lists.{All, all-zip}
 use Rattle.layout.proofs.Outs.{if-yes, if-no}
 use Rattle.layout.specs.Rows.{nameCells}
 use Rattle.b3d_spec.specs.Rebuild.{Rows, dataFrom, Placed, walk, Group, Off, off, groups, tree}
-use Rattle.b3d_spec.specs.Scene.{Keys, Data, Forest, leaf, node}
+use Rattle.b3d_spec.specs.Scene.{Keys, Data, Forest, noNodes, node}
 use Rattle.b3d_spec.specs.Tables.{start, reached, nodeTables, nodeRow, listRows, ownRows, withNode, withForest, forestRows, nodesIn}
 use Rattle.b3d_spec.specs.declared.Counts.{Counts}
 use Rattle.b3d_spec.proofs.Fitting.{FitData}
@@ -23,7 +23,7 @@ use Rattle.b3d_spec.proofs.Rows.RowParts.{Stands, Others, below-cell}
 
 -- the nodes of a forest under p, when n rows came before, and then others
 unfoldable pub flat : ℕ → Counts → Forest → List Placed → List Placed
-flat p n leaf r = r
+flat p n noNodes r = r
 flat p n (node d ch sib) r =
     let m = withNode d n in
     record { parent = p; below = nodesIn ch; item = d } ∷ flat (n .nodes) m ch (flat p (withForest ch m) sib r)
@@ -35,7 +35,7 @@ flatRows (x ∷ r) n k = ownRows k (x .item) (x .parent) (x .below) n ++ flatRow
 
 pub flat-rows : (k p : ℕ) (n : Counts) (t : Forest) (r : List Placed) → flatRows (flat p n t r) n k ≡ forestRows k t p n ++ flatRows r (withForest t n) k
 unfolding flat flatRows forestRows withForest
-flat-rows k p n leaf r = refl
+flat-rows k p n noNodes r = refl
 flat-rows k p n (node d ch sib) r =
     let m = withNode d n in
     let a = forestRows k ch (n .nodes) m in
@@ -49,14 +49,14 @@ flat-rows k p n (node d ch sib) r =
 -- ---- parents against a forest
 
 put : ℕ → Forest → List Group → List Group
-put p leaf gs = gs
+put p noNodes gs = gs
 put p (node d ch sib) gs = record { of = p; nodes = node d ch sib } ∷ gs
 
 abbrev Below : ℕ → List Group → Type 0
 Below p [] = Unit {0}
 Below p (g ∷ gs) = g .of < p
 
-off-below : (p : ℕ) (gs : List Group) → Below p gs → off p gs ≡ record { took = leaf; left = gs }
+off-below : (p : ℕ) (gs : List Group) → Below p gs → off p gs ≡ record { took = noNodes; left = gs }
 unfolding off
 off-below p [] h = refl
 off-below p (g ∷ gs) h =
@@ -65,18 +65,18 @@ off-below p (g ∷ gs) h =
 
 off-put : (p : ℕ) (t : Forest) (gs : List Group) → Below p gs → off p (put p t gs) ≡ record { took = t; left = gs }
 unfolding put off
-off-put p leaf gs h = off-below p gs h
-off-put p (node d ch sib) gs h = if-yes (eqb p p) _ (record { took = leaf; left = record { of = p; nodes = node d ch sib } ∷ gs }) (eqb-refl p)
+off-put p noNodes gs h = off-below p gs h
+off-put p (node d ch sib) gs h = if-yes (eqb p p) _ (record { took = noNodes; left = record { of = p; nodes = node d ch sib } ∷ gs }) (eqb-refl p)
 
 below-put : (p i : ℕ) (t : Forest) (gs : List Group) → p < i → Below p gs → Below i (put p t gs)
 unfolding put
-below-put p i leaf [] le h = tt
-below-put p i leaf (g ∷ gs) le h = omega arith
+below-put p i noNodes [] le h = tt
+below-put p i noNodes (g ∷ gs) le h = omega arith
 below-put p i (node d ch sib) gs le h = le
 
 pub nodes-rise : (t : Forest) (n : Counts) → n .nodes ≤ (withForest t n) .nodes
 unfolding withForest
-nodes-rise leaf n = omega arith
+nodes-rise noNodes n = omega arith
 nodes-rise (node d ch sib) n =
     let m = withNode d n in
     omega (arith, nodes-step d n, nodes-rise ch m, nodes-rise sib (withForest ch m))
@@ -84,7 +84,7 @@ nodes-rise (node d ch sib) n =
 groups-flat : (p : ℕ) (n : Counts) (t : Forest) (r : List Placed) → p < n .nodes → Below p (groups ((withForest t n) .nodes) r)
     → groups (n .nodes) (flat p n t r) ≡ put p t (groups ((withForest t n) .nodes) r)
 unfolding groups flat put withForest
-groups-flat p n leaf r le h = refl
+groups-flat p n noNodes r le h = refl
 groups-flat p n (node d ch sib) r le h =
     let m = withNode d n in
     let q = withForest ch m in
@@ -103,13 +103,13 @@ root-groups : (m : Counts) (ch : Forest) → 0 < m .nodes → groups (m .nodes) 
 unfolding groups
 root-groups m ch le = groups-flat 0 m ch [] le tt
 
-pub tree-flat : (d : Data) (ch : Forest) → tree (flat NONE start (node d ch leaf) []) ≡ node d ch leaf
+pub tree-flat : (d : Data) (ch : Forest) → tree (flat NONE start (node d ch noNodes) []) ≡ node d ch noNodes
 unfolding tree flat start
 tree-flat d ch =
     let m = withNode d start in
     let es : m .nodes ≡ 1 = nodes-step d start in
     let e : groups 1 (flat 0 m ch []) ≡ put 0 ch [] = ap (λ (i : ℕ). groups i (flat 0 m ch [])) (sym es) ∙ root-groups m ch (omega arith) in
-    ap (λ (f : Forest). node d f leaf) (ap (λ (g : List Group). (off 0 g) .took) e ∙ ap (λ (o : Off). o .took) (off-put 0 ch [] tt))
+    ap (λ (f : Forest). node d f noNodes) (ap (λ (g : List Group). (off 0 g) .took) e ∙ ap (λ (o : Off). o .took) (off-put 0 ch [] tt))
 
 -- nothing is left over
 pub none-over : (m : Counts) (ch : Forest) → m .nodes ≡ 1 → (off 0 (groups 1 (flat 0 m ch []))) .left ≡ []

@@ -29,4 +29,4 @@ write-spec =
     (λ c κs. (rooms (c .before .before .before .before), asked-some _ _ _ _ _ _ _ _ _ _ _ _ _ _ _ _ (c .before .before .before .before .before .before .before .before .before .before .sound .ensures) (c .before .before .before .before .before .before .before .before .before .if1 .left) _ (c .before .before .before .before .before .before .before .before .sizes .ensures) _ _ (c .before .before .before .before .before .before .size .ensures) (c .before .before .before .before .size2 .ensures) _ (c .before .before .before .file-bytes .ensures) _ (c .before .before .if2 .left) (c .before .if3 .left)))
     (λ c. let h = c .before .before .before .before .before .if2 .left in search needs)
     (λ c. search needs)
-    (λ c. write-done _ _ _ _ _ _ _ _ _ _ _ _ _ _ _ _ (c .before .before .before .before .before .before .before .before .before .before .before .before .before .sound .ensures) (c .before .before .before .before .before .before .before .before .before .before .before .before .if1 .left) _ (c .before .before .before .before .before .before .before .before .before .before .before .sizes .ensures) _ _ (c .before .before .before .before .before .before .before .before .before .size .ensures) (c .before .before .before .before .before .before .before .size2 .ensures) _ (c .before .before .before .before .before .before .file-bytes .ensures) _ (c .before .before .before .before .before .if2 .left) (c .before .before .before .before .if3 .left) _ _ (c .before .before .put-counted .ensures)))
+    (λ c. write-done _ _ _ _ _ _ _ _ _ _ _ _ _ _ _ _ (c .before .before .before .before .before .before .before .before .before .before .before .before .before .sound .ensures) (c .before .before .before .before .before .before .before .before .before .before .before .before .if1 .left) _ (c .before .before .before .before .before .before .before .before .before .before .before .sizes .ensures) _ _ (c .before .before .before .before .before .before .before .before .before .size .ensures) (c .before .before .before .before .before .before .before .size2 .ensures) _ (c .before .before .before .before .before .before .file-bytes .ensures) _ (c .before .before .before .before .before .if2 .left) (c .before .before .before .before .if3 .left) _ _ (c .before .before .write-counted .ensures)))

@@ -160,12 +160,12 @@ module _ {M : Type 1} (𝓤 : URA M) (H : Heap 𝓤) (A : Atoms 𝓤) (W : Given
   -- ---- the walk
 
   -- what the walk is of, and what it is to know
-  abbrev Owned : List OpenRecord → List (Item 𝓤)
-  Owned = PieceWalk.Owned 𝓤 H A W 𝓣 (records 𝓤 H A W) (rounds 𝓤 H A W) #first #next #last F′.mir S′.mir (pointee (O.the-row .written)) PieceFed IsFed (S′.lowered s) κ κ₂ q q₂ b o b₂ o₂ m γ xs blank OwnPiece Post
+  abbrev LoopOwns : List OpenRecord → List (Item 𝓤)
+  LoopOwns = PieceWalk.LoopOwns 𝓤 H A W 𝓣 (records 𝓤 H A W) (rounds 𝓤 H A W) #first #next #last F′.mir S′.mir (pointee (O.the-row .written)) PieceFed IsFed (S′.lowered s) κ κ₂ q q₂ b o b₂ o₂ m γ xs blank OwnPiece Post
 
-  ends : (rs : List OpenRecord) → length rs ≡ n → (r : PieceFed) (v : Val) → IsFed r v → PieceIs numbers s xs ps (r .number) (r .place) (r .state) rs → ent 𝓤 (⋆ 𝓤 H A (Owned rs)) (Post v)
+  ends : (rs : List OpenRecord) → length rs ≡ n → (r : PieceFed) (v : Val) → IsFed r v → PieceIs numbers s xs ps (r .number) (r .place) (r .state) rs → ent 𝓤 (⋆ 𝓤 H A (LoopOwns rs)) (Post v)
   ends rs len r v r-is is =
-      qed W (Owned rs) ∵
+      qed W (LoopOwns rs) ∵
       suffices ! _ (ends-at 𝓤 H A feed.ended stayed (feed.clauses 𝓤 H A mem run) W bound v r (tt, (rs, (tt, tt))) (tt, (len, (tt, tt)))) $
       says ! is $ nothing ! $ move ! (4 ∷ 0 ∷ []) $ join ! $ move ! (3 ∷ 0 ∷ []) $ join ! $ frame ! $
       -- [obs; the borrow; what the piece owns]

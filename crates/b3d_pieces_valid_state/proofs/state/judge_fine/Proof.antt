@@ -1,8 +1,0 @@
--- `judge_fine` holds just where the statement does.
-use Rattle.b3d_pieces_valid_state.proofs.Fining.{row-state-laws}
-use borrow.Author.Needs.{needs}
-use Rattle.b3d_pieces_valid_state.proofs.state.judge_fine.Statement.{statement}
-use Rattle.b3d_pieces_valid_state.proofs.state.judge_fine.Tie as tie
-
-pub judge-fine-spec : {M : Type 1} → statement M
-judge-fine-spec = tie.close (tie.spec (λ c. search (row-state-laws, needs)) (λ c κs. search needs) (λ c κs. search (row-state-laws, needs)) (λ c. search (row-state-laws, needs)))
