@@ -1,5 +1,5 @@
-// The mending read as far as rows are counted (`specs/Lax`), with the laws that it has the refusals and the rows of the mending read; and what the
-// judge of the mender leaves out: items with an id that names nothing, and spare bytes after the last chunk.
+// What the mender's judge leaves out: items with an id that names nothing, and spare bytes after the last chunk. `specs/Lax` is the mending read as far
+// as rows are counted, with the laws that it has the refusals and the rows of the mending read.
 ghost use lib.ListN.{length};
 ghost use Rattle.wire.specs.Cursors.{Inside, left};
 ghost use Rattle.b3d_mend_judge_items.specs.Trimmed.{Trimmed};

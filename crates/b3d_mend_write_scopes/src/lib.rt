@@ -1,6 +1,6 @@
-// What the writing walk shows of a file, chunk by chunk, from the bytes alone and without refusals (`specs/Shown`), with the law that for a file that
-// can be mended this is its mended file and its report; what a chunk needs to know of those before it and around it, where the chunks inside it begin,
-// and its header, which is put behind its body.
+// What a chunk needs to know of those before it and around it, where the chunks inside it begin, and its header, which is put behind its body.
+// `specs/Shown` is what the writing walk shows of a file, chunk by chunk, from the bytes alone and without refusals; a law says that for a file that can
+// be mended this is its mended file and its report.
 ghost use mathlib.Core.Path.{_≡_};
 ghost use Prim.Native.Nat.{_+_, _-_, _<_};
 ghost use mathlib.Core.List.{[]};
