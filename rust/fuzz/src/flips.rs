@@ -2,6 +2,7 @@
 //! child of this process, so that nothing else changes.
 
 use crate::blocks::{places, writable};
+use std::ffi::c_void;
 use std::fs::File;
 use std::io;
 use std::os::fd::AsRawFd;
@@ -17,6 +18,14 @@ extern "C" {
     fn setitimer(which: i32, time: *const Timer, old: *mut Timer) -> i32;
     fn dup2(from: i32, to: i32) -> i32;
     fn signal(number: i32, call: usize) -> usize;
+    fn mmap(
+        at: *mut c_void,
+        size: usize,
+        access: i32,
+        kind: i32,
+        file: i32,
+        from: i64,
+    ) -> *mut c_void;
     fn _exit(status: i32) -> !;
 }
 
@@ -37,6 +46,20 @@ pub struct Told {
     pub other: usize,
     /// The jumps that no input tells, by their distance from the program's start.
     pub untold: Vec<usize>,
+    /// For each other jump the number of the first input that tells it.
+    pub by: Vec<usize>,
+}
+
+/// A number that a child sets and this process reads. It is never given back.
+fn shared_number() -> io::Result<*mut usize> {
+    const ANY: i32 = 3;
+    const SHARED_ANONYMOUS: i32 = 0x21;
+    // SAFETY: the page is new and nothing else has it.
+    let page = unsafe { mmap(std::ptr::null_mut(), 4096, ANY, SHARED_ANONYMOUS, -1, 0) };
+    match page as isize {
+        -1 => Err(io::Error::last_os_error()),
+        _ => Ok(page.cast()),
+    }
 }
 
 /// Turns each conditional jump around that a file lists, as `blocks::places` reads it.
@@ -45,6 +68,7 @@ pub fn flips(list: &str, inputs: &[Vec<u8>], run: fn(&[u8])) -> io::Result<Told>
     writable(&places)?;
     let nowhere = File::options().write(true).open("/dev/null")?;
     let mut told = Told::default();
+    let present = shared_number()?;
     for at in places {
         let mut status = 0;
         // SAFETY: there is one thread; the child writes one byte of the proved code, of
@@ -69,13 +93,21 @@ pub fn flips(list: &str, inputs: &[Vec<u8>], run: fn(&[u8])) -> io::Result<Told>
                     first: [SECONDS, 0],
                 };
                 setitimer(PROCESSOR_TIME, &timer, std::ptr::null_mut());
-                inputs.iter().for_each(|input| run(input));
+                for (number, input) in inputs.iter().enumerate() {
+                    present.write_volatile(number);
+                    run(input);
+                }
                 _exit(0);
             }
             waitpid(child, &mut status, 0);
         }
+        if status == 0 {
+            told.untold.push(at - start);
+            continue;
+        }
+        // SAFETY: the child is over.
+        told.by.push(unsafe { present.read_volatile() });
         match status & 0x7F {
-            0 if status == 0 => told.untold.push(at - start),
             6 => told.differ += 1,
             7 | 11 => told.touched += 1,
             TIME_IS_OVER => told.endless += 1,

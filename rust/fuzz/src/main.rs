@@ -8,6 +8,8 @@
 //! - `fuzz --edges FOLDER..` prints which blocks of the reference the inputs there reach.
 //! - `fuzz --flips LIST FOLDER..` turns each of these jumps of the proved code around and
 //!   prints those that no input there tells.
+//! - `fuzz --tell OUT LIST FOLDER..` does the same and puts the first input that tells each of
+//!   the others into the folder OUT.
 
 #![no_main]
 
@@ -20,6 +22,7 @@ mod tree;
 
 use fuzz::{kept, Input, Runner};
 use scenes::Rng;
+use std::collections::BTreeSet;
 use std::ffi::OsString;
 use std::path::PathBuf;
 use std::process::{abort, exit};
@@ -48,7 +51,8 @@ extern "C" fn LLVMFuzzerInitialize(_count: *mut i32, _words: *mut *mut *mut u8) 
         Some("--keep") => keep(words.map(PathBuf::from)),
         Some("--kept") => write_kept(words.map(PathBuf::from)),
         Some("--edges") => print_edges(words.map(PathBuf::from)),
-        Some("--flips") => print_flips(words),
+        Some("--flips") => print_flips(words).map(drop),
+        Some("--tell") => write_telling(words),
         _ => match begin() {
             Ok(()) => return 0,
             refused => refused,
@@ -85,9 +89,10 @@ fn write_seeds(mut names: impl Iterator<Item = PathBuf>) -> io::Result<()> {
 fn keep(mut names: impl Iterator<Item = PathBuf>) -> io::Result<()> {
     let file = names.next().ok_or(io::ErrorKind::NotFound)?;
     let mut inputs = inputs(names)?;
-    inputs.push(seeds::label_of_anim());
-    inputs.sort_by_key(|input| (input.len(), input.clone()));
-    inputs.dedup();
+    let label = seeds::label_of_anim();
+    if !inputs.contains(&label) {
+        inputs.push(label);
+    }
     fs::write(file, kept::joined(&inputs))
 }
 
@@ -109,7 +114,8 @@ fn print_edges(folders: impl Iterator<Item = PathBuf>) -> io::Result<()> {
     Ok(())
 }
 
-fn print_flips(mut words: impl Iterator<Item = OsString>) -> io::Result<()> {
+/// The inputs that tell.
+fn print_flips(mut words: impl Iterator<Item = OsString>) -> io::Result<Vec<Vec<u8>>> {
     let list = words.next().unwrap_or_default();
     let inputs = inputs(words.map(PathBuf::from))?;
     inputs.iter().for_each(|input| run(input));
@@ -124,10 +130,24 @@ fn print_flips(mut words: impl Iterator<Item = OsString>) -> io::Result<()> {
         told.other,
         told.untold.len()
     );
+    let by: BTreeSet<usize> = told.by.into_iter().collect();
+    Ok(by
+        .into_iter()
+        .map(|number| inputs[number].clone())
+        .collect())
+}
+
+fn write_telling(mut words: impl Iterator<Item = OsString>) -> io::Result<()> {
+    let folder = words.next().map(PathBuf::from);
+    let folder = folder.ok_or(io::ErrorKind::NotFound)?;
+    fs::create_dir_all(&folder)?;
+    for (number, input) in print_flips(words)?.iter().enumerate() {
+        fs::write(folder.join(format!("tells_{number}")), input)?;
+    }
     Ok(())
 }
 
-/// The inputs in these folders.
+/// The inputs in these folders, each once, the shortest first.
 fn inputs(folders: impl Iterator<Item = PathBuf>) -> io::Result<Vec<Vec<u8>>> {
     let mut inputs = Vec::new();
     for folder in folders {
@@ -135,6 +155,8 @@ fn inputs(folders: impl Iterator<Item = PathBuf>) -> io::Result<Vec<Vec<u8>>> {
             inputs.push(fs::read(entry?.path())?);
         }
     }
+    inputs.sort_by_key(|input| (input.len(), input.clone()));
+    inputs.dedup();
     Ok(inputs)
 }
 
