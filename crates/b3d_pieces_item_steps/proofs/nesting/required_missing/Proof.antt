@@ -4,5 +4,5 @@ use borrow.Author.Needs.{needs}
 use Rattle.b3d_pieces_item_steps.proofs.nesting.required_missing.Statement.{statement}
 use Rattle.b3d_pieces_item_steps.proofs.nesting.required_missing.Tie as tie
 
-pub lacks-spec : {M : Type 1} → statement M
-lacks-spec = tie.close (tie.spec (λ c κs. search needs) (λ c κs. search needs) (λ c. search (nest-laws, needs)))
+pub required-missing-spec : {M : Type 1} → statement M
+required-missing-spec = tie.close (tie.spec (λ c κs. search needs) (λ c κs. search needs) (λ c. search (nest-laws, needs)))
