@@ -12,7 +12,8 @@ use Rattle.shared_output.specs.Writing.{Wrote, head}
 use Rattle.b3d_spec.specs.declared.Tag.{Tag}
 use Rattle.b3d_spec.specs.Tags.{code}
 use Rattle.shared_put_or_count.specs.Emits.{written, Fits, Emits}
-use Rattle.shared_put_or_count.proofs.Putting.{sets-append, part-over}
+use Rattle.shared_table_words.proofs.Storing.{sets-append}
+use Rattle.shared_put_or_count.proofs.Putting.{part-over}
 use Rattle.b3d_mend_write_scopes.specs.Shown.{headed}
 use Rattle.b3d_mend_write_scopes.specs.Heads.{bodyAt}
 use Rattle.b3d_mend_write_scopes.specs.HeadRooms.{headWet, headEnd, HeadRoom}
