@@ -13,7 +13,7 @@ use mir.Val.{Val, vbool, vint, vptr, WT, hasTy}
 use base.Logic.{SProp, ent, id⊢, emp}
 use base.Fml.{Lft, Share, Fml, ftrue, fat, froom, fdies, flft, fobor, fshr-bor}
 use prog.Memory.{size}
-use prog.Wp.{Heap, Result, Env, afterSeq, afterBlock, afterTurn, Calls, Loops, Wp, atReturn, WpFn, Tables}
+use prog.Wp.{Heap, Out, Env, afterSeq, afterBlock, afterTurn, Calls, Loops, Wp, atReturn, WpFn, Tables}
 use ghost.Atoms.{Atoms}
 use sound.WpLaws.{FmC, fmOf}
 use types.Kit.{Given, Sq, params′, runs, Item, ‵, ⋆, mean, anyQ, atRet, _$_, _∵_, !, qed, by, move, keep, use1, drop, pick, learn, rewrite, await}
@@ -120,7 +120,7 @@ module _ {M : Type 1} (𝓤 : URA M) (H : Heap 𝓤) (A : Atoms 𝓤) (W : Given
       abbrev En : Env 𝓤 H
       En = (φ, l₀) ∷ (σ, l₁) ∷ (ρ, l₂) ∷ (τ, l₃) ∷ (word, l₄) ∷ (tyBool, l₅) ∷ (word, l₆) ∷ (tyPtr, l₇) ∷ (e .ty, l₈) ∷ []
 
-      abbrev Left : Result → SProp 𝓤
+      abbrev Left : Out → SProp 𝓤
       Left = afterBlock 𝓤 H (afterSeq 𝓤 H (Wp 𝓤 H C Λ En (after-loop #last) (atReturn 𝓤 H En Post)) (atReturn 𝓤 H En Post))
 
       module _ (q′ : Share) where

@@ -13,7 +13,7 @@ use mir.Val.{Val, vbool, vint, vptr, WT, hasTy}
 use base.Logic.{SProp, ent, sep, id⊢, emp}
 use base.Fml.{Lft, GName, Share, Fml, ftrue, fat, froom, fdies, flft, fobs, fauth, fbor, fobor}
 use prog.Memory.{size}
-use prog.Wp.{Heap, Result, Env, afterSeq, afterBlock, afterTurn, Calls, Loops, Wp, atReturn, WpFn, Tables}
+use prog.Wp.{Heap, Out, Env, afterSeq, afterBlock, afterTurn, Calls, Loops, Wp, atReturn, WpFn, Tables}
 use ghost.Atoms.{Atoms, sem}
 use sound.WpLaws.{FmC, fmOf}
 use types.Kit.{Given, Sq, params′, runs, Item, ‵, _⊛_, ⋆, mean, anyQ, atRet, _$_, _∵_, !, qed, by, move, keep, use1, drop, split, join, pick, learn, rewrite, await}
@@ -143,7 +143,7 @@ module _ {M : Type 1} (𝓤 : URA M) (H : Heap 𝓤) (A : Atoms 𝓤) (W : Given
       abbrev At : c .Of → List (e .Of) → List (Item 𝓤)
       At t rs = ‵ (row R fullShare rs b o) ∷ ‵ (fat fullShare τ l₄ 0 (low t)) ∷ ‵ (froom tyBool l₇ 0) ∷ ‵ (froom word l₈ 0) ∷ ‵ (froom tyPtr l₉ 0) ∷ ‵ (froom (e .ty) l₁₀ 0) ∷ ‵ (froom tyPtr l₁₁ 0) ∷ Frame
 
-      abbrev Left : Result → SProp 𝓤
+      abbrev Left : Out → SProp 𝓤
       Left = afterBlock 𝓤 H (afterSeq 𝓤 H (Wp 𝓤 H C Λ En (after-loop #last) (atReturn 𝓤 H En Post)) (atReturn 𝓤 H En Post))
 
       -- a turn

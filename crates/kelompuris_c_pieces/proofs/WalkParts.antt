@@ -14,7 +14,7 @@ use base.Logic.{SProp, ent, ex, guard, sep, via, exI, exE, guardI, guardE, emp, 
 use base.Fml.{Fml}
 use base.Stored.{Coded}
 use prog.Memory.{size, fieldAt}
-use prog.Wp.{Heap, Result, Env, afterTurn, Wp, Tables}
+use prog.Wp.{Heap, Out, Env, afterTurn, Wp, Tables}
 use ghost.Atoms.{Atoms, sem}
 use sound.Loop.{loop-rule}
 use contract.Monad.{fact, fact-use}
@@ -100,7 +100,7 @@ module _ {M : Type 1} (𝓤 : URA M) (H : Heap 𝓤) (A : Atoms 𝓤) where
         Own r = sem 𝓤 H A (R .own r (v ∷ []))
 
     -- a loop whose turns go on while a flag is set, each with less left: `At x` is what is had, `Inv x` what holds
-    module _ (E : Env 𝓤 H) (turn : Body) (Left : Result → SProp 𝓤) (X : Type 0) (At : X → SProp 𝓤) (Inv : X → Type 0) (go : X → Bool) (left : X → ℕ)
+    module _ (E : Env 𝓤 H) (turn : Body) (Left : Out → SProp 𝓤) (X : Type 0) (At : X → SProp 𝓤) (Inv : X → Type 0) (go : X → Bool) (left : X → ℕ)
         (more : (x : X) → Inv x → go x ≡ true → (Y : SProp 𝓤) → ((y : X) → Inv y → left y < left x → ent 𝓤 (At y) Y) → ent 𝓤 (At x) (Wp 𝓤 H (𝓣 .C) (𝓣 .Λ) E turn (afterTurn 𝓤 H Y Left)))
         (ends : (x : X) → Inv x → go x ≡ false → (Y : SProp 𝓤) → ent 𝓤 (At x) (Wp 𝓤 H (𝓣 .C) (𝓣 .Λ) E turn (afterTurn 𝓤 H Y Left))) where
       record Facts (u : ℕ) (x : X) : Type 0 where

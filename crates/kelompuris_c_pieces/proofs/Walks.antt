@@ -94,7 +94,7 @@ module _ {M : Type 1} (𝓤 : URA M) (H : Heap 𝓤) (A : Atoms 𝓤) (W : Given
     Is = IsRound;
     tells = λ t v is. ap only (T′.lowers .val-is t (v ∷ []) is);
     typed = λ t v is. LL.lawful T.the-type T′.the-laws 𝓤 H A W .typed t (v ∷ []) is .0;
-    rec-is = λ t v is. let f = LL.requiredBetween T.the-type T′.the-laws t (v ∷ []) is .1 .1 .1 .0 in subst (Is O.the-row (t .rec)) (O′.lowers .val-is (t .rec) _ f) f;
+    rec-is = λ t v is. let f = LL.owed T.the-type T′.the-laws t (v ∷ []) is .1 .1 .1 .0 in subst (Is O.the-row (t .rec)) (O′.lowers .val-is (t .rec) _ f) f;
   }
 
   -- the call of `first`
