@@ -61,7 +61,7 @@ fn write_others(folder: &Path, rng: &mut Rng) -> io::Result<()> {
     let mut inputs = vec![
         (Function::Label, anim_before_mesh()),
         (Function::WriteSlip, words),
-        (Function::ReadSlip, shared_seven_bit_groups::of(&numbers)),
+        (Function::ReadSlip, groups::of(&numbers)),
     ];
     for profile in [Profile::SMALL, Profile::WIDE, Profile::DEEP, Profile::SMALL] {
         for most in [1, 10] {

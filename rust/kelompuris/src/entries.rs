@@ -1,7 +1,7 @@
 //! What a comparison lists and what a mending reports, entry by entry.
 
 use crate::columns::{Kind, TABLES};
-use crate::shared_seven_bit_groups::Bytes;
+use crate::groups::Bytes;
 use crate::refusal::{Refusal, TOO_SHORT};
 use crate::{compare, mend};
 use std::iter::FusedIterator;

@@ -1,6 +1,6 @@
 //! What differs between two accepted files (paper 02, E11), as a list of entries.
 
-use crate::shared_seven_bit_groups::grouped;
+use crate::groups::grouped;
 use crate::limits::{BRUSHES, NODES, ROW_WORDS, TEXTURES};
 use crate::Accepted;
 

@@ -3,7 +3,7 @@
 //! exactly if no number in its range has bytes that begin so: all that are
 //! right stand in a list.
 
-use crate::shared_seven_bit_groups::{grouped, groups};
+use crate::groups::{grouped, groups};
 use crate::limits::{HIGHEST_VERSION, MOST_ROWS, MOST_SLOTS};
 use crate::refusal::{refuse, Refusal, SLIP};
 use std::collections::HashMap;

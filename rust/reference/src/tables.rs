@@ -88,7 +88,7 @@ impl Filler<'_> {
         self.add(table, &[name.place as u32, name.length as u32]);
     }
 
-    /// Adds a row for each item: its words go to `shared_table_words`, the others hold 0.
+    /// Adds a row for each item: its words go to `cells`, the others hold 0.
     fn add_items(&mut self, table: usize, items: &Items, cells: &[usize]) {
         for place in items.places() {
             let mut row = vec![0; ROW_WORDS[table]];

@@ -137,7 +137,7 @@ fn equal_names_at_other_places_do_not_differ() {
 fn floats_are_compared_by_their_bits() {
     let at = 25;
     let float = |bits| with(h(), at, bits);
-    let entry = |old, new| shared_seven_bit_groups::of(&[3, 0, 3, old, new]);
+    let entry = |old, new| groups::of(&[3, 0, 3, old, new]);
     let nan = [0x7FC0_0000, 0x7FC0_0001, 0xFFC0_0000];
     assert_eq!(list(&float(nan[0]), &float(nan[0])), []);
     for (old, new) in [
@@ -169,7 +169,7 @@ fn files_are_read_leniently() {
         })
         .unwrap();
     let white = with(brush(1), red, 0x7FC0_0000);
-    let expected = shared_seven_bit_groups::of(&[2, 0, 2, 0, 0x7FC0_0000]);
+    let expected = groups::of(&[2, 0, 2, 0, 0x7FC0_0000]);
     assert_eq!(list(&brush(1), &white), expected);
 }
 

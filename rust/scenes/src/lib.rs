@@ -11,7 +11,7 @@
 //! - `pairs`: two files that differ in a few cells, with the list of these.
 //! - `mendable`: files with faults that can be mended, with the mended files and the
 //!   reports.
-//! - `shared_seven_bit_groups`: numbers in groups of seven bits.
+//! - `groups`: numbers in groups of seven bits.
 //! - `private`: files that differ only in what a clearer drops.
 //! - `words`: damaged tables for a writer.
 //! - `worked`: the worked files and cases of paper 01.

@@ -32,8 +32,8 @@ impl Mendable {
         for entry in &self.entries {
             let sizes = [entry.given.len(), entry.mended.len()];
             let numbers = [entry.place as u32, entry.which];
-            bytes.extend(shared_seven_bit_groups::of(&numbers));
-            bytes.extend(shared_seven_bit_groups::of(&sizes.map(|size| size as u32)));
+            bytes.extend(groups::of(&numbers));
+            bytes.extend(groups::of(&sizes.map(|size| size as u32)));
             bytes.extend_from_slice(&entry.given);
             bytes.extend_from_slice(&entry.mended);
         }

@@ -168,16 +168,16 @@ fn add(list: &mut Vec<u8>, (table, row, word): CellPosition, old: Cell, new: Cel
         return;
     }
     for number in [table, row, word] {
-        shared_seven_bit_groups::put(list, number);
+        groups::put(list, number);
     }
     match (old, new) {
         (Cell::Word(old), Cell::Word(new)) => {
-            shared_seven_bit_groups::put(list, old);
-            shared_seven_bit_groups::put(list, new);
+            groups::put(list, old);
+            groups::put(list, new);
         }
         (Cell::Name(old), Cell::Name(new)) => {
-            shared_seven_bit_groups::put(list, old.len() as u32);
-            shared_seven_bit_groups::put(list, new.len() as u32);
+            groups::put(list, old.len() as u32);
+            groups::put(list, new.len() as u32);
             list.extend(old);
             list.extend(new);
         }

@@ -3,7 +3,7 @@
 
 mod walk;
 
-use crate::shared_seven_bit_groups::grouped;
+use crate::groups::grouped;
 use crate::limits::NONE;
 use crate::refusal::Refusal;
 use walk::Walk;
