@@ -71,7 +71,8 @@ impl Program<'_> {
 
     /// One edit; none at the end of the program.
     fn step(&mut self, sheet: &mut Sheet) -> Option<()> {
-        match self.byte()? % 12 {
+        let edit = self.byte()?;
+        match edit % 12 {
             0 => {
                 let count = &mut sheet.counts[self.below(10)?];
                 *count = self.word(*count)?;
@@ -100,8 +101,18 @@ impl Program<'_> {
                 let (table, row) = self.row(sheet)?;
                 let words = ROW_WORDS[table];
                 let other = self.below(sheet.tables[table].len() / words).unwrap_or(0);
-                for word in 0..words.min(sheet.tables[table].len()) {
-                    sheet.tables[table].swap(row * words + word, other * words + word);
+                // The whole rows, or one word of both.
+                let exchanged = match edit {
+                    0..128 => 0..words,
+                    _ => {
+                        let word = self.below(words)?;
+                        word..word + 1
+                    }
+                };
+                if words <= sheet.tables[table].len() {
+                    for word in exchanged {
+                        sheet.tables[table].swap(row * words + word, other * words + word);
+                    }
                 }
             }
             6 => {

@@ -2,7 +2,7 @@
 //! Where KELOMPURIS_BLOCKS names a list of blocks of the proved code, inputs grow by these
 //! too, and those that none reached are listed beside it.
 //! - `fuzz --seeds FOLDER FILE..` writes inputs to begin with into a folder, and ends.
-//! - `fuzz --keep FILE FOLDER..` keeps the inputs of folders in one file, and one that tells
+//! - `fuzz --keep FILE FOLDER..` keeps the inputs of folders in one file, and two that tell
 //!   what no block does.
 //! - `fuzz --kept FILE FOLDER` writes the inputs that such a file keeps into a folder.
 //! - `fuzz --edges FOLDER..` prints which blocks of the reference the inputs there reach.
@@ -89,9 +89,10 @@ fn write_seeds(mut names: impl Iterator<Item = PathBuf>) -> io::Result<()> {
 fn keep(mut names: impl Iterator<Item = PathBuf>) -> io::Result<()> {
     let file = names.next().ok_or(io::ErrorKind::NotFound)?;
     let mut inputs = inputs(names)?;
-    let label = seeds::label_of_anim();
-    if !inputs.contains(&label) {
-        inputs.push(label);
+    for input in [seeds::label_of_anim(), seeds::lists_out_of_order()] {
+        if !inputs.contains(&input) {
+            inputs.push(input);
+        }
     }
     fs::write(file, kept::joined(&inputs))
 }

@@ -13,8 +13,8 @@ use std::{fs, io};
 const LONGEST: usize = 2000;
 
 /// Writes inputs into a folder: these files and generated valid ones, for each function;
-/// pairs of valid files, files that can be mended, a slip and its numbers, and a root whose
-/// ANIM stands before its MESH.
+/// pairs of valid files, files that can be mended, key lists out of the order of their nodes,
+/// a slip and its numbers, and a root whose ANIM stands before its MESH.
 pub fn write(folder: &Path, mut files: Vec<Vec<u8>>) -> io::Result<()> {
     fs::create_dir_all(folder)?;
     let mut rng = Rng::new(2026);
@@ -56,6 +56,7 @@ pub fn write(folder: &Path, mut files: Vec<Vec<u8>>) -> io::Result<()> {
 
 /// Writes the inputs that are for one function.
 fn write_others(folder: &Path, rng: &mut Rng) -> io::Result<()> {
+    fs::write(folder.join("lists"), lists_out_of_order())?;
     let numbers = [1, 2, 0, 1, 127, 128, 16_383, 16_384, 2_097_151, 5, 6, 7];
     let words = numbers.map(u32::to_le_bytes).concat();
     let mut inputs = vec![
@@ -92,12 +93,28 @@ pub fn label_of_anim() -> Vec<u8> {
     input(Function::Label, &anim_before_mesh())
 }
 
+/// The input that asks for a file of two nodes with a key list each, the lists' nodes exchanged:
+/// each cell by itself is one that a file has, but the lists are out of the order of their nodes.
+pub fn lists_out_of_order() -> Vec<u8> {
+    let child = node_of(vec![rows::keys(1)]);
+    let root = node_of(vec![rows::keys(1), child]);
+    // As long an output as is needed, nothing beside the edits; then: exchange of table 9 and
+    // its row 0, with row 1, word 0.
+    let parameters = [0, 0, 137, 8, 0, 1, 0];
+    input_with(Function::Write, &parameters, &file_of(vec![root]).bytes())
+}
+
 /// An input for a function, without parameters.
 fn input(function: Function, file: &[u8]) -> Vec<u8> {
+    input_with(function, &[], file)
+}
+
+/// An input for a function.
+fn input_with(function: Function, parameters: &[u8], file: &[u8]) -> Vec<u8> {
     let first = FUNCTIONS.iter().position(|other| *other == function);
     let input = Input {
         first: first.expect("each function has a number") as u8,
-        parameters: &[],
+        parameters,
         file,
     };
     input.bytes()
