@@ -76,7 +76,8 @@ typedef struct {
 } kelompuris_answer;
 
 /* Judges a file in a mode without tables: answers 0 or 1 to 10. Writes nothing. The counts say how long the tables must be for
- * kelompuris_b3d_read. */
+ * kelompuris_b3d_read. A file that is accepted in both modes has the same counts in both, and the lenient mode looks at no colour: to learn how
+ * long the tables must be it is enough, and read in strict mode then judges the colours. */
 kelompuris_answer kelompuris_b3d_judge(uint32_t mode, const uint8_t *file, size_t file_len);
 
 /* Words of a row of tables 1 to 10. */

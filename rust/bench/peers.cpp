@@ -4,8 +4,8 @@
 //
 //   peers [FILE..]
 //
-// A line is a file: its bytes, then microseconds for each. `ours` judges the file (B3D in strict mode), allocates the tables, reads into them and frees them; a loader is
-// given the bytes and what it makes is freed again; `fill` allocates the tables, stores one value into each word and frees them; `copy` copies the bytes into a buffer
+// A line is a file: its bytes, then microseconds for each. `judge` and the reading of `ours` are in strict mode. `ours` judges the file for its counts (B3D in lenient mode),
+// allocates the tables, reads into them and frees them; a loader is given the bytes and what it makes is freed again; `fill` allocates the tables, stores one value into each word and frees them; `copy` copies the bytes into a buffer
 // that is there. The ratios are of these times. A loader that refuses the file has no time.
 #include <algorithm>
 #include <chrono>
@@ -152,7 +152,7 @@ bool copied(const Bytes &f, Bytes &to) {
 }
 
 bool ours(const Bytes &f) {
-    kelompuris_answer a = kelompuris_b3d_judge(KELOMPURIS_STRICT, f.data(), f.size());
+    kelompuris_answer a = kelompuris_b3d_judge(KELOMPURIS_LENIENT, f.data(), f.size());
     if (a.number) return false;
     Tables<10> t(WIDTHS, a.counts);
     return read_b3d(f, t).number == 0;

@@ -142,7 +142,9 @@ pub struct Scene<'a> {
 impl<'a> Scene<'a> {
     /// Reads a file in a mode: refusals 1 to 10.
     pub fn read(mode: Mode, file: &'a [u8]) -> Result<Scene<'a>, Refusal> {
-        let held = check(mode, file)?;
+        // A file has as many rows in either mode. The lenient one looks at no colour, so that colours
+        // are judged once, by the reader; of a file that it refuses, the mode asked for tells why.
+        let held = check(Mode::Lenient, file).or_else(|_| check(mode, file))?;
         let size = |table: usize| TABLES[table].words() * held.counts[table] as usize;
         let mut words = std::array::from_fn(|table| vec![0; size(table)]);
         let lent = &mut words.each_mut().map(Vec::as_mut_slice);
