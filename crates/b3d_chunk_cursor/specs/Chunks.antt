@@ -10,6 +10,7 @@ use Rattle.wire.specs.declared.Cursor.{Cursor}
 use Rattle.wire.specs.declared.Text.{Text}
 use Rattle.wire.specs.declared.Text.the-variants as text
 use Rattle.layout.specs.Chunks.{done, stop, chunk}
+use Rattle.layout.specs.Refusals as refusals
 use Rattle.b3d_spec.specs.declared.Tag.{Tag}
 use Rattle.b3d_spec.specs.Tags.{Chunks, split}
 use Rattle.b3d_chunk_cursor.specs.declared.Tagged.{Tagged}
@@ -27,7 +28,7 @@ tagged (some t) = tags.Known t
 -- the chunks that an answer on s stands for: the one found, and those after it
 abbrev pub chunksOf : List ℕ → Next → Chunks
 chunksOf s (next.Chunk t p b n) = chunk t p (left b s) (split (n .at) (left n s))
-chunksOf s (next.Cut p) = stop 3 p
+chunksOf s (next.Cut p) = stop refusals.cutChunk p
 chunksOf s next.Done = done
 
 -- a chunk with its header at p, its body b and the cursor n after it stands among the bytes of c

@@ -10,6 +10,7 @@ use b3d_chunk_cursor::Next;
 use b3d_rule_nesting_order::Permit;
 use b3d_rule_nesting_order::Reached;
 use b3d_spec::Tag;
+use layout::refusals;
 use wire::Cursor;
 
 // The next known chunk inside one that encloses it: its tag, the place of its header, its body, the cursor after it, how far the chunks
@@ -64,9 +65,9 @@ fn by_permit(
     ensures { λ r. ⌜ EnclosedIs (now (s .entry)) enclosing head reached from r ⌝ }
 {
     match found {
-        Next::Cut(p) => Enclosed::Not(3, p),
+        Next::Cut(p) => Enclosed::Not(refusals::CUT_CHUNK, p),
         Next::Done => match permit {
-            Permit::No => Enclosed::Not(8, head),
+            Permit::No => Enclosed::Not(refusals::NO_VRTS_OR_TRIS, head),
             Permit::Yes(_) => Enclosed::End,
         },
         Next::Chunk {
@@ -75,7 +76,7 @@ fn by_permit(
             body,
             next,
         } => match permit {
-            Permit::No => Enclosed::Not(4, at),
+            Permit::No => Enclosed::Not(refusals::NESTING, at),
             Permit::Yes(z) => Enclosed::Chunk {
                 tag,
                 at,

@@ -5,6 +5,7 @@ ghost use Rattle.b3d_compare_spec.specs.Compare.{compareAnswer, compareOutput, 
 ghost use Rattle.b3d_compare_files.specs.Files.{Judged, filesBytes};
 use b3d_compare_spec::Compared;
 use b3d_spec::Mode;
+use layout::refusals;
 
 // The list of two accepted files with the twelve numbers x and y; where the output is too short, 11 and the size that is needed.
 fn list_into(a: &[u8], b: &[u8], x: [u32; 12], y: [u32; 12], out: &mut [u8]) -> Compared
@@ -26,7 +27,7 @@ fn list_into(a: &[u8], b: &[u8], x: [u32; 12], y: [u32; 12], out: &mut [u8]) -> 
     }
     if out.len() < size {
         return Compared {
-            number: 11,
+            number: refusals::TOO_SHORT,
             place: size as u32,
             which: 0,
             size: 0,

@@ -7,6 +7,7 @@ use lib.Dec.{leb}
 use Rattle.wire.specs.Bytes.{over}
 use Rattle.wire.specs.Test.{if}
 use Rattle.layout.specs.Result.{Result, accept, reject}
+use Rattle.layout.specs.Refusals as refusals
 use Rattle.b3d_spec.specs.declared.Mode.the-variants.{Lenient}
 use Rattle.b3d_spec.specs.Answers.{judge}
 use Rattle.b3d_spec.specs.Scene.{Scene}
@@ -26,7 +27,7 @@ ofFile i (accept t) go = go t
 ofFile i (reject n p) go = refused n p i
 
 unfoldable pub roomFor : ℕ → List ℕ → Comparison
-roomFor room b = if (leb (length b) room) (listed b) (refused 11 (length b) 0)
+roomFor room b = if (leb (length b) room) (listed b) (refused refusals.tooShort (length b) 0)
 
 unfoldable pub compare : List ℕ → List ℕ → ℕ → Comparison
 compare a b room = ofFile 1 (judge Lenient a) (λ t. ofFile 2 (judge Lenient b) (λ u. roomFor room (listBytes (changes a b t u))))

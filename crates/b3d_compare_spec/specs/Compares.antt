@@ -8,6 +8,7 @@ use lib.ListN.{length, getD}
 use Rattle.wire.specs.Bytes.{AllBytes}
 use Rattle.layout.specs.Lists.{All}
 use Rattle.layout.specs.Result.{accept, reject}
+use Rattle.layout.specs.Refusals as refusals
 use Rattle.b3d_spec.specs.declared.Mode.the-variants.{Lenient}
 use Rattle.b3d_spec.specs.Answers.{judge}
 use Rattle.b3d_spec.specs.Rebuild.{nameFrom, names}
@@ -111,7 +112,7 @@ pub record Compares (a b : List ℕ) (room : ℕ) : Type 0 where
   pub second : (t : Scene) (n p : ℕ) → judge Lenient a ≡ accept t → judge Lenient b ≡ reject n p → compare a b room ≡ refused n p 2
   -- then 11, exactly where the output is shorter than the list, with the size that is needed
   pub short : (t u : Scene) → judge Lenient a ≡ accept t → judge Lenient b ≡ accept u → room < length (listBytes (changes a b t u))
-      → compare a b room ≡ refused 11 (length (listBytes (changes a b t u))) 0
+      → compare a b room ≡ refused refusals.tooShort (length (listBytes (changes a b t u))) 0
   -- otherwise the list
   pub list : (t u : Scene) → judge Lenient a ≡ accept t → judge Lenient b ≡ accept u → length (listBytes (changes a b t u)) ≤ room
       → compare a b room ≡ listed (listBytes (changes a b t u))

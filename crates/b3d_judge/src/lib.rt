@@ -7,6 +7,7 @@ ghost use Rattle.b3d_spec.specs.Answers.{judge};
 use b3d_judge_file_body::Verdict;
 use b3d_spec::Mode;
 use b3d_spec::letters;
+use layout::refusals;
 
 // Does nothing: called for its promise alone, that the elements of the slice `s` are bytes. It has no result.
 pub fn are_bytes(s: &[u8])
@@ -24,16 +25,16 @@ pub fn judge(mode: Mode, file: &[u8]) -> Verdict
 {
     let n = file.len();
     if n < 12 {
-        return Verdict::Bad(1, 0);
+        return Verdict::Bad(refusals::FILE_SIZE, 0);
     }
     if 16777216 < n {
-        return Verdict::Bad(1, 0);
+        return Verdict::Bad(refusals::FILE_SIZE, 0);
     }
     if wire::number_at(file, 0) != letters::BB3D {
-        return Verdict::Bad(2, 0);
+        return Verdict::Bad(refusals::FIRST_TAG, 0);
     }
     if wire::size(wire::number_at(file, 4)) != n - 8 {
-        return Verdict::Bad(2, 4);
+        return Verdict::Bad(refusals::FIRST_TAG, 4);
     }
     match b3d_judge_file_body::judge_body(file, mode) {
         Verdict::Bad(e, p) => Verdict::Bad(e, p),
@@ -41,7 +42,7 @@ pub fn judge(mode: Mode, file: &[u8]) -> Verdict
             are_bytes(file);
             let over = b3d_judge_limits::over_limit(x.tally);
             if over != 0 {
-                return Verdict::Bad(10, over);
+                return Verdict::Bad(refusals::TOO_MANY_ROWS, over);
             }
             Verdict::Good(x)
         }

@@ -15,6 +15,7 @@ use b3d_judge_tally::Judged;
 use b3d_judge_tally::Tally;
 use b3d_rule_nesting_order::Reached;
 use b3d_spec::Tag;
+use layout::refusals;
 use wire::Cursor;
 
 // Whether a node has an ANIM, the tally of its KEYS and ANIM, and the cursor after them; or a refusal and its place.
@@ -77,7 +78,7 @@ pub fn judge_animation(s: &[u8], at: usize, from: Cursor) -> Motion
                 },
                 Tag::ANIM => {
                     if body.end - body.at != 12 {
-                        return Motion::Not(5, body.at);
+                        return Motion::Not(refusals::CUT_ITEM, body.at);
                     }
                     q = reached;
                     c = next;

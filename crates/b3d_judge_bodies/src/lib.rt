@@ -15,6 +15,7 @@ ghost use Rattle.b3d_judge_bodies.specs.Answers.{Shapes};
 use b3d_judge_items::Counted;
 use b3d_judge_tally::Judged;
 use b3d_spec::Mode;
+use layout::refusals;
 use wire::Cursor;
 use wire::Number;
 
@@ -31,10 +32,10 @@ pub fn judge_keys(s: &[u8], at: usize, body: Cursor) -> Judged
     ensures { λ r. ⌜ Judges listTally (readKeys at (left body (now (s .entry)))) at (body .end) r ⌝ }
 {
     match body.number(s) {
-        Number::Cut => Judged::Bad(5, body.at),
+        Number::Cut => Judged::Bad(refusals::CUT_ITEM, body.at),
         Number::Is(flags, items) => {
             if 7 < flags {
-                return Judged::Bad(6, body.at);
+                return Judged::Bad(refusals::RANGE, body.at);
             }
             let words = b3d_rule_widths::key_words(flags);
             match b3d_judge_items::whole_items(items, words) {
@@ -91,19 +92,19 @@ pub fn judge_vertices(s: &[u8], at: usize, body: Cursor, mode: Mode) -> Vertices
     let start = body.at;
     let end = body.end;
     if end - start < 12 {
-        return VerticesSummary::Not(5, start);
+        return VerticesSummary::Not(refusals::CUT_ITEM, start);
     }
     let flags = wire::number_at(s, start);
     let sets = wire::number_at(s, start + 4);
     let size = wire::number_at(s, start + 8);
     if 3 < flags {
-        return VerticesSummary::Not(6, start);
+        return VerticesSummary::Not(refusals::RANGE, start);
     }
     if 8 < sets {
-        return VerticesSummary::Not(6, start + 4);
+        return VerticesSummary::Not(refusals::RANGE, start + 4);
     }
     if 4 < size {
-        return VerticesSummary::Not(6, start + 8);
+        return VerticesSummary::Not(refusals::RANGE, start + 8);
     }
     let words = b3d_rule_widths::vertex_words(flags, sets, size);
     let items = Cursor {
@@ -123,10 +124,10 @@ pub fn judge_triangles(s: &[u8], at: usize, body: Cursor, brushes: usize, vertic
     ensures { λ r. ⌜ Judges setTally (readTriangles brushes vertices at (left body (now (s .entry)))) at (body .end) r ⌝ }
 {
     match body.number(s) {
-        Number::Cut => Judged::Bad(5, body.at),
+        Number::Cut => Judged::Bad(refusals::CUT_ITEM, body.at),
         Number::Is(brush, items) => {
             if !shared_ids::id_valid(brush, brushes, true) {
-                return Judged::Bad(7, body.at);
+                return Judged::Bad(refusals::NO_SUCH_ID, body.at);
             }
             match b3d_judge_items::id_items(s, items, 3, 3, vertices) {
                 Counted::Not(n, p) => Judged::Bad(n, p),

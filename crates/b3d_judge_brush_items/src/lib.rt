@@ -9,6 +9,7 @@ ghost use Rattle.b3d_judge_brush_items.specs.Brushes.{brushColours, coun
 use b3d_chunk_cursor::Named;
 use b3d_judge_items::Counted;
 use b3d_spec::Mode;
+use layout::refusals;
 use wire::Cursor;
 
 // Returns how many of the first words of a brush are colours that the `mode` looks at: 4 or 0.
@@ -32,13 +33,13 @@ pub fn brush_items(s: &[u8], from: Cursor, slots: usize, textures: usize, mode: 
     while c.at < c.end {
         match b3d_chunk_cursor::named_row(s, c, 7 + slots) {
             Named::Cut => {
-                return Counted::Not(5, c.at);
+                return Counted::Not(refusals::CUT_ITEM, c.at);
             }
             Named::Is { row, next, .. } => {
                 let colours = brush_colours(mode);
                 let passed = b3d_judge_colour_items::first_bad_colour(s, row, colours);
                 if passed < colours {
-                    return Counted::Not(6, row.at + 4 * passed);
+                    return Counted::Not(refusals::RANGE, row.at + 4 * passed);
                 }
                 let ids = Cursor {
                     at: row.at + 28,
@@ -46,7 +47,7 @@ pub fn brush_items(s: &[u8], from: Cursor, slots: usize, textures: usize, mode: 
                 };
                 let good = shared_ids::first_invalid(s, ids, slots, textures, true);
                 if good < slots {
-                    return Counted::Not(7, ids.at + 4 * good);
+                    return Counted::Not(refusals::NO_SUCH_ID, ids.at + 4 * good);
                 }
                 count += 1;
                 c = next;

@@ -8,6 +8,7 @@ ghost use Rattle.layout.specs.Rules.{unit};
 ghost use Rattle.shared_ids.specs.Ids.{firstBad};
 ghost use Rattle.b3d_judge_items.specs.Items.{CountedIn, colourItems, counted};
 use b3d_judge_items::Counted;
+use layout::refusals;
 use wire::Cursor;
 
 // Returns how many of the `n` words at `c` are colours from 0 to 1 before the first that is not; `n` where each is.
@@ -39,12 +40,12 @@ pub fn colour_items(s: &[u8], from: Cursor, words: usize, before: usize, n: usiz
     let mut count: usize = 0;
     while at < end {
         if end - at < item {
-            return Counted::Not(5, at);
+            return Counted::Not(refusals::CUT_ITEM, at);
         }
         let first = at + 4 * before;
         let good = first_bad_colour(s, Cursor { at: first, end }, n);
         if good < n {
-            return Counted::Not(6, first + 4 * good);
+            return Counted::Not(refusals::RANGE, first + 4 * good);
         }
         at += item;
         count += 1;

@@ -13,6 +13,7 @@ use b3d_judge_file_chunks::Phase;
 use b3d_judge_materials::BrushesSummary;
 use b3d_judge_tally::Tally;
 use b3d_spec::Mode;
+use layout::refusals;
 use wire::Cursor;
 use wire::Number;
 
@@ -69,10 +70,10 @@ pub fn judge_body(s: &[u8], mode: Mode) -> Verdict
         end: s.len(),
     };
     match behind.number(s) {
-        Number::Cut => Verdict::Bad(5, 8),
+        Number::Cut => Verdict::Bad(refusals::CUT_ITEM, 8),
         Number::Is(version, c) => {
             if 99 < version {
-                return Verdict::Bad(6, 8);
+                return Verdict::Bad(refusals::RANGE, 8);
             }
             judge_chunks(s, version, c, mode)
         }

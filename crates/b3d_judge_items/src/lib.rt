@@ -4,6 +4,7 @@ ghost use Prim.Native.Nat.{_-_, _<_, _≤_};
 ghost use lib.ListN.{length};
 ghost use Rattle.wire.specs.Cursors.{Inside, left};
 ghost use Rattle.b3d_judge_items.specs.Items.{dividedAt, CountedIn, idItems, counted};
+use layout::refusals;
 use wire::Cursor;
 
 // How many items there are, or a refusal and its place.
@@ -25,7 +26,7 @@ pub fn whole_items(c: Cursor, words: usize) -> Counted
     if (end - at) % size == 0 {
         return Counted::Is(count);
     }
-    Counted::Not(5, at + count * size)
+    Counted::Not(refusals::CUT_ITEM, at + count * size)
 }
 
 // Counts the items of `words` words that `from` has left. The first `ids` words of each are ids below `limit`, none absent. Answers 5 at an item that is cut,
@@ -40,11 +41,11 @@ pub fn id_items(s: &[u8], from: Cursor, words: usize, ids: usize, limit: usize) 
     let mut count: usize = 0;
     while at < end {
         if end - at < size {
-            return Counted::Not(5, at);
+            return Counted::Not(refusals::CUT_ITEM, at);
         }
         let good = shared_ids::first_invalid(s, Cursor { at, end }, ids, limit, false);
         if good < ids {
-            return Counted::Not(7, at + 4 * good);
+            return Counted::Not(refusals::NO_SUCH_ID, at + 4 * good);
         }
         at += size;
         count += 1;

@@ -11,6 +11,7 @@ use b3d_judge_items::Counted;
 use b3d_judge_tally::Judged;
 use b3d_judge_tally::Tally;
 use b3d_spec::Mode;
+use layout::refusals;
 use wire::Cursor;
 use wire::Number;
 
@@ -30,7 +31,7 @@ pub fn judge_textures(s: &[u8], at: usize, body: Cursor) -> Judged
     while c.at < c.end {
         match b3d_chunk_cursor::named_row(s, c, 7) {
             Named::Cut => {
-                return Judged::Bad(5, c.at);
+                return Judged::Bad(refusals::CUT_ITEM, c.at);
             }
             Named::Is { next, .. } => {
                 count += 1;
@@ -55,10 +56,10 @@ pub fn judge_brushes(
     ensures { λ r. ⌜ SlotsAre (readBrushes mode textures at (left body (now (s .entry)))) at (body .end) r ⌝ }
 {
     match body.number(s) {
-        Number::Cut => BrushesSummary::Not(5, body.at),
+        Number::Cut => BrushesSummary::Not(refusals::CUT_ITEM, body.at),
         Number::Is(slots, items) => {
             if 8 < slots {
-                return BrushesSummary::Not(6, body.at);
+                return BrushesSummary::Not(refusals::RANGE, body.at);
             }
             let n = wire::size(slots);
             match b3d_judge_brush_items::brush_items(s, items, n, textures, mode) {

@@ -19,6 +19,7 @@ use b3d_judge_tally::Tally;
 use b3d_rule_nesting_order::Reached;
 use b3d_spec::Mode;
 use b3d_spec::Tag;
+use layout::refusals;
 use wire::Cursor;
 use wire::Number;
 
@@ -130,10 +131,10 @@ pub fn judge_mesh(s: &[u8], at: usize, body: Cursor, brushes: usize, mode: Mode)
     ensures { λ r. ⌜ Meshes (readMesh mode brushes at (left body (now (s .entry)))) at (body .end) r ⌝ }
 {
     match body.number(s) {
-        Number::Cut => MeshSummary::Not(5, body.at),
+        Number::Cut => MeshSummary::Not(refusals::CUT_ITEM, body.at),
         Number::Is(brush, c) => {
             if !shared_ids::id_valid(brush, brushes, true) {
-                return MeshSummary::Not(7, body.at);
+                return MeshSummary::Not(refusals::NO_SUCH_ID, body.at);
             }
             judge_inside(s, at, c, brushes, mode)
         }

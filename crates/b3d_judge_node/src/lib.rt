@@ -20,6 +20,7 @@ use b3d_judge_tally::Judged;
 use b3d_judge_tally::Tally;
 use b3d_spec::Mode;
 use b3d_spec::Tag;
+use layout::refusals;
 use wire::Cursor;
 
 // How many vertices a node's own mesh has, the tally of its kind, and the cursor after it; or a refusal and its place.
@@ -150,7 +151,7 @@ pub fn judge_own(
     ensures { λ r. ⌜ Owns (aboveOf above) (readOwn mode brushes (aboveOf above) at (left body (now (s .entry)))) (restIn (now (s .entry)) NODE at (reachedAt 3 false)) at body r ⌝ }
 {
     match b3d_chunk_cursor::named_row(s, body, 10) {
-        Named::Cut => NodeSummary::Not(5, body.at),
+        Named::Cut => NodeSummary::Not(refusals::CUT_ITEM, body.at),
         Named::Is { next, .. } => judge_parts(s, at, next, brushes, above, mode),
     }
 }

@@ -16,6 +16,7 @@ use b3d_judge_tally::Judged;
 use b3d_rule_nesting_order::Reached;
 use b3d_spec::Mode;
 use b3d_spec::Tag;
+use layout::refusals;
 use wire::Cursor;
 
 // How far the chunks inside a NODE have come after its KEYS and ANIM.
@@ -39,7 +40,7 @@ pub fn judge_node(
     ensures { λ r. ⌜ Judges innerTally (readNode mode levels brushes (aboveOf above) at (left body (now (s .entry)))) at (body .end) r ⌝ }
 {
     if levels == 0 {
-        return Judged::Bad(9, at);
+        return Judged::Bad(refusals::TOO_DEEP, at);
     }
     match b3d_judge_node::judge_own(s, at, body, brushes, above, mode) {
         NodeSummary::Not(e, p) => Judged::Bad(e, p),

@@ -2,6 +2,7 @@
 use mathlib.Core.Path.{_≡_}
 use Prim.Native.Nat.{ℕ, _+_, _≤_}
 use Rattle.layout.specs.Result.{Result, accept, reject}
+use Rattle.layout.specs.Refusals as refusals
 use Rattle.b3d_label_spec.specs.Walk.{Printed, labelled}
 use Rattle.b3d_label.specs.declared.Many.{Many}
 use Rattle.b3d_label.specs.declared.Many.the-variants as many
@@ -12,12 +13,12 @@ use Rattle.b3d_label_spec.specs.declared.TrayLabel.{TrayLabel}
 -- what an answer says in the paper's numbers: how many vertices; or 14, at place 0
 abbrev pub manySays : Many → Result ℕ
 manySays (many.Are n) = accept n
-manySays many.Not = reject 14 0
+manySays many.Not = reject refusals.noLabel 0
 
 -- what a step of the walk says, as the label has it: for each refusal 14 at place 0
 abbrev pub onLabel : Result ℕ → Result ℕ
 onLabel (accept n) = accept n
-onLabel (reject n p) = reject 14 0
+onLabel (reject n p) = reject refusals.noLabel 0
 
 -- ---- a label
 

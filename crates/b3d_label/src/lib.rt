@@ -14,6 +14,7 @@ use b3d_judge_items::Counted;
 use b3d_label_spec::TrayLabel;
 use b3d_spec::Tag;
 use b3d_spec::letters;
+use layout::refusals;
 use wire::Cursor;
 use wire::Header;
 use wire::Number;
@@ -93,7 +94,7 @@ fn refused() -> TrayLabel
     ensures { λ r. ⌜ r ≡ noLabel ⌝ }
 {
     TrayLabel {
-        number: 14,
+        number: refusals::NO_LABEL,
         place: 0,
         name_place: 0,
         name_length: 0,

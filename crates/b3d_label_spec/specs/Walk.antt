@@ -10,6 +10,7 @@ use Rattle.layout.specs.Chunks.{done, stop, chunk}
 use Rattle.layout.specs.Result.{Result, accept, reject, check, _>>=_}
 use Rattle.layout.specs.Parts.{Name, row, number, named}
 use Rattle.layout.specs.Rules.{Rule, any}
+use Rattle.layout.specs.Refusals as refusals
 use Rattle.b3d_spec.specs.declared.Tag.the-variants.{BB3D, NODE, MESH, VRTS}
 use Rattle.b3d_spec.specs.Tags.{code, is, Chunks, split}
 use Rattle.b3d_spec.specs.Rules.{header, nodeRow, verticesHead, vertexWords}
@@ -26,7 +27,7 @@ oneNumber = any ∷ []
 -- the place of the body and the body of the first chunk with these letters, others stepped over; a cut header or a length past the end before it is 3, and
 -- there being none is 14
 unfoldable pub firstWith : ℕ → Chunks → Result (ℕ × List ℕ)
-firstWith letters done = reject 14 0
+firstWith letters done = reject refusals.noLabel 0
 firstWith letters (stop n p) = reject n p
 firstWith letters (chunk t p b r) = if (eqb (code t) letters) (accept (p + 8, b)) (firstWith letters r)
 
@@ -35,7 +36,7 @@ unfoldable pub vrtsVertices : ℕ → List ℕ → Result ℕ
 vrtsVertices p b = do
   h ← row verticesHead p b
   let size = 4 * vertexWords (number h 0) (number h 1) (number h 2)
-  _ ← check (eqb (length (h .left) % size) 0) 14 0
+  _ ← check (eqb (length (h .left) % size) 0) refusals.noLabel 0
   accept (length (h .left) / size)
 
 -- how many vertices the MESH with the body b at p has: its brush, then its first VRTS
@@ -74,8 +75,8 @@ fileIn p b = do
 unfoldable pub labelWalk : List ℕ → Result Printed
 labelWalk s = do
   h ← row header 0 s
-  _ ← check (eqb (number h 0) (code BB3D)) 2 0
-  _ ← check (leb (number h 1) (length (h .left))) 3 0
+  _ ← check (eqb (number h 0) (code BB3D)) refusals.firstTag 0
+  _ ← check (leb (number h 1) (length (h .left))) refusals.cutChunk 0
   fileIn (h .place) (take (number h 1) (h .left))
 
 -- ---- the label

@@ -12,6 +12,7 @@ use Rattle.layout.specs.Result.{Result, accept, reject, check}
 use Rattle.layout.specs.Parts.{Step, text, words, row, number, named}
 use Rattle.layout.specs.Rows.{sizeFits}
 use Rattle.layout.specs.Rules.{Rule, holds, refusal}
+use Rattle.layout.specs.Refusals as refusals
 use Rattle.b3d_spec.specs.declared.Mode.the-variants.{Lenient}
 use Rattle.b3d_spec.specs.declared.Tag.{Tag}
 use Rattle.b3d_spec.specs.declared.Tag.the-variants.{BB3D, TEXS, BRUS, NODE, MESH, VRTS, BONE, KEYS, ANIM}
@@ -150,19 +151,19 @@ pub data Within : Type 0 where
 unfoldable pub found : Pieces → Within
 found none-left = finished
 found (spare p s) = spareAt p finished
-found (past p s) = refused 3 p
+found (past p s) = refused refusals.cutChunk p
 found (unknown o r) = found r
 found (known t p b r) = chunkAt t p b (found r)
 
 -- goes on by `go` if a chunk at p may stand there, else 4 at p
 unfoldable pub onwardFrom : Option Reached → ℕ → (Reached → Within) → Within
-onwardFrom none p go = refused 4 p
+onwardFrom none p go = refused refusals.nesting p
 onwardFrom (some r) p go = go r
 
 -- the chunks inside a chunk of tag k whose header is at `head`, after chunks that came to r: 4 at the first that may not stand where it does, 8
 -- at `head` where one that must stand is missing, behind spare bytes too
 unfoldable pub inOrder : Tag → ℕ → Reached → Within → Within
-inOrder k head r finished = if (requiredBetween (nesting k) (r .turn) end) (refused 8 head) finished
+inOrder k head r finished = if (requiredBetween (nesting k) (r .turn) end) (refused refusals.noVrtsOrTris head) finished
 inOrder k head r (refused n p) = refused n p
 inOrder k head r (spareAt p l) = spareAt p (inOrder k head r l)
 inOrder k head r (chunkAt t p b l) = onwardFrom (next (nesting k) (nesting k) r t) p (λ q. chunkAt t p b (inOrder k head q l))
@@ -275,9 +276,9 @@ lengthFault false = passes 1 2 4 (gives tt)
 -- a file s: its size, its first tag, BB3D's length, and then BB3D's body up to the end of the file
 unfoldable pub fileFaults : List ℕ → Reading (Unit {0})
 fileFaults s = do
-  _ ← plainly (check (sizeFits (length s)) 1 0)
+  _ ← plainly (check (sizeFits (length s)) refusals.fileSize 0)
   h ← plainly (row header 0 s)
-  _ ← plainly (check (eqb (number h 0) (code BB3D)) 2 0)
+  _ ← plainly (check (eqb (number h 0) (code BB3D)) refusals.firstTag 0)
   _ ← lengthFault (eqb (number h 1) (length (h .left)))
   bodyFaults (h .place) (h .left)
 

@@ -4,6 +4,7 @@ use mathlib.Core.Path.{_≡_}
 use Prim.Native.Nat.{ℕ, _≤_}
 use mathlib.Core.List.{List, [], _∷_}
 use Rattle.layout.specs.Result.{Result, accept, reject}
+use Rattle.layout.specs.Refusals as refusals
 use Rattle.b3d_spec.specs.declared.Mode.the-variants.{Lenient}
 use Rattle.b3d_spec.specs.Answers.{judge}
 use Rattle.b3d_spec.specs.Parse.{parse}
@@ -38,19 +39,19 @@ pub record FirstFault (s : List ℕ) : Type 0 where
   -- the reader's answer is the first fault
   pub judged : (n p : ℕ) → refusalBy (faults s) ≡ reject n p → judge Lenient s ≡ reject n p
   -- an answer 1 to 9 of the reader is the first fault: 10 comes only where there is no fault
-  pub judged-by : (n p : ℕ) → n ≤ 9 → judge Lenient s ≡ reject n p → refusalBy (faults s) ≡ reject n p
+  pub judged-by : (n p : ℕ) → n ≤ refusals.tooDeep → judge Lenient s ≡ reject n p → refusalBy (faults s) ≡ reject n p
   -- the mender's answer is the first fault of another kind, whatever room its outputs have
   pub refused : (n p : ℕ) → refusalBy (others (faults s)) ≡ reject n p → (room reportRoom : ℕ) → mendInto room reportRoom s ≡ reject n p
   -- an answer 1 to 9 of the mender is the first fault of another kind: 10 and 11 come only where none is left
-  pub refused-by : (n p : ℕ) → n ≤ 9 → (room reportRoom : ℕ) → mendInto room reportRoom s ≡ reject n p → refusalBy (others (faults s)) ≡ reject n p
+  pub refused-by : (n p : ℕ) → n ≤ refusals.tooDeep → (room reportRoom : ℕ) → mendInto room reportRoom s ≡ reject n p → refusalBy (others (faults s)) ≡ reject n p
   -- where the first fault is of another kind, reader and mender both answer it
   pub same : (n p : ℕ) (l : List Fault) → faults s ≡ other n p ∷ l
       → (room reportRoom : ℕ) → (judge Lenient s ≡ reject n p) × (mendInto room reportRoom s ≡ reject n p)
   -- a 3 of the reader stands where 1 to 7 bytes are left for a header, or at a length past what encloses it
-  pub three : (p : ℕ) → judge Lenient s ≡ reject 3 p → Spare s p ⊎ Past s p
+  pub three : (p : ℕ) → judge Lenient s ≡ reject refusals.cutChunk p → Spare s p ⊎ Past s p
   -- no place has both kinds of 3
   pub apart : (p : ℕ) → Spare s p → Past s p → ⊥
   -- a 3 at a length past what encloses it is the mender's answer too
-  pub past : (p : ℕ) → judge Lenient s ≡ reject 3 p → Past s p → (room reportRoom : ℕ) → mendInto room reportRoom s ≡ reject 3 p
+  pub past : (p : ℕ) → judge Lenient s ≡ reject refusals.cutChunk p → Past s p → (room reportRoom : ℕ) → mendInto room reportRoom s ≡ reject refusals.cutChunk p
   -- the mender answers 3 only at such a length: spare bytes are mended
-  pub only-past : (p room reportRoom : ℕ) → mendInto room reportRoom s ≡ reject 3 p → Past s p
+  pub only-past : (p room reportRoom : ℕ) → mendInto room reportRoom s ≡ reject refusals.cutChunk p → Past s p

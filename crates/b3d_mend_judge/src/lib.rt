@@ -17,6 +17,7 @@ use b3d_judge_file_body::Verdict;
 use b3d_judge_file_chunks::Phase;
 use b3d_judge_materials::BrushesSummary;
 use b3d_spec::letters;
+use layout::refusals;
 use wire::Cursor;
 use wire::Number;
 
@@ -48,10 +49,10 @@ pub fn lax_body(s: &[u8]) -> Verdict
         end: s.len(),
     };
     match behind.number(s) {
-        Number::Cut => Verdict::Bad(5, 8),
+        Number::Cut => Verdict::Bad(refusals::CUT_ITEM, 8),
         Number::Is(version, c) => {
             if 99 < version {
-                return Verdict::Bad(6, 8);
+                return Verdict::Bad(refusals::RANGE, 8);
             }
             let d = b3d_mend_judge_items::trimmed(s, c);
             lax_chunks(s, version, d)
@@ -66,13 +67,13 @@ pub fn judge_mended(file: &[u8]) -> Verdict
 {
     let n = file.len();
     if n < 12 {
-        return Verdict::Bad(1, 0);
+        return Verdict::Bad(refusals::FILE_SIZE, 0);
     }
     if 16777216 < n {
-        return Verdict::Bad(1, 0);
+        return Verdict::Bad(refusals::FILE_SIZE, 0);
     }
     if wire::number_at(file, 0) != letters::BB3D {
-        return Verdict::Bad(2, 0);
+        return Verdict::Bad(refusals::FIRST_TAG, 0);
     }
     b3d_judge::are_bytes(file);
     match lax_body(file) {
@@ -80,7 +81,7 @@ pub fn judge_mended(file: &[u8]) -> Verdict
         Verdict::Good(x) => {
             let over = b3d_judge_limits::over_limit(x.tally);
             if over != 0 {
-                return Verdict::Bad(10, over);
+                return Verdict::Bad(refusals::TOO_MANY_ROWS, over);
             }
             Verdict::Good(x)
         }

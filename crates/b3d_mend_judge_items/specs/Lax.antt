@@ -9,6 +9,7 @@ use Rattle.layout.specs.Chunks.{done, stop, chunk, ended}
 use Rattle.layout.specs.Result.{Result, accept, reject, _>>=_}
 use Rattle.layout.specs.Parts.{row, number, named, items}
 use Rattle.layout.specs.Rules.{Rule, any}
+use Rattle.layout.specs.Refusals as refusals
 use Rattle.b3d_spec.specs.Nesting.{start, order}
 use Rattle.b3d_spec.specs.Parse.{readOne, readTextures, readBrushes, noVertices, readVertices, Inner, readAnimation, readBelow, slotsOf}
 use Rattle.b3d_spec.specs.Rules.{nodeRow, triangleRow, weightRow, boneLimit, levels, fileHead}
@@ -81,7 +82,7 @@ laxKind vertices (chunk t p b r) =
 
 -- a NODE, with the levels of nodes that are left; `above`: what the nodes above say of bones
 unfoldable pub laxNode : ℕ → Option ℕ → ℕ → List ℕ → Result Inner
-laxNode zero above p b = reject 9 p
+laxNode zero above p b = reject refusals.tooDeep p
 laxNode (suc l) above p b = do
   h ← named nodeRow (p + 8) b
   k ← laxKind (boneLimit above) (laxInside NODE p (h .place) (h .left))

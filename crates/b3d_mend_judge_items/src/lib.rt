@@ -16,6 +16,7 @@ ghost use Rattle.b3d_mend_judge_items.specs.Lax.{laxItems, laxTriangles,
 ghost use Rattle.b3d_mend_judge_items.specs.Ones.{oneIf};
 use b3d_judge_items::Counted;
 use b3d_judge_tally::Judged;
+use layout::refusals;
 use wire::Cursor;
 use wire::Header;
 use wire::Number;
@@ -71,7 +72,7 @@ pub fn kept_items(s: &[u8], from: Cursor, words: usize, ids: usize, limit: usize
     let mut count: usize = 0;
     while at < end {
         if end - at < size {
-            return Counted::Not(5, at);
+            return Counted::Not(refusals::CUT_ITEM, at);
         }
         let one = kept_one(s, Cursor { at, end }, words, ids, limit);
         at += size;
@@ -97,7 +98,7 @@ pub fn lax_triangles(s: &[u8], at: usize, body: Cursor, vertices: usize) -> Judg
     ensures { λ r. ⌜ Judges setTally (laxTriangles vertices at (left body (now (s .entry)))) at (body .end) r ⌝ }
 {
     match body.number(s) {
-        Number::Cut => Judged::Bad(5, body.at),
+        Number::Cut => Judged::Bad(refusals::CUT_ITEM, body.at),
         Number::Is(_, items) => match kept_items(s, items, 3, 3, vertices) {
             Counted::Not(n, p) => Judged::Bad(n, p),
             Counted::Is(count) => Judged::Good(b3d_judge_tally::triangles(count)),

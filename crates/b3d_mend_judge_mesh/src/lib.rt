@@ -21,6 +21,7 @@ use b3d_judge_tally::Judged;
 use b3d_rule_nesting_order::Reached;
 use b3d_spec::Mode;
 use b3d_spec::Tag;
+use layout::refusals;
 use wire::Cursor;
 use wire::Number;
 
@@ -107,7 +108,7 @@ pub fn lax_mesh(s: &[u8], at: usize, body: Cursor) -> MeshSummary
     ensures { λ r. ⌜ Meshes (laxMesh at (left body (now (s .entry)))) at (body .end) r ⌝ }
 {
     match body.number(s) {
-        Number::Cut => MeshSummary::Not(5, body.at),
+        Number::Cut => MeshSummary::Not(refusals::CUT_ITEM, body.at),
         Number::Is(_, c) => {
             let d = b3d_mend_judge_items::trimmed(s, c);
             lax_inside(s, at, d)

@@ -19,6 +19,7 @@ use b3d_judge_node::KindSummary;
 use b3d_judge_node::NodeSummary;
 use b3d_judge_tally::Judged;
 use b3d_spec::Tag;
+use layout::refusals;
 use wire::Cursor;
 
 // Judges a MESH or a BONE, if one comes first in a NODE whose header is at `at`; weights may name `bones` vertices.
@@ -76,7 +77,7 @@ pub fn lax_own(s: &[u8], at: usize, body: Cursor, above: Above) -> NodeSummary
         (restIn (now (s .entry)) NODE at (reachedAt 3 false)) at (body .end) r ⌝ }
 {
     match b3d_chunk_cursor::named_row(s, body, 10) {
-        Named::Cut => NodeSummary::Not(5, body.at),
+        Named::Cut => NodeSummary::Not(refusals::CUT_ITEM, body.at),
         Named::Is { next, .. } => {
             let d = b3d_mend_judge_items::trimmed(s, next);
             lax_parts(s, at, d, above)

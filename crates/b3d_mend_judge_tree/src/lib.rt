@@ -16,6 +16,7 @@ use b3d_judge_node::NodeSummary;
 use b3d_judge_tally::Judged;
 use b3d_rule_nesting_order::Reached;
 use b3d_spec::Tag;
+use layout::refusals;
 use wire::Cursor;
 
 // How far the chunks of a node have come after its KEYS and ANIM.
@@ -30,7 +31,7 @@ pub fn lax_node(s: &[u8], at: usize, body: Cursor, levels: u32, above: Above) ->
     ensures { λ r. ⌜ Judges innerTally (laxNode levels (aboveOf above) at (left body (now (s .entry)))) at (body .end) r ⌝ }
 {
     if levels == 0 {
-        return Judged::Bad(9, at);
+        return Judged::Bad(refusals::TOO_DEEP, at);
     }
     match b3d_mend_judge_node::lax_own(s, at, body, above) {
         NodeSummary::Not(e, p) => Judged::Bad(e, p),

@@ -15,6 +15,7 @@ use Rattle.layout.specs.Parts.{Name, Step, text, words, row, number, named, ite
 use Rattle.layout.specs.Rules.{Rule, any, upTo, exactly, names, namesOrNone, unit, NONE, holds, refusal}
 use Rattle.layout.specs.Write.{writeWords, writeText}
 use Rattle.layout.specs.Rows.{sizeFits}
+use Rattle.layout.specs.Refusals as refusals
 use Rattle.b3d_spec.specs.declared.Mode.the-variants.{Lenient}
 use Rattle.b3d_spec.specs.Nesting.{start, order}
 use Rattle.b3d_spec.specs.Parse.{readTextures, Vertices, noVertices, readVertices, readKeys, readAnim, Animation, Inner, slotsOf}
@@ -243,7 +244,7 @@ dataOf h k m = record { name = h .0; words = h .1; kind = k; keys = m .keys; ani
 
 -- the body b of a NODE whose header is at p, with l levels left: 9 at p with none. `above`: how many vertices its bones may name, none for the root
 unfoldable pub mendNode : ℕ → ℕ → Option ℕ → ℕ → List ℕ → Result (Mended Inner)
-mendNode zero brushes above p b = reject 9 p
+mendNode zero brushes above p b = reject refusals.tooDeep p
 mendNode (suc l) brushes above p b = do
   h ← named nodeRow (p + 8) b
   k ← mendKind brushes (boneLimit above) (order NODE p start (chunksOf (pieces (h .place) (h .left))))
@@ -282,8 +283,8 @@ mendBody p b = do
 -- the file s as it is mended, or its first fault 1 to 9 of another kind than the four: a BB3D that ends where the file does, whatever its length says
 unfoldable pub mendFile : List ℕ → Result (Mended Scene)
 mendFile s = do
-  _ ← check (sizeFits (length s)) 1 0
+  _ ← check (sizeFits (length s)) refusals.fileSize 0
   h ← row header 0 s
-  _ ← check (eqb (number h 0) (code BB3D)) 2 0
+  _ ← check (eqb (number h 0) (code BB3D)) refusals.firstTag 0
   x ← mendBody (h .place) (h .left)
   accept (record { value = x .value; edits = keep (bytes (code BB3D) []) ∷ fileLength (number h 1) (length (h .left)) (length (after (x .edits))) ∷ x .edits })

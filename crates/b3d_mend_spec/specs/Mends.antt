@@ -8,6 +8,7 @@ use lib.Dec.{leb}
 use Rattle.wire.specs.Bytes.{AllBytes, over}
 use Rattle.layout.specs.Lists.{All}
 use Rattle.layout.specs.Result.{accept, reject}
+use Rattle.layout.specs.Refusals as refusals
 use Rattle.b3d_spec.specs.declared.Mode.the-variants.{Lenient}
 use Rattle.b3d_spec.specs.Answers.{judge, firstNot}
 use Rattle.b3d_spec.specs.Names.{named, unplaced}
@@ -37,11 +38,11 @@ pub record Entered (s : List ℕ) (x : List Edit) (l : List Edit) (k : ℕ) (b a
 
 -- refusal n at p may be one of the four: 2 at 4, 7, or 3, which 01 also has for a length past its chunk
 abbrev pub Mendable : ℕ → ℕ → Type 0
-Mendable n p = (n ≡ 3) ⊎ ((n ≡ 7) ⊎ ((n ≡ 2) × (p ≡ 4)))
+Mendable n p = (n ≡ refusals.cutChunk) ⊎ ((n ≡ refusals.noSuchId) ⊎ ((n ≡ refusals.firstTag) × (p ≡ 4)))
 
 -- refusal n at p is of another kind, 1 to 10: not 7, and 2 only at another place than 4
 abbrev pub Unmended : ℕ → ℕ → Type 0
-Unmended n p = (n ≡ 7 → ⊥) × (n ≡ 2 → p ≡ 4 → ⊥) × (1 ≤ n) × (n ≤ 10)
+Unmended n p = (n ≡ refusals.noSuchId → ⊥) × (n ≡ refusals.firstTag → p ≡ 4 → ⊥) × (refusals.fileSize ≤ n) × (n ≤ refusals.tooManyRows)
 
 -- table k of what the mended file x holds has no more rows than the limit
 abbrev pub FewRows : Mended Scene → ℕ → Type 0
@@ -89,15 +90,15 @@ pub record Mends (s : List ℕ) : Type 0 where
   -- a file that can be mended has no fault of another kind, and no table of the mended file has more rows than the limit
   pub few : (x : Mended Scene) → mendJudged s ≡ accept x → (mendFile s ≡ accept x) × All (FewRows x) tables
   -- 10 is counted over the mended rows, at the lowest table with more than the limit
-  pub limit : (x : Mended Scene) → mendFile s ≡ accept x → (p : ℕ) → firstNot (λ k. leb (length (rows k (x .value))) rowLimit) tables ≡ p → 0 < p → mendJudged s ≡ reject 10 p
+  pub limit : (x : Mended Scene) → mendFile s ≡ accept x → (p : ℕ) → firstNot (λ k. leb (length (rows k (x .value))) rowLimit) tables ≡ p → 0 < p → mendJudged s ≡ reject refusals.tooManyRows p
   -- outputs with room for both get the mended file and the report
   pub enough : (x : Mended Scene) → mendJudged s ≡ accept x → (room reportRoom : ℕ) → length (after (x .edits)) ≤ room → length (reportBytes (entries 0 (x .edits))) ≤ reportRoom
       → mendInto room reportRoom s ≡ accept (mending (x .edits))
   -- 11, with the mended file's size as its place, where the output for the file is shorter
-  pub file-short : (x : Mended Scene) → mendJudged s ≡ accept x → (room reportRoom : ℕ) → room < length (after (x .edits)) → mendInto room reportRoom s ≡ reject 11 (length (after (x .edits)))
+  pub file-short : (x : Mended Scene) → mendJudged s ≡ accept x → (room reportRoom : ℕ) → room < length (after (x .edits)) → mendInto room reportRoom s ≡ reject refusals.tooShort (length (after (x .edits)))
   -- 11, with the report's size as its place, where the file has room and the output for the report is shorter
   pub report-short : (x : Mended Scene) → mendJudged s ≡ accept x → (room reportRoom : ℕ) → length (after (x .edits)) ≤ room → reportRoom < length (reportBytes (entries 0 (x .edits)))
-      → mendInto room reportRoom s ≡ reject 11 (length (reportBytes (entries 0 (x .edits))))
+      → mendInto room reportRoom s ≡ reject refusals.tooShort (length (reportBytes (entries 0 (x .edits))))
 
 -- What a caller sees, who lends the output `out` for the mended file of s and the output `report` for the report.
 pub record MenderSays (s out report : List ℕ) : Type 0 where
@@ -109,9 +110,9 @@ pub record MenderSays (s out report : List ℕ) : Type 0 where
   -- 0 only where the file can be mended and there is room for both
   pub zero : mendAnswer s out report .number ≡ 0 → (x : Mended Scene) × (mendJudged s ≡ accept x) × (length (after (x .edits)) ≤ length out) × (length (reportBytes (entries 0 (x .edits))) ≤ length report)
   -- the number is 0 to 11
-  pub most : mendAnswer s out report .number ≤ 11
+  pub most : mendAnswer s out report .number ≤ refusals.tooShort
   -- a refused call changes neither output, and both sizes are 0
   pub untouched : (mendAnswer s out report .number ≡ 0 → ⊥) → (mendOutput s out report ≡ out) × (mendReport s out report ≡ report) × (mendAnswer s out report .size ≡ 0) × (mendAnswer s out report .«report_size» ≡ 0)
   -- an output as long as the file has room for the mended one: with such an output 11 is the report's, with its size as the place
-  pub report-short : AllBytes s → length s ≤ length out → mendAnswer s out report .number ≡ 11
+  pub report-short : AllBytes s → length s ≤ length out → mendAnswer s out report .number ≡ refusals.tooShort
       → (x : Mended Scene) × (mendJudged s ≡ accept x) × (mendAnswer s out report .place ≡ length (reportBytes (entries 0 (x .edits))))

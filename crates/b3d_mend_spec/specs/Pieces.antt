@@ -7,6 +7,7 @@ use lib.Dec.{leb}
 use Rattle.wire.specs.Bytes.{word, bytes}
 use Rattle.wire.specs.Test.{if}
 use Rattle.layout.specs.Chunks.{done, stop, chunk}
+use Rattle.layout.specs.Refusals as refusals
 use Rattle.b3d_spec.specs.Tags.{tagOf, code, Chunks}
 use Rattle.b3d_spec.specs.declared.Tag.{Tag}
 use Rattle.b3d_mend_spec.specs.Edits.{Edit, keep, follow, spareOut, after}
@@ -53,7 +54,7 @@ pieces p s = piecesIn (length s) p s
 unfoldable pub chunksOf : Pieces → Chunks
 chunksOf none-left = done
 chunksOf (spare p s) = done
-chunksOf (past p s) = stop 3 p
+chunksOf (past p s) = stop refusals.cutChunk p
 chunksOf (other o r) = chunksOf r
 chunksOf (known t p b r) = chunk t p b (chunksOf r)
 

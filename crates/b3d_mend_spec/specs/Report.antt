@@ -8,6 +8,7 @@ use Rattle.layout.specs.Parts.{Step, items}
 use Rattle.layout.specs.Result.{Result, accept, check, _>>=_}
 use Rattle.shared_seven_bit_groups.specs.Groups.{writeNumbers, readNumbers}
 use Rattle.layout.specs.Rows.{eachOf}
+use Rattle.layout.specs.Refusals as refusals
 use Rattle.b3d_spec.specs.Rules.{rowLimit}
 use Rattle.b3d_spec.specs.Scene.{Scene}
 use Rattle.b3d_spec.specs.Tables.{rows, tables}
@@ -80,15 +81,15 @@ mending x = record { file = after x; report = reportBytes (entries 0 x) }
 unfoldable pub mendJudged : List ℕ → Result (Mended Scene)
 mendJudged s = do
   x ← mendFile s
-  _ ← eachOf 10 (λ k. leb (length (rows k (x .value))) rowLimit) tables
+  _ ← eachOf refusals.tooManyRows (λ k. leb (length (rows k (x .value))) rowLimit) tables
   accept x
 
 -- the mended file and the report, if outputs of `room` and `reportRoom` bytes have room for them; else 11 with the size needed, first for the file, then for
 -- the report
 unfoldable pub roomForBoth : ℕ → ℕ → Mending → Result Mending
 roomForBoth room reportRoom m = do
-  _ ← check (leb (length (m .file)) room) 11 (length (m .file))
-  _ ← check (leb (length (m .report)) reportRoom) 11 (length (m .report))
+  _ ← check (leb (length (m .file)) room) refusals.tooShort (length (m .file))
+  _ ← check (leb (length (m .report)) reportRoom) refusals.tooShort (length (m .report))
   accept m
 
 -- the mended file and the report of the file s, for outputs of `room` and `reportRoom` bytes; or the refusal

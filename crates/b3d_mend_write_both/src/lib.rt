@@ -6,6 +6,7 @@ ghost use Rattle.b3d_mend_write_both.specs.BothSizes.{OfSizes};
 ghost use Rattle.b3d_mend_write_both.specs.Mendable.{CanMend, HaveRoom, Sized};
 use b3d_mend_spec::WrittenBoth;
 use b3d_mend_write_file::walk_file;
+use layout::refusals;
 
 // Returns the answer for a mended file of `size` bytes and a report of `report_size` bytes that are put into outputs of `room` and `report_room` bytes:
 // 0 and both sizes, or 11 and the size that is needed, for the file first. Only numbers are looked at.
@@ -21,7 +22,7 @@ pub fn answer_of_both(
 {
     if room < size {
         return WrittenBoth {
-            number: 11,
+            number: refusals::TOO_SHORT,
             place: shared_table_words::cell(size),
             size: 0,
             report_size: 0,
@@ -29,7 +30,7 @@ pub fn answer_of_both(
     }
     if report_room < report_size {
         return WrittenBoth {
-            number: 11,
+            number: refusals::TOO_SHORT,
             place: shared_table_words::cell(report_size),
             size: 0,
             report_size: 0,

@@ -11,6 +11,7 @@ use b3d_pieces_judge_step::Judge;
 use b3d_pieces_spec::Totals;
 use b3d_spec::Answer;
 use b3d_spec::letters;
+use layout::refusals;
 
 // The tag BB3D, which a file begins with, as a number.
 const OPENING: usize = letters::BB3D as usize;
@@ -48,8 +49,8 @@ fn ended(held: Now) -> Closing
 {
     match held {
         Now::Live(_, _, g, _) => Closing::Good(g),
-        Now::Push(_, _, _, _) => Closing::Bad(15, 0),
-        Now::Pop(_, _) => Closing::Bad(15, 0),
+        Now::Push(_, _, _, _) => Closing::Bad(refusals::CLOSED, 0),
+        Now::Pop(_, _) => Closing::Bad(refusals::CLOSED, 0),
         Now::Fault(n, p) => Closing::Bad(n, p),
         Now::Over(g) => Closing::Good(g),
     }
@@ -62,16 +63,16 @@ pub fn joined(j: Judge) -> Closing
 {
     let size = j.size;
     if size < 12 {
-        return Closing::Bad(1, 0);
+        return Closing::Bad(refusals::FILE_SIZE, 0);
     }
     if 16777216 < size {
-        return Closing::Bad(1, 0);
+        return Closing::Bad(refusals::FILE_SIZE, 0);
     }
     if j.letters != OPENING {
-        return Closing::Bad(2, 0);
+        return Closing::Bad(refusals::FIRST_TAG, 0);
     }
     if j.length != size - 8 {
-        return Closing::Bad(2, 4);
+        return Closing::Bad(refusals::FIRST_TAG, 4);
     }
     let now = j.now;
     match ended(now) {
@@ -81,7 +82,7 @@ pub fn joined(j: Judge) -> Closing
             if k == 0 {
                 return Closing::Good(g);
             }
-            Closing::Bad(10, k)
+            Closing::Bad(refusals::TOO_MANY_ROWS, k)
         }
     }
 }

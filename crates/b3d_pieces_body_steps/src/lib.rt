@@ -17,13 +17,14 @@ use b3d_pieces_spec::Part;
 use b3d_pieces_spec::Totals;
 use b3d_pieces_totals::headed;
 use b3d_spec::Tag;
+use layout::refusals;
 
 // Goes on at `at` with a text that began at `start`, or answers 5 at `start` if the chunk `f` ends here. `fixed` says that it is fixed data.
 pub fn text_from(fixed: bool, start: usize, at: usize, g: Totals, f: Open) -> Now
     ensures { λ r. ⌜ Gives 0 at g f r (textFrom fixed start at g f) ⌝ }
 {
     if at == f.end {
-        return Now::Fault(5, start);
+        return Now::Fault(refusals::CUT_ITEM, start);
     }
     Now::Live(at, Part::Text(fixed, start), g, f)
 }
@@ -74,7 +75,7 @@ pub fn fixed_row_from(at: usize, g: Totals, f: Open) -> Now
     let n = fixed_len(tag, g);
     let left = less(end, at);
     if wrong_for(tag, left, n) {
-        return Now::Fault(5, at);
+        return Now::Fault(refusals::CUT_ITEM, at);
     }
     if n == 0 {
         return fixed_done(at, NONE_KEPT, g, f);

@@ -19,6 +19,7 @@ use b3d_pieces_spec::NONE_KEPT;
 use b3d_pieces_spec::Open;
 use b3d_pieces_spec::Part;
 use b3d_pieces_spec::Totals;
+use layout::refusals;
 
 // Returns `k` with number `i` set to `w`; from `i` 3 on nothing is kept.
 pub fn keep(i: usize, w: usize, k: Kept) -> Kept
@@ -108,7 +109,7 @@ pub fn text_done(fixed: bool, start: usize, at: usize, g: Totals, f: Open) -> No
     let end = f.end;
     let left = less(end, at);
     if left / 4 < n {
-        return Now::Fault(5, start);
+        return Now::Fault(refusals::CUT_ITEM, start);
     }
     row_from(fixed, start, 0, at, NONE_KEPT, g, f)
 }

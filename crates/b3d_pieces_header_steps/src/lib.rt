@@ -17,6 +17,7 @@ use b3d_pieces_spec::Totals;
 use b3d_pieces_totals::node_begins;
 use b3d_rule_nesting_order::Permit;
 use b3d_spec::Tag;
+use layout::refusals;
 
 // Returns an open chunk of which nothing was read, with its header at `head`, `level` levels of nodes left and, as a NODE, the bone limit `told`.
 pub fn fresh(tag: Tag, head: usize, end: usize, level: usize, told: usize) -> Open
@@ -44,7 +45,7 @@ fn open_chunk(t: Tag, head: usize, e: usize, at: usize, g: Totals, f: Open) -> N
     let level = f.level;
     if texted(t) {
         if level == 0 {
-            return Now::Fault(9, head);
+            return Now::Fault(refusals::TOO_DEEP, head);
         }
         let told = g.below;
         let x = node_begins(g);
@@ -64,7 +65,7 @@ fn stand_here(t: Tag, head: usize, e: usize, at: usize, g: Totals, f: Open) -> N
     let turn = f.turn;
     let spent = f.spent;
     match stands(tag, turn, spent, t) {
-        Permit::No => Now::Fault(4, head),
+        Permit::No => Now::Fault(refusals::NESTING, head),
         Permit::Yes(reached) => {
             let mut y = f;
             y.turn = reached.turn as usize;
@@ -82,7 +83,7 @@ pub fn header_done(head: usize, tag: usize, n: usize, at: usize, g: Totals, f: O
     let end = f.end;
     let left = less(end, at);
     if left < n {
-        return Now::Fault(3, head);
+        return Now::Fault(refusals::CUT_CHUNK, head);
     }
     let word = tag as u32;
     match tag_of(word) {

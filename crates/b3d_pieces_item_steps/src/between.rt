@@ -14,6 +14,7 @@ use b3d_pieces_spec::Part;
 use b3d_pieces_spec::Totals;
 use b3d_pieces_totals::leave;
 use b3d_spec::Tag;
+use layout::refusals;
 
 // Returns `a - b`, or 0 if `b` is greater.
 pub fn less(a: usize, b: usize) -> usize
@@ -54,9 +55,9 @@ pub fn begin(at: usize, g: Totals, f: Open) -> Now
     let left = less(end, at);
     if left / 4 < n {
         if nests(tag) {
-            return Now::Fault(3, at);
+            return Now::Fault(refusals::CUT_CHUNK, at);
         }
-        return Now::Fault(5, at);
+        return Now::Fault(refusals::CUT_ITEM, at);
     }
     Now::Live(at, Part::Row(false, at, 0, 0, 0, NONE_KEPT), g, f)
 }
@@ -75,7 +76,7 @@ pub fn edge(at: usize, g: Totals, f: Open) -> Now
     let turn = f.turn;
     if required_missing(tag, turn) {
         let head = f.head;
-        return Now::Fault(8, head);
+        return Now::Fault(refusals::NO_VRTS_OR_TRIS, head);
     }
     let count = f.count;
     let kept = f.kept;

@@ -5,6 +5,7 @@ use mathlib.Core.Bool.{true, false}
 use mathlib.Core.List.{List}
 use lib.ListN.{length, getD}
 use lib.Dec.{ltb}
+use Rattle.layout.specs.Refusals as refusals
 use Rattle.b3d_pieces_spec.specs.declared.Open.{Open}
 use Rattle.b3d_pieces_spec.specs.Good.{Deep, load}
 use Rattle.b3d_pieces_spec.specs.Close.{closing}
@@ -68,7 +69,7 @@ pub record Decided (n : ℕ) (rs : ℕ → Open) (t : Round) : Type 0 where
   -- on a refusal, state and row are not as calls leave them
   pub unfit : (t .number ≡ 0 → ⊥) → CanRun (t .turn .judge) n rs → ⊥
   -- a refusal is 15
-  pub number : (t .number ≡ 0 → ⊥) → t .number ≡ 15
+  pub number : (t .number ≡ 0 → ⊥) → t .number ≡ refusals.closed
   -- the place is 0
   pub place : t .place ≡ 0
   -- after a refusal no round follows

@@ -7,6 +7,7 @@ use b3d_pieces_judge_step::Judge;
 use b3d_pieces_spec::Open;
 use b3d_pieces_valid_record::loads::rows_to_add;
 use b3d_pieces_valid_state::state::state_valid;
+use layout::refusals;
 
 // A decision: `go`, whether another round follows; `get`, the place of the record to read; `testing`, whether it is to be tested, and `load`, the rows that
 // those before it may still add; `number` and `place`, the refusal, or 0 and 0.
@@ -49,7 +50,7 @@ fn decided(j: Judge, load: usize, go: bool, get: usize) -> Decision
             place: 0,
         };
     }
-    refusal(15, 0)
+    refusal(refusals::CLOSED, 0)
 }
 
 // Returns the decision before any record is tested: 11 with size 19 if `records` is less; 15 after the close, or if more than 18 records are in use; else to
@@ -58,14 +59,14 @@ pub fn first_decision(j: Judge, records: usize, go: bool, get: usize) -> Decisio
     ensures { λ r. ⌜ FirstBy j records go get r ⌝ }
 {
     if records < 19 {
-        return refusal(11, 19);
+        return refusal(refusals::TOO_SHORT, 19);
     }
     if j.shut {
-        return refusal(15, 0);
+        return refusal(refusals::CLOSED, 0);
     }
     let depth = j.depth;
     if 18 < depth {
-        return refusal(15, 0);
+        return refusal(refusals::CLOSED, 0);
     }
     if depth == 0 {
         return decided(j, 0, go, get);

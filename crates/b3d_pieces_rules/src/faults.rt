@@ -10,6 +10,7 @@ use b3d_pieces_spec::Kept;
 use b3d_pieces_spec::Totals;
 use b3d_rule_colour::colour_ok;
 use b3d_spec::Tag;
+use layout::refusals;
 
 // Returns 0 if `w` is at most `m`, else 6.
 pub fn up_to(m: usize, w: usize) -> u32
@@ -18,7 +19,7 @@ pub fn up_to(m: usize, w: usize) -> u32
     if w <= m {
         return 0;
     }
-    6
+    refusals::RANGE
 }
 
 // Returns 0 if the id `w` is below `n`, else 7.
@@ -28,7 +29,7 @@ pub fn name(n: usize, w: usize) -> u32
     if w < n {
         return 0;
     }
-    7
+    refusals::NO_SUCH_ID
 }
 
 // Returns 0 if the id `w` is below `n` or is -1 (0xFFFFFFFF), else 7.
@@ -41,7 +42,7 @@ pub fn name_or_none(n: usize, w: usize) -> u32
     if w < n {
         return 0;
     }
-    7
+    refusals::NO_SUCH_ID
 }
 
 // Returns the refusal of number `i`, which is `w`, of a row with one number that is at most `m`; else 0.
@@ -104,7 +105,7 @@ pub fn colour(w: usize) -> u32
     if colour_ok(bits) {
         return 0;
     }
-    6
+    refusals::RANGE
 }
 
 // Returns the refusal of number `i`, which is `w`, of a brush: four colours, three other numbers, then `slots` texture ids, where there are `n` textures;

@@ -5,6 +5,7 @@ use mathlib.Core.List.{List, [], _∷_, _++_}
 use lib.Dec.{leb}
 use Rattle.wire.specs.Test.{if}
 use Rattle.layout.specs.Result.{Result, accept, reject, check, _>>=_}
+use Rattle.layout.specs.Refusals as refusals
 use Rattle.b3d_pieces_spec.specs.Close.{Held, freshHeld, piece, closing, answerOf}
 use Rattle.b3d_spec.specs.declared.Answer.{Answer}
 
@@ -24,8 +25,8 @@ freshPieces = record { held = freshHeld; shut = false }
 -- whether a call that is lent `lent` records is allowed: 11 with the size needed if they are too few, then 15 at place 0 after the close
 unfoldable pub allowed : ℕ → Pieces → Result (Unit {0})
 allowed lent p = do
-  _ ← check (leb records lent) 11 records
-  check (not (p .shut)) 15 0
+  _ ← check (leb records lent) refusals.tooShort records
+  check (not (p .shut)) refusals.closed 0
 
 -- the state after a call: q if the call is allowed, p as it was if it is refused
 unfoldable pub onCall : Result (Unit {0}) → Pieces → Pieces → Pieces

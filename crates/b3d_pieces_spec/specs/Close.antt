@@ -7,6 +7,7 @@ use lib.Dec.{eqb, leb}
 use Rattle.wire.specs.Test.{if}
 use Rattle.layout.specs.Result.{Result, accept, reject, check, _>>=_}
 use Rattle.layout.specs.Rows.{eachOf, sizeFits, mostBytes}
+use Rattle.layout.specs.Refusals as refusals
 use Rattle.b3d_spec.specs.declared.Tag.the-variants.{BB3D}
 use Rattle.b3d_spec.specs.Tags.{code}
 use Rattle.b3d_spec.specs.Rules.{levels, rowLimit}
@@ -82,22 +83,22 @@ ended (over g) = accept g
 
 -- what a file of `size` bytes comes to by check 2 and the machine; a file that ends inside BB3D's header is refused with 1
 unfoldable pub wholeEnded : ℕ → Whole → Result Totals
-wholeEnded size (heading i acc tag) = reject 1 0
+wholeEnded size (heading i acc tag) = reject refusals.fileSize 0
 wholeEnded size (inside tag n st) = do
-  _ ← check (eqb tag (code BB3D)) 2 0
-  _ ← check (eqb n (size - 8)) 2 4
+  _ ← check (eqb tag (code BB3D)) refusals.firstTag 0
+  _ ← check (eqb n (size - 8)) refusals.firstTag 4
   ended st
 
 -- check 10: the totals, if no table has more rows than the limit; else the lowest such table
 unfoldable pub limited : Totals → Result Totals
 limited g = do
-  _ ← eachOf 10 (λ (k : ℕ). leb (getD (countsOf g) (k - 1) 0) rowLimit) tables
+  _ ← eachOf refusals.tooManyRows (λ (k : ℕ). leb (getD (countsOf g) (k - 1) 0) rowLimit) tables
   accept g
 
 -- what all bytes joined come to, with 01's order of checks: 1, then 2, then the machine's refusal, then 10; else the totals
 unfoldable pub closing : Held → Result Totals
 closing h = do
-  _ ← check (sizeFits (h .size)) 1 0
+  _ ← check (sizeFits (h .size)) refusals.fileSize 0
   g ← wholeEnded (h .size) (h .whole)
   limited g
 

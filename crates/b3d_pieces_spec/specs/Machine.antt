@@ -9,6 +9,7 @@ use lib.ListN.{length}
 use lib.Dec.{eqb, ltb}
 use Rattle.wire.specs.Test.{if}
 use Rattle.layout.specs.Rules.{Rule, holds, refusal}
+use Rattle.layout.specs.Refusals as refusals
 use Rattle.b3d_spec.specs.declared.Tag.{Tag}
 use Rattle.b3d_spec.specs.declared.Tag.the-variants.{NODE}
 use Rattle.b3d_spec.specs.Tags.{is, tagOf}
@@ -69,7 +70,7 @@ unfoldable pub edge : ℕ → Totals → List Open → State
 edge at g [] = over g
 edge at g (f ∷ R) =
     let out = edge at (closed (f .tag) (f .count) (f .kept) (f .told) g) R in
-    let leave = if (requiredBetween (nesting (f .tag)) (f .turn) end) (fault 8 (f .head)) out in
+    let leave = if (requiredBetween (nesting (f .tag)) (f .turn) end) (fault refusals.noVrtsOrTris (f .head)) out in
     let on = begin at g f R in
     if (eqb at (f .end)) leave on
 
@@ -77,7 +78,7 @@ edge at g (f ∷ R) =
 
 -- a text that began at `start` goes on at `at`; 5 at `start` if the chunk ends here
 unfoldable pub textFrom : Bool → ℕ → ℕ → Totals → Open → List Open → State
-textFrom fixed start at g f R = if (eqb at (f .end)) (fault 5 start) (live at (Text fixed start) g f R)
+textFrom fixed start at g f R = if (eqb at (f .end)) (fault refusals.cutItem start) (live at (Text fixed start) g f R)
 
 -- the fixed data k of f was read: f's items, or the chunks inside it, begin
 unfoldable pub fixedDone : ℕ → Kept → Totals → Open → List Open → State
@@ -88,7 +89,7 @@ unfoldable pub fixedRowFrom : ℕ → Totals → Open → List Open → State
 fixedRowFrom at g f R =
     let none = fixedDone at noneKept g f R in
     let some = if (eqb 0 (length (fixedRow (f .tag) g))) none (live at (Row true at 0 0 0 noneKept) g f R) in
-    if (wrongFor (f .tag) (f .end - at) (4 * length (fixedRow (f .tag) g))) (fault 5 at) some
+    if (wrongFor (f .tag) (f .end - at) (4 * length (fixedRow (f .tag) g))) (fault refusals.cutItem at) some
 
 -- the body of f begins at `at`: with a text (true; only a NODE's does), or with the numbers of its fixed data
 unfoldable pub enter : Bool → ℕ → Totals → Open → List Open → State
@@ -97,7 +98,7 @@ enter false at g f R = fixedRowFrom at g f R
 
 -- a NODE with its header at `head` and its end at e begins; 9 at the header if no level is left
 unfoldable pub enterNode : ℕ → ℕ → ℕ → ℕ → Totals → List Open → State
-enterNode zero head e at g R = fault 9 head
+enterNode zero head e at g R = fault refusals.tooDeep head
 enterNode (suc l) head e at g R = enter true at (entered g) (fresh NODE head e l (g .below)) R
 
 -- a chunk begins inside f: a NODE (true), or a chunk of another tag t
@@ -115,7 +116,7 @@ skipFrom until at g f R = if (eqb at until) (edge at g (f ∷ R)) (live at (Skip
 
 -- a chunk of known tag t inside f: 4 at its header if the nesting rule has no place for it, else it begins
 unfoldable pub stand : Option Reached → Tag → ℕ → ℕ → ℕ → Totals → Open → List Open → State
-stand none t head e at g f R = fault 4 head
+stand none t head e at g f R = fault refusals.nesting head
 stand (some r) t head e at g f R = opened t head e at g (reaching f r) R
 
 -- a chunk inside f: with an unknown tag (none) it is passed over, with a known one it is held to the nesting rule
@@ -125,7 +126,7 @@ known (some t) head e at g f R = stand (next (nesting (f .tag)) (nesting (f .tag
 
 -- a header at `head` with this tag and the length n was read: 3 at the header if the chunk runs past f
 unfoldable pub headerDone : ℕ → ℕ → ℕ → ℕ → Totals → Open → List Open → State
-headerDone head tag n at g f R = if (ltb (f .end - at) n) (fault 3 head) (known (tagOf tag) head (at + n) at g f R)
+headerDone head tag n at g f R = if (ltb (f .end - at) n) (fault refusals.cutChunk head) (known (tagOf tag) head (at + n) at g f R)
 
 -- ---- numbers
 
@@ -156,7 +157,7 @@ wordDone fixed start i w at k g f R =
 unfoldable pub textDone : Bool → ℕ → ℕ → Totals → Open → List Open → State
 textDone fixed start at g f R =
     let on = rowFrom fixed start 0 at noneKept g f R in
-    if (ltb (f .end - at) (4 * length (rules fixed f g))) (fault 5 start) on
+    if (ltb (f .end - at) (4 * length (rules fixed f g))) (fault refusals.cutItem start) on
 
 -- ---- a byte
 

@@ -12,6 +12,7 @@ use b3d_pieces_judge_step::Judge;
 use b3d_pieces_judge_step::taking::nothing;
 use b3d_pieces_valid_state::state::judge_valid;
 use b3d_pieces_words_loop::run;
+use layout::refusals;
 
 // Returns the state before the first piece of a file.
 pub fn start() -> Judge
@@ -36,14 +37,14 @@ pub fn judge_piece(state: Judge, row: &mut [usize], piece: &[u8]) -> Fed
 {
     if row.len() < 209 {
         return Fed {
-            number: 11,
+            number: refusals::TOO_SHORT,
             place: 19,
             judge: state,
         };
     }
     if state.shut {
         return Fed {
-            number: 15,
+            number: refusals::CLOSED,
             place: 0,
             judge: state,
         };
@@ -57,7 +58,7 @@ pub fn judge_piece(state: Judge, row: &mut [usize], piece: &[u8]) -> Fed
         };
     }
     Fed {
-        number: 15,
+        number: refusals::CLOSED,
         place: 0,
         judge: state,
     }
@@ -68,13 +69,13 @@ pub fn judge_close(state: Judge, row: &[usize]) -> Closed
     ensures { λ r. ⌜ CloseIs words state (now (row .entry)) (r .answer) (r .judge) ⌝ }
 {
     if row.len() < 209 {
-        let few = refused(11, 19);
+        let few = refused(refusals::TOO_SHORT, 19);
         return Closed {
             answer: few,
             judge: state,
         };
     }
-    let late = refused(15, 0);
+    let late = refused(refusals::CLOSED, 0);
     let shut = state.shut;
     if shut {
         return Closed {

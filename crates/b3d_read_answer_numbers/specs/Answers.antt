@@ -3,6 +3,7 @@ use Prim.Native.Nat.{ℕ}
 use lib.Dec.{eqb}
 use Rattle.wire.specs.Test.{if}
 use Rattle.layout.specs.Result.{reject}
+use Rattle.layout.specs.Refusals as refusals
 use Rattle.b3d_spec.specs.declared.Answer.{Answer}
 use Rattle.b3d_spec.specs.Answers.{answer}
 use Rattle.b3d_spec.specs.Tables.{width, tables}
@@ -18,4 +19,4 @@ acceptedAs version slots t = record { number = 0; place = 0; version = version; 
 unfoldable pub roomAnswer : ℕ → ℕ → Tally → (ℕ → ℕ) → Answer
 roomAnswer version slots t room =
     let short = firstShort width (numberOf (countsIn t)) room tables in
-    if (eqb short 0) (acceptedAs version slots t) (answer (reject 11 short))
+    if (eqb short 0) (acceptedAs version slots t) (answer (reject refusals.tooShort short))

@@ -9,6 +9,7 @@ ghost use Rattle.b3d_judge_limits.specs.Limits.{TallyLimited};
 ghost use Rattle.b3d_read_answer_numbers.specs.Answers.{acceptedAs, roomAnswer};
 use b3d_judge_tally::Tally;
 use b3d_spec::Answer;
+use layout::refusals;
 
 // Returns the answer for a refusal: `number` and `place`, with version, n_texs and counts all 0.
 pub fn refused(number: u32, place: usize) -> Answer
@@ -71,7 +72,7 @@ pub fn with_room(
 {
     let short = b3d_judge_limits::first_short(t, l1, l2, l3, l4, l5, l6, l7, l8, l9, l10);
     if short != 0 {
-        return refused(11, short);
+        return refused(refusals::TOO_SHORT, short);
     }
     accepted(version, slots, t)
 }

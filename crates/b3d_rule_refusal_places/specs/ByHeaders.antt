@@ -9,6 +9,7 @@ use lib.ListN.{length, take, drop}
 use Rattle.wire.specs.Bytes.{wordAt}
 use Rattle.layout.specs.Result.{accept}
 use Rattle.layout.specs.Parts.{Name, Step, named}
+use Rattle.layout.specs.Refusals as refusals
 use Rattle.b3d_spec.specs.declared.Tag.{Tag}
 use Rattle.b3d_spec.specs.declared.Tag.the-variants.{BB3D, TEXS, BRUS, NODE, MESH, VRTS, TRIS, BONE, KEYS, ANIM}
 use Rattle.b3d_spec.specs.Nesting.{Reached, start}
@@ -81,4 +82,4 @@ InFile s E = Meets s E BB3D 0 12 (length s) start
 
 -- refusal n at p comes before what is met at place m: p is a lower place; or n is a 5 at p, of a chunk that ends at m without the fixed data that it needs
 abbrev pub Sooner : ℕ → ℕ → ℕ → Type 0
-Sooner m n p = (p < m) ⊎ ((p ≤ m) × (n ≡ 5))
+Sooner m n p = (p < m) ⊎ ((p ≤ m) × (n ≡ refusals.cutItem))

@@ -10,6 +10,7 @@ use Rattle.wire.specs.Bytes.{wordAt}
 use Rattle.layout.specs.Result.{accept, reject}
 use Rattle.layout.specs.Parts.{Name, Step, named}
 use Rattle.layout.specs.Rules.{any, unit, holds}
+use Rattle.layout.specs.Refusals as refusals
 use Rattle.b3d_spec.specs.declared.Mode.the-variants.{Strict, Lenient}
 use Rattle.b3d_spec.specs.declared.Tag.{Tag}
 use Rattle.b3d_spec.specs.declared.Tag.the-variants.{BRUS, VRTS}
@@ -65,10 +66,10 @@ Colour s p = InFile s (HasColour s p)
 -- E8: what the strict mode says of the colours of the file s
 pub record GivenAtColours (s : List ℕ) : Type 0 where
   -- a 6 that the lenient mode does not give is at a colour that does not pass
-  pub colour : (p : ℕ) → judge Strict s ≡ reject 6 p → (judge Lenient s ≡ reject 6 p → ⊥) → Colour s p × (holds unit (wordAt s p) ≡ false)
+  pub colour : (p : ℕ) → judge Strict s ≡ reject refusals.range p → (judge Lenient s ≡ reject refusals.range p → ⊥) → Colour s p × (holds unit (wordAt s p) ≡ false)
   -- each colour at a lower place than a 6 passes
-  pub first : (p q : ℕ) → judge Strict s ≡ reject 6 p → Colour s q → q < p → holds unit (wordAt s q) ≡ true
+  pub first : (p q : ℕ) → judge Strict s ≡ reject refusals.range p → Colour s q → q < p → holds unit (wordAt s q) ≡ true
   -- a colour that does not pass is refused with 6 at its place, unless another refusal comes sooner
-  pub given : (p : ℕ) → Colour s p → holds unit (wordAt s p) ≡ false → (judge Strict s ≡ reject 6 p) ⊎ ((i : ℕ) × (q : ℕ) × (judge Strict s ≡ reject i q) × Sooner p i q)
+  pub given : (p : ℕ) → Colour s p → holds unit (wordAt s p) ≡ false → (judge Strict s ≡ reject refusals.range p) ⊎ ((i : ℕ) × (q : ℕ) × (judge Strict s ≡ reject i q) × Sooner p i q)
   -- 10 is never given for a file with a colour that does not pass
-  pub before-ten : (p q : ℕ) → Colour s p → holds unit (wordAt s p) ≡ false → judge Strict s ≡ reject 10 q → ⊥
+  pub before-ten : (p q : ℕ) → Colour s p → holds unit (wordAt s p) ≡ false → judge Strict s ≡ reject refusals.tooManyRows q → ⊥

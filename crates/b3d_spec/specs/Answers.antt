@@ -10,6 +10,7 @@ use Rattle.wire.specs.Bytes.{over}
 use Rattle.wire.specs.Test.{if}
 use Rattle.layout.specs.Result.{Result, accept, reject, check, _>>=_}
 use Rattle.layout.specs.Rows.{eachOf, mostBytes}
+use Rattle.layout.specs.Refusals as refusals
 use Rattle.b3d_spec.specs.declared.Mode.{Mode}
 use Rattle.b3d_spec.specs.declared.Mode.the-variants.{Lenient}
 use Rattle.b3d_spec.specs.Scene.{Scene}
@@ -33,14 +34,14 @@ firstNot ok (k ∷ ks) = if (ok k) (firstNot ok ks) k
 unfoldable pub judge : Mode → List ℕ → Result Scene
 judge mode s = do
   t ← parse mode s
-  _ ← eachOf 10 (λ k. leb (length (rows k t)) rowLimit) tables
+  _ ← eachOf refusals.tooManyRows (λ k. leb (length (rows k t)) rowLimit) tables
   accept t
 
 -- what the file s says in a mode to a reader lent tables of room k words: refusals 1 to 10, then 11 at the lowest table that is too short for its rows
 unfoldable pub read : Mode → (ℕ → ℕ) → List ℕ → Result Scene
 read mode room s = do
   t ← judge mode s
-  _ ← eachOf 11 (λ k. leb (width k * length (rows k t)) (room k)) tables
+  _ ← eachOf refusals.tooShort (λ k. leb (width k * length (rows k t)) (room k)) tables
   accept t
 
 -- the reader's answer: number and place, version, n_texs and the ten row counts; where refused, version, n_texs and counts are 0
@@ -66,14 +67,14 @@ readTable mode k room s xs = tableAfter k (read mode room s) xs
 -- the bytes b, if an output of `room` bytes has room for them; else 11 with their number as its place
 unfoldable pub roomFor : ℕ → List ℕ → Result (List ℕ)
 roomFor room b = do
-  _ ← check (leb (length b) room) 11 (length b)
+  _ ← check (leb (length b) room) refusals.tooShort (length b)
   accept b
 
 -- the shortest file of the scene of sound tables; 12 at 0, what 01 calls unsound, where there is no scene or its file is over the size limit
 unfoldable pub shortest : Option Scene → Result (List ℕ)
-shortest none = reject 12 0
+shortest none = reject refusals.noSuchTables 0
 shortest (some t) = do
-  _ ← check (leb (length (encode t)) mostBytes) 12 0
+  _ ← check (leb (length (encode t)) mostBytes) refusals.noSuchTables 0
   accept (encode t)
 
 -- the file that the writer makes in a mode of the lent tables T, with names in ns, for an output of `room` bytes: 12 comes before 11

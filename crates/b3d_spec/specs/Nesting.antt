@@ -7,6 +7,7 @@ use mathlib.Core.List.{List, [], _∷_}
 use lib.Dec.{eqb, ltb}
 use Rattle.wire.specs.Test.{if}
 use Rattle.layout.specs.Chunks.{done, stop, chunk}
+use Rattle.layout.specs.Refusals as refusals
 use Rattle.b3d_spec.specs.declared.Tag.{Tag}
 use Rattle.b3d_spec.specs.declared.Tag.the-variants.{BB3D, TEXS, BRUS, NODE, MESH, VRTS, TRIS, BONE, KEYS, ANIM}
 use Rattle.b3d_spec.specs.Tags.{is, Chunks, split}
@@ -87,13 +88,13 @@ next all (entry k turn often ∷ l) r t =
 
 -- goes on by `go` if a chunk at p may stand there, else 4 at p
 unfoldable pub onward : Option Reached → ℕ → (Reached → Chunks) → Chunks
-onward none p go = stop 4 p
+onward none p go = stop refusals.nesting p
 onward (some r) p go = go r
 
 -- the chunks inside a chunk of tag k whose header is at `head`, after chunks that came to r: cut short by 4 at the first one that may not stand where it
 -- does, ended by 8 at `head` where a tag that must stand is missing
 unfoldable pub order : Tag → ℕ → Reached → Chunks → Chunks
-order k head r done = if (requiredBetween (nesting k) (r .turn) end) (stop 8 head) done
+order k head r done = if (requiredBetween (nesting k) (r .turn) end) (stop refusals.noVrtsOrTris head) done
 order k head r (stop n p) = stop n p
 order k head r (chunk t p b l) = onward (next (nesting k) (nesting k) r t) p (λ q. chunk t p b (order k head q l))
 

@@ -10,6 +10,7 @@ use Rattle.layout.specs.Chunks.{done, stop, chunk, ended}
 use Rattle.layout.specs.Result.{Result, accept, reject, check, _>>=_}
 use Rattle.layout.specs.Parts.{Name, Step, row, number, named, items}
 use Rattle.layout.specs.Rows.{sizeFits}
+use Rattle.layout.specs.Refusals as refusals
 use Rattle.b3d_spec.specs.Nesting.{inside}
 use Rattle.b3d_spec.specs.Rules.{textureRow, brushRow, brushIds, nodeRow, vertexRow, triangleRow, weightRow, keyRow, animRow, boneLimit, boneLimitBelow, levels, header, fileHead, brushesHead, meshHead, verticesHead, trianglesHead, keysHead}
 use Rattle.b3d_spec.specs.Scene.{Texture, Brush, TriangleSet, Mesh, Kind, pivot, mesh, bone, Keys, Anim, noAnim, anim, Data, Forest, noNodes, node, Scene}
@@ -121,7 +122,7 @@ readKeys p b = do
 -- the words ws where no byte is left behind them; else 5 at p
 unfoldable pub filled : ℕ → List ℕ → List ℕ → Result (List ℕ)
 filled p [] ws = accept ws
-filled p (c ∷ s) ws = reject 5 p
+filled p (c ∷ s) ws = reject refusals.cutItem p
 
 -- the body b of an ANIM whose header is at p: three words, and 5 where the length is not 12
 unfoldable pub readAnim : ℕ → List ℕ → Result (List ℕ)
@@ -194,7 +195,7 @@ readBelow one above d cs = do
 
 -- the body b of a NODE whose header is at p, with l levels left: 9 at p with none. `above`: how many vertices its bones may name, none for the root
 unfoldable pub readNode : Mode → ℕ → ℕ → Option ℕ → ℕ → List ℕ → Result Inner
-readNode mode zero brushes above p b = reject 9 p
+readNode mode zero brushes above p b = reject refusals.tooDeep p
 readNode mode (suc l) brushes above p b = do
   h ← named nodeRow (p + 8) b
   k ← readKind mode brushes (boneLimit above) (inside NODE p (h .place) (h .left))
@@ -229,8 +230,8 @@ readBody mode p b = do
 -- what the file s says in a mode, or its first refusal 1 to 9: one BB3D, whose length is that of the bytes after its header
 unfoldable pub parse : Mode → List ℕ → Result Scene
 parse mode s = do
-  _ ← check (sizeFits (length s)) 1 0
+  _ ← check (sizeFits (length s)) refusals.fileSize 0
   h ← row header 0 s
-  _ ← check (eqb (number h 0) (code BB3D)) 2 0
-  _ ← check (eqb (number h 1) (length (h .left))) 2 4
+  _ ← check (eqb (number h 0) (code BB3D)) refusals.firstTag 0
+  _ ← check (eqb (number h 1) (length (h .left))) refusals.firstTag 4
   readBody mode (h .place) (h .left)

@@ -7,6 +7,7 @@ use lib.ListN.{length, take, drop}
 use Rattle.wire.specs.Bytes.{AllBytes}
 use Rattle.layout.specs.Lists.{All}
 use Rattle.layout.specs.Result.{accept, reject}
+use Rattle.layout.specs.Refusals as refusals
 use Rattle.b3d_spec.specs.declared.Mode.{Mode}
 use Rattle.b3d_spec.specs.declared.Mode.the-variants.{Lenient}
 use Rattle.b3d_spec.specs.Answers.{judge, read, readTable, writeAnswer, copy, clearAnswer, clearOutput}
@@ -28,13 +29,13 @@ pub record ReaderSays (mode : Mode) (room : ℕ → ℕ) (s : List ℕ) (a : Ans
   -- 0 wherever the file is read
   pub zero : (t : Scene) → read mode room s ≡ accept t → a .number ≡ 0
   -- any other number is 1 to 11
-  pub most : a .number ≤ 11
+  pub most : a .number ≤ refusals.tooShort
   -- a refused call changes no lent word
   pub untouched : (a .number ≡ 0 → ⊥) → (k : ℕ) (xs : List ℕ) → readTable mode k room s xs ≡ xs
   -- 10: the file keeps the layout rules, and the place is the lowest table with more rows than the limit
-  pub ten : a .number ≡ 10 → (t : Scene) × (parse mode s ≡ accept t) × Lowest (FewRows t) (a .place)
+  pub ten : a .number ≡ refusals.tooManyRows → (t : Scene) × (parse mode s ≡ accept t) × Lowest (FewRows t) (a .place)
   -- 11: no table has, and the place is the lowest that is lent too short
-  pub eleven : a .number ≡ 11 → (t : Scene) × (judge mode s ≡ accept t) × Lowest (HasRoom room t) (a .place)
+  pub eleven : a .number ≡ refusals.tooShort → (t : Scene) × (judge mode s ≡ accept t) × Lowest (HasRoom room t) (a .place)
 
 -- ---- an answer, and the output afterwards
 
@@ -52,19 +53,19 @@ pub record Leaves (out : List ℕ) (a : Written) (after : List ℕ) : Type 0 whe
 -- what the writer's answer `a` and the output afterwards, `after`, say
 pub record WriterSays (mode : Mode) (T : Lent) (ns out : List ℕ) (a : Written) (after : List ℕ) : Type 0 where
   -- the number is 0, 11 or 12
-  pub numbers : (a .number ≡ 0) ⊎ ((a .number ≡ 11) ⊎ (a .number ≡ 12))
+  pub numbers : (a .number ≡ 0) ⊎ ((a .number ≡ refusals.tooShort) ⊎ (a .number ≡ refusals.noSuchTables))
   -- the output past what is written stays as found
   pub leaves : Leaves out a after
   -- 12, at place 0, only where no accepted file has the tables
-  pub twelve : a .number ≡ 12 → (a .place ≡ 0) × ((s : List ℕ) → AllBytes s → Has mode s T ns → ⊥)
+  pub twelve : a .number ≡ refusals.noSuchTables → (a .place ≡ 0) × ((s : List ℕ) → AllBytes s → Has mode s T ns → ⊥)
   -- 12 wherever no accepted file has the tables
-  pub no-file : ((s : List ℕ) → AllBytes s → Has mode s T ns → ⊥) → a .number ≡ 12
+  pub no-file : ((s : List ℕ) → AllBytes s → Has mode s T ns → ⊥) → a .number ≡ refusals.noSuchTables
   -- 0: the output begins with a file that has the tables
   pub zero : a .number ≡ 0 → (a .place ≡ 0) × AllBytes (take (a .size) after) × Has mode (take (a .size) after) T ns
   -- 0: the reader, lent at least the counted rows, reads that file back as the tables
   pub read-back : a .number ≡ 0 → (xs : ℕ → List ℕ) → All (λ k. width k * T .count k ≤ length (xs k)) tables → ReadBack mode (take (a .size) after) T ns xs
   -- 11: the place is the size of a file that has the tables, and the output has no room for it
-  pub eleven : a .number ≡ 11 → (length out < a .place) × ((b : List ℕ) × (length b ≡ a .place) × AllBytes b × Has mode b T ns)
+  pub eleven : a .number ≡ refusals.tooShort → (length out < a .place) × ((b : List ℕ) × (length b ≡ a .place) × AllBytes b × Has mode b T ns)
   -- no file with those tables is shorter than the size written, or than the place of an 11
   pub least : (s : List ℕ) → AllBytes s → Has mode s T ns → (a .size ≤ length s) × (a .place ≤ length s)
   -- an output with room for some file that has the tables gets 0
@@ -75,7 +76,7 @@ pub record WriterSays (mode : Mode) (T : Lent) (ns out : List ℕ) (a : Written)
 -- what the clearer's answer `a` and the output afterwards, `after`, say
 pub record ClearerSays (s out : List ℕ) (a : Written) (after : List ℕ) : Type 0 where
   -- the number is 0 to 11
-  pub most : a .number ≤ 11
+  pub most : a .number ≤ refusals.tooShort
   -- the output past the copy stays as found
   pub leaves : Leaves out a after
   -- 0: the file is accepted, and the output begins with its copy
@@ -83,15 +84,15 @@ pub record ClearerSays (s out : List ℕ) (a : Written) (after : List ℕ) : Typ
   -- 0: the reader, lent at least the counted rows, reads the copy back with the file's words and each name empty
   pub read-back : (t : Scene) → judge Lenient s ≡ accept t → a .number ≡ 0 → (ns : List ℕ) (xs : ℕ → List ℕ) → All (HasRoom (λ k. length (xs k)) t) tables → ReadBack Lenient (take (a .size) after) (emptied t) ns xs
   -- 11 only where the output is shorter than the copy of an accepted file; the place is the copy's length
-  pub eleven : a .number ≡ 11 → (t : Scene) × (judge Lenient s ≡ accept t) × (length out < length (copy t)) × (a .place ≡ length (copy t))
+  pub eleven : a .number ≡ refusals.tooShort → (t : Scene) × (judge Lenient s ≡ accept t) × (length out < length (copy t)) × (a .place ≡ length (copy t))
   -- 11 wherever the output is shorter than the copy of an accepted file
-  pub short : (t : Scene) → judge Lenient s ≡ accept t → length out < length (copy t) → a .number ≡ 11
+  pub short : (t : Scene) → judge Lenient s ≡ accept t → length out < length (copy t) → a .number ≡ refusals.tooShort
   -- 0 wherever the output has room for the copy of an accepted file
   pub enough : (t : Scene) → judge Lenient s ≡ accept t → length (copy t) ≤ length out → a .number ≡ 0
   -- a file that is not accepted gets the reader's refusal, 1 to 10
   pub first : (n p : ℕ) → judge Lenient s ≡ reject n p → a ≡ record { number = n; place = p; size = 0 }
   -- 10: the file keeps the layout rules, and the place is the lowest table with more rows than the limit
-  pub ten : a .number ≡ 10 → (t : Scene) × (parse Lenient s ≡ accept t) × Lowest (FewRows t) (a .place)
+  pub ten : a .number ≡ refusals.tooManyRows → (t : Scene) × (parse Lenient s ≡ accept t) × Lowest (FewRows t) (a .place)
   -- what 01 calls cleared again: the copy's bytes alone as the file, into another output as long, get the same answer
   pub again : (t : Scene) → judge Lenient s ≡ accept t → (out′ : List ℕ) → length out ≡ length out′ → clearAnswer (copy t) out′ ≡ a
   -- where it is not refused, the copy cleared again gives its own bytes

@@ -10,6 +10,7 @@ use Rattle.wire.specs.Bytes.{AllBytes, over, wordAt}
 use Rattle.layout.specs.Result.{accept, reject}
 use Rattle.layout.specs.Rules.{unit, holds as keeps}
 use Rattle.layout.specs.Lists.{All}
+use Rattle.layout.specs.Refusals as refusals
 use Rattle.b3d_spec.specs.declared.Mode.{Mode}
 use Rattle.b3d_spec.specs.declared.Mode.the-variants.{Strict, Lenient}
 use Rattle.b3d_spec.specs.Answers.{judge, read, readAnswer, readTable, write, copy, clear}
@@ -64,16 +65,16 @@ pub record Reading (mode : Mode) (room : ℕ → ℕ) (s : List ℕ) : Type 0 wh
   -- 1 to 10 come first, whatever tables are lent
   pub first : (n p : ℕ) → judge mode s ≡ reject n p → read mode room s ≡ reject n p
   -- 10 is at the lowest table with more rows than the limit
-  pub limit : (t : Scene) → parse mode s ≡ accept t → (p : ℕ) → Lowest (FewRows t) p → read mode room s ≡ reject 10 p
+  pub limit : (t : Scene) → parse mode s ≡ accept t → (p : ℕ) → Lowest (FewRows t) p → read mode room s ≡ reject refusals.tooManyRows p
   -- 11 is at the lowest table that is lent too short
-  pub short : (t : Scene) → judge mode s ≡ accept t → (p : ℕ) → Lowest (HasRoom room t) p → read mode room s ≡ reject 11 p
+  pub short : (t : Scene) → judge mode s ≡ accept t → (p : ℕ) → Lowest (HasRoom room t) p → read mode room s ≡ reject refusals.tooShort p
 
 -- Demand 2 on the writer in a mode, for lent tables T with names in ns.
 pub record Writing (mode : Mode) (T : Lent) (ns : List ℕ) : Type 0 where
   -- 12 only where no accepted file has those names and, name places aside, those words
-  pub unsound : (room : ℕ) → write mode T ns room ≡ reject 12 0 → (s : List ℕ) → AllBytes s → Has mode s T ns → ⊥
+  pub unsound : (room : ℕ) → write mode T ns room ≡ reject refusals.noSuchTables 0 → (s : List ℕ) → AllBytes s → Has mode s T ns → ⊥
   -- 12 wherever no accepted file has those names and words
-  pub no-file : ((s : List ℕ) → AllBytes s → Has mode s T ns → ⊥) → (room : ℕ) → write mode T ns room ≡ reject 12 0
+  pub no-file : ((s : List ℕ) → AllBytes s → Has mode s T ns → ⊥) → (room : ℕ) → write mode T ns room ≡ reject refusals.noSuchTables 0
   -- the file written is accepted and has just those names and words
   pub reads-back : (room : ℕ) (b : List ℕ) → write mode T ns room ≡ accept b → Has mode b T ns
   -- the reader, lent at least the counted rows, reads it back
@@ -85,7 +86,7 @@ pub record Writing (mode : Mode) (T : Lent) (ns : List ℕ) : Type 0 where
   -- one file is written into every output that has room for it
   pub enough : (room : ℕ) (b : List ℕ) → write mode T ns room ≡ accept b → (more : ℕ) → length b ≤ more → write mode T ns more ≡ accept b
   -- an output with less room gets 11 and the file's size, which comes after 12
-  pub short : (room : ℕ) (b : List ℕ) → write mode T ns room ≡ accept b → (less : ℕ) → less < length b → write mode T ns less ≡ reject 11 (length b)
+  pub short : (room : ℕ) (b : List ℕ) → write mode T ns room ≡ accept b → (less : ℕ) → less < length b → write mode T ns less ≡ reject refusals.tooShort (length b)
   -- an output as long as some file that has the tables has room for the file written
   pub given-room : (s : List ℕ) → AllBytes s → Has mode s T ns → (b : List ℕ) × (write mode T ns (length s) ≡ accept b)
 
@@ -98,9 +99,9 @@ pub record Colours (s : List ℕ) : Type 0 where
   -- a file that the lenient mode accepts, and each of whose colours passes, is accepted by the strict one
   pub taken : (t : Scene) → judge Lenient s ≡ accept t → T (passes Strict (λ k. rows k t)) → judge Strict s ≡ accept t
   -- if one of its colours does not pass, the strict mode refuses it with 6, at a number of the file that does not pass
-  pub refused : (t : Scene) → judge Lenient s ≡ accept t → T (not (passes Strict (λ k. rows k t))) → (p : ℕ) × (judge Strict s ≡ reject 6 p) × (keeps unit (wordAt s p) ≡ false)
+  pub refused : (t : Scene) → judge Lenient s ≡ accept t → T (not (passes Strict (λ k. rows k t))) → (p : ℕ) × (judge Strict s ≡ reject refusals.range p) × (keeps unit (wordAt s p) ≡ false)
   -- each other refusal of the strict mode is the lenient one's
-  pub others : (n p : ℕ) → judge Strict s ≡ reject n p → (judge Lenient s ≡ reject n p) ⊎ ((n ≡ 6) × (keeps unit (wordAt s p) ≡ false))
+  pub others : (n p : ℕ) → judge Strict s ≡ reject n p → (judge Lenient s ≡ reject n p) ⊎ ((n ≡ refusals.range) × (keeps unit (wordAt s p) ≡ false))
 
 -- Two files, accepted in lenient mode, alike in what 01 calls a file's words: version, texture slots, row counts and every table word but the places and
 -- lengths of names. The rows are compared as lists, so the counts with them.
@@ -130,7 +131,7 @@ pub record Clearing (s : List ℕ) : Type 0 where
   -- an accepted file is cleared into each output that has room for its copy
   pub enough : (t : Scene) → judge Lenient s ≡ accept t → (room : ℕ) → length (copy t) ≤ room → clear s room ≡ accept (copy t)
   -- it is refused with 11, at the copy's length, where the output is shorter than the copy
-  pub short : (t : Scene) → judge Lenient s ≡ accept t → (room : ℕ) → room < length (copy t) → clear s room ≡ reject 11 (length (copy t))
+  pub short : (t : Scene) → judge Lenient s ≡ accept t → (room : ℕ) → room < length (copy t) → clear s room ≡ reject refusals.tooShort (length (copy t))
   -- the copy is what the writer makes of the copy's words: those of the file with each name empty, wherever the names stand
   pub as-written : (t : Scene) → judge Lenient s ≡ accept t → (T : Lent) (ns : List ℕ) → Has Lenient (copy t) T ns → (room : ℕ) → write Lenient T ns room ≡ clear s room
   -- the file's own tables with each name empty are such words, whatever bytes are lent for names

@@ -2,6 +2,7 @@
 ghost use Prim.Native.Nat.{_<_};
 ghost use Rattle.b3d_spec_output_answer.specs.Sizes.{OfSize};
 use b3d_spec::Written;
+use layout::refusals;
 
 // Returns the answer for `size` bytes and an output of `room` bytes: 11 and `size` if it is too short, else 0 and `size` as the size written.
 pub fn answer_of(size: usize, room: usize) -> Written
@@ -10,7 +11,7 @@ pub fn answer_of(size: usize, room: usize) -> Written
 {
     if room < size {
         return Written {
-            number: 11,
+            number: refusals::TOO_SHORT,
             place: shared_table_words::cell(size),
             size: 0,
         };

@@ -3,6 +3,7 @@ ghost use Rattle.b3d_check.specs.Lent.{lentOf};
 ghost use Rattle.b3d_write.specs.Writes.{Writes};
 use b3d_spec::Mode;
 use b3d_spec::Written;
+use layout::refusals;
 
 // Writes the shortest file that has the tables `t1` to `t10`, `counts`, `version` and n_texs (`slots`), with names in `names`, to the start of `out`. Returns
 // 0 and the size written; 12 where no file that `mode` accepts has them; 11 with the size needed where `out` is too short. Where refused `out` stays as it
@@ -30,7 +31,7 @@ pub fn write(
         (now (t6 .entry)) (now (t7 .entry)) (now (t8 .entry)) (now (t9 .entry)) (now (t10 .entry))) (now (names .entry)) (now (out .entry)) (now (out .exit)) r ⌝ }
 {
     let unsound = Written {
-        number: 12,
+        number: refusals::NO_SUCH_TABLES,
         place: 0,
         size: 0,
     };
@@ -62,7 +63,7 @@ pub fn write(
     }
     if out.len() < size {
         return Written {
-            number: 11,
+            number: refusals::TOO_SHORT,
             place: size as u32,
             size: 0,
         };

@@ -7,6 +7,7 @@ use Rattle.layout.specs.Result.{Result, accept, reject, check, _>>=_}
 use Rattle.layout.specs.Parts.{Step, row, number}
 use Rattle.layout.specs.Rows.{sizeFits}
 use Rattle.layout.specs.Rules.{Rule, any, exactly, count}
+use Rattle.layout.specs.Refusals as refusals
 use Rattle.cal3d_header.specs.declared.Opened.{Opened}
 use Rattle.cal3d_header.specs.declared.Opened.the-variants as opened
 
@@ -17,9 +18,9 @@ headNumbers version more = exactly version ∷ count ∷ replicate more any
 -- the header's numbers of the file s: checks 1 and 2, then the numbers by their rules
 unfoldable pub readHead : ℕ → ℕ → ℕ → List ℕ → Result (Step (List ℕ))
 readHead magic version more s = do
-  _ ← check (sizeFits (length s)) 1 0
+  _ ← check (sizeFits (length s)) refusals.fileSize 0
   m ← row (any ∷ []) 0 s
-  _ ← check (eqb (number m 0) magic) 2 0
+  _ ← check (eqb (number m 0) magic) refusals.firstTag 0
   row (headNumbers version more) (m .place) (m .left)
 
 -- what code answers for a header that was read: the number of entries, or the refusal

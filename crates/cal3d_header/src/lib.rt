@@ -2,6 +2,7 @@
 ghost use mathlib.Core.Path.{_≡_};
 ghost use Prim.Native.Nat.{_≤_};
 ghost use Rattle.cal3d_header.specs.Heads.{readHead, openedOf};
+use layout::refusals;
 
 // The number of entries that the header says, or a refusal and its place.
 pub enum Opened {
@@ -16,23 +17,23 @@ pub fn entry_count(file: &[u8], magic: u32, version: u32, more: usize) -> Opened
 {
     let n = file.len();
     if n < 12 {
-        return Opened::Not(1, 0);
+        return Opened::Not(refusals::FILE_SIZE, 0);
     }
     if 16777216 < n {
-        return Opened::Not(1, 0);
+        return Opened::Not(refusals::FILE_SIZE, 0);
     }
     if wire::number_at(file, 0) != magic {
-        return Opened::Not(2, 0);
+        return Opened::Not(refusals::FIRST_TAG, 0);
     }
     if n < 12 + 4 * more {
-        return Opened::Not(5, 4);
+        return Opened::Not(refusals::CUT_ITEM, 4);
     }
     if wire::number_at(file, 4) != version {
-        return Opened::Not(6, 4);
+        return Opened::Not(refusals::RANGE, 4);
     }
     let count = wire::number_at(file, 8);
     if 2147483647 < count {
-        return Opened::Not(6, 8);
+        return Opened::Not(refusals::RANGE, 8);
     }
     Opened::To(count)
 }

@@ -6,6 +6,7 @@ ghost use Rattle.shared_room.specs.Rooms.{numberOf, firstShort};
 ghost use Rattle.cal3d_spec.specs.Tables.{meshTables, meshWidth};
 ghost use Rattle.cal3d_mesh_answer_numbers.specs.Rooms.{WithRoom};
 use cal3d_spec::MeshAnswer;
+use layout::refusals;
 
 // Returns the first of six tables, of `l1` to `l6` words, that is too short for its rows, by its number; 0 if there is none.
 fn first_short(
@@ -45,7 +46,7 @@ pub fn with_room(
     let counts = judged.counts;
     let short = first_short(counts, l1, l2, l3, l4, l5, l6);
     if short != 0 {
-        return cal3d_mesh_judge::refused(11, short as u32);
+        return cal3d_mesh_judge::refused(refusals::TOO_SHORT, short as u32);
     }
     judged
 }

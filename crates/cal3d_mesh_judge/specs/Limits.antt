@@ -4,6 +4,7 @@ use mathlib.Core.List.{List, [], _∷_}
 use lib.Dec.{leb}
 use Rattle.wire.specs.Test.{if}
 use Rattle.layout.specs.Result.{reject}
+use Rattle.layout.specs.Refusals as refusals
 use Rattle.cal3d_spec.specs.Answers.{meshAnswer}
 use Rattle.cal3d_spec.specs.declared.MeshAnswer.{MeshAnswer}
 use Rattle.cal3d_spec.specs.Tables.{mostRows}
@@ -25,7 +26,7 @@ acceptedAs submeshes t = record { number = 0; place = 0; head = 700 ∷ submeshe
 -- the answer by the first table with too many rows: 10 at that table, or accepted if it is 0
 unfoldable pub overAs : ℕ → ℕ → Contents → MeshAnswer
 overAs zero submeshes t = acceptedAs submeshes t
-overAs (suc k) submeshes t = meshAnswer (reject 10 (suc k))
+overAs (suc k) submeshes t = meshAnswer (reject refusals.tooManyRows (suc k))
 
 -- the answer of a file by its row counts
 unfoldable pub limitedAs : ℕ → Contents → MeshAnswer

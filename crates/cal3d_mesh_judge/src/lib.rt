@@ -9,6 +9,7 @@ use cal3d_header::Opened;
 use cal3d_mesh_submesh_lists::Contained;
 use cal3d_mesh_submesh_lists::Contents;
 use cal3d_spec::MeshAnswer;
+use layout::refusals;
 use wire::Cursor;
 
 // Returns the answer of a refusal with `number` at `place`.
@@ -74,7 +75,7 @@ fn limited(submeshes: u32, t: Contents) -> MeshAnswer
 {
     let over = first_over(submeshes, t);
     if over != 0 {
-        return refused(10, over);
+        return refused(refusals::TOO_MANY_ROWS, over);
     }
     accepted(submeshes, t)
 }
@@ -108,7 +109,7 @@ pub fn judge(file: &[u8], bone_count: u32) -> MeshAnswer
                     if n <= c.at {
                         return limited(submeshes, t);
                     }
-                    refused(5, c.at as u32)
+                    refused(refusals::CUT_ITEM, c.at as u32)
                 }
             }
         }

@@ -11,6 +11,7 @@ ghost use Rattle.cal3d_mesh_submesh_lists.specs.Contents.{Contains, Within, bot
 use cal3d_mesh_submesh_lists::Contained;
 use cal3d_mesh_submesh_lists::Contents;
 use cal3d_mesh_vertices::Sizes;
+use layout::refusals;
 use shared_counted_lists::Ran;
 use wire::Cursor;
 
@@ -23,11 +24,11 @@ fn pass_counts(s: &[u8], c: Cursor) -> Ran
     let at = c.at;
     let end = c.end;
     if end - at < 24 {
-        return Ran::Not(5, at);
+        return Ran::Not(refusals::CUT_ITEM, at);
     }
     let good = shared_ids::first_invalid(s, Cursor { at: at + 4, end }, 5, 2147483648, false);
     if good < 5 {
-        return Ran::Not(6, at + 4 + 4 * good);
+        return Ran::Not(refusals::RANGE, at + 4 + 4 * good);
     }
     Ran::To(Cursor { at: at + 24, end })
 }

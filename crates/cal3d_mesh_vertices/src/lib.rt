@@ -7,6 +7,7 @@ ghost use Rattle.shared_counted_lists.specs.Runs.{Runs};
 ghost use Rattle.shared_counted_lists.specs.Sums.{Sums};
 ghost use Rattle.cal3d_spec.specs.Meshes.{readCloth, readVertex};
 ghost use Rattle.cal3d_mesh_vertices.specs.Vertices.{readMapped, readInfluences, rowCount, influenceCount, influencesIn};
+use layout::refusals;
 use shared_counted_lists::Ran;
 use shared_counted_lists::Summed;
 use wire::Cursor;
@@ -36,10 +37,10 @@ fn judge_influences(s: &[u8], c: Cursor, bones: usize) -> Summed
     ensures { λ r. ⌜ Sums rowCount (readInfluences bones (c .at) (left c (now (s .entry)))) c 4 r ⌝ }
 {
     match c.number(s) {
-        Number::Cut => Summed::Not(5, c.at),
+        Number::Cut => Summed::Not(refusals::CUT_ITEM, c.at),
         Number::Is(stored, rows) => {
             if 2147483647 < stored {
-                return Summed::Not(6, c.at);
+                return Summed::Not(refusals::RANGE, c.at);
             }
             let count = wire::size(stored);
             match shared_counted_lists::id_rows(s, rows, count, 2, 1, bones) {
@@ -58,7 +59,7 @@ fn pass_cloth(s: &[u8], c: Cursor, springs: usize) -> Ran
     if 0 < springs {
         match c.number(s) {
             Number::Cut => {
-                return Ran::Not(5, c.at);
+                return Ran::Not(refusals::CUT_ITEM, c.at);
             }
             Number::Is(_, next) => {
                 return Ran::To(next);

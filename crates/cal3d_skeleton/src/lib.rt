@@ -9,6 +9,7 @@ use cal3d_skeleton_limits::Summary;
 use cal3d_skeleton_limits::Verdict;
 use cal3d_skeleton_tree_file::Told;
 use cal3d_spec::SkeletonAnswer;
+use layout::refusals;
 use wire::Cursor;
 
 // Returns the answer of a refusal with `number` at `place`.
@@ -73,10 +74,10 @@ pub fn read_skeleton(file: &[u8], bones: &mut [u32], children: &mut [u32]) -> Sk
         Verdict::Good(x) => {
             let count = wire::size(x.bones);
             if bones.len() / 23 < count {
-                return refused(11, 1);
+                return refused(refusals::TOO_SHORT, 1);
             }
             if children.len() < x.children {
-                return refused(11, 2);
+                return refused(refusals::TOO_SHORT, 2);
             }
             let end = file.len();
             cal3d_skeleton_rows::fill(file, Cursor { at: 24, end }, count, bones, children);

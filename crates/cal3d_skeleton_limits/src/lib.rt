@@ -4,6 +4,7 @@ ghost use mathlib.Core.Path.{_≡_};
 ghost use Rattle.cal3d_spec.specs.Answers.{limitedSkeleton};
 ghost use Rattle.cal3d_skeleton_limits.specs.Verdicts.{verdictOf};
 use cal3d_header::Opened;
+use layout::refusals;
 use shared_counted_lists::Summed;
 use wire::Cursor;
 
@@ -38,13 +39,13 @@ pub fn limited(file: &[u8]) -> Verdict
                 Summed::Not(e, p) => Verdict::Bad(e, p as u32),
                 Summed::To(children, c) => {
                     if c.at < n {
-                        return Verdict::Bad(5, c.at as u32);
+                        return Verdict::Bad(refusals::CUT_ITEM, c.at as u32);
                     }
                     if 16383 < bones {
-                        return Verdict::Bad(10, 1);
+                        return Verdict::Bad(refusals::TOO_MANY_ROWS, 1);
                     }
                     if 16383 < children {
-                        return Verdict::Bad(10, 2);
+                        return Verdict::Bad(refusals::TOO_MANY_ROWS, 2);
                     }
                     Verdict::Good(Summary {
                         bones,

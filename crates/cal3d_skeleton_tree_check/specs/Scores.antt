@@ -10,6 +10,7 @@ use Rattle.wire.specs.Test.{if}
 use Rattle.wire.specs.Bytes.{wordAt}
 use Rattle.layout.specs.Result.{Result, accept, reject}
 use Rattle.layout.specs.Rules.{NONE}
+use Rattle.layout.specs.Refusals as refusals
 use Rattle.cal3d_spec.specs.Skeletons.{Bone}
 use Rattle.cal3d_spec.specs.Trees.{occurs, ends}
 
@@ -82,4 +83,4 @@ placeAt (x ∷ xs) (suc i) = placeAt xs i
 
 -- 16 at the first byte of bone r, if there is such a bone
 abbrev pub strayAt : ℕ → List Bone → Result (Unit {0})
-strayAt r bs = if (ltb r (length bs)) (reject 16 (placeAt bs r)) (accept tt)
+strayAt r bs = if (ltb r (length bs)) (reject refusals.noTree (placeAt bs r)) (accept tt)

@@ -9,6 +9,7 @@ ghost use Rattle.cal3d_spec.specs.Trees.{trees};
 ghost use Rattle.cal3d_skeleton_tree_check.specs.Scores.{Zeros, Scored, placeAt};
 ghost use Rattle.cal3d_skeleton_tree_file.specs.Links.{Good, bonesAt, toldOf};
 use cal3d_skeleton_bones::Laid;
+use layout::refusals;
 use wire::Cursor;
 
 // Lists and parents tell the same trees; or a refusal and its place.
@@ -94,7 +95,7 @@ fn same_trees_by(
     tell(s, from, bones, parents, scores);
     let lowest = cal3d_skeleton_tree_check::stray(parents, scores);
     if lowest < bones {
-        return Told::Not(16, bone_at(s, from, bones, lowest) as u32);
+        return Told::Not(refusals::NO_TREE, bone_at(s, from, bones, lowest) as u32);
     }
     Told::Same
 }

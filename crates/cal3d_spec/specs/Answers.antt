@@ -8,6 +8,7 @@ use Rattle.wire.specs.Test.{if}
 use Rattle.wire.specs.Bytes.{over}
 use Rattle.layout.specs.Result.{Result, accept, reject, _>>=_}
 use Rattle.layout.specs.Rows.{joined, eachOf}
+use Rattle.layout.specs.Refusals as refusals
 use Rattle.cal3d_spec.specs.Skeletons.{Skeleton, skeleton}
 use Rattle.cal3d_spec.specs.Meshes.{Mesh, mesh}
 use Rattle.cal3d_spec.specs.Trees.{trees}
@@ -21,7 +22,7 @@ use Rattle.cal3d_spec.specs.declared.MeshAnswer.{MeshAnswer}
 unfoldable pub limitedSkeleton : List ℕ → Result Skeleton
 limitedSkeleton s = do
   t ← skeleton s
-  _ ← eachOf 10 (λ k. leb (length (skeletonRows k t)) mostRows) skeletonTables
+  _ ← eachOf refusals.tooManyRows (λ k. leb (length (skeletonRows k t)) mostRows) skeletonTables
   accept t
 
 -- the skeleton of the file s, or the first of its refusals 1 to 10, then 16
@@ -35,7 +36,7 @@ judgeSkeleton s = do
 unfoldable pub readSkeleton : (ℕ → ℕ) → List ℕ → Result Skeleton
 readSkeleton room s = do
   t ← judgeSkeleton s
-  _ ← eachOf 11 (λ k. leb (skeletonWidth k * length (skeletonRows k t)) (room k)) skeletonTables
+  _ ← eachOf refusals.tooShort (λ k. leb (skeletonWidth k * length (skeletonRows k t)) (room k)) skeletonTables
   accept t
 
 -- the room of table k: a words for table 1, else b
@@ -58,14 +59,14 @@ skeletonTable k (reject n p) xs = xs
 unfoldable pub judgeMesh : ℕ → List ℕ → Result Mesh
 judgeMesh bones s = do
   t ← mesh bones s
-  _ ← eachOf 10 (λ k. leb (length (meshRows k t)) mostRows) meshTables
+  _ ← eachOf refusals.tooManyRows (λ k. leb (length (meshRows k t)) mostRows) meshTables
   accept t
 
 -- the mesh of the file s, lent tables of which table k has room k words: its refusals 1 to 10, then 11
 unfoldable pub readMesh : (ℕ → ℕ) → ℕ → List ℕ → Result Mesh
 readMesh room bones s = do
   t ← judgeMesh bones s
-  _ ← eachOf 11 (λ k. leb (meshWidth k * length (meshRows k t)) (room k)) meshTables
+  _ ← eachOf refusals.tooShort (λ k. leb (meshWidth k * length (meshRows k t)) (room k)) meshTables
   accept t
 
 -- the reader's answer: on acceptance the header's numbers and the row counts, on a refusal its number and place, all else 0

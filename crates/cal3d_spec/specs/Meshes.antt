@@ -9,6 +9,7 @@ use Rattle.layout.specs.Parts.{Step, row, number}
 use Rattle.layout.specs.Counted.{times, atEnd}
 use Rattle.layout.specs.Rows.{sizeFits}
 use Rattle.layout.specs.Rules.{any}
+use Rattle.layout.specs.Refusals as refusals
 use Rattle.cal3d_spec.specs.Rules.{meshMagic, meshHead, namedBones, submeshNumbers, vertexNumbers, mapNumbers, influencesHead, influenceNumbers, clothNumbers, springNumbers, faceNumbers}
 
 -- a vertex: its 8 numbers, its maps, its influences, its cloth weight (0 where there is none)
@@ -67,7 +68,7 @@ meshFrom bones p s = do
 -- the mesh of the file s, or the first of its refusals 1 to 7; `bones` is the count that the caller gives
 unfoldable pub mesh : ℕ → List ℕ → Result Mesh
 mesh bones s = do
-  _ ← check (sizeFits (length s)) 1 0
+  _ ← check (sizeFits (length s)) refusals.fileSize 0
   m ← row (any ∷ []) 0 s
-  _ ← check (eqb (number m 0) meshMagic) 2 0
+  _ ← check (eqb (number m 0) meshMagic) refusals.firstTag 0
   meshFrom (namedBones bones) (m .place) (m .left)

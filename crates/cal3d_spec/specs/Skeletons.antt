@@ -8,6 +8,7 @@ use Rattle.layout.specs.Parts.{Name, Step, row, number}
 use Rattle.layout.specs.Counted.{sized, times, atEnd}
 use Rattle.layout.specs.Rows.{joined, sizeFits}
 use Rattle.layout.specs.Rules.{any}
+use Rattle.layout.specs.Refusals as refusals
 use Rattle.cal3d_spec.specs.Rules.{skeletonMagic, skeletonHead, boneNumbers, parentAt, childrenAt, childNumbers}
 
 -- a bone: the place of its first byte, its name, its 20 numbers, a row for each child
@@ -49,7 +50,7 @@ skeletonFrom p s = do
 -- the skeleton of the file s, or the first of its refusals 1 to 7
 unfoldable pub skeleton : List ℕ → Result Skeleton
 skeleton s = do
-  _ ← check (sizeFits (length s)) 1 0
+  _ ← check (sizeFits (length s)) refusals.fileSize 0
   m ← row (any ∷ []) 0 s
-  _ ← check (eqb (number m 0) skeletonMagic) 2 0
+  _ ← check (eqb (number m 0) skeletonMagic) refusals.firstTag 0
   skeletonFrom (m .place) (m .left)

@@ -7,6 +7,7 @@ use lib.Dec.{eqb}
 use Rattle.wire.specs.Test.{if}
 use Rattle.layout.specs.Result.{Result, accept, check, _>>=_}
 use Rattle.layout.specs.Rules.{NONE}
+use Rattle.layout.specs.Refusals as refusals
 use Rattle.cal3d_spec.specs.Skeletons.{Bone, parentOf, listOf}
 
 -- how often b occurs in a list
@@ -33,7 +34,7 @@ stands ps ls b = listed b (getD ps b 0) 0 ls && ends ps (length ps) b
 unfoldable pub standing : List ℕ → List (List ℕ) → ℕ → List Bone → Result (Unit {0})
 standing ps ls b [] = accept tt
 standing ps ls b (x ∷ xs) = do
-  _ ← check (stands ps ls b) 16 (x .place)
+  _ ← check (stands ps ls b) refusals.noTree (x .place)
   standing ps ls (b + 1) xs
 
 -- check 16 of all bones: child lists and parents tell the same trees

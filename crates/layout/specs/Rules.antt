@@ -2,6 +2,7 @@
 use Prim.Native.Nat.{ℕ}
 use mathlib.Core.Bool.{Bool, true, _||_}
 use lib.Dec.{leb, ltb, eqb}
+use Rattle.layout.specs.Refusals as refusals
 
 -- -1 by its bits: what 01 calls NONE
 abbrev pub NONE : ℕ
@@ -33,12 +34,12 @@ holds unit w = leb w 0x3F800000 || eqb w 0x80000000
 
 -- the refusal of a number that breaks the rule: 6 for a range, 7 for an id
 abbrev pub refusal : Rule → ℕ
-refusal any = 6
-refusal (upTo m) = 6
-refusal (exactly m) = 6
-refusal (names n) = 7
-refusal (namesOrNone n) = 7
-refusal unit = 6
+refusal any = refusals.range
+refusal (upTo m) = refusals.range
+refusal (exactly m) = refusals.range
+refusal (names n) = refusals.noSuchId
+refusal (namesOrNone n) = refusals.noSuchId
+refusal unit = refusals.range
 
 -- a count or a length: any number that is not negative
 abbrev pub count : Rule

@@ -6,6 +6,7 @@ ghost use Rattle.layout.specs.Parts.{row};
 ghost use Rattle.layout.specs.Counted.{sized, times};
 ghost use Rattle.shared_ids.specs.Ids.{idRow, linkRow};
 ghost use Rattle.shared_counted_lists.specs.Runs.{Runs};
+use layout::refusals;
 use wire::Cursor;
 use wire::Number;
 
@@ -33,11 +34,11 @@ pub fn id_rows(s: &[u8], from: Cursor, count: usize, words: usize, ids: usize, l
     let mut more = count;
     while 0 < more {
         if end - at < size {
-            return Ran::Not(5, at);
+            return Ran::Not(refusals::CUT_ITEM, at);
         }
         let good = shared_ids::first_invalid(s, Cursor { at, end }, ids, limit, false);
         if good < ids {
-            return Ran::Not(7, at + 4 * good);
+            return Ran::Not(refusals::NO_SUCH_ID, at + 4 * good);
         }
         at += size;
         more -= 1;
@@ -55,15 +56,15 @@ pub fn link_row(s: &[u8], c: Cursor, front: usize, between: usize, limit: usize)
     let end = c.end;
     let size = 4 * (front + between + 2);
     if end - at < size {
-        return Ran::Not(5, at);
+        return Ran::Not(refusals::CUT_ITEM, at);
     }
     let id = at + 4 * front;
     if !shared_ids::id_valid(wire::number_at(s, id), limit, true) {
-        return Ran::Not(7, id);
+        return Ran::Not(refusals::NO_SUCH_ID, id);
     }
     let last = id + 4 + 4 * between;
     if 2147483647 < wire::number_at(s, last) {
-        return Ran::Not(6, last);
+        return Ran::Not(refusals::RANGE, last);
     }
     Ran::To(Cursor { at: at + size, end })
 }
@@ -75,16 +76,16 @@ pub fn pass_name(s: &[u8], c: Cursor) -> Ran
     ensures { λ r. ⌜ Runs (sized (c .at) (left c (now (s .entry)))) c 4 r ⌝ }
 {
     match c.number(s) {
-        Number::Cut => Ran::Not(5, c.at),
+        Number::Cut => Ran::Not(refusals::CUT_ITEM, c.at),
         Number::Is(stored, name) => {
             if 2147483647 < stored {
-                return Ran::Not(6, c.at);
+                return Ran::Not(refusals::RANGE, c.at);
             }
             let n = wire::size(stored);
             let at = name.at;
             let end = name.end;
             if end - at < n {
-                return Ran::Not(5, at);
+                return Ran::Not(refusals::CUT_ITEM, at);
             }
             Ran::To(Cursor { at: at + n, end })
         }

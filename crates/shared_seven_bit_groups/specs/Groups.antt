@@ -7,6 +7,7 @@ use lib.Dec.{leb, ltb}
 use Rattle.wire.specs.Test.{if}
 use Rattle.layout.specs.Result.{Result, accept, reject, check, _>>=_}
 use Rattle.layout.specs.Parts.{Step}
+use Rattle.layout.specs.Refusals as refusals
 use Rattle.shared_seven_bit_groups.specs.declared.Grouped.{Grouped}
 use Rattle.shared_seven_bit_groups.specs.declared.Grouped.the-variants as number
 
@@ -54,16 +55,16 @@ goesOn most w = ltb 0 w && leb (w * 128) most
 -- the last group makes the number n, which ends at p: refused with 13 at `start` if it is more than `most`
 unfoldable pub last : ℕ → ℕ → ℕ → ℕ → List ℕ → Result (Step ℕ)
 last start most n p s = do
-  _ ← check (leb n most) 13 start
+  _ ← check (leb n most) refusals.noSlip start
   accept (record { value = n; place = p; left = s })
 
 -- the number that begins at `start` and is at most `most`, from its group at p on, in at most this many groups more; the groups before make the number v
 unfoldable pub readIn : ℕ → ℕ → ℕ → ℕ → ℕ → List ℕ → Result (Step ℕ)
-readIn start most zero v p s = reject 13 start
-readIn start most (suc k) v p [] = reject 13 p
+readIn start most zero v p s = reject refusals.noSlip start
+readIn start most (suc k) v p [] = reject refusals.noSlip p
 readIn start most (suc k) v p (b ∷ s) =
     let w = v * 128 + (b - 128) in
-    if (ltb b 128) (last start most (v * 128 + b) (p + 1) s) (check (goesOn most w) 13 start >>= λ _. readIn start most k w (p + 1) s)
+    if (ltb b 128) (last start most (v * 128 + b) (p + 1) s) (check (goesOn most w) refusals.noSlip start >>= λ _. readIn start most k w (p + 1) s)
 
 -- the number at p, which is at most `most`, in no more groups than `most` takes
 unfoldable pub readNumber : ℕ → ℕ → List ℕ → Result (Step ℕ)

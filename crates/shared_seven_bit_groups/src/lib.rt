@@ -6,6 +6,7 @@ ghost use mathlib.Core.List.{[]};
 ghost use lib.ListN.{length, drop};
 ghost use Rattle.shared_seven_bit_groups.specs.Groups.{front, groups, groupsOf, readNumber, grouped};
 ghost use Rattle.shared_seven_bit_groups.specs.Puts.{PutAt};
+use layout::refusals;
 
 // A number and the place after its groups, or the refusal 13 with its place.
 pub enum Grouped {
@@ -59,7 +60,7 @@ pub fn read_number(s: &[u8], at: usize, most: u32) -> Grouped
     let mut p = at;
     while 0 < left {
         if s.len() <= p {
-            return Grouped::Not(13, p);
+            return Grouped::Not(refusals::NO_SLIP, p);
         }
         let b = s[p] as u32;
         left -= 1;
@@ -67,17 +68,17 @@ pub fn read_number(s: &[u8], at: usize, most: u32) -> Grouped
         if b < 128 {
             let n = v * 128 + b;
             if most < n {
-                return Grouped::Not(13, at);
+                return Grouped::Not(refusals::NO_SLIP, at);
             }
             return Grouped::Is(n, p);
         }
         v = v * 128 + (b - 128);
         if v == 0 {
-            return Grouped::Not(13, at);
+            return Grouped::Not(refusals::NO_SLIP, at);
         }
         if most / 128 < v {
-            return Grouped::Not(13, at);
+            return Grouped::Not(refusals::NO_SLIP, at);
         }
     }
-    Grouped::Not(13, at)
+    Grouped::Not(refusals::NO_SLIP, at)
 }

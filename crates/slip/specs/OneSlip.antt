@@ -6,6 +6,7 @@ use mathlib.Core.List.{List, _++_}
 use lib.ListN.{length, take, getD}
 use Rattle.wire.specs.Bytes.{AllBytes}
 use Rattle.layout.specs.Result.{accept, reject}
+use Rattle.layout.specs.Refusals as refusals
 use Rattle.shared_seven_bit_groups.specs.Groups.{AtMost, groupsOf}
 use Rattle.b3d_spec.specs.Answers.{roomFor}
 use Rattle.slip.specs.Slips.{limitsWithin, limitWithin, slipWithin, writeWithin, readWithin}
@@ -15,7 +16,7 @@ pub record Wrong (rows : ℕ) (s : List ℕ) (p : ℕ) : Type 0 where
   -- p is one of these bytes
   pub before : p < length s
   -- whatever follows them, 13 is given at p
-  pub stays : (r : List ℕ) → readWithin rows (s ++ r) ≡ reject 13 p
+  pub stays : (r : List ℕ) → readWithin rows (s ++ r) ≡ reject refusals.noSlip p
 
 -- the bytes s are a slip that is cut: refused at p
 pub record Cut (rows : ℕ) (s : List ℕ) (p : ℕ) : Type 0 where
@@ -56,10 +57,10 @@ pub record OneSlip (rows : ℕ) : Type 0 where
   -- numbers that obey each its range are written
   pub written : (ns : List ℕ) → AtMost (limitsWithin rows) ns → (b : List ℕ) × (slipWithin rows ns ≡ accept b)
   -- twelve numbers that are refused are refused with 13 at the first that is out of its range
-  pub out : (ns : List ℕ) (n i : ℕ) → length ns ≡ 12 → slipWithin rows ns ≡ reject n i → (n ≡ 13) × FirstOut rows ns i
+  pub out : (ns : List ℕ) (n i : ℕ) → length ns ≡ 12 → slipWithin rows ns ≡ reject n i → (n ≡ refusals.noSlip) × FirstOut rows ns i
   -- 13 comes before 11
   pub first : (ns : List ℕ) (n i room : ℕ) → slipWithin rows ns ≡ reject n i → writeWithin rows ns room ≡ reject n i
   -- 11 is given exactly when the output is shorter than the slip
   pub then : (ns b : List ℕ) (room : ℕ) → slipWithin rows ns ≡ accept b → writeWithin rows ns room ≡ roomFor room b
   -- a slip is refused by 13 alone, and as soon as its bytes make it wrong
-  pub refused : (s : List ℕ) (n p : ℕ) → readWithin rows s ≡ reject n p → (n ≡ 13) × (Wrong rows s p ⊎ Cut rows s p)
+  pub refused : (s : List ℕ) (n p : ℕ) → readWithin rows s ≡ reject n p → (n ≡ refusals.noSlip) × (Wrong rows s p ⊎ Cut rows s p)

@@ -5,6 +5,7 @@ use mathlib.Core.List.{List}
 use lib.ListN.{length}
 use Rattle.wire.specs.Bytes.{AllBytes}
 use Rattle.layout.specs.Result.{accept, reject}
+use Rattle.layout.specs.Refusals as refusals
 use Rattle.shared_seven_bit_groups.specs.Groups.{AtMost}
 use Rattle.slip.specs.Slips.{limitsWithin, slipWithin, readWithin}
 
@@ -15,4 +16,4 @@ pub record Raised (low high : ℕ) : Type 0 where
   -- every older slip keeps its reading; so the older reader never gives other numbers than those that the slip says
   pub reading : (s ns : List ℕ) → AllBytes s → readWithin low s ≡ accept ns → readWithin high s ≡ accept ns
   -- meeting a number that is out of the older ranges, the older reader refuses 13
-  pub refused : (ns b : List ℕ) → length ns ≡ 12 → slipWithin high ns ≡ accept b → (AtMost (limitsWithin low) ns → ⊥) → (p : ℕ) × (readWithin low b ≡ reject 13 p)
+  pub refused : (ns b : List ℕ) → length ns ≡ 12 → slipWithin high ns ≡ accept b → (AtMost (limitsWithin low) ns → ⊥) → (p : ℕ) × (readWithin low b ≡ reject refusals.noSlip p)

@@ -6,6 +6,7 @@ use lib.ListN.{length, replicate, getD}
 use lib.Dec.{leb, ltb}
 use Rattle.wire.specs.Test.{if}
 use Rattle.layout.specs.Result.{Result, accept, reject, check, _>>=_}
+use Rattle.layout.specs.Refusals as refusals
 use Rattle.shared_seven_bit_groups.specs.Groups.{writeNumbers, readNumbers}
 use Rattle.b3d_spec.specs.Rules.{rowLimit}
 use Rattle.b3d_spec.specs.Answers.{roomFor, written, outputAfter}
@@ -39,7 +40,7 @@ firstOver (m ∷ ms) [] = 0
 -- the slip of the numbers ns, where a table has at most `rows` rows; 13 at the position of the first that is out of its range
 unfoldable pub slipWithin : ℕ → List ℕ → Result (List ℕ)
 slipWithin rows ns = do
-  _ ← check (leb 12 (firstOver (limitsWithin rows) ns)) 13 (firstOver (limitsWithin rows) ns)
+  _ ← check (leb 12 (firstOver (limitsWithin rows) ns)) refusals.noSlip (firstOver (limitsWithin rows) ns)
   accept (writeNumbers ns [])
 
 -- the slip of the numbers ns for an output of `room` bytes, where a table has at most `rows` rows: 13, then 11
@@ -70,7 +71,7 @@ writeSlipOutput ns out = outputAfter (writeSlip ns (length out)) out
 unfoldable pub readWithin : ℕ → List ℕ → Result (List ℕ)
 readWithin rows s = do
   x ← readNumbers (limitsWithin rows) 0 s
-  _ ← check (leb (length (x .left)) 0) 13 (x .place)
+  _ ← check (leb (length (x .left)) 0) refusals.noSlip (x .place)
   accept (x .value)
 
 -- the twelve numbers of the slip s with today's row limit

@@ -5,9 +5,11 @@ ghost use Prim.Native.Nat.{_≤_};
 ghost use lib.ListN.{length};
 ghost use Rattle.wire.specs.Bytes.{over};
 ghost use Rattle.layout.specs.Result.{reject};
+ghost use Rattle.layout.specs.Refusals as refusals;
 ghost use Rattle.shared_seven_bit_groups.specs.Groups.{writeNumbers};
 ghost use Rattle.slip.specs.Slips.{limits, limitAt, firstOver, slipOf, writeSlipAnswer, writeSlipOutput, readSlipAnswer};
 use b3d_spec::Written;
+use layout::refusals;
 use shared_seven_bit_groups::Grouped;
 
 // The answer of the slip reader: refusal number and place, or 0 and 0 with the twelve numbers.
@@ -80,7 +82,7 @@ pub fn write_slip(numbers: [u32; 12], out: &mut [u8]) -> Written
     let over = first_over(numbers);
     if over < 12 {
         return Written {
-            number: 13,
+            number: refusals::NO_SLIP,
             place: over as u32,
             size: 0,
         };
@@ -88,7 +90,7 @@ pub fn write_slip(numbers: [u32; 12], out: &mut [u8]) -> Written
     let size = slip_size(numbers);
     if out.len() < size {
         return Written {
-            number: 11,
+            number: refusals::TOO_SHORT,
             place: size as u32,
             size: 0,
         };
@@ -104,10 +106,10 @@ pub fn write_slip(numbers: [u32; 12], out: &mut [u8]) -> Written
 // Returns the answer of a slip that is refused with 13 at `place`.
 fn refused(place: usize) -> Slip
     requires { ⌜ place ≤ 60 ⌝ }
-    ensures { λ r. ⌜ r ≡ slipOf (reject 13 place) ⌝ }
+    ensures { λ r. ⌜ r ≡ slipOf (reject refusals.noSlip place) ⌝ }
 {
     Slip {
-        number: 13,
+        number: refusals::NO_SLIP,
         place: place as u32,
         numbers: [0; 12],
     }
