@@ -5,11 +5,14 @@ ghost use Prim.Native.Nat.{_+_, _*_, _≤_};
 ghost use lib.ListN.{length};
 ghost use Rattle.layout.specs.WellFormed.{all};
 ghost use Rattle.b3d_spec.specs.Mask.{vertexMask, keyMask};
+ghost use Rattle.b3d_spec.specs.Tables.{vertexWidth, keyWidth};
 ghost use Rattle.b3d_check_spec.specs.Check.{clean};
 ghost use Rattle.b3d_rule_row_masks.specs.Runs.{runMask, width, Short, OfKey, OfVertex};
 ghost use Rattle.b3d_check_rows.specs.Rows.{rowsAt};
 ghost use Rattle.b3d_check_absent_words.specs.Zeros.{zerosAt, setsClean, rowClean};
 use b3d_rule_row_masks::RowRuns;
+use b3d_spec::KEY_WIDTH;
+use b3d_spec::VERTEX_WIDTH;
 
 // Returns whether the `n` words of `t` from word `at` on are 0.
 fn zeros(t: &[u32], at: usize, n: usize) -> bool
@@ -73,7 +76,7 @@ fn sets_clean(t: &[u32], at: usize, sets: usize, size: usize) -> bool
 
 // Returns whether the cells that the groups `g` leave out of the key row at word `base` are 0.
 fn key_clean(g: RowRuns, t: &[u32], base: usize) -> bool
-    requires { ⌜ Short g × OfKey g × (base + 11 ≤ length (now t)) ⌝ }
+    requires { ⌜ Short g × OfKey g × (base + keyWidth ≤ length (now t)) ⌝ }
     ensures { λ r. ⌜ r ≡ rowClean g (now (t .entry)) base ⌝ }
 {
     let p = base + 1;
@@ -87,7 +90,7 @@ fn key_clean(g: RowRuns, t: &[u32], base: usize) -> bool
 
 // Returns whether the cells that the groups `g` leave out of the vertex row at word `base` are 0.
 fn vertex_clean(g: RowRuns, t: &[u32], base: usize) -> bool
-    requires { ⌜ Short g × OfVertex g × (base + 42 ≤ length (now t)) ⌝ }
+    requires { ⌜ Short g × OfVertex g × (base + vertexWidth ≤ length (now t)) ⌝ }
     ensures { λ r. ⌜ r ≡ rowClean g (now (t .entry)) base ⌝ }
 {
     let p = base + 3;
@@ -103,13 +106,13 @@ fn vertex_clean(g: RowRuns, t: &[u32], base: usize) -> bool
 
 // Returns whether the cells that the groups `g` leave out of `count` key rows from row `first` on are 0.
 fn keys_clean(g: RowRuns, t: &[u32], first: usize, count: usize) -> bool
-    requires { ⌜ Short g × OfKey g × (width g ≡ 11) × (11 * (first + count) ≤ length (now t)) ⌝ }
-    ensures { λ r. ⌜ r ≡ all (clean (runMask g)) (rowsAt 11 first count (now (t .entry))) ⌝ }
+    requires { ⌜ Short g × OfKey g × (width g ≡ keyWidth) × (keyWidth * (first + count) ≤ length (now t)) ⌝ }
+    ensures { λ r. ⌜ r ≡ all (clean (runMask g)) (rowsAt keyWidth first count (now (t .entry))) ⌝ }
 {
     let end = first + count;
     let mut i = first;
     while i < end {
-        if !key_clean(g, t, 11 * i) {
+        if !key_clean(g, t, KEY_WIDTH * i) {
             return false;
         }
         i += 1;
@@ -119,13 +122,13 @@ fn keys_clean(g: RowRuns, t: &[u32], first: usize, count: usize) -> bool
 
 // Returns whether the cells that the groups `g` leave out of `count` vertex rows from row `first` on are 0.
 fn vertices_clean(g: RowRuns, t: &[u32], first: usize, count: usize) -> bool
-    requires { ⌜ Short g × OfVertex g × (width g ≡ 42) × (42 * (first + count) ≤ length (now t)) ⌝ }
-    ensures { λ r. ⌜ r ≡ all (clean (runMask g)) (rowsAt 42 first count (now (t .entry))) ⌝ }
+    requires { ⌜ Short g × OfVertex g × (width g ≡ vertexWidth) × (vertexWidth * (first + count) ≤ length (now t)) ⌝ }
+    ensures { λ r. ⌜ r ≡ all (clean (runMask g)) (rowsAt vertexWidth first count (now (t .entry))) ⌝ }
 {
     let end = first + count;
     let mut i = first;
     while i < end {
-        if !vertex_clean(g, t, 42 * i) {
+        if !vertex_clean(g, t, VERTEX_WIDTH * i) {
             return false;
         }
         i += 1;
@@ -142,8 +145,8 @@ pub fn vertices_valid(
     first: usize,
     count: usize,
 ) -> bool
-    requires { ⌜ 42 * (first + count) ≤ length (now t) ⌝ }
-    ensures { λ r. ⌜ r ≡ all (clean (vertexMask flags sets size)) (rowsAt 42 first count (now (t .entry))) ⌝ }
+    requires { ⌜ vertexWidth * (first + count) ≤ length (now t) ⌝ }
+    ensures { λ r. ⌜ r ≡ all (clean (vertexMask flags sets size)) (rowsAt vertexWidth first count (now (t .entry))) ⌝ }
 {
     let g = b3d_rule_row_masks::vertex_runs(flags, sets, size);
     vertices_clean(g, t, first, count)
@@ -151,8 +154,8 @@ pub fn vertices_valid(
 
 // Returns whether the cells that `flags` leave out of `count` key rows from row `first` on are 0.
 pub fn keys_valid(t: &[u32], flags: u32, first: usize, count: usize) -> bool
-    requires { ⌜ 11 * (first + count) ≤ length (now t) ⌝ }
-    ensures { λ r. ⌜ r ≡ all (clean (keyMask flags)) (rowsAt 11 first count (now (t .entry))) ⌝ }
+    requires { ⌜ keyWidth * (first + count) ≤ length (now t) ⌝ }
+    ensures { λ r. ⌜ r ≡ all (clean (keyMask flags)) (rowsAt keyWidth first count (now (t .entry))) ⌝ }
 {
     let g = b3d_rule_row_masks::key_runs(flags);
     keys_clean(g, t, first, count)

@@ -4,9 +4,12 @@ ghost use Prim.Native.Nat.{_+_, _*_, _≤_};
 ghost use lib.ListN.{length};
 ghost use Rattle.layout.specs.WellFormed.{all};
 ghost use Rattle.b3d_spec.specs.Colours.{coloured};
+ghost use Rattle.b3d_spec.specs.Tables.{brushWidth, vertexWidth};
 ghost use Rattle.b3d_check_rows.specs.Rows.{rowAt, rowsAt};
 ghost use Rattle.b3d_check_colours.specs.LentColours.{coloursPart};
+use b3d_spec::BRUSH_WIDTH;
 use b3d_spec::Mode;
+use b3d_spec::VERTEX_WIDTH;
 
 // Returns whether the four words of row `i` of `t` from word `word` of the row on are colours from 0 to 1; a row has `width` words.
 fn row_coloured(t: &[u32], width: usize, word: usize, i: usize) -> bool
@@ -38,16 +41,16 @@ pub fn rows_coloured(t: &[u32], width: usize, word: usize, count: usize) -> bool
 
 // Returns whether `mode` accepts the colours of the first `brushes` rows of `t2` and the first `vertices` rows of `t5`; the lenient mode always does.
 pub fn colours_valid(mode: Mode, brushes: usize, t2: &[u32], vertices: usize, t5: &[u32]) -> bool
-    requires { ⌜ (17 * brushes ≤ length (now t2)) × (42 * vertices ≤ length (now t5)) ⌝ }
+    requires { ⌜ (brushWidth * brushes ≤ length (now t2)) × (vertexWidth * vertices ≤ length (now t5)) ⌝ }
     ensures { λ r. ⌜ r ≡ coloursPart mode brushes (now (t2 .entry)) vertices (now (t5 .entry)) ⌝ }
 {
     match mode {
         Mode::Lenient => true,
         Mode::Strict => {
-            if !rows_coloured(t2, 17, 2, brushes) {
+            if !rows_coloured(t2, BRUSH_WIDTH, 2, brushes) {
                 return false;
             }
-            rows_coloured(t5, 42, 6, vertices)
+            rows_coloured(t5, VERTEX_WIDTH, 6, vertices)
         }
     }
 }

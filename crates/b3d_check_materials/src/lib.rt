@@ -5,17 +5,20 @@ ghost use lib.ListN.{length, take, drop};
 ghost use Rattle.layout.specs.WellFormed.{all};
 ghost use Rattle.layout.specs.Rules.{holds};
 ghost use Rattle.b3d_spec.specs.Rules.{textureId};
+ghost use Rattle.b3d_spec.specs.Tables.{textureWidth, brushWidth};
 ghost use Rattle.b3d_check_spec.specs.Check.{nameValid, brushValid, slotsValid};
 ghost use Rattle.b3d_check_rows.specs.Rows.{rowAt, rowsAt};
+use b3d_spec::BRUSH_WIDTH;
+use b3d_spec::TEXTURE_WIDTH;
 
 // Returns whether each of the first `count` rows of table 1, `t`, has its name in `names`.
 pub fn textures_valid(names: &[u8], t: &[u32], count: usize) -> bool
-    requires { ⌜ 9 * count ≤ length (now t) ⌝ }
-    ensures { λ r. ⌜ r ≡ all (nameValid (now (names .entry))) (rowsAt 9 0 count (now (t .entry))) ⌝ }
+    requires { ⌜ textureWidth * count ≤ length (now t) ⌝ }
+    ensures { λ r. ⌜ r ≡ all (nameValid (now (names .entry))) (rowsAt textureWidth 0 count (now (t .entry))) ⌝ }
 {
     let mut i: usize = 0;
     while i < count {
-        let o = 9 * i;
+        let o = TEXTURE_WIDTH * i;
         if !b3d_check_rows::name_valid(names, t[o], t[o + 1]) {
             return false;
         }
@@ -43,11 +46,11 @@ fn ids_valid(t: &[u32], textures: u32, place: usize, count: usize) -> bool
 
 // Returns whether row `i` of table 2, `t`, is sound: its name is in `names`, its first `slots` ids are NONE or below `textures`, the unused ones NONE.
 fn brush_valid(names: &[u8], slots: u32, textures: u32, t: &[u32], i: usize) -> bool
-    requires { ⌜ (slots ≤ 8) × (17 * i + 17 ≤ length (now t)) ⌝ }
-    ensures { λ r. ⌜ r ≡ brushValid (now (names .entry)) slots textures (rowAt 17 i (now (t .entry))) ⌝ }
+    requires { ⌜ (slots ≤ 8) × (brushWidth * i + brushWidth ≤ length (now t)) ⌝ }
+    ensures { λ r. ⌜ r ≡ brushValid (now (names .entry)) slots textures (rowAt brushWidth i (now (t .entry))) ⌝ }
 {
     let many = wire::size(slots);
-    let o = 17 * i;
+    let o = BRUSH_WIDTH * i;
     if !b3d_check_rows::name_valid(names, t[o], t[o + 1]) {
         return false;
     }
@@ -59,8 +62,8 @@ fn brush_valid(names: &[u8], slots: u32, textures: u32, t: &[u32], i: usize) -> 
 
 // Returns whether each of the first `count` rows of table 2, `t`, is sound, with `slots` ids in use and `textures` textures.
 pub fn brushes_valid(names: &[u8], slots: u32, textures: u32, t: &[u32], count: usize) -> bool
-    requires { ⌜ (slots ≤ 8) × (17 * count ≤ length (now t)) ⌝ }
-    ensures { λ r. ⌜ r ≡ all (brushValid (now (names .entry)) slots textures) (rowsAt 17 0 count (now (t .entry))) ⌝ }
+    requires { ⌜ (slots ≤ 8) × (brushWidth * count ≤ length (now t)) ⌝ }
+    ensures { λ r. ⌜ r ≡ all (brushValid (now (names .entry)) slots textures) (rowsAt brushWidth 0 count (now (t .entry))) ⌝ }
 {
     let mut i: usize = 0;
     while i < count {

@@ -5,12 +5,14 @@ ghost use Prim.Native.Nat.{_+_, _-_, _*_, _<_, _≤_};
 ghost use lib.ListN.{length};
 ghost use Rattle.b3d_spec.specs.Mask.{vertexMask};
 ghost use Rattle.b3d_spec.specs.Rules.{weightRow};
+ghost use Rattle.b3d_spec.specs.Tables.{meshWidth, vertexWidth, triangleSetWidth, triangleWidth, weightWidth};
 ghost use Rattle.b3d_check_spec.specs.Check.{keeps, clean, rowsValid, meshValid};
 ghost use Rattle.b3d_check_rows.specs.Rows.{rowAt, rowsAt};
 ghost use Rattle.b3d_check_mesh.specs.Parts.{meshRowHere, meshSets, MeshAfter};
 use b3d_check_row_runs::Run;
 use b3d_check_rows::Ids;
 use b3d_spec::Counts;
+use b3d_spec::MESH_WIDTH;
 
 // ---- vertices and weights
 
@@ -24,8 +26,8 @@ fn vertices_left(
     first: usize,
     total: usize,
 ) -> bool
-    requires { ⌜ (first ≤ total) × (42 * total ≤ length (now t)) ⌝ }
-    ensures { λ r. ⌜ r ≡ rowsValid (clean (vertexMask flags sets size)) count (rowsAt 42 first (total - first) (now (t .entry))) ⌝ }
+    requires { ⌜ (first ≤ total) × (vertexWidth * total ≤ length (now t)) ⌝ }
+    ensures { λ r. ⌜ r ≡ rowsValid (clean (vertexMask flags sets size)) count (rowsAt vertexWidth first (total - first) (now (t .entry))) ⌝ }
 {
     if total - first < count {
         return false;
@@ -35,8 +37,8 @@ fn vertices_left(
 
 // Returns whether `count` weights are there from row `first` on, of `total` in all, and each names a vertex below `bones`.
 pub fn weights_left(t: &[u32], bones: u32, count: usize, first: usize, total: usize) -> bool
-    requires { ⌜ (first ≤ total) × (2 * total ≤ length (now t)) ⌝ }
-    ensures { λ r. ⌜ r ≡ rowsValid (keeps (weightRow bones)) count (rowsAt 2 first (total - first) (now (t .entry))) ⌝ }
+    requires { ⌜ (first ≤ total) × (weightWidth * total ≤ length (now t)) ⌝ }
+    ensures { λ r. ⌜ r ≡ rowsValid (keeps (weightRow bones)) count (rowsAt weightWidth first (total - first) (now (t .entry))) ⌝ }
 {
     if total - first < count {
         return false;
@@ -49,10 +51,10 @@ pub fn weights_left(t: &[u32], bones: u32, count: usize, first: usize, total: us
 // Returns whether row `i` of table 4, `t`, is sound by its cells alone: it belongs to `node`, its brush is NONE or below `brushes`, its numbers are in range,
 // and its first vertex is `vertices`.
 fn mesh_head(brushes: u32, node: usize, vertices: usize, t: &[u32], i: usize) -> bool
-    requires { ⌜ 9 * i + 9 ≤ length (now t) ⌝ }
-    ensures { λ r. ⌜ r ≡ meshRowHere brushes node vertices (rowAt 9 i (now (t .entry))) ⌝ }
+    requires { ⌜ meshWidth * i + meshWidth ≤ length (now t) ⌝ }
+    ensures { λ r. ⌜ r ≡ meshRowHere brushes node vertices (rowAt meshWidth i (now (t .entry))) ⌝ }
 {
-    let o = 9 * i;
+    let o = MESH_WIDTH * i;
     let own = b3d_check_rows::cell(t, o);
     let from = b3d_check_rows::cell(t, o + 5);
     let brush = t[o + 1];
@@ -74,11 +76,11 @@ fn mesh_sets(
     from: usize,
     all: usize,
 ) -> bool
-    requires { ⌜ (9 * i + 9 ≤ length (now t)) × (first ≤ total) × (4 * total ≤ length (now sets)) ⌝ }
-    requires { ⌜ (from ≤ all) × (3 * all ≤ length (now triangles)) ⌝ }
-    ensures { λ r. ⌜ r ≡ meshSets brushes i first from (rowAt 9 i (now (t .entry))) (rowsAt 4 first (total - first) (now (sets .entry))) (rowsAt 3 from (all - from) (now (triangles .entry))) ⌝ }
+    requires { ⌜ (meshWidth * i + meshWidth ≤ length (now t)) × (first ≤ total) × (triangleSetWidth * total ≤ length (now sets)) ⌝ }
+    requires { ⌜ (from ≤ all) × (triangleWidth * all ≤ length (now triangles)) ⌝ }
+    ensures { λ r. ⌜ r ≡ meshSets brushes i first from (rowAt meshWidth i (now (t .entry))) (rowsAt triangleSetWidth first (total - first) (now (sets .entry))) (rowsAt triangleWidth from (all - from) (now (triangles .entry))) ⌝ }
 {
-    let o = 9 * i;
+    let o = MESH_WIDTH * i;
     let to = b3d_check_rows::cell(t, o + 7);
     let count = b3d_check_rows::cell(t, o + 8);
     if !(to == first) {
@@ -106,11 +108,11 @@ pub fn mesh_valid(
     t7: &[u32],
 ) -> bool
     requires { ⌜ MeshAfter n all (length (now t4)) (length (now t5)) (length (now t6)) (length (now t7)) ⌝ }
-    ensures { λ r. ⌜ r ≡ meshValid brushes n (rowAt 9 (n .meshes) (now (t4 .entry))) (rowsAt 42 (n .vertices) (all .vertices - n .vertices) (now (t5 .entry)))
-        (rowsAt 4 (n .sets) (all .sets - n .sets) (now (t6 .entry))) (rowsAt 3 (n .triangles) (all .triangles - n .triangles) (now (t7 .entry))) ⌝ }
+    ensures { λ r. ⌜ r ≡ meshValid brushes n (rowAt meshWidth (n .meshes) (now (t4 .entry))) (rowsAt vertexWidth (n .vertices) (all .vertices - n .vertices) (now (t5 .entry)))
+        (rowsAt triangleSetWidth (n .sets) (all .sets - n .sets) (now (t6 .entry))) (rowsAt triangleWidth (n .triangles) (all .triangles - n .triangles) (now (t7 .entry))) ⌝ }
 {
     let i = n.meshes;
-    let o = 9 * i;
+    let o = MESH_WIDTH * i;
     let count = b3d_check_rows::cell(t4, o + 6);
     let from = n.vertices;
     let end = all.vertices;

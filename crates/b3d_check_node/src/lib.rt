@@ -4,7 +4,7 @@ ghost use mathlib.Core.List.{[]};
 ghost use Prim.Native.Nat.{_+_, _-_, _*_, _<_, _≤_};
 ghost use lib.ListN.{length, take, drop};
 ghost use Rattle.b3d_spec.specs.Rebuild.{ownedBy};
-ghost use Rattle.b3d_spec.specs.Tables.{nodeWidth};
+ghost use Rattle.b3d_spec.specs.Tables.{nodeWidth, keyListWidth, keyWidth};
 ghost use Rattle.b3d_check_spec.specs.Check.{groupsValid, keyListValid, kindValid, animValid, nodeValid};
 ghost use Rattle.b3d_check_rows.specs.Rows.{rowAt, rowsAt};
 ghost use Rattle.b3d_check_spec.specs.Rooms.{KindRoom, ListRoom};
@@ -56,7 +56,7 @@ fn kind_valid(
 // Returns whether the key lists of the node that comes after the counts `n` are sound, with their keys.
 fn own_lists(n: Counts, all: Counts, t9: &[u32], t10: &[u32]) -> bool
     requires { ⌜ Below n all × ListRoom all (length (now t9)) (length (now t10)) ⌝ }
-    ensures { λ r. ⌜ r ≡ groupsValid keyListValid (n .keys) (ownedBy (n .nodes) (rowsAt 4 (n .lists) (all .lists - n .lists) (now (t9 .entry)))) (rowsAt 11 (n .keys) (all .keys - n .keys) (now (t10 .entry))) ⌝ }
+    ensures { λ r. ⌜ r ≡ groupsValid keyListValid (n .keys) (ownedBy (n .nodes) (rowsAt keyListWidth (n .lists) (all .lists - n .lists) (now (t9 .entry)))) (rowsAt keyWidth (n .keys) (all .keys - n .keys) (now (t10 .entry))) ⌝ }
 {
     let end = b3d_check_row_runs::lists_of(n.nodes, t9, n.lists, all.lists);
     b3d_check_row_runs::groups_valid(Run::Keys, t9, n.lists, end - n.lists, t10, n.keys, all.keys)

@@ -6,19 +6,20 @@ use lib.Dec.{eqb}
 use Rattle.wire.specs.Test.{if}
 use Rattle.b3d_spec.specs.Rebuild.{cut, Rows}
 use Rattle.b3d_spec.specs.declared.Counts.{Counts}
+use Rattle.b3d_spec.specs.Tables.{meshWidth, vertexWidth, triangleSetWidth, triangleWidth, weightWidth, keyListWidth, keyWidth}
 use Rattle.b3d_check_spec.specs.CellCounts.{endOf}
 use Rattle.b3d_check_rows.specs.Rows.{rowsAt}
 
 -- the rows of table k, 4 to 10, as many as a counts, the words of the tables being t₄ to t₁₀; none for another k
 unfoldable pub partRows : Counts → List ℕ → List ℕ → List ℕ → List ℕ → List ℕ → List ℕ → List ℕ → Rows
 partRows a t₄ t₅ t₆ t₇ t₈ t₉ t₁₀ k =
-    if (eqb k 4) (cut 9 (a .meshes) t₄)
-    (if (eqb k 5) (cut 42 (a .vertices) t₅)
-    (if (eqb k 6) (cut 4 (a .sets) t₆)
-    (if (eqb k 7) (cut 3 (a .triangles) t₇)
-    (if (eqb k 8) (cut 2 (a .weights) t₈)
-    (if (eqb k 9) (cut 4 (a .lists) t₉)
-    (if (eqb k 10) (cut 11 (a .keys) t₁₀) []))))))
+    if (eqb k 4) (cut meshWidth (a .meshes) t₄)
+    (if (eqb k 5) (cut vertexWidth (a .vertices) t₅)
+    (if (eqb k 6) (cut triangleSetWidth (a .sets) t₆)
+    (if (eqb k 7) (cut triangleWidth (a .triangles) t₇)
+    (if (eqb k 8) (cut weightWidth (a .weights) t₈)
+    (if (eqb k 9) (cut keyListWidth (a .lists) t₉)
+    (if (eqb k 10) (cut keyWidth (a .keys) t₁₀) []))))))
 
 -- no count of n is above that of a
 pub record Below (n a : Counts) : Type 0 where
@@ -36,8 +37,8 @@ pub record MeshEnds (n a : Counts) (t₄ t₆ : List ℕ) : Type 0 where
   -- one more mesh is counted by a
   pub one : n .meshes < a .meshes
   -- its vertices are
-  pub vertices : n .vertices + getD t₄ (9 * n .meshes + 6) 0 ≤ a .vertices
+  pub vertices : n .vertices + getD t₄ (meshWidth * n .meshes + 6) 0 ≤ a .vertices
   -- its triangle sets are
-  pub sets : n .sets + getD t₄ (9 * n .meshes + 8) 0 ≤ a .sets
+  pub sets : n .sets + getD t₄ (meshWidth * n .meshes + 8) 0 ≤ a .sets
   -- the triangles of these sets are
-  pub triangles : endOf (n .triangles) (rowsAt 4 (n .sets) (getD t₄ (9 * n .meshes + 8) 0) t₆) ≤ a .triangles
+  pub triangles : endOf (n .triangles) (rowsAt triangleSetWidth (n .sets) (getD t₄ (meshWidth * n .meshes + 8) 0) t₆) ≤ a .triangles

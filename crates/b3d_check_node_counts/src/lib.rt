@@ -3,22 +3,23 @@ ghost use mathlib.Core.Path.{_≡_};
 ghost use mathlib.Core.List.{[], _∷_};
 ghost use Prim.Native.Nat.{_+_, _-_, _*_, _<_, _≤_};
 ghost use lib.ListN.{length};
-ghost use Rattle.b3d_spec.specs.Tables.{nodeWidth};
+ghost use Rattle.b3d_spec.specs.Tables.{nodeWidth, meshWidth, triangleSetWidth, keyListWidth};
 ghost use Rattle.b3d_check_spec.specs.CellCounts.{meshCounts, kindCounts, cellCounts};
 ghost use Rattle.b3d_check_rows.specs.Rows.{rowAt, rowsAt};
 ghost use Rattle.b3d_check_spec.specs.Rooms.{Limited};
 ghost use Rattle.b3d_check_node_counts.specs.Parts.{partRows, Below, MeshEnds};
 ghost use Rattle.b3d_check_node_counts.specs.Ended.{ended};
 use b3d_spec::Counts;
+use b3d_spec::MESH_WIDTH;
 use b3d_spec::NODE_WIDTH;
 
 // Returns the counts after the mesh that comes after the counts `n`, by its row in `t4` and its triangle sets in `t6`.
 fn mesh_counts(n: Counts, all: Counts, t4: &[u32], t6: &[u32]) -> Counts
-    requires { ⌜ MeshEnds n all (now t4) (now t6) × Limited all × (9 * all .meshes ≤ length (now t4)) × (4 * all .sets ≤ length (now t6)) ⌝ }
-    ensures { λ r. ⌜ r ≡ meshCounts (rowAt 9 (n .meshes) (now (t4 .entry))) (rowsAt 4 (n .sets) (all .sets - n .sets) (now (t6 .entry))) n ⌝ }
+    requires { ⌜ MeshEnds n all (now t4) (now t6) × Limited all × (meshWidth * all .meshes ≤ length (now t4)) × (triangleSetWidth * all .sets ≤ length (now t6)) ⌝ }
+    ensures { λ r. ⌜ r ≡ meshCounts (rowAt meshWidth (n .meshes) (now (t4 .entry))) (rowsAt triangleSetWidth (n .sets) (all .sets - n .sets) (now (t6 .entry))) n ⌝ }
 {
     let i = n.meshes;
-    let o = 9 * i;
+    let o = MESH_WIDTH * i;
     let vertices = b3d_check_rows::cell(t4, o + 6);
     let sets = b3d_check_rows::cell(t4, o + 8);
     let triangles = b3d_check_row_runs::end_of(t6, n.sets, sets, n.triangles);
@@ -32,7 +33,7 @@ fn mesh_counts(n: Counts, all: Counts, t4: &[u32], t6: &[u32]) -> Counts
 
 // Returns the counts after the mesh (`kind` 1) or the `count` weights (`kind` 2) of the node that comes after the counts `n`; `n` for any other kind.
 fn kind_counts(n: Counts, all: Counts, kind: u32, count: usize, t4: &[u32], t6: &[u32]) -> Counts
-    requires { ⌜ Below n all × Limited all × (9 * all .meshes ≤ length (now t4)) × (4 * all .sets ≤ length (now t6)) ⌝ }
+    requires { ⌜ Below n all × Limited all × (meshWidth * all .meshes ≤ length (now t4)) × (triangleSetWidth * all .sets ≤ length (now t6)) ⌝ }
     requires { ⌜ Below (kindCounts (partRows all (now t4) [] (now t6) [] [] [] []) n (kind ∷ 0 ∷ count ∷ [])) all ⌝ }
     ensures { λ r. ⌜ r ≡ kindCounts (partRows all (now (t4 .entry)) [] (now (t6 .entry)) [] [] [] []) n (kind ∷ 0 ∷ count ∷ []) ⌝ }
 {
@@ -50,7 +51,7 @@ fn kind_counts(n: Counts, all: Counts, kind: u32, count: usize, t4: &[u32], t6: 
 // Returns the counts after the node that comes after the counts `n`; no count passes `all`, as for a sound node.
 pub fn node_counts(n: Counts, all: Counts, t3: &[u32], t4: &[u32], t6: &[u32], t9: &[u32]) -> Counts
     requires { ⌜ Below n all × Limited all × (n .nodes < all .nodes) × (nodeWidth * all .nodes ≤ length (now t3)) ⌝ }
-    requires { ⌜ (9 * all .meshes ≤ length (now t4)) × (4 * all .sets ≤ length (now t6)) × (4 * all .lists ≤ length (now t9)) ⌝ }
+    requires { ⌜ (meshWidth * all .meshes ≤ length (now t4)) × (triangleSetWidth * all .sets ≤ length (now t6)) × (keyListWidth * all .lists ≤ length (now t9)) ⌝ }
     requires { ⌜ Below (cellCounts (partRows all (now t4) [] (now t6) [] [] (now t9) []) (rowAt nodeWidth (n .nodes) (now t3)) n) all ⌝ }
     ensures { λ r. ⌜ r ≡ cellCounts (partRows all (now (t4 .entry)) [] (now (t6 .entry)) [] [] (now (t9 .entry)) []) (rowAt nodeWidth (n .nodes) (now (t3 .entry))) n ⌝ }
 {

@@ -3,12 +3,15 @@
 ghost use mathlib.Core.Path.{_≡_};
 ghost use Prim.Native.Nat.{_+_, _-_, _*_, _≤_};
 ghost use lib.ListN.{length};
+ghost use Rattle.b3d_spec.specs.Tables.{triangleSetWidth, triangleWidth, keyListWidth, keyWidth};
 ghost use Rattle.b3d_check_spec.specs.CellCounts.{endOf};
 ghost use Rattle.b3d_check_spec.specs.Check.{groupsValid, setValid, keyListValid};
 ghost use Rattle.b3d_check_rows.specs.Rows.{rowAt, rowsAt};
 ghost use Rattle.b3d_check_row_runs.specs.Items.{runWidth, runTest};
 ghost use Rattle.b3d_check_row_runs.specs.Mine.{MineTo};
 use b3d_check_rows::Ids;
+use b3d_spec::KEY_LIST_WIDTH;
+use b3d_spec::TRIANGLE_SET_WIDTH;
 
 // Which rows own groups of items: key lists, whose items are keys; or the triangle sets of a mesh, given by the number of brushes, the mesh's vertices and
 // its number.
@@ -19,10 +22,10 @@ pub enum Run {
 
 // Returns whether row `i` of table 9, `t`, has flags in their range and the cells that they leave out of its `count` keys from row `first` on are 0.
 fn key_list_valid(t: &[u32], i: usize, keys: &[u32], first: usize, count: usize) -> bool
-    requires { ⌜ (4 * i + 4 ≤ length (now t)) × (11 * (first + count) ≤ length (now keys)) ⌝ }
-    ensures { λ r. ⌜ r ≡ keyListValid (rowAt 4 i (now (t .entry))) (rowsAt 11 first count (now (keys .entry))) ⌝ }
+    requires { ⌜ (keyListWidth * i + keyListWidth ≤ length (now t)) × (keyWidth * (first + count) ≤ length (now keys)) ⌝ }
+    ensures { λ r. ⌜ r ≡ keyListValid (rowAt keyListWidth i (now (t .entry))) (rowsAt keyWidth first count (now (keys .entry))) ⌝ }
 {
-    let flags = t[4 * i + 1];
+    let flags = t[KEY_LIST_WIDTH * i + 1];
     if !(flags <= 7) {
         return false;
     }
@@ -41,10 +44,10 @@ fn set_valid(
     first: usize,
     count: usize,
 ) -> bool
-    requires { ⌜ (4 * i + 4 ≤ length (now t)) × (3 * (first + count) ≤ length (now triangles)) ⌝ }
-    ensures { λ r. ⌜ r ≡ setValid brushes v mesh (rowAt 4 i (now (t .entry))) (rowsAt 3 first count (now (triangles .entry))) ⌝ }
+    requires { ⌜ (triangleSetWidth * i + triangleSetWidth ≤ length (now t)) × (triangleWidth * (first + count) ≤ length (now triangles)) ⌝ }
+    ensures { λ r. ⌜ r ≡ setValid brushes v mesh (rowAt triangleSetWidth i (now (t .entry))) (rowsAt triangleWidth first count (now (triangles .entry))) ⌝ }
 {
-    let o = 4 * i;
+    let o = TRIANGLE_SET_WIDTH * i;
     let own = b3d_check_rows::cell(t, o);
     let brush = t[o + 1];
     if !(own == mesh) {
@@ -104,12 +107,12 @@ pub fn groups_valid(
 
 // Returns the number behind the last key list of `node`, of the rows from `first` up to `total` that follow each other; `first` if that row is not its own.
 pub fn lists_of(node: usize, t: &[u32], first: usize, total: usize) -> usize
-    requires { ⌜ (first ≤ total) × (4 * total ≤ length (now t)) ⌝ }
+    requires { ⌜ (first ≤ total) × (keyListWidth * total ≤ length (now t)) ⌝ }
     ensures { λ r. ⌜ MineTo node first total (now (t .entry)) r ⌝ }
 {
     let mut i = first;
     while i < total {
-        let own = b3d_check_rows::cell(t, 4 * i);
+        let own = b3d_check_rows::cell(t, KEY_LIST_WIDTH * i);
         if !(own == node) {
             return i;
         }

@@ -7,9 +7,12 @@ ghost use lib.ListN.{length, getD, take, drop};
 ghost use lib.Dec.{ltb};
 ghost use Rattle.layout.specs.WellFormed.{all};
 ghost use Rattle.b3d_spec.specs.Rules.{triangleRow, weightRow};
+ghost use Rattle.b3d_spec.specs.Tables.{triangleWidth, weightWidth};
 ghost use Rattle.b3d_check_spec.specs.Check.{keeps, nameValid};
 ghost use Rattle.b3d_check_rows.specs.IdRows.{idWidth, idRow};
 ghost use Rattle.b3d_check_rows.specs.Rows.{rowAt, rowsAt};
+use b3d_spec::TRIANGLE_WIDTH;
+use b3d_spec::WEIGHT_WIDTH;
 
 // Returns cell `at` of the table `t` as a number.
 pub fn cell(t: &[u32], at: usize) -> usize
@@ -60,19 +63,19 @@ pub enum Ids {
 
 // Returns whether row `i` of table 7, `t`, names three vertices below `v`.
 fn triangle_valid(t: &[u32], v: u32, i: usize) -> bool
-    requires { ⌜ 3 * i + 3 ≤ length (now t) ⌝ }
-    ensures { λ r. ⌜ r ≡ keeps (triangleRow v) (rowAt 3 i (now (t .entry))) ⌝ }
+    requires { ⌜ triangleWidth * i + triangleWidth ≤ length (now t) ⌝ }
+    ensures { λ r. ⌜ r ≡ keeps (triangleRow v) (rowAt triangleWidth i (now (t .entry))) ⌝ }
 {
-    let o = 3 * i;
+    let o = TRIANGLE_WIDTH * i;
     (t[o] < v) & ((t[o + 1] < v) & (t[o + 2] < v))
 }
 
 // Returns whether row `i` of table 8, `t`, names a vertex below `bones`.
 fn weight_valid(t: &[u32], bones: u32, i: usize) -> bool
-    requires { ⌜ 2 * i + 2 ≤ length (now t) ⌝ }
-    ensures { λ r. ⌜ r ≡ keeps (weightRow bones) (rowAt 2 i (now (t .entry))) ⌝ }
+    requires { ⌜ weightWidth * i + weightWidth ≤ length (now t) ⌝ }
+    ensures { λ r. ⌜ r ≡ keeps (weightRow bones) (rowAt weightWidth i (now (t .entry))) ⌝ }
 {
-    t[2 * i] < bones
+    t[WEIGHT_WIDTH * i] < bones
 }
 
 // Returns whether row `i` of `t`, a triangle or a weight as `ids` says, names vertices below `v`.

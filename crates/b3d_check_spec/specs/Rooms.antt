@@ -2,6 +2,7 @@
 use Prim.Native.Nat.{ℕ, _*_, _≤_}
 use Rattle.b3d_spec.specs.Rules.{rowLimit}
 use Rattle.b3d_spec.specs.declared.Counts.{Counts}
+use Rattle.b3d_spec.specs.Tables.{meshWidth, vertexWidth, triangleSetWidth, triangleWidth, weightWidth, keyListWidth, keyWidth}
 
 -- no count of a is above the row limit
 pub record Limited (a : Counts) : Type 0 where
@@ -17,19 +18,19 @@ pub record Limited (a : Counts) : Type 0 where
 -- tables 4 to 8, of words₄ to words₈ words, have the rows that a counts
 pub record KindRoom (a : Counts) (words₄ words₅ words₆ words₇ words₈ : ℕ) : Type 0 where
   -- nine words for each mesh
-  pub room₄ : 9 * a .meshes ≤ words₄
+  pub room₄ : meshWidth * a .meshes ≤ words₄
   -- 42 words for each vertex
-  pub room₅ : 42 * a .vertices ≤ words₅
+  pub room₅ : vertexWidth * a .vertices ≤ words₅
   -- four words for each triangle set
-  pub room₆ : 4 * a .sets ≤ words₆
+  pub room₆ : triangleSetWidth * a .sets ≤ words₆
   -- three words for each triangle
-  pub room₇ : 3 * a .triangles ≤ words₇
+  pub room₇ : triangleWidth * a .triangles ≤ words₇
   -- two words for each weight
-  pub room₈ : 2 * a .weights ≤ words₈
+  pub room₈ : weightWidth * a .weights ≤ words₈
 
 -- tables 9 and 10, of words₉ and words₁₀ words, have the rows that a counts
 pub record ListRoom (a : Counts) (words₉ words₁₀ : ℕ) : Type 0 where
   -- four words for each key list
-  pub room₉ : 4 * a .lists ≤ words₉
+  pub room₉ : keyListWidth * a .lists ≤ words₉
   -- eleven words for each key
-  pub room₁₀ : 11 * a .keys ≤ words₁₀
+  pub room₁₀ : keyWidth * a .keys ≤ words₁₀

@@ -6,7 +6,7 @@ use lib.ListN.{getD}
 use lib.Dec.{leb}
 use Rattle.b3d_spec.specs.Rules.{rowLimit}
 use Rattle.b3d_spec.specs.declared.Counts.{Counts}
-use Rattle.b3d_spec.specs.Tables.{nodeWidth}
+use Rattle.b3d_spec.specs.Tables.{nodeWidth, textureWidth, brushWidth, meshWidth, vertexWidth, triangleSetWidth, triangleWidth, weightWidth, keyListWidth, keyWidth}
 use Rattle.b3d_check_spec.specs.Rooms.{Limited, KindRoom, ListRoom}
 
 -- the counts of tables 3 to 10 out of the ten counts
@@ -30,16 +30,16 @@ fitsIn c w l = leb c rowLimit && leb (w * c) l
 -- the counted rows of each table are there and within the row limit: c₁ textures, c₂ brushes and the rows that a counts, in tables of l₁ to l₁₀ words
 unfoldable pub rooms : ℕ → ℕ → Counts → ℕ → ℕ → ℕ → ℕ → ℕ → ℕ → ℕ → ℕ → ℕ → ℕ → Bool
 rooms c₁ c₂ a l₁ l₂ l₃ l₄ l₅ l₆ l₇ l₈ l₉ l₁₀ =
-    fitsIn c₁ 9 l₁
-    && (fitsIn c₂ 17 l₂
+    fitsIn c₁ textureWidth l₁
+    && (fitsIn c₂ brushWidth l₂
     && (fitsIn (a .nodes) nodeWidth l₃
-    && (fitsIn (a .meshes) 9 l₄
-    && (fitsIn (a .vertices) 42 l₅
-    && (fitsIn (a .sets) 4 l₆
-    && (fitsIn (a .triangles) 3 l₇
-    && (fitsIn (a .weights) 2 l₈
-    && (fitsIn (a .lists) 4 l₉
-    && fitsIn (a .keys) 11 l₁₀))))))))
+    && (fitsIn (a .meshes) meshWidth l₄
+    && (fitsIn (a .vertices) vertexWidth l₅
+    && (fitsIn (a .sets) triangleSetWidth l₆
+    && (fitsIn (a .triangles) triangleWidth l₇
+    && (fitsIn (a .weights) weightWidth l₈
+    && (fitsIn (a .lists) keyListWidth l₉
+    && fitsIn (a .keys) keyWidth l₁₀))))))))
 
 -- the test `rooms` as facts
 pub record Rooms (c₁ c₂ : ℕ) (a : Counts) (l₁ l₂ l₃ l₄ l₅ l₆ l₇ l₈ l₉ l₁₀ : ℕ) : Type 0 where
@@ -50,9 +50,9 @@ pub record Rooms (c₁ c₂ : ℕ) (a : Counts) (l₁ l₂ l₃ l₄ l₅ l₆ l
   -- the rows that a counts are
   pub limited : Limited a
   -- table 1 has its rows
-  pub room₁ : 9 * c₁ ≤ l₁
+  pub room₁ : textureWidth * c₁ ≤ l₁
   -- table 2 has its rows
-  pub room₂ : 17 * c₂ ≤ l₂
+  pub room₂ : brushWidth * c₂ ≤ l₂
   -- table 3 has its rows
   pub room₃ : nodeWidth * a .nodes ≤ l₃
   -- tables 4 to 8 have their rows

@@ -2,13 +2,23 @@
 ghost use mathlib.Core.Path.{_≡_};
 ghost use Prim.Native.Nat.{_*_, _≤_};
 ghost use lib.ListN.{length};
+ghost use Rattle.b3d_spec.specs.Tables.{vertexWidth};
 ghost use Rattle.b3d_check_table_lengths.specs.LentRooms.{partCounts, fitsIn, rooms};
+use b3d_spec::BRUSH_WIDTH;
 use b3d_spec::Counts;
+use b3d_spec::KEY_LIST_WIDTH;
+use b3d_spec::KEY_WIDTH;
+use b3d_spec::MESH_WIDTH;
 use b3d_spec::NODE_WIDTH;
+use b3d_spec::TEXTURE_WIDTH;
+use b3d_spec::TRIANGLE_SET_WIDTH;
+use b3d_spec::TRIANGLE_WIDTH;
+use b3d_spec::VERTEX_WIDTH;
+use b3d_spec::WEIGHT_WIDTH;
 
 // Returns whether `n` rows are no more than the row limit, and their words, `width` each, no more than `words`.
 fn fits_in(n: usize, width: usize, words: usize) -> bool
-    requires { ⌜ width ≤ 42 ⌝ }
+    requires { ⌜ width ≤ vertexWidth ⌝ }
     ensures { λ r. ⌜ r ≡ fitsIn n width words ⌝ }
 {
     if b3d_spec::ROW_LIMIT < n {
@@ -37,16 +47,16 @@ pub fn tables_have_rows(
         (length (now (t1 .entry))) (length (now (t2 .entry))) (length (now (t3 .entry))) (length (now (t4 .entry))) (length (now (t5 .entry)))
         (length (now (t6 .entry))) (length (now (t7 .entry))) (length (now (t8 .entry))) (length (now (t9 .entry))) (length (now (t10 .entry))) ⌝ }
 {
-    let b1 = fits_in(textures, 9, t1.len());
-    let b2 = fits_in(brushes, 17, t2.len());
+    let b1 = fits_in(textures, TEXTURE_WIDTH, t1.len());
+    let b2 = fits_in(brushes, BRUSH_WIDTH, t2.len());
     let b3 = fits_in(all.nodes, NODE_WIDTH, t3.len());
-    let b4 = fits_in(all.meshes, 9, t4.len());
-    let b5 = fits_in(all.vertices, 42, t5.len());
-    let b6 = fits_in(all.sets, 4, t6.len());
-    let b7 = fits_in(all.triangles, 3, t7.len());
-    let b8 = fits_in(all.weights, 2, t8.len());
-    let b9 = fits_in(all.lists, 4, t9.len());
-    let b10 = fits_in(all.keys, 11, t10.len());
+    let b4 = fits_in(all.meshes, MESH_WIDTH, t4.len());
+    let b5 = fits_in(all.vertices, VERTEX_WIDTH, t5.len());
+    let b6 = fits_in(all.sets, TRIANGLE_SET_WIDTH, t6.len());
+    let b7 = fits_in(all.triangles, TRIANGLE_WIDTH, t7.len());
+    let b8 = fits_in(all.weights, WEIGHT_WIDTH, t8.len());
+    let b9 = fits_in(all.lists, KEY_LIST_WIDTH, t9.len());
+    let b10 = fits_in(all.keys, KEY_WIDTH, t10.len());
     let last = b6 & (b7 & (b8 & (b9 & b10)));
     b1 & (b2 & (b3 & (b4 & (b5 & last))))
 }

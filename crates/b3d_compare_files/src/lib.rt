@@ -2,6 +2,7 @@
 ghost use Rattle.shared_put_or_count.specs.Emits.{Fits, Emits};
 ghost use Rattle.b3d_spec.specs.Tables.{tables};
 ghost use Rattle.b3d_compare_files.specs.Files.{Judged, tablesBytes, filesBytes};
+use b3d_spec::VERTEX_WIDTH;
 
 // Puts or counts the entries of the ten tables, of two accepted files with the same twelve numbers x. Gives the place after them.
 fn put_cells(a: &[u8], b: &[u8], x: [u32; 12], wet: bool, out: &mut [u8], at: usize) -> usize
@@ -11,8 +12,8 @@ fn put_cells(a: &[u8], b: &[u8], x: [u32; 12], wet: bool, out: &mut [u8], at: us
     let mut next = at;
     let mut k: u32 = 1;
     while k <= 10 {
-        let mut p = [0u32; 42];
-        let mut q = [0u32; 42];
+        let mut p = [0u32; VERTEX_WIDTH];
+        let mut q = [0u32; VERTEX_WIDTH];
         let i = wire::size(k) + 1;
         next = b3d_compare_tables::put_table(a, b, k, x[i], &mut p, &mut q, wet, out, next);
         k += 1;

@@ -5,19 +5,42 @@ ghost use Prim.Native.Nat.{_-_, _<_, _≤_};
 ghost use mathlib.Core.List.{[]};
 ghost use lib.ListN.{length};
 ghost use Rattle.shared_put_or_count.specs.Emits.{Fits, Emits};
+ghost use Rattle.b3d_spec.specs.Tables.{vertexWidth};
 ghost use Rattle.b3d_compare_spec.specs.Words.{wordsOf};
 ghost use Rattle.b3d_compare_spec.specs.Changes.{wordChanges, rowChanges};
 ghost use Rattle.b3d_compare_spec.specs.List.{listBytes};
 ghost use Rattle.b3d_compare_rows.specs.Rows.{wordEntry, Plain, NamesAre};
 use b3d_compare_spec::Difference;
+use b3d_spec::BRUSH_WIDTH;
+use b3d_spec::KEY_LIST_WIDTH;
+use b3d_spec::KEY_WIDTH;
+use b3d_spec::MESH_WIDTH;
+use b3d_spec::NODE_WIDTH;
+use b3d_spec::TEXTURE_WIDTH;
+use b3d_spec::TRIANGLE_SET_WIDTH;
+use b3d_spec::TRIANGLE_WIDTH;
+use b3d_spec::VERTEX_WIDTH;
+use b3d_spec::WEIGHT_WIDTH;
 
 // How many words a row of each table has.
-const WORDS: [usize; 11] = [12, 9, 17, 21, 9, 42, 4, 3, 2, 4, 11];
+const WORDS: [usize; 11] = [
+    12,
+    TEXTURE_WIDTH,
+    BRUSH_WIDTH,
+    NODE_WIDTH,
+    MESH_WIDTH,
+    VERTEX_WIDTH,
+    TRIANGLE_SET_WIDTH,
+    TRIANGLE_WIDTH,
+    WEIGHT_WIDTH,
+    KEY_LIST_WIDTH,
+    KEY_WIDTH,
+];
 
 // How many words a row of table k has.
 fn words_of(k: usize) -> usize
     requires { ⌜ k ≤ 10 ⌝ }
-    ensures { λ n. ⌜ (n ≡ wordsOf k) × (n ≤ 42) ⌝ }
+    ensures { λ n. ⌜ (n ≡ wordsOf k) × (n ≤ vertexWidth) ⌝ }
 {
     WORDS[k]
 }

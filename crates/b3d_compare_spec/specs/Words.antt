@@ -4,6 +4,7 @@ use mathlib.Core.List.{List, [], _∷_, _++_}
 use lib.ListN.{length, replicate, getD}
 use lib.Dec.{eqb}
 use Rattle.wire.specs.Test.{if}
+use Rattle.b3d_spec.specs.Tables.{vertexWidth}
 use Rattle.b3d_compare_spec.specs.declared.WordKind.{WordKind}
 use Rattle.b3d_compare_spec.specs.declared.WordKind.the-variants.{Whole, Float, Name, Length}
 
@@ -30,7 +31,7 @@ wordKinds k =
     -- node, brush, flags, sets, set size, first vertex, vertices, first triangle set, sets
     (if (eqb k 4) (wholes 9)
     -- position, normal, colour, coordinates
-    (if (eqb k 5) (floats 42)
+    (if (eqb k 5) (floats vertexWidth)
     -- mesh, brush, first triangle, triangles
     (if (eqb k 6) (wholes 4)
     -- vertex ids

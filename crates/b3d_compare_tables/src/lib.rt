@@ -2,6 +2,7 @@
 ghost use Prim.Native.Nat.{_<_, _≤_};
 ghost use lib.ListN.{length};
 ghost use Rattle.shared_put_or_count.specs.Emits.{Fits, Emits};
+ghost use Rattle.b3d_spec.specs.Tables.{vertexWidth};
 ghost use Rattle.b3d_rows.specs.NextRow.{rowsFrom, RowCursorAt};
 ghost use Rattle.b3d_compare_tables.specs.Tables.{Comparable, bytesFrom, tableBytes, PutTurn};
 use b3d_rows_nodes::RowCursor;
@@ -28,8 +29,8 @@ fn put_turn(
     out: &mut [u8],
     at: usize,
 ) -> Turn
-    requires { ⌜ (1 ≤ k) × (k ≤ 10) × RowCursorAt k (now a) x × (0 < length (rowsFrom k (now a) x)) × (42 ≤ length (now p))
-        × RowCursorAt k (now b) y × (0 < length (rowsFrom k (now b) y)) × (42 ≤ length (now q))
+    requires { ⌜ (1 ≤ k) × (k ≤ 10) × RowCursorAt k (now a) x × (0 < length (rowsFrom k (now a) x)) × (vertexWidth ≤ length (now p))
+        × RowCursorAt k (now b) y × (0 < length (rowsFrom k (now b) y)) × (vertexWidth ≤ length (now q))
         × Fits wet (bytesFrom k (now a) (now b) r x y) at (now out) ⌝ }
     ensures { λ t. ⌜ PutTurn k r (now (a .entry)) (now (b .entry)) x y (now (p .entry)) (now (q .entry)) (now (p .exit)) (now (q .exit))
         wet (now (out .entry)) at (now (out .exit)) t ⌝ }
@@ -60,8 +61,8 @@ fn put_rows(
     out: &mut [u8],
     at: usize,
 ) -> Turn
-    requires { ⌜ (1 ≤ k) × (k ≤ 10) × RowCursorAt k (now a) x × (0 < length (rowsFrom k (now a) x)) × (42 ≤ length (now p))
-        × RowCursorAt k (now b) y × (0 < length (rowsFrom k (now b) y)) × (42 ≤ length (now q))
+    requires { ⌜ (1 ≤ k) × (k ≤ 10) × RowCursorAt k (now a) x × (0 < length (rowsFrom k (now a) x)) × (vertexWidth ≤ length (now p))
+        × RowCursorAt k (now b) y × (0 < length (rowsFrom k (now b) y)) × (vertexWidth ≤ length (now q))
         × Fits wet (bytesFrom k (now a) (now b) r x y) at (now out) ⌝ }
     ensures { λ t. ⌜ PutTurn k r (now (a .entry)) (now (b .entry)) x y (now (p .entry)) (now (q .entry)) (now (p .exit)) (now (q .exit))
         wet (now (out .entry)) at (now (out .exit)) t ⌝ }
@@ -97,7 +98,7 @@ pub fn put_table(
     out: &mut [u8],
     at: usize,
 ) -> usize
-    requires { ⌜ Comparable k rows (now a) × Comparable k rows (now b) × (rows ≤ 2097151) × (42 ≤ length (now p)) × (42 ≤ length (now q))
+    requires { ⌜ Comparable k rows (now a) × Comparable k rows (now b) × (rows ≤ 2097151) × (vertexWidth ≤ length (now p)) × (vertexWidth ≤ length (now q))
         × Fits wet (tableBytes k (now a) (now b)) at (now out) ⌝ }
     ensures { λ n. ⌜ Emits wet (tableBytes k (now (a .entry)) (now (b .entry))) (now (out .entry)) at (now (out .exit)) n ⌝ }
 {

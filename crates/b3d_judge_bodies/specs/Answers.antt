@@ -6,6 +6,7 @@ use Rattle.wire.specs.declared.Cursor.{Cursor}
 use Rattle.layout.specs.Result.{Result, accept, reject}
 use Rattle.b3d_spec.specs.Rules.{vertexWords}
 use Rattle.b3d_spec.specs.Parse.{Vertices}
+use Rattle.b3d_spec.specs.Tables.{vertexWidth}
 use Rattle.b3d_judge_bodies.specs.declared.VerticesSummary.{VerticesSummary}
 use Rattle.b3d_judge_bodies.specs.declared.VerticesSummary.the-variants as shape
 
@@ -16,7 +17,7 @@ shaped (reject n p) = shape.Not n p
 
 -- bounds of an answer on a VRTS with the body b: its fixed data and k vertices have room there; a refusal's place is not past its end
 abbrev pub ShapedIn : Cursor → VerticesSummary → Type 0
-ShapedIn b (shape.Is k words) = (12 + k * (4 * words) ≤ b .end - b .at) × (3 ≤ words) × (words ≤ 42)
+ShapedIn b (shape.Is k words) = (12 + k * (4 * words) ≤ b .end - b .at) × (3 ≤ words) × (words ≤ vertexWidth)
 ShapedIn b (shape.Not n p) = p ≤ b .end
 
 -- r is the answer on the VRTS o with the body b

@@ -9,7 +9,16 @@ ghost use Rattle.b3d_spec.specs.Tables.{width, tables};
 ghost use Rattle.shared_room.specs.Rooms.{numberOf, firstShort};
 ghost use Rattle.b3d_judge_limits.specs.Rooms.{countsIn};
 use b3d_judge_tally::Tally;
+use b3d_spec::BRUSH_WIDTH;
+use b3d_spec::KEY_LIST_WIDTH;
+use b3d_spec::KEY_WIDTH;
+use b3d_spec::MESH_WIDTH;
 use b3d_spec::NODE_WIDTH;
+use b3d_spec::TEXTURE_WIDTH;
+use b3d_spec::TRIANGLE_SET_WIDTH;
+use b3d_spec::TRIANGLE_WIDTH;
+use b3d_spec::VERTEX_WIDTH;
+use b3d_spec::WEIGHT_WIDTH;
 
 // Returns `k` if `rows` is more than the row limit, else `later`.
 fn long_table_or(k: usize, rows: usize, later: usize) -> usize
@@ -48,14 +57,14 @@ pub fn first_short(
 ) -> usize
     ensures { λ r. ⌜ r ≡ firstShort width (numberOf (countsIn t)) (numberOf (l1 ∷ l2 ∷ l3 ∷ l4 ∷ l5 ∷ l6 ∷ l7 ∷ l8 ∷ l9 ∷ l10 ∷ [])) tables ⌝ }
 {
-    let from10 = shared_room::short_table_or(10, 11, t.keys, l10, 0);
-    let from9 = shared_room::short_table_or(9, 4, t.lists, l9, from10);
-    let from8 = shared_room::short_table_or(8, 2, t.weights, l8, from9);
-    let from7 = shared_room::short_table_or(7, 3, t.triangles, l7, from8);
-    let from6 = shared_room::short_table_or(6, 4, t.sets, l6, from7);
-    let from5 = shared_room::short_table_or(5, 42, t.vertices, l5, from6);
-    let from4 = shared_room::short_table_or(4, 9, t.meshes, l4, from5);
+    let from10 = shared_room::short_table_or(10, KEY_WIDTH, t.keys, l10, 0);
+    let from9 = shared_room::short_table_or(9, KEY_LIST_WIDTH, t.lists, l9, from10);
+    let from8 = shared_room::short_table_or(8, WEIGHT_WIDTH, t.weights, l8, from9);
+    let from7 = shared_room::short_table_or(7, TRIANGLE_WIDTH, t.triangles, l7, from8);
+    let from6 = shared_room::short_table_or(6, TRIANGLE_SET_WIDTH, t.sets, l6, from7);
+    let from5 = shared_room::short_table_or(5, VERTEX_WIDTH, t.vertices, l5, from6);
+    let from4 = shared_room::short_table_or(4, MESH_WIDTH, t.meshes, l4, from5);
     let from3 = shared_room::short_table_or(3, NODE_WIDTH, t.nodes, l3, from4);
-    let from2 = shared_room::short_table_or(2, 17, t.brushes, l2, from3);
-    shared_room::short_table_or(1, 9, t.textures, l1, from2)
+    let from2 = shared_room::short_table_or(2, BRUSH_WIDTH, t.brushes, l2, from3);
+    shared_room::short_table_or(1, TEXTURE_WIDTH, t.textures, l1, from2)
 }

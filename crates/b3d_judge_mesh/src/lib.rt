@@ -11,6 +11,7 @@ ghost use Rattle.b3d_judge_tally.specs.Tally.{plus, setsTally, verticesTally, W
 ghost use Rattle.b3d_spec_chunk_places.specs.Places.{Body, restIn, Among};
 ghost use Rattle.b3d_judge_tally.specs.Answers.{Judges};
 ghost use Rattle.b3d_spec.specs.Nesting.{start, reachedAt};
+ghost use Rattle.b3d_spec.specs.Tables.{vertexWidth};
 ghost use Rattle.b3d_judge_mesh.specs.Answers.{readAfter, readInside, Meshes};
 use b3d_chunk_next_allowed::Enclosed;
 use b3d_judge_bodies::VerticesSummary;
@@ -75,7 +76,7 @@ pub fn judge_sets(s: &[u8], at: usize, from: Cursor, brushes: usize, vertices: u
 
 // Returns the tally of a mesh of `n` vertices of `words` words each, and of its TRIS, `sets`.
 pub fn mesh_rows(n: usize, words: usize, sets: Tally) -> Tally
-    requires { ⌜ (n ≤ mostBytes) × (words ≤ 42) × Within (verticesTally n words) mostBytes × Within sets mostBytes ⌝ }
+    requires { ⌜ (n ≤ mostBytes) × (words ≤ vertexWidth) × Within (verticesTally n words) mostBytes × Within sets mostBytes ⌝ }
     ensures { λ r. ⌜ r ≡ plus (verticesTally n words) sets ⌝ }
 {
     b3d_judge_tally::plus(b3d_judge_tally::vertices(n, words), sets)

@@ -3,6 +3,7 @@
 ghost use Prim.Native.Nat.{_≤_};
 ghost use mathlib.Core.Path.{_≡_};
 ghost use Rattle.layout.specs.Rows.{mostBytes};
+ghost use Rattle.b3d_spec.specs.Tables.{vertexWidth};
 ghost use Rattle.b3d_judge_tally.specs.Tally.{noTally, bytesTally, headTally, verticesTally, trianglesTally, weightsTally, keysTally, plus, Within, texsOf, brusOf};
 
 // Rows of the ten tables, and bytes of the cleared copy.
@@ -91,7 +92,7 @@ pub fn head() -> Tally
 
 // Returns the tally of a MESH with a VRTS of `n` vertices of `words` words each, without its TRIS.
 pub fn vertices(n: usize, words: usize) -> Tally
-    requires { ⌜ (n ≤ mostBytes) × (words ≤ 42) ⌝ }
+    requires { ⌜ (n ≤ mostBytes) × (words ≤ vertexWidth) ⌝ }
     ensures { λ r. ⌜ r ≡ verticesTally n words ⌝ }
 {
     let mut t = bytes(32 + n * (4 * words));

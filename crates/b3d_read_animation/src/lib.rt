@@ -6,7 +6,9 @@ ghost use lib.Seq.{sets as stored};
 ghost use Rattle.layout.specs.Rows.{joined};
 ghost use Rattle.b3d_spec_plain_rows.specs.Rows.{fileRows};
 use b3d_chunk_walk::Flat;
+use b3d_spec::KEY_LIST_WIDTH;
 use b3d_spec::Tag;
+use b3d_spec::WEIGHT_WIDTH;
 
 // Stores the rows of tables 8, 9 and 10 of `file` in `weights`, `lists` and `keys`. The cells behind them stay as they were.
 pub fn store_animation(file: &[u8], weights: &mut [u32], lists: &mut [u32], keys: &mut [u32])
@@ -33,11 +35,11 @@ pub fn store_animation(file: &[u8], weights: &mut [u32], lists: &mut [u32], keys
             to10 = b3d_read_item_rows::store_keys(file, body, to10, keys);
             let node = b3d_chunk_walk::current(nodes);
             count += b3d_read_item_rows::store_group(file, body, true, node, count, to9, lists);
-            to9 += 4;
+            to9 += KEY_LIST_WIDTH;
         } else if b3d_chunk_cursor::same(tag, Tag::NODE) {
             nodes += 1;
         } else if b3d_chunk_cursor::same(tag, Tag::BONE) {
-            to8 = b3d_read_item_rows::store_items(file, body, 2, to8, weights);
+            to8 = b3d_read_item_rows::store_items(file, body, WEIGHT_WIDTH, to8, weights);
         }
         at = next;
     }

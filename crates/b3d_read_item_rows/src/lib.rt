@@ -9,6 +9,8 @@ ghost use Rattle.layout.specs.Rows.{joined};
 ghost use Rattle.b3d_spec_plain_rows.specs.Plain.{whole, plainVertices};
 ghost use Rattle.b3d_read_item_rows.specs.Items.{shapeRows, keyRowsOf, groupItems, groupRow};
 use b3d_chunk_walk::Three;
+use b3d_spec::KEY_WIDTH;
+use b3d_spec::VERTEX_WIDTH;
 use wire::Cursor;
 
 // Stores the items of `width` words at `c` that are all there in `out` from cell `base` on, as they stand. Returns the cell behind them.
@@ -65,7 +67,7 @@ pub fn store_vertex_rows(file: &[u8], body: Cursor, base: usize, out: &mut [u32]
         base,
         out,
     );
-    base + count * 42
+    base + count * VERTEX_WIDTH
 }
 
 // Stores the rows of the keys of a KEYS with this `body` in `out` from cell `base` on. Returns the cell behind them; `base` where the flags are cut.
@@ -92,7 +94,7 @@ pub fn store_keys(file: &[u8], body: Cursor, base: usize, out: &mut [u32]) -> us
         base,
         out,
     );
-    base + count * 11
+    base + count * KEY_WIDTH
 }
 
 // Stores the row of a KEYS (`keys`) of node `owner` or of a TRIS of mesh `owner` in `out` from cell `base` on: the owner, the first number of `body`, the

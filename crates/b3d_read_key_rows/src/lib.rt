@@ -7,14 +7,16 @@ ghost use mathlib.Core.List.{map};
 ghost use Rattle.wire.specs.Cursors.{Inside, left};
 ghost use Rattle.layout.specs.Parts.{itemsOf};
 ghost use Rattle.b3d_spec.specs.Mask.{ones, padded, keyMask};
+ghost use Rattle.b3d_spec.specs.Tables.{keyWidth};
 ghost use Rattle.layout.specs.Rows.{joined};
 ghost use Rattle.b3d_read_key_rows.specs.Keys.{keyAt};
+use b3d_spec::KEY_WIDTH;
 use wire::Cursor;
 
 // Stores the row of one key in `out` from cell `base` on, from byte `at` of `file`: the frame, `a` words of a position, `b` of a scale, `c` of a rotation;
 // absent parts are zeros.
 fn store_key(file: &[u8], at: usize, a: usize, b: usize, c: usize, base: usize, out: &mut [u32])
-    requires { ⌜ (a ≤ 3) × (b ≤ 3) × (c ≤ 4) × (at + 4 * (1 + a + b + c) ≤ length (now file)) × (base + 11 ≤ length (now out)) ⌝ }
+    requires { ⌜ (a ≤ 3) × (b ≤ 3) × (c ≤ 4) × (at + 4 * (1 + a + b + c) ≤ length (now file)) × (base + keyWidth ≤ length (now out)) ⌝ }
     ensures { λ _. ⌜ now (out .exit) ≡ stored (now (out .entry)) base (keyAt a b c (now (file .entry)) at) ⌝ }
 {
     b3d_read_row_runs::put_piece(file, at, 1, 0, base, out);
@@ -34,7 +36,7 @@ pub fn fill_keys(
     base: usize,
     out: &mut [u32],
 )
-    requires { ⌜ Inside c (length (now file)) × (words ≡ ones (keyMask flags)) × (words ≤ 11) × (c .at + count * (4 * words) ≤ c .end) × (base + count * 11 ≤ length (now out)) ⌝ }
+    requires { ⌜ Inside c (length (now file)) × (words ≡ ones (keyMask flags)) × (words ≤ keyWidth) × (c .at + count * (4 * words) ≤ c .end) × (base + count * keyWidth ≤ length (now out)) ⌝ }
     ensures { λ _. ⌜ now (out .exit) ≡ stored (now (out .entry)) base (joined (map (padded (keyMask flags)) (itemsOf count words (left c (now (file .entry)))))) ⌝ }
 {
     let position = wire::size(flags % 2 * 3);
@@ -46,7 +48,7 @@ pub fn fill_keys(
     while 0 < left {
         store_key(file, at, position, scale, turn, o, out);
         at += 4 * words;
-        o += 11;
+        o += KEY_WIDTH;
         left -= 1;
     }
 }

@@ -7,6 +7,7 @@ use lib.Seq.{sets as stored}
 use Rattle.wire.specs.Cursors.{left}
 use Rattle.wire.specs.declared.Cursor.{Cursor}
 use Rattle.layout.specs.Rows.{joined}
+use Rattle.b3d_spec.specs.Tables.{meshWidth}
 use Rattle.b3d_spec_plain_rows.specs.Plain.{plainMesh}
 use Rattle.b3d_read_mesh_rows.specs.Meshes.{verticesIn, meshCells}
 use Rattle.b3d_read_triangle_rows.specs.Sets.{trianglesIn, setsIn, triangleCount}
@@ -25,7 +26,7 @@ pub record MarksFit (at : ℕ) (m : Marks) : Type 0 where
   -- no more triangles came before than bytes
   pub triangles : m .triangles ≤ at
   -- table 4 has nine cells a row
-  pub words4 : m .to4 ≤ 9 * at
+  pub words4 : m .to4 ≤ meshWidth * at
   -- table 6 has four cells a row
   pub words6 : m .to6 ≤ 4 * at
 

@@ -8,6 +8,7 @@ ghost use Rattle.b3d_spec_plain_rows.specs.Rows.{fileRows};
 ghost use Rattle.b3d_chunk_walk.specs.Walks.{BodyAt};
 ghost use Rattle.b3d_read_meshes.specs.Marks.{MarksFit, MeshRoom, MeshStored};
 use b3d_chunk_walk::Flat;
+use b3d_spec::MESH_WIDTH;
 use b3d_spec::Tag;
 use wire::Cursor;
 
@@ -41,7 +42,7 @@ fn put_one(
         (now (t4 .exit)) (now (t5 .exit)) (now (t6 .exit)) (now (t7 .exit)) r ⌝ }
 {
     let meshes = m.meshes + 1;
-    let to4 = m.to4 + 9;
+    let to4 = m.to4 + MESH_WIDTH;
     let node = b3d_chunk_walk::current(m.nodes);
     let more = b3d_read_mesh_rows::store_mesh(file, p, body, node, m.vertices, m.sets, m.to4, t4);
     let vertices = m.vertices + more.vertices;

@@ -8,6 +8,8 @@ ghost use Rattle.layout.specs.Rows.{joined};
 ghost use Rattle.b3d_chunk_walk.specs.Walks.{BodyAt};
 ghost use Rattle.b3d_read_triangle_rows.specs.Sets.{trianglesIn, setsIn, SetsPut};
 use b3d_chunk_walk::Sought;
+use b3d_spec::TRIANGLE_SET_WIDTH;
+use b3d_spec::TRIANGLE_WIDTH;
 use b3d_spec::Tag;
 use wire::Cursor;
 
@@ -25,7 +27,7 @@ pub fn store_triangles(file: &[u8], p: usize, body: Cursor, base: usize, out: &m
             return o;
         };
         let set = b3d_chunk_walk::first_word(file, b);
-        o = b3d_read_item_rows::store_items(file, set.rest, 3, o, out);
+        o = b3d_read_item_rows::store_items(file, set.rest, TRIANGLE_WIDTH, o, out);
         c = next;
     }
 }
@@ -59,7 +61,7 @@ pub fn put_sets(
             return After { base: o, first: n };
         };
         n += b3d_read_item_rows::store_group(file, b, false, mesh, n, o, out);
-        o += 4;
+        o += TRIANGLE_SET_WIDTH;
         c = next;
     }
 }

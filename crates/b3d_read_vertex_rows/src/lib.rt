@@ -8,8 +8,10 @@ ghost use Rattle.wire.specs.Cursors.{Inside, left};
 ghost use Rattle.layout.specs.Parts.{itemsOf};
 ghost use Rattle.b3d_spec.specs.Rules.{vertexWords};
 ghost use Rattle.b3d_spec.specs.Mask.{padded, vertexMask};
+ghost use Rattle.b3d_spec.specs.Tables.{vertexWidth};
 ghost use Rattle.layout.specs.Rows.{joined};
 ghost use Rattle.b3d_read_vertex_rows.specs.Vertices.{allSets, vertexAt};
+use b3d_spec::VERTEX_WIDTH;
 use wire::Cursor;
 
 // Stores zeros in the four cells of each of `n` sets, in `out` from cell `base` on.
@@ -59,7 +61,7 @@ fn store_vertex(
     base: usize,
     out: &mut [u32],
 )
-    requires { ⌜ (a ≤ 3) × (b ≤ 4) × (size ≤ 4) × (sets ≤ 8) × (at + 4 * (3 + a + b + sets * size) ≤ length (now file)) × (base + 42 ≤ length (now out)) ⌝ }
+    requires { ⌜ (a ≤ 3) × (b ≤ 4) × (size ≤ 4) × (sets ≤ 8) × (at + 4 * (3 + a + b + sets * size) ≤ length (now file)) × (base + vertexWidth ≤ length (now out)) ⌝ }
     ensures { λ _. ⌜ now (out .exit) ≡ stored (now (out .entry)) base (vertexAt a b sets size (now (file .entry)) at) ⌝ }
 {
     b3d_read_row_runs::put_three(file, at, 3, base, out);
@@ -80,7 +82,7 @@ pub fn fill_vertices(
     base: usize,
     out: &mut [u32],
 )
-    requires { ⌜ Inside c (length (now file)) × (c .at + count * (4 * vertexWords flags sets size) ≤ c .end) × (base + count * 42 ≤ length (now out)) ⌝ }
+    requires { ⌜ Inside c (length (now file)) × (c .at + count * (4 * vertexWords flags sets size) ≤ c .end) × (base + count * vertexWidth ≤ length (now out)) ⌝ }
     requires { ⌜ (flags ≤ 3) × (sets ≤ 8) × (size ≤ 4) ⌝ }
     ensures { λ _. ⌜ now (out .exit) ≡ stored (now (out .entry)) base (joined (map (padded (vertexMask flags sets size)) (itemsOf count (vertexWords flags sets size) (left c (now (file .entry)))))) ⌝ }
 {
@@ -95,7 +97,7 @@ pub fn fill_vertices(
     while 0 < left {
         store_vertex(file, at, a, b, n, z, o, out);
         at += 4 * words;
-        o += 42;
+        o += VERTEX_WIDTH;
         left -= 1;
     }
 }

@@ -3,6 +3,7 @@ ghost use mathlib.Core.Path.{_≡_};
 ghost use Prim.Native.Nat.{_<_, _≤_};
 ghost use mathlib.Core.List.{[]};
 ghost use lib.ListN.{length};
+ghost use Rattle.b3d_spec.specs.Tables.{vertexWidth};
 ghost use Rattle.b3d_spec_plain_rows.specs.Flat.{flatAt};
 ghost use Rattle.b3d_rows_nodes.specs.NextNode.{Shallow};
 ghost use Rattle.b3d_rows.specs.NextRow.{partsFrom, rowsFrom, FirstItems, PartAt, RowCursorAt, Starts, PartNext, RowNext};
@@ -69,7 +70,7 @@ pub fn start(file: &[u8], k: u32) -> RowCursor
 
 // Writes the next row of table `k`, which is 4 to 10, into the start of `row` and returns the position behind it. The cells behind the row stay.
 pub fn next_part(file: &[u8], k: u32, x: Position, row: &mut [u32]) -> Position
-    requires { ⌜ (4 ≤ k) × (k ≤ 10) × PartAt k (now file) x × (0 < length (partsFrom k (now file) x)) × (42 ≤ length (now row)) ⌝ }
+    requires { ⌜ (4 ≤ k) × (k ≤ 10) × PartAt k (now file) x × (0 < length (partsFrom k (now file) x)) × (vertexWidth ≤ length (now row)) ⌝ }
     ensures { λ r. ⌜ PartNext k (now (file .entry)) x (now (row .entry)) (now (row .exit)) r ⌝ }
 {
     if k == 4 {
@@ -86,7 +87,7 @@ pub fn next_part(file: &[u8], k: u32, x: Position, row: &mut [u32]) -> Position
 
 // Writes the next row of table `k` into the start of `row` and returns the cursor behind it. The cells behind the row stay.
 pub fn next_row(file: &[u8], k: u32, x: RowCursor, row: &mut [u32]) -> RowCursor
-    requires { ⌜ (k ≤ 10) × RowCursorAt k (now file) x × (0 < length (rowsFrom k (now file) x)) × (42 ≤ length (now row)) ⌝ }
+    requires { ⌜ (k ≤ 10) × RowCursorAt k (now file) x × (0 < length (rowsFrom k (now file) x)) × (vertexWidth ≤ length (now row)) ⌝ }
     ensures { λ r. ⌜ RowNext k (now (file .entry)) x (now (row .entry)) (now (row .exit)) r ⌝ }
 {
     let position = x.position;

@@ -1,6 +1,7 @@
 // The next row of tables that have a row for a chunk: 4, the meshes, 9, the key lists, and 6, the triangle sets of each MESH.
 ghost use Prim.Native.Nat.{_<_, _≤_};
 ghost use lib.ListN.{length};
+ghost use Rattle.b3d_spec.specs.Tables.{vertexWidth};
 ghost use Rattle.b3d_rows_chunks.specs.NextChunk.{chunksAhead, ChunkPosition, ChunkNext, setsAhead, SetPosition, SetFound, SetNext};
 use b3d_chunk_walk::Sought;
 use b3d_rows_positions::FoundChunk;
@@ -11,7 +12,7 @@ use wire::Cursor;
 
 // Writes the next row of table 4 into the start of `row` and returns the position behind it. The cells behind the row stay.
 pub fn next_mesh(file: &[u8], x: Position, row: &mut [u32]) -> Position
-    requires { ⌜ ChunkPosition (now file) x × (0 < length (chunksAhead 4 (now file) x)) × (42 ≤ length (now row)) ⌝ }
+    requires { ⌜ ChunkPosition (now file) x × (0 < length (chunksAhead 4 (now file) x)) × (vertexWidth ≤ length (now row)) ⌝ }
     ensures { λ r. ⌜ ChunkNext 4 (now (file .entry)) x (now (row .entry)) (now (row .exit)) r ⌝ }
 {
     let mut counts = x.counts;
@@ -52,7 +53,7 @@ pub fn next_mesh(file: &[u8], x: Position, row: &mut [u32]) -> Position
 
 // Writes the next row of table 9 into the start of `row` and returns the position behind it. The cells behind the row stay.
 pub fn next_list(file: &[u8], x: Position, row: &mut [u32]) -> Position
-    requires { ⌜ ChunkPosition (now file) x × (0 < length (chunksAhead 9 (now file) x)) × (42 ≤ length (now row)) ⌝ }
+    requires { ⌜ ChunkPosition (now file) x × (0 < length (chunksAhead 9 (now file) x)) × (vertexWidth ≤ length (now row)) ⌝ }
     ensures { λ r. ⌜ ChunkNext 9 (now (file .entry)) x (now (row .entry)) (now (row .exit)) r ⌝ }
 {
     let mut counts = x.counts;
@@ -126,7 +127,7 @@ fn find_set(file: &[u8], from: Position) -> FoundSet
 
 // Writes the next row of table 6 into the start of `row` and returns the position behind it. The cells behind the row stay.
 pub fn next_set(file: &[u8], x: Position, row: &mut [u32]) -> Position
-    requires { ⌜ SetPosition (now file) x × (0 < length (setsAhead (now file) x)) × (42 ≤ length (now row)) ⌝ }
+    requires { ⌜ SetPosition (now file) x × (0 < length (setsAhead (now file) x)) × (vertexWidth ≤ length (now row)) ⌝ }
     ensures { λ r. ⌜ SetNext (now (file .entry)) x (now (row .entry)) (now (row .exit)) r ⌝ }
 {
     let set = find_set(file, x);

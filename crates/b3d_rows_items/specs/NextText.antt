@@ -4,7 +4,7 @@ use Prim.Native.Nat.{ℕ, _+_, _<_, _≤_}
 use mathlib.Core.List.{List, map}
 use lib.ListN.{length}
 use Rattle.wire.specs.Cursors.{Inside, left}
-use Rattle.b3d_spec.specs.Tables.{width}
+use Rattle.b3d_spec.specs.Tables.{width, vertexWidth}
 use Rattle.b3d_spec_plain_rows.specs.Plain.{namedItems}
 use Rattle.b3d_spec_plain_rows.specs.Rows.{fileRows}
 use Rattle.b3d_read_materials.specs.Texts.{namedRow}
@@ -28,7 +28,7 @@ pub record TextsAt (k : ℕ) (s : List ℕ) (i : OpenItems) : Type 0 where
   -- with name and unused cells they make a row
   pub wide : 2 + i .words + i .size ≡ width k
   -- which fits in a lent row
-  pub most : 2 + i .words + i .size ≤ 42
+  pub most : 2 + i .words + i .size ≤ vertexWidth
 
 -- all texts of table k are to come
 pub record TextsOpen (k : ℕ) (s : List ℕ) (i : OpenItems) : Type 0 where

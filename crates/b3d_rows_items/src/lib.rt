@@ -3,6 +3,7 @@
 ghost use mathlib.Core.Path.{_≡_};
 ghost use Prim.Native.Nat.{_<_, _≤_};
 ghost use lib.ListN.{length};
+ghost use Rattle.b3d_spec.specs.Tables.{vertexWidth};
 ghost use Rattle.b3d_rows_open_items.specs.ItemsLeft.{ItemTable};
 ghost use Rattle.b3d_rows_positions.specs.Positions.{itemsAhead, ItemPosition, ItemsMore, ItemFound};
 ghost use Rattle.b3d_rows_items.specs.NextItem.{ItemNext};
@@ -47,7 +48,7 @@ fn find_item(file: &[u8], k: u32, from: Position) -> Position
 
 // Writes the next row of table `k`, which is 5, 7, 8 or 10, into the start of `row` and returns the position behind it. The cells behind the row stay.
 pub fn next_item(file: &[u8], k: u32, from: Position, row: &mut [u32]) -> Position
-    requires { ⌜ ItemTable k × ItemPosition k (now file) from × (0 < length (itemsAhead k (now file) from)) × (42 ≤ length (now row)) ⌝ }
+    requires { ⌜ ItemTable k × ItemPosition k (now file) from × (0 < length (itemsAhead k (now file) from)) × (vertexWidth ≤ length (now row)) ⌝ }
     ensures { λ r. ⌜ ItemNext k (now (file .entry)) from (now (row .entry)) (now (row .exit)) r ⌝ }
 {
     let x = find_item(file, k, from);
@@ -124,7 +125,7 @@ pub fn open_brushes(file: &[u8]) -> OpenItems
 
 // Writes the next row of table `k`, which is 1 or 2, into the start of `row` and returns the position behind it. The cells behind the row stay.
 pub fn next_text(file: &[u8], k: u32, x: Position, row: &mut [u32]) -> Position
-    requires { ⌜ TextPosition k (now file) x × (0 < length (textsAhead (now file) x)) × (42 ≤ length (now row)) ⌝ }
+    requires { ⌜ TextPosition k (now file) x × (0 < length (textsAhead (now file) x)) × (vertexWidth ≤ length (now row)) ⌝ }
     ensures { λ r. ⌜ TextNext k (now (file .entry)) x (now (row .entry)) (now (row .exit)) r ⌝ }
 {
     let items = x.items;

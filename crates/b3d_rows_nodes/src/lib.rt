@@ -2,6 +2,7 @@
 ghost use mathlib.Core.Path.{_≡_};
 ghost use Prim.Native.Nat.{_<_, _≤_};
 ghost use lib.ListN.{length};
+ghost use Rattle.b3d_spec.specs.Tables.{vertexWidth};
 ghost use Rattle.b3d_rows_nodes.specs.NodeStack.{stackOf, openAt, topOf, OpenNodesAt, Closed, Enters};
 ghost use Rattle.b3d_rows_nodes.specs.NextNode.{nodesAhead, NodeFinds, NodePosition, NodeNext};
 use b3d_chunk_walk::Flat;
@@ -121,7 +122,7 @@ pub struct RowCursor {
 
 // Writes the next row of table 3 into the start of `row` and returns the cursor behind it. The cells behind the row stay.
 pub fn next_node(file: &[u8], x: Position, path: OpenNodes, row: &mut [u32]) -> RowCursor
-    requires { ⌜ NodePosition (now file) x path × (0 < length (nodesAhead (now file) x path)) × (42 ≤ length (now row)) ⌝ }
+    requires { ⌜ NodePosition (now file) x path × (0 < length (nodesAhead (now file) x path)) × (vertexWidth ≤ length (now row)) ⌝ }
     ensures { λ r. ⌜ NodeNext (now (file .entry)) x path (now (row .entry)) (now (row .exit)) r ⌝ }
 {
     let mut counts = x.counts;

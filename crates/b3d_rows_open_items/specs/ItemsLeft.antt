@@ -10,6 +10,7 @@ use Rattle.wire.specs.Cursors.{Inside, left}
 use Rattle.wire.specs.declared.Cursor.{Cursor}
 use Rattle.b3d_spec.specs.Mask.{ones, padded, vertexMask, keyMask}
 use Rattle.b3d_spec.specs.Rules.{vertexWords}
+use Rattle.b3d_spec.specs.Tables.{vertexWidth}
 use Rattle.b3d_spec_plain_rows.specs.Plain.{whole, plainWeights, plainTriangles}
 use Rattle.b3d_read_item_rows.specs.Items.{keyRowsOf}
 use Rattle.b3d_read_mesh_rows.specs.Meshes.{verticesIn}
@@ -53,7 +54,7 @@ pub record Measured (k : ℕ) (i : OpenItems) : Type 0 where
   -- it has a word
   pub some : 1 ≤ i .words
   -- and no more than the widest row
-  pub most : i .words ≤ 42
+  pub most : i .words ≤ vertexWidth
   -- a vertex
   pub vertex : k ≡ 5 → OfVertex i
   -- a key

@@ -6,6 +6,7 @@ ghost use lib.ListN.{length};
 ghost use lib.Seq.{sets as stored};
 ghost use Rattle.wire.specs.Cursors.{Inside, left};
 ghost use Rattle.layout.specs.Parts.{wordsOf};
+ghost use Rattle.b3d_spec.specs.Tables.{vertexWidth};
 ghost use Rattle.b3d_chunk_walk.specs.Walks.{BodyAt};
 ghost use Rattle.b3d_rows_open_items.specs.ItemsLeft.{itemRow, Measured, Opens};
 use b3d_chunk_walk::Sought;
@@ -110,7 +111,7 @@ pub fn open_items(file: &[u8], k: u32, p: usize, body: Cursor) -> OpenItems
 
 // Writes the first item of `i`, which is there, into the start of `row` as a row of table `k`. The cells behind it stay as they were.
 pub fn put_item(file: &[u8], k: u32, i: OpenItems, row: &mut [u32])
-    requires { ⌜ Inside (i .rest) (length (now file)) × (i .rest .at + 4 * i .words ≤ i .rest .end) × Measured k i × (42 ≤ length (now row)) ⌝ }
+    requires { ⌜ Inside (i .rest) (length (now file)) × (i .rest .at + 4 * i .words ≤ i .rest .end) × Measured k i × (vertexWidth ≤ length (now row)) ⌝ }
     ensures { λ _. ⌜ now (row .exit) ≡ stored (now (row .entry)) 0 (itemRow k i (wordsOf (i .words) (left (i .rest) (now (file .entry))))) ⌝ }
 {
     let rest = i.rest;

@@ -3,6 +3,7 @@ ghost use mathlib.Core.Path.{_≡_};
 ghost use Prim.Native.Nat.{_+_, _*_, _≤_};
 ghost use lib.ListN.{length};
 ghost use Rattle.wire.specs.Cursors.{Inside, left};
+ghost use Rattle.b3d_spec.specs.Tables.{vertexWidth};
 ghost use Rattle.b3d_rows_same.specs.SameItems.{SameWords, SameRun, ItemsIn, SameItems, cursorPast};
 use b3d_rows_nodes::RowCursor;
 use b3d_rows_open_items::OpenItems;
@@ -36,7 +37,7 @@ pub struct EqualItems {
 
 // Counts the items of `w` words of `a` at `c` and of `b` at `d` that are the same, up to the first that is not, or that one of the two does not have.
 fn same_run(a: &[u8], b: &[u8], c: Cursor, d: Cursor, w: usize) -> EqualItems
-    requires { ⌜ Inside c (length (now a)) × Inside d (length (now b)) × (1 ≤ w) × (w ≤ 42) ⌝ }
+    requires { ⌜ Inside c (length (now a)) × Inside d (length (now b)) × (1 ≤ w) × (w ≤ vertexWidth) ⌝ }
     ensures { λ t. ⌜ SameRun w (now (a .entry)) (now (b .entry)) c d t ⌝ }
 {
     let mut x = c;

@@ -8,6 +8,7 @@ pub mod Encode
 pub mod Names
 pub mod WellFormed
 pub mod Fitting
+pub mod Widths
 pub mod Mask
 pub mod Colours
 pub mod Tables

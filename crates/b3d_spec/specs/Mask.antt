@@ -4,6 +4,7 @@ use mathlib.Core.Bool.{Bool, true, false, _&&_}
 use mathlib.Core.List.{List, [], _∷_}
 use lib.Dec.{ltb, eqb}
 use Rattle.wire.specs.Test.{if}
+use Rattle.b3d_spec.specs.Widths.{vertexWidth, keyWidth}
 
 -- for each of n words from word w on, whether f says that it is there
 unfoldable pub mask : (ℕ → Bool) → ℕ → ℕ → List Bool
@@ -40,7 +41,7 @@ vertexHas flags sets size w =
 
 -- which of the 42 words of a vertex row are there, by the mesh's flags, sets and set size
 unfoldable pub vertexMask : ℕ → ℕ → ℕ → List Bool
-vertexMask flags sets size = mask (vertexHas flags sets size) 42 0
+vertexMask flags sets size = mask (vertexHas flags sets size) vertexWidth 0
 
 -- word w of a key row is there: the frame; 3 position by flag 1; 3 scale by flag 2; 4 rotation by flag 4
 unfoldable pub keyHas : ℕ → ℕ → Bool
@@ -51,4 +52,4 @@ keyHas flags w =
 
 -- which of the 11 words of a key row are there, by the KEYS flags
 unfoldable pub keyMask : ℕ → List Bool
-keyMask flags = mask (keyHas flags) 11 0
+keyMask flags = mask (keyHas flags) keyWidth 0

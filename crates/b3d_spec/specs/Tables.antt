@@ -7,26 +7,23 @@ use Rattle.wire.specs.Test.{if}
 use Rattle.layout.specs.Rules.{NONE}
 use Rattle.layout.specs.Rows.{nameCells, joined}
 use Rattle.b3d_spec.specs.declared.Counts.{Counts}
+pub use Rattle.b3d_spec.specs.Widths.{textureWidth, brushWidth, nodeWidth, meshWidth, vertexWidth, triangleSetWidth, triangleWidth, weightWidth, keyListWidth, keyWidth}
 use Rattle.b3d_spec.specs.Mask.{padded, vertexMask, keyMask}
 use Rattle.b3d_spec.specs.Scene.{Texture, Brush, TriangleSet, Mesh, Kind, pivot, mesh, bone, Keys, Anim, noAnim, anim, Data, Forest, noNodes, node, Scene}
-
--- how many words a node's row has: 01's 20, and the nodes below it (E4)
-abbrev pub nodeWidth : ℕ
-nodeWidth = 21
 
 -- how many words a row of table k has (01, the ten tables)
 unfoldable pub width : ℕ → ℕ
 width k =
-    if (eqb k 1) 9
-    (if (eqb k 2) 17
+    if (eqb k 1) textureWidth
+    (if (eqb k 2) brushWidth
     (if (eqb k 3) nodeWidth
-    (if (eqb k 4) 9
-    (if (eqb k 5) 42
-    (if (eqb k 6) 4
-    (if (eqb k 7) 3
-    (if (eqb k 8) 2
-    (if (eqb k 9) 4
-    (if (eqb k 10) 11 0)))))))))
+    (if (eqb k 4) meshWidth
+    (if (eqb k 5) vertexWidth
+    (if (eqb k 6) triangleSetWidth
+    (if (eqb k 7) triangleWidth
+    (if (eqb k 8) weightWidth
+    (if (eqb k 9) keyListWidth
+    (if (eqb k 10) keyWidth 0)))))))))
 
 -- no row came before, in any table
 abbrev pub noRows : Counts

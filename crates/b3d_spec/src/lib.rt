@@ -26,8 +26,35 @@ pub enum Mode {
     Lenient,
 }
 
+// How many words a texture's row has, as `Widths.textureWidth` has it; so below for the other tables: each function that cites one is held to that.
+pub const TEXTURE_WIDTH: usize = 9;
+
+// How many words a brush's row has, its eight texture slots among them.
+pub const BRUSH_WIDTH: usize = 17;
+
 // How many words a node's row has: 01's 20, and the number of nodes below it (E4).
 pub const NODE_WIDTH: usize = 21;
+
+// How many words a mesh's row has.
+pub const MESH_WIDTH: usize = 9;
+
+// How many words a vertex's row has, eight sets of four coordinates among them. No row of another table has more.
+pub const VERTEX_WIDTH: usize = 42;
+
+// How many words a triangle set's row has.
+pub const TRIANGLE_SET_WIDTH: usize = 4;
+
+// How many words a triangle's row has: three vertex ids.
+pub const TRIANGLE_WIDTH: usize = 3;
+
+// How many words a weight's row has: a vertex id and a weight.
+pub const WEIGHT_WIDTH: usize = 2;
+
+// How many words a key list's row has.
+pub const KEY_LIST_WIDTH: usize = 4;
+
+// How many words a key's row has.
+pub const KEY_WIDTH: usize = 11;
 
 // How many rows of each of the tables 3 to 10 came before.
 #[repr(C)]

@@ -4,10 +4,11 @@ ghost use Prim.Native.Nat.{_+_, _*_, _/_, _<_, _≤_};
 ghost use lib.ListN.{length, drop};
 ghost use Rattle.shared_output.specs.Writing.{Room, Put};
 ghost use Rattle.b3d_spec.specs.Rebuild.{ownedBy};
-ghost use Rattle.b3d_spec.specs.Tables.{nodeWidth};
+ghost use Rattle.b3d_spec.specs.Tables.{nodeWidth, keyListWidth};
 ghost use Rattle.b3d_write_row_runs.specs.Lent.{rowsIn};
 ghost use Rattle.b3d_write_animation.specs.Animation.{animPart, movesBytes, MovesThere};
 use b3d_spec::Counts;
+use b3d_spec::KEY_LIST_WIDTH;
 use b3d_write_item_lists::put_runs;
 use b3d_write_items::number;
 use b3d_write_items::put_values;
@@ -26,11 +27,11 @@ fn put_anim(nodes: &[u32], at: usize, out: &mut [u8]) -> usize
 
 // Returns how many rows of `lists` from row `first` on belong to `node`, up to the first that does not.
 fn count_lists(lists: &[u32], first: usize, node: usize) -> usize
-    ensures { λ r. ⌜ r ≡ length (ownedBy node (drop first (rowsIn 4 (now (lists .entry))))) ⌝ }
+    ensures { λ r. ⌜ r ≡ length (ownedBy node (drop first (rowsIn keyListWidth (now (lists .entry))))) ⌝ }
 {
     let mut i = first;
-    while i < lists.len() / 4 {
-        if number(lists, 4 * i) != node {
+    while i < lists.len() / KEY_LIST_WIDTH {
+        if number(lists, KEY_LIST_WIDTH * i) != node {
             return i - first;
         }
         i += 1;

@@ -4,8 +4,17 @@ ghost use Rattle.b3d_spec.specs.Encode.{encode};
 ghost use Rattle.b3d_check_table_lengths.specs.LentRooms.{Rooms};
 ghost use Rattle.b3d_write_file.specs.Whole.{Some, Each};
 ghost use Rattle.b3d_write_counted.specs.Counted.{OfCounted};
+use b3d_spec::BRUSH_WIDTH;
 use b3d_spec::Counts;
+use b3d_spec::KEY_LIST_WIDTH;
+use b3d_spec::KEY_WIDTH;
+use b3d_spec::MESH_WIDTH;
 use b3d_spec::NODE_WIDTH;
+use b3d_spec::TEXTURE_WIDTH;
+use b3d_spec::TRIANGLE_SET_WIDTH;
+use b3d_spec::TRIANGLE_WIDTH;
+use b3d_spec::VERTEX_WIDTH;
+use b3d_spec::WEIGHT_WIDTH;
 
 // Writes the file of the first `textures` rows of `t1`, the first `brushes` rows of `t2` and the rows that `all` counts, with names in `names`, to the start
 // of `out`. Returns its size. The bytes behind it stay as they were.
@@ -37,16 +46,16 @@ pub fn write_counted(
         (now (t1 .entry)) (now (t2 .entry)) (now (t3 .entry)) (now (t4 .entry)) (now (t5 .entry))
         (now (t6 .entry)) (now (t7 .entry)) (now (t8 .entry)) (now (t9 .entry)) (now (t10 .entry))) encode (now (out .entry)) (now (out .exit)) r ⌝ }
 {
-    let t1 = &t1[..9 * textures];
-    let t2 = &t2[..17 * brushes];
+    let t1 = &t1[..TEXTURE_WIDTH * textures];
+    let t2 = &t2[..BRUSH_WIDTH * brushes];
     let t3 = &t3[..NODE_WIDTH * all.nodes];
-    let t4 = &t4[..9 * all.meshes];
-    let t5 = &t5[..42 * all.vertices];
-    let t6 = &t6[..4 * all.sets];
-    let t7 = &t7[..3 * all.triangles];
-    let t8 = &t8[..2 * all.weights];
-    let t9 = &t9[..4 * all.lists];
-    let t10 = &t10[..11 * all.keys];
+    let t4 = &t4[..MESH_WIDTH * all.meshes];
+    let t5 = &t5[..VERTEX_WIDTH * all.vertices];
+    let t6 = &t6[..TRIANGLE_SET_WIDTH * all.sets];
+    let t7 = &t7[..TRIANGLE_WIDTH * all.triangles];
+    let t8 = &t8[..WEIGHT_WIDTH * all.weights];
+    let t9 = &t9[..KEY_LIST_WIDTH * all.lists];
+    let t10 = &t10[..KEY_WIDTH * all.keys];
     b3d_write_file::write_file(
         names,
         version,

@@ -11,7 +11,7 @@ use Rattle.b3d_spec.specs.Encode.{nodeChunks, textureChunks, brushChunks}
 use Rattle.b3d_spec.specs.Rebuild.{Rows, textureFrom, brushFrom, nodeNames}
 use Rattle.b3d_spec.specs.Rules.{levels}
 use Rattle.b3d_spec.specs.Scene.{Forest, Scene}
-use Rattle.b3d_spec.specs.Tables.{start, forestRows, nodeTables}
+use Rattle.b3d_spec.specs.Tables.{start, forestRows, nodeTables, textureWidth, brushWidth}
 use Rattle.b3d_spec.specs.Tags.{writeChunks}
 use Rattle.b3d_spec.specs.Fitting.{FitNodes, OneRoot, Stands}
 use Rattle.b3d_write_row_runs.specs.Lent.{rowsIn}
@@ -35,7 +35,7 @@ pub record OfNodes (ns : List ℕ) (R : Rows) (b : ℕ) (f : Forest) : Type 0 wh
 
 -- the TEXS and BRUS of the rows of tables 1 and 2, with names in ns
 unfoldable pub listsBytes : List ℕ → ℕ → List ℕ → List ℕ → List ℕ
-listsBytes ns slots t₁ t₂ = texturesBytes ns (rowsIn 9 t₁) ++ brushesBytes ns slots (rowsIn 17 t₂)
+listsBytes ns slots t₁ t₂ = texturesBytes ns (rowsIn textureWidth t₁) ++ brushesBytes ns slots (rowsIn brushWidth t₂)
 
 -- the chunks inside the BB3D of a scene t: TEXS, BRUS and NODE
 unfoldable pub allBytes : Scene → List ℕ
@@ -44,22 +44,22 @@ allBytes t = writeChunks (textureChunks (t .textures) (brushChunks (t .slots) (t
 -- table 2 and the rows R of the tables after it are those of a scene t, with names in ns
 pub record OfRest (ns t₂ : List ℕ) (R : Rows) (slots : ℕ) (t : Scene) : Type 0 where
   -- table 2 has its brushes
-  pub brushes : map (brushFrom ns slots) (rowsIn 17 t₂) ≡ t .brushes
+  pub brushes : map (brushFrom ns slots) (rowsIn brushWidth t₂) ≡ t .brushes
   -- their names are in ns
-  pub there : NamesThere ns (rowsIn 17 t₂)
+  pub there : NamesThere ns (rowsIn brushWidth t₂)
   -- n_texs is at most 8
   pub few : slots ≤ 8
   -- n_texs is the scene's
   pub slots-are : t .slots ≡ slots
   -- R are the rows of its nodes
-  pub nodes : OfNodes ns R (length t₂ / 17) (t .nodes)
+  pub nodes : OfNodes ns R (length t₂ / brushWidth) (t .nodes)
 
 -- all ten tables are those of a scene t, with names in ns
 pub record OfAll (ns t₁ t₂ : List ℕ) (R : Rows) (slots : ℕ) (t : Scene) : Type 0 where
   -- table 1 has its textures
-  pub textures : map (textureFrom ns) (rowsIn 9 t₁) ≡ t .textures
+  pub textures : map (textureFrom ns) (rowsIn textureWidth t₁) ≡ t .textures
   -- their names are in ns
-  pub there : NamesThere ns (rowsIn 9 t₁)
+  pub there : NamesThere ns (rowsIn textureWidth t₁)
   -- the other tables are the scene's too
   pub rest : OfRest ns t₂ R slots t
 

@@ -1,5 +1,6 @@
 // The whole file of lent tables, written into an output: BB3D's header and version, TEXS, BRUS and NODE.
 ghost use Rattle.b3d_spec.specs.Encode.{encode};
+ghost use Rattle.b3d_spec.specs.Tables.{textureWidth, brushWidth};
 ghost use Rattle.b3d_write_nodes.specs.Walk.{nodesBytes, Sized};
 ghost use Rattle.b3d_write_node.specs.Own.{tableRows};
 ghost use Rattle.b3d_write_file.specs.Whole.{OfNodes, OfScene, listsBytes, Some, Each};
@@ -7,13 +8,14 @@ ghost use Rattle.shared_output.specs.Writing.{Room, Put};
 ghost use Rattle.b3d_write_row_runs.specs.Lent.{rowsIn};
 ghost use Rattle.b3d_write_materials.specs.Named.{NamesThere};
 ghost use Prim.Native.Nat.{_≤_};
+use b3d_spec::BRUSH_WIDTH;
 use b3d_spec::Counts;
 use b3d_spec::START;
 use b3d_spec::letters;
 
 // Writes TEXS, if there is a texture, and BRUS, if there is a brush, to the start of `out`. Returns their size.
 fn put_lists(names: &[u8], slots: u32, t1: &[u32], t2: &[u32], out: &mut [u8]) -> usize
-    requires { ⌜ (slots ≤ 8) × NamesThere (now names) (rowsIn 9 (now t1)) × NamesThere (now names) (rowsIn 17 (now t2)) ⌝ }
+    requires { ⌜ (slots ≤ 8) × NamesThere (now names) (rowsIn textureWidth (now t1)) × NamesThere (now names) (rowsIn brushWidth (now t2)) ⌝ }
     requires { ⌜ Room (listsBytes (now names) slots (now t1) (now t2)) (now out) ⌝ }
     ensures { λ r. ⌜ Put (listsBytes (now (names .entry)) slots (now (t1 .entry)) (now (t2 .entry))) (now (out .entry)) (now (out .exit)) r ⌝ }
 {
@@ -78,7 +80,7 @@ pub fn write_file(
         (now (t8 .entry)) (now (t9 .entry)) (now (t10 .entry))) version slots) encode (now (out .entry)) (now (out .exit)) r ⌝ }
 {
     let a = put_lists(names, slots, t1, t2, &mut out[12..]);
-    let brushes = t2.len() / 17;
+    let brushes = t2.len() / BRUSH_WIDTH;
     let rest = &mut out[a + 12..];
     let b = put_root(names, t3, t4, t5, t6, t7, t8, t9, t10, all, brushes, rest);
     let n = a + b;

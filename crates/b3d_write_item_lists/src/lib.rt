@@ -6,15 +6,16 @@ use b3d_write_keys::put_key_rows;
 ghost use Prim.Native.Nat.{_+_, _*_, _/_, _<_, _≤_};
 ghost use lib.ListN.{length, drop};
 ghost use Rattle.shared_output.specs.Writing.{Room, Put};
+ghost use Rattle.b3d_spec.specs.Tables.{keyWidth};
 ghost use Rattle.b3d_write_row_runs.specs.Lent.{rowsIn, rowsFrom};
 ghost use Rattle.b3d_write_item_lists.specs.Runs.{listBytes, runWidth, runBytes, runsBytes};
 ghost use Rattle.b3d_check_spec.specs.CellCounts.{endOf};
 
 // Writes a KEYS of `flags` and the `count` keys from row `first` on. Returns its size.
 fn put_list(flags: u32, keys: &[u32], first: usize, count: usize, out: &mut [u8]) -> usize
-    requires { ⌜ first + count ≤ length (now keys) / 11 ⌝ }
-    requires { ⌜ Room (listBytes flags (rowsFrom 11 (now keys) first count)) (now out) ⌝ }
-    ensures { λ r. ⌜ Put (listBytes flags (rowsFrom 11 (now (keys .entry)) first count)) (now (out .entry)) (now (out .exit)) r ⌝ }
+    requires { ⌜ first + count ≤ length (now keys) / keyWidth ⌝ }
+    requires { ⌜ Room (listBytes flags (rowsFrom keyWidth (now keys) first count)) (now out) ⌝ }
+    ensures { λ r. ⌜ Put (listBytes flags (rowsFrom keyWidth (now (keys .entry)) first count)) (now (out .entry)) (now (out .exit)) r ⌝ }
 {
     let n = put_key_rows(flags, keys, first, count, &mut out[12..]);
     shared_output::put_opening(out, letters::KEYS, n, flags);

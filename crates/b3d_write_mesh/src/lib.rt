@@ -6,15 +6,16 @@ use b3d_write_vertices::put_vertex_rows;
 ghost use Prim.Native.Nat.{_+_, _/_, _≤_};
 ghost use lib.ListN.{length};
 ghost use Rattle.shared_output.specs.Writing.{Room, Put};
+ghost use Rattle.b3d_spec.specs.Tables.{vertexWidth};
 ghost use Rattle.b3d_write_row_runs.specs.Lent.{rowsFrom};
 ghost use Rattle.b3d_write_mesh.specs.Mesh.{verticesBytes, MeshThere, meshBytes};
 
 // Writes a VRTS of the three words of `t4` from word `from` on (flags, sets, set size) and the `n` vertices of `t5` from row `v` on. Returns its size.
 fn write_vertices(t4: &[u32], from: usize, t5: &[u32], v: usize, n: usize, out: &mut [u8]) -> usize
     requires { ⌜ from + 3 ≤ length (now t4) ⌝ }
-    requires { ⌜ v + n ≤ length (now t5) / 42 ⌝ }
-    requires { ⌜ Room (verticesBytes (now t4) from (rowsFrom 42 (now t5) v n)) (now out) ⌝ }
-    ensures { λ r. ⌜ Put (verticesBytes (now (t4 .entry)) from (rowsFrom 42 (now (t5 .entry)) v n)) (now (out .entry)) (now (out .exit)) r ⌝ }
+    requires { ⌜ v + n ≤ length (now t5) / vertexWidth ⌝ }
+    requires { ⌜ Room (verticesBytes (now t4) from (rowsFrom vertexWidth (now t5) v n)) (now out) ⌝ }
+    ensures { λ r. ⌜ Put (verticesBytes (now (t4 .entry)) from (rowsFrom vertexWidth (now (t5 .entry)) v n)) (now (out .entry)) (now (out .exit)) r ⌝ }
 {
     let flags = t4[from];
     let sets = t4[from + 1];

@@ -10,7 +10,7 @@ use Rattle.b3d_spec.specs.Encode.{kindChunks, writeNode}
 use Rattle.b3d_spec.specs.Rebuild.{Rows, kindFrom, dataFrom}
 use Rattle.b3d_spec.specs.Tags.{writeChunks}
 use Rattle.b3d_spec.specs.declared.Counts.{Counts}
-use Rattle.b3d_spec.specs.Tables.{nodeWidth}
+use Rattle.b3d_spec.specs.Tables.{nodeWidth, meshWidth, vertexWidth, triangleSetWidth, triangleWidth, weightWidth, keyListWidth, keyWidth}
 use Rattle.b3d_write_row_runs.specs.Lent.{rowsIn}
 use Rattle.b3d_write_materials.specs.Named.{NameThere}
 use Rattle.b3d_write_mesh.specs.Mesh.{MeshThere}
@@ -20,13 +20,13 @@ use Rattle.b3d_write_animation.specs.Animation.{moveChunks, MovesThere}
 unfoldable pub tableRows : List ℕ → List ℕ → List ℕ → List ℕ → List ℕ → List ℕ → List ℕ → List ℕ → Rows
 tableRows ds ms vs ss ts ws ls ks k =
     if (eqb k 3) (rowsIn nodeWidth ds)
-    (if (eqb k 4) (rowsIn 9 ms)
-    (if (eqb k 5) (rowsIn 42 vs)
-    (if (eqb k 6) (rowsIn 4 ss)
-    (if (eqb k 7) (rowsIn 3 ts)
-    (if (eqb k 8) (rowsIn 2 ws)
-    (if (eqb k 9) (rowsIn 4 ls)
-    (if (eqb k 10) (rowsIn 11 ks) [])))))))
+    (if (eqb k 4) (rowsIn meshWidth ms)
+    (if (eqb k 5) (rowsIn vertexWidth vs)
+    (if (eqb k 6) (rowsIn triangleSetWidth ss)
+    (if (eqb k 7) (rowsIn triangleWidth ts)
+    (if (eqb k 8) (rowsIn weightWidth ws)
+    (if (eqb k 9) (rowsIn keyListWidth ls)
+    (if (eqb k 10) (rowsIn keyWidth ks) [])))))))
 
 -- ---- the parts
 
@@ -48,9 +48,9 @@ ownBytes ns ds ms vs ss ts ws ls ks n = writeNode (dataFrom ns (tableRows ds ms 
 -- what `write_kind` asks: the rows that kind k and count c name are there after the counts n
 pub record KindThere (ms vs ss ts ws : List ℕ) (n : Counts) (k c : ℕ) : Type 0 where
   -- for a mesh its row and all that it names
-  pub mesh : k ≡ 1 → MeshThere ms (9 * n .meshes) vs (n .vertices) ss (n .sets) ts (n .triangles)
+  pub mesh : k ≡ 1 → MeshThere ms (meshWidth * n .meshes) vs (n .vertices) ss (n .sets) ts (n .triangles)
   -- for a bone its weights
-  pub bone : k ≡ 2 → n .weights + c ≤ length ws / 2
+  pub bone : k ≡ 2 → n .weights + c ≤ length ws / weightWidth
 
 -- what `write_own_chunks` asks of the node after the counts n
 pub record OwnThere (ns ds ms vs ss ts ws ls ks : List ℕ) (n : Counts) : Type 0 where
@@ -65,9 +65,9 @@ pub record OwnThere (ns ds ms vs ss ts ws ls ks : List ℕ) (n : Counts) : Type 
 
 -- no count of n is past the rows of its table
 pub record Counted (vs ss ts ws ls ks : List ℕ) (n : Counts) : Type 0 where
-  pub vertices : n .vertices ≤ length vs / 42
-  pub sets : n .sets ≤ length ss / 4
-  pub triangles : n .triangles ≤ length ts / 3
-  pub weights : n .weights ≤ length ws / 2
-  pub lists : n .lists ≤ length ls / 4
-  pub keys : n .keys ≤ length ks / 11
+  pub vertices : n .vertices ≤ length vs / vertexWidth
+  pub sets : n .sets ≤ length ss / triangleSetWidth
+  pub triangles : n .triangles ≤ length ts / triangleWidth
+  pub weights : n .weights ≤ length ws / weightWidth
+  pub lists : n .lists ≤ length ls / keyListWidth
+  pub keys : n .keys ≤ length ks / keyWidth

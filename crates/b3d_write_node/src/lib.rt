@@ -6,6 +6,7 @@ ghost use Rattle.shared_output.specs.Writing.{Room, Put};
 ghost use Rattle.b3d_spec.specs.Tables.{nodeWidth};
 ghost use Rattle.b3d_write_node.specs.Own.{kindBytes, ownBytes, KindThere, OwnThere};
 use b3d_spec::Counts;
+use b3d_spec::MESH_WIDTH;
 use b3d_spec::NODE_WIDTH;
 use b3d_write_animation::write_animation;
 use b3d_write_items::number;
@@ -32,7 +33,7 @@ fn write_kind(
         n (getD (now (t3 .entry)) (row + 13) 0) (getD (now (t3 .entry)) (row + 15) 0)) (now (out .entry)) (now (out .exit)) r ⌝ }
 {
     if t3[row + 13] == 1 {
-        let i = 9 * n.meshes;
+        let i = MESH_WIDTH * n.meshes;
         let v = n.vertices;
         let s = n.sets;
         let t = n.triangles;

@@ -10,7 +10,7 @@ use Rattle.b3d_spec.specs.declared.Counts.{Counts}
 use Rattle.b3d_spec.specs.Encode.{nodeChunks, writeNode}
 use Rattle.b3d_spec.specs.Rebuild.{Rows, nodeNames}
 use Rattle.b3d_spec.specs.Scene.{Data, Forest, noNodes, node}
-use Rattle.b3d_spec.specs.Tables.{reached, withNode, withForest, forestRows, nodeTables, nodeWidth}
+use Rattle.b3d_spec.specs.Tables.{reached, withNode, withForest, forestRows, nodeTables, nodeWidth, meshWidth, vertexWidth, triangleSetWidth, triangleWidth, weightWidth, keyListWidth, keyWidth}
 use Rattle.b3d_spec.specs.Tags.{writeChunks}
 use Rattle.b3d_spec.specs.Fitting.{FitNodes, Stands}
 use Rattle.b3d_check_spec.specs.Below.{Here}
@@ -31,13 +31,13 @@ bodyBytes d ch = writeNode d (nodeChunks ch)
 -- tables of just the rows that a counts
 pub record Sized (a : Counts) (t₃ t₄ t₅ t₆ t₇ t₈ t₉ t₁₀ : List ℕ) : Type 0 where
   pub nodes : length t₃ ≡ nodeWidth * a .nodes
-  pub meshes : length t₄ ≡ 9 * a .meshes
-  pub vertices : length t₅ ≡ 42 * a .vertices
-  pub sets : length t₆ ≡ 4 * a .sets
-  pub triangles : length t₇ ≡ 3 * a .triangles
-  pub weights : length t₈ ≡ 2 * a .weights
-  pub lists : length t₉ ≡ 4 * a .lists
-  pub keys : length t₁₀ ≡ 11 * a .keys
+  pub meshes : length t₄ ≡ meshWidth * a .meshes
+  pub vertices : length t₅ ≡ vertexWidth * a .vertices
+  pub sets : length t₆ ≡ triangleSetWidth * a .sets
+  pub triangles : length t₇ ≡ triangleWidth * a .triangles
+  pub weights : length t₈ ≡ weightWidth * a .weights
+  pub lists : length t₉ ≡ keyListWidth * a .lists
+  pub keys : length t₁₀ ≡ keyWidth * a .keys
   -- no count is above the row limit
   pub limited : Limited a
 

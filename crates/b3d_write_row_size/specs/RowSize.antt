@@ -6,7 +6,7 @@ use lib.ListN.{getD}
 use lib.Dec.{eqb}
 use Rattle.wire.specs.Test.{if}
 use Rattle.b3d_spec.specs.Rules.{vertexWords, keyWords, rowLimit}
-use Rattle.b3d_spec.specs.Tables.{nodeWidth}
+use Rattle.b3d_spec.specs.Tables.{nodeWidth, meshWidth, keyListWidth}
 
 -- what f gives for each row, added up
 unfoldable pub sum : (List ℕ → ℕ) → List (List ℕ) → ℕ
@@ -68,9 +68,9 @@ pub record Wide (k w : ℕ) : Type 0 where
   -- the words of a node row
   pub nodes : k ≡ 3 → w ≡ nodeWidth
   -- the words of a mesh row
-  pub meshes : k ≡ 4 → w ≡ 9
+  pub meshes : k ≡ 4 → w ≡ meshWidth
   -- the words of a key list's row
-  pub lists : k ≡ 9 → w ≡ 4
+  pub lists : k ≡ 9 → w ≡ keyListWidth
 
 -- what a function that sizes rows promises of its answer r, w being the bytes that they add
 pub record Sums (most w r : ℕ) : Type 0 where

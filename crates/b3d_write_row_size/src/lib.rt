@@ -7,7 +7,7 @@ ghost use Rattle.wire.specs.Test.{if};
 ghost use Rattle.layout.specs.Lists.{All};
 ghost use Rattle.b3d_spec.specs.Rebuild.{cut};
 ghost use Rattle.b3d_spec.specs.Rules.{rowLimit, vertexWords, keyWords};
-ghost use Rattle.b3d_spec.specs.Tables.{nodeWidth};
+ghost use Rattle.b3d_spec.specs.Tables.{nodeWidth, vertexWidth, meshWidth, keyListWidth};
 ghost use Rattle.b3d_write_row_size.specs.RowSize.{tableMost, Sums, nodeBytes, meshBytes, listBytes, rowBytes, rowsBytes, Sizable, Wide, Adds};
 
 // Returns `bytes` if `cell` is `value`, else 0.
@@ -63,16 +63,16 @@ fn node_row(table: &[u32], at: usize) -> usize
 
 // Returns the bytes that the mesh row from word `at` of `table` on adds.
 fn mesh_row(table: &[u32], at: usize) -> usize
-    requires { ⌜ (at + 9 ≤ length (now table)) × Sizable 4 (take 9 (drop at (now table))) ⌝ }
-    ensures { λ r. ⌜ Adds (meshBytes (take 9 (drop at (now (table .entry))))) r ⌝ }
+    requires { ⌜ (at + meshWidth ≤ length (now table)) × Sizable 4 (take meshWidth (drop at (now table))) ⌝ }
+    ensures { λ r. ⌜ Adds (meshBytes (take meshWidth (drop at (now (table .entry))))) r ⌝ }
 {
     mesh_bytes(table[at + 2], table[at + 3], table[at + 4], table[at + 6])
 }
 
 // Returns the bytes that the key list's row from word `at` of `table` on adds.
 fn list_row(table: &[u32], at: usize) -> usize
-    requires { ⌜ (at + 4 ≤ length (now table)) × Sizable 9 (take 4 (drop at (now table))) ⌝ }
-    ensures { λ r. ⌜ Adds (listBytes (take 4 (drop at (now (table .entry))))) r ⌝ }
+    requires { ⌜ (at + keyListWidth ≤ length (now table)) × Sizable 9 (take keyListWidth (drop at (now table))) ⌝ }
+    ensures { λ r. ⌜ Adds (listBytes (take keyListWidth (drop at (now (table .entry))))) r ⌝ }
 {
     list_bytes(table[at + 1], table[at + 3])
 }
@@ -98,7 +98,7 @@ fn row_bytes(table: &[u32], at: usize, which: u32, width: usize, more: usize) ->
 
 // Returns the bytes that the first `count` rows add, `width` words each, of the table numbered `which`; 0 without rows.
 pub fn rows_bytes(table: &[u32], which: u32, width: usize, count: usize, more: usize) -> usize
-    requires { ⌜ (width * count ≤ length (now table)) × (count ≤ rowLimit) × (2 ≤ width) × (width ≤ 42) × (more ≤ 64) × Wide which width ⌝ }
+    requires { ⌜ (width * count ≤ length (now table)) × (count ≤ rowLimit) × (2 ≤ width) × (width ≤ vertexWidth) × (more ≤ 64) × Wide which width ⌝ }
     requires { ⌜ All (Sizable which) (cut width count (now table)) ⌝ }
     ensures { λ r. ⌜ Sums tableMost (rowsBytes which more (cut width count (now (table .entry)))) r ⌝ }
 {

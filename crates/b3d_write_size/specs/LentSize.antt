@@ -7,7 +7,7 @@ use Rattle.wire.specs.Test.{if}
 use Rattle.layout.specs.Lists.{All}
 use Rattle.b3d_spec.specs.declared.Counts.{Counts}
 use Rattle.b3d_spec.specs.Rebuild.{Lent, cut, lentRows}
-use Rattle.b3d_spec.specs.Tables.{nodeWidth}
+use Rattle.b3d_spec.specs.Tables.{nodeWidth, textureWidth, brushWidth, meshWidth, keyListWidth}
 use Rattle.b3d_check_spec.specs.Rooms.{Limited}
 use Rattle.b3d_write_row_size.specs.RowSize.{rowsBytes, Sizable, tableMost}
 
@@ -41,16 +41,16 @@ pub record NodesSizable (n : Counts) (t₃ t₄ t₉ : List ℕ) : Type 0 where
   -- the nodes are there
   pub room₃ : nodeWidth * n .nodes ≤ length t₃
   -- the meshes are there
-  pub room₄ : 9 * n .meshes ≤ length t₄
+  pub room₄ : meshWidth * n .meshes ≤ length t₄
   -- the key lists are there
-  pub room₉ : 4 * n .lists ≤ length t₉
+  pub room₉ : keyListWidth * n .lists ≤ length t₉
   -- each mesh has numbers in range
-  pub sizable₄ : All (Sizable 4) (cut 9 (n .meshes) t₄)
+  pub sizable₄ : All (Sizable 4) (cut meshWidth (n .meshes) t₄)
   -- each key list has flags in range
-  pub sizable₉ : All (Sizable 9) (cut 4 (n .lists) t₉)
+  pub sizable₉ : All (Sizable 9) (cut keyListWidth (n .lists) t₉)
 
 -- the size of the shortest file, by n_texs (`slots`), counts c₁, c₂ and n, and the tables whose rows differ in size
 unfoldable pub fileBytes : ℕ → ℕ → ℕ → Counts → List ℕ → List ℕ → List ℕ → List ℕ → List ℕ → ℕ
 fileBytes slots c₁ c₂ n t₁ t₂ t₃ t₄ t₉ =
-    12 + listsBytes slots c₁ c₂ (cut 9 c₁ t₁) (cut 17 c₂ t₂) + nodesBytes (cut nodeWidth (n .nodes) t₃) (cut 9 (n .meshes) t₄) (cut 4 (n .lists) t₉)
+    12 + listsBytes slots c₁ c₂ (cut textureWidth c₁ t₁) (cut brushWidth c₂ t₂) + nodesBytes (cut nodeWidth (n .nodes) t₃) (cut meshWidth (n .meshes) t₄) (cut keyListWidth (n .lists) t₉)
     + 12 * n .sets + 12 * n .triangles + 8 * n .weights

@@ -6,10 +6,12 @@ ghost use lib.ListN.{length, take, drop};
 ghost use Rattle.layout.specs.Write.{writeWords, writeItems};
 ghost use Rattle.shared_output.specs.Writing.{Room, Put};
 ghost use Rattle.b3d_spec.specs.Mask.{presentWords, vertexMask};
+ghost use Rattle.b3d_spec.specs.Tables.{vertexWidth};
 ghost use Rattle.b3d_rule_row_masks.specs.Runs.{Short, OfVertex};
 ghost use Rattle.b3d_write_row_runs.specs.Lent.{rowsFrom};
 ghost use Rattle.b3d_write_row_runs.specs.RowBytes.{setsBytes, backBytes, rowBytes};
 use b3d_rule_row_masks::RowRuns;
+use b3d_spec::VERTEX_WIDTH;
 
 // Writes the `n` words of `words` from word `first` on, at most four. Returns the size.
 fn put_few(words: &[u32], first: usize, n: usize, out: &mut [u8]) -> usize
@@ -57,7 +59,7 @@ fn vertex_back(g: RowRuns, words: &[u32], base: usize, out: &mut [u8]) -> usize
 
 // Writes the vertex of the row from word `base` of `words` on, as the groups `g` have it. Returns the size.
 fn put_vertex(g: RowRuns, words: &[u32], base: usize, out: &mut [u8]) -> usize
-    requires { ⌜ Short g × OfVertex g × (base + 42 ≤ length (now words)) ⌝ }
+    requires { ⌜ Short g × OfVertex g × (base + vertexWidth ≤ length (now words)) ⌝ }
     requires { ⌜ Room (rowBytes g (now words) base) (now out) ⌝ }
     ensures { λ r. ⌜ Put (rowBytes g (now (words .entry)) base) (now (out .entry)) (now (out .exit)) r ⌝ }
 {
@@ -77,18 +79,18 @@ pub fn put_vertex_rows(
     count: usize,
     out: &mut [u8],
 ) -> usize
-    requires { ⌜ first + count ≤ length (now vertices) / 42 ⌝ }
-    requires { ⌜ Room (writeItems writeWords (map (presentWords (vertexMask flags sets size)) (rowsFrom 42 (now vertices) first count))) (now out) ⌝ }
-    ensures { λ r. ⌜ Put (writeItems writeWords (map (presentWords (vertexMask flags sets size)) (rowsFrom 42 (now (vertices .entry)) first count))) (now (out .entry)) (now (out .exit)) r ⌝ }
+    requires { ⌜ first + count ≤ length (now vertices) / vertexWidth ⌝ }
+    requires { ⌜ Room (writeItems writeWords (map (presentWords (vertexMask flags sets size)) (rowsFrom vertexWidth (now vertices) first count))) (now out) ⌝ }
+    ensures { λ r. ⌜ Put (writeItems writeWords (map (presentWords (vertexMask flags sets size)) (rowsFrom vertexWidth (now (vertices .entry)) first count))) (now (out .entry)) (now (out .exit)) r ⌝ }
 {
     let g = b3d_rule_row_masks::vertex_runs(flags, sets, size);
     let mut at: usize = 0;
-    let mut b = 42 * first;
+    let mut b = VERTEX_WIDTH * first;
     let mut left = count;
     while 0 < left {
         let n = put_vertex(g, vertices, b, &mut out[at..]);
         at += n;
-        b += 42;
+        b += VERTEX_WIDTH;
         left -= 1;
     }
     at

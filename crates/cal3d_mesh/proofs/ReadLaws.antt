@@ -12,7 +12,7 @@ use Rattle.layout.proofs.Lists.{All, all-zip}
 use Rattle.layout.proofs.Outs.{by-got, got-inj, each-got}
 use Rattle.shared_table_words.proofs.Joined.{over-all}
 use Rattle.cal3d_spec.specs.Meshes.{Mesh, mesh}
-use Rattle.cal3d_spec.specs.Tables.{meshTables, meshWidth, meshRows}
+use Rattle.cal3d_spec.specs.Tables.{meshTables, meshFileWidth, meshRows}
 use Rattle.cal3d_spec.specs.Answers.{judgeMesh, readMesh, meshAnswer, meshTable}
 use Rattle.cal3d_spec.specs.declared.MeshAnswer.{MeshAnswer}
 use Rattle.cal3d_mesh_plain_spec.specs.Plain.{plainMesh}
@@ -30,7 +30,7 @@ use Rattle.cal3d_mesh.specs.Meshes.{readInto, ReadsMesh}
 -- a mesh that is read keeps the rules, and its rows have room
 record Given (room : ℕ → ℕ) (bones : ℕ) (s : List ℕ) (t : Mesh) : Type 0 where
   is : mesh bones s ≡ accept t
-  fits : All (λ (k : ℕ). T (leb (meshWidth k * length (meshRows k t)) (room k))) meshTables
+  fits : All (λ (k : ℕ). T (leb (meshFileWidth k * length (meshRows k t)) (room k))) meshTables
 
 judge-got : (bones : ℕ) (s : List ℕ) (t : Mesh) → judgeMesh bones s ≡ accept t → mesh bones s ≡ accept t
 unfolding judgeMesh
@@ -40,7 +40,7 @@ read-given : (room : ℕ → ℕ) (bones : ℕ) (s : List ℕ) (t : Mesh) → re
 unfolding readMesh
 read-given room bones s t e =
     by-got (judgeMesh bones s) _ e (λ u eu e₁.
-    by-got (eachOf 11 (λ (k : ℕ). leb (meshWidth k * length (meshRows k u)) (room k)) meshTables) _ e₁ (λ y ey e₂.
+    by-got (eachOf 11 (λ (k : ℕ). leb (meshFileWidth k * length (meshRows k u)) (room k)) meshTables) _ e₁ (λ y ey e₂.
     subst (λ (z : Mesh). Given room bones s z) (got-inj e₂) (record { is = judge-got bones s u eu; fits = each-got 11 _ meshTables ey })))
 
 -- ---- `read_mesh`
@@ -75,9 +75,9 @@ module _ (bones : ℕ) (s : List ℕ) (l1 l2 l3 l4 l5 l6 : ℕ) (judged : MeshAn
     -- each table has room for the words of its bytes
     rooms : (t : Mesh) → readMesh room bones s ≡ accept t → plainMesh s ≡ t → All (λ (k : ℕ). length (fileWords k s) ≤ room k) meshTables
     rooms t e f =
-        all-zip (λ (k : ℕ). length (fileWords k s) ≡ meshWidth k * length (meshRows k (plainMesh s))) (λ (k : ℕ). T (leb (meshWidth k * length (meshRows k t)) (room k))) (λ (k : ℕ). length (fileWords k s) ≤ room k)
-        (λ k a b. let c = leb→le (meshWidth k * length (meshRows k t)) (room k) b in
-        let d : meshWidth k * length (meshRows k (plainMesh s)) ≡ meshWidth k * length (meshRows k t) = ap (λ (m : Mesh). meshWidth k * length (meshRows k m)) f in
+        all-zip (λ (k : ℕ). length (fileWords k s) ≡ meshFileWidth k * length (meshRows k (plainMesh s))) (λ (k : ℕ). T (leb (meshFileWidth k * length (meshRows k t)) (room k))) (λ (k : ℕ). length (fileWords k s) ≤ room k)
+        (λ k a b. let c = leb→le (meshFileWidth k * length (meshRows k t)) (room k) b in
+        let d : meshFileWidth k * length (meshRows k (plainMesh s)) ≡ meshFileWidth k * length (meshRows k t) = ap (λ (m : Mesh). meshFileWidth k * length (meshRows k m)) f in
         omega arith)
         meshTables (tables-wide s) (read-given room bones s t e .fits)
 

@@ -3,7 +3,7 @@ ghost use mathlib.Core.Path.{_≡_};
 ghost use mathlib.Core.List.{[], _∷_};
 ghost use Prim.Native.Nat.{_≤_};
 ghost use Rattle.shared_room.specs.Rooms.{numberOf, firstShort};
-ghost use Rattle.cal3d_spec.specs.Tables.{meshTables, meshWidth};
+ghost use Rattle.cal3d_spec.specs.Tables.{meshTables, meshFileWidth};
 ghost use Rattle.cal3d_mesh_answer_numbers.specs.Rooms.{WithRoom};
 use cal3d_spec::MeshAnswer;
 use layout::refusals;
@@ -18,7 +18,7 @@ fn first_short(
     l5: usize,
     l6: usize,
 ) -> usize
-    ensures { λ r. ⌜ (r ≡ firstShort meshWidth (numberOf counts) (numberOf (l1 ∷ l2 ∷ l3 ∷ l4 ∷ l5 ∷ l6 ∷ [])) meshTables) × (r ≤ 6) ⌝ }
+    ensures { λ r. ⌜ (r ≡ firstShort meshFileWidth (numberOf counts) (numberOf (l1 ∷ l2 ∷ l3 ∷ l4 ∷ l5 ∷ l6 ∷ [])) meshTables) × (r ≤ 6) ⌝ }
 {
     let from6 = shared_room::short_table_or(6, 3, wire::size(counts[5]), l6, 0);
     let from5 = shared_room::short_table_or(5, 4, wire::size(counts[4]), l5, from6);

@@ -12,7 +12,7 @@ use Rattle.layout.proofs.Lists.{all-map, all-append, all-of-map}
 use Rattle.shared_table_words.specs.Words.{wordsAt}
 use Rattle.shared_table_words.proofs.Copying.{length-words, words-more}
 use Rattle.cal3d_spec.specs.Meshes.{Vertex, Submesh}
-use Rattle.cal3d_spec.specs.Tables.{meshTables, meshWidth, submeshRows, vertexRows, verticesOf, meshRows}
+use Rattle.cal3d_spec.specs.Tables.{meshTables, meshFileWidth, submeshRows, vertexRows, verticesOf, meshRows}
 use Rattle.cal3d_mesh_plain_spec.specs.declared.Shape.{Shape}
 use Rattle.cal3d_mesh_plain_spec.specs.Plain.{entriesAt, wordRows, vertexAt, verticesAt, submeshAt, submeshesAt, plainMesh}
 use Rattle.cal3d_mesh_plain_spec.specs.Rows.{mapRows, influenceRows}
@@ -117,8 +117,8 @@ of-submeshes P part f l h = all-joined P (map part l) (all-of-map (All P) part l
 
 -- ---- the six tables
 
-pub tables-wide : (s : List ℕ) → All (λ (k : ℕ). length (joined (meshRows k (plainMesh s))) ≡ meshWidth k * length (meshRows k (plainMesh s))) meshTables
-unfolding meshRows meshWidth if plainMesh verticesOf mapRows influenceRows
+pub tables-wide : (s : List ℕ) → All (λ (k : ℕ). length (joined (meshRows k (plainMesh s))) ≡ meshFileWidth k * length (meshRows k (plainMesh s))) meshTables
+unfolding meshRows meshFileWidth if plainMesh verticesOf mapRows influenceRows
 tables-wide s =
     let l = submeshesAt s _ 12 in
     let h = submeshes-wide s _ 12 in

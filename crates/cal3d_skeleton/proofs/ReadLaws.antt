@@ -12,7 +12,7 @@ use Rattle.wire.specs.Bytes.{over}
 use Rattle.layout.specs.Result.{Result, accept, reject, check, _>>=_}
 use Rattle.layout.specs.Rows.{joined, eachOf}
 use Rattle.cal3d_spec.specs.Skeletons.{Bone, Skeleton}
-use Rattle.cal3d_spec.specs.Tables.{boneRows, childRows, skeletonWidth, skeletonRows}
+use Rattle.cal3d_spec.specs.Tables.{boneRows, childRows, skeletonFileWidth, skeletonRows}
 use Rattle.cal3d_spec.specs.Answers.{judgeSkeleton, readSkeleton, skeletonRoom, skeletonAnswer, skeletonTable}
 use Rattle.cal3d_spec.specs.declared.SkeletonAnswer.{SkeletonAnswer}
 use Rattle.cal3d_skeleton_bones.specs.Bones.{childrenIn}
@@ -83,7 +83,7 @@ module _ (s b k : List ℕ) (v : Verdict) (e : v ≡ verdictOf (judgeSkeleton s)
 
     rooms : readSkeleton (skeletonRoom (length b) (length k)) s
         ≡ (check (leb (23 * length (boneRows 0 (t .bones))) (length b)) 11 1 >>= λ _. (check (leb (1 * childrenIn (t .bones)) (length k)) 11 2 >>= λ _. accept t))
-    unfolding readSkeleton eachOf skeletonWidth skeletonRows childrenIn if
+    unfolding readSkeleton eachOf skeletonFileWidth skeletonRows childrenIn if
     rooms = rw is (both-rooms t (leb (23 * length (boneRows 0 (t .bones))) (length b)) (leb (1 * length (childRows (t .bones))) (length k)))
 
     module _ (count : ℕ) (ec : count ≡ x .bones) where

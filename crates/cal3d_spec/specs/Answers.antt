@@ -12,7 +12,7 @@ use Rattle.layout.specs.Refusals as refusals
 use Rattle.cal3d_spec.specs.Skeletons.{Skeleton, skeleton}
 use Rattle.cal3d_spec.specs.Meshes.{Mesh, mesh}
 use Rattle.cal3d_spec.specs.Trees.{trees}
-use Rattle.cal3d_spec.specs.Tables.{skeletonTables, skeletonWidth, skeletonRows, meshTables, meshWidth, meshRows, mostRows}
+use Rattle.cal3d_spec.specs.Tables.{skeletonTables, skeletonFileWidth, skeletonRows, meshTables, meshFileWidth, meshRows, mostRows}
 use Rattle.cal3d_spec.specs.declared.SkeletonAnswer.{SkeletonAnswer}
 use Rattle.cal3d_spec.specs.declared.MeshAnswer.{MeshAnswer}
 
@@ -36,7 +36,7 @@ judgeSkeleton s = do
 unfoldable pub readSkeleton : (ℕ → ℕ) → List ℕ → Result Skeleton
 readSkeleton room s = do
   t ← judgeSkeleton s
-  _ ← eachOf refusals.tooShort (λ k. leb (skeletonWidth k * length (skeletonRows k t)) (room k)) skeletonTables
+  _ ← eachOf refusals.tooShort (λ k. leb (skeletonFileWidth k * length (skeletonRows k t)) (room k)) skeletonTables
   accept t
 
 -- the room of table k: a words for table 1, else b
@@ -66,7 +66,7 @@ judgeMesh bones s = do
 unfoldable pub readMesh : (ℕ → ℕ) → ℕ → List ℕ → Result Mesh
 readMesh room bones s = do
   t ← judgeMesh bones s
-  _ ← eachOf refusals.tooShort (λ k. leb (meshWidth k * length (meshRows k t)) (room k)) meshTables
+  _ ← eachOf refusals.tooShort (λ k. leb (meshFileWidth k * length (meshRows k t)) (room k)) meshTables
   accept t
 
 -- the reader's answer: on acceptance the header's numbers and the row counts, on a refusal its number and place, all else 0

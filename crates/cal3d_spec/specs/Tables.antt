@@ -19,8 +19,8 @@ abbrev pub skeletonTables : List ℕ
 skeletonTables = 1 ∷ 2 ∷ []
 
 -- the words of a row of table k of a skeleton; 0 if there is no such table
-unfoldable pub skeletonWidth : ℕ → ℕ
-skeletonWidth k = if (eqb k 1) 23 (if (eqb k 2) 1 0)
+unfoldable pub skeletonFileWidth : ℕ → ℕ
+skeletonFileWidth k = if (eqb k 1) 23 (if (eqb k 2) 1 0)
 
 -- the rows of bones, n children coming before them
 unfoldable pub boneRows : ℕ → List Bone → List (List ℕ)
@@ -42,8 +42,8 @@ abbrev pub meshTables : List ℕ
 meshTables = 1 ∷ 2 ∷ 3 ∷ 4 ∷ 5 ∷ 6 ∷ []
 
 -- the words of a row of table k of a mesh; 0 if there is no such table
-unfoldable pub meshWidth : ℕ → ℕ
-meshWidth k =
+unfoldable pub meshFileWidth : ℕ → ℕ
+meshFileWidth k =
     if (eqb k 1) 9
     (if (eqb k 2) 12
     (if (eqb k 3) 2
