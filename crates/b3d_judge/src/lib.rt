@@ -7,6 +7,8 @@ ghost use Rattle.b3d_spec.specs.Answers.{judge};
 use b3d_judge_file_body::Verdict;
 use b3d_spec::Mode;
 use b3d_spec::letters;
+use layout::FEWEST_BYTES;
+use layout::MOST_BYTES;
 use layout::refusals;
 
 // Does nothing: called for its promise alone, that the elements of the slice `s` are bytes. It has no result.
@@ -24,10 +26,10 @@ pub fn judge(mode: Mode, file: &[u8]) -> Verdict
     ensures { λ r. ⌜ r ≡ verdictOf (judge mode (now (file .entry))) ⌝ }
 {
     let n = file.len();
-    if n < 12 {
+    if n < FEWEST_BYTES {
         return Verdict::Bad(refusals::FILE_SIZE, 0);
     }
-    if 16777216 < n {
+    if MOST_BYTES < n {
         return Verdict::Bad(refusals::FILE_SIZE, 0);
     }
     if wire::number_at(file, 0) != letters::BB3D {

@@ -17,6 +17,8 @@ use b3d_judge_file_body::Verdict;
 use b3d_judge_file_chunks::Phase;
 use b3d_judge_materials::BrushesSummary;
 use b3d_spec::letters;
+use layout::FEWEST_BYTES;
+use layout::MOST_BYTES;
 use layout::refusals;
 use wire::Cursor;
 use wire::Number;
@@ -66,10 +68,10 @@ pub fn judge_mended(file: &[u8]) -> Verdict
     ensures { λ r. ⌜ Placed r ⌝ }
 {
     let n = file.len();
-    if n < 12 {
+    if n < FEWEST_BYTES {
         return Verdict::Bad(refusals::FILE_SIZE, 0);
     }
-    if 16777216 < n {
+    if MOST_BYTES < n {
         return Verdict::Bad(refusals::FILE_SIZE, 0);
     }
     if wire::number_at(file, 0) != letters::BB3D {

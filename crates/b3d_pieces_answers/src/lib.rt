@@ -11,6 +11,8 @@ use b3d_pieces_judge_step::Judge;
 use b3d_pieces_spec::Totals;
 use b3d_spec::Answer;
 use b3d_spec::letters;
+use layout::FEWEST_BYTES;
+use layout::MOST_BYTES;
 use layout::refusals;
 
 // The tag BB3D, which a file begins with, as a number.
@@ -62,10 +64,10 @@ pub fn joined(j: Judge) -> Closing
     ensures { λ r. ⌜ Closes j r ⌝ }
 {
     let size = j.size;
-    if size < 12 {
+    if size < FEWEST_BYTES {
         return Closing::Bad(refusals::FILE_SIZE, 0);
     }
-    if 16777216 < size {
+    if MOST_BYTES < size {
         return Closing::Bad(refusals::FILE_SIZE, 0);
     }
     if j.letters != OPENING {

@@ -1,5 +1,6 @@
 // A byte inside a chunk.
 ghost use Prim.Native.Nat.{_+_, _<_, _≤_};
+ghost use Rattle.layout.specs.Rows.{mostBytes};
 ghost use Rattle.b3d_pieces_spec.specs.Machine.{textByte, byteIn};
 ghost use Rattle.b3d_pieces_spec.specs.Good.{worth, Off};
 ghost use Rattle.b3d_pieces_item_steps.specs.Nows.{Ready, Gives};
@@ -44,7 +45,7 @@ pub fn text_byte(fixed: bool, start: usize, b: u8, at: usize, g: Totals, f: Open
 
 // Takes byte `b` of the part `m`, which stands at `at` in `f`.
 pub fn byte_in(m: Part, b: u8, at: usize, g: Totals, f: Open) -> Now
-    requires { ⌜ Off m at (cameOf m at) × Ready 1 (cameOf m at + 1) g f × (at ≤ 16777216) ⌝ }
+    requires { ⌜ Off m at (cameOf m at) × Ready 1 (cameOf m at + 1) g f × (at ≤ mostBytes) ⌝ }
     ensures { λ r. ⌜ Gives (spareOf m + 1) (cameOf m at + 1) g f r (byteIn m b at g f) ⌝ }
 {
     match m {

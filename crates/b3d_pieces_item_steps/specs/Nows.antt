@@ -10,6 +10,7 @@ use Rattle.b3d_pieces_spec.specs.declared.Totals.{Totals}
 use Rattle.b3d_pieces_spec.specs.declared.Open.{Open}
 use Rattle.b3d_pieces_spec.specs.Machine.{State, live, fault, over, edge, enter}
 use Rattle.b3d_pieces_spec.specs.Good.{Words, Deep, sum, load, Fits, Off}
+use Rattle.b3d_pieces_spec.specs.Limits.{mostCounted}
 use Rattle.b3d_pieces_item_steps.specs.declared.Now.{Now}
 use Rattle.b3d_pieces_item_steps.specs.declared.Now.the-variants.{Live, Push, Pop, Fault, Over}
 
@@ -44,9 +45,9 @@ NothingToEnter (Over g) = Unit {0}
 -- what a step asks of the place `at`, the totals g and the innermost chunk f
 pub record Ready (s at : ℕ) (g : Totals) (f : Open) : Type 0 where
   -- the rows counted and f's items leave room for s more
-  pub few : sum g + f .count + s ≤ 16777217
+  pub few : sum g + f .count + s ≤ mostCounted
   -- the place is at most one byte past the longest file
-  pub place : at ≤ 16777217
+  pub place : at ≤ mostCounted
   -- f's fixed data are words
   pub words : Words (f .kept)
 

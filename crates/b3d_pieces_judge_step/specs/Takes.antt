@@ -3,9 +3,11 @@ use mathlib.Core.Path.{_≡_}
 use Prim.Native.Nat.{ℕ, zero, suc, _-_, _<_, _≤_}
 use mathlib.Core.Bool.{Bool, true, false}
 use lib.Dec.{ltb}
+use Rattle.layout.specs.Rows.{mostBytes}
 use Rattle.b3d_pieces_spec.specs.declared.Open.{Open}
 use Rattle.b3d_pieces_spec.specs.Close.{Whole, heading, inside, Held, byte}
 use Rattle.b3d_pieces_spec.specs.Good.{worth}
+use Rattle.b3d_pieces_spec.specs.Limits.{mostCounted}
 use Rattle.b3d_pieces_item_steps.specs.Nows.{stateWith, GoodNow}
 use Rattle.b3d_pieces_byte_steps.specs.Bytes.{gathers}
 use Rattle.b3d_pieces_step.specs.Turns.{stackBy, pends, pendOf, ReadyNow}
@@ -40,7 +42,7 @@ heldOf j rs = record { size = j .size; whole = wholeOf (ltb (j .size) 8) j rs }
 -- the invariant of what is held, j, with the row rs
 pub record GoodJudge (j : Judge) (rs : ℕ → Open) : Type 0 where
   -- at most one byte more came than the longest file has
-  pub size : j .size ≤ 16777217
+  pub size : j .size ≤ mostCounted
   -- at most 18 records are in use
   pub depth : j .depth ≤ 18
   -- inside BB3D's header no chunk waits to be entered or left
@@ -53,7 +55,7 @@ pub record GoodJudge (j : Judge) (rs : ℕ → Open) : Type 0 where
 -- what a turn asks of what is held, j, and of the record read
 pub record TakeReady (j : Judge) (rec : Open) : Type 0 where
   -- at most one byte more came than the longest file has
-  pub size : j .size ≤ 16777217
+  pub size : j .size ≤ mostCounted
   -- at most 18 records are in use
   pub depth : j .depth ≤ 18
   -- inside BB3D's header no chunk waits to be entered or left
@@ -63,7 +65,7 @@ pub record TakeReady (j : Judge) (rec : Open) : Type 0 where
   -- a chunk that waits to be entered or left is ready for it
   pub wait : pends (j .now) ≡ true → ReadyNow (j .now) (j .depth) rec
   -- after BB3D's header, unless the file is longer than the longest, the machine is ready for a byte
-  pub byte : pends (j .now) ≡ false → 8 ≤ j .size → j .size ≤ 16777216 → ReadyNow (j .now) (j .depth) rec
+  pub byte : pends (j .now) ≡ false → 8 ≤ j .size → j .size ≤ mostBytes → ReadyNow (j .now) (j .depth) rec
 
 -- what a turn of the machine asks that takes `came` bytes
 pub record BodyReady (j : Judge) (came : ℕ) : Type 0 where
@@ -72,7 +74,7 @@ pub record BodyReady (j : Judge) (came : ℕ) : Type 0 where
   -- while chunks are to be entered or left it takes none
   pub wait : pends (j .now) ≡ true → came ≡ 0
   -- otherwise it takes one, which is at most one past the longest file
-  pub byte : pends (j .now) ≡ false → (came ≡ 1) × (j .size ≤ 16777216)
+  pub byte : pends (j .now) ≡ false → (came ≡ 1) × (j .size ≤ mostBytes)
   -- a turn takes at most one byte
   pub one : came ≤ 1
 

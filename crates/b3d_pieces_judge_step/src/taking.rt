@@ -17,6 +17,7 @@ use b3d_pieces_step::turning::slot;
 use b3d_pieces_step::turning::turn;
 use b3d_spec::START;
 use b3d_spec::Tag;
+use layout::MOST_BYTES;
 
 // Returns the value of the present number of BB3D's header after `size` bytes, worth `worth`, and one more, `b`.
 pub fn head_number(size: usize, worth: usize, b: u8) -> usize
@@ -120,7 +121,7 @@ pub fn take(j: Judge, rec: Open, b: u8) -> Taken
     if size < 8 {
         return head_turn(j, rec, b);
     }
-    if size <= 16777216 {
+    if size <= MOST_BYTES {
         return body_turn(j, rec, b, 1);
     }
     let depth = j.depth;

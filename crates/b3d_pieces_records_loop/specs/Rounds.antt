@@ -9,6 +9,7 @@ use Rattle.layout.specs.Refusals as refusals
 use Rattle.b3d_pieces_spec.specs.declared.Open.{Open}
 use Rattle.b3d_pieces_spec.specs.Good.{Deep, load}
 use Rattle.b3d_pieces_spec.specs.Close.{closing}
+use Rattle.b3d_pieces_spec.specs.Limits.{mostCounted}
 use Rattle.b3d_pieces_step.specs.Turns.{stackBy, pends}
 use Rattle.b3d_pieces_judge_step.specs.declared.Judge.{Judge}
 use Rattle.b3d_pieces_judge_step.specs.declared.Turn.{Turn}
@@ -56,7 +57,7 @@ pub record Testing (rs : ℕ → Open) (t : Round) : Type 0 where
   -- `load` is the rows that the chunks before `get` may still add
   pub sum : load (stackBy rs (t .get)) ≡ t .load
   -- `load` is at most 16,777,217
-  pub few : t .load ≤ 16777217
+  pub few : t .load ≤ mostCounted
 
 -- all records in use are tested, and it is decided: turns may follow (number 0), or state and row are not as calls leave them (15)
 pub record Decided (n : ℕ) (rs : ℕ → Open) (t : Round) : Type 0 where
@@ -107,7 +108,7 @@ pub record FirstIs (j : Judge) (n bytes : ℕ) (r : Round) : Type 0 where
 -- what a test asks of its round
 pub record TestReady (t : Round) : Type 0 where
   -- `load` is at most 16,777,217
-  pub few : t .load ≤ 16777217
+  pub few : t .load ≤ mostCounted
   -- the record to test is one of the first 18
   pub get : t .get ≤ 17
 

@@ -4,6 +4,7 @@ use Prim.Native.Nat.{ℕ, _+_, _<_, _≤_}
 use mathlib.Core.Bool.{Bool, true, false}
 use Rattle.b3d_pieces_spec.specs.declared.Open.{Open}
 use Rattle.b3d_pieces_spec.specs.Good.{extra}
+use Rattle.b3d_pieces_spec.specs.Limits.{mostCounted, overCounted}
 use Rattle.b3d_pieces_judge_step.specs.declared.Judge.{Judge}
 use Rattle.b3d_pieces_valid_record.specs.Tests.{Weighs, OpenFits}
 use Rattle.b3d_pieces_valid_state.specs.Entry.{StateTests}
@@ -51,8 +52,8 @@ pub record TestBy (j : Judge) (w i : ℕ) (f : Open) (go : Bool) (get : ℕ) (x 
   -- v is above 16,777,217 if these are too many or a file cannot have f open there
   pub weighs : Weighs (OpenFits f i) (f .count + extra (f .tag)) v
   -- too much: it is decided with a load that no row has
-  pub over : 16777217 < w + v → FineBy j 16777218 go get x
+  pub over : mostCounted < w + v → FineBy j overCounted go get x
   -- another record in use: it is tested
-  pub more : w + v ≤ 16777217 → i + 1 < j .depth → x ≡ testing (i + 1) (w + v)
+  pub more : w + v ≤ mostCounted → i + 1 < j .depth → x ≡ testing (i + 1) (w + v)
   -- otherwise it is decided
-  pub last : w + v ≤ 16777217 → j .depth ≤ i + 1 → FineBy j (w + v) go get x
+  pub last : w + v ≤ mostCounted → j .depth ≤ i + 1 → FineBy j (w + v) go get x

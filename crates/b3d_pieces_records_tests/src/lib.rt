@@ -2,8 +2,11 @@
 // at hand: a round is handed the record that it tests.
 ghost use mathlib.Core.Path.{_≡_};
 ghost use Prim.Native.Nat.{_≤_};
+ghost use Rattle.b3d_pieces_spec.specs.Limits.{mostCounted, overCounted};
 ghost use Rattle.b3d_pieces_records_tests.specs.Decisions.{refusing, FineBy, FirstBy, TestBy};
 use b3d_pieces_judge_step::Judge;
+use b3d_pieces_spec::MOST_COUNTED;
+use b3d_pieces_spec::OVER_COUNTED;
 use b3d_pieces_spec::Open;
 use b3d_pieces_valid_record::loads::rows_to_add;
 use b3d_pieces_valid_state::state::state_valid;
@@ -37,7 +40,7 @@ fn refusal(number: u32, place: u32) -> Decision
 // Returns the decision after all records in use were tested, which may still add `load` rows: 15 at place 0 if `j` is not as calls leave it; else turns, the
 // first reading the record at `get`, if `go` says that there are bytes.
 fn decided(j: Judge, load: usize, go: bool, get: usize) -> Decision
-    requires { ⌜ load ≤ 16777218 ⌝ }
+    requires { ⌜ load ≤ overCounted ⌝ }
     ensures { λ r. ⌜ FineBy j load go get r ⌝ }
 {
     if state_valid(j, load) {
@@ -83,13 +86,13 @@ pub fn first_decision(j: Judge, records: usize, go: bool, get: usize) -> Decisio
 
 // Returns the decision after the test of record `i`, which is `f`, where the records before it may still add `load` rows.
 pub fn test_decision(j: Judge, load: usize, i: usize, f: Open, go: bool, get: usize) -> Decision
-    requires { ⌜ (load ≤ 16777217) × (i ≤ 17) ⌝ }
+    requires { ⌜ (load ≤ mostCounted) × (i ≤ 17) ⌝ }
     ensures { λ r. ⌜ TestBy j load i f go get r ⌝ }
 {
     let v = rows_to_add(f, i);
     let sum = load + v;
-    if 16777217 < sum {
-        return decided(j, 16777218, go, get);
+    if MOST_COUNTED < sum {
+        return decided(j, OVER_COUNTED, go, get);
     }
     if i + 1 < j.depth {
         return Decision {

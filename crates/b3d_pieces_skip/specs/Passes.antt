@@ -7,6 +7,7 @@ use Rattle.b3d_pieces_spec.specs.declared.Totals.{Totals}
 use Rattle.b3d_pieces_spec.specs.declared.Open.{Open}
 use Rattle.b3d_pieces_spec.specs.declared.Part.{Part}
 use Rattle.b3d_pieces_spec.specs.Good.{Words, Off}
+use Rattle.b3d_pieces_spec.specs.Limits.{mostCounted}
 use Rattle.b3d_pieces_item_steps.specs.declared.Now.{Now}
 use Rattle.b3d_pieces_item_steps.specs.declared.Now.the-variants.{Live, Push, Pop, Fault, Over}
 use Rattle.b3d_pieces_judge_step.specs.declared.Judge.{Judge}
@@ -50,7 +51,7 @@ pub record PassFrom (t : Turn) (p : List ℕ) (n at : ℕ) (m : Part) (g : Total
   -- BB3D's header is over
   pub body : 8 ≤ t .judge .size
   -- with them the file is at most one byte longer than the longest file
-  pub file : t .judge .size + n ≤ 16777217
+  pub file : t .judge .size + n ≤ mostCounted
   -- the present part is right
   pub off : Off m at (t .judge .size)
   -- the items are no more than the place

@@ -3,6 +3,7 @@ ghost use mathlib.Core.Path.{_≡_};
 ghost use Prim.Native.Nat.{_+_, _≤_};
 ghost use lib.ListN.{length};
 ghost use Rattle.b3d_pieces_spec.specs.declared.Part.the-variants.{Text as aText, Row as aRow, Skip as aSkip};
+ghost use Rattle.b3d_pieces_spec.specs.Limits.{mostCounted};
 ghost use Rattle.b3d_pieces_skip.specs.Passes.{movedTo, PassReady, PassFrom, PassIs};
 use b3d_pieces_item_steps::Now;
 use b3d_pieces_judge_step::Judge;
@@ -19,7 +20,7 @@ use b3d_pieces_spec::Totals;
 
 // Returns the turn `t` after `n` bytes, with `now` as what is held.
 fn moved(t: Turn, now: Now, n: usize) -> Turn
-    requires { ⌜ (t .at + n ≤ t .end) × (t .judge .size + n ≤ 16777217) ⌝ }
+    requires { ⌜ (t .at + n ≤ t .end) × (t .judge .size + n ≤ mostCounted) ⌝ }
     ensures { λ r. ⌜ r ≡ movedTo t now n ⌝ }
 {
     let j = t.judge;

@@ -3,6 +3,7 @@ use mathlib.Core.Path.{_≡_}
 use Prim.Native.Nat.{ℕ, _+_, _<_, _≤_}
 use mathlib.Core.List.{List}
 use lib.ListN.{getD}
+use Rattle.b3d_pieces_spec.specs.Limits.{mostCounted}
 
 -- r of at most n bytes from `at` on
 pub record Before (at end n r : ℕ) : Type 0 where
@@ -27,4 +28,4 @@ pub record RoomIs (size left r : ℕ) : Type 0 where
   -- if r is not 0, BB3D's header is over
   pub body : (r ≡ 0 → ⊥) → 8 ≤ size
   -- if r is not 0, with these bytes the file is at most one byte longer than the longest file
-  pub file : (r ≡ 0 → ⊥) → size + r ≤ 16777217
+  pub file : (r ≡ 0 → ⊥) → size + r ≤ mostCounted

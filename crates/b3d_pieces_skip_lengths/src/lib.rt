@@ -5,6 +5,7 @@ ghost use lib.ListN.{length};
 ghost use Rattle.b3d_pieces_skip_lengths.specs.Ahead.{RoomIs, Before, UntilZero};
 use b3d_pieces_item_steps::between::less;
 use b3d_pieces_skip_numbers::numbers::lower;
+use b3d_pieces_spec::MOST_COUNTED;
 
 // Returns how many of the next `left` bytes may be taken at once after `size` bytes: 0 inside BB3D's header, none beyond byte 16,777,217.
 pub fn room(size: usize, left: usize) -> usize
@@ -13,10 +14,10 @@ pub fn room(size: usize, left: usize) -> usize
     if size < 8 {
         return 0;
     }
-    if 16777217 <= size {
+    if MOST_COUNTED <= size {
         return 0;
     }
-    lower(left, 16777217 - size)
+    lower(left, MOST_COUNTED - size)
 }
 
 // Returns how many of the `n` bytes from `at` on may be taken so that at least one byte before `end` is left; 0 if `end` is not past `at`.

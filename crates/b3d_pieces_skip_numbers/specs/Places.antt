@@ -15,6 +15,7 @@ use Rattle.b3d_pieces_spec.specs.declared.Part.the-variants.{Row}
 use Rattle.b3d_pieces_spec.specs.Bodies.{nests, textItems}
 use Rattle.b3d_pieces_spec.specs.Machine.{State, live, rules, counting, wordDone, run}
 use Rattle.b3d_pieces_spec.specs.Good.{Words, worth}
+use Rattle.b3d_pieces_spec.specs.Limits.{mostCounted}
 use Rattle.b3d_pieces_rules.specs.Faults.{rowFault}
 use Rattle.b3d_pieces_skip_numbers.specs.declared.RowPlace.{RowPlace}
 use Rattle.b3d_pieces_skip_numbers.specs.declared.Judged.{Judged}
@@ -27,7 +28,7 @@ pub record JudgedIs (q : Judged) (fixed : Bool) (t : Tag) (k : Kept) (g : Totals
   -- every number before index `first` keeps its rule
   pub below : (i w : ℕ) → i < q .first → 0 ≡ rowFault fixed t k g i w
   -- every number from index `past` on keeps its rule, as far as a file has room for them
-  pub above : (i w : ℕ) → q .past ≤ i → i ≤ 16777217 → 0 ≡ rowFault fixed t k g i w
+  pub above : (i w : ℕ) → q .past ≤ i → i ≤ mostCounted → 0 ≡ rowFault fixed t k g i w
   -- if they are colours, a number between that passes as a colour keeps its rule
   pub colours : q .colour ≡ true → (i w : ℕ) → q .first ≤ i → i < q .past → holds unit w ≡ true → 0 ≡ rowFault fixed t k g i w
   -- if they are ids, a number between that is below `names` keeps its rule
@@ -56,7 +57,7 @@ pub record RulesAre (q : RowRules) (fixed : Bool) (g : Totals) (f : Open) : Type
 -- if r is true, number i of a row keeps its rule with w
 pub record KeepsIs (q : Judged) (i w : ℕ) (r : Bool) : Type 0 where
   -- in every row of which q is right
-  pub is : r ≡ true → i ≤ 16777217 → (fixed : Bool) (t : Tag) (k : Kept) (g : Totals) → JudgedIs q fixed t k g → 0 ≡ rowFault fixed t k g i w
+  pub is : r ≡ true → i ≤ mostCounted → (fixed : Bool) (t : Tag) (k : Kept) (g : Totals) → JudgedIs q fixed t k g → 0 ≡ rowFault fixed t k g i w
 
 -- ---- places
 
@@ -81,7 +82,7 @@ pub record Sound (last : ℕ) (x : RowPlace) : Type 0 where
   -- the items are no more than the place
   pub count : x .count ≤ x .at
   -- with all bytes up to `last` the file is at most one byte longer than the longest file
-  pub place : x .at + x .j + (last - x .from) ≤ 16777217
+  pub place : x .at + x .j + (last - x .from) ≤ mostCounted
 
 -- the bytes of the piece p from the place x to the place r were taken
 pub record Advanced (p : List ℕ) (last : ℕ) (q : RowRules) (x r : RowPlace) : Type 0 where
@@ -107,7 +108,7 @@ pub record NumberReady (x : RowPlace) (w : ℕ) : Type 0 where
   -- the items are no more than the place
   pub count : x .count ≤ x .at
   -- the number's end is at most one byte past the longest file
-  pub place : x .at + 4 ≤ 16777217
+  pub place : x .at + 4 ≤ mostCounted
   -- the numbers kept are words
   pub words : Words (x .kept)
 

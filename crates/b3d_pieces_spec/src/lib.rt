@@ -4,6 +4,28 @@
 use b3d_spec::Counts;
 use b3d_spec::Tag;
 
+// The most bytes that the piece judge counts, and so the most rows, as `Limits.mostCounted` has it; so below for the others: each function that cites one is
+// held to that. It is one more than a file may have.
+pub const MOST_COUNTED: usize = 16777217;
+
+// Stands for a number of rows that no file has: one more than is counted.
+pub const OVER_COUNTED: usize = 16777218;
+
+// The most chunks that are open around another one: a BB3D, 16 nodes and a MESH.
+pub const MOST_AROUND: usize = 18;
+
+// The most chunks that are open around a MESH: a BB3D and 16 nodes.
+pub const MOST_AROUND_MESH: usize = 17;
+
+// The records that a call must be lent, as `Calls.records` has it.
+pub const RECORDS: usize = 19;
+
+// How many words a record has, as `Row.recordWords` has it.
+pub const RECORD_WORDS: usize = 11;
+
+// The words of the records that a call must be lent.
+pub const LENT_WORDS: usize = 209;
+
 // What was counted so far: `version`, `slots` (n_texs) and the rows of each table (`rows` has those of tables 3 to 10). Of the present node: `own`, the
 // vertices of its mesh; `told`, its bone limit, which is how many vertices the nodes above it let its BONE name; `below`, the bone limit that it hands to the
 // nodes below it.

@@ -5,6 +5,7 @@ use mathlib.Core.Bool.{Bool, true, false}
 use mathlib.Core.List.{List, [], _∷_}
 use lib.Dec.{eqb}
 use Rattle.wire.specs.Test.{if}
+use Rattle.layout.specs.Rows.{mostBytes}
 use Rattle.b3d_pieces_spec.specs.declared.Open.{Open}
 use Rattle.b3d_pieces_spec.specs.Machine.{State, step}
 use Rattle.b3d_pieces_spec.specs.Good.{Off}
@@ -41,7 +42,7 @@ pendOf (Over g) n = 0
 
 -- what a turn asks of what is held, with n chunks in the row and rec as the last
 abbrev pub ReadyNow : Now → ℕ → Open → Type 0
-ReadyNow (Live at m g f) n rec = Off m at (cameOf m at) × Ready 1 (cameOf m at + 1) g f × (at ≤ 16777216)
+ReadyNow (Live at m g f) n rec = Off m at (cameOf m at) × Ready 1 (cameOf m at + 1) g f × (at ≤ mostBytes)
 ReadyNow (Push at g f o) n rec = Ready 0 at g f
 ReadyNow (Pop at g) n rec = (n ≡ 0 → ⊥) → Ready 0 at g rec
 ReadyNow (Fault m p) n rec = Unit {0}

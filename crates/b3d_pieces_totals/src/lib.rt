@@ -5,6 +5,7 @@ ghost use Prim.Native.Nat.{_+_, _≤_};
 ghost use Rattle.b3d_spec.specs.Rules.{boneLimit, boneLimitFrom};
 ghost use Rattle.b3d_pieces_spec.specs.Bodies.{above, saying, rowsWith, fileWith, headed as headedOf, entered, slotsFor, rowsAfter, boneLimitRestored, closed};
 ghost use Rattle.b3d_pieces_spec.specs.Good.{sum};
+ghost use Rattle.b3d_pieces_spec.specs.Limits.{mostCounted};
 use b3d_chunk_cursor::same;
 use b3d_pieces_spec::Kept;
 use b3d_pieces_spec::Totals;
@@ -69,7 +70,7 @@ pub fn headed(tag: Tag, k: Kept, g: Totals) -> Totals
 
 // Returns `g` where a node begins: one row more, and the bone limit that the node around it hands down.
 pub fn node_begins(g: Totals) -> Totals
-    requires { ⌜ sum g + 1 ≤ 16777217 ⌝ }
+    requires { ⌜ sum g + 1 ≤ mostCounted ⌝ }
     ensures { λ r. ⌜ r ≡ entered g ⌝ }
 {
     let mut rows = g.rows;
@@ -93,7 +94,7 @@ fn slots_for(brushes: usize, slots: usize) -> usize
 
 // Returns the rows of tables 3 to 10 after a chunk of tag `tag` with `c` items.
 fn rows_after(tag: Tag, c: usize, g: Totals) -> Counts
-    requires { ⌜ sum g + c ≤ 16777217 ⌝ }
+    requires { ⌜ sum g + c ≤ mostCounted ⌝ }
     ensures { λ r. ⌜ r ≡ rowsAfter tag c (g .rows) ⌝ }
 {
     let mut n = g.rows;
@@ -135,7 +136,7 @@ fn bone_limit_restored(g: Totals, told: usize) -> Totals
 
 // Returns the totals after a chunk of tag `tag` that had `c` items, the fixed data `k` and, as a NODE, the bone limit `told`.
 pub fn leave(tag: Tag, c: usize, k: Kept, told: usize, g: Totals) -> Totals
-    requires { ⌜ sum g + c ≤ 16777217 ⌝ }
+    requires { ⌜ sum g + c ≤ mostCounted ⌝ }
     ensures { λ r. ⌜ r ≡ closed tag c k told g ⌝ }
 {
     let rows = rows_after(tag, c, g);

@@ -5,6 +5,7 @@ use mathlib.Core.Bool.{Bool, true}
 use Rattle.b3d_pieces_spec.specs.declared.Kept.{Kept}
 use Rattle.b3d_pieces_spec.specs.declared.Open.{Open}
 use Rattle.b3d_pieces_spec.specs.Good.{Words, Bound, worth}
+use Rattle.b3d_pieces_spec.specs.Limits.{mostCounted, overCounted}
 
 -- b is true just where P holds
 pub record Tests (b : Bool) (P : Type 0) : Type 0 where
@@ -16,11 +17,11 @@ pub record Tests (b : Bool) (P : Type 0) : Type 0 where
 -- r is n if P holds and n is at most 16,777,217; otherwise r is above that
 pub record Weighs (P : Type 0) (n r : ℕ) : Type 0 where
   -- if r is at most 16,777,217, P holds and r is n
-  pub yes : r ≤ 16777217 → P × (r ≡ n)
+  pub yes : r ≤ mostCounted → P × (r ≡ n)
   -- if P holds and n is at most 16,777,217, r is n
-  pub all : P → n ≤ 16777217 → r ≡ n
+  pub all : P → n ≤ mostCounted → r ≡ n
   -- r is at most 16,777,218
-  pub most : r ≤ 16777218
+  pub most : r ≤ overCounted
 
 -- a file may have the chunk f open with n chunks around it, and f's fixed data are words
 abbrev pub OpenFits : Open → ℕ → Type 0
@@ -29,9 +30,9 @@ OpenFits f n = Bound (f .tag) (f .level) n × Words (f .kept)
 -- r is n where either is at most 16,777,217; r is at most m
 pub record Small (m n r : ℕ) : Type 0 where
   -- if r is at most 16,777,217, it is n
-  pub yes : r ≤ 16777217 → r ≡ n
+  pub yes : r ≤ mostCounted → r ≡ n
   -- if n is at most 16,777,217, r is n
-  pub all : n ≤ 16777217 → r ≡ n
+  pub all : n ≤ mostCounted → r ≡ n
   -- r is at most m
   pub most : r ≤ m
 

@@ -4,6 +4,8 @@ ghost use Prim.Native.Nat.{_+_, _≤_};
 ghost use Rattle.b3d_pieces_spec.specs.Good.{Words, Bound, extra as extraOf};
 ghost use Rattle.b3d_pieces_valid_record.specs.Tests.{Tests, Weighs, OpenFits};
 use b3d_pieces_spec::Kept;
+use b3d_pieces_spec::MOST_COUNTED;
+use b3d_pieces_spec::OVER_COUNTED;
 use b3d_pieces_spec::Open;
 use b3d_spec::Tag;
 
@@ -77,12 +79,12 @@ pub fn rows_to_add(f: Open, n: usize) -> usize
         let kept = f.kept;
         if words_valid(kept) {
             let count = f.count;
-            if 16777217 < count {
-                return 16777218;
+            if MOST_COUNTED < count {
+                return OVER_COUNTED;
             }
             return count + extra(tag);
         }
-        return 16777218;
+        return OVER_COUNTED;
     }
-    16777218
+    OVER_COUNTED
 }

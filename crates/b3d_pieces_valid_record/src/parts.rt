@@ -1,20 +1,23 @@
 // Tests of the part that is being read, and the sum of the totals.
 ghost use mathlib.Core.Path.{_≡_};
 ghost use Rattle.b3d_pieces_spec.specs.Good.{Off, sum, worth as worthOf};
+ghost use Rattle.b3d_pieces_spec.specs.Limits.{overCounted};
 ghost use Rattle.b3d_pieces_valid_record.specs.Tests.{Tests, Small, RowOff};
 use crate::loads::words_valid;
 use b3d_pieces_spec::Kept;
+use b3d_pieces_spec::MOST_COUNTED;
+use b3d_pieces_spec::OVER_COUNTED;
 use b3d_pieces_spec::Part;
 use b3d_pieces_spec::Totals;
 
 // Returns `x`, or 16,777,218 if it is larger than 16,777,217.
 pub fn cap(x: usize) -> usize
-    ensures { λ r. ⌜ Small 16777218 x r ⌝ }
+    ensures { λ r. ⌜ Small overCounted x r ⌝ }
 {
-    if x <= 16777217 {
+    if x <= MOST_COUNTED {
         return x;
     }
-    16777218
+    OVER_COUNTED
 }
 
 // Returns how many rows `g` counted; right if it is at most 16,777,217, else some number above that.

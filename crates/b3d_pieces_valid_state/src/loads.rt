@@ -3,6 +3,8 @@ ghost use Prim.Native.Nat.{_≤_};
 ghost use lib.ListN.{length};
 ghost use Rattle.b3d_pieces_spec.specs.Row.{openAt};
 ghost use Rattle.b3d_pieces_valid_state.specs.Entry.{RowFits};
+use b3d_pieces_spec::MOST_COUNTED;
+use b3d_pieces_spec::OVER_COUNTED;
 use b3d_pieces_valid_record::loads::rows_to_add;
 use b3d_pieces_words_row::open_at;
 
@@ -18,8 +20,8 @@ pub fn stack_rows_to_add(row: &[usize], n: usize) -> usize
         let f = open_at(row, i);
         let v = rows_to_add(f, i);
         let sum = total + v;
-        if 16777217 < sum {
-            return 16777218;
+        if MOST_COUNTED < sum {
+            return OVER_COUNTED;
         }
         total = sum;
         i += 1;

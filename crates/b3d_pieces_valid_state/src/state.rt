@@ -4,12 +4,14 @@ ghost use Prim.Native.Nat.{_/_, _<_, _≤_};
 ghost use lib.ListN.{length};
 ghost use Rattle.b3d_pieces_judge_step.specs.Takes.{headLow};
 ghost use Rattle.b3d_pieces_spec.specs.Row.{openAt};
+ghost use Rattle.b3d_pieces_spec.specs.Limits.{mostCounted, overCounted};
 ghost use Rattle.b3d_pieces_judge_step.specs.Runs.{CanRun};
 ghost use Rattle.b3d_pieces_valid_record.specs.Tests.{Tests};
 ghost use Rattle.b3d_pieces_valid_state.specs.Entry.{LiveTests, NowTests, StateTests};
 use crate::loads::stack_rows_to_add;
 use b3d_pieces_item_steps::Now;
 use b3d_pieces_judge_step::Judge;
+use b3d_pieces_spec::MOST_COUNTED;
 use b3d_pieces_spec::Open;
 use b3d_pieces_spec::Part;
 use b3d_pieces_spec::Totals;
@@ -29,7 +31,7 @@ pub fn live_valid(
     n: usize,
     load: usize,
 ) -> bool
-    requires { ⌜ (size ≤ 16777217) × (load ≤ 16777218) ⌝ }
+    requires { ⌜ (size ≤ mostCounted) × (load ≤ overCounted) ⌝ }
     ensures { λ r. ⌜ LiveTests at m g f size n load r ⌝ }
 {
     if part_valid(m, at, size) {
@@ -43,7 +45,7 @@ pub fn live_valid(
 // Returns whether the invariant holds of `held` after `size` bytes, and no chunk waits to be entered or left, where the row's `n` chunks may still add `load`
 // rows.
 pub fn now_valid(held: Now, size: usize, n: usize, load: usize) -> bool
-    requires { ⌜ (size ≤ 16777217) × (load ≤ 16777218) ⌝ }
+    requires { ⌜ (size ≤ mostCounted) × (load ≤ overCounted) ⌝ }
     ensures { λ r. ⌜ NowTests held size n load r ⌝ }
 {
     match held {
@@ -68,13 +70,13 @@ pub fn head_low(size: usize) -> usize
 
 // Returns whether `j` is as calls leave it, over any row whose chunks in use may still add `load` rows.
 pub fn state_valid(j: Judge, load: usize) -> bool
-    requires { ⌜ load ≤ 16777218 ⌝ }
+    requires { ⌜ load ≤ overCounted ⌝ }
     ensures { λ r. ⌜ StateTests j load r ⌝ }
 {
     let size = j.size;
     let n = j.depth;
     let now = j.now;
-    if 16777217 < size {
+    if MOST_COUNTED < size {
         return false;
     }
     if 18 < n {

@@ -3,6 +3,7 @@ ghost use Rattle.b3d_check.specs.Lent.{lentOf};
 ghost use Rattle.b3d_write.specs.Writes.{Writes};
 use b3d_spec::Mode;
 use b3d_spec::Written;
+use layout::MOST_BYTES;
 use layout::refusals;
 
 // Writes the shortest file that has the tables `t1` to `t10`, `counts`, `version` and n_texs (`slots`), with names in `names`, to the start of `out`. Returns
@@ -58,7 +59,7 @@ pub fn write(
     let textures = wire::size(counts[0]);
     let brushes = wire::size(counts[1]);
     let size = b3d_write_size::file_bytes(slots, textures, brushes, all, t1, t2, t3, t4, t9);
-    if 16777216 < size {
+    if MOST_BYTES < size {
         return unsound;
     }
     if out.len() < size {

@@ -2,6 +2,8 @@
 ghost use mathlib.Core.Path.{_≡_};
 ghost use Prim.Native.Nat.{_≤_};
 ghost use Rattle.cal3d_header.specs.Heads.{readHead, openedOf};
+use layout::FEWEST_BYTES;
+use layout::MOST_BYTES;
 use layout::refusals;
 
 // The number of entries that the header says, or a refusal and its place.
@@ -16,10 +18,10 @@ pub fn entry_count(file: &[u8], magic: u32, version: u32, more: usize) -> Opened
     ensures { λ r. ⌜ r ≡ openedOf (readHead magic version more (now (file .entry))) ⌝ }
 {
     let n = file.len();
-    if n < 12 {
+    if n < FEWEST_BYTES {
         return Opened::Not(refusals::FILE_SIZE, 0);
     }
-    if 16777216 < n {
+    if MOST_BYTES < n {
         return Opened::Not(refusals::FILE_SIZE, 0);
     }
     if wire::number_at(file, 0) != magic {

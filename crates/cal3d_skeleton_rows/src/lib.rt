@@ -6,7 +6,7 @@ ghost use lib.Seq.{sets as stored};
 ghost use Rattle.wire.specs.Bytes.{over};
 ghost use Rattle.wire.specs.Cursors.{Inside, left};
 ghost use Rattle.layout.specs.Parts.{wordsOf};
-ghost use Rattle.layout.specs.Rows.{joined};
+ghost use Rattle.layout.specs.Rows.{joined, mostBytes};
 ghost use Rattle.cal3d_spec.specs.Tables.{boneRows, childRows};
 ghost use Rattle.cal3d_skeleton_bones.specs.Bones.{childrenIn};
 ghost use Rattle.cal3d_skeleton_tree_file.specs.Links.{Good, bonesAt};
@@ -17,7 +17,7 @@ use wire::Cursor;
 // Stores a bone's row in `out` from word `base` on: the place `name` and the length of its name, which ends where its numbers stand; the numbers; and
 // `before`, how many children came before.
 fn put_bone(s: &[u8], name: usize, numbers: Cursor, before: usize, base: usize, out: &mut [u32])
-    requires { ⌜ Inside numbers (length (now s)) × (numbers .at + 80 ≤ numbers .end) × (name ≤ numbers .at) × (length (now s) ≤ 16777216) ⌝ }
+    requires { ⌜ Inside numbers (length (now s)) × (numbers .at + 80 ≤ numbers .end) × (name ≤ numbers .at) × (length (now s) ≤ mostBytes) ⌝ }
     requires { ⌜ (before ≤ 16383) × (base + 23 ≤ length (now out)) ⌝ }
     ensures { λ _. ⌜ now (out .exit) ≡ stored (now (out .entry)) base (boneCells name (numbers .at - name) (wordsOf 20 (left numbers (now (s .entry)))) before) ⌝ }
 {

@@ -7,6 +7,7 @@ use Rattle.wire.specs.Cursors.{Inside, left}
 use Rattle.wire.specs.declared.Cursor.{Cursor}
 use Rattle.layout.specs.Result.{Result, accept, reject}
 use Rattle.layout.specs.Counted.{times}
+use Rattle.layout.specs.Rows.{mostBytes}
 use Rattle.cal3d_spec.specs.Skeletons.{Bone, readBone}
 use Rattle.cal3d_skeleton_bones.specs.Bones.{Whole, bonesIn}
 use Rattle.cal3d_skeleton_tree_file.specs.declared.Told.{Told}
@@ -19,7 +20,7 @@ pub record Good (s : List ℕ) (from : Cursor) (bones : ℕ) : Type 0 where
   -- the cursor's end is the file's
   pub last : from .end ≡ length s
   -- the file is not over the size limit
-  pub small : length s ≤ 16777216
+  pub small : length s ≤ mostBytes
   -- the bones are not over the row limit
   pub few : bones ≤ 16383
   -- the bones are read without a refusal
