@@ -1,5 +1,6 @@
 // The writer's check of lent tables, row by row: whether some accepted file has them.
 ghost use Rattle.b3d_check.specs.Lent.{lentOf, Says};
+use b3d_spec::HIGHEST_VERSION;
 use b3d_spec::Mode;
 
 // Returns whether some file that `mode` accepts has these tables: `version`, n_texs (`slots`), `counts` by table, the tables `t1` to `t10` and the bytes
@@ -47,7 +48,7 @@ pub fn sound(
     ) {
         return false;
     }
-    if !(version <= 99) {
+    if !(version <= HIGHEST_VERSION) {
         return false;
     }
     if !b3d_check_materials::slots_valid(slots, brushes) {

@@ -6,6 +6,7 @@ ghost use lib.ListN.{length};
 ghost use Rattle.layout.specs.WellFormed.{all};
 ghost use Rattle.b3d_spec.specs.Mask.{vertexMask, keyMask};
 ghost use Rattle.b3d_spec.specs.Tables.{vertexWidth, keyWidth};
+ghost use Rattle.b3d_spec.specs.Rules.{largestSet};
 ghost use Rattle.b3d_check_spec.specs.Check.{clean};
 ghost use Rattle.b3d_rule_row_masks.specs.Runs.{runMask, width, Short, OfKey, OfVertex};
 ghost use Rattle.b3d_check_rows.specs.Rows.{rowsAt};
@@ -60,7 +61,7 @@ fn full_zeros(t: &[u32], at: usize, n: usize, most: usize) -> bool
 
 // Returns whether in each of `sets` sets of four words, from word `at` on, all words but the first `size` are 0.
 fn sets_clean(t: &[u32], at: usize, sets: usize, size: usize) -> bool
-    requires { ⌜ (size ≤ 4) × (at + sets * 4 ≤ length (now t)) ⌝ }
+    requires { ⌜ (size ≤ largestSet) × (at + sets * 4 ≤ length (now t)) ⌝ }
     ensures { λ r. ⌜ r ≡ setsClean sets size (now (t .entry)) at ⌝ }
 {
     let mut ok = true;

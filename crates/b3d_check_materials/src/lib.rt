@@ -4,11 +4,12 @@ ghost use Prim.Native.Nat.{_+_, _*_, _<_, _≤_};
 ghost use lib.ListN.{length, take, drop};
 ghost use Rattle.layout.specs.WellFormed.{all};
 ghost use Rattle.layout.specs.Rules.{holds};
-ghost use Rattle.b3d_spec.specs.Rules.{textureId};
+ghost use Rattle.b3d_spec.specs.Rules.{textureId, mostSlots};
 ghost use Rattle.b3d_spec.specs.Tables.{textureWidth, brushWidth};
 ghost use Rattle.b3d_check_spec.specs.Check.{nameValid, brushValid, slotsValid};
 ghost use Rattle.b3d_check_rows.specs.Rows.{rowAt, rowsAt};
 use b3d_spec::BRUSH_WIDTH;
+use b3d_spec::MOST_SLOTS;
 use b3d_spec::TEXTURE_WIDTH;
 
 // Returns whether each of the first `count` rows of table 1, `t`, has its name in `names`.
@@ -46,7 +47,7 @@ fn ids_valid(t: &[u32], textures: u32, place: usize, count: usize) -> bool
 
 // Returns whether row `i` of table 2, `t`, is sound: its name is in `names`, its first `slots` ids are NONE or below `textures`, the unused ones NONE.
 fn brush_valid(names: &[u8], slots: u32, textures: u32, t: &[u32], i: usize) -> bool
-    requires { ⌜ (slots ≤ 8) × (brushWidth * i + brushWidth ≤ length (now t)) ⌝ }
+    requires { ⌜ (slots ≤ mostSlots) × (brushWidth * i + brushWidth ≤ length (now t)) ⌝ }
     ensures { λ r. ⌜ r ≡ brushValid (now (names .entry)) slots textures (rowAt brushWidth i (now (t .entry))) ⌝ }
 {
     let many = wire::size(slots);
@@ -62,7 +63,7 @@ fn brush_valid(names: &[u8], slots: u32, textures: u32, t: &[u32], i: usize) -> 
 
 // Returns whether each of the first `count` rows of table 2, `t`, is sound, with `slots` ids in use and `textures` textures.
 pub fn brushes_valid(names: &[u8], slots: u32, textures: u32, t: &[u32], count: usize) -> bool
-    requires { ⌜ (slots ≤ 8) × (brushWidth * count ≤ length (now t)) ⌝ }
+    requires { ⌜ (slots ≤ mostSlots) × (brushWidth * count ≤ length (now t)) ⌝ }
     ensures { λ r. ⌜ r ≡ all (brushValid (now (names .entry)) slots textures) (rowsAt brushWidth 0 count (now (t .entry))) ⌝ }
 {
     let mut i: usize = 0;
@@ -82,5 +83,5 @@ pub fn slots_valid(slots: u32, brushes: u32) -> bool
     if brushes == 0 {
         return slots == 0;
     }
-    slots <= 8
+    slots <= MOST_SLOTS
 }

@@ -12,7 +12,10 @@ ghost use Rattle.b3d_check_mesh.specs.Parts.{meshRowHere, meshSets, Mesh
 use b3d_check_row_runs::Run;
 use b3d_check_rows::Ids;
 use b3d_spec::Counts;
+use b3d_spec::HIGHEST_VERTEX_FLAGS;
+use b3d_spec::LARGEST_SET;
 use b3d_spec::MESH_WIDTH;
+use b3d_spec::MOST_SETS;
 
 // ---- vertices and weights
 
@@ -59,7 +62,8 @@ fn mesh_head(brushes: u32, node: usize, vertices: usize, t: &[u32], i: usize) ->
     let from = b3d_check_rows::cell(t, o + 5);
     let brush = t[o + 1];
     let some = (brush == 0xFFFFFFFF) | (brush < brushes);
-    let ranges = (t[o + 2] <= 3) & ((t[o + 3] <= 8) & ((t[o + 4] <= 4) & (from == vertices)));
+    let ranges = (t[o + 2] <= HIGHEST_VERTEX_FLAGS)
+        & ((t[o + 3] <= MOST_SETS) & ((t[o + 4] <= LARGEST_SET) & (from == vertices)));
     (own == node) & (some & ranges)
 }
 

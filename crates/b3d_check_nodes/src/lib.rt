@@ -10,6 +10,7 @@ ghost use Rattle.b3d_check_spec.specs.Rooms.{Limited, KindRoom, ListRoom};
 ghost use Rattle.b3d_check_node_counts.specs.Parts.{partRows, Below};
 use b3d_check_node::node_valid;
 use b3d_spec::Counts;
+use b3d_spec::LEVELS;
 
 // Returns whether the nodes after the root are sound in tables 3 to 10, whose rows `all` counts; `from` are the counts after the root, whose branch ends at
 // row `end` and whose bone limit is its vertices. The names are in `text`. A path of 16 levels holds the open nodes, where each ends and its bone limit.
@@ -33,10 +34,10 @@ pub fn nodes_valid(
     ensures { λ r. ⌜ r ≡ nodesValid (now (text .entry)) brushes (partRows all (now (t4 .entry)) (now (t5 .entry)) (now (t6 .entry)) (now (t7 .entry)) (now (t8 .entry)) (now (t9 .entry)) (now (t10 .entry)))
         (record { node = 0; end = end; bones = from .vertices } ∷ []) (rowsAt nodeWidth (from .nodes) (all .nodes - from .nodes) (now (t3 .entry))) from ⌝ }
 {
-    let mut path: [usize; 16] = [0; 16];
-    let mut ends: [usize; 16] = [0; 16];
+    let mut path: [usize; LEVELS] = [0; LEVELS];
+    let mut ends: [usize; LEVELS] = [0; LEVELS];
     ends[0] = end;
-    let mut bones: [u32; 16] = [0; 16];
+    let mut bones: [u32; LEVELS] = [0; LEVELS];
     bones[0] = shared_table_words::cell(from.vertices);
     let mut depth: usize = 1;
     let mut n = from;
@@ -46,7 +47,7 @@ pub fn nodes_valid(
         if d <= 0 {
             return false;
         }
-        if 16 <= d {
+        if LEVELS <= d {
             return false;
         }
         let told = bones[d - 1];

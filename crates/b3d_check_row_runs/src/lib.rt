@@ -10,6 +10,7 @@ ghost use Rattle.b3d_check_rows.specs.Rows.{rowAt, rowsAt};
 ghost use Rattle.b3d_check_row_runs.specs.Items.{runWidth, runTest};
 ghost use Rattle.b3d_check_row_runs.specs.Mine.{MineTo};
 use b3d_check_rows::Ids;
+use b3d_spec::HIGHEST_KEY_FLAGS;
 use b3d_spec::KEY_LIST_WIDTH;
 use b3d_spec::TRIANGLE_SET_WIDTH;
 
@@ -26,7 +27,7 @@ fn key_list_valid(t: &[u32], i: usize, keys: &[u32], first: usize, count: usize)
     ensures { λ r. ⌜ r ≡ keyListValid (rowAt keyListWidth i (now (t .entry))) (rowsAt keyWidth first count (now (keys .entry))) ⌝ }
 {
     let flags = t[KEY_LIST_WIDTH * i + 1];
-    if !(flags <= 7) {
+    if !(flags <= HIGHEST_KEY_FLAGS) {
         return false;
     }
     b3d_check_absent_words::keys_valid(keys, flags, first, count)

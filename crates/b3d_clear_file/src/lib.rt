@@ -9,6 +9,7 @@ ghost use Rattle.shared_output.specs.Writing.{Room, Put};
 ghost use Rattle.b3d_spec.specs.Rules.{levels};
 ghost use Rattle.b3d_spec.specs.declared.Tag.the-variants.{BRUS, NODE};
 ghost use Rattle.b3d_clear_spec.specs.Copies.{each, chunksAt, brusCopy, nodeCopy, inFile, fileCopy};
+use b3d_spec::ALL_LEVELS;
 use b3d_spec::Tag;
 use b3d_spec::letters;
 use wire::Cursor;
@@ -20,7 +21,7 @@ fn clear_rest(file: &[u8], from: Cursor, out: &mut [u8]) -> usize
     ensures { λ r. ⌜ Put (each BRUS brusCopy (chunksAt (now (file .entry)) from) ++ each NODE (nodeCopy levels) (chunksAt (now (file .entry)) from)) (now (out .entry)) (now (out .exit)) r ⌝ }
 {
     let n = b3d_clear_chunks::clear_each(file, from, Tag::BRUS, out);
-    let m = b3d_clear_nodes::clear_nodes(file, from, 16, &mut out[n..]);
+    let m = b3d_clear_nodes::clear_nodes(file, from, ALL_LEVELS, &mut out[n..]);
     n + m
 }
 

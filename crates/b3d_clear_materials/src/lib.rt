@@ -10,6 +10,7 @@ ghost use Rattle.b3d_spec.specs.declared.Tag.the-variants.{TEXS, BRUS};
 ghost use Rattle.b3d_spec_chunk_places.specs.Places.{Body};
 ghost use Rattle.b3d_clear_spec.specs.Copies.{chunkOf, unnamed, unnamedItems, texsCopy, brusCopy};
 use b3d_chunk_cursor::Named;
+use b3d_spec::MOST_SLOTS;
 use b3d_spec::letters;
 use wire::Cursor;
 use wire::Number;
@@ -94,7 +95,7 @@ pub fn clear_brushes(file: &[u8], at: usize, body: Cursor, out: &mut [u8]) -> us
     match body.number(file) {
         Number::Cut => 0,
         Number::Is(slots, items) => {
-            if 8 < slots {
+            if MOST_SLOTS < slots {
                 return 0;
             }
             if items.end <= items.at {

@@ -3,6 +3,7 @@ ghost use Prim.Native.Nat.{_<_, _≤_};
 ghost use lib.ListN.{length};
 ghost use Rattle.shared_put_or_count.specs.Emits.{Fits, Emits};
 ghost use Rattle.b3d_spec.specs.Tables.{vertexWidth};
+ghost use Rattle.b3d_spec.specs.Rules.{rowLimit};
 ghost use Rattle.b3d_rows.specs.NextRow.{rowsFrom, RowCursorAt};
 ghost use Rattle.b3d_compare_tables.specs.Tables.{Comparable, bytesFrom, tableBytes, PutTurn};
 use b3d_rows_nodes::RowCursor;
@@ -98,7 +99,7 @@ pub fn put_table(
     out: &mut [u8],
     at: usize,
 ) -> usize
-    requires { ⌜ Comparable k rows (now a) × Comparable k rows (now b) × (rows ≤ 2097151) × (vertexWidth ≤ length (now p)) × (vertexWidth ≤ length (now q))
+    requires { ⌜ Comparable k rows (now a) × Comparable k rows (now b) × (rows ≤ rowLimit) × (vertexWidth ≤ length (now p)) × (vertexWidth ≤ length (now q))
         × Fits wet (tableBytes k (now a) (now b)) at (now out) ⌝ }
     ensures { λ n. ⌜ Emits wet (tableBytes k (now (a .entry)) (now (b .entry))) (now (out .entry)) at (now (out .exit)) n ⌝ }
 {

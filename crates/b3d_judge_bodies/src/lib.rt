@@ -6,6 +6,7 @@ ghost use lib.ListN.{length};
 ghost use Rattle.wire.specs.Cursors.{Inside, left};
 ghost use Rattle.layout.specs.Parts.{items};
 ghost use Rattle.b3d_spec.specs.Parse.{readVertices, readTriangles, readBone, readKeys};
+ghost use Rattle.b3d_spec.specs.Rules.{highestVertexFlags};
 ghost use Rattle.b3d_judge_items.specs.Items.{colourItems, counted, CountedIn};
 ghost use Rattle.b3d_judge_bodies.specs.Colours.{beforeColour, coloursOf};
 ghost use Rattle.b3d_judge_tally.specs.Tally.{listTally, boneTally, setTally};
@@ -14,6 +15,10 @@ ghost use Rattle.b3d_judge_tally.specs.Answers.{Judges};
 ghost use Rattle.b3d_judge_bodies.specs.Answers.{Shapes};
 use b3d_judge_items::Counted;
 use b3d_judge_tally::Judged;
+use b3d_spec::HIGHEST_KEY_FLAGS;
+use b3d_spec::HIGHEST_VERTEX_FLAGS;
+use b3d_spec::LARGEST_SET;
+use b3d_spec::MOST_SETS;
 use b3d_spec::Mode;
 use layout::refusals;
 use wire::Cursor;
@@ -34,7 +39,7 @@ pub fn judge_keys(s: &[u8], at: usize, body: Cursor) -> Judged
     match body.number(s) {
         Number::Cut => Judged::Bad(refusals::CUT_ITEM, body.at),
         Number::Is(flags, items) => {
-            if 7 < flags {
+            if HIGHEST_KEY_FLAGS < flags {
                 return Judged::Bad(refusals::RANGE, body.at);
             }
             let words = b3d_rule_widths::key_words(flags);
@@ -60,7 +65,7 @@ pub fn judge_bone(s: &[u8], at: usize, body: Cursor, vertices: usize) -> Judged
 
 // Returns how many words of a vertex with these `flags` are colours that the `mode` looks at: 4 or 0.
 fn colours_of(mode: Mode, flags: u32) -> usize
-    requires { ⌜ flags ≤ 3 ⌝ }
+    requires { ⌜ flags ≤ highestVertexFlags ⌝ }
     ensures { λ r. ⌜ r ≡ coloursOf mode flags ⌝ }
 {
     match mode {
@@ -72,7 +77,7 @@ fn colours_of(mode: Mode, flags: u32) -> usize
 // Counts the vertices of `words` words that `items` has left, by one division where no colour is looked at. Answers 5 at a vertex that is cut, 6 at a colour
 // that does not pass.
 fn vertex_items(s: &[u8], items: Cursor, words: usize, flags: u32, mode: Mode) -> Counted
-    requires { ⌜ Inside items (length (now s)) × (flags ≤ 3) × (0 < words) × (words ≤ 64) × (beforeColour flags + coloursOf mode flags ≤ words) ⌝ }
+    requires { ⌜ Inside items (length (now s)) × (flags ≤ highestVertexFlags) × (0 < words) × (words ≤ 64) × (beforeColour flags + coloursOf mode flags ≤ words) ⌝ }
     ensures { λ r. ⌜ (r ≡ counted (colourItems (beforeColour flags) (coloursOf mode flags) (words - (beforeColour flags + coloursOf mode flags)) (items .at) (left items (now (s .entry))))) × CountedIn items words r ⌝ }
 {
     let n = colours_of(mode, flags);
@@ -97,13 +102,13 @@ pub fn judge_vertices(s: &[u8], at: usize, body: Cursor, mode: Mode) -> Vertices
     let flags = wire::number_at(s, start);
     let sets = wire::number_at(s, start + 4);
     let size = wire::number_at(s, start + 8);
-    if 3 < flags {
+    if HIGHEST_VERTEX_FLAGS < flags {
         return VerticesSummary::Not(refusals::RANGE, start);
     }
-    if 8 < sets {
+    if MOST_SETS < sets {
         return VerticesSummary::Not(refusals::RANGE, start + 4);
     }
-    if 4 < size {
+    if LARGEST_SET < size {
         return VerticesSummary::Not(refusals::RANGE, start + 8);
     }
     let words = b3d_rule_widths::vertex_words(flags, sets, size);

@@ -5,6 +5,7 @@ ghost use lib.ListN.{length};
 ghost use Rattle.wire.specs.Cursors.{Inside, left};
 ghost use Rattle.layout.specs.Parts.{items};
 ghost use Rattle.b3d_spec.specs.Parse.{readBrush};
+ghost use Rattle.b3d_spec.specs.Rules.{mostSlots};
 ghost use Rattle.b3d_judge_brush_items.specs.Brushes.{brushColours, countedBrushes, BrushesIn};
 use b3d_chunk_cursor::Named;
 use b3d_judge_items::Counted;
@@ -25,7 +26,7 @@ fn brush_colours(mode: Mode) -> usize
 // Counts the brushes that `from` has left, each with `slots` texture ids that are -1 or below `textures`. Answers 5 at a brush that is cut, 6 at a colour
 // that does not pass in the `mode`, 7 at an id that names nothing.
 pub fn brush_items(s: &[u8], from: Cursor, slots: usize, textures: usize, mode: Mode) -> Counted
-    requires { ⌜ Inside from (length (now s)) × (slots ≤ 8) ⌝ }
+    requires { ⌜ Inside from (length (now s)) × (slots ≤ mostSlots) ⌝ }
     ensures { λ r. ⌜ (r ≡ countedBrushes (items (readBrush mode slots textures) (from .at) (left from (now (s .entry))))) × BrushesIn from slots r ⌝ }
 {
     let mut c = from;

@@ -12,6 +12,7 @@ ghost use Rattle.layout.specs.Rows.{mostBytes};
 use b3d_judge_file_chunks::Phase;
 use b3d_judge_materials::BrushesSummary;
 use b3d_judge_tally::Tally;
+use b3d_spec::HIGHEST_VERSION;
 use b3d_spec::Mode;
 use layout::refusals;
 use wire::Cursor;
@@ -72,7 +73,7 @@ pub fn judge_body(s: &[u8], mode: Mode) -> Verdict
     match behind.number(s) {
         Number::Cut => Verdict::Bad(refusals::CUT_ITEM, 8),
         Number::Is(version, c) => {
-            if 99 < version {
+            if HIGHEST_VERSION < version {
                 return Verdict::Bad(refusals::RANGE, 8);
             }
             judge_chunks(s, version, c, mode)

@@ -16,6 +16,7 @@ use b3d_judge_node::Above;
 use b3d_judge_tally::Judged;
 use b3d_judge_tally::Tally;
 use b3d_rule_nesting_order::Reached;
+use b3d_spec::ALL_LEVELS;
 use b3d_spec::Mode;
 use b3d_spec::Tag;
 use wire::Cursor;
@@ -113,7 +114,7 @@ fn judge_root(s: &[u8], from: Cursor, brushes: usize, mode: Mode) -> Phase
         Enclosed::End => Phase::To(b3d_judge_tally::none(), from),
         Enclosed::Not(e, p) => Phase::Not(e, p),
         Enclosed::Chunk { at, body, next, .. } => {
-            match b3d_judge_nodes::judge_node(s, at, body, 16, brushes, Above::Root, mode) {
+            match b3d_judge_nodes::judge_node(s, at, body, ALL_LEVELS, brushes, Above::Root, mode) {
                 Judged::Bad(e, p) => Phase::Not(e, p),
                 Judged::Good(t) => Phase::To(t, next),
             }

@@ -10,6 +10,7 @@ use b3d_chunk_cursor::Named;
 use b3d_judge_items::Counted;
 use b3d_judge_tally::Judged;
 use b3d_judge_tally::Tally;
+use b3d_spec::MOST_SLOTS;
 use b3d_spec::Mode;
 use layout::refusals;
 use wire::Cursor;
@@ -58,7 +59,7 @@ pub fn judge_brushes(
     match body.number(s) {
         Number::Cut => BrushesSummary::Not(refusals::CUT_ITEM, body.at),
         Number::Is(slots, items) => {
-            if 8 < slots {
+            if MOST_SLOTS < slots {
                 return BrushesSummary::Not(refusals::RANGE, body.at);
             }
             let n = wire::size(slots);

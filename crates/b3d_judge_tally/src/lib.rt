@@ -3,7 +3,8 @@
 ghost use Prim.Native.Nat.{_≤_};
 ghost use mathlib.Core.Path.{_≡_};
 ghost use Rattle.layout.specs.Rows.{mostBytes};
-ghost use Rattle.b3d_spec.specs.Tables.{vertexWidth};
+ghost use Rattle.b3d_spec.specs.Tables.{vertexWidth, keyWidth};
+ghost use Rattle.b3d_spec.specs.Rules.{mostSlots};
 ghost use Rattle.b3d_judge_tally.specs.Tally.{noTally, bytesTally, headTally, verticesTally, trianglesTally, weightsTally, keysTally, plus, Within, texsOf, brusOf};
 
 // Rows of the ten tables, and bytes of the cleared copy.
@@ -70,7 +71,7 @@ pub fn texs(n: usize) -> Tally
 
 // Returns the tally of a BRUS of `n` brushes, each with `slots` texture ids; where `n` is 0, of no BRUS.
 pub fn brus(slots: usize, n: usize) -> Tally
-    requires { ⌜ (n ≤ mostBytes) × (slots ≤ 8) ⌝ }
+    requires { ⌜ (n ≤ mostBytes) × (slots ≤ mostSlots) ⌝ }
     ensures { λ r. ⌜ r ≡ brusOf slots n ⌝ }
 {
     if n == 0 {
@@ -124,7 +125,7 @@ pub fn weights(n: usize) -> Tally
 
 // Returns the tally of a KEYS of `n` keys of `words` words each.
 pub fn keys(n: usize, words: usize) -> Tally
-    requires { ⌜ (n ≤ mostBytes) × (words ≤ 11) ⌝ }
+    requires { ⌜ (n ≤ mostBytes) × (words ≤ keyWidth) ⌝ }
     ensures { λ r. ⌜ r ≡ keysTally n words ⌝ }
 {
     let mut t = bytes(12 + n * (4 * words));

@@ -12,6 +12,9 @@ use b3d_chunk_cursor::Next;
 use b3d_chunk_walk::Sought;
 use b3d_judge_items::Counted;
 use b3d_label_spec::TrayLabel;
+use b3d_spec::HIGHEST_VERTEX_FLAGS;
+use b3d_spec::LARGEST_SET;
+use b3d_spec::MOST_SETS;
 use b3d_spec::Tag;
 use b3d_spec::letters;
 use layout::refusals;
@@ -38,13 +41,13 @@ fn vrts_vertices(s: &[u8], body: Cursor) -> Many
     let flags = wire::number_at(s, start);
     let sets = wire::number_at(s, start + 4);
     let size = wire::number_at(s, start + 8);
-    if 3 < flags {
+    if HIGHEST_VERTEX_FLAGS < flags {
         return Many::Not;
     }
-    if 8 < sets {
+    if MOST_SETS < sets {
         return Many::Not;
     }
-    if 4 < size {
+    if LARGEST_SET < size {
         return Many::Not;
     }
     let words = b3d_rule_widths::vertex_words(flags, sets, size);

@@ -16,6 +16,7 @@ use b3d_judge_file_body::Summary;
 use b3d_judge_file_body::Verdict;
 use b3d_judge_file_chunks::Phase;
 use b3d_judge_materials::BrushesSummary;
+use b3d_spec::HIGHEST_VERSION;
 use b3d_spec::letters;
 use layout::FEWEST_BYTES;
 use layout::MOST_BYTES;
@@ -53,7 +54,7 @@ pub fn lax_body(s: &[u8]) -> Verdict
     match behind.number(s) {
         Number::Cut => Verdict::Bad(refusals::CUT_ITEM, 8),
         Number::Is(version, c) => {
-            if 99 < version {
+            if HIGHEST_VERSION < version {
                 return Verdict::Bad(refusals::RANGE, 8);
             }
             let d = b3d_mend_judge_items::trimmed(s, c);

@@ -18,6 +18,7 @@ use b3d_judge_materials::BrushesSummary;
 use b3d_judge_node::Above;
 use b3d_judge_tally::Judged;
 use b3d_rule_nesting_order::Reached;
+use b3d_spec::ALL_LEVELS;
 use b3d_spec::Mode;
 use b3d_spec::Tag;
 use wire::Cursor;
@@ -47,7 +48,7 @@ fn lax_root(s: &[u8], from: Cursor) -> Phase
         Enclosed::End => Phase::To(b3d_judge_tally::none(), from),
         Enclosed::Not(e, p) => Phase::Not(e, p),
         Enclosed::Chunk { at, body, next, .. } => {
-            match b3d_mend_judge_tree::lax_node(s, at, body, 16, Above::Root) {
+            match b3d_mend_judge_tree::lax_node(s, at, body, ALL_LEVELS, Above::Root) {
                 Judged::Bad(e, p) => Phase::Not(e, p),
                 Judged::Good(t) => Phase::To(t, next),
             }

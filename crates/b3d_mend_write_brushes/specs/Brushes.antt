@@ -8,7 +8,7 @@ use Rattle.wire.specs.declared.Cursor.{Cursor}
 use Rattle.layout.specs.Parts.{wordsOf}
 use Rattle.layout.specs.Write.{writeText}
 use Rattle.b3d_spec.specs.declared.Mode.the-variants.{Lenient}
-use Rattle.b3d_spec.specs.Rules.{brushRow, brushIds}
+use Rattle.b3d_spec.specs.Rules.{brushRow, brushIds, mostSlots}
 use Rattle.b3d_mend_spec.specs.Edits.{Edit, keep}
 use Rattle.b3d_mend_spec.specs.Walks.{wordEdits}
 
@@ -18,7 +18,7 @@ pub record BrushAt (s : List ℕ) (c row : Cursor) (slots : ℕ) : Type 0 where
   pub before : c .at < row .at
   pub same : row .end ≡ c .end
   pub room : row .at + 4 * (7 + slots) ≤ row .end
-  pub few : slots ≤ 8
+  pub few : slots ≤ mostSlots
   pub text : left c s ≡ take (row .at - (c .at + 1)) (left c s) ++ 0 ∷ left row s
   pub long : length (take (row .at - (c .at + 1)) (left c s)) ≡ row .at - (c .at + 1)
 

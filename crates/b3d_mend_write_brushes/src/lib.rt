@@ -6,12 +6,14 @@ ghost use Rattle.shared_put_or_count.specs.Emits.{Emits, Fits};
 ghost use Rattle.b3d_mend_write_spec.specs.Shown.{shown};
 ghost use Rattle.b3d_mend_write_brushes.specs.Ids.{idEdits};
 ghost use Rattle.wire.specs.Cursors.{Inside, left};
+ghost use Rattle.b3d_spec.specs.Rules.{mostSlots};
 ghost use Rattle.b3d_chunk_cursor.specs.declared.Named.the-variants.{Is};
 ghost use Rattle.b3d_mend_write_brushes.specs.Brushes.{BrushAt, brushEdits};
 ghost use Rattle.b3d_spec_chunk_places.specs.Places.{Body};
 ghost use Rattle.b3d_mend_spec.specs.Walks.{brusEdits};
 ghost use Rattle.b3d_mend_write_brushes.specs.Lists.{brushesAt};
 use b3d_chunk_cursor::Named;
+use b3d_spec::MOST_SLOTS;
 use wire::Cursor;
 use wire::Number;
 
@@ -73,7 +75,7 @@ pub fn put_brushes(
     out: &mut [u8],
     start: usize,
 ) -> usize
-    requires { ⌜ Inside from (length (now file)) × (slots ≤ 8) ⌝ }
+    requires { ⌜ Inside from (length (now file)) × (slots ≤ mostSlots) ⌝ }
     requires { ⌜ (length (now file) < 4294967296) × AllBytes (now file) ⌝ }
     requires { ⌜ Fits wet (shown report (from .at) (brushesAt slots textures (now file) from)) start (now out) ⌝ }
     ensures { λ r. ⌜ Emits wet (shown report (from .at) (brushesAt slots textures (now (file .entry)) from)) (now (out .entry)) start (now (out .exit)) r ⌝ }
@@ -112,7 +114,7 @@ pub fn put_brus(
     match body.number(file) {
         Number::Cut => at,
         Number::Is(slots, c) => {
-            if 8 < slots {
+            if MOST_SLOTS < slots {
                 return at;
             }
             let n = wire::size(slots);

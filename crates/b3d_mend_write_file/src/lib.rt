@@ -23,7 +23,7 @@ const FILE_SCOPE: Scope = Scope {
 };
 
 // BB3D, 16 levels of NODE, MESH.
-const LEVELS: u32 = 17;
+const WALK_LEVELS: u32 = 17;
 
 // Puts three numbers.
 fn put_three(a: u32, b: u32, c: u32, wet: bool, out: &mut [u8], at: usize) -> usize
@@ -75,7 +75,7 @@ pub fn walk_file(
     let m = put_start(file, size, report, wet, out, at);
     let w = b3d_mend_write_chunks::walk_inside(
         file,
-        LEVELS,
+        WALK_LEVELS,
         chunks,
         FILE_SCOPE,
         report,

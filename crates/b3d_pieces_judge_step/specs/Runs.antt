@@ -5,6 +5,7 @@ use mathlib.Core.Bool.{false}
 use mathlib.Core.List.{List}
 use Rattle.b3d_pieces_spec.specs.declared.Open.{Open}
 use Rattle.b3d_pieces_spec.specs.Close.{piece}
+use Rattle.b3d_pieces_spec.specs.Calls.{records}
 use Rattle.b3d_pieces_step.specs.Turns.{pends}
 use Rattle.b3d_pieces_judge_step.specs.declared.Judge.{Judge}
 use Rattle.b3d_pieces_judge_step.specs.Takes.{heldOf, GoodJudge}
@@ -12,7 +13,7 @@ use Rattle.b3d_pieces_judge_step.specs.Takes.{heldOf, GoodJudge}
 -- state and row are as calls leave them: a piece may be taken
 pub record CanRun (j : Judge) (n : ℕ) (rs : ℕ → Open) : Type 0 where
   -- the row has 19 records
-  pub room : 19 ≤ n
+  pub room : records ≤ n
   -- no chunk waits to be entered or left
   pub calm : pends (j .now) ≡ false
   -- the invariant holds

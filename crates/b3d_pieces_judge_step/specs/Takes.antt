@@ -7,7 +7,7 @@ use Rattle.layout.specs.Rows.{mostBytes}
 use Rattle.b3d_pieces_spec.specs.declared.Open.{Open}
 use Rattle.b3d_pieces_spec.specs.Close.{Whole, heading, inside, Held, byte}
 use Rattle.b3d_pieces_spec.specs.Good.{worth}
-use Rattle.b3d_pieces_spec.specs.Limits.{mostCounted}
+use Rattle.b3d_pieces_spec.specs.Limits.{mostCounted, mostAround}
 use Rattle.b3d_pieces_item_steps.specs.Nows.{stateWith, GoodNow}
 use Rattle.b3d_pieces_byte_steps.specs.Bytes.{gathers}
 use Rattle.b3d_pieces_step.specs.Turns.{stackBy, pends, pendOf, ReadyNow}
@@ -44,7 +44,7 @@ pub record GoodJudge (j : Judge) (rs : ℕ → Open) : Type 0 where
   -- at most one byte more came than the longest file has
   pub size : j .size ≤ mostCounted
   -- at most 18 records are in use
-  pub depth : j .depth ≤ 18
+  pub depth : j .depth ≤ mostAround
   -- inside BB3D's header no chunk waits to be entered or left
   pub calm : j .size < 8 → pends (j .now) ≡ false
   -- inside BB3D's header the value of the present number is right for the bytes that came
@@ -57,7 +57,7 @@ pub record TakeReady (j : Judge) (rec : Open) : Type 0 where
   -- at most one byte more came than the longest file has
   pub size : j .size ≤ mostCounted
   -- at most 18 records are in use
-  pub depth : j .depth ≤ 18
+  pub depth : j .depth ≤ mostAround
   -- inside BB3D's header no chunk waits to be entered or left
   pub calm : j .size < 8 → pends (j .now) ≡ false
   -- inside BB3D's header the value of the present number is right for the bytes that came
@@ -101,6 +101,6 @@ pub record TakeIs (j : Judge) (rec : Open) (b : ℕ) (r : Taken) : Type 0 where
   -- while chunks are to be entered or left, fewer turns without a byte may follow than before
   pub less : pends (j .now) ≡ true → pendOf (r .judge .now) (r .judge .depth) < pendOf (j .now) (j .depth)
   -- the record is written within 19 records
-  pub put : r .put ≤ 18
+  pub put : r .put ≤ mostAround
   -- the file is closed or not as before
   pub shut : r .judge .shut ≡ j .shut

@@ -15,6 +15,7 @@ use b3d_pieces_spec::Totals;
 use b3d_pieces_step::turning::pending;
 use b3d_pieces_step::turning::slot;
 use b3d_pieces_step::turning::turn;
+use b3d_spec::LEVELS;
 use b3d_spec::START;
 use b3d_spec::Tag;
 use layout::MOST_BYTES;
@@ -57,7 +58,7 @@ pub fn head_turn(j: Judge, rec: Open, b: u8) -> Taken
     let put = slot(depth);
     let v = head_number(size, j.worth, b);
     if size == 7 {
-        let f = fresh(Tag::BB3D, 0, 8 + v, 16, 0);
+        let f = fresh(Tag::BB3D, 0, 8 + v, LEVELS, 0);
         let g = nothing();
         let first = enter(8, g, f);
         let x = Judge {

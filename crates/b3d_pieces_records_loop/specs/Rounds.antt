@@ -9,7 +9,8 @@ use Rattle.layout.specs.Refusals as refusals
 use Rattle.b3d_pieces_spec.specs.declared.Open.{Open}
 use Rattle.b3d_pieces_spec.specs.Good.{Deep, load}
 use Rattle.b3d_pieces_spec.specs.Close.{closing}
-use Rattle.b3d_pieces_spec.specs.Limits.{mostCounted}
+use Rattle.b3d_pieces_spec.specs.Limits.{mostCounted, mostAround, mostAroundMesh}
+use Rattle.b3d_pieces_spec.specs.Calls.{records}
 use Rattle.b3d_pieces_step.specs.Turns.{stackBy, pends}
 use Rattle.b3d_pieces_judge_step.specs.declared.Judge.{Judge}
 use Rattle.b3d_pieces_judge_step.specs.declared.Turn.{Turn}
@@ -51,7 +52,7 @@ pub record Testing (rs : ℕ → Open) (t : Round) : Type 0 where
   -- the record at `get` is in use
   pub some : t .get < t .turn .judge .depth
   -- at most 18 records are in use
-  pub most : t .turn .judge .depth ≤ 18
+  pub most : t .turn .judge .depth ≤ mostAround
   -- the chunks before `get` are nested as a file's may be
   pub deep : Deep (stackBy rs (t .get))
   -- `load` is the rows that the chunks before `get` may still add
@@ -99,18 +100,18 @@ pub record FirstIs (j : Judge) (n bytes : ℕ) (r : Round) : Type 0 where
   -- the turn of r is the first over the piece
   pub begun : Begins j bytes (r .turn)
   -- fewer than 19 records: 11 with size 19
-  pub short : n < 19 → Refusing 11 19 r
+  pub short : n < records → Refusing refusals.tooShort records r
   -- after the close: 15 at place 0
-  pub shut : 19 ≤ n → j .shut ≡ true → Refusing 15 0 r
+  pub shut : records ≤ n → j .shut ≡ true → Refusing refusals.closed 0 r
   -- otherwise records are being tested or it is decided, whatever the row
-  pub is : 19 ≤ n → j .shut ≡ false → (rs : ℕ → Open) → Stands n rs r
+  pub is : records ≤ n → j .shut ≡ false → (rs : ℕ → Open) → Stands n rs r
 
 -- what a test asks of its round
 pub record TestReady (t : Round) : Type 0 where
   -- `load` is at most 16,777,217
   pub few : t .load ≤ mostCounted
   -- the record to test is one of the first 18
-  pub get : t .get ≤ 17
+  pub get : t .get ≤ mostAroundMesh
 
 -- the promise of a round r that tests the record rec
 pub record TestIs (t : Round) (rec : OpenRecord) (r : Round) : Type 0 where
@@ -123,7 +124,7 @@ pub record TestIs (t : Round) (rec : OpenRecord) (r : Round) : Type 0 where
   -- if another record is tested, it is the next one
   pub more : r .testing ≡ true → r .get ≡ t .get + 1
   -- the next record is to be tested or it is decided, in every row that has this record there
-  pub is : (n : ℕ) (rs : ℕ → Open) → 19 ≤ n → Testing rs t → openIn rec ≡ rs (t .get) → Stands n rs r
+  pub is : (n : ℕ) (rs : ℕ → Open) → records ≤ n → Testing rs t → openIn rec ≡ rs (t .get) → Stands n rs r
 
 -- ---- turns
 

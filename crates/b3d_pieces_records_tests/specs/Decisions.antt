@@ -2,9 +2,11 @@
 use mathlib.Core.Path.{_≡_}
 use Prim.Native.Nat.{ℕ, _+_, _<_, _≤_}
 use mathlib.Core.Bool.{Bool, true, false}
+use Rattle.layout.specs.Refusals as refusals
 use Rattle.b3d_pieces_spec.specs.declared.Open.{Open}
 use Rattle.b3d_pieces_spec.specs.Good.{extra}
-use Rattle.b3d_pieces_spec.specs.Limits.{mostCounted, overCounted}
+use Rattle.b3d_pieces_spec.specs.Limits.{mostCounted, overCounted, mostAround}
+use Rattle.b3d_pieces_spec.specs.Calls.{records}
 use Rattle.b3d_pieces_judge_step.specs.declared.Judge.{Judge}
 use Rattle.b3d_pieces_valid_record.specs.Tests.{Weighs, OpenFits}
 use Rattle.b3d_pieces_valid_state.specs.Entry.{StateTests}
@@ -21,7 +23,7 @@ testing i w = record { go = true; get = i; testing = true; load = w; number = 0;
 -- the decision when all records are tested: turns if they are fine (true), else 15
 abbrev pub fineOr15 : Bool → Bool → ℕ → Decision
 fineOr15 true go get = record { go = go; get = get; testing = false; load = 0; number = 0; place = 0 }
-fineOr15 false go get = refusing 15 0
+fineOr15 false go get = refusing refusals.closed 0
 
 -- x is the decision when all records are tested; the chunks in use have the load w
 pub record FineBy (j : Judge) (w : ℕ) (go : Bool) (get : ℕ) (x : Decision) : Type 0 where
@@ -35,15 +37,15 @@ pub record FineBy (j : Judge) (w : ℕ) (go : Bool) (get : ℕ) (x : Decision) :
 -- x is the decision before any record is tested, n records being lent
 pub record FirstBy (j : Judge) (n : ℕ) (go : Bool) (get : ℕ) (x : Decision) : Type 0 where
   -- fewer than 19: 11 with size 19
-  pub short : n < 19 → x ≡ refusing 11 19
+  pub short : n < records → x ≡ refusing refusals.tooShort records
   -- after the close: 15 at place 0
-  pub shut : 19 ≤ n → j .shut ≡ true → x ≡ refusing 15 0
+  pub shut : records ≤ n → j .shut ≡ true → x ≡ refusing refusals.closed 0
   -- more than 18 records in use: 15 at place 0
-  pub deep : 19 ≤ n → j .shut ≡ false → 18 < j .depth → x ≡ refusing 15 0
+  pub deep : records ≤ n → j .shut ≡ false → mostAround < j .depth → x ≡ refusing refusals.closed 0
   -- no record in use: the decision is made
-  pub none : 19 ≤ n → j .shut ≡ false → j .depth ≡ 0 → FineBy j 0 go get x
+  pub none : records ≤ n → j .shut ≡ false → j .depth ≡ 0 → FineBy j 0 go get x
   -- otherwise record 0 is tested
-  pub some : 19 ≤ n → j .shut ≡ false → j .depth ≤ 18 → (j .depth ≡ 0 → ⊥) → x ≡ testing 0 0
+  pub some : records ≤ n → j .shut ≡ false → j .depth ≤ mostAround → (j .depth ≡ 0 → ⊥) → x ≡ testing 0 0
 
 -- x is the decision after the test of record i, which is f, where those before it have the load w
 pub record TestBy (j : Judge) (w i : ℕ) (f : Open) (go : Bool) (get : ℕ) (x : Decision) : Type 0 where

@@ -2,12 +2,15 @@
 // at hand: a round is handed the record that it tests.
 ghost use mathlib.Core.Path.{_≡_};
 ghost use Prim.Native.Nat.{_≤_};
-ghost use Rattle.b3d_pieces_spec.specs.Limits.{mostCounted, overCounted};
+ghost use Rattle.b3d_pieces_spec.specs.Limits.{mostCounted, overCounted, mostAroundMesh};
 ghost use Rattle.b3d_pieces_records_tests.specs.Decisions.{refusing, FineBy, FirstBy, TestBy};
 use b3d_pieces_judge_step::Judge;
+use b3d_pieces_spec::MOST_AROUND;
 use b3d_pieces_spec::MOST_COUNTED;
 use b3d_pieces_spec::OVER_COUNTED;
 use b3d_pieces_spec::Open;
+use b3d_pieces_spec::RECORDS;
+use b3d_pieces_spec::RECORDS_NEEDED;
 use b3d_pieces_valid_record::loads::rows_to_add;
 use b3d_pieces_valid_state::state::state_valid;
 use layout::refusals;
@@ -61,14 +64,14 @@ fn decided(j: Judge, load: usize, go: bool, get: usize) -> Decision
 pub fn first_decision(j: Judge, records: usize, go: bool, get: usize) -> Decision
     ensures { λ r. ⌜ FirstBy j records go get r ⌝ }
 {
-    if records < 19 {
-        return refusal(refusals::TOO_SHORT, 19);
+    if records < RECORDS {
+        return refusal(refusals::TOO_SHORT, RECORDS_NEEDED);
     }
     if j.shut {
         return refusal(refusals::CLOSED, 0);
     }
     let depth = j.depth;
-    if 18 < depth {
+    if MOST_AROUND < depth {
         return refusal(refusals::CLOSED, 0);
     }
     if depth == 0 {
@@ -86,7 +89,7 @@ pub fn first_decision(j: Judge, records: usize, go: bool, get: usize) -> Decisio
 
 // Returns the decision after the test of record `i`, which is `f`, where the records before it may still add `load` rows.
 pub fn test_decision(j: Judge, load: usize, i: usize, f: Open, go: bool, get: usize) -> Decision
-    requires { ⌜ (load ≤ mostCounted) × (i ≤ 17) ⌝ }
+    requires { ⌜ (load ≤ mostCounted) × (i ≤ mostAroundMesh) ⌝ }
     ensures { λ r. ⌜ TestBy j load i f go get r ⌝ }
 {
     let v = rows_to_add(f, i);

@@ -12,6 +12,19 @@ use b3d_rule_colour::colour_ok;
 use b3d_spec::Tag;
 use layout::refusals;
 
+// The highest version, n_texs, VRTS flags, sets, set size and KEYS flags, as sizes.
+const VERSION: usize = b3d_spec::HIGHEST_VERSION as usize;
+
+const SLOTS: usize = b3d_spec::MOST_SLOTS as usize;
+
+const VERTEX_FLAGS: usize = b3d_spec::HIGHEST_VERTEX_FLAGS as usize;
+
+const SETS: usize = b3d_spec::MOST_SETS as usize;
+
+const SET_SIZE: usize = b3d_spec::LARGEST_SET as usize;
+
+const KEY_FLAGS: usize = b3d_spec::HIGHEST_KEY_FLAGS as usize;
+
 // Returns 0 if `w` is at most `m`, else 6.
 pub fn up_to(m: usize, w: usize) -> u32
     ensures { λ r. ⌜ r ≡ faultOf (upTo m) w ⌝ }
@@ -70,13 +83,13 @@ pub fn vertices_fault(i: usize, w: usize) -> u32
     ensures { λ r. ⌜ r ≡ faultIn verticesHead i w ⌝ }
 {
     if i == 0 {
-        return up_to(3, w);
+        return up_to(VERTEX_FLAGS, w);
     }
     if i == 1 {
-        return up_to(8, w);
+        return up_to(SETS, w);
     }
     if i == 2 {
-        return up_to(4, w);
+        return up_to(SET_SIZE, w);
     }
     0
 }
@@ -86,12 +99,12 @@ pub fn fixed_fault(tag: Tag, g: Totals, i: usize, w: usize) -> u32
     ensures { λ r. ⌜ r ≡ fixedFault tag g i w ⌝ }
 {
     match tag {
-        Tag::BB3D => head_fault(99, i, w),
-        Tag::BRUS => head_fault(8, i, w),
+        Tag::BB3D => head_fault(VERSION, i, w),
+        Tag::BRUS => head_fault(SLOTS, i, w),
         Tag::MESH => brush_fault(g.brushes, i, w),
         Tag::VRTS => vertices_fault(i, w),
         Tag::TRIS => brush_fault(g.brushes, i, w),
-        Tag::KEYS => head_fault(7, i, w),
+        Tag::KEYS => head_fault(KEY_FLAGS, i, w),
         _ => 0,
     }
 }

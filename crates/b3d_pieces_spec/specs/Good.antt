@@ -8,6 +8,7 @@ use Rattle.wire.specs.Bytes.{IsWord}
 use Rattle.layout.specs.Rows.{mostBytes}
 use Rattle.b3d_spec.specs.declared.Tag.{Tag}
 use Rattle.b3d_spec.specs.declared.Tag.the-variants.{BB3D, TEXS, BRUS, NODE, MESH, VRTS, TRIS, BONE, KEYS, ANIM}
+use Rattle.b3d_spec.specs.Rules.{levels}
 use Rattle.b3d_pieces_spec.specs.declared.Totals.{Totals}
 use Rattle.b3d_pieces_spec.specs.declared.Kept.{Kept}
 use Rattle.b3d_pieces_spec.specs.declared.Open.{Open}
@@ -15,32 +16,33 @@ use Rattle.b3d_pieces_spec.specs.declared.Part.{Part}
 use Rattle.b3d_pieces_spec.specs.declared.Part.the-variants.{Text, Row, Skip}
 use Rattle.b3d_pieces_spec.specs.Machine.{State, live, fault, over}
 use Rattle.b3d_pieces_spec.specs.Close.{Whole, heading, inside, Held}
+use Rattle.b3d_pieces_spec.specs.Limits.{mostAround, mostAroundMesh}
 
 -- a chunk of tag t with l levels of nodes left below it may have n chunks open around it
 abbrev pub Bound : Tag → ℕ → ℕ → Type 0
-Bound BB3D l n = n + l ≤ 16
-Bound TEXS l n = n ≤ 18
-Bound BRUS l n = n ≤ 18
-Bound NODE l n = n + l ≤ 16
-Bound MESH l n = n ≤ 17
-Bound VRTS l n = n ≤ 18
-Bound TRIS l n = n ≤ 18
-Bound BONE l n = n ≤ 18
-Bound KEYS l n = n ≤ 18
-Bound ANIM l n = n ≤ 18
+Bound BB3D l n = n + l ≤ levels
+Bound TEXS l n = n ≤ mostAround
+Bound BRUS l n = n ≤ mostAround
+Bound NODE l n = n + l ≤ levels
+Bound MESH l n = n ≤ mostAroundMesh
+Bound VRTS l n = n ≤ mostAround
+Bound TRIS l n = n ≤ mostAround
+Bound BONE l n = n ≤ mostAround
+Bound KEYS l n = n ≤ mostAround
+Bound ANIM l n = n ≤ mostAround
 
 -- a chunk of tag t may be opened inside one with l levels of nodes left and n chunks around it: then its own `Bound` holds
 abbrev pub Child : Tag → ℕ → ℕ → Type 0
 Child BB3D l n = ⊥
-Child TEXS l n = suc n ≤ 18
-Child BRUS l n = suc n ≤ 18
-Child NODE l n = (m : ℕ) → l ≡ suc m → suc n + m ≤ 16
-Child MESH l n = suc n ≤ 17
-Child VRTS l n = suc n ≤ 18
-Child TRIS l n = suc n ≤ 18
-Child BONE l n = suc n ≤ 18
-Child KEYS l n = suc n ≤ 18
-Child ANIM l n = suc n ≤ 18
+Child TEXS l n = suc n ≤ mostAround
+Child BRUS l n = suc n ≤ mostAround
+Child NODE l n = (m : ℕ) → l ≡ suc m → suc n + m ≤ levels
+Child MESH l n = suc n ≤ mostAroundMesh
+Child VRTS l n = suc n ≤ mostAround
+Child TRIS l n = suc n ≤ mostAround
+Child BONE l n = suc n ≤ mostAround
+Child KEYS l n = suc n ≤ mostAround
+Child ANIM l n = suc n ≤ mostAround
 
 -- the numbers kept are words of four bytes
 abbrev pub Words : Kept → Type 0

@@ -6,6 +6,7 @@ use lib.ListN.{length}
 use Rattle.wire.specs.Bytes.{AllBytes}
 use Rattle.layout.specs.Lists.{All}
 use Rattle.layout.specs.Result.{accept, reject}
+use Rattle.layout.specs.Refusals as refusals
 use Rattle.b3d_spec.specs.declared.Mode.the-variants.{Strict}
 use Rattle.b3d_spec.specs.Rules.{rowLimit}
 use Rattle.b3d_spec.specs.Tables.{width}
@@ -55,8 +56,8 @@ pub record InPieces : Type 0 where
   -- until then a piece answers only that it was taken
   pub only : (l : List (ℕ × List ℕ)) (lent : ℕ) → records ≤ lent → pieceAnswer lent (calls freshPieces l) ≡ accept tt
   -- 11 with size 19 at any call lent fewer
-  pub few : (p : Pieces) (lent : ℕ) → lent < records → Refuses lent p 11 19
+  pub few : (p : Pieces) (lent : ℕ) → lent < records → Refuses lent p refusals.tooShort records
   -- 15 at place 0 for a piece or close after the close
-  pub late : (p : Pieces) (lent : ℕ) → records ≤ lent → Refuses lent (afterClose lent p) 15 0
+  pub late : (p : Pieces) (lent : ℕ) → records ≤ lent → Refuses lent (afterClose lent p) refusals.closed 0
   -- 19 are enough for the deepest file: no bytes open more chunks
   pub enough : (s : List ℕ) → AllBytes s → depth (piece freshHeld s .whole) ≤ records

@@ -50,11 +50,11 @@ openFrom row p =
 
 -- the open chunk whose record is number i of the row
 unfoldable pub openAt : List ℕ → ℕ → Open
-openAt row i = openFrom row (i * 11)
+openAt row i = openFrom row (i * recordWords)
 
 -- the row with record i set to that of the open chunk f
 unfoldable pub putOpen : List ℕ → ℕ → Open → List ℕ
-putOpen row i f = sets row (i * 11) (openWords f)
+putOpen row i f = sets row (i * recordWords) (openWords f)
 
 -- the open chunks of the first n records of the row, the last of them first
 abbrev pub stackOf : List ℕ → ℕ → List Open

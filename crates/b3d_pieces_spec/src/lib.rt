@@ -20,6 +20,9 @@ pub const MOST_AROUND_MESH: usize = 17;
 // The records that a call must be lent, as `Calls.records` has it.
 pub const RECORDS: usize = 19;
 
+// The records that a call must be lent, as the place of a refusal.
+pub const RECORDS_NEEDED: u32 = RECORDS as u32;
+
 // How many words a record has, as `Row.recordWords` has it.
 pub const RECORD_WORDS: usize = 11;
 

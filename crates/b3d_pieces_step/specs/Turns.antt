@@ -9,6 +9,7 @@ use Rattle.layout.specs.Rows.{mostBytes}
 use Rattle.b3d_pieces_spec.specs.declared.Open.{Open}
 use Rattle.b3d_pieces_spec.specs.Machine.{State, step}
 use Rattle.b3d_pieces_spec.specs.Good.{Off}
+use Rattle.b3d_pieces_spec.specs.Limits.{mostAround}
 use Rattle.b3d_pieces_item_steps.specs.declared.Now.{Now}
 use Rattle.b3d_pieces_item_steps.specs.declared.Now.the-variants.{Live, Push, Pop, Fault, Over}
 use Rattle.b3d_pieces_item_steps.specs.Nows.{stateWith, GoodNow, Ready}
@@ -76,6 +77,6 @@ pub record TurnIs (now : Now) (n : ℕ) (rec : Open) (b : ℕ) (r : Turned) : Ty
   -- while chunks are to be entered or left, fewer turns without a byte may follow than before
   pub less : pends now ≡ true → pendOf (r .now) (r .depth) < pendOf now n
   -- the record is written within 19 records
-  pub put : r .put ≤ 18
+  pub put : r .put ≤ mostAround
   -- if the invariant holds before, at most 18 chunks are in the row after
-  pub deep : (rs : ℕ → Open) (k : ℕ) → GoodNow k (stackBy rs n) now → r .depth ≤ 18
+  pub deep : (rs : ℕ → Open) (k : ℕ) → GoodNow k (stackBy rs n) now → r .depth ≤ mostAround

@@ -1,6 +1,7 @@
 // A turn of the machine: it is handed the last record of the row, the chunk around the innermost, by value.
 ghost use mathlib.Core.Path.{_≡_};
 ghost use Prim.Native.Nat.{_≤_};
+ghost use Rattle.b3d_pieces_spec.specs.Limits.{mostAround};
 ghost use Rattle.b3d_pieces_step.specs.Turns.{slotOf, pends, ReadyNow, TurnIs};
 use crate::Turned;
 use b3d_pieces_body_steps::enter;
@@ -35,7 +36,7 @@ pub fn pending(now: Now) -> bool
 // Makes a turn with byte `b`, where the row holds `n` chunks and `rec` is the last: enters or leaves a chunk if one waits, else takes the byte. A refusal and
 // the end of BB3D stay.
 pub fn turn(now: Now, n: usize, rec: Open, b: u8) -> Turned
-    requires { ⌜ ReadyNow now n rec × (n ≤ 18) ⌝ }
+    requires { ⌜ ReadyNow now n rec × (n ≤ mostAround) ⌝ }
     ensures { λ r. ⌜ TurnIs now n rec b r ⌝ }
 {
     let last = slot(n);

@@ -1,12 +1,16 @@
 // What an open chunk may still add to the totals, and whether it can be open there.
 ghost use mathlib.Core.Path.{_≡_};
 ghost use Prim.Native.Nat.{_+_, _≤_};
+ghost use Rattle.b3d_spec.specs.Rules.{levels};
 ghost use Rattle.b3d_pieces_spec.specs.Good.{Words, Bound, extra as extraOf};
 ghost use Rattle.b3d_pieces_valid_record.specs.Tests.{Tests, Weighs, OpenFits};
 use b3d_pieces_spec::Kept;
+use b3d_pieces_spec::MOST_AROUND;
+use b3d_pieces_spec::MOST_AROUND_MESH;
 use b3d_pieces_spec::MOST_COUNTED;
 use b3d_pieces_spec::OVER_COUNTED;
 use b3d_pieces_spec::Open;
+use b3d_spec::LEVELS;
 use b3d_spec::Tag;
 
 // Returns whether the numbers of `k` are words of four bytes.
@@ -24,12 +28,12 @@ pub fn words_valid(k: Kept) -> bool
 
 // Returns whether `n` chunks around and `level` levels of nodes left are at most 16 together.
 pub fn node_bound(level: usize, n: usize) -> bool
-    ensures { λ r. ⌜ Tests r (n + level ≤ 16) ⌝ }
+    ensures { λ r. ⌜ Tests r (n + level ≤ levels) ⌝ }
 {
-    if 16 < n {
+    if LEVELS < n {
         return false;
     }
-    level <= 16 - n
+    level <= LEVELS - n
 }
 
 // Returns whether a chunk of tag `tag` with `level` levels of nodes left may have `n` chunks open around it.
@@ -38,15 +42,15 @@ pub fn bound_valid(tag: Tag, level: usize, n: usize) -> bool
 {
     match tag {
         Tag::BB3D => node_bound(level, n),
-        Tag::TEXS => n <= 18,
-        Tag::BRUS => n <= 18,
+        Tag::TEXS => n <= MOST_AROUND,
+        Tag::BRUS => n <= MOST_AROUND,
         Tag::NODE => node_bound(level, n),
-        Tag::MESH => n <= 17,
-        Tag::VRTS => n <= 18,
-        Tag::TRIS => n <= 18,
-        Tag::BONE => n <= 18,
-        Tag::KEYS => n <= 18,
-        Tag::ANIM => n <= 18,
+        Tag::MESH => n <= MOST_AROUND_MESH,
+        Tag::VRTS => n <= MOST_AROUND,
+        Tag::TRIS => n <= MOST_AROUND,
+        Tag::BONE => n <= MOST_AROUND,
+        Tag::KEYS => n <= MOST_AROUND,
+        Tag::ANIM => n <= MOST_AROUND,
     }
 }
 

@@ -7,6 +7,7 @@ use Rattle.b3d_pieces_spec.specs.declared.Totals.{Totals}
 use Rattle.b3d_pieces_spec.specs.declared.Open.{Open}
 use Rattle.b3d_pieces_spec.specs.declared.Part.{Part}
 use Rattle.b3d_pieces_spec.specs.Good.{Deep, load, Fits, Off}
+use Rattle.b3d_pieces_spec.specs.Calls.{records}
 use Rattle.b3d_pieces_item_steps.specs.declared.Now.{Now}
 use Rattle.b3d_pieces_item_steps.specs.Nows.{GoodNow}
 use Rattle.b3d_pieces_step.specs.Turns.{stackBy, pends}
@@ -39,4 +40,4 @@ pub record NowTests (now : Now) (size n w : ℕ) (b : Bool) : Type 0 where
 -- b says whether j is as calls leave it, given the load w of the chunks in use
 pub record StateTests (j : Judge) (w : ℕ) (b : Bool) : Type 0 where
   -- over any row of 19 records and more
-  pub is : (n : ℕ) (rs : ℕ → Open) → 19 ≤ n → RowFits rs (j .depth) w → Tests b (CanRun j n rs)
+  pub is : (n : ℕ) (rs : ℕ → Open) → records ≤ n → RowFits rs (j .depth) w → Tests b (CanRun j n rs)

@@ -3,14 +3,15 @@ ghost use mathlib.Core.Path.{_≡_};
 ghost use Prim.Native.Nat.{_/_, _<_, _≤_};
 ghost use lib.ListN.{length};
 ghost use Rattle.b3d_pieces_judge_step.specs.Takes.{headLow};
-ghost use Rattle.b3d_pieces_spec.specs.Row.{openAt};
-ghost use Rattle.b3d_pieces_spec.specs.Limits.{mostCounted, overCounted};
+ghost use Rattle.b3d_pieces_spec.specs.Row.{openAt, recordWords};
+ghost use Rattle.b3d_pieces_spec.specs.Limits.{mostCounted, overCounted, lentWords};
 ghost use Rattle.b3d_pieces_judge_step.specs.Runs.{CanRun};
 ghost use Rattle.b3d_pieces_valid_record.specs.Tests.{Tests};
 ghost use Rattle.b3d_pieces_valid_state.specs.Entry.{LiveTests, NowTests, StateTests};
 use crate::loads::stack_rows_to_add;
 use b3d_pieces_item_steps::Now;
 use b3d_pieces_judge_step::Judge;
+use b3d_pieces_spec::MOST_AROUND;
 use b3d_pieces_spec::MOST_COUNTED;
 use b3d_pieces_spec::Open;
 use b3d_pieces_spec::Part;
@@ -79,7 +80,7 @@ pub fn state_valid(j: Judge, load: usize) -> bool
     if MOST_COUNTED < size {
         return false;
     }
-    if 18 < n {
+    if MOST_AROUND < n {
         return false;
     }
     if size < 8 {
@@ -94,11 +95,11 @@ pub fn state_valid(j: Judge, load: usize) -> bool
 
 // Returns whether `j` and `row` are as calls leave them.
 pub fn judge_valid(j: Judge, row: &[usize]) -> bool
-    requires { ⌜ 209 ≤ length (now row) ⌝ }
-    ensures { λ r. ⌜ Tests r (CanRun j (length (now (row .entry)) / 11) (openAt (now (row .entry)))) ⌝ }
+    requires { ⌜ lentWords ≤ length (now row) ⌝ }
+    ensures { λ r. ⌜ Tests r (CanRun j (length (now (row .entry)) / recordWords) (openAt (now (row .entry)))) ⌝ }
 {
     let n = j.depth;
-    if 18 < n {
+    if MOST_AROUND < n {
         return false;
     }
     let load = stack_rows_to_add(row, n);

@@ -10,6 +10,8 @@ use b3d_pieces_answers::refused;
 use b3d_pieces_item_steps::Now;
 use b3d_pieces_judge_step::Judge;
 use b3d_pieces_judge_step::taking::nothing;
+use b3d_pieces_spec::LENT_WORDS;
+use b3d_pieces_spec::RECORDS_NEEDED;
 use b3d_pieces_valid_state::state::judge_valid;
 use b3d_pieces_words_loop::run;
 use layout::refusals;
@@ -35,10 +37,10 @@ pub fn start() -> Judge
 pub fn judge_piece(state: Judge, row: &mut [usize], piece: &[u8]) -> Fed
     ensures { λ r. ⌜ PieceIs words state (now (row .entry)) (now (piece .entry)) (r .number) (r .place) (r .judge) (now (row .exit)) ⌝ }
 {
-    if row.len() < 209 {
+    if row.len() < LENT_WORDS {
         return Fed {
             number: refusals::TOO_SHORT,
-            place: 19,
+            place: RECORDS_NEEDED,
             judge: state,
         };
     }
@@ -68,8 +70,8 @@ pub fn judge_piece(state: Judge, row: &mut [usize], piece: &[u8]) -> Fed
 pub fn judge_close(state: Judge, row: &[usize]) -> Closed
     ensures { λ r. ⌜ CloseIs words state (now (row .entry)) (r .answer) (r .judge) ⌝ }
 {
-    if row.len() < 209 {
-        let few = refused(refusals::TOO_SHORT, 19);
+    if row.len() < LENT_WORDS {
+        let few = refused(refusals::TOO_SHORT, RECORDS_NEEDED);
         return Closed {
             answer: few,
             judge: state,

@@ -2,7 +2,7 @@
 // is entered or left.
 ghost use Prim.Native.Nat.{_/_};
 ghost use lib.ListN.{length};
-ghost use Rattle.b3d_pieces_spec.specs.Row.{openAt};
+ghost use Rattle.b3d_pieces_spec.specs.Row.{openAt, recordWords};
 ghost use Rattle.b3d_pieces_judge_step.specs.Runs.{CanRun, RunIs};
 use b3d_pieces_judge_step::Judge;
 use b3d_pieces_judge_step::steps::begin;
@@ -14,8 +14,8 @@ use b3d_pieces_words_row::put_open;
 // Feeds all bytes of `piece` to the machine, with the chunks around the innermost in `row`, and returns what is held then. A piece of no bytes changes
 // nothing.
 pub fn run(j: Judge, row: &mut [usize], piece: &[u8]) -> Judge
-    requires { ⌜ CanRun j (length (now row) / 11) (openAt (now row)) ⌝ }
-    ensures { λ r. ⌜ RunIs j (openAt (now (row .entry))) (now (piece .entry)) r (length (now (row .exit)) / 11) (openAt (now (row .exit))) ⌝ }
+    requires { ⌜ CanRun j (length (now row) / recordWords) (openAt (now row)) ⌝ }
+    ensures { λ r. ⌜ RunIs j (openAt (now (row .entry))) (now (piece .entry)) r (length (now (row .exit)) / recordWords) (openAt (now (row .exit))) ⌝ }
 {
     let mut t = pass(begin(j, piece.len()), piece);
     while t.at < t.end {

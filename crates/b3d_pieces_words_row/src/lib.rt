@@ -2,19 +2,20 @@
 ghost use mathlib.Core.Path.{_≡_};
 ghost use Prim.Native.Nat.{_+_, _*_, _≤_};
 ghost use lib.ListN.{length};
-ghost use Rattle.b3d_pieces_spec.specs.Row.{openAt, putOpen};
+ghost use Rattle.b3d_pieces_spec.specs.Row.{openAt, putOpen, recordWords};
 use b3d_pieces_spec::Kept;
 use b3d_pieces_spec::Open;
+use b3d_pieces_spec::RECORD_WORDS;
 use b3d_pieces_state::records::flag_of;
 use b3d_pieces_state::records::tag_by;
 use b3d_pieces_state::records::tag_number;
 
 // Returns the open chunk of record `i` of `row`.
 pub fn open_at(row: &[usize], i: usize) -> Open
-    requires { ⌜ i * 11 + 11 ≤ length (now row) ⌝ }
+    requires { ⌜ i * recordWords + recordWords ≤ length (now row) ⌝ }
     ensures { λ r. ⌜ r ≡ openAt (now (row .entry)) i ⌝ }
 {
-    let p = i * 11;
+    let p = i * RECORD_WORDS;
     let tag = tag_by(row[p]);
     let kept = Kept {
         first: row[p + 6],
@@ -36,10 +37,10 @@ pub fn open_at(row: &[usize], i: usize) -> Open
 
 // Writes the open chunk `f` as record `i` of `row`; the other records stay as they are.
 pub fn put_open(row: &mut [usize], i: usize, f: Open)
-    requires { ⌜ i * 11 + 11 ≤ length (now row) ⌝ }
+    requires { ⌜ i * recordWords + recordWords ≤ length (now row) ⌝ }
     ensures { λ _. ⌜ now (row .exit) ≡ putOpen (now (row .entry)) i f ⌝ }
 {
-    let p = i * 11;
+    let p = i * RECORD_WORDS;
     let tag = f.tag;
     let kept = f.kept;
     let spent = f.spent;

@@ -13,6 +13,7 @@ ghost use Rattle.b3d_spec_plain_rows.specs.Rows.{fileRows};
 ghost use Rattle.b3d_read_materials.specs.Texts.{namedRow, FirstIs};
 use b3d_chunk_cursor::Named;
 use b3d_chunk_walk::Sought;
+use b3d_spec::MOST_SLOTS;
 use b3d_spec::Tag;
 use wire::Cursor;
 
@@ -100,7 +101,7 @@ pub fn fill_brushes(file: &[u8], out: &mut [u32])
         return;
     };
     let head = b3d_chunk_walk::first_word(file, body);
-    if 8 < head.word {
+    if MOST_SLOTS < head.word {
         return;
     }
     let ids = wire::size(head.word);

@@ -6,7 +6,7 @@ ghost use lib.Seq.{sets as stored};
 ghost use mathlib.Core.List.{map};
 ghost use Rattle.wire.specs.Cursors.{Inside, left};
 ghost use Rattle.layout.specs.Parts.{itemsOf};
-ghost use Rattle.b3d_spec.specs.Rules.{vertexWords};
+ghost use Rattle.b3d_spec.specs.Rules.{vertexWords, highestVertexFlags, mostSets, largestSet};
 ghost use Rattle.b3d_spec.specs.Mask.{padded, vertexMask};
 ghost use Rattle.b3d_spec.specs.Tables.{vertexWidth};
 ghost use Rattle.layout.specs.Rows.{joined};
@@ -34,7 +34,7 @@ fn zero_sets(n: usize, base: usize, out: &mut [u32])
 
 // Stores the 32 cells of the sets of a vertex in `out` from cell `base` on: `sets` sets of `size` words of `file` from byte `at` on, the others zero.
 fn put_sets(file: &[u8], at: usize, sets: usize, size: usize, base: usize, out: &mut [u32])
-    requires { ⌜ (size ≤ 4) × (sets ≤ 8) × (at + 4 * (sets * size) ≤ length (now file)) × (base + 32 ≤ length (now out)) ⌝ }
+    requires { ⌜ (size ≤ largestSet) × (sets ≤ mostSets) × (at + 4 * (sets * size) ≤ length (now file)) × (base + 32 ≤ length (now out)) ⌝ }
     ensures { λ _. ⌜ now (out .exit) ≡ stored (now (out .entry)) base (allSets sets size (now (file .entry)) at) ⌝ }
 {
     let mut k: usize = 0;
@@ -61,7 +61,7 @@ fn store_vertex(
     base: usize,
     out: &mut [u32],
 )
-    requires { ⌜ (a ≤ 3) × (b ≤ 4) × (size ≤ 4) × (sets ≤ 8) × (at + 4 * (3 + a + b + sets * size) ≤ length (now file)) × (base + vertexWidth ≤ length (now out)) ⌝ }
+    requires { ⌜ (a ≤ 3) × (b ≤ 4) × (size ≤ largestSet) × (sets ≤ mostSets) × (at + 4 * (3 + a + b + sets * size) ≤ length (now file)) × (base + vertexWidth ≤ length (now out)) ⌝ }
     ensures { λ _. ⌜ now (out .exit) ≡ stored (now (out .entry)) base (vertexAt a b sets size (now (file .entry)) at) ⌝ }
 {
     b3d_read_row_runs::put_three(file, at, 3, base, out);
@@ -83,7 +83,7 @@ pub fn fill_vertices(
     out: &mut [u32],
 )
     requires { ⌜ Inside c (length (now file)) × (c .at + count * (4 * vertexWords flags sets size) ≤ c .end) × (base + count * vertexWidth ≤ length (now out)) ⌝ }
-    requires { ⌜ (flags ≤ 3) × (sets ≤ 8) × (size ≤ 4) ⌝ }
+    requires { ⌜ (flags ≤ highestVertexFlags) × (sets ≤ mostSets) × (size ≤ largestSet) ⌝ }
     ensures { λ _. ⌜ now (out .exit) ≡ stored (now (out .entry)) base (joined (map (padded (vertexMask flags sets size)) (itemsOf count (vertexWords flags sets size) (left c (now (file .entry)))))) ⌝ }
 {
     let a = wire::size(flags % 2 * 3);

@@ -11,6 +11,7 @@ use b3d_rows_nodes::OpenNodes;
 use b3d_rows_nodes::RowCursor;
 use b3d_rows_open_items::OpenItems;
 use b3d_rows_positions::Position;
+use b3d_spec::LEVELS;
 use wire::Cursor;
 
 // Returns no items, of `words` words.
@@ -62,8 +63,8 @@ pub fn start(file: &[u8], k: u32) -> RowCursor
         },
         path: OpenNodes {
             depth: 0,
-            ends: [0; 16],
-            nodes: [0; 16],
+            ends: [0; LEVELS],
+            nodes: [0; LEVELS],
         },
     }
 }

@@ -13,6 +13,7 @@ use b3d_chunk_walk::Sought;
 use b3d_rows_open_items::OpenItems;
 use b3d_rows_positions::NextPosition;
 use b3d_rows_positions::Position;
+use b3d_spec::MOST_SLOTS;
 use b3d_spec::Tag;
 use wire::Cursor;
 
@@ -109,7 +110,7 @@ pub fn open_brushes(file: &[u8]) -> OpenItems
         return no_texts(file.len(), 8);
     };
     let head = b3d_chunk_walk::first_word(file, body);
-    if 8 < head.word {
+    if MOST_SLOTS < head.word {
         return no_texts(file.len(), 8);
     }
     let ids = wire::size(head.word);

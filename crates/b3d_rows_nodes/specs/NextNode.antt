@@ -12,7 +12,7 @@ use Rattle.layout.specs.Chunks.{done, stop, chunk}
 use Rattle.layout.specs.Parts.{named}
 use Rattle.b3d_spec.specs.declared.Counts.{Counts}
 use Rattle.b3d_spec.specs.declared.Tag.the-variants.{NODE}
-use Rattle.b3d_spec.specs.Rules.{nodeRow}
+use Rattle.b3d_spec.specs.Rules.{nodeRow, levels}
 use Rattle.b3d_spec.specs.Tags.{Chunks, is}
 use Rattle.b3d_spec_plain_rows.specs.Flat.{flatAt}
 use Rattle.b3d_spec_plain_rows.specs.Rows.{Open, parentAt, opened, rowOf, nodeRows, counted}
@@ -31,7 +31,7 @@ use Rattle.b3d_rows_nodes.specs.declared.RowCursor.{RowCursor}
 unfoldable pub shallow : ℕ → List Open → Chunks → Bool
 shallow n l done = true
 shallow n l (stop i p) = true
-shallow n l (chunk t p b r) = if (is t NODE) (ltb (length (openAt p l)) 16 && shallow (n + 1) (opened p b n (openAt p l)) r) (shallow n l r)
+shallow n l (chunk t p b r) = if (is t NODE) (ltb (length (openAt p l)) levels && shallow (n + 1) (opened p b n (openAt p l)) r) (shallow n l r)
 
 pub record Shallow (n : ℕ) (l : List Open) (cs : Chunks) : Type 0 where
   -- the test says yes
@@ -55,7 +55,7 @@ pub record NodeFound (s : List ℕ) (from m w p : ℕ) (b : Cursor) (q meshes we
   pub rows : (l : List Open) (n : Counts) → n .meshes ≡ m → n .weights ≡ w → NodeRowsFound s from p b q meshes weights l n
   -- how deep nodes nest is how deep it stands and those behind it do
   pub deep : (n : ℕ) (l : List Open) → shallow n l (flatAt s from)
-      ≡ (ltb (length (openAt p l)) 16 && shallow (n + 1) (opened p (left b s) n (openAt p l)) (flatAt s q))
+      ≡ (ltb (length (openAt p l)) levels && shallow (n + 1) (opened p (left b s) n (openAt p l)) (flatAt s q))
   -- its fixed data is read from its body
   pub node : NodeRead s p b
   -- its body is b

@@ -6,6 +6,7 @@ use lib.ListN.{length, getD}
 use lib.Dec.{leb}
 use Rattle.wire.specs.Test.{if}
 use Rattle.layout.specs.Rules.{NONE}
+use Rattle.b3d_spec.specs.Rules.{levels}
 use Rattle.b3d_spec_plain_rows.specs.Rows.{Open, parentAt}
 use Rattle.b3d_rows_nodes.specs.declared.OpenNodes.{OpenNodes}
 use Rattle.b3d_rows_nodes.specs.declared.EnteredNode.{EnteredNode}
@@ -30,11 +31,11 @@ topOf nodes (suc d) = getD nodes d 0
 -- open nodes as code keeps them
 pub record OpenNodesAt (x : OpenNodes) : Type 0 where
   -- at most 16 nodes are open
-  pub deep : x .depth ≤ 16
+  pub deep : x .depth ≤ levels
   -- there are 16 cells of ends
-  pub ends : length (x .ends) ≡ 16
+  pub ends : length (x .ends) ≡ levels
   -- and of row numbers
-  pub nodes : length (x .nodes) ≡ 16
+  pub nodes : length (x .nodes) ≡ levels
 
 -- of the first `depth` nodes r are open at p
 pub record Closed (ends : List ℕ) (depth p r : ℕ) : Type 0 where

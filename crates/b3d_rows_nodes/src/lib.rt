@@ -3,23 +3,25 @@ ghost use mathlib.Core.Path.{_≡_};
 ghost use Prim.Native.Nat.{_<_, _≤_};
 ghost use lib.ListN.{length};
 ghost use Rattle.b3d_spec.specs.Tables.{vertexWidth};
+ghost use Rattle.b3d_spec.specs.Rules.{levels};
 ghost use Rattle.b3d_rows_nodes.specs.NodeStack.{stackOf, openAt, topOf, OpenNodesAt, Closed, Enters};
 ghost use Rattle.b3d_rows_nodes.specs.NextNode.{nodesAhead, NodeFinds, NodePosition, NodeNext};
 use b3d_chunk_walk::Flat;
 use b3d_rows_positions::Position;
+use b3d_spec::LEVELS;
 use b3d_spec::Tag;
 use wire::Cursor;
 
 // The nodes that are open at a place: `depth` of them, the root first, with their ends and their row numbers. The cells from `depth` on say nothing.
 pub struct OpenNodes {
     pub depth: usize,
-    pub ends: [usize; 16],
-    pub nodes: [u32; 16],
+    pub ends: [usize; LEVELS],
+    pub nodes: [u32; LEVELS],
 }
 
 // Returns how many of the first `depth` nodes with these `ends` are open at the place `p`: those that ended there or before are taken off at the end.
-fn close(ends: [usize; 16], depth: usize, p: usize) -> usize
-    requires { ⌜ depth ≤ 16 ⌝ }
+fn close(ends: [usize; LEVELS], depth: usize, p: usize) -> usize
+    requires { ⌜ depth ≤ levels ⌝ }
     ensures { λ r. ⌜ Closed ends depth p r ⌝ }
 {
     let mut d = depth;
@@ -34,8 +36,8 @@ fn close(ends: [usize; 16], depth: usize, p: usize) -> usize
 }
 
 // Returns the row number of the last of the first `d` nodes, NONE where `d` is 0.
-fn top(nodes: [u32; 16], d: usize) -> u32
-    requires { ⌜ d ≤ 16 ⌝ }
+fn top(nodes: [u32; LEVELS], d: usize) -> u32
+    requires { ⌜ d ≤ levels ⌝ }
     ensures { λ r. ⌜ r ≡ topOf nodes d ⌝ }
 {
     if d == 0 {
@@ -53,7 +55,7 @@ pub struct EnteredNode {
 // Enters a node with its header at `p`, its end at `end` and the row number `index`: returns its parent, NONE where no node is open at `p`, and the open nodes
 // with it.
 pub fn enter(path: OpenNodes, p: usize, end: usize, index: u32) -> EnteredNode
-    requires { ⌜ OpenNodesAt path × (length (openAt p (stackOf path)) < 16) ⌝ }
+    requires { ⌜ OpenNodesAt path × (length (openAt p (stackOf path)) < levels) ⌝ }
     ensures { λ r. ⌜ Enters path p end index r ⌝ }
 {
     let mut ends = path.ends;

@@ -9,8 +9,8 @@ use Rattle.wire.specs.Test.{if}
 use Rattle.wire.specs.Cursors.{Inside, left}
 use Rattle.wire.specs.declared.Cursor.{Cursor}
 use Rattle.b3d_spec.specs.Mask.{ones, padded, vertexMask, keyMask}
-use Rattle.b3d_spec.specs.Rules.{vertexWords}
-use Rattle.b3d_spec.specs.Tables.{vertexWidth}
+use Rattle.b3d_spec.specs.Rules.{vertexWords, highestVertexFlags, mostSets, largestSet}
+use Rattle.b3d_spec.specs.Tables.{vertexWidth, keyWidth}
 use Rattle.b3d_spec_plain_rows.specs.Plain.{whole, plainWeights, plainTriangles}
 use Rattle.b3d_read_item_rows.specs.Items.{keyRowsOf}
 use Rattle.b3d_read_mesh_rows.specs.Meshes.{verticesIn}
@@ -36,9 +36,9 @@ chunkItems k p b = if (eqb k 5) (verticesIn p b) (if (eqb k 10) (keyRowsOf b) (i
 -- the words of a vertex
 pub record OfVertex (i : OpenItems) : Type 0 where
   -- the numbers are in their ranges
-  pub flags : i .flags ≤ 3
-  pub sets : i .sets ≤ 8
-  pub size : i .size ≤ 4
+  pub flags : i .flags ≤ highestVertexFlags
+  pub sets : i .sets ≤ mostSets
+  pub size : i .size ≤ largestSet
   -- and say how many words a vertex has
   pub words : i .words ≡ vertexWords (i .flags) (i .sets) (i .size)
 
@@ -47,7 +47,7 @@ pub record OfKey (i : OpenItems) : Type 0 where
   -- the flags say how many words a key has
   pub words : i .words ≡ ones (keyMask (i .flags))
   -- at most 11
-  pub few : i .words ≤ 11
+  pub few : i .words ≤ keyWidth
 
 -- an item has as many words as its numbers say
 pub record Measured (k : ℕ) (i : OpenItems) : Type 0 where

@@ -2,7 +2,7 @@
 ghost use mathlib.Core.Path.{_≡_};
 ghost use Prim.Native.Nat.{_≤_};
 ghost use Rattle.b3d_spec.specs.Mask.{ones, keyMask};
-ghost use Rattle.b3d_spec.specs.Rules.{vertexWords, keyWords};
+ghost use Rattle.b3d_spec.specs.Rules.{vertexWords, keyWords, highestVertexFlags, mostSets, largestSet};
 ghost use Rattle.b3d_spec.specs.Tables.{vertexWidth, keyWidth};
 ghost use Rattle.b3d_rule_widths.specs.Widths.{Clipped, groupWidth};
 
@@ -15,7 +15,7 @@ pub fn at_most(x: u32, most: u32) -> u32
 
 // Returns how many words a vertex of a VRTS with these flags, sets and set size has: 3 to 42.
 pub fn vertex_words(flags: u32, sets: u32, size: u32) -> usize
-    requires { ⌜ (flags ≤ 3) × (sets ≤ 8) × (size ≤ 4) ⌝ }
+    requires { ⌜ (flags ≤ highestVertexFlags) × (sets ≤ mostSets) × (size ≤ largestSet) ⌝ }
     ensures { λ r. ⌜ (r ≡ vertexWords flags sets size) × (3 ≤ r) × (r ≤ vertexWidth) ⌝ }
 {
     wire::size(3 + flags / 1 % 2 * 3 + flags / 2 % 2 * 4 + sets * size)

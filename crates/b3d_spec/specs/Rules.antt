@@ -11,29 +11,53 @@ use Rattle.b3d_spec.specs.Scene.{Kind, pivot, mesh, bone, Anim, noAnim, 
 
 -- ---- ranges
 
--- 01: version 0 to 99
+-- 01: the highest version is 99
+abbrev pub highestVersion : ℕ
+highestVersion = 99
+
+-- 01: from 0 to `highestVersion`
 abbrev pub version : Rule
-version = upTo 99
+version = upTo highestVersion
 
--- 01: n_texs 0 to 8
+-- 01: n_texs is at most 8
+abbrev pub mostSlots : ℕ
+mostSlots = 8
+
+-- 01: from 0 to `mostSlots`
 abbrev pub slots : Rule
-slots = upTo 8
+slots = upTo mostSlots
 
--- 01: VRTS flags 0 to 3
+-- 01: the highest VRTS flags are 3
+abbrev pub highestVertexFlags : ℕ
+highestVertexFlags = 3
+
+-- 01: from 0 to `highestVertexFlags`
 abbrev pub vertexFlags : Rule
-vertexFlags = upTo 3
+vertexFlags = upTo highestVertexFlags
 
--- 01: sets 0 to 8
+-- 01: a vertex has at most 8 sets of coordinates
+abbrev pub mostSets : ℕ
+mostSets = 8
+
+-- 01: from 0 to `mostSets`
 abbrev pub sets : Rule
-sets = upTo 8
+sets = upTo mostSets
 
--- 01: set size 0 to 4
+-- 01: a set has at most 4 coordinates
+abbrev pub largestSet : ℕ
+largestSet = 4
+
+-- 01: from 0 to `largestSet`
 abbrev pub setSize : Rule
-setSize = upTo 4
+setSize = upTo largestSet
 
--- 01: KEYS flags 0 to 7
+-- 01: the highest KEYS flags are 7
+abbrev pub highestKeyFlags : ℕ
+highestKeyFlags = 7
+
+-- 01: from 0 to `highestKeyFlags`
 abbrev pub keyFlags : Rule
-keyFlags = upTo 7
+keyFlags = upTo highestKeyFlags
 
 -- a red, green, blue or alpha (E8): from 0 to 1 in the strict mode, any float in the lenient one
 abbrev pub colour : Mode → Rule

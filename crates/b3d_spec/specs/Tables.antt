@@ -8,6 +8,7 @@ use Rattle.layout.specs.Rules.{NONE}
 use Rattle.layout.specs.Rows.{nameCells, joined}
 use Rattle.b3d_spec.specs.declared.Counts.{Counts}
 pub use Rattle.b3d_spec.specs.Widths.{textureWidth, brushWidth, nodeWidth, meshWidth, vertexWidth, triangleSetWidth, triangleWidth, weightWidth, keyListWidth, keyWidth}
+use Rattle.b3d_spec.specs.Rules.{mostSlots}
 use Rattle.b3d_spec.specs.Mask.{padded, vertexMask, keyMask}
 use Rattle.b3d_spec.specs.Scene.{Texture, Brush, TriangleSet, Mesh, Kind, pivot, mesh, bone, Keys, Anim, noAnim, anim, Data, Forest, noNodes, node, Scene}
 
@@ -67,7 +68,7 @@ textureRow x = nameCells (x .name) ++ x .words
 
 -- the row of brush b: name place, name length, 7 words, 8 texture slots, the unused NONE
 unfoldable pub brushRow : Brush → List ℕ
-brushRow b = nameCells (b .name) ++ (b .words ++ (b .ids ++ replicate (8 - length (b .ids)) NONE))
+brushRow b = nameCells (b .name) ++ (b .words ++ (b .ids ++ replicate (mostSlots - length (b .ids)) NONE))
 
 -- cells kind, first and count of a node, when n rows came before: mesh number and 1, first weight and weights, or 0 and 0
 unfoldable pub kindCells : Kind → Counts → List ℕ

@@ -6,6 +6,30 @@ pub mod letters;
 // The most rows of a table (E12), as `Rules.rowLimit` has it: each function that cites this is held to that.
 pub const ROW_LIMIT: usize = 2097151;
 
+// The highest version, as `Rules.highestVersion` has it; so below for the other ranges: each function that cites one is held to that.
+pub const HIGHEST_VERSION: u32 = 99;
+
+// The highest n_texs, and the texture slots that a brush's row has.
+pub const MOST_SLOTS: u32 = 8;
+
+// The highest VRTS flags.
+pub const HIGHEST_VERTEX_FLAGS: u32 = 3;
+
+// The most sets of coordinates of a vertex.
+pub const MOST_SETS: u32 = 8;
+
+// The most coordinates of a set.
+pub const LARGEST_SET: u32 = 4;
+
+// The highest KEYS flags.
+pub const HIGHEST_KEY_FLAGS: u32 = 7;
+
+// How deep nodes nest, the root being 1, as `Rules.levels` has it.
+pub const LEVELS: usize = 16;
+
+// The levels of nodes that are left where the root begins: all of them.
+pub const ALL_LEVELS: u32 = LEVELS as u32;
+
 // The ten known tags, in the order of 01.
 pub enum Tag {
     BB3D,

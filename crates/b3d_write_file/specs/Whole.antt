@@ -9,7 +9,7 @@ use Rattle.layout.specs.Lists.{All}
 use Rattle.shared_output.specs.Writing.{Room, Put}
 use Rattle.b3d_spec.specs.Encode.{nodeChunks, textureChunks, brushChunks}
 use Rattle.b3d_spec.specs.Rebuild.{Rows, textureFrom, brushFrom, nodeNames}
-use Rattle.b3d_spec.specs.Rules.{levels}
+use Rattle.b3d_spec.specs.Rules.{levels, mostSlots}
 use Rattle.b3d_spec.specs.Scene.{Forest, Scene}
 use Rattle.b3d_spec.specs.Tables.{start, forestRows, nodeTables, textureWidth, brushWidth}
 use Rattle.b3d_spec.specs.Tags.{writeChunks}
@@ -48,7 +48,7 @@ pub record OfRest (ns t₂ : List ℕ) (R : Rows) (slots : ℕ) (t : Scene) : Ty
   -- their names are in ns
   pub there : NamesThere ns (rowsIn brushWidth t₂)
   -- n_texs is at most 8
-  pub few : slots ≤ 8
+  pub few : slots ≤ mostSlots
   -- n_texs is the scene's
   pub slots-are : t .slots ≡ slots
   -- R are the rows of its nodes

@@ -1,6 +1,7 @@
 // The whole file of lent tables, written into an output: BB3D's header and version, TEXS, BRUS and NODE.
 ghost use Rattle.b3d_spec.specs.Encode.{encode};
 ghost use Rattle.b3d_spec.specs.Tables.{textureWidth, brushWidth};
+ghost use Rattle.b3d_spec.specs.Rules.{mostSlots};
 ghost use Rattle.b3d_write_nodes.specs.Walk.{nodesBytes, Sized};
 ghost use Rattle.b3d_write_node.specs.Own.{tableRows};
 ghost use Rattle.b3d_write_file.specs.Whole.{OfNodes, OfScene, listsBytes, Some, Each};
@@ -8,6 +9,7 @@ ghost use Rattle.shared_output.specs.Writing.{Room, Put};
 ghost use Rattle.b3d_write_row_runs.specs.Lent.{rowsIn};
 ghost use Rattle.b3d_write_materials.specs.Named.{NamesThere};
 ghost use Prim.Native.Nat.{_≤_};
+use b3d_spec::ALL_LEVELS;
 use b3d_spec::BRUSH_WIDTH;
 use b3d_spec::Counts;
 use b3d_spec::START;
@@ -15,7 +17,7 @@ use b3d_spec::letters;
 
 // Writes TEXS, if there is a texture, and BRUS, if there is a brush, to the start of `out`. Returns their size.
 fn put_lists(names: &[u8], slots: u32, t1: &[u32], t2: &[u32], out: &mut [u8]) -> usize
-    requires { ⌜ (slots ≤ 8) × NamesThere (now names) (rowsIn textureWidth (now t1)) × NamesThere (now names) (rowsIn brushWidth (now t2)) ⌝ }
+    requires { ⌜ (slots ≤ mostSlots) × NamesThere (now names) (rowsIn textureWidth (now t1)) × NamesThere (now names) (rowsIn brushWidth (now t2)) ⌝ }
     requires { ⌜ Room (listsBytes (now names) slots (now t1) (now t2)) (now out) ⌝ }
     ensures { λ r. ⌜ Put (listsBytes (now (names .entry)) slots (now (t1 .entry)) (now (t2 .entry))) (now (out .entry)) (now (out .exit)) r ⌝ }
 {
@@ -50,7 +52,21 @@ fn put_root(
         return 0;
     }
     let n = START;
-    let root = b3d_write_nodes::write_node(names, t3, t4, t5, t6, t7, t8, t9, t10, all, 16, n, out);
+    let root = b3d_write_nodes::write_node(
+        names,
+        t3,
+        t4,
+        t5,
+        t6,
+        t7,
+        t8,
+        t9,
+        t10,
+        all,
+        ALL_LEVELS,
+        n,
+        out,
+    );
     root.size
 }
 

@@ -10,6 +10,7 @@ use Rattle.b3d_spec.specs.Mask.{presentWords, keyMask}
 use Rattle.b3d_spec.specs.Rebuild.{setsFrom, keysFrom}
 use Rattle.b3d_spec.specs.Tags.{code, writeChunks}
 use Rattle.b3d_spec.specs.declared.Tag.the-variants.{KEYS}
+use Rattle.b3d_spec.specs.Tables.{keyWidth, triangleWidth}
 use Rattle.b3d_write_items.specs.Chunks.{setBytes}
 
 -- a KEYS of the flags f and the key rows ks
@@ -26,8 +27,8 @@ listsBytes xs ks = writeChunks (keyChunks (keysFrom xs ks) [])
 
 -- the words of an item: 11 of a key (true), 3 of a triangle (false)
 unfoldable pub runWidth : Bool → ℕ
-runWidth true = 11
-runWidth false = 3
+runWidth true = keyWidth
+runWidth false = triangleWidth
 
 -- a KEYS (true) or a TRIS (false), of its number and its items
 unfoldable pub runBytes : Bool → ℕ → List (List ℕ) → List ℕ

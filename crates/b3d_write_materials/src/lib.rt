@@ -10,6 +10,7 @@ ghost use lib.ListN.{length};
 ghost use Rattle.shared_output.specs.Writing.{Room, Put};
 ghost use Rattle.b3d_spec.specs.Rebuild.{cut};
 ghost use Rattle.b3d_spec.specs.Tables.{textureWidth, brushWidth};
+ghost use Rattle.b3d_spec.specs.Rules.{mostSlots};
 ghost use Rattle.b3d_write_row_runs.specs.Lent.{rowsIn};
 ghost use Rattle.b3d_write_materials.specs.Named.{NamesThere};
 ghost use Rattle.b3d_write_materials.specs.Lists.{texsBytes, brusBytes, texturesBytes, brushesBytes};
@@ -41,7 +42,7 @@ pub fn put_textures(names: &[u8], textures: &[u32], out: &mut [u8]) -> usize
 
 // Writes a BRUS of the first `count` rows of `brushes`, each with `slots` texture ids and its name in `names`, to the start of `out`. Returns its size.
 fn put_brus(names: &[u8], slots: u32, brushes: &[u32], count: usize, out: &mut [u8]) -> usize
-    requires { ⌜ (slots ≤ 8) × (count * brushWidth ≤ length (now brushes)) ⌝ }
+    requires { ⌜ (slots ≤ mostSlots) × (count * brushWidth ≤ length (now brushes)) ⌝ }
     requires { ⌜ NamesThere (now names) (cut brushWidth count (now brushes)) ⌝ }
     requires { ⌜ Room (brusBytes (now names) slots (cut brushWidth count (now brushes))) (now out) ⌝ }
     ensures { λ r. ⌜ Put (brusBytes (now (names .entry)) slots (cut brushWidth count (now (brushes .entry)))) (now (out .entry)) (now (out .exit)) r ⌝ }
@@ -54,7 +55,7 @@ fn put_brus(names: &[u8], slots: u32, brushes: &[u32], count: usize, out: &mut [
 
 // Writes the BRUS of all rows of `brushes` to the start of `out`. Returns its size; 0 where there is no row.
 pub fn put_brushes(names: &[u8], slots: u32, brushes: &[u32], out: &mut [u8]) -> usize
-    requires { ⌜ slots ≤ 8 ⌝ }
+    requires { ⌜ slots ≤ mostSlots ⌝ }
     requires { ⌜ NamesThere (now names) (rowsIn brushWidth (now brushes)) ⌝ }
     requires { ⌜ Room (brushesBytes (now names) slots (rowsIn brushWidth (now brushes))) (now out) ⌝ }
     ensures { λ r. ⌜ Put (brushesBytes (now (names .entry)) slots (rowsIn brushWidth (now (brushes .entry)))) (now (out .entry)) (now (out .exit)) r ⌝ }

@@ -5,7 +5,7 @@ use mathlib.Core.List.{List, [], _∷_}
 use lib.ListN.{getD}
 use lib.Dec.{eqb}
 use Rattle.wire.specs.Test.{if}
-use Rattle.b3d_spec.specs.Rules.{vertexWords, keyWords, rowLimit}
+use Rattle.b3d_spec.specs.Rules.{vertexWords, keyWords, rowLimit, highestVertexFlags, mostSets, largestSet, highestKeyFlags}
 use Rattle.b3d_spec.specs.Tables.{nodeWidth, meshWidth, keyListWidth}
 
 -- what f gives for each row, added up
@@ -40,13 +40,13 @@ rowsBytes k more rs = sum (rowBytes k more) rs
 -- the numbers of row r of table k are in the ranges that its size asks
 pub record Sizable (k : ℕ) (r : List ℕ) : Type 0 where
   -- flags of a mesh
-  pub flags : k ≡ 4 → getD r 2 0 ≤ 3
+  pub flags : k ≡ 4 → getD r 2 0 ≤ highestVertexFlags
   -- texture sets of a mesh
-  pub sets : k ≡ 4 → getD r 3 0 ≤ 8
+  pub sets : k ≡ 4 → getD r 3 0 ≤ mostSets
   -- the size of its texture sets
-  pub size : k ≡ 4 → getD r 4 0 ≤ 4
+  pub size : k ≡ 4 → getD r 4 0 ≤ largestSet
   -- flags of a key list
-  pub keys : k ≡ 9 → getD r 1 0 ≤ 7
+  pub keys : k ≡ 9 → getD r 1 0 ≤ highestKeyFlags
 
 -- more bytes than any row adds: a mesh counts fewer than 2^32 vertices, of 168 bytes at most
 abbrev pub rowMost : ℕ

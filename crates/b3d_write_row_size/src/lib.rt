@@ -6,7 +6,7 @@ ghost use lib.Dec.{eqb};
 ghost use Rattle.wire.specs.Test.{if};
 ghost use Rattle.layout.specs.Lists.{All};
 ghost use Rattle.b3d_spec.specs.Rebuild.{cut};
-ghost use Rattle.b3d_spec.specs.Rules.{rowLimit, vertexWords, keyWords};
+ghost use Rattle.b3d_spec.specs.Rules.{rowLimit, vertexWords, keyWords, highestVertexFlags, mostSets, largestSet, highestKeyFlags};
 ghost use Rattle.b3d_spec.specs.Tables.{nodeWidth, vertexWidth, meshWidth, keyListWidth};
 ghost use Rattle.b3d_write_row_size.specs.RowSize.{tableMost, Sums, nodeBytes, meshBytes, listBytes, rowBytes, rowsBytes, Sizable, Wide, Adds};
 
@@ -29,7 +29,7 @@ fn node_bytes(name: u32, kind: u32, anim: u32) -> usize
 
 // Returns the bytes that a mesh row adds, by its cells: `flags`, `sets` and set `size` of its vertices, and how many there are (`many`).
 fn mesh_bytes(flags: u32, sets: u32, size: u32, many: u32) -> usize
-    requires { ⌜ (flags ≤ 3) × (sets ≤ 8) × (size ≤ 4) ⌝ }
+    requires { ⌜ (flags ≤ highestVertexFlags) × (sets ≤ mostSets) × (size ≤ largestSet) ⌝ }
     ensures { λ r. ⌜ Adds (32 + many * (4 * vertexWords flags sets size)) r ⌝ }
 {
     let words = b3d_rule_widths::vertex_words(flags, sets, size);
@@ -38,7 +38,7 @@ fn mesh_bytes(flags: u32, sets: u32, size: u32, many: u32) -> usize
 
 // Returns the bytes that a key list's row adds, by its cells: the `flags` of its keys, and how many there are (`many`).
 fn list_bytes(flags: u32, many: u32) -> usize
-    requires { ⌜ flags ≤ 7 ⌝ }
+    requires { ⌜ flags ≤ highestKeyFlags ⌝ }
     ensures { λ r. ⌜ Adds (12 + many * (4 * keyWords flags)) r ⌝ }
 {
     let words = b3d_rule_widths::key_words(flags);

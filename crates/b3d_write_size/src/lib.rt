@@ -3,7 +3,7 @@ ghost use mathlib.Core.Path.{_≡_};
 ghost use Prim.Native.Nat.{_+_, _*_, _≤_};
 ghost use lib.ListN.{length};
 ghost use Rattle.b3d_spec.specs.Rebuild.{cut};
-ghost use Rattle.b3d_spec.specs.Rules.{rowLimit};
+ghost use Rattle.b3d_spec.specs.Rules.{rowLimit, mostSlots};
 ghost use Rattle.b3d_spec.specs.Tables.{nodeWidth, textureWidth, brushWidth, meshWidth, keyListWidth};
 ghost use Rattle.b3d_write_row_size.specs.RowSize.{Sums};
 ghost use Rattle.b3d_write_size.specs.LentSize.{partMost, around, listsBytes, nodesBytes, fileBytes, NodesSizable};
@@ -27,7 +27,7 @@ fn chunk_around(rows: usize, bytes: usize) -> usize
 
 // Returns the size of TEXS and BRUS, of `textures` rows of `t1` and `brushes` rows of `t2` with `slots` ids each; 0 where both have no row.
 fn lists_bytes(slots: u32, textures: usize, brushes: usize, t1: &[u32], t2: &[u32]) -> usize
-    requires { ⌜ (slots ≤ 8) × (textureWidth * textures ≤ length (now t1)) × (brushWidth * brushes ≤ length (now t2)) × (textures ≤ rowLimit) × (brushes ≤ rowLimit) ⌝ }
+    requires { ⌜ (slots ≤ mostSlots) × (textureWidth * textures ≤ length (now t1)) × (brushWidth * brushes ≤ length (now t2)) × (textures ≤ rowLimit) × (brushes ≤ rowLimit) ⌝ }
     ensures { λ r. ⌜ Sums partMost (listsBytes slots textures brushes (cut textureWidth textures (now (t1 .entry))) (cut brushWidth brushes (now (t2 .entry)))) r ⌝ }
 {
     let texs = rows_bytes(t1, 1, TEXTURE_WIDTH, textures, 29);
@@ -59,7 +59,7 @@ pub fn file_bytes(
     t4: &[u32],
     t9: &[u32],
 ) -> usize
-    requires { ⌜ (slots ≤ 8) × (textureWidth * textures ≤ length (now t1)) × (brushWidth * brushes ≤ length (now t2)) × (textures ≤ rowLimit) × (brushes ≤ rowLimit) ⌝ }
+    requires { ⌜ (slots ≤ mostSlots) × (textureWidth * textures ≤ length (now t1)) × (brushWidth * brushes ≤ length (now t2)) × (textures ≤ rowLimit) × (brushes ≤ rowLimit) ⌝ }
     requires { ⌜ NodesSizable all (now t3) (now t4) (now t9) ⌝ }
     ensures { λ r. ⌜ r ≡ fileBytes slots textures brushes all (now (t1 .entry)) (now (t2 .entry)) (now (t3 .entry)) (now (t4 .entry)) (now (t9 .entry)) ⌝ }
 {

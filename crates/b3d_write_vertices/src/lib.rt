@@ -7,6 +7,7 @@ ghost use Rattle.layout.specs.Write.{writeWords, writeItems};
 ghost use Rattle.shared_output.specs.Writing.{Room, Put};
 ghost use Rattle.b3d_spec.specs.Mask.{presentWords, vertexMask};
 ghost use Rattle.b3d_spec.specs.Tables.{vertexWidth};
+ghost use Rattle.b3d_spec.specs.Rules.{largestSet};
 ghost use Rattle.b3d_rule_row_masks.specs.Runs.{Short, OfVertex};
 ghost use Rattle.b3d_write_row_runs.specs.Lent.{rowsFrom};
 ghost use Rattle.b3d_write_row_runs.specs.RowBytes.{setsBytes, backBytes, rowBytes};
@@ -30,7 +31,7 @@ fn put_few(words: &[u32], first: usize, n: usize, out: &mut [u8]) -> usize
 
 // Writes of each of `sets` sets of four cells, from word `first` on, the first `size` words. Returns the size.
 fn put_sets(words: &[u32], first: usize, sets: usize, size: usize, out: &mut [u8]) -> usize
-    requires { ⌜ (size ≤ 4) × (first + sets * 4 ≤ length (now words)) ⌝ }
+    requires { ⌜ (size ≤ largestSet) × (first + sets * 4 ≤ length (now words)) ⌝ }
     requires { ⌜ Room (setsBytes sets size (now words) first) (now out) ⌝ }
     ensures { λ r. ⌜ Put (setsBytes sets size (now (words .entry)) first) (now (out .entry)) (now (out .exit)) r ⌝ }
 {

@@ -8,14 +8,14 @@ use Rattle.wire.specs.Test.{if}
 use Rattle.layout.specs.Result.{Result, accept, reject, check, _>>=_}
 use Rattle.layout.specs.Refusals as refusals
 use Rattle.shared_seven_bit_groups.specs.Groups.{writeNumbers, readNumbers}
-use Rattle.b3d_spec.specs.Rules.{rowLimit}
+use Rattle.b3d_spec.specs.Rules.{rowLimit, highestVersion, mostSlots}
 use Rattle.b3d_spec.specs.Answers.{roomFor, written, outputAfter}
 use Rattle.b3d_spec.specs.declared.Written.{Written}
 use Rattle.slip.specs.declared.Slip.{Slip}
 
 -- the most that each of the twelve numbers may be, by 01, where a table has at most `rows` rows; with it goes the most groups that it may take
 unfoldable pub limitsWithin : ℕ → List ℕ
-limitsWithin rows = 99 ∷ 8 ∷ replicate 10 rows
+limitsWithin rows = highestVersion ∷ mostSlots ∷ replicate 10 rows
 
 -- the most that number i may be, where a table has at most `rows` rows
 abbrev pub limitWithin : ℕ → ℕ → ℕ

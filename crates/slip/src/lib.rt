@@ -8,6 +8,8 @@ ghost use Rattle.layout.specs.Result.{reject};
 ghost use Rattle.layout.specs.Refusals as refusals;
 ghost use Rattle.shared_seven_bit_groups.specs.Groups.{writeNumbers};
 ghost use Rattle.slip.specs.Slips.{limits, limitAt, firstOver, slipOf, writeSlipAnswer, writeSlipOutput, readSlipAnswer};
+use b3d_spec::HIGHEST_VERSION;
+use b3d_spec::MOST_SLOTS;
 use b3d_spec::Written;
 use layout::refusals;
 use shared_seven_bit_groups::Grouped;
@@ -25,10 +27,10 @@ fn most(i: usize) -> u32
     ensures { λ r. ⌜ r ≡ limitAt i ⌝ }
 {
     if i == 0 {
-        return 99;
+        return HIGHEST_VERSION;
     }
     if i == 1 {
-        return 8;
+        return MOST_SLOTS;
     }
     b3d_spec::ROW_LIMIT as u32
 }
