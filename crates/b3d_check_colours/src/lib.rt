@@ -10,6 +10,7 @@ ghost use Rattle.b3d_check_colours.specs.LentColours.{coloursPart};
 use b3d_spec::BRUSH_WIDTH;
 use b3d_spec::Mode;
 use b3d_spec::VERTEX_WIDTH;
+use b3d_spec::columns;
 
 // Returns whether the four words of row `i` of `t` from word `word` of the row on are colours from 0 to 1; a row has `width` words.
 fn row_coloured(t: &[u32], width: usize, word: usize, i: usize) -> bool
@@ -47,10 +48,10 @@ pub fn colours_valid(mode: Mode, brushes: usize, t2: &[u32], vertices: usize, t5
     match mode {
         Mode::Lenient => true,
         Mode::Strict => {
-            if !rows_coloured(t2, BRUSH_WIDTH, 2, brushes) {
+            if !rows_coloured(t2, BRUSH_WIDTH, columns::BRUSH_COLOUR, brushes) {
                 return false;
             }
-            rows_coloured(t5, VERTEX_WIDTH, 6, vertices)
+            rows_coloured(t5, VERTEX_WIDTH, columns::VERTEX_COLOUR, vertices)
         }
     }
 }

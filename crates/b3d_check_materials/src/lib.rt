@@ -11,6 +11,7 @@ ghost use Rattle.b3d_check_rows.specs.Rows.{rowAt, rowsAt};
 use b3d_spec::BRUSH_WIDTH;
 use b3d_spec::MOST_SLOTS;
 use b3d_spec::TEXTURE_WIDTH;
+use b3d_spec::columns;
 
 // Returns whether each of the first `count` rows of table 1, `t`, has its name in `names`.
 pub fn textures_valid(names: &[u8], t: &[u32], count: usize) -> bool
@@ -20,7 +21,7 @@ pub fn textures_valid(names: &[u8], t: &[u32], count: usize) -> bool
     let mut i: usize = 0;
     while i < count {
         let o = TEXTURE_WIDTH * i;
-        if !b3d_check_rows::name_valid(names, t[o], t[o + 1]) {
+        if !b3d_check_rows::name_valid(names, t[o], t[o + columns::NAME_LENGTH]) {
             return false;
         }
         i += 1;
@@ -52,13 +53,13 @@ fn brush_valid(names: &[u8], slots: u32, textures: u32, t: &[u32], i: usize) -> 
 {
     let many = wire::size(slots);
     let o = BRUSH_WIDTH * i;
-    if !b3d_check_rows::name_valid(names, t[o], t[o + 1]) {
+    if !b3d_check_rows::name_valid(names, t[o], t[o + columns::NAME_LENGTH]) {
         return false;
     }
-    if !ids_valid(t, textures, o + 9, many) {
+    if !ids_valid(t, textures, o + columns::BRUSH_TEXTURES, many) {
         return false;
     }
-    ids_valid(t, 0, o + 9 + many, 8 - many)
+    ids_valid(t, 0, o + columns::BRUSH_TEXTURES + many, 8 - many)
 }
 
 // Returns whether each of the first `count` rows of table 2, `t`, is sound, with `slots` ids in use and `textures` textures.

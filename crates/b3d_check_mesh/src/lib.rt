@@ -16,6 +16,7 @@ use b3d_spec::HIGHEST_VERTEX_FLAGS;
 use b3d_spec::LARGEST_SET;
 use b3d_spec::MESH_WIDTH;
 use b3d_spec::MOST_SETS;
+use b3d_spec::columns;
 
 // ---- vertices and weights
 
@@ -59,11 +60,12 @@ fn mesh_head(brushes: u32, node: usize, vertices: usize, t: &[u32], i: usize) ->
 {
     let o = MESH_WIDTH * i;
     let own = b3d_check_rows::cell(t, o);
-    let from = b3d_check_rows::cell(t, o + 5);
-    let brush = t[o + 1];
+    let from = b3d_check_rows::cell(t, o + columns::MESH_FIRST_VERTEX);
+    let brush = t[o + columns::MESH_BRUSH];
     let some = (brush == 0xFFFFFFFF) | (brush < brushes);
-    let ranges = (t[o + 2] <= HIGHEST_VERTEX_FLAGS)
-        & ((t[o + 3] <= MOST_SETS) & ((t[o + 4] <= LARGEST_SET) & (from == vertices)));
+    let ranges = (t[o + columns::MESH_FLAGS] <= HIGHEST_VERTEX_FLAGS)
+        & ((t[o + columns::MESH_SETS] <= MOST_SETS)
+            & ((t[o + columns::MESH_SET_SIZE] <= LARGEST_SET) & (from == vertices)));
     (own == node) & (some & ranges)
 }
 
@@ -85,8 +87,8 @@ fn mesh_sets(
     ensures { λ r. ⌜ r ≡ meshSets brushes i first from (rowAt meshWidth i (now (t .entry))) (rowsAt triangleSetWidth first (total - first) (now (sets .entry))) (rowsAt triangleWidth from (all - from) (now (triangles .entry))) ⌝ }
 {
     let o = MESH_WIDTH * i;
-    let to = b3d_check_rows::cell(t, o + 7);
-    let count = b3d_check_rows::cell(t, o + 8);
+    let to = b3d_check_rows::cell(t, o + columns::MESH_FIRST_TRIANGLE_SET);
+    let count = b3d_check_rows::cell(t, o + columns::MESH_TRIANGLE_SETS);
     if !(to == first) {
         return false;
     }
@@ -96,7 +98,7 @@ fn mesh_sets(
     if total - first < count {
         return false;
     }
-    let v = t[o + 6];
+    let v = t[o + columns::MESH_VERTICES];
     let run = Run::Triangles(brushes, v, i);
     b3d_check_row_runs::groups_valid(run, sets, first, count, triangles, from, all)
 }
@@ -117,13 +119,21 @@ pub fn mesh_valid(
 {
     let i = n.meshes;
     let o = MESH_WIDTH * i;
-    let count = b3d_check_rows::cell(t4, o + 6);
+    let count = b3d_check_rows::cell(t4, o + columns::MESH_VERTICES);
     let from = n.vertices;
     let end = all.vertices;
     if !mesh_head(brushes, n.nodes, n.vertices, t4, i) {
         return false;
     }
-    if !vertices_left(t5, t4[o + 2], t4[o + 3], t4[o + 4], count, from, end) {
+    if !vertices_left(
+        t5,
+        t4[o + columns::MESH_FLAGS],
+        t4[o + columns::MESH_SETS],
+        t4[o + columns::MESH_SET_SIZE],
+        count,
+        from,
+        end,
+    ) {
         return false;
     }
     let first = n.triangles;

@@ -5,6 +5,7 @@ ghost use Prim.Native.Nat.{_+_, _-_, _*_, _<_, _≤_};
 ghost use lib.ListN.{length, take, drop};
 ghost use Rattle.b3d_spec.specs.Rebuild.{ownedBy};
 ghost use Rattle.b3d_spec.specs.Tables.{nodeWidth, keyListWidth, keyWidth};
+ghost use Rattle.b3d_spec.specs.Columns as columns;
 ghost use Rattle.b3d_check_spec.specs.Check.{groupsValid, keyListValid, kindValid, animValid, nodeValid};
 ghost use Rattle.b3d_check_rows.specs.Rows.{rowAt, rowsAt};
 ghost use Rattle.b3d_check_spec.specs.Rooms.{KindRoom, ListRoom};
@@ -12,6 +13,7 @@ ghost use Rattle.b3d_check_node_counts.specs.Parts.{partRows, Below};
 use b3d_check_row_runs::Run;
 use b3d_spec::Counts;
 use b3d_spec::NODE_WIDTH;
+use b3d_spec::columns;
 
 // Returns whether kind, first and count of the node that comes after the counts `n` are sound, with its mesh or weights; a weight may name a vertex below
 // `most`. `all` counts the rows of the tables.
@@ -29,12 +31,12 @@ fn kind_valid(
 ) -> bool
     requires { ⌜ Below n all × KindRoom all (length (now t4)) (length (now t5)) (length (now t6)) (length (now t7)) (length (now t8)) ⌝ }
     requires { ⌜ (n .nodes < all .nodes) × (nodeWidth * all .nodes ≤ length (now t3)) ⌝ }
-    ensures { λ r. ⌜ r ≡ kindValid brushes most (partRows all (now (t4 .entry)) (now (t5 .entry)) (now (t6 .entry)) (now (t7 .entry)) (now (t8 .entry)) [] []) n (drop 13 (rowAt nodeWidth (n .nodes) (now (t3 .entry)))) ⌝ }
+    ensures { λ r. ⌜ r ≡ kindValid brushes most (partRows all (now (t4 .entry)) (now (t5 .entry)) (now (t6 .entry)) (now (t7 .entry)) (now (t8 .entry)) [] []) n (drop columns.nodeKind (rowAt nodeWidth (n .nodes) (now (t3 .entry)))) ⌝ }
 {
     let o = NODE_WIDTH * n.nodes;
-    let kind = t3[o + 13];
-    let first = b3d_check_rows::cell(t3, o + 14);
-    let count = b3d_check_rows::cell(t3, o + 15);
+    let kind = t3[o + columns::NODE_KIND];
+    let first = b3d_check_rows::cell(t3, o + columns::NODE_FIRST);
+    let count = b3d_check_rows::cell(t3, o + columns::NODE_COUNT);
     if kind == 1 {
         if !((first == n.meshes) & (count == 1)) {
             return false;
@@ -65,14 +67,16 @@ fn own_lists(n: Counts, all: Counts, t9: &[u32], t10: &[u32]) -> bool
 // Returns whether row `i` of table 3, `t`, has 1 for an ANIM, or 0 and three values of 0.
 fn anim_valid(t: &[u32], i: usize) -> bool
     requires { ⌜ nodeWidth * i + nodeWidth ≤ length (now t) ⌝ }
-    ensures { λ r. ⌜ r ≡ animValid (take 4 (drop 3 (drop 13 (rowAt nodeWidth i (now (t .entry)))))) ⌝ }
+    ensures { λ r. ⌜ r ≡ animValid (take 4 (drop 3 (drop columns.nodeKind (rowAt nodeWidth i (now (t .entry)))))) ⌝ }
 {
     let o = NODE_WIDTH * i;
-    let there = t[o + 16];
+    let there = t[o + columns::NODE_ANIM];
     if there == 1 {
         return true;
     }
-    (there == 0) & ((t[o + 17] == 0) & ((t[o + 18] == 0) & (t[o + 19] == 0)))
+    (there == 0)
+        & ((t[o + columns::NODE_ANIM_FLAGS] == 0)
+            & ((t[o + columns::NODE_ANIM_FRAMES] == 0) & (t[o + columns::NODE_ANIM_FPS] == 0)))
 }
 
 // Returns whether the node that comes after the counts `n` is sound, with all that is its own in tables 3 to 10. The names are in `text`; a weight may name a
@@ -99,7 +103,7 @@ pub fn node_valid(
 {
     let i = n.nodes;
     let o = NODE_WIDTH * i;
-    if !b3d_check_rows::name_valid(text, t3[o], t3[o + 1]) {
+    if !b3d_check_rows::name_valid(text, t3[o], t3[o + columns::NAME_LENGTH]) {
         return false;
     }
     if !kind_valid(brushes, most, n, all, t3, t4, t5, t6, t7, t8) {

@@ -7,6 +7,7 @@ use Rattle.wire.specs.Test.{if}
 use Rattle.b3d_spec.specs.Rebuild.{cut, Rows}
 use Rattle.b3d_spec.specs.declared.Counts.{Counts}
 use Rattle.b3d_spec.specs.Tables.{meshWidth, vertexWidth, triangleSetWidth, triangleWidth, weightWidth, keyListWidth, keyWidth}
+use Rattle.b3d_spec.specs.Columns as columns
 use Rattle.b3d_check_spec.specs.CellCounts.{endOf}
 use Rattle.b3d_check_rows.specs.Rows.{rowsAt}
 
@@ -37,8 +38,8 @@ pub record MeshEnds (n a : Counts) (t₄ t₆ : List ℕ) : Type 0 where
   -- one more mesh is counted by a
   pub one : n .meshes < a .meshes
   -- its vertices are
-  pub vertices : n .vertices + getD t₄ (meshWidth * n .meshes + 6) 0 ≤ a .vertices
+  pub vertices : n .vertices + getD t₄ (meshWidth * n .meshes + columns.meshVertices) 0 ≤ a .vertices
   -- its triangle sets are
-  pub sets : n .sets + getD t₄ (meshWidth * n .meshes + 8) 0 ≤ a .sets
+  pub sets : n .sets + getD t₄ (meshWidth * n .meshes + columns.meshTriangleSets) 0 ≤ a .sets
   -- the triangles of these sets are
-  pub triangles : endOf (n .triangles) (rowsAt triangleSetWidth (n .sets) (getD t₄ (meshWidth * n .meshes + 8) 0) t₆) ≤ a .triangles
+  pub triangles : endOf (n .triangles) (rowsAt triangleSetWidth (n .sets) (getD t₄ (meshWidth * n .meshes + columns.meshTriangleSets) 0) t₆) ≤ a .triangles

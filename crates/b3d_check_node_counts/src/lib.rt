@@ -12,6 +12,7 @@ ghost use Rattle.b3d_check_node_counts.specs.Ended.{ended};
 use b3d_spec::Counts;
 use b3d_spec::MESH_WIDTH;
 use b3d_spec::NODE_WIDTH;
+use b3d_spec::columns;
 
 // Returns the counts after the mesh that comes after the counts `n`, by its row in `t4` and its triangle sets in `t6`.
 fn mesh_counts(n: Counts, all: Counts, t4: &[u32], t6: &[u32]) -> Counts
@@ -20,8 +21,8 @@ fn mesh_counts(n: Counts, all: Counts, t4: &[u32], t6: &[u32]) -> Counts
 {
     let i = n.meshes;
     let o = MESH_WIDTH * i;
-    let vertices = b3d_check_rows::cell(t4, o + 6);
-    let sets = b3d_check_rows::cell(t4, o + 8);
+    let vertices = b3d_check_rows::cell(t4, o + columns::MESH_VERTICES);
+    let sets = b3d_check_rows::cell(t4, o + columns::MESH_TRIANGLE_SETS);
     let triangles = b3d_check_row_runs::end_of(t6, n.sets, sets, n.triangles);
     let mut m = n;
     m.meshes = i + 1;
@@ -56,8 +57,8 @@ pub fn node_counts(n: Counts, all: Counts, t3: &[u32], t4: &[u32], t6: &[u32], t
     ensures { λ r. ⌜ r ≡ cellCounts (partRows all (now (t4 .entry)) [] (now (t6 .entry)) [] [] (now (t9 .entry)) []) (rowAt nodeWidth (n .nodes) (now (t3 .entry))) n ⌝ }
 {
     let o = NODE_WIDTH * n.nodes;
-    let count = b3d_check_rows::cell(t3, o + 15);
-    let m = kind_counts(n, all, t3[o + 13], count, t4, t6);
+    let count = b3d_check_rows::cell(t3, o + columns::NODE_COUNT);
+    let m = kind_counts(n, all, t3[o + columns::NODE_KIND], count, t4, t6);
     let end = b3d_check_row_runs::lists_of(n.nodes, t9, n.lists, all.lists);
     let keys = b3d_check_row_runs::end_of(t9, n.lists, end - n.lists, n.keys);
     let mut after = m;

@@ -6,9 +6,11 @@ ghost use lib.ListN.{length, getD};
 ghost use lib.Dec.{eqb};
 ghost use Rattle.wire.specs.Test.{if};
 ghost use Rattle.b3d_spec.specs.Tables.{nodeWidth};
+ghost use Rattle.b3d_spec.specs.Columns as columns;
 ghost use Rattle.b3d_check_parents.specs.Path.{CutTo, Ending};
 use b3d_spec::Counts;
 use b3d_spec::NODE_WIDTH;
+use b3d_spec::columns;
 
 // Returns how many of the first `depth` levels of the path are left when it ends in node `p` at row `i`; 0 where `p` is not on it, or a node that is left
 // does not end at row `i`.
@@ -50,26 +52,26 @@ pub fn all_end(ends: &[usize], depth: usize, i: usize) -> bool
 
 // Returns the parent cell of node `i`.
 pub fn parent(t3: &[u32], i: usize) -> usize
-    requires { ⌜ nodeWidth * i + 2 < length (now t3) ⌝ }
-    ensures { λ r. ⌜ r ≡ getD (now (t3 .entry)) (nodeWidth * i + 2) 0 ⌝ }
+    requires { ⌜ nodeWidth * i + columns.nodeParent < length (now t3) ⌝ }
+    ensures { λ r. ⌜ r ≡ getD (now (t3 .entry)) (nodeWidth * i + columns.nodeParent) 0 ⌝ }
 {
-    wire::size(t3[NODE_WIDTH * i + 2])
+    wire::size(t3[NODE_WIDTH * i + columns::NODE_PARENT])
 }
 
 // Returns the row behind node `i` and the nodes below it, by its branch word.
 pub fn branch_end(t3: &[u32], i: usize) -> usize
-    requires { ⌜ (i < 0x100000000) × (nodeWidth * i + 20 < length (now t3)) ⌝ }
-    ensures { λ r. ⌜ r ≡ i + 1 + getD (now (t3 .entry)) (nodeWidth * i + 20) 0 ⌝ }
+    requires { ⌜ (i < 0x100000000) × (nodeWidth * i + columns.nodeBelow < length (now t3)) ⌝ }
+    ensures { λ r. ⌜ r ≡ i + 1 + getD (now (t3 .entry)) (nodeWidth * i + columns.nodeBelow) 0 ⌝ }
 {
-    i + 1 + wire::size(t3[NODE_WIDTH * i + 20])
+    i + 1 + wire::size(t3[NODE_WIDTH * i + columns::NODE_BELOW])
 }
 
 // Returns the bone limit that a node hands down: the vertices counted between `before` and `after` it if it has an ANIM, else the limit `told` that it got.
 pub fn bones_below(told: u32, before: Counts, after: Counts, t3: &[u32]) -> u32
-    requires { ⌜ (nodeWidth * before .nodes + 16 < length (now t3)) × (before .vertices ≤ after .vertices) × (after .vertices < 0x100000000) ⌝ }
-    ensures { λ r. ⌜ r ≡ if (eqb (getD (now (t3 .entry)) (nodeWidth * before .nodes + 16) 0) 1) (after .vertices - before .vertices) told ⌝ }
+    requires { ⌜ (nodeWidth * before .nodes + columns.nodeAnim < length (now t3)) × (before .vertices ≤ after .vertices) × (after .vertices < 0x100000000) ⌝ }
+    ensures { λ r. ⌜ r ≡ if (eqb (getD (now (t3 .entry)) (nodeWidth * before .nodes + columns.nodeAnim) 0) 1) (after .vertices - before .vertices) told ⌝ }
 {
-    if t3[NODE_WIDTH * before.nodes + 16] == 1 {
+    if t3[NODE_WIDTH * before.nodes + columns::NODE_ANIM] == 1 {
         return shared_table_words::cell(after.vertices - before.vertices);
     }
     told

@@ -13,6 +13,7 @@ use b3d_check_rows::Ids;
 use b3d_spec::HIGHEST_KEY_FLAGS;
 use b3d_spec::KEY_LIST_WIDTH;
 use b3d_spec::TRIANGLE_SET_WIDTH;
+use b3d_spec::columns;
 
 // Which rows own groups of items: key lists, whose items are keys; or the triangle sets of a mesh, given by the number of brushes, the mesh's vertices and
 // its number.
@@ -26,7 +27,7 @@ fn key_list_valid(t: &[u32], i: usize, keys: &[u32], first: usize, count: usize)
     requires { ⌜ (keyListWidth * i + keyListWidth ≤ length (now t)) × (keyWidth * (first + count) ≤ length (now keys)) ⌝ }
     ensures { λ r. ⌜ r ≡ keyListValid (rowAt keyListWidth i (now (t .entry))) (rowsAt keyWidth first count (now (keys .entry))) ⌝ }
 {
-    let flags = t[KEY_LIST_WIDTH * i + 1];
+    let flags = t[KEY_LIST_WIDTH * i + columns::KEY_LIST_FLAGS];
     if !(flags <= HIGHEST_KEY_FLAGS) {
         return false;
     }
@@ -50,7 +51,7 @@ fn set_valid(
 {
     let o = TRIANGLE_SET_WIDTH * i;
     let own = b3d_check_rows::cell(t, o);
-    let brush = t[o + 1];
+    let brush = t[o + columns::TRIANGLE_SET_BRUSH];
     if !(own == mesh) {
         return false;
     }
@@ -89,8 +90,8 @@ pub fn groups_valid(
     let mut r = from;
     let mut i = first;
     while i < end {
-        let to = b3d_check_rows::cell(t, 4 * i + 2);
-        let many = b3d_check_rows::cell(t, 4 * i + 3);
+        let to = b3d_check_rows::cell(t, 4 * i + columns::GROUP_FIRST);
+        let many = b3d_check_rows::cell(t, 4 * i + columns::GROUP_COUNT);
         if !(to == r) {
             return false;
         }
@@ -131,7 +132,7 @@ pub fn end_of(t: &[u32], first: usize, count: usize, from: usize) -> usize
     let mut r = from;
     let mut i = first;
     while i < end {
-        let many = b3d_check_rows::cell(t, 4 * i + 3);
+        let many = b3d_check_rows::cell(t, 4 * i + columns::GROUP_COUNT);
         r += many;
         i += 1;
     }

@@ -6,11 +6,12 @@ use lib.Dec.{eqb}
 use Rattle.wire.specs.Test.{if}
 use Rattle.b3d_spec.specs.Rebuild.{ownedBy, Rows}
 use Rattle.b3d_spec.specs.declared.Counts.{Counts}
+use Rattle.b3d_spec.specs.Columns as columns
 
 -- the count r and cell 3 of each row: the number behind the items of these rows
 unfoldable pub endOf : ℕ → List (List ℕ) → ℕ
 endOf r [] = r
-endOf r (x ∷ xs) = endOf (r + getD x 3 0) xs
+endOf r (x ∷ xs) = endOf (r + getD x columns.groupCount 0) xs
 
 -- the counts n after the mesh with row x, its triangle sets being the first of ss
 unfoldable pub meshCounts : List ℕ → List (List ℕ) → Counts → Counts
@@ -18,9 +19,9 @@ meshCounts x ss n =
     record {
       nodes = n .nodes;
       meshes = n .meshes + 1;
-      vertices = n .vertices + getD x 6 0;
-      sets = n .sets + getD x 8 0;
-      triangles = endOf (n .triangles) (take (getD x 8 0) ss);
+      vertices = n .vertices + getD x columns.meshVertices 0;
+      sets = n .sets + getD x columns.meshTriangleSets 0;
+      triangles = endOf (n .triangles) (take (getD x columns.meshTriangleSets 0) ss);
       weights = n .weights;
       lists = n .lists;
       keys = n .keys;
@@ -64,8 +65,8 @@ nodeCounts l k n =
 unfoldable pub cellCounts : Rows → List ℕ → Counts → Counts
 cellCounts R x n =
     let ls = ownedBy (n .nodes) (drop (n .lists) (R 9)) in
-    nodeCounts (n .lists + length ls) (endOf (n .keys) ls) (kindCounts R n (drop 13 x))
+    nodeCounts (n .lists + length ls) (endOf (n .keys) ls) (kindCounts R n (drop columns.nodeKind x))
 
 -- the bone limit that node row x hands down: the vertices of its own mesh if it has an ANIM, else the limit `told` that it got
 unfoldable pub cellBoneLimit : ℕ → Rows → List ℕ → Counts → ℕ
-cellBoneLimit told R x n = if (eqb (getD x 16 0) 1) ((cellCounts R x n) .vertices - n .vertices) told
+cellBoneLimit told R x n = if (eqb (getD x columns.nodeAnim 0) 1) ((cellCounts R x n) .vertices - n .vertices) told

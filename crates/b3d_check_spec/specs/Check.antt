@@ -16,6 +16,7 @@ use Rattle.b3d_spec.specs.Rules.{version, slots, vertexFlags, sets, setSize, ke
 use Rattle.b3d_spec.specs.Tables.{start, reached, partTables, tables}
 use Rattle.b3d_spec.specs.declared.Counts.{Counts}
 use Rattle.b3d_spec.specs.declared.Mode.{Mode}
+use Rattle.b3d_spec.specs.Columns as columns
 use Rattle.b3d_check_spec.specs.CellCounts.{cellCounts, cellBoneLimit}
 
 -- ---- rows
@@ -42,19 +43,19 @@ rowsValid f c rs = leb c (length rs) && all f (take c rs)
 unfoldable pub groupsValid : (List ℕ → List (List ℕ) → Bool) → ℕ → List (List ℕ) → List (List ℕ) → Bool
 groupsValid f r [] is = true
 groupsValid f r (x ∷ xs) is =
-    let c = getD x 3 0 in
-    eqb (getD x 2 0) r && (leb c (length is) && (f x (take c is) && groupsValid f (r + c) xs (drop c is)))
+    let c = getD x columns.groupCount 0 in
+    eqb (getD x columns.groupFirst 0) r && (leb c (length is) && (f x (take c is) && groupsValid f (r + c) xs (drop c is)))
 
 -- ---- textures and brushes
 
 -- the name that row x begins with lies in ns, with no zero inside
 unfoldable pub nameValid : List ℕ → List ℕ → Bool
-nameValid ns x = leb (getD x 0 0 + getD x 1 0) (length ns) && all (λ b. ltb 0 b) (take (getD x 1 0) (drop (getD x 0 0) ns))
+nameValid ns x = leb (getD x columns.namePlace 0 + getD x columns.nameLength 0) (length ns) && all (λ b. ltb 0 b) (take (getD x columns.nameLength 0) (drop (getD x columns.namePlace 0) ns))
 
 -- brush row x has its name in ns, `many` slots that are NONE or name one of `textures` textures, and NONE in the unused slots
 unfoldable pub brushValid : List ℕ → ℕ → ℕ → List ℕ → Bool
 brushValid ns many textures x =
-    let ids = drop 9 x in
+    let ids = drop columns.brushTextures x in
     nameValid ns x && (keeps (brushIds many textures) (take many ids) && all (λ i. eqb i NONE) (drop many ids))
 
 -- n_texs (`many`) is 0 without a brush, else in its range
@@ -65,19 +66,19 @@ slotsValid many brushes = if (eqb brushes 0) (eqb many 0) (holds slots many)
 
 -- x is the row of a triangle set of mesh i, its brush is NONE or below `brushes`, and its triangles ts name vertices below v
 unfoldable pub setValid : ℕ → ℕ → ℕ → List ℕ → List (List ℕ) → Bool
-setValid brushes v i x ts = eqb (getD x 0 0) i && (holds (brushId brushes) (getD x 1 0) && all (keeps (triangleRow v)) ts)
+setValid brushes v i x ts = eqb (getD x columns.triangleSetMesh 0) i && (holds (brushId brushes) (getD x columns.triangleSetBrush 0) && all (keeps (triangleRow v)) ts)
 
 -- x is a mesh row that comes after the counts n, with the vertices vs, triangle sets ss and triangles ts from its first ones on
 unfoldable pub meshValid : ℕ → Counts → List ℕ → List (List ℕ) → List (List ℕ) → List (List ℕ) → Bool
 meshValid brushes n x vs ss ts =
-    eqb (getD x 0 0) (n .nodes)
-    && (holds (brushId brushes) (getD x 1 0)
-    && (holds vertexFlags (getD x 2 0) && (holds sets (getD x 3 0) && (holds setSize (getD x 4 0)
-    && (eqb (getD x 5 0) (n .vertices)
-    && (rowsValid (clean (vertexMask (getD x 2 0) (getD x 3 0) (getD x 4 0))) (getD x 6 0) vs
-    && (eqb (getD x 7 0) (n .sets)
-    && (ltb 0 (getD x 8 0)
-    && (leb (getD x 8 0) (length ss) && groupsValid (setValid brushes (getD x 6 0) (n .meshes)) (n .triangles) (take (getD x 8 0) ss) ts)))))))))
+    eqb (getD x columns.meshNode 0) (n .nodes)
+    && (holds (brushId brushes) (getD x columns.meshBrush 0)
+    && (holds vertexFlags (getD x columns.meshFlags 0) && (holds sets (getD x columns.meshSets 0) && (holds setSize (getD x columns.meshSetSize 0)
+    && (eqb (getD x columns.meshFirstVertex 0) (n .vertices)
+    && (rowsValid (clean (vertexMask (getD x columns.meshFlags 0) (getD x columns.meshSets 0) (getD x columns.meshSetSize 0))) (getD x columns.meshVertices 0) vs
+    && (eqb (getD x columns.meshFirstTriangleSet 0) (n .sets)
+    && (ltb 0 (getD x columns.meshTriangleSets 0)
+    && (leb (getD x columns.meshTriangleSets 0) (length ss) && groupsValid (setValid brushes (getD x columns.meshVertices 0) (n .meshes)) (n .triangles) (take (getD x columns.meshTriangleSets 0) ss) ts)))))))))
 
 -- ---- nodes
 
@@ -95,7 +96,7 @@ kindValid brushes bones R n y =
 
 -- x is the row of a key list, with flags in their range, and its keys ks are 0 where the flags leave cells out
 unfoldable pub keyListValid : List ℕ → List (List ℕ) → Bool
-keyListValid x ks = holds keyFlags (getD x 1 0) && all (clean (keyMask (getD x 1 0))) ks
+keyListValid x ks = holds keyFlags (getD x columns.keyListFlags 0) && all (clean (keyMask (getD x columns.keyListFlags 0))) ks
 
 -- y holds whether there is an ANIM, 1 or 0, and its three values, which are 0 without it
 unfoldable pub animValid : List ℕ → Bool
@@ -104,7 +105,7 @@ animValid y = if (eqb (getD y 0 0) 1) true (all (λ x. eqb x 0) y)
 -- node row x is sound after the counts n, with all rows that are its own; a weight of it may name a vertex below `bones`
 unfoldable pub nodeValid : List ℕ → ℕ → ℕ → Rows → List ℕ → Counts → Bool
 nodeValid ns brushes bones R x n =
-    let y = drop 13 x in
+    let y = drop columns.nodeKind x in
     nameValid ns x
     && (kindValid brushes bones R n y
     && (groupsValid keyListValid (n .keys) (ownedBy (n .nodes) (drop (n .lists) (R 9))) (drop (n .keys) (R 10)) && animValid (take 4 (drop 3 y))))
@@ -135,7 +136,7 @@ allEnd i path = all (λ (q : Level). eqb (q .end) i) path
 
 -- the row behind node i and the nodes below it, by cell 20 of its row x, the branch word of 02's E4
 abbrev pub endFrom : ℕ → List ℕ → ℕ
-endFrom i x = i + 1 + getD x 20 0
+endFrom i x = i + 1 + getD x columns.nodeBelow 0
 
 -- the bone limit of the path's first node; 0 where the path is empty
 unfoldable pub boneLimitOf : List Level → ℕ
@@ -147,7 +148,7 @@ boneLimitOf (q ∷ qs) = q .bones
 unfoldable pub nodesValid : List ℕ → ℕ → Rows → List Level → List (List ℕ) → Counts → Bool
 nodesValid ns brushes R path [] n = allEnd (n .nodes) path && spent R n
 nodesValid ns brushes R path (x ∷ xs) n =
-    let q = upTo (n .nodes) (getD x 2 0) path in
+    let q = upTo (n .nodes) (getD x columns.nodeParent 0) path in
     ltb 0 (length q)
     && (ltb (length q) levels
     && (nodeValid ns brushes (boneLimitOf q) R x n && nodesValid ns brushes R (record { node = n .nodes; end = endFrom (n .nodes) x; bones = cellBoneLimit (boneLimitOf q) R x n } ∷ q) xs (cellCounts R x n)))
@@ -157,7 +158,7 @@ nodesValid ns brushes R path (x ∷ xs) n =
 unfoldable pub treeValid : List ℕ → ℕ → Rows → List (List ℕ) → Bool
 treeValid ns brushes R [] = spent R start
 treeValid ns brushes R (x ∷ xs) =
-    eqb (getD x 2 0) NONE
+    eqb (getD x columns.nodeParent 0) NONE
     && (nodeValid ns brushes (boneLimit none) R x start && nodesValid ns brushes R (record { node = 0; end = endFrom 0 x; bones = (cellCounts R x start) .vertices } ∷ []) xs (cellCounts R x start))
 
 -- ---- the verdict

@@ -14,6 +14,7 @@ use Rattle.layout.specs.Refusals as refusals
 use Rattle.b3d_spec.specs.declared.Tag.the-variants.{BB3D, NODE, MESH, VRTS}
 use Rattle.b3d_spec.specs.Tags.{code, is, Chunks, split}
 use Rattle.b3d_spec.specs.Rules.{header, nodeRow, verticesHead, vertexWords}
+use Rattle.b3d_spec.specs.Columns as columns
 use Rattle.b3d_label_spec.specs.declared.TrayLabel.{TrayLabel}
 
 -- o is a refusal, whichever it is
@@ -104,7 +105,7 @@ unfoldable pub labelIn : List ℕ → List (List ℕ) → TrayLabel
 labelIn root meshes = record {
   number = 0;
   place = 0;
-  «name_place» = getD root 0 0;
-  «name_length» = getD root 1 0;
-  vertices = if (eqb (getD root 13 0) 1) (getD (getD meshes (getD root 14 0) []) 6 0) 0;
+  «name_place» = getD root columns.namePlace 0;
+  «name_length» = getD root columns.nameLength 0;
+  vertices = if (eqb (getD root columns.nodeKind 0) 1) (getD (getD meshes (getD root columns.nodeFirst 0) []) columns.meshVertices 0) 0;
 }

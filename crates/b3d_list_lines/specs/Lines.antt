@@ -3,6 +3,7 @@ use Prim.Native.Nat.{ℕ, zero, suc}
 use mathlib.Core.List.{List, [], _∷_, _++_}
 use lib.ListN.{drop, getD}
 use Rattle.b3d_spec.specs.Tables.{nodeWidth}
+use Rattle.b3d_spec.specs.Columns as columns
 use Rattle.b3d_list_name.specs.Name.{nameOr}
 use Rattle.b3d_list_text.specs.Text.{textLine}
 
@@ -12,7 +13,7 @@ unnamed = 117 ∷ 110 ∷ 110 ∷ 97 ∷ 109 ∷ 101 ∷ 100 ∷ []
 
 -- the line of the node row that the words ws begin with: its first two cells are place and length of a name in s
 unfoldable pub rowLine : List ℕ → List ℕ → List ℕ
-rowLine s ws = textLine (nameOr s unnamed (getD ws 0 0) (getD ws 1 0))
+rowLine s ws = textLine (nameOr s unnamed (getD ws columns.namePlace 0) (getD ws columns.nameLength 0))
 
 -- the lines of the first n node rows of the words ws, with names in s
 unfoldable pub rowLines : List ℕ → List ℕ → ℕ → List ℕ

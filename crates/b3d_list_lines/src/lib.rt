@@ -9,6 +9,7 @@ ghost use Rattle.b3d_judge_limits.specs.Rooms.{countsIn};
 ghost use Rattle.b3d_list_lines.specs.Lines.{rowLine, rowLines};
 use b3d_judge_tally::Tally;
 use b3d_spec::NODE_WIDTH;
+use b3d_spec::columns;
 
 // Stores a line of the numbers `a` and `b` in `out` from `at` on. Returns the place of the next text.
 pub fn put_pair(a: usize, b: usize, out: &mut [u8], at: usize) -> usize
@@ -46,7 +47,7 @@ fn put_name(file: &[u8], rows: &[u32], i: usize, out: &mut [u8], at: usize) -> u
 {
     let cell = NODE_WIDTH * i;
     let place = wire::size(rows[cell]);
-    let size = wire::size(rows[cell + 1]);
+    let size = wire::size(rows[cell + columns::NAME_LENGTH]);
     let name = b3d_list_name::name_or(file, b"unnamed", place, size);
     b3d_list_text::put_line(name, out, at)
 }

@@ -11,6 +11,7 @@ ghost use Rattle.b3d_spec.specs.Tables.{keyWidth};
 ghost use Rattle.layout.specs.Rows.{joined};
 ghost use Rattle.b3d_read_key_rows.specs.Keys.{keyAt};
 use b3d_spec::KEY_WIDTH;
+use b3d_spec::columns;
 use wire::Cursor;
 
 // Stores the row of one key in `out` from cell `base` on, from byte `at` of `file`: the frame, `a` words of a position, `b` of a scale, `c` of a rotation;
@@ -20,9 +21,15 @@ fn store_key(file: &[u8], at: usize, a: usize, b: usize, c: usize, base: usize, 
     ensures { λ _. ⌜ now (out .exit) ≡ stored (now (out .entry)) base (keyAt a b c (now (file .entry)) at) ⌝ }
 {
     b3d_read_row_runs::put_piece(file, at, 1, 0, base, out);
-    b3d_read_row_runs::put_three(file, at + 4, a, base + 1, out);
-    b3d_read_row_runs::put_three(file, at + 4 + 4 * a, b, base + 4, out);
-    b3d_read_row_runs::put_four(file, at + 4 + 4 * a + 4 * b, c, base + 7, out);
+    b3d_read_row_runs::put_three(file, at + 4, a, base + columns::KEY_POSITION, out);
+    b3d_read_row_runs::put_three(file, at + 4 + 4 * a, b, base + columns::KEY_SCALE, out);
+    b3d_read_row_runs::put_four(
+        file,
+        at + 4 + 4 * a + 4 * b,
+        c,
+        base + columns::KEY_ROTATION,
+        out,
+    );
 }
 
 // Stores `count` rows of 11 cells in `out` from cell `base` on, from the keys of `words` words of a KEYS of `flags` that stand at `c`. The other cells stay

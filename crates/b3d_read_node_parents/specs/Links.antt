@@ -6,6 +6,7 @@ use lib.ListN.{length, getD}
 use Rattle.wire.specs.Bytes.{wordAt}
 use Rattle.layout.specs.Rules.{NONE}
 use Rattle.b3d_spec.specs.Tables.{nodeWidth}
+use Rattle.b3d_spec.specs.Columns as columns
 use Rattle.b3d_spec_plain_rows.specs.Rows.{Open, parentAt}
 
 -- the row of node o, the nodes before it being l; the node begins no later than p
@@ -23,7 +24,7 @@ pub record Link (s rows : List ℕ) (p : ℕ) (l : List Open) (o : Open) : Type 
   -- its end is given by the length in the header
   pub end-is : o .end ≡ head + 8 + wordAt s (head + 4)
   -- cell 2 of its row is its parent
-  pub above-is : getD rows (nodeWidth * length l + 2) 0 ≡ parentAt head l
+  pub above-is : getD rows (nodeWidth * length l + columns.nodeParent) 0 ≡ parentAt head l
 
 -- the table `rows` has the row of each of these nodes, the last first, and all begin no later than p
 abbrev pub Linked : List ℕ → List ℕ → ℕ → List Open → Type 0

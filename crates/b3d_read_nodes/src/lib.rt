@@ -16,6 +16,7 @@ use b3d_chunk_cursor::Named;
 use b3d_chunk_walk::Flat;
 use b3d_spec::NODE_WIDTH;
 use b3d_spec::Tag;
+use b3d_spec::columns;
 use wire::Cursor;
 
 // Stores the row of the NODE at `p` with this `body` in `out` from cell `base` on. Its own chunks begin at `next`, and `meshes` meshes and `weights` weights
@@ -34,8 +35,8 @@ pub fn store_node(
     requires { ⌜ BodyAt (now file) p body × (next ≤ length (now file)) × (length (now file) < 0x100000000) × (meshes < 0x100000000) × (weights < 0x100000000) × (base + nodeWidth ≤ length (now out)) ⌝ }
     ensures { λ _. ⌜ now (out .exit) ≡ stored (now (out .entry)) base (rowOf (named nodeRow (p + 8) (left body (now (file .entry)))) (flatAt (now (file .entry)) next) parent (body .end) (told meshes weights)) ⌝ }
 {
-    let numbers = base + 3;
-    let last = base + 13;
+    let numbers = base + columns::NODE_POSITION;
+    let last = base + columns::NODE_KIND;
     match b3d_chunk_cursor::named_row(file, body, 10) {
         Named::Cut => {}
         Named::Is { length, row, .. } => {

@@ -12,6 +12,7 @@ ghost use Rattle.b3d_spec.specs.Tables.{vertexWidth};
 ghost use Rattle.layout.specs.Rows.{joined};
 ghost use Rattle.b3d_read_vertex_rows.specs.Vertices.{allSets, vertexAt};
 use b3d_spec::VERTEX_WIDTH;
+use b3d_spec::columns;
 use wire::Cursor;
 
 // Stores zeros in the four cells of each of `n` sets, in `out` from cell `base` on.
@@ -65,9 +66,16 @@ fn store_vertex(
     ensures { λ _. ⌜ now (out .exit) ≡ stored (now (out .entry)) base (vertexAt a b sets size (now (file .entry)) at) ⌝ }
 {
     b3d_read_row_runs::put_three(file, at, 3, base, out);
-    b3d_read_row_runs::put_three(file, at + 12, a, base + 3, out);
-    b3d_read_row_runs::put_four(file, at + 12 + 4 * a, b, base + 6, out);
-    put_sets(file, at + 12 + 4 * a + 4 * b, sets, size, base + 10, out);
+    b3d_read_row_runs::put_three(file, at + 12, a, base + columns::VERTEX_NORMAL, out);
+    b3d_read_row_runs::put_four(file, at + 12 + 4 * a, b, base + columns::VERTEX_COLOUR, out);
+    put_sets(
+        file,
+        at + 12 + 4 * a + 4 * b,
+        sets,
+        size,
+        base + columns::VERTEX_COORDINATES,
+        out,
+    );
 }
 
 // Stores `count` rows of 42 cells in `out` from cell `base` on, from the vertices of a VRTS of `flags`, `sets` and set `size` that stand at `c`. The other

@@ -9,6 +9,7 @@ pub mod Names
 pub mod WellFormed
 pub mod Fitting
 pub mod Widths
+pub mod Columns
 pub mod Mask
 pub mod Colours
 pub mod Tables

@@ -5,6 +5,7 @@ use mathlib.Core.List.{List, [], _∷_}
 use lib.Dec.{ltb, eqb}
 use Rattle.wire.specs.Test.{if}
 use Rattle.b3d_spec.specs.Widths.{vertexWidth, keyWidth}
+use Rattle.b3d_spec.specs.Columns as columns
 
 -- for each of n words from word w on, whether f says that it is there
 unfoldable pub mask : (ℕ → Bool) → ℕ → ℕ → List Bool
@@ -34,10 +35,10 @@ presentWords (false ∷ m) (x ∷ r) = presentWords m r
 -- word w of a vertex row is there: 3 position; 3 normal by flag 1; 4 colour by flag 2; coordinate c of set s at word 10 + 4 s + c
 unfoldable pub vertexHas : ℕ → ℕ → ℕ → ℕ → Bool
 vertexHas flags sets size w =
-    if (ltb w 3) true
-    (if (ltb w 6) (eqb (flags % 2) 1)
-    (if (ltb w 10) (eqb (flags / 2 % 2) 1)
-    (ltb ((w - 10) / 4) sets && ltb ((w - 10) % 4) size)))
+    if (ltb w columns.vertexNormal) true
+    (if (ltb w columns.vertexColour) (eqb (flags % 2) 1)
+    (if (ltb w columns.vertexCoordinates) (eqb (flags / 2 % 2) 1)
+    (ltb ((w - columns.vertexCoordinates) / 4) sets && ltb ((w - columns.vertexCoordinates) % 4) size)))
 
 -- which of the 42 words of a vertex row are there, by the mesh's flags, sets and set size
 unfoldable pub vertexMask : ℕ → ℕ → ℕ → List Bool
@@ -46,9 +47,9 @@ vertexMask flags sets size = mask (vertexHas flags sets size) vertexWidth 0
 -- word w of a key row is there: the frame; 3 position by flag 1; 3 scale by flag 2; 4 rotation by flag 4
 unfoldable pub keyHas : ℕ → ℕ → Bool
 keyHas flags w =
-    if (ltb w 1) true
-    (if (ltb w 4) (eqb (flags % 2) 1)
-    (if (ltb w 7) (eqb (flags / 2 % 2) 1) (eqb (flags / 4 % 2) 1)))
+    if (ltb w columns.keyPosition) true
+    (if (ltb w columns.keyScale) (eqb (flags % 2) 1)
+    (if (ltb w columns.keyRotation) (eqb (flags / 2 % 2) 1) (eqb (flags / 4 % 2) 1)))
 
 -- which of the 11 words of a key row are there, by the KEYS flags
 unfoldable pub keyMask : ℕ → List Bool

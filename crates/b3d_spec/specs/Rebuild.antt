@@ -17,6 +17,7 @@ use Rattle.b3d_spec.specs.Rules.{rowLimit}
 use Rattle.b3d_spec.specs.Scene.{Texture, Brush, TriangleSet, Mesh, Kind, pivot, mesh, bone, Keys, Anim, noAnim, anim, Data, Forest, noNodes, node, Scene}
 use Rattle.b3d_spec.specs.Tables.{width, start, reached, withNode, rows, tables}
 use Rattle.b3d_spec.specs.declared.Counts.{Counts}
+use Rattle.b3d_spec.specs.Columns as columns
 
 -- what the writer is lent beside the bytes that hold the names
 pub record Lent : Type 0 where
@@ -45,31 +46,31 @@ hasCountedRows T k = leb (T .count k) rowLimit && leb (width k * T .count k) (le
 
 -- the name of row x: its place, and the bytes of ns there
 unfoldable pub nameFrom : List ℕ → List ℕ → Name
-nameFrom ns x = record { place = getD x 0 0; bytes = take (getD x 1 0) (drop (getD x 0 0) ns) }
+nameFrom ns x = record { place = getD x columns.namePlace 0; bytes = take (getD x columns.nameLength 0) (drop (getD x columns.namePlace 0) ns) }
 
 -- the texture of row x
 unfoldable pub textureFrom : List ℕ → List ℕ → Texture
-textureFrom ns x = record { name = nameFrom ns x; words = drop 2 x }
+textureFrom ns x = record { name = nameFrom ns x; words = drop columns.textureFlags x }
 
 -- the brush of row x, with its first `slots` texture slots as ids
 unfoldable pub brushFrom : List ℕ → ℕ → List ℕ → Brush
-brushFrom ns slots x = record { name = nameFrom ns x; words = take 7 (drop 2 x); ids = take slots (drop 9 x) }
+brushFrom ns slots x = record { name = nameFrom ns x; words = take 7 (drop columns.brushColour x); ids = take slots (drop columns.brushTextures x) }
 
 -- the triangle sets of the rows xs, their triangles being the first of ts
 unfoldable pub setsFrom : List (List ℕ) → List (List ℕ) → List TriangleSet
 setsFrom [] ts = []
-setsFrom (x ∷ xs) ts = record { brush = getD x 1 0; triangles = take (getD x 3 0) ts } ∷ setsFrom xs (drop (getD x 3 0) ts)
+setsFrom (x ∷ xs) ts = record { brush = getD x columns.triangleSetBrush 0; triangles = take (getD x columns.triangleSetTriangles 0) ts } ∷ setsFrom xs (drop (getD x columns.triangleSetTriangles 0) ts)
 
 -- the mesh of row x, its vertices, triangle sets and triangles being the first of vs, ss and ts
 unfoldable pub meshFrom : List ℕ → List (List ℕ) → List (List ℕ) → List (List ℕ) → Mesh
 meshFrom x vs ss ts =
     record {
-      brush = getD x 1 0;
-      flags = getD x 2 0;
-      sets = getD x 3 0;
-      size = getD x 4 0;
-      vertices = map (presentWords (vertexMask (getD x 2 0) (getD x 3 0) (getD x 4 0))) (take (getD x 6 0) vs);
-      triangleSets = setsFrom (take (getD x 8 0) ss) ts;
+      brush = getD x columns.meshBrush 0;
+      flags = getD x columns.meshFlags 0;
+      sets = getD x columns.meshSets 0;
+      size = getD x columns.meshSetSize 0;
+      vertices = map (presentWords (vertexMask (getD x columns.meshFlags 0) (getD x columns.meshSets 0) (getD x columns.meshSetSize 0))) (take (getD x columns.meshVertices 0) vs);
+      triangleSets = setsFrom (take (getD x columns.meshTriangleSets 0) ss) ts;
     }
 
 -- the first key list rows that are those of node i
@@ -77,13 +78,13 @@ unfoldable pub ownedBy : ℕ → List (List ℕ) → List (List ℕ)
 ownedBy i [] = []
 ownedBy i (x ∷ xs) =
     let r = x ∷ ownedBy i xs in
-    if (eqb (getD x 0 0) i) r []
+    if (eqb (getD x columns.keyListNode 0) i) r []
 
 -- the key lists of the rows xs, their keys being the first of ks
 unfoldable pub keysFrom : List (List ℕ) → List (List ℕ) → List Keys
 keysFrom [] ks = []
 keysFrom (x ∷ xs) ks =
-    record { flags = getD x 1 0; items = map (presentWords (keyMask (getD x 1 0))) (take (getD x 3 0) ks) } ∷ keysFrom xs (drop (getD x 3 0) ks)
+    record { flags = getD x columns.keyListFlags 0; items = map (presentWords (keyMask (getD x columns.keyListFlags 0))) (take (getD x columns.keyListKeys 0) ks) } ∷ keysFrom xs (drop (getD x columns.keyListKeys 0) ks)
 
 -- the ANIM of the cells x, ANIM present and 3 values; none unless the first is 1
 unfoldable pub animFrom : List ℕ → Anim
@@ -106,10 +107,10 @@ kindFrom R n k c =
 -- the data of the node of row x, when n rows came before it in the tables R; its name is in ns
 unfoldable pub dataFrom : List ℕ → Rows → List ℕ → Counts → Data
 dataFrom ns R x n =
-    let y = drop 13 x in
+    let y = drop columns.nodeKind x in
     record {
       name = nameFrom ns x;
-      words = take 10 (drop 3 x);
+      words = take 10 (drop columns.nodePosition x);
       kind = kindFrom R n (getD y 0 0) (getD y 2 0);
       keys = keysFrom (ownedBy (n .nodes) (drop (n .lists) (R 9))) (drop (n .keys) (R 10));
       anim = animFrom (take 4 (drop 3 y));
@@ -128,7 +129,7 @@ unfoldable pub walk : List ℕ → Rows → List (List ℕ) → Counts → List 
 walk ns R [] n = []
 walk ns R (x ∷ xs) n =
     let d = dataFrom ns R x n in
-    record { parent = getD x 2 0; below = getD x 20 0; item = d } ∷ walk ns R xs (withNode d n)
+    record { parent = getD x columns.nodeParent 0; below = getD x columns.nodeBelow 0; item = d } ∷ walk ns R xs (withNode d n)
 
 -- nodes of one parent: its number, and the nodes with all below them
 pub record Group : Type 0 where

@@ -1,6 +1,7 @@
 // The meaning of B3D files: what a file says and its tables hold, and what reader, writer and clearer answer. `parse` reads a file, `table` gives its tables,
 // `encode` writes the shortest file, `rebuild` goes back from tables to the scene. Definitions in specs/, their laws in proofs/; no function.
 
+pub mod columns;
 pub mod letters;
 
 // The most rows of a table (E12), as `Rules.rowLimit` has it: each function that cites this is held to that.

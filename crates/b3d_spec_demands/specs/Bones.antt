@@ -13,23 +13,24 @@ use Rattle.b3d_spec.specs.Answers.{judge}
 use Rattle.b3d_spec.specs.Rebuild.{Rows}
 use Rattle.b3d_spec.specs.Scene.{Scene}
 use Rattle.b3d_spec.specs.Tables.{rows}
+use Rattle.b3d_spec.specs.Columns as columns
 use Rattle.b3d_spec_demands.specs.Branches.{parentOf}
 
 -- the kind in row j of the node rows xs: 0 pivot, 1 mesh, 2 bone
 abbrev pub kindOf : List (List ℕ) → ℕ → ℕ
-kindOf xs j = getD (getD xs j []) 13 0
+kindOf xs j = getD (getD xs j []) columns.nodeKind 0
 
 -- cell `first` in row j of the node rows xs: the mesh number or the first weight
 abbrev pub firstOf : List (List ℕ) → ℕ → ℕ
-firstOf xs j = getD (getD xs j []) 14 0
+firstOf xs j = getD (getD xs j []) columns.nodeFirst 0
 
 -- cell `count` in row j of the node rows xs
 abbrev pub countOf : List (List ℕ) → ℕ → ℕ
-countOf xs j = getD (getD xs j []) 15 0
+countOf xs j = getD (getD xs j []) columns.nodeCount 0
 
 -- cell ANIM present in row j of the node rows xs: 1, or 0
 abbrev pub animOf : List (List ℕ) → ℕ → ℕ
-animOf xs j = getD (getD xs j []) 16 0
+animOf xs j = getD (getD xs j []) columns.nodeAnim 0
 
 -- from row j of the node rows xs up by the parents: c is the nearest row with an ANIM, or the root if there is none
 pub data Nearest (xs : List (List ℕ)) (c : ℕ) : ℕ → Type 0 where
@@ -40,11 +41,11 @@ pub data Nearest (xs : List (List ℕ)) (c : ℕ) : ℕ → Type 0 where
 
 -- how many vertices the MESH of node c has, in the tables R; 0 where it has no MESH
 unfoldable pub meshVertices : Rows → ℕ → ℕ
-meshVertices R c = if (eqb (kindOf (R 3) c) 1) (getD (getD (R 4) (firstOf (R 3) c) []) 6 0) 0
+meshVertices R c = if (eqb (kindOf (R 3) c) 1) (getD (getD (R 4) (firstOf (R 3) c) []) columns.meshVertices 0) 0
 
 -- the vertex id of weight i of node r, in the tables R
 abbrev pub weightId : Rows → ℕ → ℕ → ℕ
-weightId R r i = getD (getD (R 8) (firstOf (R 3) r + i) []) 0 0
+weightId R r i = getD (getD (R 8) (firstOf (R 3) r + i) []) columns.weightVertex 0
 
 -- row w of the weights is one of a bone's, xs being the node rows
 pub record WeightOf (xs : List (List ℕ)) (w : ℕ) : Type 0 where

@@ -8,14 +8,15 @@ use Rattle.b3d_spec.specs.declared.Mode.{Mode}
 use Rattle.b3d_spec.specs.Answers.{judge}
 use Rattle.b3d_spec.specs.Scene.{Scene}
 use Rattle.b3d_spec.specs.Tables.{rows}
+use Rattle.b3d_spec.specs.Columns as columns
 
 -- the parent that row j of the node rows xs says; the root's is NONE
 abbrev pub parentOf : List (List ℕ) → ℕ → ℕ
-parentOf xs j = getD (getD xs j []) 2 0
+parentOf xs j = getD (getD xs j []) columns.nodeParent 0
 
 -- the number of nodes below it that row r of the node rows xs says (E4, its 21st word)
 abbrev pub branchOf : List (List ℕ) → ℕ → ℕ
-branchOf xs r = getD (getD xs r []) 20 0
+branchOf xs r = getD (getD xs r []) columns.nodeBelow 0
 
 -- row j of the node rows xs is below row r, by the parents
 pub data Under (xs : List (List ℕ)) (r : ℕ) : ℕ → Type 0 where

@@ -15,10 +15,11 @@ use Rattle.b3d_spec.specs.Scene.{Scene}
 use Rattle.layout.specs.Rows.{joined}
 use Rattle.b3d_spec.specs.Tables.{width, rows, tables}
 use Rattle.b3d_spec.specs.Names.{named, unplaced, unnamed}
+use Rattle.b3d_spec.specs.Columns as columns
 
 -- the bytes of ns that row r, which begins with a place and a length, names; none where they pass the end of ns
 unfoldable pub nameOf : List ℕ → List ℕ → Option (List ℕ)
-nameOf ns r = if (leb (getD r 0 0 + getD r 1 0) (length ns)) (some (take (getD r 1 0) (drop (getD r 0 0) ns))) none
+nameOf ns r = if (leb (getD r columns.namePlace 0 + getD r columns.nameLength 0) (length ns)) (some (take (getD r columns.nameLength 0) (drop (getD r columns.namePlace 0) ns))) none
 
 -- the names of the rows rs of table k, in the bytes ns: tables 1 to 3 have one in each row, the others none
 unfoldable pub namesOf : List ℕ → ℕ → List (List ℕ) → List (Option (List ℕ))
@@ -27,11 +28,11 @@ namesOf ns k rs = if (leb k 3) (map (nameOf ns) rs) []
 -- row r begins with the place and the length of a name in s: bytes without a zero, a zero behind them
 pub record NameAt (s r : List ℕ) : Type 0 where
   -- the name and its zero lie in s
-  pub inside : getD r 0 0 + getD r 1 0 < length s
+  pub inside : getD r columns.namePlace 0 + getD r columns.nameLength 0 < length s
   -- none of its bytes is zero
-  pub no-zero : All (λ c. 0 < c) (take (getD r 1 0) (drop (getD r 0 0) s))
+  pub no-zero : All (λ c. 0 < c) (take (getD r columns.nameLength 0) (drop (getD r columns.namePlace 0) s))
   -- the byte behind it is zero
-  pub zero-behind : getD s (getD r 0 0 + getD r 1 0) 0 ≡ 0
+  pub zero-behind : getD s (getD r columns.namePlace 0 + getD r columns.nameLength 0) 0 ≡ 0
 
 -- the file s is accepted in a mode, and has the lent tables T with names in ns: the same words, name places aside, and the same names
 pub record Has (mode : Mode) (s : List ℕ) (T : Lent) (ns : List ℕ) : Type 0 where

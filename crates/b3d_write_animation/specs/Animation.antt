@@ -7,6 +7,7 @@ use Rattle.b3d_spec.specs.Rebuild.{ownedBy, keysFrom, animFrom}
 use Rattle.b3d_spec.specs.Tags.{Chunk, writeChunks}
 use Rattle.b3d_spec.specs.declared.Counts.{Counts}
 use Rattle.b3d_spec.specs.Tables.{keyListWidth, keyWidth}
+use Rattle.b3d_spec.specs.Columns as columns
 use Rattle.b3d_check_spec.specs.CellCounts.{endOf}
 use Rattle.b3d_write_row_runs.specs.Lent.{rowsIn}
 
@@ -18,7 +19,7 @@ animPart ds i = writeChunks (animChunks (animFrom (take 4 (drop i ds))) [])
 abbrev pub moveChunks : List ℕ → ℕ → List ℕ → List ℕ → Counts → List Chunk
 moveChunks ds i ls ks n =
     let ls′ = ownedBy (n .nodes) (drop (n .lists) (rowsIn keyListWidth ls)) in
-    keyChunks (keysFrom ls′ (drop (n .keys) (rowsIn keyWidth ks))) (animChunks (animFrom (take 4 (drop (i + 16) ds))) [])
+    keyChunks (keysFrom ls′ (drop (n .keys) (rowsIn keyWidth ks))) (animChunks (animFrom (take 4 (drop (i + columns.nodeAnim) ds))) [])
 
 -- the bytes of the KEYS and the ANIM of that node: its row at word i of ds, its key lists in ls, its keys in ks
 unfoldable pub movesBytes : List ℕ → ℕ → List ℕ → List ℕ → Counts → List ℕ

@@ -9,6 +9,7 @@ ghost use Rattle.b3d_write_row_runs.specs.Lent.{rowsIn};
 ghost use Rattle.b3d_write_animation.specs.Animation.{animPart, movesBytes, MovesThere};
 use b3d_spec::Counts;
 use b3d_spec::KEY_LIST_WIDTH;
+use b3d_spec::columns;
 use b3d_write_item_lists::put_runs;
 use b3d_write_items::number;
 use b3d_write_items::put_values;
@@ -55,6 +56,6 @@ pub fn write_animation(
 {
     let count = count_lists(t9, n.lists, n.nodes);
     let a = put_runs(true, t9, n.lists, count, t10, n.keys, out);
-    let b = put_anim(t3, row + 16, &mut out[a..]);
+    let b = put_anim(t3, row + columns::NODE_ANIM, &mut out[a..]);
     a + b
 }

@@ -1,4 +1,5 @@
 // The KEYS and the TRIS of the writer: a chunk for each key list or triangle set, its items the next rows of the table of keys or triangles.
+use b3d_spec::columns;
 use b3d_spec::letters;
 use b3d_write_items::number;
 use b3d_write_items::put_set;
@@ -55,7 +56,7 @@ pub fn put_runs(
     let mut i: usize = 0;
     while i < count {
         let row = 4 * (first + i);
-        let n = number(rows, row + 3);
+        let n = number(rows, row + columns::GROUP_COUNT);
         let size = put_run(keys, rows[row + 1], items, next, n, &mut out[at..]);
         at += size;
         next += n;

@@ -1,4 +1,5 @@
 // Rows that begin with a name: its place and its length in the bytes that hold the names.
+use b3d_spec::columns;
 use b3d_write_items::number;
 ghost use Prim.Native.Nat.{_+_, _*_, _<_, _≤_};
 ghost use lib.ListN.{length};
@@ -15,7 +16,7 @@ pub fn put_named(names: &[u8], t: &[u32], row: usize, at: usize, n: usize, out: 
     ensures { λ r. ⌜ Put (namedBytes (now (names .entry)) (now (t .entry)) row at n) (now (out .entry)) (now (out .exit)) r ⌝ }
 {
     let place = number(t, row);
-    let size = number(t, row + 1);
+    let size = number(t, row + columns::NAME_LENGTH);
     let a = shared_output::put_text(names, place, size, out);
     let b = shared_output::put_words(t, at, n, &mut out[a..]);
     a + b

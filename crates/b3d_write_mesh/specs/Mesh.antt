@@ -9,6 +9,7 @@ use Rattle.b3d_spec.specs.Mask.{presentWords, vertexMask}
 use Rattle.b3d_spec.specs.Tags.{code}
 use Rattle.b3d_spec.specs.declared.Tag.the-variants.{MESH, VRTS}
 use Rattle.b3d_spec.specs.Tables.{vertexWidth, triangleSetWidth, triangleWidth}
+use Rattle.b3d_spec.specs.Columns as columns
 use Rattle.b3d_check_spec.specs.CellCounts.{endOf}
 use Rattle.b3d_write_row_runs.specs.Lent.{rowsIn, rowsFrom}
 use Rattle.b3d_write_item_lists.specs.Runs.{setsBytes}
@@ -27,17 +28,17 @@ pub record MeshThere (ms : List ℕ) (i : ℕ) (vs : List ℕ) (v : ℕ) (ss : L
   -- its row is there
   pub row : i + 9 ≤ length ms
   -- its vertices are
-  pub vertices : v + getD ms (i + 6) 0 ≤ length vs / vertexWidth
+  pub vertices : v + getD ms (i + columns.meshVertices) 0 ≤ length vs / vertexWidth
   -- its triangle sets are
-  pub sets : s + getD ms (i + 8) 0 ≤ length ss / triangleSetWidth
+  pub sets : s + getD ms (i + columns.meshTriangleSets) 0 ≤ length ss / triangleSetWidth
   -- the triangles of these sets are
-  pub triangles : endOf t (rowsFrom triangleSetWidth ss s (getD ms (i + 8) 0)) ≤ length ts / triangleWidth
+  pub triangles : endOf t (rowsFrom triangleSetWidth ss s (getD ms (i + columns.meshTriangleSets) 0)) ≤ length ts / triangleWidth
 
 -- the VRTS and the TRIS of the mesh row at word i of ms, its vertices, triangle sets and triangles being those from rows v, s and t on
 unfoldable pub meshBody : List ℕ → ℕ → List ℕ → ℕ → List ℕ → ℕ → List ℕ → ℕ → List ℕ
 meshBody ms i vs v ss s ts t =
-    verticesBytes ms (i + 2) (rowsFrom vertexWidth vs v (getD ms (i + 6) 0)) ++ setsBytes (rowsFrom triangleSetWidth ss s (getD ms (i + 8) 0)) (drop t (rowsIn triangleWidth ts))
+    verticesBytes ms (i + columns.meshFlags) (rowsFrom vertexWidth vs v (getD ms (i + columns.meshVertices) 0)) ++ setsBytes (rowsFrom triangleSetWidth ss s (getD ms (i + columns.meshTriangleSets) 0)) (drop t (rowsIn triangleWidth ts))
 
 -- the MESH of the mesh row at word i of ms, its vertices, triangle sets and triangles being those from rows v, s and t on
 abbrev pub meshBytes : List ℕ → ℕ → List ℕ → ℕ → List ℕ → ℕ → List ℕ → ℕ → List ℕ
-meshBytes ms i vs v ss s ts t = chunk (code MESH) (bytes (getD ms (i + 1) 0) []) (meshBody ms i vs v ss s ts t)
+meshBytes ms i vs v ss s ts t = chunk (code MESH) (bytes (getD ms (i + columns.meshBrush) 0) []) (meshBody ms i vs v ss s ts t)

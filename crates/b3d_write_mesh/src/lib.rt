@@ -1,4 +1,5 @@
 // A MESH written from rows of lent tables: its brush, its VRTS and its TRIS.
+use b3d_spec::columns;
 use b3d_spec::letters;
 use b3d_write_item_lists::put_runs;
 use b3d_write_items::number;
@@ -44,10 +45,17 @@ pub fn write_mesh(
     requires { ⌜ Room (meshBytes (now meshes) row (now vertices) v (now sets) s (now triangles) t) (now out) ⌝ }
     ensures { λ r. ⌜ Put (meshBytes (now (meshes .entry)) row (now (vertices .entry)) v (now (sets .entry)) s (now (triangles .entry)) t) (now (out .entry)) (now (out .exit)) r ⌝ }
 {
-    let brush = meshes[row + 1];
-    let count = number(meshes, row + 6);
-    let many = number(meshes, row + 8);
-    let n = write_vertices(meshes, row + 2, vertices, v, count, &mut out[12..]);
+    let brush = meshes[row + columns::MESH_BRUSH];
+    let count = number(meshes, row + columns::MESH_VERTICES);
+    let many = number(meshes, row + columns::MESH_TRIANGLE_SETS);
+    let n = write_vertices(
+        meshes,
+        row + columns::MESH_FLAGS,
+        vertices,
+        v,
+        count,
+        &mut out[12..],
+    );
     let m = put_runs(false, sets, s, many, triangles, t, &mut out[n + 12..]);
     shared_output::put_opening(out, letters::MESH, n + m, brush);
     n + m + 12

@@ -11,6 +11,7 @@ use Rattle.b3d_spec.specs.Rebuild.{Rows, kindFrom, dataFrom}
 use Rattle.b3d_spec.specs.Tags.{writeChunks}
 use Rattle.b3d_spec.specs.declared.Counts.{Counts}
 use Rattle.b3d_spec.specs.Tables.{nodeWidth, meshWidth, vertexWidth, triangleSetWidth, triangleWidth, weightWidth, keyListWidth, keyWidth}
+use Rattle.b3d_spec.specs.Columns as columns
 use Rattle.b3d_write_row_runs.specs.Lent.{rowsIn}
 use Rattle.b3d_write_materials.specs.Named.{NameThere}
 use Rattle.b3d_write_mesh.specs.Mesh.{MeshThere}
@@ -37,7 +38,7 @@ kindBytes ms vs ss ts ws n k c = writeChunks (kindChunks (kindFrom (tableRows []
 -- the kind's chunk, the KEYS and the ANIM of the node whose row begins at word i of ds and which comes after the counts n
 unfoldable pub partsBytes : List ℕ → ℕ → List ℕ → List ℕ → List ℕ → List ℕ → List ℕ → List ℕ → List ℕ → Counts → List ℕ
 partsBytes ds i ms vs ss ts ws ls ks n =
-    writeChunks (kindChunks (kindFrom (tableRows [] ms vs ss ts ws [] []) n (getD ds (i + 13) 0) (getD ds (i + 15) 0)) (moveChunks ds i ls ks n))
+    writeChunks (kindChunks (kindFrom (tableRows [] ms vs ss ts ws [] []) n (getD ds (i + columns.nodeKind) 0) (getD ds (i + columns.nodeCount) 0)) (moveChunks ds i ls ks n))
 
 -- all that the body of the node after the counts n holds before the nodes below it
 unfoldable pub ownBytes : List ℕ → List ℕ → List ℕ → List ℕ → List ℕ → List ℕ → List ℕ → List ℕ → List ℕ → Counts → List ℕ
@@ -59,7 +60,7 @@ pub record OwnThere (ns ds ms vs ss ts ws ls ks : List ℕ) (n : Counts) : Type 
   -- its name is in ns
   pub name : NameThere ns ds (nodeWidth * n .nodes)
   -- the rows that its kind and count name are there
-  pub kind : KindThere ms vs ss ts ws n (getD ds (nodeWidth * n .nodes + 13) 0) (getD ds (nodeWidth * n .nodes + 15) 0)
+  pub kind : KindThere ms vs ss ts ws n (getD ds (nodeWidth * n .nodes + columns.nodeKind) 0) (getD ds (nodeWidth * n .nodes + columns.nodeCount) 0)
   -- its key lists and keys are there
   pub moves : MovesThere ls ks n
 

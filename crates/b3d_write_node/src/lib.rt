@@ -4,10 +4,12 @@ ghost use Prim.Native.Nat.{_+_, _*_, _≤_};
 ghost use lib.ListN.{length, getD};
 ghost use Rattle.shared_output.specs.Writing.{Room, Put};
 ghost use Rattle.b3d_spec.specs.Tables.{nodeWidth};
+ghost use Rattle.b3d_spec.specs.Columns as columns;
 ghost use Rattle.b3d_write_node.specs.Own.{kindBytes, ownBytes, KindThere, OwnThere};
 use b3d_spec::Counts;
 use b3d_spec::MESH_WIDTH;
 use b3d_spec::NODE_WIDTH;
+use b3d_spec::columns;
 use b3d_write_animation::write_animation;
 use b3d_write_items::number;
 use b3d_write_items::put_weights;
@@ -27,20 +29,20 @@ fn write_kind(
     out: &mut [u8],
 ) -> usize
     requires { ⌜ row + nodeWidth ≤ length (now t3) ⌝ }
-    requires { ⌜ KindThere (now t4) (now t5) (now t6) (now t7) (now t8) n (getD (now t3) (row + 13) 0) (getD (now t3) (row + 15) 0) ⌝ }
-    requires { ⌜ Room (kindBytes (now t4) (now t5) (now t6) (now t7) (now t8) n (getD (now t3) (row + 13) 0) (getD (now t3) (row + 15) 0)) (now out) ⌝ }
+    requires { ⌜ KindThere (now t4) (now t5) (now t6) (now t7) (now t8) n (getD (now t3) (row + columns.nodeKind) 0) (getD (now t3) (row + columns.nodeCount) 0) ⌝ }
+    requires { ⌜ Room (kindBytes (now t4) (now t5) (now t6) (now t7) (now t8) n (getD (now t3) (row + columns.nodeKind) 0) (getD (now t3) (row + columns.nodeCount) 0)) (now out) ⌝ }
     ensures { λ r. ⌜ Put (kindBytes (now (t4 .entry)) (now (t5 .entry)) (now (t6 .entry)) (now (t7 .entry)) (now (t8 .entry))
-        n (getD (now (t3 .entry)) (row + 13) 0) (getD (now (t3 .entry)) (row + 15) 0)) (now (out .entry)) (now (out .exit)) r ⌝ }
+        n (getD (now (t3 .entry)) (row + columns.nodeKind) 0) (getD (now (t3 .entry)) (row + columns.nodeCount) 0)) (now (out .entry)) (now (out .exit)) r ⌝ }
 {
-    if t3[row + 13] == 1 {
+    if t3[row + columns::NODE_KIND] == 1 {
         let i = MESH_WIDTH * n.meshes;
         let v = n.vertices;
         let s = n.sets;
         let t = n.triangles;
         return write_mesh(t4, i, t5, v, t6, s, t7, t, out);
     }
-    if t3[row + 13] == 2 {
-        let many = number(t3, row + 15);
+    if t3[row + columns::NODE_KIND] == 2 {
+        let many = number(t3, row + columns::NODE_COUNT);
         return put_weights(t8, n.weights, many, out);
     }
     0
@@ -66,7 +68,7 @@ pub fn write_own_chunks(
         (now (t7 .entry)) (now (t8 .entry)) (now (t9 .entry)) (now (t10 .entry)) n) (now (out .entry)) (now (out .exit)) r ⌝ }
 {
     let row = NODE_WIDTH * n.nodes;
-    let a = put_named(names, t3, row, row + 3, 10, out);
+    let a = put_named(names, t3, row, row + columns::NODE_POSITION, 10, out);
     let rest = &mut out[a..];
     let b = write_kind(t3, row, t4, t5, t6, t7, t8, n, rest);
     let c = write_animation(t3, row, t9, t10, n, &mut out[a + b..]);

@@ -3,6 +3,7 @@ ghost use Rattle.b3d_write_node.specs.Own.{tableRows};
 ghost use Rattle.b3d_write_nodes.specs.Walk.{Sized, Writable, Writes, WritableFirst, WritesFirst};
 use b3d_spec::Counts;
 use b3d_spec::NODE_WIDTH;
+use b3d_spec::columns;
 use b3d_spec::letters;
 
 // How many bytes were written, and the counts after the nodes that were written.
@@ -75,7 +76,7 @@ pub fn write_nodes(
     let mut size: usize = 0;
     let mut m = n;
     while m.nodes < all.nodes {
-        if b3d_write_items::number(t3, NODE_WIDTH * m.nodes + 2) != parent {
+        if b3d_write_items::number(t3, NODE_WIDTH * m.nodes + columns::NODE_PARENT) != parent {
             return Walked { size, counts: m };
         }
         let rest = &mut out[size..];

@@ -7,6 +7,7 @@ use lib.Dec.{eqb}
 use Rattle.wire.specs.Test.{if}
 use Rattle.b3d_spec.specs.Rules.{vertexWords, keyWords, rowLimit, highestVertexFlags, mostSets, largestSet, highestKeyFlags}
 use Rattle.b3d_spec.specs.Tables.{nodeWidth, meshWidth, keyListWidth}
+use Rattle.b3d_spec.specs.Columns as columns
 
 -- what f gives for each row, added up
 unfoldable pub sum : (List ℕ → ℕ) → List (List ℕ) → ℕ
@@ -15,19 +16,19 @@ sum f (r ∷ rs) = f r + sum f rs
 
 -- the length of the name of row r and `more` bytes
 unfoldable pub namedBytes : ℕ → List ℕ → ℕ
-namedBytes more r = getD r 1 0 + more
+namedBytes more r = getD r columns.nameLength 0 + more
 
 -- the bytes of a NODE with row r without its MESH, weights and KEYS: header, text, zero, ten words; the header of a BONE; an ANIM
 unfoldable pub nodeBytes : List ℕ → ℕ
-nodeBytes r = getD r 1 0 + 49 + if (eqb (getD r 13 0) 2) 8 0 + if (eqb (getD r 16 0) 1) 20 0
+nodeBytes r = getD r columns.nameLength 0 + 49 + if (eqb (getD r columns.nodeKind 0) 2) 8 0 + if (eqb (getD r columns.nodeAnim 0) 1) 20 0
 
 -- the bytes of a MESH with row r without its TRIS: header, brush; a VRTS: header, three numbers, vertices
 unfoldable pub meshBytes : List ℕ → ℕ
-meshBytes r = 32 + getD r 6 0 * (4 * vertexWords (getD r 2 0) (getD r 3 0) (getD r 4 0))
+meshBytes r = 32 + getD r columns.meshVertices 0 * (4 * vertexWords (getD r columns.meshFlags 0) (getD r columns.meshSets 0) (getD r columns.meshSetSize 0))
 
 -- the bytes of a KEYS with row r: header, flags, keys
 unfoldable pub listBytes : List ℕ → ℕ
-listBytes r = 12 + getD r 3 0 * (4 * keyWords (getD r 1 0))
+listBytes r = 12 + getD r columns.keyListKeys 0 * (4 * keyWords (getD r columns.keyListFlags 0))
 
 -- the bytes that row r of table k adds: a node, a mesh, a key list, or in other tables a name and `more` bytes
 unfoldable pub rowBytes : ℕ → ℕ → List ℕ → ℕ
@@ -40,13 +41,13 @@ rowsBytes k more rs = sum (rowBytes k more) rs
 -- the numbers of row r of table k are in the ranges that its size asks
 pub record Sizable (k : ℕ) (r : List ℕ) : Type 0 where
   -- flags of a mesh
-  pub flags : k ≡ 4 → getD r 2 0 ≤ highestVertexFlags
+  pub flags : k ≡ 4 → getD r columns.meshFlags 0 ≤ highestVertexFlags
   -- texture sets of a mesh
-  pub sets : k ≡ 4 → getD r 3 0 ≤ mostSets
+  pub sets : k ≡ 4 → getD r columns.meshSets 0 ≤ mostSets
   -- the size of its texture sets
-  pub size : k ≡ 4 → getD r 4 0 ≤ largestSet
+  pub size : k ≡ 4 → getD r columns.meshSetSize 0 ≤ largestSet
   -- flags of a key list
-  pub keys : k ≡ 9 → getD r 1 0 ≤ highestKeyFlags
+  pub keys : k ≡ 9 → getD r columns.keyListFlags 0 ≤ highestKeyFlags
 
 -- more bytes than any row adds: a mesh counts fewer than 2^32 vertices, of 168 bytes at most
 abbrev pub rowMost : ℕ

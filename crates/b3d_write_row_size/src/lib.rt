@@ -9,6 +9,7 @@ ghost use Rattle.b3d_spec.specs.Rebuild.{cut};
 ghost use Rattle.b3d_spec.specs.Rules.{rowLimit, vertexWords, keyWords, highestVertexFlags, mostSets, largestSet, highestKeyFlags};
 ghost use Rattle.b3d_spec.specs.Tables.{nodeWidth, vertexWidth, meshWidth, keyListWidth};
 ghost use Rattle.b3d_write_row_size.specs.RowSize.{tableMost, Sums, nodeBytes, meshBytes, listBytes, rowBytes, rowsBytes, Sizable, Wide, Adds};
+use b3d_spec::columns;
 
 // Returns `bytes` if `cell` is `value`, else 0.
 fn bytes_if(cell: u32, value: u32, bytes: usize) -> usize
@@ -58,7 +59,11 @@ fn node_row(table: &[u32], at: usize) -> usize
     requires { ⌜ at + nodeWidth ≤ length (now table) ⌝ }
     ensures { λ r. ⌜ Adds (nodeBytes (take nodeWidth (drop at (now (table .entry))))) r ⌝ }
 {
-    node_bytes(table[at + 1], table[at + 13], table[at + 16])
+    node_bytes(
+        table[at + columns::NAME_LENGTH],
+        table[at + columns::NODE_KIND],
+        table[at + columns::NODE_ANIM],
+    )
 }
 
 // Returns the bytes that the mesh row from word `at` of `table` on adds.
@@ -66,7 +71,12 @@ fn mesh_row(table: &[u32], at: usize) -> usize
     requires { ⌜ (at + meshWidth ≤ length (now table)) × Sizable 4 (take meshWidth (drop at (now table))) ⌝ }
     ensures { λ r. ⌜ Adds (meshBytes (take meshWidth (drop at (now (table .entry))))) r ⌝ }
 {
-    mesh_bytes(table[at + 2], table[at + 3], table[at + 4], table[at + 6])
+    mesh_bytes(
+        table[at + columns::MESH_FLAGS],
+        table[at + columns::MESH_SETS],
+        table[at + columns::MESH_SET_SIZE],
+        table[at + columns::MESH_VERTICES],
+    )
 }
 
 // Returns the bytes that the key list's row from word `at` of `table` on adds.
@@ -74,7 +84,10 @@ fn list_row(table: &[u32], at: usize) -> usize
     requires { ⌜ (at + keyListWidth ≤ length (now table)) × Sizable 9 (take keyListWidth (drop at (now table))) ⌝ }
     ensures { λ r. ⌜ Adds (listBytes (take keyListWidth (drop at (now (table .entry))))) r ⌝ }
 {
-    list_bytes(table[at + 1], table[at + 3])
+    list_bytes(
+        table[at + columns::KEY_LIST_FLAGS],
+        table[at + columns::KEY_LIST_KEYS],
+    )
 }
 
 // Returns the bytes that the row of `width` words from word `at` on adds, of the table numbered `which`; for tables other than 3, 4 and 9 its name and `more`
@@ -93,7 +106,7 @@ fn row_bytes(table: &[u32], at: usize, which: u32, width: usize, more: usize) ->
     if which == 9 {
         return list_row(table, at);
     }
-    name_bytes(table[at + 1], more)
+    name_bytes(table[at + columns::NAME_LENGTH], more)
 }
 
 // Returns the bytes that the first `count` rows add, `width` words each, of the table numbered `which`; 0 without rows.
