@@ -16,14 +16,16 @@ unfoldable pub meshRowHere : ℕ → ℕ → ℕ → List ℕ → Bool
 meshRowHere brushes node first x =
     eqb (getD x columns.meshNode 0) node
     && (holds (brushId brushes) (getD x columns.meshBrush 0)
-    && (holds vertexFlags (getD x columns.meshFlags 0) && (holds sets (getD x columns.meshSets 0) && (holds setSize (getD x columns.meshSetSize 0) && eqb (getD x columns.meshFirstVertex 0) first))))
+    && (holds vertexFlags (getD x columns.meshFlags 0)
+    && (holds sets (getD x columns.meshSets 0) && (holds setSize (getD x columns.meshSetSize 0) && eqb (getD x columns.meshFirstVertex 0) first))))
 
 -- the triangle sets of mesh row x, which is number i, are sound: at least one, the first of ss, from number `first` on; their triangles are those of ts, from
 -- number r on
 unfoldable pub meshSets : ℕ → ℕ → ℕ → ℕ → List ℕ → List (List ℕ) → List (List ℕ) → Bool
 meshSets brushes i first r x ss ts =
     eqb (getD x columns.meshFirstTriangleSet 0) first
-    && (ltb 0 (getD x columns.meshTriangleSets 0) && (leb (getD x columns.meshTriangleSets 0) (length ss) && groupsValid (setValid brushes (getD x columns.meshVertices 0) i) r (take (getD x columns.meshTriangleSets 0) ss) ts))
+    && (ltb 0 (getD x columns.meshTriangleSets 0) && (leb (getD x columns.meshTriangleSets 0) (length ss)
+    && groupsValid (setValid brushes (getD x columns.meshVertices 0) i) r (take (getD x columns.meshTriangleSets 0) ss) ts))
 
 -- what `mesh_valid` asks: after the counts n a mesh comes, of those that a counts, and tables 4 to 7 have the rows that a counts
 pub record MeshAfter (n a : Counts) (words₄ words₅ words₆ words₇ : ℕ) : Type 0 where

@@ -84,7 +84,8 @@ fn mesh_sets(
 ) -> bool
     requires { ⌜ (meshWidth * i + meshWidth ≤ length (now t)) × (first ≤ total) × (triangleSetWidth * total ≤ length (now sets)) ⌝ }
     requires { ⌜ (from ≤ all) × (triangleWidth * all ≤ length (now triangles)) ⌝ }
-    ensures { λ r. ⌜ r ≡ meshSets brushes i first from (rowAt meshWidth i (now (t .entry))) (rowsAt triangleSetWidth first (total - first) (now (sets .entry))) (rowsAt triangleWidth from (all - from) (now (triangles .entry))) ⌝ }
+    ensures { λ r. ⌜ r ≡ meshSets brushes i first from (rowAt meshWidth i (now (t .entry))) (rowsAt triangleSetWidth first (total - first) (now (sets .entry)))
+        (rowsAt triangleWidth from (all - from) (now (triangles .entry))) ⌝ }
 {
     let o = MESH_WIDTH * i;
     let to = b3d_check_rows::cell(t, o + columns::MESH_FIRST_TRIANGLE_SET);
@@ -114,8 +115,10 @@ pub fn mesh_valid(
     t7: &[u32],
 ) -> bool
     requires { ⌜ MeshAfter n all (length (now t4)) (length (now t5)) (length (now t6)) (length (now t7)) ⌝ }
-    ensures { λ r. ⌜ r ≡ meshValid brushes n (rowAt meshWidth (n .meshes) (now (t4 .entry))) (rowsAt vertexWidth (n .vertices) (all .vertices - n .vertices) (now (t5 .entry)))
-        (rowsAt triangleSetWidth (n .sets) (all .sets - n .sets) (now (t6 .entry))) (rowsAt triangleWidth (n .triangles) (all .triangles - n .triangles) (now (t7 .entry))) ⌝ }
+    ensures { λ r. ⌜ r ≡ meshValid brushes n (rowAt meshWidth (n .meshes) (now (t4 .entry)))
+        (rowsAt vertexWidth (n .vertices) (all .vertices - n .vertices) (now (t5 .entry)))
+        (rowsAt triangleSetWidth (n .sets) (all .sets - n .sets) (now (t6 .entry)))
+        (rowsAt triangleWidth (n .triangles) (all .triangles - n .triangles) (now (t7 .entry))) ⌝ }
 {
     let i = n.meshes;
     let o = MESH_WIDTH * i;

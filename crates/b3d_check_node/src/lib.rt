@@ -31,7 +31,8 @@ fn kind_valid(
 ) -> bool
     requires { ⌜ Below n all × KindRoom all (length (now t4)) (length (now t5)) (length (now t6)) (length (now t7)) (length (now t8)) ⌝ }
     requires { ⌜ (n .nodes < all .nodes) × (nodeWidth * all .nodes ≤ length (now t3)) ⌝ }
-    ensures { λ r. ⌜ r ≡ kindValid brushes most (partRows all (now (t4 .entry)) (now (t5 .entry)) (now (t6 .entry)) (now (t7 .entry)) (now (t8 .entry)) [] []) n (drop columns.nodeKind (rowAt nodeWidth (n .nodes) (now (t3 .entry)))) ⌝ }
+    ensures { λ r. ⌜ r ≡ kindValid brushes most (partRows all (now (t4 .entry)) (now (t5 .entry)) (now (t6 .entry)) (now (t7 .entry)) (now (t8 .entry)) [] []) n
+        (drop columns.nodeKind (rowAt nodeWidth (n .nodes) (now (t3 .entry)))) ⌝ }
 {
     let o = NODE_WIDTH * n.nodes;
     let kind = t3[o + columns::NODE_KIND];
@@ -58,7 +59,8 @@ fn kind_valid(
 // Returns whether the key lists of the node that comes after the counts `n` are sound, with their keys.
 fn own_lists(n: Counts, all: Counts, t9: &[u32], t10: &[u32]) -> bool
     requires { ⌜ Below n all × ListRoom all (length (now t9)) (length (now t10)) ⌝ }
-    ensures { λ r. ⌜ r ≡ groupsValid keyListValid (n .keys) (ownedBy (n .nodes) (rowsAt keyListWidth (n .lists) (all .lists - n .lists) (now (t9 .entry)))) (rowsAt keyWidth (n .keys) (all .keys - n .keys) (now (t10 .entry))) ⌝ }
+    ensures { λ r. ⌜ r ≡ groupsValid keyListValid (n .keys) (ownedBy (n .nodes) (rowsAt keyListWidth (n .lists) (all .lists - n .lists) (now (t9 .entry))))
+        (rowsAt keyWidth (n .keys) (all .keys - n .keys) (now (t10 .entry))) ⌝ }
 {
     let end = b3d_check_row_runs::lists_of(n.nodes, t9, n.lists, all.lists);
     b3d_check_row_runs::groups_valid(Run::Keys, t9, n.lists, end - n.lists, t10, n.keys, all.keys)
@@ -98,7 +100,8 @@ pub fn node_valid(
 ) -> bool
     requires { ⌜ Below n all × KindRoom all (length (now t4)) (length (now t5)) (length (now t6)) (length (now t7)) (length (now t8)) ⌝ }
     requires { ⌜ (n .nodes < all .nodes) × (nodeWidth * all .nodes ≤ length (now t3)) × ListRoom all (length (now t9)) (length (now t10)) ⌝ }
-    ensures { λ r. ⌜ r ≡ nodeValid (now (text .entry)) brushes most (partRows all (now (t4 .entry)) (now (t5 .entry)) (now (t6 .entry)) (now (t7 .entry)) (now (t8 .entry)) (now (t9 .entry)) (now (t10 .entry)))
+    ensures { λ r. ⌜ r ≡ nodeValid (now (text .entry)) brushes most
+        (partRows all (now (t4 .entry)) (now (t5 .entry)) (now (t6 .entry)) (now (t7 .entry)) (now (t8 .entry)) (now (t9 .entry)) (now (t10 .entry)))
         (rowAt nodeWidth (n .nodes) (now (t3 .entry))) n ⌝ }
 {
     let i = n.nodes;

@@ -16,8 +16,10 @@ use b3d_spec::columns;
 
 // Returns the counts after the mesh that comes after the counts `n`, by its row in `t4` and its triangle sets in `t6`.
 fn mesh_counts(n: Counts, all: Counts, t4: &[u32], t6: &[u32]) -> Counts
-    requires { ⌜ MeshEnds n all (now t4) (now t6) × Limited all × (meshWidth * all .meshes ≤ length (now t4)) × (triangleSetWidth * all .sets ≤ length (now t6)) ⌝ }
-    ensures { λ r. ⌜ r ≡ meshCounts (rowAt meshWidth (n .meshes) (now (t4 .entry))) (rowsAt triangleSetWidth (n .sets) (all .sets - n .sets) (now (t6 .entry))) n ⌝ }
+    requires { ⌜ MeshEnds n all (now t4) (now t6) × Limited all × (meshWidth * all .meshes ≤ length (now t4))
+        × (triangleSetWidth * all .sets ≤ length (now t6)) ⌝ }
+    ensures { λ r. ⌜ r ≡ meshCounts (rowAt meshWidth (n .meshes) (now (t4 .entry)))
+        (rowsAt triangleSetWidth (n .sets) (all .sets - n .sets) (now (t6 .entry))) n ⌝ }
 {
     let i = n.meshes;
     let o = MESH_WIDTH * i;
@@ -52,9 +54,11 @@ fn kind_counts(n: Counts, all: Counts, kind: u32, count: usize, t4: &[u32], t6: 
 // Returns the counts after the node that comes after the counts `n`; no count passes `all`, as for a sound node.
 pub fn node_counts(n: Counts, all: Counts, t3: &[u32], t4: &[u32], t6: &[u32], t9: &[u32]) -> Counts
     requires { ⌜ Below n all × Limited all × (n .nodes < all .nodes) × (nodeWidth * all .nodes ≤ length (now t3)) ⌝ }
-    requires { ⌜ (meshWidth * all .meshes ≤ length (now t4)) × (triangleSetWidth * all .sets ≤ length (now t6)) × (keyListWidth * all .lists ≤ length (now t9)) ⌝ }
+    requires { ⌜ (meshWidth * all .meshes ≤ length (now t4)) × (triangleSetWidth * all .sets ≤ length (now t6))
+        × (keyListWidth * all .lists ≤ length (now t9)) ⌝ }
     requires { ⌜ Below (cellCounts (partRows all (now t4) [] (now t6) [] [] (now t9) []) (rowAt nodeWidth (n .nodes) (now t3)) n) all ⌝ }
-    ensures { λ r. ⌜ r ≡ cellCounts (partRows all (now (t4 .entry)) [] (now (t6 .entry)) [] [] (now (t9 .entry)) []) (rowAt nodeWidth (n .nodes) (now (t3 .entry))) n ⌝ }
+    ensures { λ r. ⌜ r ≡ cellCounts (partRows all (now (t4 .entry)) [] (now (t6 .entry)) [] [] (now (t9 .entry)) [])
+        (rowAt nodeWidth (n .nodes) (now (t3 .entry))) n ⌝ }
 {
     let o = NODE_WIDTH * n.nodes;
     let count = b3d_check_rows::cell(t3, o + columns::NODE_COUNT);

@@ -31,7 +31,8 @@ pub fn nodes_valid(
 ) -> bool
     requires { ⌜ Below from all × KindRoom all (length (now t4)) (length (now t5)) (length (now t6)) (length (now t7)) (length (now t8)) ⌝ }
     requires { ⌜ Limited all × (nodeWidth * all .nodes ≤ length (now t3)) × ListRoom all (length (now t9)) (length (now t10)) ⌝ }
-    ensures { λ r. ⌜ r ≡ nodesValid (now (text .entry)) brushes (partRows all (now (t4 .entry)) (now (t5 .entry)) (now (t6 .entry)) (now (t7 .entry)) (now (t8 .entry)) (now (t9 .entry)) (now (t10 .entry)))
+    ensures { λ r. ⌜ r ≡ nodesValid (now (text .entry)) brushes
+        (partRows all (now (t4 .entry)) (now (t5 .entry)) (now (t6 .entry)) (now (t7 .entry)) (now (t8 .entry)) (now (t9 .entry)) (now (t10 .entry)))
         (record { node = 0; end = end; bones = from .vertices } ∷ []) (rowsAt nodeWidth (from .nodes) (all .nodes - from .nodes) (now (t3 .entry))) from ⌝ }
 {
     let mut path: [usize; LEVELS] = [0; LEVELS];

@@ -28,7 +28,8 @@ pub fn tree_valid(
 ) -> bool
     requires { ⌜ Limited all × KindRoom all (length (now t4)) (length (now t5)) (length (now t6)) (length (now t7)) (length (now t8)) ⌝ }
     requires { ⌜ (nodeWidth * all .nodes ≤ length (now t3)) × ListRoom all (length (now t9)) (length (now t10)) ⌝ }
-    ensures { λ r. ⌜ r ≡ treeValid (now (text .entry)) brushes (partRows all (now (t4 .entry)) (now (t5 .entry)) (now (t6 .entry)) (now (t7 .entry)) (now (t8 .entry)) (now (t9 .entry)) (now (t10 .entry)))
+    ensures { λ r. ⌜ r ≡ treeValid (now (text .entry)) brushes
+        (partRows all (now (t4 .entry)) (now (t5 .entry)) (now (t6 .entry)) (now (t7 .entry)) (now (t8 .entry)) (now (t9 .entry)) (now (t10 .entry)))
         (cut nodeWidth (all .nodes) (now (t3 .entry))) ⌝ }
 {
     let n = START;

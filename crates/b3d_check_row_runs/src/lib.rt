@@ -84,7 +84,8 @@ pub fn groups_valid(
     total: usize,
 ) -> bool
     requires { ⌜ (4 * (first + count) ≤ length (now t)) × (from ≤ total) × (runWidth run * total ≤ length (now items)) ⌝ }
-    ensures { λ r. ⌜ r ≡ groupsValid (runTest run) from (rowsAt 4 first count (now (t .entry))) (rowsAt (runWidth run) from (total - from) (now (items .entry))) ⌝ }
+    ensures { λ r. ⌜ r ≡ groupsValid (runTest run) from (rowsAt 4 first count (now (t .entry)))
+        (rowsAt (runWidth run) from (total - from) (now (items .entry))) ⌝ }
 {
     let end = first + count;
     let mut r = from;

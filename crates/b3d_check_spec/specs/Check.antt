@@ -50,7 +50,9 @@ groupsValid f r (x ∷ xs) is =
 
 -- the name that row x begins with lies in ns, with no zero inside
 unfoldable pub nameValid : List ℕ → List ℕ → Bool
-nameValid ns x = leb (getD x columns.namePlace 0 + getD x columns.nameLength 0) (length ns) && all (λ b. ltb 0 b) (take (getD x columns.nameLength 0) (drop (getD x columns.namePlace 0) ns))
+nameValid ns x =
+    leb (getD x columns.namePlace 0 + getD x columns.nameLength 0) (length ns)
+    && all (λ b. ltb 0 b) (take (getD x columns.nameLength 0) (drop (getD x columns.namePlace 0) ns))
 
 -- brush row x has its name in ns, `many` slots that are NONE or name one of `textures` textures, and NONE in the unused slots
 unfoldable pub brushValid : List ℕ → ℕ → ℕ → List ℕ → Bool
@@ -66,7 +68,8 @@ slotsValid many brushes = if (eqb brushes 0) (eqb many 0) (holds slots many)
 
 -- x is the row of a triangle set of mesh i, its brush is NONE or below `brushes`, and its triangles ts name vertices below v
 unfoldable pub setValid : ℕ → ℕ → ℕ → List ℕ → List (List ℕ) → Bool
-setValid brushes v i x ts = eqb (getD x columns.triangleSetMesh 0) i && (holds (brushId brushes) (getD x columns.triangleSetBrush 0) && all (keeps (triangleRow v)) ts)
+setValid brushes v i x ts =
+    eqb (getD x columns.triangleSetMesh 0) i && (holds (brushId brushes) (getD x columns.triangleSetBrush 0) && all (keeps (triangleRow v)) ts)
 
 -- x is a mesh row that comes after the counts n, with the vertices vs, triangle sets ss and triangles ts from its first ones on
 unfoldable pub meshValid : ℕ → Counts → List ℕ → List (List ℕ) → List (List ℕ) → List (List ℕ) → Bool
@@ -75,10 +78,12 @@ meshValid brushes n x vs ss ts =
     && (holds (brushId brushes) (getD x columns.meshBrush 0)
     && (holds vertexFlags (getD x columns.meshFlags 0) && (holds sets (getD x columns.meshSets 0) && (holds setSize (getD x columns.meshSetSize 0)
     && (eqb (getD x columns.meshFirstVertex 0) (n .vertices)
-    && (rowsValid (clean (vertexMask (getD x columns.meshFlags 0) (getD x columns.meshSets 0) (getD x columns.meshSetSize 0))) (getD x columns.meshVertices 0) vs
+    && (rowsValid (clean (vertexMask (getD x columns.meshFlags 0) (getD x columns.meshSets 0) (getD x columns.meshSetSize 0)))
+    (getD x columns.meshVertices 0) vs
     && (eqb (getD x columns.meshFirstTriangleSet 0) (n .sets)
     && (ltb 0 (getD x columns.meshTriangleSets 0)
-    && (leb (getD x columns.meshTriangleSets 0) (length ss) && groupsValid (setValid brushes (getD x columns.meshVertices 0) (n .meshes)) (n .triangles) (take (getD x columns.meshTriangleSets 0) ss) ts)))))))))
+    && (leb (getD x columns.meshTriangleSets 0) (length ss)
+    && groupsValid (setValid brushes (getD x columns.meshVertices 0) (n .meshes)) (n .triangles) (take (getD x columns.meshTriangleSets 0) ss) ts)))))))))
 
 -- ---- nodes
 
@@ -159,7 +164,8 @@ unfoldable pub treeValid : List ℕ → ℕ → Rows → List (List ℕ) → Boo
 treeValid ns brushes R [] = spent R start
 treeValid ns brushes R (x ∷ xs) =
     eqb (getD x columns.nodeParent 0) NONE
-    && (nodeValid ns brushes (boneLimit none) R x start && nodesValid ns brushes R (record { node = 0; end = endFrom 0 x; bones = (cellCounts R x start) .vertices } ∷ []) xs (cellCounts R x start))
+    && (nodeValid ns brushes (boneLimit none) R x start
+    && nodesValid ns brushes R (record { node = 0; end = endFrom 0 x; bones = (cellCounts R x start) .vertices } ∷ []) xs (cellCounts R x start))
 
 -- ---- the verdict
 

@@ -40,7 +40,8 @@ headerSays s c header.End = done
 
 -- what a `Named` says of s at c: a name and `words` words, and what follows them; cut, it is 5 at c, where the name begins
 abbrev pub namedSays : List ℕ → Cursor → ℕ → Named → Result (Step (Name × List ℕ))
-namedSays s c words (named.Is n at next) = accept (record { value = (record { place = c .at; bytes = take n (left c s) }, wordsOf words (left at s)); place = next .at; left = left next s })
+namedSays s c words (named.Is n at next) =
+    accept (record { value = (record { place = c .at; bytes = take n (left c s) }, wordsOf words (left at s)); place = next .at; left = left next s })
 namedSays s c words named.Cut = reject refusals.cutItem (c .at)
 
 -- what a cursor c answers on s is what is read there by the definitions of files

@@ -51,7 +51,8 @@ pub fn copy_each(file: &[u8], from: Cursor, tag: Tag, out: &mut [u8]) -> usize
 pub fn copy_two(file: &[u8], from: Cursor, first: Tag, second: Tag, out: &mut [u8]) -> usize
     requires { ⌜ Inside from (length (now file)) × (length (now file) ≤ mostBytes) ⌝ }
     requires { ⌜ Room (each first (asIs first) (chunksAt (now file) from) ++ each second (asIs second) (chunksAt (now file) from)) (now out) ⌝ }
-    ensures { λ r. ⌜ Put (each first (asIs first) (chunksAt (now (file .entry)) from) ++ each second (asIs second) (chunksAt (now (file .entry)) from)) (now (out .entry)) (now (out .exit)) r ⌝ }
+    ensures { λ r. ⌜ Put (each first (asIs first) (chunksAt (now (file .entry)) from) ++ each second (asIs second) (chunksAt (now (file .entry)) from))
+        (now (out .entry)) (now (out .exit)) r ⌝ }
 {
     let n = copy_each(file, from, first, out);
     let m = copy_each(file, from, second, &mut out[n..]);

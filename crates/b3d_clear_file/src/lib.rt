@@ -18,7 +18,8 @@ use wire::Cursor;
 fn clear_rest(file: &[u8], from: Cursor, out: &mut [u8]) -> usize
     requires { ⌜ Inside from (length (now file)) × (length (now file) ≤ mostBytes) × AllBytes (now file) ⌝ }
     requires { ⌜ Room (each BRUS brusCopy (chunksAt (now file) from) ++ each NODE (nodeCopy levels) (chunksAt (now file) from)) (now out) ⌝ }
-    ensures { λ r. ⌜ Put (each BRUS brusCopy (chunksAt (now (file .entry)) from) ++ each NODE (nodeCopy levels) (chunksAt (now (file .entry)) from)) (now (out .entry)) (now (out .exit)) r ⌝ }
+    ensures { λ r. ⌜ Put (each BRUS brusCopy (chunksAt (now (file .entry)) from) ++ each NODE (nodeCopy levels) (chunksAt (now (file .entry)) from))
+        (now (out .entry)) (now (out .exit)) r ⌝ }
 {
     let n = b3d_clear_chunks::clear_each(file, from, Tag::BRUS, out);
     let m = b3d_clear_nodes::clear_nodes(file, from, ALL_LEVELS, &mut out[n..]);

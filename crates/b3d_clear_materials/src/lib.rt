@@ -79,7 +79,8 @@ pub fn clear_textures(file: &[u8], at: usize, body: Cursor, out: &mut [u8]) -> u
 fn brus_chunk(file: &[u8], items: Cursor, slots: u32, words: usize, out: &mut [u8]) -> usize
     requires { ⌜ Inside items (length (now file)) × (words ≤ 64) × AllBytes (now file) ⌝ }
     requires { ⌜ Room (chunkOf (code BRUS) (bytes slots (unnamedItems words (items .at) (left items (now file))))) (now out) ⌝ }
-    ensures { λ r. ⌜ Put (chunkOf (code BRUS) (bytes slots (unnamedItems words (items .at) (left items (now (file .entry)))))) (now (out .entry)) (now (out .exit)) r ⌝ }
+    ensures { λ r. ⌜ Put (chunkOf (code BRUS) (bytes slots (unnamedItems words (items .at) (left items (now (file .entry)))))) (now (out .entry))
+        (now (out .exit)) r ⌝ }
 {
     let n = clear_items(file, items, words, &mut out[12..]);
     shared_output::put_opening(out, letters::BRUS, n, slots);

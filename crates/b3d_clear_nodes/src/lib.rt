@@ -20,8 +20,11 @@ use wire::Cursor;
 // Writes each BONE, KEYS and ANIM, in this order, of the chunks from the cursor `from` on, as they are. Returns their size.
 fn clear_moves(file: &[u8], from: Cursor, out: &mut [u8]) -> usize
     requires { ⌜ Inside from (length (now file)) × (length (now file) ≤ mostBytes) ⌝ }
-    requires { ⌜ Room (each BONE (asIs BONE) (chunksAt (now file) from) ++ (each KEYS (asIs KEYS) (chunksAt (now file) from) ++ each ANIM (asIs ANIM) (chunksAt (now file) from))) (now out) ⌝ }
-    ensures { λ r. ⌜ Put (each BONE (asIs BONE) (chunksAt (now (file .entry)) from) ++ (each KEYS (asIs KEYS) (chunksAt (now (file .entry)) from) ++ each ANIM (asIs ANIM) (chunksAt (now (file .entry)) from))) (now (out .entry)) (now (out .exit)) r ⌝ }
+    requires { ⌜ Room (each BONE (asIs BONE) (chunksAt (now file) from)
+        ++ (each KEYS (asIs KEYS) (chunksAt (now file) from) ++ each ANIM (asIs ANIM) (chunksAt (now file) from))) (now out) ⌝ }
+    ensures { λ r. ⌜ Put (each BONE (asIs BONE) (chunksAt (now (file .entry)) from)
+        ++ (each KEYS (asIs KEYS) (chunksAt (now (file .entry)) from) ++ each ANIM (asIs ANIM) (chunksAt (now (file .entry)) from))) (now (out .entry))
+        (now (out .exit)) r ⌝ }
 {
     let n = b3d_clear_copied_chunks::copy_each(file, from, Tag::BONE, out);
     let m = b3d_clear_copied_chunks::copy_two(file, from, Tag::KEYS, Tag::ANIM, &mut out[n..]);
@@ -70,8 +73,10 @@ pub fn clear_node(file: &[u8], at: usize, body: Cursor, levels: u32, out: &mut [
 fn node_chunk(file: &[u8], row: Cursor, next: Cursor, levels: u32, out: &mut [u8]) -> usize
     requires { ⌜ Inside row (length (now file)) × (row .at + 4 * 10 ≤ row .end) × AllBytes (now file) ⌝ }
     requires { ⌜ Inside next (length (now file)) × (length (now file) ≤ mostBytes) ⌝ }
-    requires { ⌜ Room (chunkOf (code NODE) (ownCopy (wordsOf 10 (left row (now file))) (chunksAt (now file) next) ++ each NODE (nodeCopy levels) (chunksAt (now file) next))) (now out) ⌝ }
-    ensures { λ r. ⌜ Put (chunkOf (code NODE) (ownCopy (wordsOf 10 (left row (now (file .entry)))) (chunksAt (now (file .entry)) next) ++ each NODE (nodeCopy levels) (chunksAt (now (file .entry)) next))) (now (out .entry)) (now (out .exit)) r ⌝ }
+    requires { ⌜ Room (chunkOf (code NODE) (ownCopy (wordsOf 10 (left row (now file))) (chunksAt (now file) next)
+        ++ each NODE (nodeCopy levels) (chunksAt (now file) next))) (now out) ⌝ }
+    ensures { λ r. ⌜ Put (chunkOf (code NODE) (ownCopy (wordsOf 10 (left row (now (file .entry)))) (chunksAt (now (file .entry)) next)
+        ++ each NODE (nodeCopy levels) (chunksAt (now (file .entry)) next))) (now (out .entry)) (now (out .exit)) r ⌝ }
 {
     let n = clear_own(file, row, next, &mut out[8..]);
     let behind = n + 8;

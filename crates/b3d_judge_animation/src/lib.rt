@@ -45,7 +45,8 @@ fn with_anim(m: Tally, seen: bool) -> Tally
 // ANIM, their tally and the cursor after them, or the first refusal: 5 at the body of an ANIM whose length is not 12.
 pub fn judge_animation(s: &[u8], at: usize, from: Cursor) -> Motion
     requires { ⌜ Among at from (length (now s)) ⌝ }
-    ensures { λ r. ⌜ Motions (readAnimation noAnim (restIn (now (s .entry)) NODE at (reachedAt 2 false) from)) (restIn (now (s .entry)) NODE at (reachedAt 3 false)) from r ⌝ }
+    ensures { λ r. ⌜ Motions (readAnimation noAnim (restIn (now (s .entry)) NODE at (reachedAt 2 false) from))
+        (restIn (now (s .entry)) NODE at (reachedAt 3 false)) from r ⌝ }
 {
     let mut c = from;
     let mut q = KIND_READ;

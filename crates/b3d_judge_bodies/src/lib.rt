@@ -77,8 +77,10 @@ fn colours_of(mode: Mode, flags: u32) -> usize
 // Counts the vertices of `words` words that `items` has left, by one division where no colour is looked at. Answers 5 at a vertex that is cut, 6 at a colour
 // that does not pass.
 fn vertex_items(s: &[u8], items: Cursor, words: usize, flags: u32, mode: Mode) -> Counted
-    requires { ⌜ Inside items (length (now s)) × (flags ≤ highestVertexFlags) × (0 < words) × (words ≤ 64) × (beforeColour flags + coloursOf mode flags ≤ words) ⌝ }
-    ensures { λ r. ⌜ (r ≡ counted (colourItems (beforeColour flags) (coloursOf mode flags) (words - (beforeColour flags + coloursOf mode flags)) (items .at) (left items (now (s .entry))))) × CountedIn items words r ⌝ }
+    requires { ⌜ Inside items (length (now s)) × (flags ≤ highestVertexFlags) × (0 < words) × (words ≤ 64)
+        × (beforeColour flags + coloursOf mode flags ≤ words) ⌝ }
+    ensures { λ r. ⌜ (r ≡ counted (colourItems (beforeColour flags) (coloursOf mode flags) (words - (beforeColour flags + coloursOf mode flags)) (items .at)
+        (left items (now (s .entry))))) × CountedIn items words r ⌝ }
 {
     let n = colours_of(mode, flags);
     if n == 0 {

@@ -55,7 +55,8 @@ const ROOT_READ: Reached = Reached {
 // rows, and `from`.
 pub fn judge_texs_chunk(s: &[u8], from: Cursor) -> Phase
     requires { ⌜ Among 0 from (length (now s)) ⌝ }
-    ensures { λ r. ⌜ Phases texsTally (readOne TEXS [] readTextures (restIn (now (s .entry)) BB3D 0 start from)) (restIn (now (s .entry)) BB3D 0 (reachedAt 1 true)) from r ⌝ }
+    ensures { λ r. ⌜ Phases texsTally (readOne TEXS [] readTextures (restIn (now (s .entry)) BB3D 0 start from))
+        (restIn (now (s .entry)) BB3D 0 (reachedAt 1 true)) from r ⌝ }
 {
     let found = b3d_chunk_cursor::next_chunk(s, from);
     match b3d_chunk_next_allowed::first_inside(s, from, found, Tag::BB3D, 0) {
@@ -81,7 +82,8 @@ pub fn judge_texs_chunk(s: &[u8], from: Cursor) -> Phase
 // or the first refusal; without a BRUS 0, no rows, and `from`.
 pub fn judge_brus_chunk(s: &[u8], from: Cursor, textures: usize, mode: Mode) -> BrusSummary
     requires { ⌜ Among 0 from (length (now s)) ⌝ }
-    ensures { λ r. ⌜ Brushes (readOne BRUS (0, []) (readBrushes mode textures) (restIn (now (s .entry)) BB3D 0 (reachedAt 1 true) from)) (restIn (now (s .entry)) BB3D 0 (reachedAt 2 true)) from r ⌝ }
+    ensures { λ r. ⌜ Brushes (readOne BRUS (0, []) (readBrushes mode textures) (restIn (now (s .entry)) BB3D 0 (reachedAt 1 true) from))
+        (restIn (now (s .entry)) BB3D 0 (reachedAt 2 true)) from r ⌝ }
 {
     let found = b3d_chunk_cursor::next_chunk(s, from);
     match b3d_chunk_next_allowed::next_inside(s, from, found, Tag::BB3D, 0, TEXS_READ) {
@@ -107,7 +109,8 @@ pub fn judge_brus_chunk(s: &[u8], from: Cursor, textures: usize, mode: Mode) -> 
 // after it, or the first refusal; without a NODE no rows, and `from`.
 fn judge_root(s: &[u8], from: Cursor, brushes: usize, mode: Mode) -> Phase
     requires { ⌜ Among 0 from (length (now s)) ⌝ }
-    ensures { λ r. ⌜ Phases forestTally (readOne NODE noNodes (readRoot mode brushes) (restIn (now (s .entry)) BB3D 0 (reachedAt 2 true) from)) (restIn (now (s .entry)) BB3D 0 (reachedAt 3 true)) from r ⌝ }
+    ensures { λ r. ⌜ Phases forestTally (readOne NODE noNodes (readRoot mode brushes) (restIn (now (s .entry)) BB3D 0 (reachedAt 2 true) from))
+        (restIn (now (s .entry)) BB3D 0 (reachedAt 3 true)) from r ⌝ }
 {
     let found = b3d_chunk_cursor::next_chunk(s, from);
     match b3d_chunk_next_allowed::next_inside(s, from, found, Tag::BB3D, 0, BRUS_READ) {

@@ -94,7 +94,8 @@ fn judge_shape(
     mode: Mode,
 ) -> MeshSummary
     requires { ⌜ Body p body (length (now s)) × Among at next (length (now s)) × (at + 12 ≤ p) × (body .end ≡ next .at) ⌝ }
-    ensures { λ r. ⌜ Meshes (readAfter brushes 0 (readVertices mode p (left body (now (s .entry)))) (restIn (now (s .entry)) MESH at (reachedAt 1 true) next)) at (next .end) r ⌝ }
+    ensures { λ r. ⌜ Meshes (readAfter brushes 0 (readVertices mode p (left body (now (s .entry))))
+        (restIn (now (s .entry)) MESH at (reachedAt 1 true) next)) at (next .end) r ⌝ }
 {
     match b3d_judge_bodies::judge_vertices(s, p, body, mode) {
         VerticesSummary::Not(e, q) => MeshSummary::Not(e, q),

@@ -77,7 +77,8 @@ pub fn judge_kind(
     mode: Mode,
 ) -> KindSummary
     requires { ⌜ Among at from (length (now s)) ⌝ }
-    ensures { λ r. ⌜ Kinds (readKind mode brushes bones (restIn (now (s .entry)) NODE at start from)) (restIn (now (s .entry)) NODE at (reachedAt 2 false)) from r ⌝ }
+    ensures { λ r. ⌜ Kinds (readKind mode brushes bones (restIn (now (s .entry)) NODE at start from))
+        (restIn (now (s .entry)) NODE at (reachedAt 2 false)) from r ⌝ }
 {
     let found = b3d_chunk_cursor::next_chunk(s, from);
     match b3d_chunk_next_allowed::first_inside(s, from, found, Tag::NODE, at) {
@@ -122,7 +123,8 @@ fn judge_parts(
     mode: Mode,
 ) -> NodeSummary
     requires { ⌜ Among at from (length (now s)) × (at + 49 ≤ from .at) ⌝ }
-    ensures { λ r. ⌜ Parted (aboveOf above) (readParts mode brushes (boneLimit (aboveOf above)) (restIn (now (s .entry)) NODE at start from)) (restIn (now (s .entry)) NODE at (reachedAt 3 false)) at from r ⌝ }
+    ensures { λ r. ⌜ Parted (aboveOf above) (readParts mode brushes (boneLimit (aboveOf above)) (restIn (now (s .entry)) NODE at start from))
+        (restIn (now (s .entry)) NODE at (reachedAt 3 false)) at from r ⌝ }
 {
     match judge_kind(s, at, from, brushes, bone_vertices(above), mode) {
         KindSummary::Not(e, q) => NodeSummary::Not(e, q),
@@ -148,7 +150,8 @@ pub fn judge_own(
     mode: Mode,
 ) -> NodeSummary
     requires { ⌜ Body at body (length (now s)) ⌝ }
-    ensures { λ r. ⌜ Owns (aboveOf above) (readOwn mode brushes (aboveOf above) at (left body (now (s .entry)))) (restIn (now (s .entry)) NODE at (reachedAt 3 false)) at body r ⌝ }
+    ensures { λ r. ⌜ Owns (aboveOf above) (readOwn mode brushes (aboveOf above) at (left body (now (s .entry))))
+        (restIn (now (s .entry)) NODE at (reachedAt 3 false)) at body r ⌝ }
 {
     match b3d_chunk_cursor::named_row(s, body, 10) {
         Named::Cut => NodeSummary::Not(refusals::CUT_ITEM, body.at),

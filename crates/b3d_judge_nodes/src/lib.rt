@@ -71,7 +71,8 @@ pub fn judge_nodes(
     mode: Mode,
 ) -> Judged
     requires { ⌜ Among at from (length (now s)) ⌝ }
-    ensures { λ r. ⌜ Judges forestTally (readNodes (readNode mode levels brushes (aboveOf above)) (restIn (now (s .entry)) NODE at (reachedAt 3 false) from)) (from .at) (from .end) r ⌝ }
+    ensures { λ r. ⌜ Judges forestTally (readNodes (readNode mode levels brushes (aboveOf above)) (restIn (now (s .entry)) NODE at (reachedAt 3 false) from))
+        (from .at) (from .end) r ⌝ }
 {
     let mut c = from;
     let mut q = MOVES_READ;

@@ -22,12 +22,38 @@ bytesTally n = record { textures = 0; brushes = 0; nodes = 0; meshes = 0; vertic
 -- TEXS of n textures: header; for each the zero of a text, seven words. None without a texture
 unfoldable pub texsOf : ℕ → Tally
 texsOf zero = noTally
-texsOf (suc n) = record { textures = suc n; brushes = 0; nodes = 0; meshes = 0; vertices = 0; sets = 0; triangles = 0; weights = 0; lists = 0; keys = 0; copy = 8 + suc n * 29 }
+texsOf (suc n) =
+    record {
+      textures = suc n;
+      brushes = 0;
+      nodes = 0;
+      meshes = 0;
+      vertices = 0;
+      sets = 0;
+      triangles = 0;
+      weights = 0;
+      lists = 0;
+      keys = 0;
+      copy = 8 + suc n * 29;
+    }
 
 -- BRUS of n brushes: header, n_texs; for each the zero of a text, seven words, `slots` ids. None without a brush
 unfoldable pub brusOf : ℕ → ℕ → Tally
 brusOf slots zero = noTally
-brusOf slots (suc n) = record { textures = 0; brushes = suc n; nodes = 0; meshes = 0; vertices = 0; sets = 0; triangles = 0; weights = 0; lists = 0; keys = 0; copy = 12 + suc n * (29 + 4 * slots) }
+brusOf slots (suc n) =
+    record {
+      textures = 0;
+      brushes = suc n;
+      nodes = 0;
+      meshes = 0;
+      vertices = 0;
+      sets = 0;
+      triangles = 0;
+      weights = 0;
+      lists = 0;
+      keys = 0;
+      copy = 12 + suc n * (29 + 4 * slots);
+    }
 
 -- NODE without the chunks inside it: header, the zero of a text, ten words
 unfoldable pub headTally : Tally
@@ -35,23 +61,64 @@ headTally = record { textures = 0; brushes = 0; nodes = 1; meshes = 0; vertices 
 
 -- MESH without its TRIS: header, brush; VRTS: header, three numbers, n vertices of `words` words
 unfoldable pub verticesTally : ℕ → ℕ → Tally
-verticesTally n words = record { textures = 0; brushes = 0; nodes = 0; meshes = 1; vertices = n; sets = 0; triangles = 0; weights = 0; lists = 0; keys = 0; copy = 32 + n * (4 * words) }
+verticesTally n words =
+    record {
+      textures = 0;
+      brushes = 0;
+      nodes = 0;
+      meshes = 1;
+      vertices = n;
+      sets = 0;
+      triangles = 0;
+      weights = 0;
+      lists = 0;
+      keys = 0;
+      copy = 32 + n * (4 * words);
+    }
 
 -- TRIS of n triangles: header, brush, three words a triangle
 unfoldable pub trianglesTally : ℕ → Tally
-trianglesTally n = record { textures = 0; brushes = 0; nodes = 0; meshes = 0; vertices = 0; sets = 1; triangles = n; weights = 0; lists = 0; keys = 0; copy = 12 + n * 12 }
+trianglesTally n =
+    record { textures = 0; brushes = 0; nodes = 0; meshes = 0; vertices = 0; sets = 1; triangles = n; weights = 0; lists = 0; keys = 0; copy = 12 + n * 12 }
 
 -- BONE of n weights: header, two words a weight
 unfoldable pub weightsTally : ℕ → Tally
-weightsTally n = record { textures = 0; brushes = 0; nodes = 0; meshes = 0; vertices = 0; sets = 0; triangles = 0; weights = n; lists = 0; keys = 0; copy = 8 + n * 8 }
+weightsTally n =
+    record { textures = 0; brushes = 0; nodes = 0; meshes = 0; vertices = 0; sets = 0; triangles = 0; weights = n; lists = 0; keys = 0; copy = 8 + n * 8 }
 
 -- KEYS of n keys: header, flags, `words` words a key
 unfoldable pub keysTally : ℕ → ℕ → Tally
-keysTally n words = record { textures = 0; brushes = 0; nodes = 0; meshes = 0; vertices = 0; sets = 0; triangles = 0; weights = 0; lists = 1; keys = n; copy = 12 + n * (4 * words) }
+keysTally n words =
+    record {
+      textures = 0;
+      brushes = 0;
+      nodes = 0;
+      meshes = 0;
+      vertices = 0;
+      sets = 0;
+      triangles = 0;
+      weights = 0;
+      lists = 1;
+      keys = n;
+      copy = 12 + n * (4 * words);
+    }
 
 -- the sum of the tallies a and b, count by count
 unfoldable pub plus : Tally → Tally → Tally
-plus a b = record { textures = a .textures + b .textures; brushes = a .brushes + b .brushes; nodes = a .nodes + b .nodes; meshes = a .meshes + b .meshes; vertices = a .vertices + b .vertices; sets = a .sets + b .sets; triangles = a .triangles + b .triangles; weights = a .weights + b .weights; lists = a .lists + b .lists; keys = a .keys + b .keys; copy = a .copy + b .copy }
+plus a b =
+    record {
+      textures = a .textures + b .textures;
+      brushes = a .brushes + b .brushes;
+      nodes = a .nodes + b .nodes;
+      meshes = a .meshes + b .meshes;
+      vertices = a .vertices + b .vertices;
+      sets = a .sets + b .sets;
+      triangles = a .triangles + b .triangles;
+      weights = a .weights + b .weights;
+      lists = a .lists + b .lists;
+      keys = a .keys + b .keys;
+      copy = a .copy + b .copy;
+    }
 
 -- ---- tallies of the parts of a scene
 

@@ -39,7 +39,8 @@ answerBy (Bad n p) = record { number = n; place = p; version = 0; «n_texs» = 0
 
 -- the answer a with its numbers in 32 bits
 abbrev pub wordAnswer : Answer → Answer
-wordAnswer a = record { number = a .number; place = asWord (a .place); version = asWord (a .version); «n_texs» = asWord (a .«n_texs»); counts = map asWord (a .counts) }
+wordAnswer a =
+    record { number = a .number; place = asWord (a .place); version = asWord (a .version); «n_texs» = asWord (a .«n_texs»); counts = map asWord (a .counts) }
 
 -- r is what the machine has come to, by what is held
 pub record EndIs (held : Now) (r : Closing) : Type 0 where

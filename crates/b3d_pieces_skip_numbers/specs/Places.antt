@@ -87,7 +87,8 @@ pub record Sound (last : ℕ) (x : RowPlace) : Type 0 where
 -- the bytes of the piece p from the place x to the place r were taken
 pub record Advanced (p : List ℕ) (last : ℕ) (q : RowRules) (x r : RowPlace) : Type 0 where
   -- the machine comes from x to r over these bytes, in every row of which q is right
-  pub is : (fixed : Bool) (g : Totals) (f : Open) → RulesAre q fixed g f → (R : List Open) → run (rowAt fixed g f x R) (slice (x .from) (r .from) p) ≡ rowAt fixed g f r R
+  pub is : (fixed : Bool) (g : Totals) (f : Open) → RulesAre q fixed g f → (R : List Open)
+      → run (rowAt fixed g f x R) (slice (x .from) (r .from) p) ≡ rowAt fixed g f r R
   -- r is not before x
   pub ahead : x .from ≤ r .from
   -- what holds of a place holds of r

@@ -150,7 +150,17 @@ headed t k g = versioned (is t BB3D) (k .first) g
 
 -- the rows n with one more node; a node takes its row before anything inside it
 abbrev pub oneNode : Counts → Counts
-oneNode n = record { nodes = n .nodes + 1; meshes = n .meshes; vertices = n .vertices; sets = n .sets; triangles = n .triangles; weights = n .weights; lists = n .lists; keys = n .keys }
+oneNode n =
+    record {
+      nodes = n .nodes + 1;
+      meshes = n .meshes;
+      vertices = n .vertices;
+      sets = n .sets;
+      triangles = n .triangles;
+      weights = n .weights;
+      lists = n .lists;
+      keys = n .keys;
+    }
 
 -- the totals g with one more node, whose bone limit is what the node around it hands down
 abbrev pub oneMore : Totals → Totals
@@ -171,11 +181,61 @@ rowsAfter BB3D c n = n
 rowsAfter TEXS c n = n
 rowsAfter BRUS c n = n
 rowsAfter NODE c n = n
-rowsAfter MESH c n = record { nodes = n .nodes; meshes = n .meshes + 1; vertices = n .vertices; sets = n .sets; triangles = n .triangles; weights = n .weights; lists = n .lists; keys = n .keys }
-rowsAfter VRTS c n = record { nodes = n .nodes; meshes = n .meshes; vertices = n .vertices + c; sets = n .sets; triangles = n .triangles; weights = n .weights; lists = n .lists; keys = n .keys }
-rowsAfter TRIS c n = record { nodes = n .nodes; meshes = n .meshes; vertices = n .vertices; sets = n .sets + 1; triangles = n .triangles + c; weights = n .weights; lists = n .lists; keys = n .keys }
-rowsAfter BONE c n = record { nodes = n .nodes; meshes = n .meshes; vertices = n .vertices; sets = n .sets; triangles = n .triangles; weights = n .weights + c; lists = n .lists; keys = n .keys }
-rowsAfter KEYS c n = record { nodes = n .nodes; meshes = n .meshes; vertices = n .vertices; sets = n .sets; triangles = n .triangles; weights = n .weights; lists = n .lists + 1; keys = n .keys + c }
+rowsAfter MESH c n =
+    record {
+      nodes = n .nodes;
+      meshes = n .meshes + 1;
+      vertices = n .vertices;
+      sets = n .sets;
+      triangles = n .triangles;
+      weights = n .weights;
+      lists = n .lists;
+      keys = n .keys;
+    }
+rowsAfter VRTS c n =
+    record {
+      nodes = n .nodes;
+      meshes = n .meshes;
+      vertices = n .vertices + c;
+      sets = n .sets;
+      triangles = n .triangles;
+      weights = n .weights;
+      lists = n .lists;
+      keys = n .keys;
+    }
+rowsAfter TRIS c n =
+    record {
+      nodes = n .nodes;
+      meshes = n .meshes;
+      vertices = n .vertices;
+      sets = n .sets + 1;
+      triangles = n .triangles + c;
+      weights = n .weights;
+      lists = n .lists;
+      keys = n .keys;
+    }
+rowsAfter BONE c n =
+    record {
+      nodes = n .nodes;
+      meshes = n .meshes;
+      vertices = n .vertices;
+      sets = n .sets;
+      triangles = n .triangles;
+      weights = n .weights + c;
+      lists = n .lists;
+      keys = n .keys;
+    }
+rowsAfter KEYS c n =
+    record {
+      nodes = n .nodes;
+      meshes = n .meshes;
+      vertices = n .vertices;
+      sets = n .sets;
+      triangles = n .triangles;
+      weights = n .weights;
+      lists = n .lists + 1;
+      keys = n .keys + c;
+    }
 rowsAfter ANIM c n = n
 
 -- the totals g after a NODE with the bone limit `told`: the node around it hands that limit down again

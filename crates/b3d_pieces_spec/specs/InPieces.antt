@@ -50,7 +50,8 @@ pub record Refuses (lent : ℕ) (p : Pieces) (n k : ℕ) : Type 0 where
 pub record InPieces : Type 0 where
   -- from a fresh state, after any pieces, a piece of no bytes among them: the close gives what the reader, lent ample tables, would say of all bytes
   -- that were taken, joined: number, place, version, n_texs and counts
-  pub same : (l : List (ℕ × List ℕ)) (lent : ℕ) → records ≤ lent → (room : ℕ → ℕ) → Ample room → closeAnswer lent (calls freshPieces l) ≡ readAnswer Strict room (taken l)
+  pub same : (l : List (ℕ × List ℕ)) (lent : ℕ) → records ≤ lent → (room : ℕ → ℕ) → Ample room
+      → closeAnswer lent (calls freshPieces l) ≡ readAnswer Strict room (taken l)
   -- all bytes were taken if each call was lent enough records
   pub all : (l : List (ℕ × List ℕ)) → All (λ (c : ℕ × List ℕ). records ≤ c .0) l → taken l ≡ joined l
   -- until then a piece answers only that it was taken

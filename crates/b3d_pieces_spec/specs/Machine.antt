@@ -38,15 +38,18 @@ fresh t head e level told = record { tag = t; head = head; end = e; turn = 0; sp
 
 -- the chunk f with the fixed data k
 abbrev pub numbered : Open → Kept → Open
-numbered f k = record { tag = f .tag; head = f .head; end = f .end; turn = f .turn; spent = f .spent; level = f .level; kept = k; count = f .count; told = f .told }
+numbered f k =
+    record { tag = f .tag; head = f .head; end = f .end; turn = f .turn; spent = f .spent; level = f .level; kept = k; count = f .count; told = f .told }
 
 -- the chunk f with c items
 abbrev pub counting : Open → ℕ → Open
-counting f c = record { tag = f .tag; head = f .head; end = f .end; turn = f .turn; spent = f .spent; level = f .level; kept = f .kept; count = c; told = f .told }
+counting f c =
+    record { tag = f .tag; head = f .head; end = f .end; turn = f .turn; spent = f .spent; level = f .level; kept = f .kept; count = c; told = f .told }
 
 -- the chunk f after a chunk inside it that brings the nesting rule to r
 abbrev pub reaching : Open → Reached → Open
-reaching f r = record { tag = f .tag; head = f .head; end = f .end; turn = r .turn; spent = r .spent; level = f .level; kept = f .kept; count = f .count; told = f .told }
+reaching f r =
+    record { tag = f .tag; head = f .head; end = f .end; turn = r .turn; spent = r .spent; level = f .level; kept = f .kept; count = f .count; told = f .told }
 
 -- how far the nesting rule has come inside f
 abbrev pub reachedBy : Open → Reached

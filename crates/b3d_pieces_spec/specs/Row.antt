@@ -46,7 +46,8 @@ openOf a b c d e f g h i j k =
 -- the open chunk whose record begins at word p of the row; words past the row's end are 0
 abbrev pub openFrom : List ℕ → ℕ → Open
 openFrom row p =
-    openOf (getD row p 0) (getD row (p + 1) 0) (getD row (p + 2) 0) (getD row (p + 3) 0) (getD row (p + 4) 0) (getD row (p + 5) 0) (getD row (p + 6) 0) (getD row (p + 7) 0) (getD row (p + 8) 0) (getD row (p + 9) 0) (getD row (p + 10) 0)
+    openOf (getD row p 0) (getD row (p + 1) 0) (getD row (p + 2) 0) (getD row (p + 3) 0) (getD row (p + 4) 0) (getD row (p + 5) 0) (getD row (p + 6) 0)
+    (getD row (p + 7) 0) (getD row (p + 8) 0) (getD row (p + 9) 0) (getD row (p + 10) 0)
 
 -- the open chunk whose record is number i of the row
 unfoldable pub openAt : List ℕ → ℕ → Open

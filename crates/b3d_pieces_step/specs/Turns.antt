@@ -73,7 +73,8 @@ pub record TurnIs (now : Now) (n : ℕ) (rec : Open) (b : ℕ) (r : Turned) : Ty
   -- for all rows before and after it, r stands for the machine's state then
   pub is : (rs rs′ : ℕ → Open) → Rows rs rs′ n rec r → stateWith (stackBy rs′ (r .depth)) (r .now) ≡ afterTurn (pends now) (stateWith (stackBy rs n) now) b
   -- the machine's invariant is kept
-  pub good : (rs rs′ : ℕ → Open) → Rows rs rs′ n rec r → (k : ℕ) → GoodNow k (stackBy rs n) now → GoodNow (k + taken (pends now)) (stackBy rs′ (r .depth)) (r .now)
+  pub good : (rs rs′ : ℕ → Open) → Rows rs rs′ n rec r → (k : ℕ) → GoodNow k (stackBy rs n) now
+      → GoodNow (k + taken (pends now)) (stackBy rs′ (r .depth)) (r .now)
   -- while chunks are to be entered or left, fewer turns without a byte may follow than before
   pub less : pends now ≡ true → pendOf (r .now) (r .depth) < pendOf now n
   -- the record is written within 19 records

@@ -75,7 +75,8 @@ pub record PieceIs {S R : Type 0} (h : Holding S R) (st : S) (row : R) (s : List
   pub taken : lentRecords ≤ h .count row → h .judge st .shut ≡ false → CanRun (h .judge st) (h .count row) (h .at row)
       → (said ≡ 0) × (at ≡ 0) × RunIs (h .judge st) (h .at row) s (h .judge next) (h .count after) (h .at after)
   -- another state or row: 15 at place 0
-  pub other : lentRecords ≤ h .count row → h .judge st .shut ≡ false → (CanRun (h .judge st) (h .count row) (h .at row) → ⊥) → RefusedAt refusals.closed 0 st row said at next after
+  pub other : lentRecords ≤ h .count row → h .judge st .shut ≡ false → (CanRun (h .judge st) (h .count row) (h .at row) → ⊥)
+      → RefusedAt refusals.closed 0 st row said at next after
 
 -- what the judge holds, j, after the close
 abbrev pub shutting : Judge → Judge
@@ -98,21 +99,25 @@ pub record CloseIs {S R : Type 0} (h : Holding S R) (st : S) (row : R) (a : Answ
   pub taken : lentRecords ≤ h .count row → h .judge st .shut ≡ false → CanRun (h .judge st) (h .count row) (h .at row)
       → (a ≡ wordAnswer (answerBy (closingOf (closing (heldOf (h .judge st) (h .at row)))))) × (h .judge next ≡ shutting (h .judge st))
   -- another state or row: 15 at place 0
-  pub other : lentRecords ≤ h .count row → h .judge st .shut ≡ false → (CanRun (h .judge st) (h .count row) (h .at row) → ⊥) → NotClosed refusals.closed 0 st a next
+  pub other : lentRecords ≤ h .count row → h .judge st .shut ≡ false → (CanRun (h .judge st) (h .count row) (h .at row) → ⊥)
+      → NotClosed refusals.closed 0 st a next
 
 -- calls of pieces one after the other, each with state and row as the last left them
 pub data Called {S R : Type 0} (h : Holding S R) : S → R → List (ℕ × List ℕ) → S → R → Type 0 where
   -- no call
   done : {st : S} {row : R} → Called h st row [] st row
   -- a call with the row as the last call left it
-  call : {st st′ : S} {row row′ : R} {l : List (ℕ × List ℕ)} (s : List ℕ) (said at : ℕ) (next : S) (after : R) → PieceIs h st row s said at next after → Called h next after l st′ row′ → Called h st row ((h .count row, s) ∷ l) st′ row′
+  call : {st st′ : S} {row row′ : R} {l : List (ℕ × List ℕ)} (s : List ℕ) (said at : ℕ) (next : S) (after : R) → PieceIs h st row s said at next after
+      → Called h next after l st′ row′ → Called h st row ((h .count row, s) ∷ l) st′ row′
   -- a call that is lent another row of fewer than 19 records; the next call gets the row as it was
-  short : {st st′ : S} {row row′ : R} {l : List (ℕ × List ℕ)} (few : R) (s : List ℕ) (said at : ℕ) (next : S) (after : R) → h .count few < lentRecords → PieceIs h st few s said at next after → Called h next row l st′ row′
+  short : {st st′ : S} {row row′ : R} {l : List (ℕ × List ℕ)} (few : R) (s : List ℕ) (said at : ℕ) (next : S) (after : R) → h .count few < lentRecords
+      → PieceIs h st few s said at next after → Called h next row l st′ row′
       → Called h st row ((h .count few, s) ∷ l) st′ row′
 
 -- E6, said of calls
 pub record JudgedInCalls {S R : Type 0} (h : Holding S R) : Type 0 where
   -- from a fresh state and any row of 19 records, after any calls of pieces, the close answers what the reader, lent ample tables, says of all bytes that
   -- were taken, joined
-  pub says : (st st′ : S) (row row′ : R) (l : List (ℕ × List ℕ)) (a : Answer) (next : S) → Fresh (h .judge st) → lentRecords ≤ h .count row → Called h st row l st′ row′ → CloseIs h st′ row′ a next
+  pub says : (st st′ : S) (row row′ : R) (l : List (ℕ × List ℕ)) (a : Answer) (next : S) → Fresh (h .judge st) → lentRecords ≤ h .count row
+      → Called h st row l st′ row′ → CloseIs h st′ row′ a next
       → AllBytes (taken l) → (room : ℕ → ℕ) → Ample room → a ≡ readAnswer Strict room (taken l)

@@ -108,7 +108,8 @@ pub fn store_group(
     base: usize,
     out: &mut [u32],
 ) -> usize
-    requires { ⌜ Inside body (length (now file)) × (length (now file) < 0x100000000) × (owner < 0x100000000) × (first < 0x100000000) × (base + 4 ≤ length (now out)) ⌝ }
+    requires { ⌜ Inside body (length (now file)) × (length (now file) < 0x100000000) × (owner < 0x100000000) × (first < 0x100000000)
+        × (base + 4 ≤ length (now out)) ⌝ }
     ensures { λ r. ⌜ (r ≡ length (groupItems keys (left body (now (file .entry)))))
         × (now (out .exit) ≡ stored (now (out .entry)) base (groupRow keys owner first (left body (now (file .entry))))) ⌝ }
 {

@@ -43,8 +43,10 @@ pub fn fill_keys(
     base: usize,
     out: &mut [u32],
 )
-    requires { ⌜ Inside c (length (now file)) × (words ≡ ones (keyMask flags)) × (words ≤ keyWidth) × (c .at + count * (4 * words) ≤ c .end) × (base + count * keyWidth ≤ length (now out)) ⌝ }
-    ensures { λ _. ⌜ now (out .exit) ≡ stored (now (out .entry)) base (joined (map (padded (keyMask flags)) (itemsOf count words (left c (now (file .entry)))))) ⌝ }
+    requires { ⌜ Inside c (length (now file)) × (words ≡ ones (keyMask flags)) × (words ≤ keyWidth) × (c .at + count * (4 * words) ≤ c .end)
+        × (base + count * keyWidth ≤ length (now out)) ⌝ }
+    ensures { λ _. ⌜ now (out .exit) ≡ stored (now (out .entry)) base
+        (joined (map (padded (keyMask flags)) (itemsOf count words (left c (now (file .entry)))))) ⌝ }
 {
     let position = wire::size(flags % 2 * 3);
     let scale = wire::size(flags / 2 % 2 * 3);

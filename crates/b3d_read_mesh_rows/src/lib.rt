@@ -94,7 +94,8 @@ pub fn store_mesh(
     base: usize,
     out: &mut [u32],
 ) -> Added
-    requires { ⌜ BodyAt (now file) p body × (length (now file) < 0x100000000) × (node < 0x100000000) × (vertices < 0x100000000) × (sets < 0x100000000) × (base + 9 ≤ length (now out)) ⌝ }
+    requires { ⌜ BodyAt (now file) p body × (length (now file) < 0x100000000) × (node < 0x100000000) × (vertices < 0x100000000) × (sets < 0x100000000)
+        × (base + 9 ≤ length (now out)) ⌝ }
     ensures { λ r. ⌜ MeshPut (now (file .entry)) p body node vertices sets base (now (out .entry)) (now (out .exit)) r ⌝ }
 {
     let head = b3d_chunk_walk::first_word(file, body);

@@ -65,7 +65,8 @@ fn put_one(
 
 // Stores the rows of tables 4 to 7 of `file` in `t4` to `t7`. The cells behind them stay as they were.
 pub fn store_meshes(file: &[u8], t4: &mut [u32], t5: &mut [u32], t6: &mut [u32], t7: &mut [u32])
-    requires { ⌜ (length (now file) < 0x100000000) × (length (joined (fileRows 4 (now file))) ≤ length (now t4)) × (length (joined (fileRows 5 (now file))) ≤ length (now t5))
+    requires { ⌜ (length (now file) < 0x100000000) × (length (joined (fileRows 4 (now file))) ≤ length (now t4))
+        × (length (joined (fileRows 5 (now file))) ≤ length (now t5))
         × (length (joined (fileRows 6 (now file))) ≤ length (now t6)) × (length (joined (fileRows 7 (now file))) ≤ length (now t7)) ⌝ }
     ensures { λ _. ⌜ (now (t4 .exit) ≡ stored (now (t4 .entry)) 0 (joined (fileRows 4 (now (file .entry)))))
         × (now (t5 .exit) ≡ stored (now (t5 .entry)) 0 (joined (fileRows 5 (now (file .entry)))))

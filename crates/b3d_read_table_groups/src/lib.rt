@@ -8,7 +8,8 @@ ghost use Rattle.b3d_spec_plain_rows.specs.Rows.{fileRows};
 
 // Stores the rows of table `k` (1, 2 or 3) of `file`, which has `rows` rows, in `out`. The cells behind them stay as they were.
 pub fn one_table(file: &[u8], k: usize, rows: u32, out: &mut [u32])
-    requires { ⌜ (1 ≤ k) × (k ≤ 3) × (length (now file) < 0x100000000) × (rows ≡ length (fileRows k (now file))) × (length (joined (fileRows k (now file))) ≤ length (now out)) ⌝ }
+    requires { ⌜ (1 ≤ k) × (k ≤ 3) × (length (now file) < 0x100000000) × (rows ≡ length (fileRows k (now file)))
+        × (length (joined (fileRows k (now file))) ≤ length (now out)) ⌝ }
     ensures { λ _. ⌜ now (out .exit) ≡ stored (now (out .entry)) 0 (joined (fileRows k (now (file .entry)))) ⌝ }
 {
     if rows == 0 {
@@ -51,7 +52,8 @@ pub fn meshes(
 // cells behind the rows stay as they were.
 pub fn moves(file: &[u8], weights: u32, lists: u32, t8: &mut [u32], t9: &mut [u32], t10: &mut [u32])
     requires { ⌜ (length (now file) < 0x100000000) × (weights ≡ length (fileRows 8 (now file))) × (lists ≡ length (fileRows 9 (now file)))
-        × (length (joined (fileRows 8 (now file))) ≤ length (now t8)) × (length (joined (fileRows 9 (now file))) ≤ length (now t9)) × (length (joined (fileRows 10 (now file))) ≤ length (now t10)) ⌝ }
+        × (length (joined (fileRows 8 (now file))) ≤ length (now t8)) × (length (joined (fileRows 9 (now file))) ≤ length (now t9))
+        × (length (joined (fileRows 10 (now file))) ≤ length (now t10)) ⌝ }
     ensures { λ _. ⌜ (now (t8 .exit) ≡ stored (now (t8 .entry)) 0 (joined (fileRows 8 (now (file .entry)))))
         × (now (t9 .exit) ≡ stored (now (t9 .entry)) 0 (joined (fileRows 9 (now (file .entry)))))
         × (now (t10 .exit) ≡ stored (now (t10 .entry)) 0 (joined (fileRows 10 (now (file .entry))))) ⌝ }

@@ -49,7 +49,8 @@ pub fn put_sets(
     base: usize,
     out: &mut [u32],
 ) -> After
-    requires { ⌜ BodyAt (now file) p body × (length (now file) < 0x100000000) × (mesh < 0x100000000) × (first ≤ p) × (base ≤ 4 * p) × (base + length (joined (setsIn p (left body (now file)) mesh first)) ≤ length (now out)) ⌝ }
+    requires { ⌜ BodyAt (now file) p body × (length (now file) < 0x100000000) × (mesh < 0x100000000) × (first ≤ p) × (base ≤ 4 * p)
+        × (base + length (joined (setsIn p (left body (now file)) mesh first)) ≤ length (now out)) ⌝ }
     ensures { λ r. ⌜ SetsPut (now (file .entry)) p body mesh first base (now (out .entry)) (now (out .exit)) r ⌝ }
 {
     let head = b3d_chunk_walk::first_word(file, body);

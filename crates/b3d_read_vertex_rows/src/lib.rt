@@ -62,7 +62,8 @@ fn store_vertex(
     base: usize,
     out: &mut [u32],
 )
-    requires { ⌜ (a ≤ 3) × (b ≤ 4) × (size ≤ largestSet) × (sets ≤ mostSets) × (at + 4 * (3 + a + b + sets * size) ≤ length (now file)) × (base + vertexWidth ≤ length (now out)) ⌝ }
+    requires { ⌜ (a ≤ 3) × (b ≤ 4) × (size ≤ largestSet) × (sets ≤ mostSets) × (at + 4 * (3 + a + b + sets * size) ≤ length (now file))
+        × (base + vertexWidth ≤ length (now out)) ⌝ }
     ensures { λ _. ⌜ now (out .exit) ≡ stored (now (out .entry)) base (vertexAt a b sets size (now (file .entry)) at) ⌝ }
 {
     b3d_read_row_runs::put_three(file, at, 3, base, out);
@@ -90,9 +91,11 @@ pub fn fill_vertices(
     base: usize,
     out: &mut [u32],
 )
-    requires { ⌜ Inside c (length (now file)) × (c .at + count * (4 * vertexWords flags sets size) ≤ c .end) × (base + count * vertexWidth ≤ length (now out)) ⌝ }
+    requires { ⌜ Inside c (length (now file)) × (c .at + count * (4 * vertexWords flags sets size) ≤ c .end)
+        × (base + count * vertexWidth ≤ length (now out)) ⌝ }
     requires { ⌜ (flags ≤ highestVertexFlags) × (sets ≤ mostSets) × (size ≤ largestSet) ⌝ }
-    ensures { λ _. ⌜ now (out .exit) ≡ stored (now (out .entry)) base (joined (map (padded (vertexMask flags sets size)) (itemsOf count (vertexWords flags sets size) (left c (now (file .entry)))))) ⌝ }
+    ensures { λ _. ⌜ now (out .exit) ≡ stored (now (out .entry)) base
+        (joined (map (padded (vertexMask flags sets size)) (itemsOf count (vertexWords flags sets size) (left c (now (file .entry)))))) ⌝ }
 {
     let a = wire::size(flags % 2 * 3);
     let b = wire::size(flags / 2 % 2 * 4);

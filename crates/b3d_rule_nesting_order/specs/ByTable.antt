@@ -36,7 +36,8 @@ missingBefore k q turn = requiredIn (rowAt (tagNumber k)) (q .turn) turn
 pub record ByTable : Type 0 where
   -- a chunk stands there, or is refused with 4 at its header
   pub four : (k : Tag) (head : ℕ) (q : Reached) (t : Tag) (p : ℕ) (b : List ℕ) (l : Chunks)
-      → order k head q (chunk t p b l) ≡ if (permittedBy (missingBefore k q ((entryOf k t) .turn)) q (entryOf k t)) (chunk t p b (order k head (afterBy q (entryOf k t)) l)) (stop refusals.nesting p)
+      → order k head q (chunk t p b l) ≡ if (permittedBy (missingBefore k q ((entryOf k t) .turn)) q (entryOf k t))
+      (chunk t p b (order k head (afterBy q (entryOf k t)) l)) (stop refusals.nesting p)
   -- the chunks may end there, or 8 is given at the header of the chunk that encloses them
   pub eight : (k : Tag) (head : ℕ) (q : Reached) → order k head q done ≡ if (missingBefore k q end) (stop refusals.noVrtsOrTris head) done
   -- 3 comes before both: where the splitting into chunks was stopped, it stays so

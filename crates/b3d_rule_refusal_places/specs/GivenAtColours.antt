@@ -46,7 +46,8 @@ BrushColour s h p = ColourIn (BrushTo s (wordAt s (h + 8)) (endOf s h)) (7 + wor
 -- p is the place of a colour of a vertex from place q on, in a VRTS with these flags, sets and set size that ends at `last`: behind the position and, if flag
 -- 1, the normal; only if flag 2
 abbrev pub VertexColours : ℕ → ℕ → ℕ → ℕ → ℕ → ℕ → Type 0
-VertexColours flags sets size last p q = ColourIn (VertexTo (vertexWords flags sets size) last) (vertexWords flags sets size) (3 + when 1 flags 3) (when 2 flags 4) p q
+VertexColours flags sets size last p q =
+    ColourIn (VertexTo (vertexWords flags sets size) last) (vertexWords flags sets size) (3 + when 1 flags 3) (when 2 flags 4) p q
 
 -- p is the place of a colour of a vertex in the VRTS whose header is at h
 abbrev pub VertexColour : List ℕ → ℕ → ℕ → Type 0
@@ -55,9 +56,11 @@ VertexColour s h p = VertexColours (wordAt s (h + 8)) (wordAt s (h + 12)) (wordA
 -- at place h stands a BRUS or a VRTS, which may stand there, and p is the place of one of its colours
 pub data HasColour (s : List ℕ) (p : ℕ) : Tag → ℕ → ℕ → ℕ → Reached → Type 0 where
   -- a BRUS, and a colour of a brush
-  brush : (k : Tag) (head h last : ℕ) (r : Reached) → endOf s h ≤ last → tagAt s h ≡ some BRUS → mayStand k r BRUS ≡ true → BrushColour s h p → HasColour s p k head h last r
+  brush : (k : Tag) (head h last : ℕ) (r : Reached) → endOf s h ≤ last → tagAt s h ≡ some BRUS → mayStand k r BRUS ≡ true → BrushColour s h p
+      → HasColour s p k head h last r
   -- a VRTS, and a colour of a vertex
-  vertex : (k : Tag) (head h last : ℕ) (r : Reached) → endOf s h ≤ last → tagAt s h ≡ some VRTS → mayStand k r VRTS ≡ true → VertexColour s h p → HasColour s p k head h last r
+  vertex : (k : Tag) (head h last : ℕ) (r : Reached) → endOf s h ≤ last → tagAt s h ≡ some VRTS → mayStand k r VRTS ≡ true → VertexColour s h p
+      → HasColour s p k head h last r
 
 -- p is the place of a colour somewhere in the file s
 abbrev pub Colour : List ℕ → ℕ → Type 0
@@ -66,10 +69,12 @@ Colour s p = InFile s (HasColour s p)
 -- E8: what the strict mode says of the colours of the file s
 pub record GivenAtColours (s : List ℕ) : Type 0 where
   -- a 6 that the lenient mode does not give is at a colour that does not pass
-  pub colour : (p : ℕ) → judge Strict s ≡ reject refusals.range p → (judge Lenient s ≡ reject refusals.range p → ⊥) → Colour s p × (holds unit (wordAt s p) ≡ false)
+  pub colour : (p : ℕ) → judge Strict s ≡ reject refusals.range p → (judge Lenient s ≡ reject refusals.range p → ⊥) → Colour s p
+      × (holds unit (wordAt s p) ≡ false)
   -- each colour at a lower place than a 6 passes
   pub first : (p q : ℕ) → judge Strict s ≡ reject refusals.range p → Colour s q → q < p → holds unit (wordAt s q) ≡ true
   -- a colour that does not pass is refused with 6 at its place, unless another refusal comes sooner
-  pub given : (p : ℕ) → Colour s p → holds unit (wordAt s p) ≡ false → (judge Strict s ≡ reject refusals.range p) ⊎ ((i : ℕ) × (q : ℕ) × (judge Strict s ≡ reject i q) × Sooner p i q)
+  pub given : (p : ℕ) → Colour s p → holds unit (wordAt s p) ≡ false → (judge Strict s ≡ reject refusals.range p)
+      ⊎ ((i : ℕ) × (q : ℕ) × (judge Strict s ≡ reject i q) × Sooner p i q)
   -- 10 is never given for a file with a colour that does not pass
   pub before-ten : (p q : ℕ) → Colour s p → holds unit (wordAt s p) ≡ false → judge Strict s ≡ reject refusals.tooManyRows q → ⊥

@@ -29,7 +29,13 @@ module _ (f : Name → Name) where
   -- scene t with each name changed
   unfoldable pub rename : Scene → Scene
   rename t =
-      record { version = t .version; textures = map renameTexture (t .textures); slots = t .slots; brushes = map renameBrush (t .brushes); nodes = renameForest (t .nodes) }
+      record {
+        version = t .version;
+        textures = map renameTexture (t .textures);
+        slots = t .slots;
+        brushes = map renameBrush (t .brushes);
+        nodes = renameForest (t .nodes);
+      }
 
 -- name n with its place left out
 abbrev pub bareName : Name → Name

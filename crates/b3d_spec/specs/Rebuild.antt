@@ -59,7 +59,9 @@ brushFrom ns slots x = record { name = nameFrom ns x; words = take 7 (drop colum
 -- the triangle sets of the rows xs, their triangles being the first of ts
 unfoldable pub setsFrom : List (List ℕ) → List (List ℕ) → List TriangleSet
 setsFrom [] ts = []
-setsFrom (x ∷ xs) ts = record { brush = getD x columns.triangleSetBrush 0; triangles = take (getD x columns.triangleSetTriangles 0) ts } ∷ setsFrom xs (drop (getD x columns.triangleSetTriangles 0) ts)
+setsFrom (x ∷ xs) ts =
+    record { brush = getD x columns.triangleSetBrush 0; triangles = take (getD x columns.triangleSetTriangles 0) ts } ∷ setsFrom xs
+    (drop (getD x columns.triangleSetTriangles 0) ts)
 
 -- the mesh of row x, its vertices, triangle sets and triangles being the first of vs, ss and ts
 unfoldable pub meshFrom : List ℕ → List (List ℕ) → List (List ℕ) → List (List ℕ) → Mesh
@@ -69,7 +71,8 @@ meshFrom x vs ss ts =
       flags = getD x columns.meshFlags 0;
       sets = getD x columns.meshSets 0;
       size = getD x columns.meshSetSize 0;
-      vertices = map (presentWords (vertexMask (getD x columns.meshFlags 0) (getD x columns.meshSets 0) (getD x columns.meshSetSize 0))) (take (getD x columns.meshVertices 0) vs);
+      vertices = map (presentWords (vertexMask (getD x columns.meshFlags 0) (getD x columns.meshSets 0) (getD x columns.meshSetSize 0)))
+          (take (getD x columns.meshVertices 0) vs);
       triangleSets = setsFrom (take (getD x columns.meshTriangleSets 0) ss) ts;
     }
 
@@ -84,7 +87,11 @@ ownedBy i (x ∷ xs) =
 unfoldable pub keysFrom : List (List ℕ) → List (List ℕ) → List Keys
 keysFrom [] ks = []
 keysFrom (x ∷ xs) ks =
-    record { flags = getD x columns.keyListFlags 0; items = map (presentWords (keyMask (getD x columns.keyListFlags 0))) (take (getD x columns.keyListKeys 0) ks) } ∷ keysFrom xs (drop (getD x columns.keyListKeys 0) ks)
+    record {
+      flags = getD x columns.keyListFlags 0;
+      items = map (presentWords (keyMask (getD x columns.keyListFlags 0))) (take (getD x columns.keyListKeys 0) ks);
+    } ∷ keysFrom xs
+    (drop (getD x columns.keyListKeys 0) ks)
 
 -- the ANIM of the cells x, ANIM present and 3 values; none unless the first is 1
 unfoldable pub animFrom : List ℕ → Anim

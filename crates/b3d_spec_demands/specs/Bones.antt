@@ -76,6 +76,7 @@ pub record Bone (R : Rows) (r i : ℕ) : Type 0 where
 -- E3, in the tables of a file s that a mode accepts
 pub record BonesNearest (mode : Mode) (s : List ℕ) : Type 0 where
   -- each weight of each bone names a vertex of the MESH of the nearest node above with an ANIM, else of the root's
-  pub bones : (t : Scene) → judge mode s ≡ accept t → (r : ℕ) → r < length (rows 3 t) → kindOf (rows 3 t) r ≡ 2 → (i : ℕ) → i < countOf (rows 3 t) r → Bone (λ k. rows k t) r i
+  pub bones : (t : Scene) → judge mode s ≡ accept t → (r : ℕ) → r < length (rows 3 t) → kindOf (rows 3 t) r ≡ 2 → (i : ℕ) → i < countOf (rows 3 t) r
+      → Bone (λ k. rows k t) r i
   -- each row of the weights is a weight of some bone
   pub each : (t : Scene) → judge mode s ≡ accept t → (w : ℕ) → w < length (rows 8 t) → WeightOf (rows 3 t) w

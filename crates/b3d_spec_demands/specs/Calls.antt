@@ -82,7 +82,8 @@ pub record ClearerSays (s out : List ℕ) (a : Written) (after : List ℕ) : Typ
   -- 0: the file is accepted, and the output begins with its copy
   pub zero : a .number ≡ 0 → (a .place ≡ 0) × ((t : Scene) × (judge Lenient s ≡ accept t) × (take (a .size) after ≡ copy t))
   -- 0: the reader, lent at least the counted rows, reads the copy back with the file's words and each name empty
-  pub read-back : (t : Scene) → judge Lenient s ≡ accept t → a .number ≡ 0 → (ns : List ℕ) (xs : ℕ → List ℕ) → All (HasRoom (λ k. length (xs k)) t) tables → ReadBack Lenient (take (a .size) after) (emptied t) ns xs
+  pub read-back : (t : Scene) → judge Lenient s ≡ accept t → a .number ≡ 0 → (ns : List ℕ) (xs : ℕ → List ℕ) → All (HasRoom (λ k. length (xs k)) t) tables
+      → ReadBack Lenient (take (a .size) after) (emptied t) ns xs
   -- 11 only where the output is shorter than the copy of an accepted file; the place is the copy's length
   pub eleven : a .number ≡ refusals.tooShort → (t : Scene) × (judge Lenient s ≡ accept t) × (length out < length (copy t)) × (a .place ≡ length (copy t))
   -- 11 wherever the output is shorter than the copy of an accepted file
@@ -96,7 +97,8 @@ pub record ClearerSays (s out : List ℕ) (a : Written) (after : List ℕ) : Typ
   -- what 01 calls cleared again: the copy's bytes alone as the file, into another output as long, get the same answer
   pub again : (t : Scene) → judge Lenient s ≡ accept t → (out′ : List ℕ) → length out ≡ length out′ → clearAnswer (copy t) out′ ≡ a
   -- where it is not refused, the copy cleared again gives its own bytes
-  pub again-bytes : (t : Scene) → judge Lenient s ≡ accept t → (out′ : List ℕ) → length out ≡ length out′ → a .number ≡ 0 → take (a .size) (clearOutput (copy t) out′) ≡ copy t
+  pub again-bytes : (t : Scene) → judge Lenient s ≡ accept t → (out′ : List ℕ) → length out ≡ length out′ → a .number ≡ 0
+      → take (a .size) (clearOutput (copy t) out′) ≡ copy t
 
 -- what being alike says of two accepted files s and v
 pub record IsAlike (s v : List ℕ) (a : Alike s v) : Type 0 where
@@ -123,7 +125,8 @@ pub record OneCopy (s v out out′ : List ℕ) : Type 0 where
 -- exactly when the files are alike.
 pub record TellsApart (s v out out′ : List ℕ) : Type 0 where
   -- alike files have equal copies
-  pub equal : (t u : Scene) → judge Lenient s ≡ accept t → judge Lenient v ≡ accept u → length (copy t) ≤ length out → length (copy u) ≤ length out′ → Alike s v → copyIn s out ≡ copyIn v out′
+  pub equal : (t u : Scene) → judge Lenient s ≡ accept t → judge Lenient v ≡ accept u → length (copy t) ≤ length out → length (copy u) ≤ length out′ → Alike s v
+      → copyIn s out ≡ copyIn v out′
   -- files with equal copies are alike
   pub alike : (t u : Scene) → judge Lenient s ≡ accept t → judge Lenient v ≡ accept u → length (copy t) ≤ length out → length (copy u) ≤ length out′ → copyIn s out ≡ copyIn v out′ → Alike s v
 

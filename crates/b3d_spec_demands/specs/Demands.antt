@@ -55,13 +55,15 @@ pub record Reading (mode : Mode) (room : ℕ → ℕ) (s : List ℕ) : Type 0 wh
   -- each table then holds the file's own rows, and the words past the last row stay as found
   pub holds : (t : Scene) → read mode room s ≡ accept t → (k : ℕ) (xs : List ℕ) → readTable mode k room s xs ≡ over (table k t) xs
   -- the answer is 0 at place 0, the file's version, n_texs and ten row counts
-  pub says : (t : Scene) → read mode room s ≡ accept t → readAnswer mode room s ≡ record { number = 0; place = 0; version = t .version; «n_texs» = t .slots; counts = counts t }
+  pub says : (t : Scene) → read mode room s ≡ accept t
+      → readAnswer mode room s ≡ record { number = 0; place = 0; version = t .version; «n_texs» = t .slots; counts = counts t }
   -- each of its names stands in the file where the first two words of its row say
   pub names : AllBytes s → (t : Scene) → read mode room s ≡ accept t → All (λ k. All (NameAt s) (rows k t)) (1 ∷ 2 ∷ 3 ∷ [])
   -- a refusal changes no lent word
   pub untouched : (n p : ℕ) → read mode room s ≡ reject n p → (k : ℕ) (xs : List ℕ) → readTable mode k room s xs ≡ xs
   -- a refusal returns its number and place, with version, n_texs and counts all 0
-  pub refuses : (n p : ℕ) → read mode room s ≡ reject n p → readAnswer mode room s ≡ record { number = n; place = p; version = 0; «n_texs» = 0; counts = replicate 10 0 }
+  pub refuses : (n p : ℕ) → read mode room s ≡ reject n p
+      → readAnswer mode room s ≡ record { number = n; place = p; version = 0; «n_texs» = 0; counts = replicate 10 0 }
   -- 1 to 10 come first, whatever tables are lent
   pub first : (n p : ℕ) → judge mode s ≡ reject n p → read mode room s ≡ reject n p
   -- 10 is at the lowest table with more rows than the limit
@@ -78,7 +80,8 @@ pub record Writing (mode : Mode) (T : Lent) (ns : List ℕ) : Type 0 where
   -- the file written is accepted and has just those names and words
   pub reads-back : (room : ℕ) (b : List ℕ) → write mode T ns room ≡ accept b → Has mode b T ns
   -- the reader, lent at least the counted rows, reads it back
-  pub read-back : (room : ℕ) (b : List ℕ) (e : write mode T ns room ≡ accept b) (rooms : ℕ → ℕ) → All (λ k. width k * T .count k ≤ rooms k) tables → read mode rooms b ≡ accept (reads-back room b e .scene)
+  pub read-back : (room : ℕ) (b : List ℕ) (e : write mode T ns room ≡ accept b) (rooms : ℕ → ℕ) → All (λ k. width k * T .count k ≤ rooms k) tables
+      → read mode rooms b ≡ accept (reads-back room b e .scene)
   -- what is written are bytes
   pub bytes : (room : ℕ) (b : List ℕ) → write mode T ns room ≡ accept b → AllBytes b
   -- no file with those tables is shorter
@@ -99,7 +102,8 @@ pub record Colours (s : List ℕ) : Type 0 where
   -- a file that the lenient mode accepts, and each of whose colours passes, is accepted by the strict one
   pub taken : (t : Scene) → judge Lenient s ≡ accept t → T (passes Strict (λ k. rows k t)) → judge Strict s ≡ accept t
   -- if one of its colours does not pass, the strict mode refuses it with 6, at a number of the file that does not pass
-  pub refused : (t : Scene) → judge Lenient s ≡ accept t → T (not (passes Strict (λ k. rows k t))) → (p : ℕ) × (judge Strict s ≡ reject refusals.range p) × (keeps unit (wordAt s p) ≡ false)
+  pub refused : (t : Scene) → judge Lenient s ≡ accept t → T (not (passes Strict (λ k. rows k t))) → (p : ℕ) × (judge Strict s ≡ reject refusals.range p)
+      × (keeps unit (wordAt s p) ≡ false)
   -- each other refusal of the strict mode is the lenient one's
   pub others : (n p : ℕ) → judge Strict s ≡ reject n p → (judge Lenient s ≡ reject n p) ⊎ ((n ≡ refusals.range) × (keeps unit (wordAt s p) ≡ false))
 
@@ -133,7 +137,8 @@ pub record Clearing (s : List ℕ) : Type 0 where
   -- it is refused with 11, at the copy's length, where the output is shorter than the copy
   pub short : (t : Scene) → judge Lenient s ≡ accept t → (room : ℕ) → room < length (copy t) → clear s room ≡ reject refusals.tooShort (length (copy t))
   -- the copy is what the writer makes of the copy's words: those of the file with each name empty, wherever the names stand
-  pub as-written : (t : Scene) → judge Lenient s ≡ accept t → (T : Lent) (ns : List ℕ) → Has Lenient (copy t) T ns → (room : ℕ) → write Lenient T ns room ≡ clear s room
+  pub as-written : (t : Scene) → judge Lenient s ≡ accept t → (T : Lent) (ns : List ℕ) → Has Lenient (copy t) T ns → (room : ℕ)
+      → write Lenient T ns room ≡ clear s room
   -- the file's own tables with each name empty are such words, whatever bytes are lent for names
   pub emptied-has : (t : Scene) → judge Lenient s ≡ accept t → (ns : List ℕ) → Has Lenient (copy t) (emptied t) ns
   -- the copy is what the writer makes of the file's own tables with each name empty, whatever bytes are lent for names

@@ -51,7 +51,8 @@ pub data Without : Part → List ℕ → List ℕ → Type 0 where
   -- ANIM moved behind a KEYS that follows it, and on from there
   later : {q : List ℕ} (a b r : List ℕ) → Without (chunksIn NODE) (writeChunk ANIM a r) q → Without (chunksIn NODE) (writeChunk ANIM a (writeChunk KEYS b r)) (writeChunk KEYS b q)
   -- a passed-over chunk behind the ANIM that moves
-  passed-behind : {q : List ℕ} (a r : List ℕ) (n : ℕ) (b : List ℕ) → Unknown n → Without (chunksIn NODE) (writeChunk ANIM a r) q → Without (chunksIn NODE) (writeChunk ANIM a (passedOver n b r)) q
+  passed-behind : {q : List ℕ} (a r : List ℕ) (n : ℕ) (b : List ℕ) → Unknown n → Without (chunksIn NODE) (writeChunk ANIM a r) q
+      → Without (chunksIn NODE) (writeChunk ANIM a (passedOver n b r)) q
   -- TEXS without items
   no-texture : {r q : List ℕ} → Without (chunksIn BB3D) r q → Without (chunksIn BB3D) (writeChunk TEXS [] r) q
   -- BRUS without items, and its n_texs
@@ -68,7 +69,8 @@ pub data Without : Part → List ℕ → List ℕ → Type 0 where
   -- a BRUS's body with n_texs z, which stays: items with a text, 28 bytes and z ids
   brushes : {b c : List ℕ} (z : ℕ) → IsWord z → Without (itemsOf (28 + 4 * z)) b c → Without (bodyOf BRUS) (bytes z b) (bytes z c)
   -- an item: its name n becomes m, which is no longer; its other z bytes stay
-  item : {z : ℕ} {r q : List ℕ} (n m w : List ℕ) → IsName n → IsName m → length m ≤ length n → length w ≡ z → Without (itemsOf z) r q → Without (itemsOf z) (writeText n (w ++ r)) (writeText m (w ++ q))
+  item : {z : ℕ} {r q : List ℕ} (n m w : List ℕ) → IsName n → IsName m → length m ≤ length n → length w ≡ z → Without (itemsOf z) r q
+      → Without (itemsOf z) (writeText n (w ++ r)) (writeText m (w ++ q))
 
 -- v is the file s without some of what is private in it
 pub record FileWithout (s v : List ℕ) : Type 0 where
@@ -94,4 +96,5 @@ pub record KeptPrivate (s v : List ℕ) : Type 0 where
   -- they are alike
   pub alike : (w : List ℕ) → FileWithout s w → FileWithout v w → (t u : Scene) → judge Lenient s ≡ accept t → judge Lenient v ≡ accept u → Alike s v
   -- cleared into outputs of equal length, they get one answer and one copy
-  pub one-copy : (w : List ℕ) → FileWithout s w → FileWithout v w → (t u : Scene) → judge Lenient s ≡ accept t → judge Lenient v ≡ accept u → (out out′ : List ℕ) → length out ≡ length out′ → OneCopy s v out out′
+  pub one-copy : (w : List ℕ) → FileWithout s w → FileWithout v w → (t u : Scene) → judge Lenient s ≡ accept t → judge Lenient v ≡ accept u
+      → (out out′ : List ℕ) → length out ≡ length out′ → OneCopy s v out out′

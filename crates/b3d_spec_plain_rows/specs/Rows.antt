@@ -24,15 +24,45 @@ use Rattle.b3d_spec_plain_rows.specs.Flat.{rest, flat}
 
 -- the counts n and one more node
 unfoldable pub addNode : Counts → Counts
-addNode n = record { nodes = n .nodes + 1; meshes = n .meshes; vertices = n .vertices; sets = n .sets; triangles = n .triangles; weights = n .weights; lists = n .lists; keys = n .keys }
+addNode n =
+    record {
+      nodes = n .nodes + 1;
+      meshes = n .meshes;
+      vertices = n .vertices;
+      sets = n .sets;
+      triangles = n .triangles;
+      weights = n .weights;
+      lists = n .lists;
+      keys = n .keys;
+    }
 
 -- the counts n and the weights ws
 unfoldable pub addWeights : List (List ℕ) → Counts → Counts
-addWeights ws n = record { nodes = n .nodes; meshes = n .meshes; vertices = n .vertices; sets = n .sets; triangles = n .triangles; weights = n .weights + length ws; lists = n .lists; keys = n .keys }
+addWeights ws n =
+    record {
+      nodes = n .nodes;
+      meshes = n .meshes;
+      vertices = n .vertices;
+      sets = n .sets;
+      triangles = n .triangles;
+      weights = n .weights + length ws;
+      lists = n .lists;
+      keys = n .keys;
+    }
 
 -- the counts n and one more key list, with its keys
 unfoldable pub addKeys : Keys → Counts → Counts
-addKeys k n = record { nodes = n .nodes; meshes = n .meshes; vertices = n .vertices; sets = n .sets; triangles = n .triangles; weights = n .weights; lists = n .lists + 1; keys = n .keys + length (k .items) }
+addKeys k n =
+    record {
+      nodes = n .nodes;
+      meshes = n .meshes;
+      vertices = n .vertices;
+      sets = n .sets;
+      triangles = n .triangles;
+      weights = n .weights;
+      lists = n .lists + 1;
+      keys = n .keys + length (k .items);
+    }
 
 -- the counts n after a chunk of a tag, with header place p and body b
 abbrev pub counted : Tag → ℕ → List ℕ → Counts → Counts
@@ -51,7 +81,17 @@ counted ANIM p b n = n
 
 -- the counts n before the node that is being read: one node less
 unfoldable pub current : Counts → Counts
-current n = record { nodes = n .nodes - 1; meshes = n .meshes; vertices = n .vertices; sets = n .sets; triangles = n .triangles; weights = n .weights; lists = n .lists; keys = n .keys }
+current n =
+    record {
+      nodes = n .nodes - 1;
+      meshes = n .meshes;
+      vertices = n .vertices;
+      sets = n .sets;
+      triangles = n .triangles;
+      weights = n .weights;
+      lists = n .lists;
+      keys = n .keys;
+    }
 
 -- the rows of table k for the weights ws: themselves in table 8, none in others
 unfoldable pub weightRows : ℕ → List (List ℕ) → List (List ℕ)
@@ -118,7 +158,8 @@ nodesBefore e (chunk t p b r) = if (is t NODE) (if (leb e p) 0 (suc (nodesBefore
 
 -- a node's row by its text and ten numbers, the chunks cs behind them, its parent, its end and the counts n before it; empty where text or numbers are cut
 unfoldable pub rowOf : Result (Step (Name × List ℕ)) → Chunks → ℕ → ℕ → Counts → List ℕ
-rowOf (accept x) cs parent end n = nodeRow (record { name = x .value .0; words = x .value .1; kind = kindOf cs; keys = []; anim = animOf cs }) parent (nodesBefore end cs) n
+rowOf (accept x) cs parent end n =
+    nodeRow (record { name = x .value .0; words = x .value .1; kind = kindOf cs; keys = []; anim = animOf cs }) parent (nodesBefore end cs) n
 rowOf (reject i p) cs parent end n = []
 
 -- the list l of nodes with the node number i in front, whose header is at p and whose body is b

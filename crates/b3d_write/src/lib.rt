@@ -29,7 +29,8 @@ pub fn write(
 ) -> Written
     ensures { λ r. ⌜ Writes mode (lentOf version slots (now (counts .entry))
         (now (t1 .entry)) (now (t2 .entry)) (now (t3 .entry)) (now (t4 .entry)) (now (t5 .entry))
-        (now (t6 .entry)) (now (t7 .entry)) (now (t8 .entry)) (now (t9 .entry)) (now (t10 .entry))) (now (names .entry)) (now (out .entry)) (now (out .exit)) r ⌝ }
+        (now (t6 .entry)) (now (t7 .entry)) (now (t8 .entry)) (now (t9 .entry)) (now (t10 .entry))) (now (names .entry)) (now (out .entry))
+        (now (out .exit)) r ⌝ }
 {
     let unsound = Written {
         number: refusals::NO_SUCH_TABLES,

@@ -43,7 +43,8 @@ fn put_root(
     out: &mut [u8],
 ) -> usize
     requires { ⌜ Sized all (now t3) (now t4) (now t5) (now t6) (now t7) (now t8) (now t9) (now t10) ⌝ }
-    requires { ⌜ Some (OfNodes (now names) (tableRows (now t3) (now t4) (now t5) (now t6) (now t7) (now t8) (now t9) (now t10)) brushes) nodesBytes (now out) ⌝ }
+    requires { ⌜ Some (OfNodes (now names) (tableRows (now t3) (now t4) (now t5) (now t6) (now t7) (now t8) (now t9)
+        (now t10)) brushes) nodesBytes (now out) ⌝ }
     ensures { λ r. ⌜ Each (OfNodes (now (names .entry))
         (tableRows (now (t3 .entry)) (now (t4 .entry)) (now (t5 .entry)) (now (t6 .entry)) (now (t7 .entry))
         (now (t8 .entry)) (now (t9 .entry)) (now (t10 .entry))) brushes) nodesBytes (now (out .entry)) (now (out .exit)) r ⌝ }
@@ -90,7 +91,8 @@ pub fn write_file(
     out: &mut [u8],
 ) -> usize
     requires { ⌜ Sized all (now t3) (now t4) (now t5) (now t6) (now t7) (now t8) (now t9) (now t10) ⌝ }
-    requires { ⌜ Some (OfScene (now names) (now t1) (now t2) (tableRows (now t3) (now t4) (now t5) (now t6) (now t7) (now t8) (now t9) (now t10)) version slots) encode (now out) ⌝ }
+    requires { ⌜ Some (OfScene (now names) (now t1) (now t2)
+        (tableRows (now t3) (now t4) (now t5) (now t6) (now t7) (now t8) (now t9) (now t10)) version slots) encode (now out) ⌝ }
     ensures { λ r. ⌜ Each (OfScene (now (names .entry)) (now (t1 .entry)) (now (t2 .entry))
         (tableRows (now (t3 .entry)) (now (t4 .entry)) (now (t5 .entry)) (now (t6 .entry)) (now (t7 .entry))
         (now (t8 .entry)) (now (t9 .entry)) (now (t10 .entry))) version slots) encode (now (out .entry)) (now (out .exit)) r ⌝ }

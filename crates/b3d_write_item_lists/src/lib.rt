@@ -49,7 +49,8 @@ pub fn put_runs(
     requires { ⌜ first + count ≤ length (now rows) / 4 ⌝ }
     requires { ⌜ endOf start (rowsFrom 4 (now rows) first count) ≤ length (now items) / runWidth keys ⌝ }
     requires { ⌜ Room (runsBytes keys (rowsFrom 4 (now rows) first count) (drop start (rowsIn (runWidth keys) (now items)))) (now out) ⌝ }
-    ensures { λ r. ⌜ Put (runsBytes keys (rowsFrom 4 (now (rows .entry)) first count) (drop start (rowsIn (runWidth keys) (now (items .entry))))) (now (out .entry)) (now (out .exit)) r ⌝ }
+    ensures { λ r. ⌜ Put (runsBytes keys (rowsFrom 4 (now (rows .entry)) first count) (drop start (rowsIn (runWidth keys) (now (items .entry)))))
+        (now (out .entry)) (now (out .exit)) r ⌝ }
 {
     let mut at: usize = 0;
     let mut next = start;

@@ -39,7 +39,8 @@ fn put_key(g: RowRuns, words: &[u32], base: usize, out: &mut [u8]) -> usize
 pub fn put_key_rows(flags: u32, keys: &[u32], first: usize, count: usize, out: &mut [u8]) -> usize
     requires { ⌜ first + count ≤ length (now keys) / keyWidth ⌝ }
     requires { ⌜ Room (writeItems writeWords (map (presentWords (keyMask flags)) (rowsFrom keyWidth (now keys) first count))) (now out) ⌝ }
-    ensures { λ r. ⌜ Put (writeItems writeWords (map (presentWords (keyMask flags)) (rowsFrom keyWidth (now (keys .entry)) first count))) (now (out .entry)) (now (out .exit)) r ⌝ }
+    ensures { λ r. ⌜ Put (writeItems writeWords (map (presentWords (keyMask flags)) (rowsFrom keyWidth (now (keys .entry)) first count))) (now (out .entry))
+        (now (out .exit)) r ⌝ }
 {
     let g = b3d_rule_row_masks::key_runs(flags);
     let mut at: usize = 0;

@@ -37,7 +37,8 @@ pub record MeshThere (ms : List ℕ) (i : ℕ) (vs : List ℕ) (v : ℕ) (ss : L
 -- the VRTS and the TRIS of the mesh row at word i of ms, its vertices, triangle sets and triangles being those from rows v, s and t on
 unfoldable pub meshBody : List ℕ → ℕ → List ℕ → ℕ → List ℕ → ℕ → List ℕ → ℕ → List ℕ
 meshBody ms i vs v ss s ts t =
-    verticesBytes ms (i + columns.meshFlags) (rowsFrom vertexWidth vs v (getD ms (i + columns.meshVertices) 0)) ++ setsBytes (rowsFrom triangleSetWidth ss s (getD ms (i + columns.meshTriangleSets) 0)) (drop t (rowsIn triangleWidth ts))
+    verticesBytes ms (i + columns.meshFlags) (rowsFrom vertexWidth vs v (getD ms (i + columns.meshVertices) 0))
+    ++ setsBytes (rowsFrom triangleSetWidth ss s (getD ms (i + columns.meshTriangleSets) 0)) (drop t (rowsIn triangleWidth ts))
 
 -- the MESH of the mesh row at word i of ms, its vertices, triangle sets and triangles being those from rows v, s and t on
 abbrev pub meshBytes : List ℕ → ℕ → List ℕ → ℕ → List ℕ → ℕ → List ℕ → ℕ → List ℕ

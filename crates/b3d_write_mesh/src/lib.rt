@@ -43,7 +43,8 @@ pub fn write_mesh(
 ) -> usize
     requires { ⌜ MeshThere (now meshes) row (now vertices) v (now sets) s (now triangles) t ⌝ }
     requires { ⌜ Room (meshBytes (now meshes) row (now vertices) v (now sets) s (now triangles) t) (now out) ⌝ }
-    ensures { λ r. ⌜ Put (meshBytes (now (meshes .entry)) row (now (vertices .entry)) v (now (sets .entry)) s (now (triangles .entry)) t) (now (out .entry)) (now (out .exit)) r ⌝ }
+    ensures { λ r. ⌜ Put (meshBytes (now (meshes .entry)) row (now (vertices .entry)) v (now (sets .entry)) s (now (triangles .entry)) t) (now (out .entry))
+        (now (out .exit)) r ⌝ }
 {
     let brush = meshes[row + columns::MESH_BRUSH];
     let count = number(meshes, row + columns::MESH_VERTICES);

@@ -29,8 +29,10 @@ fn write_kind(
     out: &mut [u8],
 ) -> usize
     requires { ⌜ row + nodeWidth ≤ length (now t3) ⌝ }
-    requires { ⌜ KindThere (now t4) (now t5) (now t6) (now t7) (now t8) n (getD (now t3) (row + columns.nodeKind) 0) (getD (now t3) (row + columns.nodeCount) 0) ⌝ }
-    requires { ⌜ Room (kindBytes (now t4) (now t5) (now t6) (now t7) (now t8) n (getD (now t3) (row + columns.nodeKind) 0) (getD (now t3) (row + columns.nodeCount) 0)) (now out) ⌝ }
+    requires { ⌜ KindThere (now t4) (now t5) (now t6) (now t7) (now t8) n (getD (now t3) (row + columns.nodeKind) 0)
+        (getD (now t3) (row + columns.nodeCount) 0) ⌝ }
+    requires { ⌜ Room (kindBytes (now t4) (now t5) (now t6) (now t7) (now t8) n (getD (now t3) (row + columns.nodeKind) 0)
+        (getD (now t3) (row + columns.nodeCount) 0)) (now out) ⌝ }
     ensures { λ r. ⌜ Put (kindBytes (now (t4 .entry)) (now (t5 .entry)) (now (t6 .entry)) (now (t7 .entry)) (now (t8 .entry))
         n (getD (now (t3 .entry)) (row + columns.nodeKind) 0) (getD (now (t3 .entry)) (row + columns.nodeCount) 0)) (now (out .entry)) (now (out .exit)) r ⌝ }
 {

@@ -52,5 +52,6 @@ pub record NodesSizable (n : Counts) (t₃ t₄ t₉ : List ℕ) : Type 0 where
 -- the size of the shortest file, by n_texs (`slots`), counts c₁, c₂ and n, and the tables whose rows differ in size
 unfoldable pub fileBytes : ℕ → ℕ → ℕ → Counts → List ℕ → List ℕ → List ℕ → List ℕ → List ℕ → ℕ
 fileBytes slots c₁ c₂ n t₁ t₂ t₃ t₄ t₉ =
-    12 + listsBytes slots c₁ c₂ (cut textureWidth c₁ t₁) (cut brushWidth c₂ t₂) + nodesBytes (cut nodeWidth (n .nodes) t₃) (cut meshWidth (n .meshes) t₄) (cut keyListWidth (n .lists) t₉)
+    12 + listsBytes slots c₁ c₂ (cut textureWidth c₁ t₁) (cut brushWidth c₂ t₂) + nodesBytes (cut nodeWidth (n .nodes) t₃) (cut meshWidth (n .meshes) t₄)
+    (cut keyListWidth (n .lists) t₉)
     + 12 * n .sets + 12 * n .triangles + 8 * n .weights

@@ -27,8 +27,10 @@ fn chunk_around(rows: usize, bytes: usize) -> usize
 
 // Returns the size of TEXS and BRUS, of `textures` rows of `t1` and `brushes` rows of `t2` with `slots` ids each; 0 where both have no row.
 fn lists_bytes(slots: u32, textures: usize, brushes: usize, t1: &[u32], t2: &[u32]) -> usize
-    requires { ⌜ (slots ≤ mostSlots) × (textureWidth * textures ≤ length (now t1)) × (brushWidth * brushes ≤ length (now t2)) × (textures ≤ rowLimit) × (brushes ≤ rowLimit) ⌝ }
-    ensures { λ r. ⌜ Sums partMost (listsBytes slots textures brushes (cut textureWidth textures (now (t1 .entry))) (cut brushWidth brushes (now (t2 .entry)))) r ⌝ }
+    requires { ⌜ (slots ≤ mostSlots) × (textureWidth * textures ≤ length (now t1)) × (brushWidth * brushes ≤ length (now t2)) × (textures ≤ rowLimit)
+        × (brushes ≤ rowLimit) ⌝ }
+    ensures { λ r. ⌜ Sums partMost (listsBytes slots textures brushes (cut textureWidth textures (now (t1 .entry)))
+        (cut brushWidth brushes (now (t2 .entry)))) r ⌝ }
 {
     let texs = rows_bytes(t1, 1, TEXTURE_WIDTH, textures, 29);
     let brus = rows_bytes(t2, 2, BRUSH_WIDTH, brushes, 29 + 4 * wire::size(slots));
@@ -38,7 +40,8 @@ fn lists_bytes(slots: u32, textures: usize, brushes: usize, t1: &[u32], t2: &[u3
 // Returns the size of what the rows of nodes, meshes and key lists add; `all` counts them.
 fn nodes_bytes(all: Counts, t3: &[u32], t4: &[u32], t9: &[u32]) -> usize
     requires { ⌜ NodesSizable all (now t3) (now t4) (now t9) ⌝ }
-    ensures { λ r. ⌜ Sums partMost (nodesBytes (cut nodeWidth (all .nodes) (now (t3 .entry))) (cut meshWidth (all .meshes) (now (t4 .entry))) (cut keyListWidth (all .lists) (now (t9 .entry)))) r ⌝ }
+    ensures { λ r. ⌜ Sums partMost (nodesBytes (cut nodeWidth (all .nodes) (now (t3 .entry))) (cut meshWidth (all .meshes) (now (t4 .entry)))
+        (cut keyListWidth (all .lists) (now (t9 .entry)))) r ⌝ }
 {
     let nodes = rows_bytes(t3, 3, NODE_WIDTH, all.nodes, 0);
     let meshes = rows_bytes(t4, 4, MESH_WIDTH, all.meshes, 0);
@@ -59,7 +62,8 @@ pub fn file_bytes(
     t4: &[u32],
     t9: &[u32],
 ) -> usize
-    requires { ⌜ (slots ≤ mostSlots) × (textureWidth * textures ≤ length (now t1)) × (brushWidth * brushes ≤ length (now t2)) × (textures ≤ rowLimit) × (brushes ≤ rowLimit) ⌝ }
+    requires { ⌜ (slots ≤ mostSlots) × (textureWidth * textures ≤ length (now t1)) × (brushWidth * brushes ≤ length (now t2)) × (textures ≤ rowLimit)
+        × (brushes ≤ rowLimit) ⌝ }
     requires { ⌜ NodesSizable all (now t3) (now t4) (now t9) ⌝ }
     ensures { λ r. ⌜ r ≡ fileBytes slots textures brushes all (now (t1 .entry)) (now (t2 .entry)) (now (t3 .entry)) (now (t4 .entry)) (now (t9 .entry)) ⌝ }
 {

@@ -82,7 +82,8 @@ pub fn put_vertex_rows(
 ) -> usize
     requires { ⌜ first + count ≤ length (now vertices) / vertexWidth ⌝ }
     requires { ⌜ Room (writeItems writeWords (map (presentWords (vertexMask flags sets size)) (rowsFrom vertexWidth (now vertices) first count))) (now out) ⌝ }
-    ensures { λ r. ⌜ Put (writeItems writeWords (map (presentWords (vertexMask flags sets size)) (rowsFrom vertexWidth (now (vertices .entry)) first count))) (now (out .entry)) (now (out .exit)) r ⌝ }
+    ensures { λ r. ⌜ Put (writeItems writeWords (map (presentWords (vertexMask flags sets size)) (rowsFrom vertexWidth (now (vertices .entry)) first count)))
+        (now (out .entry)) (now (out .exit)) r ⌝ }
 {
     let g = b3d_rule_row_masks::vertex_runs(flags, sets, size);
     let mut at: usize = 0;

@@ -14,7 +14,8 @@ pub fn read_mesh(
     springs: &mut [u32],
     faces: &mut [u32],
 ) -> MeshAnswer
-    ensures { λ r. ⌜ ReadsMesh «bone_count» (now (file .entry)) (now (submeshes .entry)) (now (vertices .entry)) (now (maps .entry)) (now (influences .entry)) (now (springs .entry)) (now (faces .entry))
+    ensures { λ r. ⌜ ReadsMesh «bone_count» (now (file .entry)) (now (submeshes .entry)) (now (vertices .entry)) (now (maps .entry)) (now (influences .entry))
+        (now (springs .entry)) (now (faces .entry))
         (now (submeshes .exit)) (now (vertices .exit)) (now (maps .exit)) (now (influences .exit)) (now (springs .exit)) (now (faces .exit)) r ⌝ }
 {
     let judged = cal3d_mesh_judge::judge(file, bone_count);

@@ -38,7 +38,8 @@ fn shape_at(s: &[u8], at: usize) -> Shape
 // Stores the row of the submesh at the place `m` in `out` from word `base` on.
 fn put_submesh(s: &[u8], m: Place, base: usize, out: &mut [u32])
     requires { ⌜ (m .at + 24 ≤ length (now s)) × (length (now s) < 0x100000000) × PlaceFit m × (base + 9 ≤ length (now out)) ⌝ }
-    ensures { λ _. ⌜ now (out .exit) ≡ stored (now (out .entry)) base (joined (submeshRows (m .vertices) (m .springs) (m .faces) (submeshAt (now (s .entry)) (m .at) ∷ []))) ⌝ }
+    ensures { λ _. ⌜ now (out .exit) ≡ stored (now (out .entry)) base
+        (joined (submeshRows (m .vertices) (m .springs) (m .faces) (submeshAt (now (s .entry)) (m .at) ∷ []))) ⌝ }
 {
     cal3d_mesh_vertex_rows::put_words(s, m.at, 6, base, out);
     let rest = [m.vertices as u32, m.springs as u32, m.faces as u32];
@@ -48,7 +49,14 @@ fn put_submesh(s: &[u8], m: Place, base: usize, out: &mut [u32])
 // Returns the place after a submesh of the shape `x` at `m`, whose vertices end at `v`.
 fn pass_submesh(m: Place, x: Shape, v: Marks) -> Place
     requires { ⌜ (v .at + 16 * x .springs + 12 * x .faces < 0x100000000) × (m .vertices + x .vertices ≤ v .at) × (m .springs ≤ v .at) × (m .faces ≤ v .at) ⌝ }
-    ensures { λ r. ⌜ r ≡ record { at = v .at + 16 * x .springs + 12 * x .faces; vertices = m .vertices + x .vertices; maps = v .maps; influences = v .influences; springs = m .springs + x .springs; faces = m .faces + x .faces } ⌝ }
+    ensures { λ r. ⌜ r ≡ record {
+      at = v .at + 16 * x .springs + 12 * x .faces;
+      vertices = m .vertices + x .vertices;
+      maps = v .maps;
+      influences = v .influences;
+      springs = m .springs + x .springs;
+      faces = m .faces + x .faces;
+    } ⌝ }
 {
     Place {
         at: v.at + 16 * x.springs + 12 * x.faces,
@@ -70,8 +78,10 @@ pub fn fill_mesh(
     springs: &mut [u32],
     faces: &mut [u32],
 )
-    requires { ⌜ MeshFit (now s) (length (now submeshes)) (length (now vertices)) (length (now maps)) (length (now influences)) (length (now springs)) (length (now faces)) ⌝ }
-    ensures { λ _. ⌜ MeshFilled (now (s .entry)) (now (submeshes .entry)) (now (vertices .entry)) (now (maps .entry)) (now (influences .entry)) (now (springs .entry)) (now (faces .entry))
+    requires { ⌜ MeshFit (now s) (length (now submeshes)) (length (now vertices)) (length (now maps)) (length (now influences)) (length (now springs))
+        (length (now faces)) ⌝ }
+    ensures { λ _. ⌜ MeshFilled (now (s .entry)) (now (submeshes .entry)) (now (vertices .entry)) (now (maps .entry)) (now (influences .entry))
+        (now (springs .entry)) (now (faces .entry))
         (now (submeshes .exit)) (now (vertices .exit)) (now (maps .exit)) (now (influences .exit)) (now (springs .exit)) (now (faces .exit)) ⌝ }
 {
     let count = wire::size(wire::number_at(s, 8));

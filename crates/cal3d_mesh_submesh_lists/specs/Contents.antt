@@ -18,7 +18,14 @@ use Rattle.cal3d_mesh_submesh_lists.specs.declared.Contained.the-variant
 
 -- how many entries the submesh x holds
 unfoldable pub contentsOf : Submesh → Contents
-contentsOf x = record { vertices = length (x .vertices); maps = mapsIn (x .vertices); influences = influencesIn (x .vertices); springs = length (x .springs); faces = length (x .faces) }
+contentsOf x =
+    record {
+      vertices = length (x .vertices);
+      maps = mapsIn (x .vertices);
+      influences = influencesIn (x .vertices);
+      springs = length (x .springs);
+      faces = length (x .faces);
+    }
 
 -- how many entries the submeshes hold together
 unfoldable pub contentsIn : List Submesh → Contents
@@ -34,7 +41,13 @@ contentsIn l =
 -- the sum of a and b, count by count
 abbrev pub both : Contents → Contents → Contents
 both a b =
-    record { vertices = a .vertices + b .vertices; maps = a .maps + b .maps; influences = a .influences + b .influences; springs = a .springs + b .springs; faces = a .faces + b .faces }
+    record {
+      vertices = a .vertices + b .vertices;
+      maps = a .maps + b .maps;
+      influences = a .influences + b .influences;
+      springs = a .springs + b .springs;
+      faces = a .faces + b .faces;
+    }
 
 -- each count of t is at most `most`
 pub record Within (t : Contents) (most : ℕ) : Type 0 where

@@ -39,7 +39,8 @@ pub record VerticesFit (s : List ℕ) (x : Shape) (from : Marks) (first l2 l3 l4
   pub influences : 2 * from .influences + 2 * length (influenceRows (verticesFrom s x from)) ≤ l4
 
 -- each table has its rows, and the marks r are after the vertices
-pub record VerticesPut (s : List ℕ) (x : Shape) (from : Marks) (first : ℕ) (vertices₀ maps₀ influences₀ vertices maps influences : List ℕ) (r : Marks) : Type 0 where
+pub record VerticesPut (s : List ℕ) (x : Shape) (from : Marks) (first : ℕ) (vertices₀ maps₀ influences₀ vertices maps influences : List ℕ)
+    (r : Marks) : Type 0 where
   -- the rows of vertices, from row `first` on
   pub rows2 : vertices ≡ stored vertices₀ (12 * first) (joined (vertexRows (from .maps) (from .influences) (verticesFrom s x from)))
   -- the rows of maps, after those that come before

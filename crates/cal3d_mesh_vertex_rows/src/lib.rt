@@ -60,9 +60,11 @@ fn cloth_bytes(springs: usize) -> usize
 
 // Stores the row of the vertex at the marks `m`, which has `n` influences, in `out` from word `base` on.
 fn put_vertex(s: &[u8], springs: usize, maps: usize, m: Marks, n: u32, base: usize, out: &mut [u32])
-    requires { ⌜ (clothPlace (now s) maps (m .at) + clothBytes springs ≤ length (now s)) × (length (now s) < 0x100000000) × (m .maps ≤ m .at) × (m .influences ≤ m .at) ⌝ }
+    requires { ⌜ (clothPlace (now s) maps (m .at) + clothBytes springs ≤ length (now s)) × (length (now s) < 0x100000000) × (m .maps ≤ m .at)
+        × (m .influences ≤ m .at) ⌝ }
     requires { ⌜ (n ≡ influencesOf (now s) maps (m .at)) × (base + 12 ≤ length (now out)) ⌝ }
-    ensures { λ _. ⌜ now (out .exit) ≡ stored (now (out .entry)) base (joined (vertexRows (m .maps) (m .influences) (vertexAt (now (s .entry)) springs maps (m .at) ∷ []))) ⌝ }
+    ensures { λ _. ⌜ now (out .exit) ≡ stored (now (out .entry)) base
+        (joined (vertexRows (m .maps) (m .influences) (vertexAt (now (s .entry)) springs maps (m .at) ∷ []))) ⌝ }
 {
     let at = m.at;
     let cloth = cloth_weight(s, springs, at + 32 + 8 * maps + 4 + 8 * wire::size(n));
@@ -95,7 +97,8 @@ pub fn put_vertices(
     influences: &mut [u32],
 ) -> Marks
     requires { ⌜ VerticesFit (now s) x from first (length (now vertices)) (length (now maps)) (length (now influences)) ⌝ }
-    ensures { λ r. ⌜ VerticesPut (now (s .entry)) x from first (now (vertices .entry)) (now (maps .entry)) (now (influences .entry)) (now (vertices .exit)) (now (maps .exit)) (now (influences .exit)) r ⌝ }
+    ensures { λ r. ⌜ VerticesPut (now (s .entry)) x from first (now (vertices .entry)) (now (maps .entry)) (now (influences .entry)) (now (vertices .exit))
+        (now (maps .exit)) (now (influences .exit)) r ⌝ }
 {
     let mut m = from;
     let mut i: usize = 0;

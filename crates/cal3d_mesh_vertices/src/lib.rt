@@ -90,7 +90,8 @@ fn judge_vertex(s: &[u8], c: Cursor, bones: usize, n: Sizes) -> Summed
 // first refusal. Each takes 36 bytes or more, so that the walk ends with the bytes, whatever the number says.
 pub fn judge_vertices(s: &[u8], from: Cursor, bones: usize, n: Sizes) -> Summed
     requires { ⌜ Inside from (length (now s)) ⌝ }
-    ensures { λ r. ⌜ Sums influencesIn (times (n .vertices) (readVertex bones (n .vertices) (n .springs) (n .maps)) (from .at) (left from (now (s .entry)))) from (n .vertices * (36 + n .maps * 8)) r ⌝ }
+    ensures { λ r. ⌜ Sums influencesIn (times (n .vertices) (readVertex bones (n .vertices) (n .springs) (n .maps)) (from .at)
+        (left from (now (s .entry)))) from (n .vertices * (36 + n .maps * 8)) r ⌝ }
 {
     let mut c = from;
     let mut more = n.vertices;

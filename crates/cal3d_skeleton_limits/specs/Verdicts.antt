@@ -9,5 +9,11 @@ use Rattle.cal3d_skeleton_limits.specs.declared.Verdict.the-variants as 
 -- the summary of the skeleton t, or the refusal
 unfoldable pub verdictOf : Result Skeleton → Verdict
 verdictOf (accept t) =
-    verdict.Good (record { bones = getD (t .head) 1 0; red = getD (t .head) 2 0; green = getD (t .head) 3 0; blue = getD (t .head) 4 0; children = childrenIn (t .bones) })
+    verdict.Good (record {
+      bones = getD (t .head) 1 0;
+      red = getD (t .head) 2 0;
+      green = getD (t .head) 3 0;
+      blue = getD (t .head) 4 0;
+      children = childrenIn (t .bones);
+    })
 verdictOf (reject n p) = verdict.Bad n p

@@ -19,7 +19,8 @@ use wire::Cursor;
 fn put_bone(s: &[u8], name: usize, numbers: Cursor, before: usize, base: usize, out: &mut [u32])
     requires { ⌜ Inside numbers (length (now s)) × (numbers .at + 80 ≤ numbers .end) × (name ≤ numbers .at) × (length (now s) ≤ mostBytes) ⌝ }
     requires { ⌜ (before ≤ 16383) × (base + 23 ≤ length (now out)) ⌝ }
-    ensures { λ _. ⌜ now (out .exit) ≡ stored (now (out .entry)) base (boneCells name (numbers .at - name) (wordsOf 20 (left numbers (now (s .entry)))) before) ⌝ }
+    ensures { λ _. ⌜ now (out .exit) ≡ stored (now (out .entry)) base
+        (boneCells name (numbers .at - name) (wordsOf 20 (left numbers (now (s .entry)))) before) ⌝ }
 {
     let at = numbers.at;
     let label = [name as u32, (at - name) as u32];

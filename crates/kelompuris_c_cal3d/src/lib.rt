@@ -47,7 +47,8 @@ pub extern "C" fn kelompuris_cmf_read(
     springs: &mut [u32],
     faces: &mut [u32],
 ) -> MeshAnswer
-    ensures { λ r. ⌜ ReadsMesh «bone_count» (now (file .entry)) (now (submeshes .entry)) (now (vertices .entry)) (now (maps .entry)) (now (influences .entry)) (now (springs .entry)) (now (faces .entry))
+    ensures { λ r. ⌜ ReadsMesh «bone_count» (now (file .entry)) (now (submeshes .entry)) (now (vertices .entry)) (now (maps .entry)) (now (influences .entry))
+        (now (springs .entry)) (now (faces .entry))
         (now (submeshes .exit)) (now (vertices .exit)) (now (maps .exit)) (now (influences .exit)) (now (springs .exit)) (now (faces .exit)) r ⌝ }
 {
     cal3d_mesh::read_mesh(

@@ -31,8 +31,10 @@ pub extern "C" fn kelompuris_b3d_write(
     names: &[u8],
     out: &mut [u8],
 ) -> Written
-    ensures { λ r. ⌜ Writes (modeOf mode) (lentOf version «n_texs» (now (counts .entry)) (now (t1 .entry)) (now (t2 .entry)) (now (t3 .entry)) (now (t4 .entry)) (now (t5 .entry))
-        (now (t6 .entry)) (now (t7 .entry)) (now (t8 .entry)) (now (t9 .entry)) (now (t10 .entry))) (now (names .entry)) (now (out .entry)) (now (out .exit)) r ⌝ }
+    ensures { λ r. ⌜ Writes (modeOf mode) (lentOf version «n_texs» (now (counts .entry)) (now (t1 .entry)) (now (t2 .entry)) (now (t3 .entry))
+        (now (t4 .entry)) (now (t5 .entry))
+        (now (t6 .entry)) (now (t7 .entry)) (now (t8 .entry)) (now (t9 .entry)) (now (t10 .entry))) (now (names .entry)) (now (out .entry))
+        (now (out .exit)) r ⌝ }
 {
     let m = kelompuris_c_mode::mode_of(mode);
     b3d_write::write(

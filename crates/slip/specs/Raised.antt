@@ -16,4 +16,5 @@ pub record Raised (low high : ℕ) : Type 0 where
   -- every older slip keeps its reading; so the older reader never gives other numbers than those that the slip says
   pub reading : (s ns : List ℕ) → AllBytes s → readWithin low s ≡ accept ns → readWithin high s ≡ accept ns
   -- meeting a number that is out of the older ranges, the older reader refuses 13
-  pub refused : (ns b : List ℕ) → length ns ≡ 12 → slipWithin high ns ≡ accept b → (AtMost (limitsWithin low) ns → ⊥) → (p : ℕ) × (readWithin low b ≡ reject refusals.noSlip p)
+  pub refused : (ns b : List ℕ) → length ns ≡ 12 → slipWithin high ns ≡ accept b → (AtMost (limitsWithin low) ns → ⊥) → (p : ℕ)
+      × (readWithin low b ≡ reject refusals.noSlip p)
