@@ -2,13 +2,15 @@
 ghost use Rattle.b3d_list_text.specs.Puts.{Puts};
 ghost use Rattle.b3d_list_spec.specs.Listing.{listing, Lists};
 use b3d_judge_file_body::Verdict;
+use b3d_list_spec::MOST_LISTED;
+use b3d_list_spec::MOST_PRINTED;
 use b3d_spec::Mode;
 
 // Stores what the lister prints for `file` at the start of `out`, as far as there is room. Returns how many bytes were stored; the others stay as they were.
 pub fn put_listing(file: &[u8], out: &mut [u8]) -> usize
     ensures { λ r. ⌜ Puts (listing (now (file .entry))) (now (out .entry)) 0 (now (out .exit)) r ⌝ }
 {
-    if 65536 < file.len() {
+    if MOST_LISTED < file.len() {
         return b3d_list_lines::put_pair(1, 0, out, 0);
     }
     match b3d_judge::judge(Mode::Strict, file) {
@@ -23,7 +25,7 @@ pub fn put_listing(file: &[u8], out: &mut [u8]) -> usize
 
 // Stores all that the lister prints for `file` at the start of `out`, which has room for every listing. Returns how many bytes it has; the others stay as
 // they were.
-pub fn list(file: &[u8], out: &mut [u8; 65678]) -> usize
+pub fn list(file: &[u8], out: &mut [u8; MOST_PRINTED]) -> usize
     ensures { λ r. ⌜ Lists (now (file .entry)) (now (out .entry)) (now (out .exit)) r ⌝ }
 {
     b3d_judge::are_bytes(file);

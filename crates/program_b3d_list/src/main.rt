@@ -3,6 +3,7 @@ ghost use mathlib.Core.Path.{_≡_};
 ghost use Prim.Native.Nat.{_+_};
 ghost use lib.ListN.{length};
 ghost use Rattle.b3d_list_spec.specs.Listing.{mostListed, mostPrinted};
+use b3d_list_spec::MOST_PRINTED;
 
 // Returns the buffer for the input: one byte more than the lister reads, so that a longer input is told from one of the limit.
 fn room_in() -> [u8; 65537]
@@ -12,10 +13,10 @@ fn room_in() -> [u8; 65537]
 }
 
 // Returns the buffer for the listing, with room for every listing.
-fn room_out() -> [u8; 65678]
+fn room_out() -> [u8; MOST_PRINTED]
     ensures { λ r. ⌜ mostPrinted ≡ length r ⌝ }
 {
-    [0; 65678]
+    [0; MOST_PRINTED]
 }
 
 // Reads standard input and prints its listing.

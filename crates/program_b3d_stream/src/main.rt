@@ -2,7 +2,9 @@
 // version and n_texs, then the ten counts, as the lister does before the names. `b3d_pieces_words` has the promise; here are only input and output.
 ghost use mathlib.Core.Path.{_≡_};
 ghost use lib.ListN.{length};
+ghost use Rattle.b3d_pieces_spec.specs.Limits.{lentWords};
 use b3d_pieces_judge_step::Judge;
+use b3d_pieces_spec::LENT_WORDS;
 use b3d_pieces_words::calls::judge_close;
 use b3d_pieces_words::calls::judge_piece;
 use b3d_pieces_words::calls::start;
@@ -29,10 +31,10 @@ fn print_counts(c: [u32; 10]) {
 const PIECES: usize = 83887;
 
 // Returns a row of 19 records of 11 words, all 0.
-fn records() -> [usize; 209]
-    ensures { λ r. ⌜ 209 ≡ length r ⌝ }
+fn records() -> [usize; LENT_WORDS]
+    ensures { λ r. ⌜ lentWords ≡ length r ⌝ }
 {
-    [0; 209]
+    [0; LENT_WORDS]
 }
 
 // Returns the buffer for a piece, 200 bytes.
