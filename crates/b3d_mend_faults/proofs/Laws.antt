@@ -7,9 +7,11 @@ use mathlib.Core.Bool.{Bool, true, false}
 use mathlib.Core.List.{List, [], _∷_}
 use lib.ListN.{length}
 use lib.Dec.{leb}
+use Rattle.wire.specs.Bytes.{AllBytes}
 use Rattle.layout.specs.Result.{Result, accept, reject, check, _>>=_}
 use Rattle.layout.specs.Rows.{eachOf}
-use Rattle.layout.proofs.Outs.{bad-got}
+use Rattle.layout.specs.Parts.{itemsIn, items}
+use Rattle.layout.proofs.Outs.{bad-got, by-got, by-check, got-inj}
 use Rattle.b3d_spec.specs.declared.Mode.the-variants.{Lenient}
 use Rattle.b3d_spec.specs.Answers.{judge}
 use Rattle.b3d_spec.specs.Parse.{parse}
@@ -17,11 +19,13 @@ use Rattle.b3d_spec.specs.Rules.{rowLimit}
 use Rattle.b3d_spec.specs.Scene.{Scene}
 use Rattle.b3d_spec.specs.Tables.{rows, tables}
 use Rattle.b3d_mend_spec.specs.Mend.{Mended, mendFile}
-use Rattle.b3d_mend_spec.specs.Report.{Mending, mending, mendJudged, roomForBoth, mendInto}
-use Rattle.b3d_mend_faults.specs.Faults.{Fault, Reading, gives, ends, passes, listed, fileFaults, faults}
+use Rattle.b3d_mend_spec.specs.Report.{Entry, entries, reportBytes, readReport, Mending, mending, mendJudged, roomForBoth, mendInto}
+use Rattle.b3d_mend_spec.proofs.Laws.{mends}
+use Rattle.b3d_mend_faults.specs.Faults.{Fault, mendable, Reading, gives, ends, passes, listed, fileFaults, faults}
 use Rattle.b3d_mend_faults.specs.Headers.{Spare, Past}
 use Rattle.b3d_mend_faults.specs.FirstFault.{refusalBy, others, refusalOf, FirstFault}
-use Rattle.b3d_mend_faults.proofs.Agreeing.{Agrees, Any}
+use Rattle.b3d_mend_faults.specs.ReportTells.{Tells, ReportTellsFaults}
+use Rattle.b3d_mend_faults.proofs.Agreeing.{Agrees, Any, listed-all}
 use Rattle.b3d_mend_faults.proofs.Reader.{file-read}
 use Rattle.b3d_mend_faults.proofs.Mender.{file-mend}
 use Rattle.b3d_mend_faults.proofs.Dues.{apart}
@@ -38,12 +42,12 @@ first-of (ends n p) o h = ap refusalOf h
 first-of (passes k n p m) o h = ap refusalOf h
 
 -- who passes the four refuses the first other
-other-of : {A B : Type 0} (m : Reading A) (o : Result B) → Agrees true Any m o → refusalOf o ≡ refusalBy (others (listed m))
+other-of : {A B : Type 0} (R : List Fault → A → B → Type 0) (m : Reading A) (o : Result B) → Agrees true R m o → refusalOf o ≡ refusalBy (others (listed m))
 unfolding refusalOf refusalBy others listed
-other-of (gives a) (accept b) h = refl
-other-of (gives a) (reject n p) h = absurd h
-other-of (ends n p) o h = ap refusalOf h
-other-of (passes k n p m) o h = other-of m o h
+other-of R (gives a) (accept b) h = refl
+other-of R (gives a) (reject n p) h = absurd h
+other-of R (ends n p) o h = ap refusalOf h
+other-of R (passes k n p m) o h = other-of (λ l. R (mendable k n p ∷ l)) m o h
 
 -- ---- answers
 
@@ -120,7 +124,7 @@ pub first-fault : (s : List ℕ) → FirstFault s
 unfolding faults refusalBy others refusalOf
 first-fault s =
     let reader = first-of (fileFaults s) (parse Lenient s) (file-read s) in
-    let mender = other-of (fileFaults s) (mendFile s) (file-mend s) in
+    let mender = other-of _ (fileFaults s) (mendFile s) (file-mend s) in
     let by-three : (p : ℕ) → judge Lenient s ≡ reject 3 p → Spare s p ⊎ (Past s p × (refusalBy (others (listed (fileFaults s))) ≡ reject 3 p)) = λ p e. first-three s _ (fileFaults s) p (file-each s) (sym reader ∙ ap refusalOf (judge-before s 3 p (omega arith) e)) in
     record {
       reader = reader;
@@ -140,4 +144,40 @@ first-fault s =
         | inr x ↦ mend-stays s 3 p room reportRoom (whole (mendFile s) 3 p (mender ∙ x .1))
       ];
       only-past = λ p room reportRoom e. other-three s _ (fileFaults s) p (file-each s) (sym mender ∙ ap refusalOf (mend-before s 3 p room reportRoom (omega arith) e));
+    }
+
+-- ---- the report
+
+reads : (o : Result Scene) → refusalOf o ≡ accept tt → (t : Scene) × (o ≡ accept t)
+unfolding refusalOf
+reads (accept t) e = (t, refl)
+reads (reject n p) e = bad-got e
+
+-- what was written is of the edits of a file that can be mended
+written : (s : List ℕ) (room reportRoom : ℕ) (m : Mending) → mendInto room reportRoom s ≡ accept m → (x : Mended Scene) × (mendJudged s ≡ accept x) × (reportBytes (entries 0 (x .edits)) ≡ m .report)
+unfolding mendInto roomForBoth mending
+written s room reportRoom m e =
+    by-got (mendJudged s) _ e (λ x ex e₁.
+    let y = mending (x .edits) in
+    by-check (leb (length (y .file)) room) 11 (length (y .file)) _ e₁ (λ t e₂.
+    by-check (leb (length (y .report)) reportRoom) 11 (length (y .report)) _ e₂ (λ u e₃. (x, ex, ap (λ (z : Mending). z .report) (got-inj e₃)))))
+
+empty-read : (l : List Entry) → readReport (reportBytes l) ≡ accept l → reportBytes l ≡ [] → l ≡ []
+unfolding readReport items itemsIn
+empty-read l e n = sym (got-inj (sym (ap readReport n) ∙ e))
+
+pub report-tells : (s : List ℕ) → AllBytes s → ReportTellsFaults s
+unfolding faults refusalBy
+report-tells s a =
+    let readable = mends s a .readable in
+    let few = mends s a .few in
+    let told : (x : Mended Scene) → mendJudged s ≡ accept x → Tells (entries 0 (x .edits)) (faults s) = λ x e. listed-all _ (fileFaults s) (mendFile s) x (file-mend s) (few x e .0) .1 .tells in
+    record {
+      told = told;
+      report = λ room reportRoom m e. let (x, ex, er) = written s room reportRoom m e in (entries 0 (x .edits), ap readReport (sym er) ∙ readable x ex, told x ex);
+      silent = λ room reportRoom m e n.
+          let (x, ex, er) = written s room reportRoom m e in
+          let none : entries 0 (x .edits) ≡ [] = empty-read (entries 0 (x .edits)) (readable x ex) (er ∙ n) in
+          let clear : faults s ≡ [] = subst (λ (z : List Entry). Tells z (faults s)) none (told x ex) in
+          reads (parse Lenient s) (first-fault s .reader ∙ ap refusalBy clear);
     }

@@ -3,12 +3,15 @@ use mathlib.Core.Path.{_≡_, refl, ap, sym, _∙_, subst}
 use Prim.Native.Nat.{ℕ, zero, suc}
 use mathlib.Core.Bool.{Bool, true, false}
 use mathlib.Core.Option.{Option, none, some}
-use mathlib.Core.List.{List, [], _∷_}
+use mathlib.Core.List.{List, [], _∷_, _++_}
 use lib.ListN.{length}
 use Rattle.wire.specs.Test.{if}
 use Rattle.layout.specs.Chunks.{done, stop, chunk, ended}
-use Rattle.layout.specs.Result.{Result}
-use Rattle.layout.specs.Parts.{Step, itemsIn, items}
+use Rattle.layout.specs.Result.{Result, accept}
+use Rattle.layout.specs.Parts.{Step, words, row, itemsIn, items}
+use Rattle.layout.specs.Rules.{Rule}
+use Rattle.layout.proofs.Outs.{by-got}
+use Rattle.layout.proofs.StepLaws.{judged-got}
 use Rattle.b3d_spec.specs.declared.Tag.{Tag}
 use Rattle.b3d_spec.specs.Nesting.{nesting, Reached, start, requiredBetween, end, next, onward, order, inside}
 use Rattle.b3d_spec.specs.Parse.{Animation}
@@ -17,26 +20,33 @@ use Rattle.b3d_spec.specs.Scene.{Kind}
 use Rattle.b3d_spec.specs.Tags.{Chunks}
 use Rattle.b3d_mend_spec.specs.Pieces.{Pieces, none-left, spare, past, other, known, pieces, chunksOf}
 use Rattle.b3d_mend_spec.proofs.QuietLeaves.{strictOf, split-strict}
-use Rattle.b3d_mend_faults.specs.Faults.{Reading, endFaults, itemFaultsIn, itemFaults, Within, finished, refused, spareAt, chunkAt, found, onwardFrom, inOrder, within}
-use Rattle.b3d_mend_faults.proofs.Agreeing.{Agrees, Any, bind-agrees, moved, At}
+use Rattle.b3d_mend_faults.specs.Faults.{Fault, Reading, endFaults, itemFaultsIn, itemFaults, Within, finished, refused, spareAt, chunkAt, found, onwardFrom, inOrder, within}
+use Rattle.b3d_mend_faults.proofs.Agreeing.{Agrees, Any, bind-agrees, both-agrees, At}
 
--- ---- items, of which each has `Each`, and a list of n has `Count`
+-- what was read as a row was read as words
+pub row-words : (rs : List Rule) (p : ℕ) (s : List ℕ) (x : Step (List ℕ)) → row rs p s ≡ accept x → words p (length rs) p s ≡ accept x
+unfolding row
+row-words rs p s x e = by-got (words p (length rs) p s) _ e (λ y ey e₁. ey ∙ ap accept (judged-got rs p (y .value) y x e₁))
 
-module _ {A B : Type 0} (mends : Bool) (item : ℕ → List ℕ → Reading (Step A)) (read : ℕ → List ℕ → Result (Step B)) (Each : B → Type 0) (Count : ℕ → List B → Type 0)
-    (none-yet : Count 0 []) (one-more : (n : ℕ) (b : B) (l : List B) → Each b → Count n l → Count (suc n) (b ∷ l))
-    (one : (p : ℕ) (s : List ℕ) → Agrees mends (λ (x : Step A) (y : Step B). At x y × Each (y .value)) (item p s) (read p s)) where
-  in-agrees : (f p : ℕ) (s : List ℕ) → Agrees mends Count (itemFaultsIn f item p s) (itemsIn f read p s)
+-- ---- items, of which each has `Each`, and a list of n has `Count`: of the faults l that were passed in the bytes s from place p on
+
+module _ {A B : Type 0} (mends : Bool) (item : ℕ → List ℕ → Reading (Step A)) (read : ℕ → List ℕ → Result (Step B)) (Each : ℕ → List ℕ → List Fault → Step B → Type 0)
+    (Count : ℕ → List ℕ → List Fault → ℕ → List B → Type 0) (none-yet : (p : ℕ) → Count p [] [] 0 [])
+    (one-more : (p : ℕ) (s : List ℕ) (f g : List Fault) (y : Step B) (n : ℕ) (l : List B) → Each p s f y → Count (y .place) (y .left) g n l → Count p s (f ++ g) (suc n) (y .value ∷ l))
+    (one : (p : ℕ) (s : List ℕ) → Agrees mends (λ (l : List Fault) (x : Step A) (y : Step B). At l x y × Each p s l y) (item p s) (read p s)) where
+  in-agrees : (f p : ℕ) (s : List ℕ) → Agrees mends (Count p s) (itemFaultsIn f item p s) (itemsIn f read p s)
   unfolding itemFaultsIn itemsIn
-  in-agrees zero p [] = none-yet
+  in-agrees zero p [] = none-yet p
   in-agrees zero p (c ∷ s) = refl
-  in-agrees (suc f) p [] = none-yet
+  in-agrees (suc f) p [] = none-yet p
   in-agrees (suc f) p (c ∷ s) =
-      bind-agrees mends (λ (x : Step A) (y : Step B). At x y × Each (y .value)) Count (item p (c ∷ s)) (read p (c ∷ s)) _ _ (one p (c ∷ s)) (λ x y h.
-      bind-agrees mends Count Count (itemFaultsIn f item (x .place) (x .left)) (itemsIn f read (y .place) (y .left)) _ _
-      (moved mends Count (itemFaultsIn f item (x .place) (x .left)) (itemsIn f read) (x .place) (y .place) (x .left) (y .left) (h .0 .0) (h .0 .1) (in-agrees f (x .place) (x .left)))
-      (λ n l k. one-more n (y .value) l (h .1) k))
+      bind-agrees mends (λ (l : List Fault) (x : Step A) (y : Step B). At l x y × Each p (c ∷ s) l y) (Count p (c ∷ s)) (item p (c ∷ s)) (read p (c ∷ s)) _ _ (one p (c ∷ s)) (λ l x y h.
+      both-agrees mends (Count (y .place) (y .left)) (λ (g : List Fault). Count p (c ∷ s) (l ++ g)) (itemFaultsIn f item (x .place) (x .left)) (itemsIn f read (y .place) (y .left)) suc (λ bs. y .value ∷ bs)
+      (subst (λ (t : List ℕ). Agrees mends (Count (y .place) (y .left)) (itemFaultsIn f item (x .place) t) (itemsIn f read (y .place) (y .left))) (h .0 .1)
+      (subst (λ (q : ℕ). Agrees mends (Count (y .place) (y .left)) (itemFaultsIn f item q (y .left)) (itemsIn f read (y .place) (y .left))) (h .0 .0) (in-agrees f (y .place) (y .left))))
+      (λ g n bs k. one-more p (c ∷ s) l g y n bs (h .1) k))
 
-  pub items-agree : (p : ℕ) (s : List ℕ) → Agrees mends Count (itemFaults item p s) (items read p s)
+  pub items-agree : (p : ℕ) (s : List ℕ) → Agrees mends (Count p s) (itemFaults item p s) (items read p s)
   unfolding itemFaults items
   items-agree p s = in-agrees (length s) p s
 

@@ -16,9 +16,7 @@ use Rattle.layout.specs.Parts.{Step, text, words, row, number, named}
 use Rattle.layout.specs.Rows.{sizeFits}
 use Rattle.layout.specs.Rules.{Rule, any, upTo, exactly, names, namesOrNone, unit, holds, refusal}
 use Rattle.layout.proofs.HeldLaws.{word-in}
-use Rattle.layout.proofs.Outs.{by-got}
 use Rattle.layout.proofs.PlaceLaws.{At, at-four, at-eight, at-take, at-drop, words-at, named-at}
-use Rattle.layout.proofs.StepLaws.{judged-got}
 use Rattle.b3d_spec.specs.declared.Mode.the-variants.{Lenient}
 use Rattle.b3d_spec.specs.declared.Tag.{Tag}
 use Rattle.b3d_spec.specs.declared.Tag.the-variants.{BB3D, TEXS, BRUS, NODE, MESH, VRTS, KEYS, ANIM}
@@ -35,6 +33,7 @@ use Rattle.b3d_rule_refusal_places.proofs.Steps.{words-onward, words-to, named-
 use Rattle.b3d_mend_spec.specs.Mend.{mayBeNone}
 use Rattle.b3d_mend_spec.specs.Pieces.{Pieces, past, piece, piecesIn, pieces}
 use Rattle.b3d_mend_faults.specs.Faults.{Fault, mendable, other, Reading, gives, ends, passes, _>>=_, plainly, numberFault, itemFault, numberFaults, rowFaults, brushFaults, itemFaultsIn, itemFaults, textureFaults, brushesFaults, vertexFaults, triangleFaults, boneFaults, Within, finished, refused, spareAt, chunkAt, found, onwardFrom, inOrder, within, Part, oneFaults, setFaults, meshFaults, kindFaults, moveFaults, nodesFaults, nodeFaults, endFaults, bodyFaults, lengthFault, fileFaults}
+use Rattle.b3d_mend_faults.proofs.Shared.{row-words}
 use Rattle.b3d_mend_faults.specs.Headers.{Due, first, behind, inside, Spare, Past}
 
 -- ---- faults of which P holds, and a value of which R holds
@@ -70,11 +69,6 @@ ruled (exactly m) e = omega arith
 ruled (names n) e = omega arith
 ruled (namesOrNone n) e = omega arith
 ruled unit e = omega arith
-
--- what was read as a row was read as words
-row-words : (rs : List Rule) (p : ℕ) (s : List ℕ) (x : Step (List ℕ)) → row rs p s ≡ accept x → words p (length rs) p s ≡ accept x
-unfolding row
-row-words rs p s x e = by-got (words p (length rs) p s) _ e (λ y ey e₁. ey ∙ ap accept (judged-got rs p (y .value) y x e₁))
 
 module _ (s : List ℕ) where
   -- what is said of each fault

@@ -1,0 +1,144 @@
+-- Edits of the bytes from one place to another, and the faults that their entries are of; the edits of chunks inside a chunk, woven into what stands there.
+use mathlib.Core.Logic.{inr}
+use mathlib.Core.Path.{_≡_, refl, ap, sym, _∙_, subst}
+use Prim.Native.Nat.{ℕ, zero, suc, _+_, _≤_}
+use native.Mathlib.Omega.{arith}
+use mathlib.Core.Bool.{Bool, true, false}
+use mathlib.Core.Option.{Option, none, some}
+use mathlib.Core.List.{List, [], _∷_, _++_, append-assoc, append-nil}
+use lib.ListN.{length, take, drop, length-append, length-drop}
+use lib.Seq.{length-take-le}
+use lib.Dec.{leb, leb→le}
+use Rattle.wire.specs.Bytes.{word, bytes}
+use Rattle.wire.specs.Test.{if}
+use Rattle.layout.proofs.Outs.{if-case}
+use Rattle.b3d_spec.specs.declared.Tag.{Tag}
+use Rattle.b3d_spec.specs.Nesting.{nesting, Reached, start, requiredBetween, end, next}
+use Rattle.b3d_spec.specs.Tags.{code, tagOf}
+use Rattle.b3d_mend_spec.specs.Edits.{Edit, keep, follow, mend, was, before, after}
+use Rattle.b3d_mend_spec.specs.Pieces.{Pieces, none-left, spare, past, other, known, piece, piecesIn, pieces, wrapped, woven}
+use Rattle.b3d_mend_spec.specs.Report.{Entry, entries}
+use Rattle.b3d_mend_spec.proofs.EditLaws.{before-append}
+use Rattle.b3d_mend_spec.proofs.StepLaws.{entries-append}
+use Rattle.b3d_mend_faults.specs.Faults.{Fault, mendable, Within, finished, refused, spareAt, chunkAt, found, onwardFrom, inOrder, within}
+use Rattle.b3d_mend_faults.specs.ReportTells.{Fixes, Tells}
+
+-- ---- entries one after the other
+
+tells-append : (l m : List Entry) (f g : List Fault) → Tells l f → Tells m g → Tells (l ++ m) (f ++ g)
+tells-append [] m f g h k = subst (λ (z : List Fault). Tells m (z ++ g)) (sym h) k
+tells-append (e ∷ l) m f g h k =
+    (h .0, h .1 ++ g, ap (λ (z : List Fault). z ++ g) (h .2) ∙ append-assoc (h .0) (h .1) g, h .3, tells-append l m (h .1) g (h .4) k)
+
+-- the edits x are of the bytes from place p up to q, and their entries are of the faults l
+pub record Made (p q : ℕ) (x : List Edit) (l : List Fault) : Type 0 where
+  pub tells : Tells (entries p x) l
+  pub ends : p + length (before x) ≡ q
+
+pub made-append : (p q r : ℕ) (x y : List Edit) (f g : List Fault) → Made p q x f → Made q r y g → Made p r (x ++ y) (f ++ g)
+made-append p q r x y f g h k =
+    record {
+      tells =
+          subst (λ (z : List Entry). Tells z (f ++ g)) (sym (entries-append x y p))
+          (tells-append (entries p x) (entries (p + length (before x)) y) f g (h .tells) (subst (λ (z : ℕ). Tells (entries z y) g) (sym (h .ends)) (k .tells)));
+      ends =
+          let e : length (before (x ++ y)) ≡ length (before x ++ before y) = ap (λ (z : List ℕ). length z) (before-append x y) in
+          omega (arith, e, length-append (before x) (before y), h .ends, k .ends);
+    }
+
+pub made-none : (p q : ℕ) → p ≡ q → Made p q [] []
+unfolding entries before
+made-none p q e = record { tells = refl; ends = omega arith }
+
+pub keep-made : (p q : ℕ) (b : List ℕ) → p + length b ≡ q → Made p q (keep b ∷ []) []
+unfolding entries before was
+keep-made p q b e = record { tells = refl; ends = omega (arith, length-append b []) }
+
+pub follow-made : (p q n m : ℕ) → p + 4 ≡ q → Made p q (follow n m ∷ []) []
+unfolding entries before was
+follow-made p q n m e = record { tells = refl; ends = omega arith }
+
+pub mend-made : (p q k : ℕ) (b a : List ℕ) (l : List Fault) → p + length b ≡ q → Fixes (record { place = p; which = k; before = b; after = a }) l → Made p q (mend k b a ∷ []) l
+unfolding entries before was
+mend-made p q k b a l e h = record { tells = (l, [], sym (append-nil l), h, refl); ends = omega (arith, length-append b []) }
+
+-- ---- chunks inside a chunk
+
+-- the edits xs are of the bodies of all these chunks, one for each, and their entries, with spare bytes', are of the faults l
+abbrev pub Told : Within → List (List Edit) → List Fault → Type 0
+Told finished xs l = (xs ≡ []) × (l ≡ [])
+Told (refused n p) xs l = ⊥
+Told (spareAt p w) xs l = (g : List Fault) × (l ≡ mendable 4 3 p ∷ g) × Told w xs g
+Told (chunkAt t p b w) xs l =
+    (x : List Edit) × (ys : List (List Edit)) × (f : List Fault) × (g : List Fault) × (xs ≡ x ∷ ys) × (l ≡ f ++ g) × Made (p + 8) (p + 8 + length b) x f × Told w ys g
+
+-- pieces stand one behind the other, from place p up to q
+abbrev Spaced : ℕ → ℕ → Pieces → Type 0
+Spaced p q none-left = p ≡ q
+Spaced p q (spare i s) = (i ≡ p) × (p + length s ≡ q)
+Spaced p q (past i s) = Unit {0}
+Spaced p q (other o r) = Spaced (p + length o) q r
+Spaced p q (known t i b r) = (i ≡ p) × Spaced (p + 8 + length b) q r
+
+piece-spaced : (o : Option Tag) (p q n : ℕ) (h b : List ℕ) (r : Pieces) → length h ≡ 8 → length b ≡ n → Spaced (p + 8 + n) q r → Spaced p q (piece o p h b r)
+unfolding piece
+piece-spaced none p q n h b r eh eb k = let e : p + 8 + n ≡ p + length (h ++ b) = omega (arith, length-append h b) in subst (λ (z : ℕ). Spaced z q r) e k
+piece-spaced (some t) p q n h b r eh eb k = (refl, subst (λ (z : ℕ). Spaced (p + 8 + z) q r) (sym eb) k)
+
+pieces-spaced : (f p q : ℕ) (s : List ℕ) → length s ≤ f → p + length s ≡ q → Spaced p q (piecesIn f p s)
+unfolding piecesIn
+pieces-spaced zero p q [] h e = omega arith
+pieces-spaced zero p q (c ∷ s) h e = absurd (omega arith)
+pieces-spaced (suc f) p q [] h e = omega arith
+pieces-spaced (suc f) p q (a ∷ []) h e = (refl, e)
+pieces-spaced (suc f) p q (a ∷ b ∷ []) h e = (refl, e)
+pieces-spaced (suc f) p q (a ∷ b ∷ c ∷ []) h e = (refl, e)
+pieces-spaced (suc f) p q (a ∷ b ∷ c ∷ d ∷ []) h e = (refl, e)
+pieces-spaced (suc f) p q (a ∷ b ∷ c ∷ d ∷ i ∷ []) h e = (refl, e)
+pieces-spaced (suc f) p q (a ∷ b ∷ c ∷ d ∷ i ∷ j ∷ []) h e = (refl, e)
+pieces-spaced (suc f) p q (a ∷ b ∷ c ∷ d ∷ i ∷ j ∷ k ∷ []) h e = (refl, e)
+pieces-spaced (suc f) p q (a ∷ b ∷ c ∷ d ∷ i ∷ j ∷ k ∷ m ∷ s) h e =
+    let n = word i j k m in
+    if-case (Spaced p q) (leb n (length s)) _ _
+    (λ t. let le = leb→le n (length s) t in
+    piece-spaced (tagOf (word a b c d)) p q n (a ∷ b ∷ c ∷ d ∷ i ∷ j ∷ k ∷ m ∷ []) (take n s) (piecesIn f (p + 8 + n) (drop n s)) refl (length-take-le n s le)
+    (pieces-spaced f (p + 8 + n) q (drop n s) (omega (arith, length-drop n s)) (omega (arith, length-drop n s))))
+    (λ t. tt)
+
+module _ (k : Tag) (head : ℕ) where
+  -- behind the last chunk
+  none-told : (c : Bool) (xs : List (List Edit)) (l : List Fault) → Told (if c (refused 8 head) finished) xs l → l ≡ []
+  unfolding if
+  none-told true xs l h = absurd h
+  none-told false xs l h = h .1
+
+  onward-told : (o : Option Reached) (t : Tag) (p : ℕ) (b : List ℕ) (w : Reached → Within) (xs : List (List Edit)) (l : List Fault) → Told (onwardFrom o p (λ q. chunkAt t p b (w q))) xs l
+      → (r : Reached) × Told (chunkAt t p b (w r)) xs l
+  unfolding onwardFrom
+  onward-told none t p b w xs l h = absurd h
+  onward-told (some r) t p b w xs l h = (r, h)
+
+  woven-made : (P : Pieces) (r : Reached) (p q : ℕ) (xs : List (List Edit)) (l : List Fault) → Spaced p q P → Told (inOrder k head r (found P)) xs l → Made p q (woven P xs) l
+  unfolding inOrder found woven wrapped
+  woven-made none-left r p q xs l s h = subst (Made p q []) (sym (none-told (requiredBetween (nesting k) (r .turn) end) xs l h)) (made-none p q s)
+  woven-made (spare i b) r p q xs l s h =
+      let e : l ≡ mendable 4 3 i ∷ [] = h .1 ∙ ap (λ (z : List Fault). mendable 4 3 i ∷ z) (none-told (requiredBetween (nesting k) (r .turn) end) xs (h .0) (h .2)) in
+      let d : l ≡ mendable 4 3 p ∷ [] = e ∙ ap (λ (z : ℕ). mendable 4 3 z ∷ []) (s .0) in
+      mend-made p q 4 b [] l (s .1) (inr (inr (inr (refl, d))))
+  woven-made (past i b) r p q xs l s h = absurd h
+  woven-made (other o P) r p q xs l s h = made-append p (p + length o) q (keep o ∷ []) (woven P xs) [] l (keep-made p (p + length o) o refl) (woven-made P r (p + length o) q xs l s h)
+  woven-made (known t i b P) r p q xs l s h =
+      let (v, (x, ys, f, g, ex, el, hx, hw)) = onward-told (next (nesting k) (nesting k) r t) t i b (λ v. inOrder k head v (found P)) xs l h in
+      let mx : Made (p + 8) (p + 8 + length b) x f = subst (λ (z : ℕ). Made (z + 8) (z + 8 + length b) x f) (s .0) hx in
+      let all : Made p q (wrapped t (length b) x ++ woven P ys) (f ++ g) =
+      made-append p (p + 4) q (keep (bytes (code t) []) ∷ []) _ [] (f ++ g) (keep-made p (p + 4) (bytes (code t) []) refl)
+      (made-append (p + 4) (p + 8) q (follow (length b) (length (after x)) ∷ []) _ [] (f ++ g) (follow-made (p + 4) (p + 8) (length b) (length (after x)) (omega arith))
+      (made-append (p + 8) (p + 8 + length b) q x (woven P ys) f g mx (woven-made P v (p + 8 + length b) q ys g (s .1) hw))) in
+      subst (λ (z : List (List Edit)). Made p q (woven (known t i b P) z) l) (sym ex) (subst (Made p q (wrapped t (length b) x ++ woven P ys)) (sym el) all)
+
+  -- what stands in a chunk from place q on, with the edits of its chunks
+  pub within-made : (p q last : ℕ) (s t : List ℕ) (xs : List (List Edit)) (l : List Fault) → q ≡ p → t ≡ s → q + length t ≡ last → Told (within k head p s) xs l → Made q last (woven (pieces q t) xs) l
+  unfolding within pieces
+  within-made p q last s t xs l ep es e h =
+      woven-made (pieces q t) start q last xs l (pieces-spaced (length t) q last t (omega arith) e)
+      (subst (λ (z : List ℕ). Told (within k head q z) xs l) (sym es) (subst (λ (z : ℕ). Told (within k head z s) xs l) (sym ep) h))
