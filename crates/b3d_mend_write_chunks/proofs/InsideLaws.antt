@@ -18,7 +18,8 @@ use Rattle.wire.proofs.Left.{span, left-four}
 use Rattle.wire.proofs.Found.{Framed, framed, header-end, header-cut}
 use Rattle.layout.specs.Rows.{mostBytes}
 use Rattle.shared_output.proofs.Joining.{Both}
-use Rattle.b3d_spec.specs.Tags.{tagOf}
+use Rattle.shared_output.specs.Writing.{head}
+use Rattle.b3d_spec.specs.Tags.{code, tagOf}
 use Rattle.b3d_spec.specs.declared.Tag.{Tag}
 use Rattle.b3d_chunk_cursor.specs.Chunks.{tagged}
 use Rattle.b3d_chunk_cursor.specs.declared.Tagged.{Tagged}
@@ -28,7 +29,7 @@ use Rattle.b3d_mend_spec.specs.Edits.{keep, spareOut, after}
 use Rattle.b3d_mend_spec.specs.Pieces.{Pieces, none-left, spare, past, piece, pieces, chunksOf}
 use Rattle.b3d_mend_spec.specs.Report.{entries, reportBytes}
 use Rattle.b3d_mend_judge_items.proofs.PieceSteps.{headAt, at-end, at-spare, at-past, at-piece}
-use Rattle.shared_put_or_count.specs.Emits.{Fits, Emits}
+use Rattle.shared_put_or_count.specs.Emits.{written, Fits, Emits}
 use Rattle.b3d_mend_write_spec.specs.Shown.{shown}
 use Rattle.shared_put_or_count.proofs.Putting.{Left, left-none, left-done, left-fits, left-next, left-last}
 use Rattle.b3d_mend_write_scopes.specs.Shown.{Walked, walked, nextScope, walkChunks, headed, shownPieces, walkInside, walkChunk}
@@ -38,7 +39,9 @@ use Rattle.b3d_mend_write_leaves.specs.declared.Walk.{Walk}
 use Rattle.b3d_mend_write_edits.proofs.RestLaws.{left-whole}
 use Rattle.b3d_mend_write_scopes.specs.Opens.{walkFrom}
 use Rattle.b3d_mend_write_edits.specs.Rests.{cutShown}
-use Rattle.b3d_mend_write_chunks.specs.Steps.{withHeader}
+use Rattle.b3d_mend_write_scopes.specs.Heads.{bodyAt}
+use Rattle.b3d_mend_write_scopes.specs.HeadRooms.{headWet, HeadRoom}
+use Rattle.b3d_mend_write_scopes.proofs.HeadLaws.{chunk-fits, chunk-room, chunk-done}
 
 -- ---- by the pieces
 
@@ -144,14 +147,17 @@ module _ (report : Bool) (l : ℕ) (k : Scope) (s : List ℕ) (c : Cursor) (i : 
     body-left = ap₂ (λ (x y : ℕ). left (span x y) s) (sym (f .body)) (f .after)
 
     at-known : (u : Tag) → tagOf t ≡ some u
-        → walkFrom report l k s c ≡ let w = withHeader report u (walkChunk report l k u (c .at) (left b s)) in let y = walkFrom report l (nextScope k u (w .count)) s n in walked (w .bytes ++ y .bytes) (y .count)
-    unfolding withHeader
+        → walkFrom report l k s c ≡ let w = walkChunk report l k u (c .at) (left b s) in let y = walkFrom report l (nextScope k u (w .count)) s n in walked (headed report u (w .bytes) ++ y .bytes) (y .count)
     at-known u e =
         first (some u) e ∙ by-known report (walkChunk report l) k u (c .at) (headAt s (c .at)) (left (span (c .at + 8) (n .at)) s) (pieces (n .at) (left n s))
         ∙ ap (λ (x : List ℕ). let w = walkChunk report l k u (c .at) x in let y = by report (walkChunk report l) (nextScope k u (w .count)) (pieces (n .at) (left n s)) in walked (headed report u (w .bytes) ++ y .bytes) (y .count)) body-left
         ∙ ap (λ (y : Walked). walked (headed report u (walkChunk report l k u (c .at) (left b s) .bytes) ++ y .bytes) (y .count)) (rest (nextScope k u (walkChunk report l k u (c .at) (left b s) .count)))
 
 -- ---- the loop
+
+-- a walk ends behind where it began
+pub walked-order : {wet : Bool} {w : Walked} {xs ys : List ℕ} {at : ℕ} {r : Walk} → Walks wet w xs at ys r → at ≤ r .at
+walked-order g = omega (arith, g .put .to)
 
 -- the chunks from a cursor on are left to be put
 pub record Going (s : List ℕ) (l : ℕ) (from : Cursor) (scope : Scope) (report wet : Bool) (xs : List ℕ) (start : ℕ) (ys : List ℕ) (c : Cursor) (k : Scope) (at : ℕ) : Type 0 where
@@ -233,25 +239,41 @@ module _ (s : List ℕ) (l : ℕ) (from : Cursor) (scope : Scope) (report wet : 
 
         module _ (u : Tag) (q : o ≡ tags.Known u) where
           abbrev one : Walked
-          one = withHeader report u (walkChunk report l k u (c .at) (left b s))
+          one = walkChunk report l k u (c .at) (left b s)
 
-          here : walkFrom report l k s c ≡ let y = walkFrom report l (nextScope k u (one .count)) s n in walked (one .bytes ++ y .bytes) (y .count)
+          here : walkFrom report l k s c ≡ let y = walkFrom report l (nextScope k u (one .count)) s n in walked (headed report u (one .bytes) ++ y .bytes) (y .count)
           here = at-known report l k s c (g .inside) t b n frame u (one-tag (tagOf t) u (sym q ∙ eo))
 
-          here-both : Both (walkFrom report l k s c .bytes) (one .bytes) (walkFrom report l (nextScope k u (one .count)) s n .bytes)
+          here-both : Both (walkFrom report l k s c .bytes) (headed report u (one .bytes)) (walkFrom report l (nextScope k u (one .count)) s n .bytes)
           here-both = record { is = ap (λ (x : Walked). x .bytes) here }
 
-          pub known-fits : Fits wet (withHeader report u (walkChunk report l k u (c .at) (left b s)) .bytes) at ys
+          known-fits : Fits wet (headed report u (one .bytes)) at ys
           known-fits = left-fits wet All xs start ys at _ (g .rest) _ _ here-both
 
-          pub known-next : (zs : List ℕ) (a : Walk) → Walks wet (withHeader report u (walkChunk report l k u (c .at) (left b s))) ys at zs a → (h : Scope) → h ≡ nextScope k u (a .count)
-              → Going s l from scope report wet xs start zs n h (a .at)
-          known-next zs a x h eh =
-              let z : h ≡ nextScope k u (one .count) = eh ∙ ap (nextScope k u) (x .counted) in
-              record {
-                inside = next-inside;
-                rest = subst (λ (v : Scope). Left wet All xs start zs (a .at) (walkFrom report l v s n .bytes)) (sym z) (left-next wet All xs start ys at _ (g .rest) _ _ here-both zs (a .at) (x .put));
-                counted = g .counted ∙ ap (λ (y : Walked). y .count) here ∙ ap (λ (v : Scope). walkFrom report l v s n .count) (sym z);
-              }
+          pub known-small : at < 4294967296
+          known-small = omega (arith, known-fits .small)
 
-pub ruleset inside-laws = (going-start, going-inside, going-end, cut-fits, cut-done, whole-order, whole-room, whole-less, whole-body, other-fits, other-next, known-fits, known-next)
+          -- its body, and then its header before it
+          module _ (m : ℕ) (em : m ≡ bodyAt report at) where
+            pub known-body : Fits wet (walkChunk report l k u (c .at) (left b s) .bytes) m ys
+            known-body = subst (λ (i : ℕ). Fits wet (one .bytes) i ys) (sym em) (chunk-fits report wet u (one .bytes) ys at known-fits)
+
+            module _ (zs : List ℕ) (a : Walk) (x : Walks wet (walkChunk report l k u (c .at) (left b s)) ys m zs a) where
+              put : Emits wet (one .bytes) ys (bodyAt report at) zs (a .at)
+              put = subst (λ (i : ℕ). Emits wet (one .bytes) ys i zs (a .at)) em (x .put)
+
+              size : a .at - m ≡ a .at - bodyAt report at
+              size = ap (λ (i : ℕ). a .at - i) em
+
+              pub known-head : HeadRoom report wet at (a .at - m) zs
+              known-head = chunk-room report wet u (one .bytes) ys at known-fits zs (a .at) put (a .at - m) size
+
+              pub known-next : (vs : List ℕ) → vs ≡ written (headWet report wet) (head (code u) (a .at - m) []) at zs → (h : Scope) → h ≡ nextScope k u (a .count) → Going s l from scope report wet xs start vs n h (a .at)
+              known-next vs ev h eh =
+                  let z : h ≡ nextScope k u (one .count) = eh ∙ ap (nextScope k u) (x .counted) in
+                  let done = chunk-done report wet u (one .bytes) ys at known-fits zs (a .at) put (a .at - m) size vs ev in
+                  record {
+                    inside = next-inside;
+                    rest = subst (λ (v : Scope). Left wet All xs start vs (a .at) (walkFrom report l v s n .bytes)) (sym z) (left-next wet All xs start ys at _ (g .rest) _ _ here-both vs (a .at) done);
+                    counted = g .counted ∙ ap (λ (y : Walked). y .count) here ∙ ap (λ (v : Scope). walkFrom report l v s n .count) (sym z);
+                  }

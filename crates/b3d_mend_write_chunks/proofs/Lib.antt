@@ -1,4 +1,3 @@
 -- The laws of its functions.
 pub mod BodyLaws
-pub mod ChunkLaws
 pub mod InsideLaws

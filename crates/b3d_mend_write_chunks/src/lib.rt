@@ -9,7 +9,6 @@ ghost use Rattle.shared_put_or_count.specs.Emits.{Fits};
 ghost use Rattle.b3d_mend_write_scopes.specs.Shown.{walkChunk};
 ghost use Rattle.b3d_mend_write_leaves.specs.Answers.{Walks};
 ghost use Rattle.b3d_mend_write_scopes.specs.Opens.{walkFrom};
-ghost use Rattle.b3d_mend_write_chunks.specs.Steps.{withHeader};
 use b3d_chunk_cursor::Tagged;
 use b3d_mend_write_leaves::Walk;
 use b3d_mend_write_scopes::Opening;
@@ -56,32 +55,8 @@ fn walk_body(
     }
 }
 
-// Puts a chunk of this tag whose header is at `p`: its body, then its header before it.
-fn walk_chunk(
-    file: &[u8],
-    levels: u32,
-    tag: Tag,
-    p: usize,
-    body: Cursor,
-    scope: Scope,
-    report: bool,
-    wet: bool,
-    out: &mut [u8],
-    at: usize,
-) -> Walk
-    requires { ⌜ Body p body (length (now file)) × AllBytes (now file) ⌝ }
-    requires { ⌜ Fits wet (withHeader report tag (walkChunk report levels scope tag p (left body (now file))) .bytes) at (now out) ⌝ }
-    ensures { λ r. ⌜ Walks wet (withHeader report tag (walkChunk report levels scope tag p (left body (now (file .entry))))) (now (out .entry)) at
-        (now (out .exit)) r ⌝ }
-{
-    let from = b3d_mend_write_scopes::body_at(report, at);
-    let w = walk_body(file, levels, tag, p, body, scope, report, wet, out, from);
-    let size = w.at - from;
-    b3d_mend_write_scopes::put_head(tag, size, report, wet, out, at);
-    w
-}
-
-// Puts the chunks from `from` on, each with `levels` levels left: known ones as they are mended, others as they stand, and no spare bytes.
+// Puts the chunks from `from` on, each with `levels` levels left: known ones as they are mended, the header behind the body, others as they stand, and no
+// spare bytes.
 pub fn walk_inside(
     file: &[u8],
     levels: u32,
@@ -119,7 +94,10 @@ pub fn walk_inside(
                     c = next;
                 }
                 Tagged::Known(t) => {
-                    let w = walk_chunk(file, levels, t, here, body, k, report, wet, out, at);
+                    let m = b3d_mend_write_scopes::body_at(report, at);
+                    let w = walk_body(file, levels, t, here, body, k, report, wet, out, m);
+                    let size = w.at - m;
+                    b3d_mend_write_scopes::put_head(t, size, report, wet, out, at);
                     at = w.at;
                     k = b3d_mend_write_scopes::next_scope(k, t, w.count);
                     c = next;

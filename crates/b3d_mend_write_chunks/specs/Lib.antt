@@ -1,2 +1,0 @@
--- Steps of a walk.
-pub mod Steps
