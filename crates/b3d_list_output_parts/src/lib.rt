@@ -32,6 +32,6 @@ pub fn put_nodes(file: &[u8], nodes: usize, out: &mut [u8], at: usize) -> usize
     let mut space = table();
     let rows: &mut [u32] = &mut space;
     b3d_judge::are_bytes(file);
-    b3d_read_nodes::store_nodes(file, rows);
+    b3d_read_node_table::store_nodes(file, rows);
     b3d_list_lines::put_names(file, rows, nodes, out, at)
 }

@@ -12,7 +12,7 @@ use Rattle.b3d_spec.specs.Scene.{Kind, pivot, mesh, bone, noAnim, anim}
 use Rattle.b3d_spec.specs.Tables.{kindCells, animCells}
 use Rattle.b3d_spec.specs.Tags.{Chunks, is}
 use Rattle.b3d_spec_plain_rows.specs.Plain.{plainAnim}
-use Rattle.b3d_spec_plain_rows.specs.Rows.{kindOf, animOf, nodesBefore}
+use Rattle.b3d_spec_plain_rows.specs.Rows.{kindOf, animOf}
 use Rattle.b3d_read_node_cells.specs.Parts.{partCells}
 
 -- a kind has three cells
@@ -38,8 +38,7 @@ anim-four (chunk t p b r) =
 pub anim-long : (cs : Chunks) → length (animCells (animOf cs)) ≡ 4
 anim-long cs = ap length (sym (anim-four cs))
 
-pub parts-are : (cs : Chunks) (end : ℕ) (n : Counts) (ks an : List ℕ) (below : ℕ) → ks ≡ kindCells (kindOf cs) n → an ≡ animCells (animOf cs) → below ≡ nodesBefore end cs
-    → getD ks 0 0 ∷ getD ks 1 0 ∷ getD ks 2 0 ∷ getD an 0 0 ∷ getD an 1 0 ∷ getD an 2 0 ∷ getD an 3 0 ∷ below ∷ [] ≡ partCells cs end n
+pub parts-are : (cs : Chunks) (below : ℕ) (n : Counts) (ks an : List ℕ) → ks ≡ kindCells (kindOf cs) n → an ≡ animCells (animOf cs)
+    → getD ks 0 0 ∷ getD ks 1 0 ∷ getD ks 2 0 ∷ getD an 0 0 ∷ getD an 1 0 ∷ getD an 2 0 ∷ getD an 3 0 ∷ below ∷ [] ≡ partCells cs below n
 unfolding partCells
-parts-are cs end n ks an below ek ea eb =
-    rw (ek, ea, eb) (ap₂ (λ (k a : List ℕ). k ++ (a ++ (nodesBefore end cs ∷ []))) (kind-three (kindOf cs) n) (anim-four cs))
+parts-are cs below n ks an ek ea = rw (ek, ea) (ap₂ (λ (k a : List ℕ). k ++ (a ++ (below ∷ []))) (kind-three (kindOf cs) n) (anim-four cs))

@@ -20,7 +20,7 @@ pub fn one_table(file: &[u8], k: usize, rows: u32, out: &mut [u32])
     } else if k == 2 {
         b3d_read_materials::fill_brushes(file, out);
     } else {
-        b3d_read_nodes::store_nodes(file, out);
+        b3d_read_node_table::store_nodes(file, out);
     }
 }
 

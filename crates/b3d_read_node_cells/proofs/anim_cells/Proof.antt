@@ -25,8 +25,6 @@ anim-cells-spec =
     (λ c. search (anim-laws, needs))
     (λ c. search (anim-laws, needs))
     (λ c κs. search (anim-laws, needs))
-    (λ c. search (anim-laws, needs))
-    (λ c κs. search (anim-laws, needs))
     (λ c κs. search (anim-laws, needs))
     (λ c. search (anim-laws, needs))
     (λ c. search (anim-laws, needs))

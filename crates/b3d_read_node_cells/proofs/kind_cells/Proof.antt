@@ -25,8 +25,6 @@ kind-cells-spec =
     (λ c. search (kind-laws, needs))
     (λ c. search (kind-laws, needs))
     (λ c κs. search (kind-laws, needs))
-    (λ c. search (kind-laws, needs))
-    (λ c κs. search (kind-laws, needs))
     (λ c κs. search (kind-laws, needs))
     (λ c. search (kind-laws, needs))
     (λ c κs. search (kind-laws, needs))

@@ -10,7 +10,6 @@ part-cells-spec =
     (tie.spec
     (λ c κs. search)
     (λ c κs. search)
-    (λ c κs. search)
     (λ c. search needs)
     (λ c. search needs)
     (λ c. search needs)

@@ -1,0 +1,2 @@
+-- Rows of nodes with and without their branch words.
+pub mod Marks

@@ -1,0 +1,3 @@
+-- Laws of the walk and of what it leaves to the pass backward.
+pub mod RowsAhead
+pub mod Tree

@@ -1,0 +1,2 @@
+-- A node's row with a given branch word.
+pub mod RowWith
