@@ -1,5 +1,5 @@
 -- The next row by the table: a law for each need.
-use mathlib.Core.Path.{_≡_, sym, subst}
+use mathlib.Core.Path.{_≡_, refl, ap, sym, subst, _∙_}
 use Prim.Native.Nat.{ℕ, _+_, _<_, _≤_}
 use native.Mathlib.Omega.{arith}
 use mathlib.Core.Bool.{Bool, true, false, not, _||_}
@@ -9,14 +9,17 @@ use lib.Dec.{T, eqb, leb}
 use borrow.Author.Tests.{eq-eqb, ne-eqb, le-leb, lt-leb}
 use Rattle.wire.specs.Test.{if}
 use Rattle.b3d_rows_open_items.specs.ItemsLeft.{ItemTable}
-use Rattle.b3d_rows_positions.specs.Positions.{itemsAhead, ItemPosition, Comes}
+use Rattle.b3d_rows_positions.specs.Positions.{itemsAhead, ItemPosition, Comes, NoRow}
 use Rattle.b3d_rows_positions.specs.declared.Position.{Position}
-use Rattle.b3d_rows_items.specs.NextItem.{ItemNext}
-use Rattle.b3d_rows_chunks.specs.NextChunk.{chunksAhead, ChunkPosition, ChunkNext, setsAhead, SetPosition, SetNext}
-use Rattle.b3d_rows_items.specs.NextText.{textsAhead, TextPosition, TextNext}
-use Rattle.b3d_rows_nodes.specs.NextNode.{nodesAhead, NodePosition, NodeNext}
+use Rattle.b3d_rows_positions.specs.declared.NextPosition.{NextPosition}
+use Rattle.b3d_rows_positions.specs.declared.NextPosition.the-variants as more
+use Rattle.b3d_rows_items.specs.NextItem.{ItemNexts}
+use Rattle.b3d_rows_chunks.specs.NextChunk.{chunksAhead, ChunkPosition, ChunkNexts, setsAhead, SetPosition, SetNexts}
+use Rattle.b3d_rows_items.specs.NextText.{textsAhead, TextPosition, TextNexts}
+use Rattle.b3d_rows_nodes.specs.NextNode.{nodesAhead, NodePosition, NodeNextIs, NodeNexts}
 use Rattle.b3d_rows_nodes.specs.declared.RowCursor.{RowCursor}
-use Rattle.b3d_rows.specs.NextRow.{partsFrom, rowsFrom, PartAt, RowCursorAt, PartNext, RowNext}
+use Rattle.b3d_rows_nodes.specs.declared.NextCursor.{NextCursor}
+use Rattle.b3d_rows.specs.NextRow.{partsFrom, rowsFrom, behindRow, PartAt, RowCursorAt, PartNexts, RowNext, RowNextIs, RowNexts}
 
 -- ---- tables from 4 on
 
@@ -67,47 +70,50 @@ module _ (k : ℕ) (s : List ℕ) (x : Position) where
 comes-as : (k : ℕ) (a b c d : List (List ℕ)) (row put : List ℕ) → a ≡ b → c ≡ d → Comes k b d row put → Comes k a c row put
 comes-as k a b c d row put e f h = rw (e, f) h
 
-module _ (k : ℕ) (s : List ℕ) (x : Position) (v : PartAt k s x) (h : 0 < length (partsFrom k s x)) where
+none-as : (a b : List (List ℕ)) (row put : List ℕ) → a ≡ b → NoRow b row put → NoRow a row put
+none-as a b row put e n = record { none = e ∙ n .none; same = n .same }
+
+module _ (k : ℕ) (s : List ℕ) (x : Position) (v : PartAt k s x) where
   module _ (e : k ≡ 4) where
     pub four-at : ChunkPosition s x
     four-at = v .meshes e
 
-    pub four-some : 0 < length (chunksAhead 4 s x)
-    four-some = rw (from-four k s x e) at h
-
-    pub four-next : (row put : List ℕ) (y : Position) → ChunkNext 4 s x row put y → PartNext k s x row put y
-    four-next row put y n =
+    pub four-next : (row put : List ℕ) (r : NextPosition) → ChunkNexts 4 s x row put r → PartNexts k s x row put r
+    four-next row put more.End n = record { is = none-as _ _ row put (from-four k s x e) (n .is) }
+    four-next row put (more.At y) n =
         record {
-          comes = comes-as k _ _ _ _ row put (from-four k s x e) (from-four k s y e) (rw e (n .comes));
-          at = record { meshes = λ q. n .position; sets = λ q. absurd (omega arith); lists = λ q. absurd (omega arith); items = λ t. absurd (not-items 4 tt k e t) };
+          is = record {
+            comes = comes-as k _ _ _ _ row put (from-four k s x e) (from-four k s y e) (rw e (n .is .comes));
+            at = record { meshes = λ q. n .is .position; sets = λ q. absurd (omega arith); lists = λ q. absurd (omega arith); items = λ t. absurd (not-items 4 tt k e t) };
+          };
         }
 
   module _ (d : k ≡ 4 → ⊥) (e : k ≡ 6) where
     pub six-at : SetPosition s x
     six-at = v .sets e
 
-    pub six-some : 0 < length (setsAhead s x)
-    six-some = rw (from-six k s x e) at h
-
-    pub six-next : (row put : List ℕ) (y : Position) → SetNext s x row put y → PartNext k s x row put y
-    six-next row put y n =
+    pub six-next : (row put : List ℕ) (r : NextPosition) → SetNexts s x row put r → PartNexts k s x row put r
+    six-next row put more.End n = record { is = none-as _ _ row put (from-six k s x e) (n .is) }
+    six-next row put (more.At y) n =
         record {
-          comes = comes-as k _ _ _ _ row put (from-six k s x e) (from-six k s y e) (rw e (n .comes));
-          at = record { meshes = λ q. absurd (omega arith); sets = λ q. n .position; lists = λ q. absurd (omega arith); items = λ t. absurd (not-items 6 tt k e t) };
+          is = record {
+            comes = comes-as k _ _ _ _ row put (from-six k s x e) (from-six k s y e) (rw e (n .is .comes));
+            at = record { meshes = λ q. absurd (omega arith); sets = λ q. n .is .position; lists = λ q. absurd (omega arith); items = λ t. absurd (not-items 6 tt k e t) };
+          };
         }
 
   module _ (d : k ≡ 4 → ⊥) (d₆ : k ≡ 6 → ⊥) (e : k ≡ 9) where
     pub nine-at : ChunkPosition s x
     nine-at = v .lists e
 
-    pub nine-some : 0 < length (chunksAhead 9 s x)
-    nine-some = rw (from-nine k s x e) at h
-
-    pub nine-next : (row put : List ℕ) (y : Position) → ChunkNext 9 s x row put y → PartNext k s x row put y
-    nine-next row put y n =
+    pub nine-next : (row put : List ℕ) (r : NextPosition) → ChunkNexts 9 s x row put r → PartNexts k s x row put r
+    nine-next row put more.End n = record { is = none-as _ _ row put (from-nine k s x e) (n .is) }
+    nine-next row put (more.At y) n =
         record {
-          comes = comes-as k _ _ _ _ row put (from-nine k s x e) (from-nine k s y e) (rw e (n .comes));
-          at = record { meshes = λ q. absurd (omega arith); sets = λ q. absurd (omega arith); lists = λ q. n .position; items = λ t. absurd (not-items 9 tt k e t) };
+          is = record {
+            comes = comes-as k _ _ _ _ row put (from-nine k s x e) (from-nine k s y e) (rw e (n .is .comes));
+            at = record { meshes = λ q. absurd (omega arith); sets = λ q. absurd (omega arith); lists = λ q. n .is .position; items = λ t. absurd (not-items 9 tt k e t) };
+          };
         }
 
   module _ (lo : 4 ≤ k) (hi : k ≤ 10) (d₄ : k ≡ 4 → ⊥) (d₆ : k ≡ 6 → ⊥) (d₉ : k ≡ 9 → ⊥) where
@@ -117,17 +123,17 @@ module _ (k : ℕ) (s : List ℕ) (x : Position) (v : PartAt k s x) (h : 0 < len
     pub item-at : ItemPosition k s x
     item-at = v .items item-is
 
-    pub item-some : 0 < length (itemsAhead k s x)
-    item-some = rw (from-items k s x d₄ d₆ d₉) at h
-
-    pub item-next : (row put : List ℕ) (y : Position) → ItemNext k s x row put y → PartNext k s x row put y
-    item-next row put y n =
+    pub item-next : (row put : List ℕ) (r : NextPosition) → ItemNexts k s x row put r → PartNexts k s x row put r
+    item-next row put more.End n = record { is = none-as _ _ row put (from-items k s x d₄ d₆ d₉) (n .is) }
+    item-next row put (more.At y) n =
         record {
-          comes = comes-as k _ _ _ _ row put (from-items k s x d₄ d₆ d₉) (from-items k s y d₄ d₆ d₉) (n .comes);
-          at = record { meshes = λ q. absurd (d₄ q); sets = λ q. absurd (d₆ q); lists = λ q. absurd (d₉ q); items = λ t. n .position };
+          is = record {
+            comes = comes-as k _ _ _ _ row put (from-items k s x d₄ d₆ d₉) (from-items k s y d₄ d₆ d₉) (n .is .comes);
+            at = record { meshes = λ q. absurd (d₄ q); sets = λ q. absurd (d₆ q); lists = λ q. absurd (d₉ q); items = λ t. n .is .position };
+          };
         }
 
-pub ruleset part-laws = (four-at, four-some, four-next, six-at, six-some, six-next, nine-at, nine-some, nine-next, item-is, item-at, item-some, item-next)
+pub ruleset part-laws = (four-at, four-next, six-at, six-next, nine-at, nine-next, item-is, item-at, item-next)
 
 -- ---- any table
 
@@ -144,36 +150,42 @@ module _ (k : ℕ) (s : List ℕ) (x : RowCursor) where
   unfolding rowsFrom if
   from-parts h n = rw (lt-leb k 2 h, ne-eqb k 3 n)
 
-module _ (k : ℕ) (s : List ℕ) (x : RowCursor) (v : RowCursorAt k s x) (h : 0 < length (rowsFrom k s x)) where
+module _ (k : ℕ) (s : List ℕ) (x : RowCursor) (v : RowCursorAt k s x) where
+  abbrev after : Position → RowCursor
+  after y = record { position = y; path = x .path }
+
   module _ (le : k ≤ 2) where
     pub text-at : TextPosition k s (x .position)
     text-at = v .texts le
 
-    pub text-some : 0 < length (textsAhead s (x .position))
-    text-some = rw (from-texts k s x le) at h
+    text-case : (row put : List ℕ) (r : NextPosition) → TextNexts k s (x .position) row put r → RowNexts k s x row put (behindRow x r)
+    text-case row put more.End n = record { is = record { ended = none-as _ _ row put (from-texts k s x le) (n .is); still = refl } }
+    text-case row put (more.At y) n =
+        record {
+          is = record {
+            comes = comes-as k _ _ _ _ row put (from-texts k s x le) (from-texts k s (after y) le) (n .is .comes);
+            at = record { texts = λ q. n .is .position; nodes = λ q. absurd (omega arith); parts = λ q. absurd (omega arith) };
+          };
+        }
 
-    pub text-next : (row put : List ℕ) (y : Position) → TextNext k s (x .position) row put y → (a : RowCursor) → a ≡ record { position = y; path = x .path } → RowNext k s x row put a
-    text-next row put y n a ea =
-        subst (RowNext k s x row put) (sym ea)
-        (record {
-          comes = comes-as k _ _ _ _ row put (from-texts k s x le) (from-texts k s (record { position = y; path = x .path }) le) (n .comes);
-          at = record { texts = λ q. n .position; nodes = λ q. absurd (omega arith); parts = λ q. absurd (omega arith) };
-        })
+    pub text-next : (row put : List ℕ) (r : NextPosition) → TextNexts k s (x .position) row put r → (a : NextCursor) → a ≡ behindRow x r → RowNexts k s x row put a
+    text-next row put r n a ea = subst (RowNexts k s x row put) (sym ea) (text-case row put r n)
 
   module _ (gt : 2 < k) where
     module _ (e : k ≡ 3) where
       pub node-at : NodePosition s (x .position) (x .path)
       node-at = v .nodes e
 
-      pub node-some : 0 < length (nodesAhead s (x .position) (x .path))
-      node-some = rw (from-nodes k s x e) at h
-
-      pub node-next : (row put : List ℕ) (y : RowCursor) → NodeNext s (x .position) (x .path) row put y → RowNext k s x row put y
-      node-next row put y n =
+      node-case : (row put : List ℕ) (b : Bool) (y : RowCursor) → NodeNextIs s (x .position) (x .path) row put b y → RowNextIs k s x row put b y
+      node-case row put false y n = record { ended = none-as _ _ row put (from-nodes k s x e) (n .ended); still = n .still }
+      node-case row put true y n =
           record {
             comes = comes-as k _ _ _ _ row put (from-nodes k s x e) (from-nodes k s y e) (rw e (n .comes));
             at = record { texts = λ q. absurd (omega arith); nodes = λ q. n .position; parts = λ q. absurd (omega arith) };
           }
+
+      pub node-next : (row put : List ℕ) (r : NextCursor) → NodeNexts s (x .position) (x .path) row put r → RowNexts k s x row put r
+      node-next row put r n = record { is = node-case row put (r .given) (r .cursor) (n .is) }
 
     module _ (d : k ≡ 3 → ⊥) where
       pub part-low : 4 ≤ k
@@ -182,15 +194,36 @@ module _ (k : ℕ) (s : List ℕ) (x : RowCursor) (v : RowCursorAt k s x) (h : 0
       pub part-at : PartAt k s (x .position)
       part-at = v .parts part-low
 
-      pub part-some : 0 < length (partsFrom k s (x .position))
-      part-some = rw (from-parts k s x gt d) at h
+      part-case : (row put : List ℕ) (r : NextPosition) → PartNexts k s (x .position) row put r → RowNexts k s x row put (behindRow x r)
+      part-case row put more.End n = record { is = record { ended = none-as _ _ row put (from-parts k s x gt d) (n .is); still = refl } }
+      part-case row put (more.At y) n =
+          record {
+            is = record {
+              comes = comes-as k _ _ _ _ row put (from-parts k s x gt d) (from-parts k s (after y) gt d) (n .is .comes);
+              at = record { texts = λ q. absurd (omega arith); nodes = λ q. absurd (d q); parts = λ q. n .is .at };
+            };
+          }
 
-      pub part-next : (row put : List ℕ) (y : Position) → PartNext k s (x .position) row put y → (a : RowCursor) → a ≡ record { position = y; path = x .path } → RowNext k s x row put a
-      part-next row put y n a ea =
-          subst (RowNext k s x row put) (sym ea)
-          (record {
-            comes = comes-as k _ _ _ _ row put (from-parts k s x gt d) (from-parts k s (record { position = y; path = x .path }) gt d) (n .comes);
-            at = record { texts = λ q. absurd (omega arith); nodes = λ q. absurd (d q); parts = λ q. n .at };
-          })
+      pub part-next : (row put : List ℕ) (r : NextPosition) → PartNexts k s (x .position) row put r → (a : NextCursor) → a ≡ behindRow x r → RowNexts k s x row put a
+      part-next row put r n a ea = subst (RowNexts k s x row put) (sym ea) (part-case row put r n)
 
-pub ruleset row-laws = (text-at, text-some, text-next, node-at, node-some, node-next, part-low, part-at, part-some, part-next)
+pub ruleset row-laws = (text-at, text-next, node-at, node-next, part-low, part-at, part-next)
+
+-- ---- the position behind a row
+
+pub behind-none : (x : RowCursor) (n : NextPosition) → n ≡ more.End → (a : NextCursor) → a ≡ record { given = false; cursor = x } → a ≡ behindRow x n
+behind-none x n w a e = e ∙ sym (ap (behindRow x) w)
+
+pub behind-at : (x : RowCursor) (n : NextPosition) (y : Position) → n ≡ more.At y → (a : NextCursor) → a ≡ record { given = true; cursor = record { position = y; path = x .path } } → a ≡ behindRow x n
+behind-at x n y w a e = e ∙ sym (ap (behindRow x) w)
+
+pub ruleset behind-laws = (behind-none, behind-at)
+
+-- ---- where a row is to come
+
+pub row-given : (k : ℕ) (s : List ℕ) (x : RowCursor) → 0 < length (rowsFrom k s x) → (row put : List ℕ) (r : NextCursor) → RowNexts k s x row put r → (y : RowCursor) → y ≡ r .cursor → RowNext k s x row put y
+row-given k s x h row put r n y ey = subst (RowNext k s x row put) (sym ey) (go (r .given) (r .cursor) (n .is))
+  where
+    go : (b : Bool) (z : RowCursor) → RowNextIs k s x row put b z → RowNext k s x row put z
+    go true z m = m
+    go false z m = absurd (omega (arith, ap length (m .ended .none)))

@@ -31,7 +31,8 @@ use Rattle.b3d_rows_chunks.specs.NextChunk.{chunksAhead, ChunkPosition, behindS
 use Rattle.b3d_rows_items.specs.NextText.{TextsOpen}
 use Rattle.b3d_rows_nodes.specs.NextNode.{Shallow, nodesAhead}
 use Rattle.b3d_rows_nodes.specs.declared.RowCursor.{RowCursor}
-use Rattle.b3d_rows.specs.NextRow.{partsFrom, rowsFrom, FirstItems, Starts}
+use Rattle.b3d_rows_nodes.proofs.FlatNodeLaws.{all-rows}
+use Rattle.b3d_rows.specs.NextRow.{partsFrom, rowsFrom, FirstItems, Begins, Starts}
 use Rattle.b3d_rows.proofs.NextRowLaws.{not-items, differs, item-table, from-four, from-six, from-nine, from-items, from-texts, from-nodes, from-parts}
 
 -- ---- the first items
@@ -100,7 +101,7 @@ unfolding if
 if-same true a = refl
 if-same false a = refl
 
-module _ (k : ℕ) (s : List ℕ) (lo : 1 ≤ k) (hi : k ≤ 10) (long : 12 ≤ length s) (small : length s < 0x100000000) (deep : Shallow 0 [] (flatAt s 12)) (i : OpenItems) (f : FirstItems k s i) (ends nodes : List ℕ) where
+module _ (k : ℕ) (s : List ℕ) (lo : 1 ≤ k) (hi : k ≤ 10) (long : 12 ≤ length s) (small : length s < 0x100000000) (i : OpenItems) (f : FirstItems k s i) (ends nodes : List ℕ) where
   abbrev x : Position
   x = record { at = 12; inner = span 12 12; items = i; counts = noRows }
 
@@ -133,14 +134,14 @@ module _ (k : ℕ) (s : List ℕ) (lo : 1 ≤ k) (hi : k ≤ 10) (long : 12 ≤ 
       (λ n6. by-test (eqb k 9) (λ t. let e = eqb→eq k 9 t in from-nine k s x e ∙ ap (λ (j : ℕ). flatRows j noRows (flatAt s 12)) (sym e))
       (λ n9. let a = differs k 4 n4 in let b = differs k 6 n6 in let c = differs k 9 n9 in from-items k s x a b c ∙ items-rows (omega arith) (item-table k h hi a b c))))
 
-  node-rows : nodesAhead s x (r .path) ≡ fileRows 3 s
+  node-rows : Shallow 0 [] (flatAt s 12) → nodesAhead s x (r .path) ≡ fileRows 3 s
   unfolding nodesAhead fileRows flat if start stackTo
-  node-rows = refl
+  node-rows deep = all-rows s 12 [] noRows (deep .is)
 
-  start-rows : rowsFrom k s r ≡ fileRows k s
-  start-rows =
+  start-rows : (k ≡ 3 → Shallow 0 [] (flatAt s 12)) → rowsFrom k s r ≡ fileRows k s
+  start-rows deep =
       by-test (leb k 2) (λ t. let h = leb→le k 2 t in from-texts k s r h ∙ sym (f .texts h .rows))
-      (λ n2. let g : 2 < k = nleb→lt k 2 n2 in by-test (eqb k 3) (λ t. let e = eqb→eq k 3 t in from-nodes k s r e ∙ node-rows ∙ ap (λ (j : ℕ). fileRows j s) (sym e))
+      (λ n2. let g : 2 < k = nleb→lt k 2 n2 in by-test (eqb k 3) (λ t. let e = eqb→eq k 3 t in from-nodes k s r e ∙ node-rows (deep e) ∙ ap (λ (j : ℕ). fileRows j s) (sym e))
       (λ n3. let d = differs k 3 n3 in let h : 4 ≤ k = omega arith in from-parts k s r g d ∙ parts-rows h ∙ sym (file-parts h)))
 
   chunk-position : ChunkPosition s x
@@ -149,15 +150,15 @@ module _ (k : ℕ) (s : List ℕ) (lo : 1 ≤ k) (hi : k ≤ 10) (long : 12 ≤ 
   walk : MeshPosition s x
   walk = record { run = long; inside = record { before = omega arith; within = long }; nodes = omega arith; meshes = omega arith }
 
-  pub start-is : (a : RowCursor) → a ≡ record { position = record { at = 12; inner = span 12 12; items = i; counts = noRows }; path = record { depth = 0; ends = ends; nodes = nodes } } → length ends ≡ 16 → length nodes ≡ 16 → Starts k s a
+  pub begin-is : (a : RowCursor) → a ≡ record { position = record { at = 12; inner = span 12 12; items = i; counts = noRows }; path = record { depth = 0; ends = ends; nodes = nodes } } → length ends ≡ 16 → length nodes ≡ 16 → Begins k s a
   unfolding stackTo
-  start-is a ea le ln =
-      subst (Starts k s) (sym ea)
+  begin-is a ea le ln =
+      subst (Begins k s) (sym ea)
       (record {
         rows = start-rows;
         at = record {
           texts = λ h. record { at = f .texts h .at; small = small };
-          nodes = λ e. record { run = long; small = small; path-at = record { deep = omega arith; ends = le; nodes = ln }; deep = deep; nodes = omega arith; meshes = omega arith; weights = omega arith };
+          nodes = λ e. record { run = long; small = small; path-at = record { deep = omega arith; ends = le; nodes = ln }; nodes = omega arith; meshes = omega arith; weights = omega arith };
           parts = λ h. record {
             meshes = λ e. chunk-position;
             sets = λ e. record { walk = walk; small = small; before = omega arith; triangles = omega arith };
@@ -166,3 +167,7 @@ module _ (k : ℕ) (s : List ℕ) (lo : 1 ≤ k) (hi : k ≤ 10) (long : 12 ≤ 
           };
         };
       })
+
+-- all rows are to come where nodes do not nest too deep
+pub start-is : (k : ℕ) (s : List ℕ) (r : RowCursor) → Shallow 0 [] (flatAt s 12) → Begins k s r → Starts k s r
+start-is k s r deep b = record { rows = b .rows (λ e. deep); at = b .at }

@@ -30,9 +30,10 @@ use Rattle.b3d_rows_positions.proofs.FindChunkLaws.{chunk-none, chunk-at}
 use Rattle.b3d_read_meshes.proofs.Tables.{meshes}
 use Rattle.b3d_read_animation.proofs.Tables.{lists}
 use Rattle.b3d_rows_positions.specs.declared.Position.{Position}
+use Rattle.b3d_rows_positions.specs.declared.NextPosition.the-variants as more
 use Rattle.b3d_rows_positions.proofs.PositionLaws.{owns-only}
 use Rattle.b3d_rows_positions.proofs.CountLaws.{mesh-alike, list-alike}
-use Rattle.b3d_rows_chunks.specs.NextChunk.{chunksAhead, ChunkPosition, ChunkNext}
+use Rattle.b3d_rows_chunks.specs.NextChunk.{chunksAhead, ChunkPosition, ChunkNexts}
 
 module _ (s : List ℕ) (x : Position) (v : ChunkPosition s x) where
   pub chunk-run : x .at ≤ length s
@@ -56,9 +57,9 @@ module _ (s : List ℕ) (x : Position) (v : ChunkPosition s x) where
   -- ---- a mesh
 
   module _ (r : FoundChunk) (m : ChunkFinds s (x .at) MESH (x .counts .nodes) r) where
-    pub mesh-none : r ≡ met.End → 0 < length (chunksAhead 4 s x) → (row : List ℕ) → ChunkNext 4 s x row row x
+    pub mesh-none : r ≡ met.End → (row : List ℕ) → ChunkNexts 4 s x row row more.End
     unfolding chunksAhead
-    mesh-none w h row = absurd (omega (arith, ap length (chunk-none s (x .at) MESH (x .counts .nodes) r m w .rows 4 (owns-only meshes) (x .counts) refl)))
+    mesh-none w row = record { is = record { none = chunk-none s (x .at) MESH (x .counts .nodes) r m w .rows 4 (owns-only meshes) (x .counts) refl; same = refl } }
 
     module _ (p : ℕ) (b : Cursor) (q nodes : ℕ) (w : r ≡ met.Chunk p b q nodes) where
       mesh-at : ChunkFound s (x .at) MESH (x .counts .nodes) p b q nodes
@@ -117,28 +118,30 @@ module _ (s : List ℕ) (x : Position) (v : ChunkPosition s x) where
               sets = ap₂ _+_ e₃ (sym (g .sets-are));
             }))
 
-        pub mesh-next : (y : Position) → y ≡ record { at = q; inner = x .inner; items = x .items; counts = after } → ChunkNext 4 s x row put y
+        pub mesh-next : (y : Position) → y ≡ record { at = q; inner = x .inner; items = x .items; counts = after } → ChunkNexts 4 s x row put (more.At y)
         unfolding chunksAhead width if meshCells
         mesh-next y ey =
-            subst (ChunkNext 4 s x row put) (sym ey)
+            subst (λ (z : Position). ChunkNexts 4 s x row put (more.At z)) (sym ey)
             (record {
-              comes = record { cells = meshCells node (x .counts .vertices) (x .counts .sets) (plainMesh p (left b s)); is = mesh-rows; wide = refl; stores = g .stores };
-              position = record {
-                run = mesh-at .to;
-                small = v .small;
-                nodes = omega (arith, mesh-at .few, mesh-at .behind);
-                vertices = more-vertices;
-                sets = more-sets;
-                keys = omega (arith, v .keys, mesh-at .since, mesh-at .behind);
+              is = record {
+                comes = record { cells = meshCells node (x .counts .vertices) (x .counts .sets) (plainMesh p (left b s)); is = mesh-rows; wide = refl; stores = g .stores };
+                position = record {
+                  run = mesh-at .to;
+                  small = v .small;
+                  nodes = omega (arith, mesh-at .few, mesh-at .behind);
+                  vertices = more-vertices;
+                  sets = more-sets;
+                  keys = omega (arith, v .keys, mesh-at .since, mesh-at .behind);
+                };
               };
             })
 
   -- ---- a key list
 
   module _ (r : FoundChunk) (m : ChunkFinds s (x .at) KEYS (x .counts .nodes) r) where
-    pub list-none : r ≡ met.End → 0 < length (chunksAhead 9 s x) → (row : List ℕ) → ChunkNext 9 s x row row x
+    pub list-none : r ≡ met.End → (row : List ℕ) → ChunkNexts 9 s x row row more.End
     unfolding chunksAhead
-    list-none w h row = absurd (omega (arith, ap length (chunk-none s (x .at) KEYS (x .counts .nodes) r m w .rows 9 (owns-only lists) (x .counts) refl)))
+    list-none w row = record { is = record { none = chunk-none s (x .at) KEYS (x .counts .nodes) r m w .rows 9 (owns-only lists) (x .counts) refl; same = refl } }
 
     module _ (p : ℕ) (b : Cursor) (q nodes : ℕ) (w : r ≡ met.Chunk p b q nodes) where
       list-at : ChunkFound s (x .at) KEYS (x .counts .nodes) p b q nodes
@@ -186,19 +189,21 @@ module _ (s : List ℕ) (x : Position) (v : ChunkPosition s x) where
               (list-alike (flatAt s q) (counted KEYS p (left b s) i) listed (record { nodes = y .later .nodes-are; keys = ap₂ _+_ e₂ (sym en) }))
 
           pub list-next : (row put : List ℕ) → put ≡ stored row 0 (listRow node (x .counts .keys) (plainKeys (left b s)))
-              → (y : Position) → y ≡ record { at = q; inner = x .inner; items = x .items; counts = listed } → ChunkNext 9 s x row put y
+              → (y : Position) → y ≡ record { at = q; inner = x .inner; items = x .items; counts = listed } → ChunkNexts 9 s x row put (more.At y)
           unfolding chunksAhead width if listRow
           list-next row put e y ey =
-              subst (ChunkNext 9 s x row put) (sym ey)
+              subst (λ (z : Position). ChunkNexts 9 s x row put (more.At z)) (sym ey)
               (record {
-                comes = record { cells = listRow node (x .counts .keys) (plainKeys (left b s)); is = list-rows; wide = refl; stores = e };
-                position = record {
-                  run = list-at .to;
-                  small = v .small;
-                  nodes = omega (arith, list-at .few, list-at .behind);
-                  vertices = omega (arith, v .vertices, list-at .since, list-at .behind);
-                  sets = omega (arith, v .sets, list-at .since, list-at .behind);
-                  keys = more-keys;
+                is = record {
+                  comes = record { cells = listRow node (x .counts .keys) (plainKeys (left b s)); is = list-rows; wide = refl; stores = e };
+                  position = record {
+                    run = list-at .to;
+                    small = v .small;
+                    nodes = omega (arith, list-at .few, list-at .behind);
+                    vertices = omega (arith, v .vertices, list-at .since, list-at .behind);
+                    sets = omega (arith, v .sets, list-at .since, list-at .behind);
+                    keys = more-keys;
+                  };
                 };
               })
 

@@ -32,22 +32,23 @@ use Rattle.b3d_rows_positions.specs.declared.NextPosition.{NextPosition}
 use Rattle.b3d_rows_positions.specs.declared.NextPosition.the-variants as more
 use Rattle.b3d_rows_positions.proofs.PositionLaws.{owns-only}
 use Rattle.b3d_rows_positions.proofs.CountLaws.{set-alike}
-use Rattle.b3d_rows_chunks.specs.NextChunk.{trianglesLeft, behindSets, setsAhead, SetPosition, withTriangles, SetFound, SetNext}
+use Rattle.b3d_rows_chunks.specs.NextChunk.{trianglesLeft, behindSets, setsAhead, SetPosition, withTriangles, SetFound, NoSet, SetFoundIs, SetFinds, SetNexts}
 use Rattle.b3d_rows_chunks.specs.declared.FoundSet.{FoundSet}
+use Rattle.b3d_rows_chunks.specs.declared.NextSet.{NextSet}
+use Rattle.b3d_rows_chunks.specs.declared.NextSet.the-variants as met
 
--- the sets from y on are those from x on, and there is one
+-- the sets from y on are those from x on
 pub record FindLeft (s : List ℕ) (x y : Position) : Type 0 where
   pub rows : setsAhead s x ≡ setsAhead s y
   pub position : SetPosition s y
-  pub some : 0 < length (setsAhead s x)
 
 sets-in : (p : ℕ) (b : List ℕ) (i r : ℕ) → setsIn p b i r ≡ setRows i r (setsOf (inner p b))
 unfolding setsIn
 sets-in p b i r = refl
 
 module _ (s : List ℕ) (x : Position) where
-  pub find-start : SetPosition s x → 0 < length (setsAhead s x) → FindLeft s x x
-  find-start v h = record { rows = refl; position = v; some = h }
+  pub find-start : SetPosition s x → FindLeft s x x
+  find-start v = record { rows = refl; position = v }
 
   module _ (y : Position) (v : FindLeft s x y) where
     pub find-inside : Inside (y .inner) (length s)
@@ -70,11 +71,11 @@ module _ (s : List ℕ) (x : Position) where
         only-later = ap (λ l. setRows (y .counts .meshes - 1) (y .counts .triangles) l ++ flatRows 6 (behindSets s y) (flatAt s (y .at))) none
 
         module _ (a : NextPosition) (o : MeshOpens s y a) where
-          pub find-none : a ≡ more.End → (f : FoundSet) → f ≡ record { body = y .inner; position = y } → SetFound s x f
+          pub find-none : a ≡ more.End → SetFinds s x met.End
           unfolding behindSets
-          find-none e f ef =
+          find-none e =
               let d = subst (MeshMore s y) e (o .is) in
-              absurd (omega (arith, v .some, ap length (v .rows ∙ only-later ∙ d .rows 6 (owns-only sets) (behindSets s y) refl)))
+              record { is = record { rows = v .rows ∙ only-later ∙ d .rows 6 (owns-only sets) (behindSets s y) refl } }
 
           module _ (z : Position) (e : a ≡ more.At z) where
             opened : MeshOpened s y z
@@ -110,11 +111,10 @@ module _ (s : List ℕ) (x : Position) where
                 before = opened .before;
                 triangles = omega (arith, opened .triangles, v .position .triangles, v .position .walk .inside .before, v .position .before, opened .since);
               };
-              some = v .some;
             }
 
       module _ (p : ℕ) (b n : Cursor) (w : r ≡ sought.Found p b n) where
-        pub find-there : (f : FoundSet) → f ≡ record { body = b; position = record { at = y .at; inner = n; items = y .items; counts = y .counts } } → SetFound s x f
+        pub find-there : (f : FoundSet) → f ≡ record { body = b; position = record { at = y .at; inner = n; items = y .items; counts = y .counts } } → SetFinds s x (met.At f)
         unfolding setsAhead setRows setRow behindSets triangleRows
         find-there f ef =
             let c = one-set s (y .inner) r u p b n w in
@@ -123,21 +123,29 @@ module _ (s : List ℕ) (x : Position) where
             let g = sought-among s (y .inner) TRIS r u p b n w in
             let q : y .counts .triangles + length (triangleRows (setsOf (ahead s (y .inner)))) ≡ y .counts .triangles + k + length (triangleRows (setsOf (ahead s n))) =
             ap (λ l. y .counts .triangles + length (triangleRows l)) c ∙ omega (arith, length-append (t .triangles) (triangleRows (setsOf (ahead s n)))) in
-            subst (SetFound s x) (sym ef)
+            subst (λ (h : FoundSet). SetFinds s x (met.At h)) (sym ef)
             (record {
-              rows = v .rows ∙ rw (q, c);
-              inside = sought-body s (y .inner) TRIS r u p b n w (length s) (v .position .walk .inside);
-              walk = record { run = v .position .walk .run; inside = sought-next s (y .inner) TRIS r u p b n w (length s) (v .position .walk .inside); nodes = v .position .walk .nodes; meshes = v .position .walk .meshes };
-              small = v .position .small;
-              before = omega (arith, g .same, v .position .before);
-              triangles = omega (arith, group-few false (left b s), left-most s b, v .position .triangles, g .from, g .body, g .room, g .after);
+              is = record {
+                rows = v .rows ∙ rw (q, c);
+                inside = sought-body s (y .inner) TRIS r u p b n w (length s) (v .position .walk .inside);
+                walk = record { run = v .position .walk .run; inside = sought-next s (y .inner) TRIS r u p b n w (length s) (v .position .walk .inside); nodes = v .position .walk .nodes; meshes = v .position .walk .meshes };
+                small = v .position .small;
+                before = omega (arith, g .same, v .position .before);
+                triangles = omega (arith, group-few false (left b s), left-most s b, v .position .triangles, g .from, g .body, g .room, g .after);
+              };
             })
 
 pub ruleset find-laws = (find-start, find-inside, find-walk, find-none, find-less, find-on, find-there)
 
 -- ---- the row
 
-module _ (s : List ℕ) (x : Position) (r : FoundSet) (v : SetFound s x r) where
+pub set-none : (s : List ℕ) (x : Position) (a : NextSet) → SetFinds s x a → a ≡ met.End → (row : List ℕ) → SetNexts s x row row more.End
+set-none s x a u w row = let e : NoSet s x = subst (SetFoundIs s x) w (u .is) in record { is = record { none = e .rows; same = refl } }
+
+module _ (s : List ℕ) (x : Position) (a : NextSet) (u : SetFinds s x a) (r : FoundSet) (w : a ≡ met.At r) where
+  v : SetFound s x r
+  v = subst (SetFoundIs s x) w (u .is)
+
   pub set-inside : Inside (r .body) (length s)
   set-inside = v .inside
 
@@ -155,18 +163,20 @@ module _ (s : List ℕ) (x : Position) (r : FoundSet) (v : SetFound s x r) where
     set-sum = record { fits = omega (arith, v .triangles, v .walk .inside .before, v .walk .inside .within, v .small) }
 
     pub set-next : (mesh : ℕ) → mesh ≡ r .position .counts .meshes - 1 → (row put : List ℕ) → put ≡ stored row 0 (setRow mesh (r .position .counts .triangles) (plainTriangles (left (r .body) s)))
-        → (y : Position) → y ≡ withTriangles n (r .position) → SetNext s x row put y
+        → (y : Position) → y ≡ withTriangles n (r .position) → SetNexts s x row put (more.At y)
     unfolding width if setRow
     set-next mesh em row put e y ey =
-        subst (SetNext s x row put) (sym (ey ∙ ap (λ (i : ℕ). withTriangles i (r .position)) en))
+        subst (λ (z : Position). SetNexts s x row put (more.At z)) (sym (ey ∙ ap (λ (i : ℕ). withTriangles i (r .position)) en))
         (record {
-          comes = record { cells = setRow (r .position .counts .meshes - 1) (r .position .counts .triangles) (plainTriangles (left (r .body) s)); is = v .rows; wide = refl; stores = rw em at e };
-          position = record {
-            walk = record { run = v .walk .run; inside = v .walk .inside; nodes = v .walk .nodes; meshes = v .walk .meshes };
-            small = v .small;
-            before = v .before;
-            triangles = v .triangles;
+          is = record {
+            comes = record { cells = setRow (r .position .counts .meshes - 1) (r .position .counts .triangles) (plainTriangles (left (r .body) s)); is = v .rows; wide = refl; stores = rw em at e };
+            position = record {
+              walk = record { run = v .walk .run; inside = v .walk .inside; nodes = v .walk .nodes; meshes = v .walk .meshes };
+              small = v .small;
+              before = v .before;
+              triangles = v .triangles;
+            };
           };
         })
 
-pub ruleset set-laws = (set-inside, set-small, set-mesh, set-first, set-sum, set-next)
+pub ruleset set-laws = (set-none, set-inside, set-small, set-mesh, set-first, set-sum, set-next)

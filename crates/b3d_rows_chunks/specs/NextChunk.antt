@@ -1,7 +1,7 @@
 -- Rows that are still to come of tables that have a row for a chunk: meshes and key lists, and the triangle sets of each MESH.
 use mathlib.Core.Path.{_≡_}
 use Prim.Native.Nat.{ℕ, _+_, _-_, _<_, _≤_}
-use mathlib.Core.List.{List, _∷_, _++_}
+use mathlib.Core.List.{List, [], _∷_, _++_}
 use lib.ListN.{length}
 use Rattle.wire.specs.Cursors.{Inside, left}
 use Rattle.b3d_spec.specs.declared.Counts.{Counts}
@@ -11,9 +11,13 @@ use Rattle.b3d_spec_plain_rows.specs.Plain.{plainTriangles, setsOf}
 use Rattle.b3d_spec_plain_rows.specs.Rows.{flatRows}
 use Rattle.b3d_chunk_walk.specs.Seeks.{ahead}
 use Rattle.b3d_read_item_rows.specs.Items.{setRow}
-use Rattle.b3d_rows_positions.specs.Positions.{MeshPosition, Comes}
+use Rattle.b3d_rows_positions.specs.Positions.{MeshPosition, Comes, NoRow}
 use Rattle.b3d_rows_positions.specs.declared.Position.{Position}
+use Rattle.b3d_rows_positions.specs.declared.NextPosition.{NextPosition}
+use Rattle.b3d_rows_positions.specs.declared.NextPosition.the-variants as more
 use Rattle.b3d_rows_chunks.specs.declared.FoundSet.{FoundSet}
+use Rattle.b3d_rows_chunks.specs.declared.NextSet.{NextSet}
+use Rattle.b3d_rows_chunks.specs.declared.NextSet.the-variants as met
 
 -- ---- tables 4 and 9
 
@@ -35,12 +39,21 @@ pub record ChunkPosition (s : List ℕ) (x : Position) : Type 0 where
   -- and no more keys
   pub keys : x .counts .keys ≤ x .at
 
--- what `next_mesh` and `next_list` do
+-- the step from x to y, over a row of table k
 pub record ChunkNext (k : ℕ) (s : List ℕ) (x : Position) (row put : List ℕ) (y : Position) : Type 0 where
   -- the next row is stored, and the others are to come
   pub comes : Comes k (chunksAhead k s x) (chunksAhead k s y) row put
   -- the position behind it is one in the table
   pub position : ChunkPosition s y
+
+abbrev pub ChunkNextIs : ℕ → List ℕ → Position → List ℕ → List ℕ → NextPosition → Type 0
+ChunkNextIs k s x row put (more.At y) = ChunkNext k s x row put y
+ChunkNextIs k s x row put more.End = NoRow (chunksAhead k s x) row put
+
+-- what `next_mesh` and `next_list` do
+pub record ChunkNexts (k : ℕ) (s : List ℕ) (x : Position) (row put : List ℕ) (r : NextPosition) : Type 0 where
+  -- by the case of the answer
+  pub is : ChunkNextIs k s x row put r
 
 -- ---- table 6
 
@@ -111,9 +124,32 @@ pub record SetFound (s : List ℕ) (x : Position) (r : FoundSet) : Type 0 where
   -- there are no more triangles before than bytes
   pub triangles : r .position .counts .triangles + length (plainTriangles (left (r .body) s) .triangles) ≤ r .position .inner .at
 
--- what `next_set` does
+-- no set comes from x on
+pub record NoSet (s : List ℕ) (x : Position) : Type 0 where
+  -- none is to come
+  pub rows : setsAhead s x ≡ []
+
+abbrev pub SetFoundIs : List ℕ → Position → NextSet → Type 0
+SetFoundIs s x (met.At f) = SetFound s x f
+SetFoundIs s x met.End = NoSet s x
+
+-- what `find_set` returns
+pub record SetFinds (s : List ℕ) (x : Position) (r : NextSet) : Type 0 where
+  -- by the case of the answer
+  pub is : SetFoundIs s x r
+
+-- the step from x to y, over a row of table 6
 pub record SetNext (s : List ℕ) (x : Position) (row put : List ℕ) (y : Position) : Type 0 where
   -- the next row is stored, and the others are to come
   pub comes : Comes 6 (setsAhead s x) (setsAhead s y) row put
   -- the position behind it is one in table 6
   pub position : SetPosition s y
+
+abbrev pub SetNextIs : List ℕ → Position → List ℕ → List ℕ → NextPosition → Type 0
+SetNextIs s x row put (more.At y) = SetNext s x row put y
+SetNextIs s x row put more.End = NoRow (setsAhead s x) row put
+
+-- what `next_set` does
+pub record SetNexts (s : List ℕ) (x : Position) (row put : List ℕ) (r : NextPosition) : Type 0 where
+  -- by the case of the answer
+  pub is : SetNextIs s x row put r

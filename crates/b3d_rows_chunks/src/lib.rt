@@ -1,8 +1,8 @@
 // The next row of tables that have a row for a chunk: 4, the meshes, 9, the key lists, and 6, the triangle sets of each MESH.
-ghost use Prim.Native.Nat.{_<_, _≤_};
+ghost use Prim.Native.Nat.{_≤_};
 ghost use lib.ListN.{length};
 ghost use Rattle.b3d_spec.specs.Tables.{vertexWidth};
-ghost use Rattle.b3d_rows_chunks.specs.NextChunk.{chunksAhead, ChunkPosition, ChunkNext, setsAhead, SetPosition, SetFound, SetNext};
+ghost use Rattle.b3d_rows_chunks.specs.NextChunk.{ChunkPosition, ChunkNexts, SetPosition, SetFinds, SetNexts};
 use b3d_chunk_walk::Sought;
 use b3d_rows_positions::FoundChunk;
 use b3d_rows_positions::NextPosition;
@@ -10,10 +10,11 @@ use b3d_rows_positions::Position;
 use b3d_spec::Tag;
 use wire::Cursor;
 
-// Writes the next row of table 4 into the start of `row` and returns the position behind it. The cells behind the row stay.
-pub fn next_mesh(file: &[u8], x: Position, row: &mut [u32]) -> Position
-    requires { ⌜ ChunkPosition (now file) x × (0 < length (chunksAhead 4 (now file) x)) × (vertexWidth ≤ length (now row)) ⌝ }
-    ensures { λ r. ⌜ ChunkNext 4 (now (file .entry)) x (now (row .entry)) (now (row .exit)) r ⌝ }
+// Writes the next row of table 4 into the start of `row` and returns the position behind it. The cells behind the row stay. Where no row is to come, `row`
+// stays, and the answer is `End`.
+pub fn next_mesh(file: &[u8], x: Position, row: &mut [u32]) -> NextPosition
+    requires { ⌜ ChunkPosition (now file) x × (vertexWidth ≤ length (now row)) ⌝ }
+    ensures { λ r. ⌜ ChunkNexts 4 (now (file .entry)) x (now (row .entry)) (now (row .exit)) r ⌝ }
 {
     let mut counts = x.counts;
     let FoundChunk::Chunk {
@@ -23,7 +24,7 @@ pub fn next_mesh(file: &[u8], x: Position, row: &mut [u32]) -> Position
         nodes,
     } = b3d_rows_positions::find_chunk(file, x.at, Tag::MESH, counts.nodes)
     else {
-        return x;
+        return NextPosition::End;
     };
     let node = b3d_chunk_walk::current(nodes);
     let more = b3d_read_mesh_rows::store_mesh(
@@ -43,18 +44,19 @@ pub fn next_mesh(file: &[u8], x: Position, row: &mut [u32]) -> Position
     counts.sets = sets;
     let inner = x.inner;
     let items = x.items;
-    Position {
+    NextPosition::At(Position {
         at: next,
         inner,
         items,
         counts,
-    }
+    })
 }
 
-// Writes the next row of table 9 into the start of `row` and returns the position behind it. The cells behind the row stay.
-pub fn next_list(file: &[u8], x: Position, row: &mut [u32]) -> Position
-    requires { ⌜ ChunkPosition (now file) x × (0 < length (chunksAhead 9 (now file) x)) × (vertexWidth ≤ length (now row)) ⌝ }
-    ensures { λ r. ⌜ ChunkNext 9 (now (file .entry)) x (now (row .entry)) (now (row .exit)) r ⌝ }
+// Writes the next row of table 9 into the start of `row` and returns the position behind it. The cells behind the row stay. Where no row is to come, `row`
+// stays, and the answer is `End`.
+pub fn next_list(file: &[u8], x: Position, row: &mut [u32]) -> NextPosition
+    requires { ⌜ ChunkPosition (now file) x × (vertexWidth ≤ length (now row)) ⌝ }
+    ensures { λ r. ⌜ ChunkNexts 9 (now (file .entry)) x (now (row .entry)) (now (row .exit)) r ⌝ }
 {
     let mut counts = x.counts;
     let FoundChunk::Chunk {
@@ -64,7 +66,7 @@ pub fn next_list(file: &[u8], x: Position, row: &mut [u32]) -> Position
         ..
     } = b3d_rows_positions::find_chunk(file, x.at, Tag::KEYS, counts.nodes)
     else {
-        return x;
+        return NextPosition::End;
     };
     let node = b3d_chunk_walk::current(nodes);
     let n = b3d_read_item_rows::store_group(file, body, true, node, counts.keys, 0, row);
@@ -72,12 +74,12 @@ pub fn next_list(file: &[u8], x: Position, row: &mut [u32]) -> Position
     counts.keys = counts.keys + n;
     let inner = x.inner;
     let items = x.items;
-    Position {
+    NextPosition::At(Position {
         at: next,
         inner,
         items,
         counts,
-    }
+    })
 }
 
 // The next TRIS: its `body`, and the position behind it.
@@ -86,10 +88,16 @@ pub struct FoundSet {
     pub position: Position,
 }
 
-// Returns the first TRIS from `from` on; one is to come.
-fn find_set(file: &[u8], from: Position) -> FoundSet
-    requires { ⌜ SetPosition (now file) from × (0 < length (setsAhead (now file) from)) ⌝ }
-    ensures { λ r. ⌜ SetFound (now (file .entry)) from r ⌝ }
+// The next TRIS, or `End` where none is to come.
+pub enum NextSet {
+    At(FoundSet),
+    End,
+}
+
+// Returns the first TRIS from `from` on, `End` where none is to come.
+fn find_set(file: &[u8], from: Position) -> NextSet
+    requires { ⌜ SetPosition (now file) from ⌝ }
+    ensures { λ r. ⌜ SetFinds (now (file .entry)) from r ⌝ }
 {
     let mut x = from;
     loop {
@@ -102,7 +110,7 @@ fn find_set(file: &[u8], from: Position) -> FoundSet
             } => {
                 let items = x.items;
                 let counts = x.counts;
-                return FoundSet {
+                return NextSet::At(FoundSet {
                     body,
                     position: Position {
                         at: x.at,
@@ -110,14 +118,11 @@ fn find_set(file: &[u8], from: Position) -> FoundSet
                         items,
                         counts,
                     },
-                };
+                });
             }
             Sought::Nothing => {
                 let NextPosition::At(y) = b3d_rows_positions::open_mesh(file, x) else {
-                    return FoundSet {
-                        body: c,
-                        position: x,
-                    };
+                    return NextSet::End;
                 };
                 x = y;
             }
@@ -125,12 +130,15 @@ fn find_set(file: &[u8], from: Position) -> FoundSet
     }
 }
 
-// Writes the next row of table 6 into the start of `row` and returns the position behind it. The cells behind the row stay.
-pub fn next_set(file: &[u8], x: Position, row: &mut [u32]) -> Position
-    requires { ⌜ SetPosition (now file) x × (0 < length (setsAhead (now file) x)) × (vertexWidth ≤ length (now row)) ⌝ }
-    ensures { λ r. ⌜ SetNext (now (file .entry)) x (now (row .entry)) (now (row .exit)) r ⌝ }
+// Writes the next row of table 6 into the start of `row` and returns the position behind it. The cells behind the row stay. Where no row is to come, `row`
+// stays, and the answer is `End`.
+pub fn next_set(file: &[u8], x: Position, row: &mut [u32]) -> NextPosition
+    requires { ⌜ SetPosition (now file) x × (vertexWidth ≤ length (now row)) ⌝ }
+    ensures { λ r. ⌜ SetNexts (now (file .entry)) x (now (row .entry)) (now (row .exit)) r ⌝ }
 {
-    let set = find_set(file, x);
+    let NextSet::At(set) = find_set(file, x) else {
+        return NextPosition::End;
+    };
     let position = set.position;
     let mut counts = position.counts;
     let mesh = b3d_chunk_walk::current(counts.meshes);
@@ -138,10 +146,10 @@ pub fn next_set(file: &[u8], x: Position, row: &mut [u32]) -> Position
     counts.triangles = counts.triangles + n;
     let inner = position.inner;
     let items = position.items;
-    Position {
+    NextPosition::At(Position {
         at: position.at,
         inner,
         items,
         counts,
-    }
+    })
 }

@@ -1,5 +1,5 @@
 -- The next text with its words: a law for each need.
-use mathlib.Core.Path.{_≡_, ap, sym, subst, _∙_}
+use mathlib.Core.Path.{_≡_, refl, ap, sym, subst, _∙_}
 use Prim.Native.Nat.{ℕ, _+_, _-_, _*_, _<_, _≤_}
 use native.Mathlib.Omega.{arith}
 use mathlib.Core.List.{List, _∷_, _++_, map}
@@ -20,7 +20,8 @@ use Rattle.b3d_spec_plain_rows.specs.Plain.{nextItem, namedItems}
 use Rattle.b3d_spec_plain_rows.proofs.Items.{items-from}
 use Rattle.b3d_read_materials.specs.Texts.{namedRow}
 use Rattle.b3d_rows_positions.specs.declared.Position.{Position}
-use Rattle.b3d_rows_items.specs.NextText.{textRows, TextPosition, TextNext}
+use Rattle.b3d_rows_positions.specs.declared.NextPosition.the-variants as more
+use Rattle.b3d_rows_items.specs.NextText.{textRows, TextPosition, TextNexts}
 
 module _ (k : ℕ) (s : List ℕ) (x : Position) (v : TextPosition k s x) where
   abbrev c : Cursor
@@ -42,11 +43,11 @@ module _ (k : ℕ) (s : List ℕ) (x : Position) (v : TextPosition k s x) where
   text-place = omega (arith, v .at .inside .before, v .at .inside .within, v .small)
 
   module _ (r : Named) (e : r ≡ namedAt s (x .items .rest) (x .items .words)) where
-    pub text-none : r ≡ named.Cut → 0 < length (textRows s (x .items)) → (row : List ℕ) → TextNext k s x row row x
+    pub text-none : r ≡ named.Cut → (row : List ℕ) → TextNexts k s x row row more.End
     unfolding nextItem textRows
-    text-none q h row =
+    text-none q row =
         let z = items-from n (c .at) (left c s) ∙ ap (nextItem (namedItems n)) (named-cut s c n (v .at .inside) (replicate n any) (length-replicate n any) r e q) in
-        absurd (omega (arith, ap (λ (l : List (Name × List ℕ)). length (map (namedRow free) l)) z))
+        record { is = record { none = ap (λ (l : List (Name × List ℕ)). map (namedRow free) l) z; same = refl } }
 
     module _ (b : NamedIn (x .items .rest) (x .items .words) r) (len : ℕ) (w m : Cursor) (q : r ≡ named.Is len w m) where
       pub text-row : Inside w (length s)
@@ -82,13 +83,15 @@ module _ (k : ℕ) (s : List ℕ) (x : Position) (v : TextPosition k s x) where
 
         pub text-next : (row put : List ℕ) → put ≡ sets row 0 (x .items .rest .at ∷ len ∷ (wordsOf (x .items .words) (left w s) ++ replicate j NONE))
             → (y : Position) → y ≡ record { at = x .at; inner = x .inner; items = record { rest = m; words = x .items .words; flags = x .items .flags; sets = x .items .sets; size = x .items .size }; counts = x .counts }
-            → TextNext k s x row put y
+            → TextNexts k s x row put (more.At y)
         unfolding textRows
         text-next row put ep y ey =
-            subst (TextNext k s x row put) (sym ey)
+            subst (λ (z : Position). TextNexts k s x row put (more.At z)) (sym ey)
             (record {
-              comes = record { cells = cells; is = one; wide = cells-long ∙ v .at .wide; stores = rw ej at ep };
-              position = record { at = record { inside = after-inside c n r b len w m q (length s) (v .at .inside); words = v .at .words; wide = v .at .wide; most = v .at .most }; small = v .small };
+              is = record {
+                comes = record { cells = cells; is = one; wide = cells-long ∙ v .at .wide; stores = rw ej at ep };
+                position = record { at = record { inside = after-inside c n r b len w m q (length s) (v .at .inside); words = v .at .words; wide = v .at .wide; most = v .at .most }; small = v .small };
+              };
             })
 
 pub ruleset text-laws = (text-inside, text-words, text-place, text-none, text-row, text-room, text-size, text-wide, text-next)

@@ -9,8 +9,10 @@ use Rattle.b3d_spec_plain_rows.specs.Plain.{namedItems}
 use Rattle.b3d_spec_plain_rows.specs.Rows.{fileRows}
 use Rattle.b3d_read_materials.specs.Texts.{namedRow}
 use Rattle.b3d_rows_open_items.specs.declared.OpenItems.{OpenItems}
-use Rattle.b3d_rows_positions.specs.Positions.{Comes}
+use Rattle.b3d_rows_positions.specs.Positions.{Comes, NoRow}
 use Rattle.b3d_rows_positions.specs.declared.Position.{Position}
+use Rattle.b3d_rows_positions.specs.declared.NextPosition.{NextPosition}
+use Rattle.b3d_rows_positions.specs.declared.NextPosition.the-variants as more
 
 -- the rows of the texts from a place on
 unfoldable pub textRows : List ℕ → OpenItems → List (List ℕ)
@@ -44,9 +46,18 @@ pub record TextPosition (k : ℕ) (s : List ℕ) (x : Position) : Type 0 where
   -- places are numbers of four bytes
   pub small : length s < 0x100000000
 
--- what `next_text` does
+-- the step from x to y, over a row of table k
 pub record TextNext (k : ℕ) (s : List ℕ) (x : Position) (row put : List ℕ) (y : Position) : Type 0 where
   -- the next row is stored, and the others are to come
   pub comes : Comes k (textsAhead s x) (textsAhead s y) row put
   -- the position behind it is one in table k
   pub position : TextPosition k s y
+
+abbrev pub TextNextIs : ℕ → List ℕ → Position → List ℕ → List ℕ → NextPosition → Type 0
+TextNextIs k s x row put (more.At y) = TextNext k s x row put y
+TextNextIs k s x row put more.End = NoRow (textsAhead s x) row put
+
+-- what `next_text` does
+pub record TextNexts (k : ℕ) (s : List ℕ) (x : Position) (row put : List ℕ) (r : NextPosition) : Type 0 where
+  -- by the case of the answer
+  pub is : TextNextIs k s x row put r

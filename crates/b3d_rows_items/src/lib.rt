@@ -1,13 +1,13 @@
 // The next row of a table of items: 5, 7, 8 and 10 (vertices, triangles, weights, keys) by `next_item`, 1 and 2 (textures, brushes, which begin with a text) by
 // `next_text`.
 ghost use mathlib.Core.Path.{_≡_};
-ghost use Prim.Native.Nat.{_<_, _≤_};
+ghost use Prim.Native.Nat.{_≤_};
 ghost use lib.ListN.{length};
 ghost use Rattle.b3d_spec.specs.Tables.{vertexWidth};
 ghost use Rattle.b3d_rows_open_items.specs.ItemsLeft.{ItemTable};
-ghost use Rattle.b3d_rows_positions.specs.Positions.{itemsAhead, ItemPosition, ItemsMore, ItemFound};
-ghost use Rattle.b3d_rows_items.specs.NextItem.{ItemNext};
-ghost use Rattle.b3d_rows_items.specs.NextText.{textsAhead, TextsOpen, TextPosition, TextNext};
+ghost use Rattle.b3d_rows_positions.specs.Positions.{ItemPosition, ItemsMore, ItemFinds};
+ghost use Rattle.b3d_rows_items.specs.NextItem.{ItemNexts};
+ghost use Rattle.b3d_rows_items.specs.NextText.{TextsOpen, TextPosition, TextNexts};
 use b3d_chunk_cursor::Named;
 use b3d_chunk_walk::Sought;
 use b3d_rows_open_items::OpenItems;
@@ -28,38 +28,41 @@ fn more_items(file: &[u8], k: u32, x: Position) -> NextPosition
     b3d_rows_positions::more_chunks(file, k, x)
 }
 
-// Returns the position before the first item of table `k` from `from` on; one is to come.
-fn find_item(file: &[u8], k: u32, from: Position) -> Position
-    requires { ⌜ ItemTable k × ItemPosition k (now file) from × (0 < length (itemsAhead k (now file) from)) ⌝ }
-    ensures { λ r. ⌜ ItemFound k (now (file .entry)) from r ⌝ }
+// Returns the position before the first item of table `k` from `from` on, `End` where none is to come.
+fn find_item(file: &[u8], k: u32, from: Position) -> NextPosition
+    requires { ⌜ ItemTable k × ItemPosition k (now file) from ⌝ }
+    ensures { λ r. ⌜ ItemFinds k (now (file .entry)) from r ⌝ }
 {
     let mut x = from;
     loop {
         let items = x.items;
         let rest = items.rest;
         if 4 * items.words <= rest.end - rest.at {
-            return x;
+            return NextPosition::At(x);
         }
         let NextPosition::At(y) = more_items(file, k, x) else {
-            return x;
+            return NextPosition::End;
         };
         x = y;
     }
 }
 
-// Writes the next row of table `k`, which is 5, 7, 8 or 10, into the start of `row` and returns the position behind it. The cells behind the row stay.
-pub fn next_item(file: &[u8], k: u32, from: Position, row: &mut [u32]) -> Position
-    requires { ⌜ ItemTable k × ItemPosition k (now file) from × (0 < length (itemsAhead k (now file) from)) × (vertexWidth ≤ length (now row)) ⌝ }
-    ensures { λ r. ⌜ ItemNext k (now (file .entry)) from (now (row .entry)) (now (row .exit)) r ⌝ }
+// Writes the next row of table `k`, which is 5, 7, 8 or 10, into the start of `row` and returns the position behind it. The cells behind the row stay. Where no
+// row is to come, `row` stays, and the answer is `End`.
+pub fn next_item(file: &[u8], k: u32, from: Position, row: &mut [u32]) -> NextPosition
+    requires { ⌜ ItemTable k × ItemPosition k (now file) from × (vertexWidth ≤ length (now row)) ⌝ }
+    ensures { λ r. ⌜ ItemNexts k (now (file .entry)) from (now (row .entry)) (now (row .exit)) r ⌝ }
 {
-    let x = find_item(file, k, from);
+    let NextPosition::At(x) = find_item(file, k, from) else {
+        return NextPosition::End;
+    };
     let items = x.items;
     b3d_rows_open_items::put_item(file, k, items, row);
     let rest = items.rest;
     let at = rest.at + 4 * items.words;
     let inner = x.inner;
     let counts = x.counts;
-    Position {
+    NextPosition::At(Position {
         at: x.at,
         inner,
         items: OpenItems {
@@ -70,7 +73,7 @@ pub fn next_item(file: &[u8], k: u32, from: Position, row: &mut [u32]) -> Positi
             size: items.size,
         },
         counts,
-    }
+    })
 }
 
 // Returns no texts: items of a row with 7 words, at the place `end`, with `free` cells at its end that name no texture.
@@ -124,15 +127,16 @@ pub fn open_brushes(file: &[u8]) -> OpenItems
     }
 }
 
-// Writes the next row of table `k`, which is 1 or 2, into the start of `row` and returns the position behind it. The cells behind the row stay.
-pub fn next_text(file: &[u8], k: u32, x: Position, row: &mut [u32]) -> Position
-    requires { ⌜ TextPosition k (now file) x × (0 < length (textsAhead (now file) x)) × (vertexWidth ≤ length (now row)) ⌝ }
-    ensures { λ r. ⌜ TextNext k (now (file .entry)) x (now (row .entry)) (now (row .exit)) r ⌝ }
+// Writes the next row of table `k`, which is 1 or 2, into the start of `row` and returns the position behind it. The cells behind the row stay. Where no row is
+// to come, `row` stays, and the answer is `End`.
+pub fn next_text(file: &[u8], k: u32, x: Position, row: &mut [u32]) -> NextPosition
+    requires { ⌜ TextPosition k (now file) x × (vertexWidth ≤ length (now row)) ⌝ }
+    ensures { λ r. ⌜ TextNexts k (now (file .entry)) x (now (row .entry)) (now (row .exit)) r ⌝ }
 {
     let items = x.items;
     let c = items.rest;
     match b3d_chunk_cursor::named_row(file, c, items.words) {
-        Named::Cut => x,
+        Named::Cut => NextPosition::End,
         Named::Is {
             length,
             row: w,
@@ -142,7 +146,7 @@ pub fn next_text(file: &[u8], k: u32, x: Position, row: &mut [u32]) -> Position
             b3d_read_materials::put_row(file, c.at, length, w, items.words, free, 0, row);
             let inner = x.inner;
             let counts = x.counts;
-            Position {
+            NextPosition::At(Position {
                 at: x.at,
                 inner,
                 items: OpenItems {
@@ -153,7 +157,7 @@ pub fn next_text(file: &[u8], k: u32, x: Position, row: &mut [u32]) -> Position
                     size: items.size,
                 },
                 counts,
-            }
+            })
         }
     }
 }

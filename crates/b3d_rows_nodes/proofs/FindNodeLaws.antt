@@ -18,14 +18,15 @@ use Rattle.b3d_spec.specs.declared.Tag.{Tag}
 use Rattle.b3d_spec.specs.declared.Tag.the-variants.{NODE, MESH, BONE}
 use Rattle.b3d_spec.specs.Tags.{is}
 use Rattle.b3d_spec_plain_rows.specs.Flat.{flatAt}
-use Rattle.b3d_spec_plain_rows.specs.Rows.{Open, nodeRows, counted}
+use Rattle.b3d_spec_plain_rows.specs.Rows.{Open, counted}
 use Rattle.b3d_chunk_walk.specs.Walks.{ChunkIs, Ends, FlatIs, Steps}
 use Rattle.b3d_chunk_walk.specs.declared.Flat.{Flat}
 use Rattle.b3d_chunk_walk.specs.declared.Flat.the-variants as run
 use Rattle.b3d_chunk_walk.proofs.Counting.{tag-same, counted-nodes, counted-meshes, counted-weights}
 use Rattle.b3d_read_node_cells.proofs.Own.{bone-count}
-use Rattle.b3d_rows_nodes.specs.NextNode.{shallow, NodeFinds}
+use Rattle.b3d_rows_nodes.specs.NextNode.{shallowRows, NodeFinds}
 use Rattle.b3d_rows_nodes.specs.declared.FoundNode.the-variants as met
+use Rattle.b3d_rows_nodes.proofs.FlatNodeLaws.{no-rows}
 
 -- the rows from one place on are those from a later one on, but for counts
 pub record Reached (s : List ℕ) (from at meshes weights : ℕ) (l : List Open) (n : Counts) : Type 0 where
@@ -33,12 +34,11 @@ pub record Reached (s : List ℕ) (from at meshes weights : ℕ) (l : List Open)
   pub nodes-are : counts .nodes ≡ n .nodes
   pub meshes-are : counts .meshes ≡ meshes
   pub weights-are : counts .weights ≡ weights
-  pub rows : nodeRows l n (flatAt s from) ≡ nodeRows l counts (flatAt s at)
+  pub rows : shallowRows l n (flatAt s from) ≡ shallowRows l counts (flatAt s at)
 
 -- no NODE stands before `at`
 pub record FindLeft (s : List ℕ) (from m w at meshes weights : ℕ) : Type 0 where
   pub rows : (l : List Open) (n : Counts) → n .meshes ≡ m → n .weights ≡ w → Reached s from at meshes weights l n
-  pub deep : (n : ℕ) (l : List Open) → shallow n l (flatAt s from) ≡ shallow n l (flatAt s at)
   pub inside : at ≤ length s
   pub since : from ≤ at
   pub few-meshes : meshes ≤ at
@@ -57,7 +57,6 @@ module _ (s : List ℕ) (from m w : ℕ) where
   pub find-start : from ≤ length s → m ≤ from → w ≤ from → FindLeft s from m w from m w
   find-start h i j = record {
     rows = λ l n em ew. record { counts = n; nodes-are = refl; meshes-are = em; weights-are = ew; rows = refl };
-    deep = λ n l. refl;
     inside = h;
     since = omega arith;
     few-meshes = i;
@@ -75,7 +74,7 @@ module _ (s : List ℕ) (from m w : ℕ) where
       pub find-none : r ≡ run.End → NodeFinds s from m w met.End
       find-none e =
           let d : Ends (flatAt s at) = subst (FlatIs s at) e (x .is) in
-          record { is = record { rows = λ l n em ew. v .rows l n em ew .rows ∙ d .nodes l (v .rows l n em ew .counts) } }
+          record { is = record { rows = λ l n em ew. v .rows l n em ew .rows ∙ no-rows (flatAt s at) l l (v .rows l n em ew .counts) (d .nodes l (v .rows l n em ew .counts)) } }
 
       module _ (t : Tag) (p : ℕ) (b : Cursor) (q : ℕ) (e : r ≡ run.Chunk t p b q) where
         it : ChunkIs s at t p b q
@@ -92,7 +91,7 @@ module _ (s : List ℕ) (from m w : ℕ) where
 
         module _ (ok : Bool) (eo : ok ≡ is t NODE) where
           pub find-node : ok ≡ true → NodeFinds s from m w (met.Node p b q meshes weights)
-          unfolding nodeRows shallow if
+          unfolding shallowRows if
           find-node z =
               let y = yes-tag t NODE ok eo z in
               let f = subst (λ (u : Tag). ChunkIs s at u p b q) (tag-same t NODE y) it in
@@ -100,8 +99,7 @@ module _ (s : List ℕ) (from m w : ℕ) where
                 is = record {
                   rows = λ l n em ew.
                       let g = v .rows l n em ew in
-                      record { counts = g .counts; nodes-are = g .nodes-are; meshes-are = g .meshes-are; weights-are = g .weights-are; rows = g .rows ∙ ap (nodeRows l (g .counts)) (f .run) };
-                  deep = λ n l. v .deep n l ∙ ap (shallow n l) (f .run);
+                      record { counts = g .counts; nodes-are = g .nodes-are; meshes-are = g .meshes-are; weights-are = g .weights-are; rows = g .rows ∙ ap (shallowRows l (g .counts)) (f .run) };
                   node = it .node y;
                   body = it .body;
                   since = omega (arith, v .since, it .from);
@@ -117,7 +115,7 @@ module _ (s : List ℕ) (from m w : ℕ) where
             no-node = no-tag t NODE ok eo z
 
             on : (i j : ℕ) → ((c : Counts) → c .meshes ≡ meshes → counted t p (left b s) c .meshes ≡ i) → ((c : Counts) → c .weights ≡ weights → counted t p (left b s) c .weights ≡ j) → i ≤ q → j ≤ q → FindLeft s from m w q i j
-            unfolding nodeRows shallow
+            unfolding shallowRows
             on i j mi wj hi hj = record {
               rows = λ l n em ew.
                   let g = v .rows l n em ew in
@@ -126,9 +124,8 @@ module _ (s : List ℕ) (from m w : ℕ) where
                     nodes-are = counted-nodes p (left b s) (g .counts) t ∙ if-no (is t NODE) _ _ no-node ∙ g .nodes-are;
                     meshes-are = mi (g .counts) (g .meshes-are);
                     weights-are = wj (g .counts) (g .weights-are);
-                    rows = g .rows ∙ ap (nodeRows l (g .counts)) (it .run) ∙ if-no (is t NODE) _ (nodeRows l (counted t p (left b s) (g .counts)) (flatAt s q)) no-node;
+                    rows = g .rows ∙ ap (shallowRows l (g .counts)) (it .run) ∙ if-no (is t NODE) _ (shallowRows l (counted t p (left b s) (g .counts)) (flatAt s q)) no-node;
                   };
-              deep = λ n l. v .deep n l ∙ ap (shallow n l) (it .run) ∙ if-no (is t NODE) _ (shallow n l (flatAt s q)) no-node;
               inside = it .to;
               since = omega (arith, v .since, it .more);
               few-meshes = hi;

@@ -107,6 +107,11 @@ pub ruleset top-laws = (top-none, top-some)
 
 -- ---- one that is entered
 
+pub stack-long : (ends nodes : List ℕ) (k : ℕ) → length (stackTo ends nodes k) ≡ k
+unfolding stackTo
+stack-long ends nodes zero = refl
+stack-long ends nodes (suc k) = ap suc (stack-long ends nodes k)
+
 -- a store from the cell d on changes none of the first d nodes
 kept : (ends nodes : List ℕ) (i e n d : ℕ) → d ≤ i → stackTo (set ends i e) (set nodes i n) d ≡ stackTo ends nodes d
 unfolding stackTo
@@ -117,11 +122,6 @@ kept ends nodes i e n (suc d) h =
     (kept ends nodes i e n d (omega arith))
 
 module _ (x : OpenNodes) (p : ℕ) (v : OpenNodesAt x) (room : length (openAt p (stackOf x)) < 16) (d : ℕ) (c : Closed (x .ends) (x .depth) p d) where
-  stack-long : (ends nodes : List ℕ) (k : ℕ) → length (stackTo ends nodes k) ≡ k
-  unfolding stackTo
-  stack-long ends nodes zero = refl
-  stack-long ends nodes (suc k) = ap suc (stack-long ends nodes k)
-
   low : d < 16
   low = omega (arith, ap length (c .is (x .nodes)), stack-long (x .ends) (x .nodes) d)
 

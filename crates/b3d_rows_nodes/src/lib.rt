@@ -4,8 +4,9 @@ ghost use Prim.Native.Nat.{_<_, _≤_};
 ghost use lib.ListN.{length};
 ghost use Rattle.b3d_spec.specs.Tables.{vertexWidth};
 ghost use Rattle.b3d_spec.specs.Rules.{levels};
+ghost use lib.Dec.{leb};
 ghost use Rattle.b3d_rows_nodes.specs.NodeStack.{stackOf, openAt, topOf, OpenNodesAt, Closed, Enters};
-ghost use Rattle.b3d_rows_nodes.specs.NextNode.{nodesAhead, NodeFinds, NodePosition, NodeNext};
+ghost use Rattle.b3d_rows_nodes.specs.NextNode.{NodeFinds, NodePosition, NodeNexts};
 use b3d_chunk_walk::Flat;
 use b3d_rows_positions::Position;
 use b3d_spec::LEVELS;
@@ -74,6 +75,19 @@ pub fn enter(path: OpenNodes, p: usize, end: usize, index: u32) -> EnteredNode
     }
 }
 
+// Returns whether 16 of the nodes of `path` are open at the place `p`.
+fn is_full(path: OpenNodes, p: usize) -> bool
+    requires { ⌜ OpenNodesAt path ⌝ }
+    ensures { λ r. ⌜ r ≡ leb 16 (length (openAt p (stackOf path))) ⌝ }
+{
+    let ends = path.ends;
+    let d = close(ends, path.depth, p);
+    if 16 <= d {
+        return true;
+    }
+    false
+}
+
 // The next NODE: its header is at `at`, its own chunks begin at `next`, and `meshes` meshes and `weights` weights came before it. `End` where there is none.
 pub enum FoundNode {
     Node {
@@ -122,11 +136,19 @@ pub struct RowCursor {
     pub path: OpenNodes,
 }
 
-// Writes the next row of table 3 into the start of `row` and returns the cursor behind it. The cells behind the row stay.
-pub fn next_node(file: &[u8], x: Position, path: OpenNodes, row: &mut [u32]) -> RowCursor
-    requires { ⌜ NodePosition (now file) x path × (0 < length (nodesAhead (now file) x path)) × (vertexWidth ≤ length (now row)) ⌝ }
-    ensures { λ r. ⌜ NodeNext (now (file .entry)) x path (now (row .entry)) (now (row .exit)) r ⌝ }
+// The `cursor` behind a row, which is `given`; where no row is to come, `given` is false, and `cursor` is the one before.
+pub struct NextCursor {
+    pub given: bool,
+    pub cursor: RowCursor,
+}
+
+// Writes the next row of table 3 into the start of `row` and returns the cursor behind it. The cells behind the row stay. Where no row is to come, `row` and
+// the cursor stay; a node that stands in 16 others ends the rows.
+pub fn next_node(file: &[u8], x: Position, path: OpenNodes, row: &mut [u32]) -> NextCursor
+    requires { ⌜ NodePosition (now file) x path × (vertexWidth ≤ length (now row)) ⌝ }
+    ensures { λ r. ⌜ NodeNexts (now (file .entry)) x path (now (row .entry)) (now (row .exit)) r ⌝ }
 {
+    let here = RowCursor { position: x, path };
     let mut counts = x.counts;
     let FoundNode::Node {
         at: p,
@@ -136,8 +158,17 @@ pub fn next_node(file: &[u8], x: Position, path: OpenNodes, row: &mut [u32]) -> 
         weights,
     } = find_node(file, x.at, counts.meshes, counts.weights)
     else {
-        return RowCursor { position: x, path };
+        return NextCursor {
+            given: false,
+            cursor: here,
+        };
     };
+    if is_full(path, p) {
+        return NextCursor {
+            given: false,
+            cursor: here,
+        };
+    }
     let i = shared_table_words::cell(counts.nodes);
     let e = enter(path, p, body.end, i);
     b3d_read_nodes::store_node(file, p, body, next, e.parent, meshes, weights, 0, row);
@@ -147,13 +178,16 @@ pub fn next_node(file: &[u8], x: Position, path: OpenNodes, row: &mut [u32]) -> 
     let inner = x.inner;
     let items = x.items;
     let entered = e.path;
-    RowCursor {
-        position: Position {
-            at: next,
-            inner,
-            items,
-            counts,
+    NextCursor {
+        given: true,
+        cursor: RowCursor {
+            position: Position {
+                at: next,
+                inner,
+                items,
+                counts,
+            },
+            path: entered,
         },
-        path: entered,
     }
 }

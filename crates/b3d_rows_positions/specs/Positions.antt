@@ -34,6 +34,13 @@ pub record Comes (k : ℕ) (rows later : List (List ℕ)) (row put : List ℕ) :
   -- its cells are stored from the start of the lent row on
   pub stores : put ≡ stored row 0 cells
 
+-- none of these rows is there, and `put`, a row that was `row`, is as it was
+pub record NoRow (rows : List (List ℕ)) (row put : List ℕ) : Type 0 where
+  -- no row is to come
+  pub none : rows ≡ []
+  -- the lent row stays
+  pub same : put ≡ row
+
 -- ---- what is still to come
 
 -- the triangles of the open MESH behind its open TRIS
@@ -147,3 +154,17 @@ pub record ItemFound (k : ℕ) (s : List ℕ) (x y : Position) : Type 0 where
   pub position : ItemPosition k s y
   -- its first item is whole
   pub there : 4 * y .items .words ≤ y .items .rest .end - y .items .rest .at
+
+-- no row of table k comes from x on
+pub record NoItemFound (k : ℕ) (s : List ℕ) (x : Position) : Type 0 where
+  -- none is to come
+  pub rows : itemsAhead k s x ≡ []
+
+abbrev pub ItemFoundIs : ℕ → List ℕ → Position → NextPosition → Type 0
+ItemFoundIs k s x (more.At y) = ItemFound k s x y
+ItemFoundIs k s x more.End = NoItemFound k s x
+
+-- the first item that comes from x on is found, or that there is none
+pub record ItemFinds (k : ℕ) (s : List ℕ) (x : Position) (r : NextPosition) : Type 0 where
+  -- by the case of the answer
+  pub is : ItemFoundIs k s x r

@@ -1,5 +1,5 @@
--- `next_row` goes by the table.
-use Rattle.b3d_rows.proofs.NextRowLaws.{row-laws}
+-- `next_row` gives the row that is to come.
+use Rattle.b3d_rows.proofs.NextRowLaws.{row-given}
 use borrow.Author.Needs.{needs}
 use Rattle.b3d_rows.proofs.next_row.Statement.{statement}
 use Rattle.b3d_rows.proofs.next_row.Tie as tie
@@ -8,12 +8,6 @@ pub next-row-spec : {M : Type 1} → statement M
 next-row-spec =
     tie.close
     (tie.spec
-    (λ c κs. search (row-laws, needs))
-    (λ c. search (row-laws, needs))
-    (λ c. search (row-laws, needs))
-    (λ c κs. search (row-laws, needs))
-    (λ c. search (row-laws, needs))
-    (λ c. search (row-laws, needs))
-    (λ c κs. search (row-laws, needs))
-    (λ c. search (row-laws, needs))
-    (λ c. search (row-laws, needs)))
+    (λ c κs. search (row-given, needs))
+    (λ c. search (row-given, needs))
+    (λ c. search (row-given, needs)))

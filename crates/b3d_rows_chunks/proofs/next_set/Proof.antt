@@ -9,6 +9,9 @@ next-set-spec =
     tie.close
     (tie.spec
     (λ c κs. search (set-laws, needs))
+    (λ c. search (set-laws, needs))
+    (λ c. search (set-laws, needs))
+    (λ c. search (set-laws, needs))
     (λ c κs. search (set-laws, needs))
     (λ c κs. search (set-laws, needs))
     (λ c. search (set-laws, needs))

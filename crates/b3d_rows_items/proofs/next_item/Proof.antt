@@ -9,6 +9,9 @@ next-item-spec =
     tie.close
     (tie.spec
     (λ c κs. search (row-laws, needs))
+    (λ c. search (row-laws, needs))
+    (λ c. search (row-laws, needs))
+    (λ c. search (row-laws, needs))
     (λ c κs. search (row-laws, needs))
     (λ c. search (row-laws, needs))
     (λ c. search (row-laws, needs))

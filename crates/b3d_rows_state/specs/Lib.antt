@@ -1,0 +1,2 @@
+-- A cursor as a state of plain numbers.
+pub mod States

@@ -1,0 +1,250 @@
+// The test of a cursor that a caller hands over: whether it is one over the rows of table `k` of a file, by its numbers alone. The file's bytes are not read.
+ghost use mathlib.Core.Path.{_≡_};
+ghost use Prim.Native.Nat.{_<_, _≤_};
+ghost use lib.ListN.{length};
+ghost use Rattle.b3d_spec.specs.Tables.{width};
+ghost use Rattle.b3d_rows_open_items.specs.ItemsLeft.{ItemTable, OfVertex, Measured};
+ghost use Rattle.b3d_rows_positions.specs.Positions.{MeshPosition, ItemPosition};
+ghost use Rattle.b3d_rows_items.specs.NextText.{TextPosition};
+ghost use Rattle.b3d_rows_nodes.specs.NextNode.{NodePosition};
+ghost use Rattle.b3d_rows_chunks.specs.NextChunk.{ChunkPosition, SetPosition};
+ghost use Rattle.b3d_rows.specs.NextRow.{PartAt, RowCursorAt};
+ghost use Rattle.b3d_rows_valid.specs.Tells.{Tells, SixteenCells};
+use b3d_rows_nodes::OpenNodes;
+use b3d_rows_nodes::RowCursor;
+use b3d_rows_open_items::OpenItems;
+use b3d_rows_positions::Position;
+
+// Returns how many words a row of table `k`, which is 1 or 2, has.
+fn text_row_words(k: u32) -> usize
+    requires { ⌜ (1 ≤ k) × (k ≤ 2) ⌝ }
+    ensures { λ r. ⌜ (r ≡ width k) × (r ≤ 17) ⌝ }
+{
+    if k == 1 {
+        return 9;
+    }
+    17
+}
+
+// Returns whether `x` is a position in table `k`, which is 1 or 2.
+fn is_text(file: &[u8], k: u32, x: Position) -> bool
+    requires { ⌜ (1 ≤ k) × (k ≤ 2) × (length (now file) < 0x100000000) ⌝ }
+    ensures { λ r. ⌜ Tells (TextPosition k (now (file .entry)) x) r ⌝ }
+{
+    let items = x.items;
+    let rest = items.rest;
+    if rest.end < rest.at {
+        return false;
+    }
+    if file.len() < rest.end {
+        return false;
+    }
+    if 15 < items.words {
+        return false;
+    }
+    if 40 < items.size {
+        return false;
+    }
+    let free = wire::size(items.size);
+    if 2 + items.words + free != text_row_words(k) {
+        return false;
+    }
+    true
+}
+
+// Returns whether `x` is a position in table 3 under the open nodes of `path`.
+fn is_node(file: &[u8], x: Position, path: OpenNodes) -> bool
+    requires { ⌜ SixteenCells path × (length (now file) < 0x100000000) ⌝ }
+    ensures { λ r. ⌜ Tells (NodePosition (now (file .entry)) x path) r ⌝ }
+{
+    let counts = x.counts;
+    if file.len() < x.at {
+        return false;
+    }
+    if 16 < path.depth {
+        return false;
+    }
+    if x.at < counts.nodes {
+        return false;
+    }
+    if x.at < counts.meshes {
+        return false;
+    }
+    if x.at < counts.weights {
+        return false;
+    }
+    true
+}
+
+// Returns whether `x` is a position in table 4 or 9.
+fn is_chunk(file: &[u8], x: Position) -> bool
+    requires { ⌜ length (now file) < 0x100000000 ⌝ }
+    ensures { λ r. ⌜ Tells (ChunkPosition (now (file .entry)) x) r ⌝ }
+{
+    let counts = x.counts;
+    if file.len() < x.at {
+        return false;
+    }
+    if x.at < counts.nodes {
+        return false;
+    }
+    if x.at < counts.vertices {
+        return false;
+    }
+    if x.at < counts.sets {
+        return false;
+    }
+    if x.at < counts.keys {
+        return false;
+    }
+    true
+}
+
+// Returns whether `x` is a position of `file` from which the next MESH can be sought.
+fn is_mesh(file: &[u8], x: Position) -> bool
+    ensures { λ r. ⌜ Tells (MeshPosition (now (file .entry)) x) r ⌝ }
+{
+    let counts = x.counts;
+    let inner = x.inner;
+    if file.len() < x.at {
+        return false;
+    }
+    if inner.end < inner.at {
+        return false;
+    }
+    if file.len() < inner.end {
+        return false;
+    }
+    if x.at < counts.nodes {
+        return false;
+    }
+    if x.at < counts.meshes {
+        return false;
+    }
+    true
+}
+
+// Returns whether `x` is a position in table 6.
+fn is_set(file: &[u8], x: Position) -> bool
+    requires { ⌜ length (now file) < 0x100000000 ⌝ }
+    ensures { λ r. ⌜ Tells (SetPosition (now (file .entry)) x) r ⌝ }
+{
+    let counts = x.counts;
+    let inner = x.inner;
+    if !is_mesh(file, x) {
+        return false;
+    }
+    if x.at < inner.end {
+        return false;
+    }
+    if inner.at < counts.triangles {
+        return false;
+    }
+    true
+}
+
+// Returns whether the numbers of `i` say how many words a vertex has.
+fn is_vertex(i: OpenItems) -> bool
+    ensures { λ r. ⌜ Tells (OfVertex i) r ⌝ }
+{
+    if 3 < i.flags {
+        return false;
+    }
+    if 8 < i.sets {
+        return false;
+    }
+    if 4 < i.size {
+        return false;
+    }
+    if i.words != b3d_rule_widths::vertex_words(i.flags, i.sets, i.size) {
+        return false;
+    }
+    true
+}
+
+// Returns whether items of table `k` have as many words as the numbers of `i` say.
+fn is_measured(k: u32, i: OpenItems) -> bool
+    requires { ⌜ ItemTable k ⌝ }
+    ensures { λ r. ⌜ Tells (Measured k i) r ⌝ }
+{
+    if i.words < 1 {
+        return false;
+    }
+    if 42 < i.words {
+        return false;
+    }
+    if k == 5 {
+        return is_vertex(i);
+    }
+    if k == 10 {
+        if i.words != b3d_rule_widths::key_words(i.flags) {
+            return false;
+        }
+        return true;
+    }
+    if k == 7 {
+        if i.words != 3 {
+            return false;
+        }
+        return true;
+    }
+    if i.words != 2 {
+        return false;
+    }
+    true
+}
+
+// Returns whether `x` is a position in table `k`, which is 5, 7, 8 or 10.
+fn is_item(file: &[u8], k: u32, x: Position) -> bool
+    requires { ⌜ ItemTable k ⌝ }
+    ensures { λ r. ⌜ Tells (ItemPosition k (now (file .entry)) x) r ⌝ }
+{
+    let items = x.items;
+    let rest = items.rest;
+    if !is_mesh(file, x) {
+        return false;
+    }
+    if rest.end < rest.at {
+        return false;
+    }
+    if file.len() < rest.end {
+        return false;
+    }
+    if !is_measured(k, items) {
+        return false;
+    }
+    true
+}
+
+// Returns whether `x` is a position in table `k`, which is 4 to 10.
+fn is_part(file: &[u8], k: u32, x: Position) -> bool
+    requires { ⌜ (4 ≤ k) × (k ≤ 10) × (length (now file) < 0x100000000) ⌝ }
+    ensures { λ r. ⌜ Tells (PartAt k (now (file .entry)) x) r ⌝ }
+{
+    if k == 4 {
+        return is_chunk(file, x);
+    }
+    if k == 6 {
+        return is_set(file, x);
+    }
+    if k == 9 {
+        return is_chunk(file, x);
+    }
+    is_item(file, k, x)
+}
+
+// Returns whether `x` is a cursor over the rows of table `k`, which is 1 to 10.
+pub fn is_cursor(file: &[u8], k: u32, x: RowCursor) -> bool
+    requires { ⌜ (1 ≤ k) × (k ≤ 10) × SixteenCells (x .path) × (length (now file) < 0x100000000) ⌝ }
+    ensures { λ r. ⌜ Tells (RowCursorAt k (now (file .entry)) x) r ⌝ }
+{
+    let position = x.position;
+    let path = x.path;
+    if k <= 2 {
+        return is_text(file, k, position);
+    }
+    if k == 3 {
+        return is_node(file, position, path);
+    }
+    is_part(file, k, position)
+}
