@@ -363,6 +363,82 @@ enum {
 kelompuris_mended kelompuris_b3d_mend(
     const uint8_t *file, size_t file_len, uint8_t *out, size_t out_len, uint8_t *report, size_t report_len);
 
+/* A table row by row, for a terminal that holds a file but not its tables: a row of 42 words is lent, and no table.
+ *
+ *     uint32_t row[KELOMPURIS_B3D_ROW];
+ *     kelompuris_b3d_row_given given = {0};
+ *     given.state = kelompuris_b3d_rows_start(file, file_len, 3);
+ *     while ((given = kelompuris_b3d_rows_next(file, file_len, given.state, row, KELOMPURIS_B3D_ROW)).rows == 1) {
+ *         use(row);
+ *     }
+ *
+ * Of a file that kelompuris_b3d_judge accepts, in either mode, these are the rows of the table that kelompuris_b3d_read gives, in their order.
+ * Nothing is judged here: of any other file they are the rows that are found by walking over its chunks, and in table 3 the rows end before a
+ * node that stands in 16 others. Judge the file first.
+ *
+ * Each call is given the file and the state as the last left it. A call that is given others, or a state that no call left, still ends and
+ * stays inside what it is lent; it is taken or refused.
+ */
+
+/* The words of the widest row, a vertex: they are enough for a row of every table. */
+enum {
+    KELOMPURIS_B3D_ROW = 42
+};
+
+/* What is kept between two calls. Bytes are counted from the start of the file. */
+typedef struct {
+    uint32_t table;      /* 1 to 10; 0 where no row comes */
+    uint32_t item_flags; /* of the open chunk's items: their flags, texture coordinates and size of one, by which they have */
+    uint32_t item_sets;
+    uint32_t item_size;
+    size_t item_words;   /* so many words */
+    size_t items_at;     /* where the next item stands, and where the items end */
+    size_t items_end;
+    size_t inner_at;     /* where the next chunk of the open MESH stands, and where they end */
+    size_t inner_end;
+    size_t at;           /* where the next chunk of all stands */
+    size_t nodes;        /* rows so far of tables 3 to 10, of those that rows to come tell of */
+    size_t meshes;
+    size_t vertices;
+    size_t sets;
+    size_t triangles;
+    size_t weights;
+    size_t lists;
+    size_t keys;
+    size_t depth;            /* nodes that are open, the root first: */
+    size_t open_ends[16];    /* the byte behind each, */
+    uint32_t open_nodes[16]; /* and its row */
+} kelompuris_b3d_row_state;
+
+/* What a call for the next row is answered, and the state for the next call.
+ *
+ * number 0: place is 0; rows is 1 where a row was written, 0 where none is left. Any other number is a refusal, and rows is 0:
+ *
+ *    number                                                              place
+ *   11  fewer than 42 words are lent                                     42, the words needed
+ *   15  a state that cannot be gone on with over this file: a table not  0
+ *       1 to 10, a file of more than 16,777,216 bytes, or numbers that
+ *       no row of such a file leaves
+ *
+ * Where no row was written, the state is the one that was given.
+ */
+typedef struct {
+    uint32_t number, place, rows;
+    kelompuris_b3d_row_state state;
+} kelompuris_b3d_row_given;
+
+/* The state before the first row of a table, 1 to 10, of a file. For any other table, and a file of fewer than 12 or more than 16,777,216 bytes,
+ * a state whose numbers are all 0, which every call for a row refuses by 15. The file is not written. */
+kelompuris_b3d_row_state kelompuris_b3d_rows_start(const uint8_t *file, size_t file_len, uint32_t table);
+
+/* Writes the next row: answers 0, 11 or 15. row_len is a number of words.
+ *
+ * A row was written: the row begins with the words of the table's row; the words behind them stay as they were.
+ * None was: the whole row stays as it was. The file is not written.
+ */
+kelompuris_b3d_row_given kelompuris_b3d_rows_next(
+    const uint8_t *file, size_t file_len, kelompuris_b3d_row_state state, uint32_t *row, size_t row_len);
+
 /* A file in pieces, for a terminal that is handed a file some bytes at a time and cannot hold it.
  *
  *     kelompuris_b3d_open_chunk row[KELOMPURIS_B3D_OPEN_CHUNKS];

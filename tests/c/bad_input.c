@@ -292,6 +292,41 @@ static void in_pieces(void) {
     refused("close at once", closed.answer.number, closed.answer.place, 1, 0);
 }
 
+static void row_by_row(void) {
+    kelompuris_b3d_row_state nothing = kelompuris_b3d_rows_start(NULL, 0, 3), first, strange;
+    kelompuris_b3d_row_given given = kelompuris_b3d_rows_next(NULL, 0, nothing, NULL, 0);
+    size_t size;
+    uint32_t table;
+    refused("a row of nothing into nothing", given.number, given.place, KELOMPURIS_TOO_SHORT, KELOMPURIS_B3D_ROW);
+    given = kelompuris_b3d_rows_next(NULL, 0, nothing, words(1, KELOMPURIS_B3D_ROW), KELOMPURIS_B3D_ROW);
+    refused("a row of nothing", given.number, given.place, KELOMPURIS_CLOSED, 0);
+    first = kelompuris_b3d_rows_start(lent(hall, sizeof hall), sizeof hall, 3);
+    for (size = 0; size <= KELOMPURIS_B3D_ROW; size++) {
+        uint32_t *row = words(1, size);
+        int fits = size == KELOMPURIS_B3D_ROW;
+        given = kelompuris_b3d_rows_next(lent(hall, sizeof hall), sizeof hall, first, size == 0 ? NULL : row, size);
+        refused("a row that is short", given.number, given.place, fits ? 0 : KELOMPURIS_TOO_SHORT, fits ? 0 : KELOMPURIS_B3D_ROW);
+        expect("a row is given", given.rows, fits);
+        expect("a short row", (unsigned long)is_marked(row, size * 4), !fits);
+    }
+    for (table = 0; table <= 11; table++) {
+        for (size = 0; size <= sizeof hall; size++) {
+            uint32_t *row = words(1, KELOMPURIS_B3D_ROW);
+            int starts = table >= 1 && table <= 10 && size >= 12;
+            first = kelompuris_b3d_rows_start(lent(hall, size), size, table);
+            given = kelompuris_b3d_rows_next(lent(hall, size), size, first, row, KELOMPURIS_B3D_ROW);
+            refused("a row of a cut file", given.number, given.place, starts ? 0 : KELOMPURIS_CLOSED, 0);
+            expect("its row", (unsigned long)is_marked(row, KELOMPURIS_B3D_ROW * 4), given.rows == 0);
+            /* A state that no call left: it is taken or refused, and the call ends. */
+            memset(&strange, (int)size, sizeof strange);
+            strange.table = table;
+            strange.depth = size % 18;
+            given = kelompuris_b3d_rows_next(lent(hall, size), size, strange, row, KELOMPURIS_B3D_ROW);
+            expect("a strange state", given.number == 0 || given.number == KELOMPURIS_CLOSED, 1);
+        }
+    }
+}
+
 static void of_cal3d(void) {
     static uint8_t file[PAGES * PAGE];
     kelompuris_csf_answer bones = kelompuris_csf_judge(NULL, 0);
@@ -359,6 +394,7 @@ int main(void) {
     cleared_and_slips();
     labelled_compared_and_mended();
     in_pieces();
+    row_by_row();
     of_cal3d();
     printf("%u answers, %u wrong\n", checks, wrong);
     return wrong != 0;

@@ -8,7 +8,7 @@ use crate::run::{is_standard, Run, LARGEST};
 use crate::text;
 use kelompuris::columns::{Table, HEAD, TABLES};
 use kelompuris::pieces::Pieces;
-use kelompuris::{Answer, Mode, Scene, Tables};
+use kelompuris::{Answer, Mode, Node, Row, Scene, Tables};
 use std::fs;
 use std::io::{self, ErrorKind, Read};
 use std::path::{Path, PathBuf};
@@ -109,9 +109,10 @@ pub fn list(mode: Mode, path: &Path, run: &mut Run) -> Result<(), Stop> {
     let file = run.load(path)?;
     let held = kelompuris::judge(mode, &file);
     add_answer(&held, run);
-    let scene = Scene::read(mode, &file).map_err(|refusal| Stop::refused(path, refusal))?;
-    for node in scene.nodes() {
-        run.line(shown(node.name()));
+    held.result()
+        .map_err(|refusal| Stop::refused(path, refusal))?;
+    for row in kelompuris::rows(&file, 3) {
+        run.line(shown(Node::over(&row[..Node::WORDS], &file).name()));
     }
     Ok(())
 }
@@ -211,8 +212,8 @@ fn first_chunk(mut file: impl Read) -> io::Result<Vec<u8>> {
 /// The nodes of a file as a tree, its textures and its brushes.
 pub fn tree(mode: Mode, path: &Path, run: &mut Run) -> Result<(), Stop> {
     let file = run.load(path)?;
-    let scene = Scene::read(mode, &file).map_err(|refusal| Stop::refused(path, refusal))?;
-    crate::tree::print(&scene, run);
+    kelompuris::check(mode, &file).map_err(|refusal| Stop::refused(path, refusal))?;
+    crate::tree::print(&file, run);
     Ok(())
 }
 

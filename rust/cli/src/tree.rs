@@ -1,24 +1,30 @@
-//! A scene for the eye: what it holds, in words.
+//! A scene for the eye: what it holds, in words. Its rows come one after the other, and no table is held.
 
 use crate::commands::shown;
 use crate::run::Run;
-use kelompuris::{NodeKind, Scene};
+use kelompuris::{rows, Brush, KeyList, Mesh, Node, NodeKind, Row, Texture};
 
-/// The nodes as a tree, a node two spaces further in than its parent; then the
-/// names of textures and brushes.
-pub fn print(scene: &Scene, run: &mut Run) {
-    let mut keys = vec![0; scene.nodes().len()];
-    for list in scene.key_lists() {
-        keys[list.node()] += list.keys().len();
-    }
-    let mut levels: Vec<usize> = Vec::new();
-    for (node, keys) in scene.nodes().zip(keys) {
-        let level = node.parent().map_or(0, |parent| levels[parent] + 1);
-        levels.push(level);
+/// The nodes of an accepted file as a tree, a node two spaces further in than its
+/// parent; then the names of textures and brushes.
+pub fn print(file: &[u8], run: &mut Run) {
+    // Meshes and key lists stand in the order of their nodes.
+    let mut meshes = rows(file, 4);
+    let mut lists = rows(file, 9).peekable();
+    // The nodes above, the root first.
+    let mut above: Vec<usize> = Vec::new();
+    for (number, row) in rows(file, 3).enumerate() {
+        let node = Node::over(&row[..Node::WORDS], file);
+        let parent = node.parent();
+        while above.last().copied() != parent {
+            above.pop();
+        }
+        let level = above.len();
+        above.push(number);
         let mut parts = Vec::new();
         match node.kind() {
-            NodeKind::Mesh(mesh) => {
-                let mesh = scene.meshes().get(mesh).expect("a mesh of the scene");
+            NodeKind::Mesh(_) => {
+                let row = meshes.next().expect("a mesh of the scene");
+                let mesh = Mesh::over(&row[..Mesh::WORDS], file);
                 let (vertices, sets) = (mesh.vertices().len(), mesh.triangle_sets().len());
                 parts.push(format!(
                     "mesh of {}",
@@ -33,6 +39,10 @@ pub fn print(scene: &Scene, run: &mut Run) {
                 ));
             }
             NodeKind::Pivot => {}
+        }
+        let mut keys = 0;
+        while let Some(row) = lists.next_if(|row| key_list(row).node() == number) {
+            keys += key_list(&row).keys().len();
         }
         if keys > 0 {
             parts.push(several(keys, "key", "keys"));
@@ -51,12 +61,18 @@ pub fn print(scene: &Scene, run: &mut Run) {
             shown(node.name())
         ));
     }
-    for texture in scene.textures() {
+    for row in rows(file, 1) {
+        let texture = Texture::over(&row[..Texture::WORDS], file);
         run.line(format!("texture {}", shown(texture.name())));
     }
-    for brush in scene.brushes() {
+    for row in rows(file, 2) {
+        let brush = Brush::over(&row[..Brush::WORDS], file);
         run.line(format!("brush {}", shown(brush.name())));
     }
+}
+
+fn key_list(row: &[u32]) -> KeyList<'_> {
+    KeyList::over(&row[..KeyList::WORDS], &[])
 }
 
 fn several(count: usize, one: &str, many: &str) -> String {

@@ -9,6 +9,7 @@
 //! - `mend`: mending.
 //! - `output`: writing, clearing and slips of files.
 //! - `pieces`: a file in pieces.
+//! - `rows`: a table row by row.
 //! - `slip`: reading slips.
 //! - `run`: runs groups of comparisons and prints what was compared.
 
@@ -18,6 +19,7 @@ mod lent;
 mod mend;
 mod output;
 pub mod pieces;
+mod rows;
 mod run;
 mod slip;
 

@@ -7,7 +7,7 @@
 //! - `guarded`: bytes beside memory that must not be touched.
 //! - `kept`: inputs that are kept, one behind the other in one file.
 //! - `pairs`: the two files of an input for the comparison.
-//! - `states`: parameters as changes of a state that a judge of pieces keeps.
+//! - `states`: parameters as changes of a state that a judge of pieces keeps, or of one of a table's rows.
 //!
 //! The fuzzer itself is `main.rs`, with
 //! - `blocks`: which blocks of the proved code inputs reach.
@@ -60,6 +60,8 @@ pub enum Function {
     Compare,
     /// By how much the output and the report are too long or short.
     Mend,
+    /// A table, then how the states before its rows are changed.
+    Rows,
 }
 
 /// The function of each low half of a first byte.
@@ -77,7 +79,7 @@ pub const FUNCTIONS: [Function; 16] = [
     Function::Skeleton,
     Function::Mesh,
     Function::Compare,
-    Function::Write,
+    Function::Rows,
     Function::Mend,
     Function::Pieces,
 ];
@@ -190,6 +192,7 @@ impl<'a> Input<'a> {
                 compared.in_pieces(file, joined(file), &ends, &mut rng)
             }
             Function::State => states::changed(compared, file, parameters),
+            Function::Rows => states::rows(compared, file, parameters),
             Function::Skeleton => cal3d(compared, Skeleton, file, parameters),
             Function::Mesh => {
                 let (bones, parameters) = parameters.split_first().unwrap_or((&0, &[]));

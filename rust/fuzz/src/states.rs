@@ -1,13 +1,17 @@
-//! States and rows of the judge of pieces that no calls may have led to.
+//! States and rows of the judge of pieces that no calls may have led to, and such states of a table's rows.
 
 use compare::pieces::{any_number, Row};
 use compare::{Compared, Disagreement};
 use kelompuris::pieces::{piece, start, OpenChunk, State, RECORDS};
+use kelompuris::row_by_row;
 use scenes::Rng;
 
 /// Numbers of a state, and of a record.
 const STATE: usize = size_of::<State>() / 8;
 const RECORD: usize = size_of::<OpenChunk>() / 8;
+
+/// Numbers of 8 bytes of a state of rows, some of them two of 4.
+const ROW_STATE: usize = size_of::<row_by_row::State>() / 8;
 
 /// Hands over a part of a file, as long as two parameters say, changes numbers of state
 /// and row, and hands over the rest. Three parameters are a change: which number, and how.
@@ -38,6 +42,20 @@ pub fn changed(
     compared.any_call(state, &mut row, bytes).map(drop)
 }
 
+/// Takes the rows of all tables; then those of the table that the first parameter names, where three parameters change the state before each: which number,
+/// and how.
+pub fn rows(compared: &mut Compared, file: &[u8], parameters: &[u8]) -> Result<(), Disagreement> {
+    compared.row_by_row(file)?;
+    let (table, changes) = parameters.split_first().unwrap_or((&0, &[]));
+    let mut state = row_by_row::start(file, u32::from(table % 12));
+    for change in changes.chunks_exact(3) {
+        let number = &mut row_state_numbers(&mut state)[usize::from(change[0]) % ROW_STATE];
+        *number = other_number(*number, change[1], change[2]);
+        state = compared.next_row(file, state)?.0.state;
+    }
+    Ok(())
+}
+
 /// A number in place of this one: near to it, small, or at an edge.
 fn other_number(old: u64, how: u8, value: u8) -> u64 {
     match how % 4 {
@@ -52,6 +70,12 @@ fn state_numbers(state: &mut State) -> &mut [u64; STATE] {
     // SAFETY: a state is whole numbers one behind the other, two of 4 bytes and then
     // those of 8, with no bytes between them; it is aligned as the latter are.
     unsafe { &mut *(state as *mut State).cast() }
+}
+
+fn row_state_numbers(state: &mut row_by_row::State) -> &mut [u64; ROW_STATE] {
+    // SAFETY: a state is whole numbers one behind the other, four of 4 bytes, then those of 8
+    // and then 16 of 4, with no bytes between them; it is aligned as those of 8 are.
+    unsafe { &mut *(state as *mut row_by_row::State).cast() }
 }
 
 fn record_numbers(record: &mut OpenChunk) -> &mut [u64; RECORD] {

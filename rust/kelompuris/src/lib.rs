@@ -29,6 +29,7 @@ mod groups;
 pub mod pieces;
 mod planner;
 mod refusal;
+pub mod row_by_row;
 mod rows;
 mod scene;
 
@@ -38,6 +39,7 @@ pub use entries::{
 };
 pub use planner::{compare, mend, Compared, Mended};
 pub use refusal::{Refusal, Subject, TOO_SHORT};
+pub use row_by_row::{rows, RowByRow};
 pub use rows::{Row, Rows};
 pub use scene::{
     check, clear_to_vec, label_of, slip_to_vec, Anim, Brush, Key, KeyList, Mesh, Node, NodeKind,

@@ -5,8 +5,8 @@ use std::path::Path;
 use std::process::Command;
 
 /// Each program and what it prints.
-const SAMPLES: [(&str, &str); 9] = [
-    ("bad_input", "3548 answers, 0 wrong\n"),
+const SAMPLES: [(&str, &str); 10] = [
+    ("bad_input", "6892 answers, 0 wrong\n"),
     (
         "read_sample",
         "\
@@ -88,6 +88,36 @@ short: 11 65 0 0, not H, 77 77 77 77 77 77 77 77 77 77 77 77 77 77 77 77 77 77 7
 short report: 11 19 0 0, not H, 77 77 77 77 77 77 77 77 77 77 77 77 77 77 77 77 77 77 77 77 77 77 77 77
 version 100: 6 8 0 0, not H, 77 77 77 77 77 77 77 77 77 77 77 77 77 77 77 77 77 77 77 77 77 77 77 77
 no file: 1 0 0 0, not H, 77 77 77 77 77 77 77 77 77 77 77 77 77 77 77 77 77 77 77 77 77 77 77 77
+",
+    ),
+    (
+        "rows_sample",
+        "\
+cupboard, parent -1, 5 below
+hinge, parent 0, 1 below
+handle, parent 1, 0 below
+worktop, parent 0, 0 below
+lamp over the worktop, parent 0, 1 below
+, parent 4, 0 below
+end: 0 0 0
+41 words: 11 42 0
+untouched: 77
+node: 0 0 1
+ 20 4 4294967295 0 0 0 0 0 0 0 0 0 0 0 0 0 0 0 0 0 0 77
+then: 0 0 0
+another file: 15 0 0
+table 0: 15 0 0
+table 1: 0 0 0
+table 2: 0 0 0
+table 3: 0 0 1
+table 4: 0 0 0
+table 5: 0 0 0
+table 6: 0 0 0
+table 7: 0 0 0
+table 8: 0 0 0
+table 9: 0 0 0
+table 10: 0 0 0
+table 11: 15 0 0
 ",
     ),
     (
@@ -188,7 +218,7 @@ fn functions(text: &str) -> std::collections::BTreeSet<&str> {
 #[test]
 fn bad_input_is_tried_with_every_function() {
     let header = functions(include_str!("../../../include/kelompuris.h"));
-    assert_eq!(header.len(), 17, "{header:?}");
+    assert_eq!(header.len(), 19, "{header:?}");
     let tried = functions(include_str!("../../../tests/c/bad_input.c"));
     assert_eq!(header, tried);
 }
