@@ -44,7 +44,7 @@ shallowRows l n done = []
 shallowRows l n (stop i p) = []
 shallowRows l n (chunk t p b r) =
     if (is t NODE)
-    (if (leb 16 (length (openAt p l))) []
+    (if (leb levels (length (openAt p l))) []
     (rowOf (named nodeRow (p + 8) b) r (parentAt p l) (p + 8 + length b) n ∷ shallowRows (opened p b (n .nodes) (openAt p l)) (counted t p b n) r))
     (shallowRows l (counted t p b n) r)
 
@@ -57,7 +57,7 @@ pub record NodeRowsFound (s : List ℕ) (from p : ℕ) (b : Cursor) (q meshes we
   pub meshes-are : counts .meshes ≡ meshes
   pub weights-are : counts .weights ≡ weights
   pub rows : shallowRows l n (flatAt s from)
-      ≡ if (leb 16 (length (openAt p l))) []
+      ≡ if (leb levels (length (openAt p l))) []
       (rowOf (named nodeRow (p + 8) (left b s)) (flatAt s q) (parentAt p l) (p + 8 + length (left b s)) counts
       ∷ shallowRows (opened p (left b s) (counts .nodes) (openAt p l)) (counted NODE p (left b s) counts) (flatAt s q))
 

@@ -78,11 +78,11 @@ pub fn enter(path: OpenNodes, p: usize, end: usize, index: u32) -> EnteredNode
 // Returns whether 16 of the nodes of `path` are open at the place `p`.
 fn is_full(path: OpenNodes, p: usize) -> bool
     requires { ⌜ OpenNodesAt path ⌝ }
-    ensures { λ r. ⌜ r ≡ leb 16 (length (openAt p (stackOf path))) ⌝ }
+    ensures { λ r. ⌜ r ≡ leb levels (length (openAt p (stackOf path))) ⌝ }
 {
     let ends = path.ends;
     let d = close(ends, path.depth, p);
-    if 16 <= d {
+    if LEVELS <= d {
         return true;
     }
     false

@@ -9,11 +9,11 @@ use lib.Dec.{T}
 use Rattle.b3d_rows_nodes.specs.declared.NextCursor.{NextCursor}
 use Rattle.b3d_rows_nodes.specs.declared.RowCursor.{RowCursor}
 use Rattle.b3d_rows.specs.NextRow.{RowCursorAt, Begins, RowNext, RowNextIs, RowNexts}
-use Rattle.b3d_rows_valid.specs.Tells.{Tells}
+use Rattle.b3d_rows_valid.specs.Decides.{Decides}
 use Rattle.b3d_rows_valid.proofs.TestLaws.{alike, told-yes, told-no}
 use Rattle.b3d_rows_state.specs.declared.RowState.{RowState}
 use Rattle.b3d_rows_state.specs.declared.RowGiven.{RowGiven}
-use Rattle.b3d_rows_state.specs.States.{cursorOf, stateOf, noState, CursorOf, stateRows, CanGoOn, Startable, StateStarts, Gives, Refused, StateNexts}
+use Rattle.b3d_rows_state.specs.States.{cursorOf, stateOf, noState, CursorOf, stateRows, CanGoOn, Startable, StateStarts, GivenIs, Refused, StateNexts}
 
 -- ---- the start
 
@@ -47,7 +47,7 @@ pub ruleset start-laws = (start-low, start-high, start-short, start-large, start
 
 module _ (s : List ℕ) (t : RowState) where
   module _ (x : RowCursor) (c : CursorOf t x) where
-    pub test-is : 1 ≤ t .table → t .table ≤ 10 → length s ≤ 16777216 → (r : Bool) → Tells (RowCursorAt (t .table) s x) r → Tells (CanGoOn s t) r
+    pub test-is : 1 ≤ t .table → t .table ≤ 10 → length s ≤ 16777216 → (r : Bool) → Decides (RowCursorAt (t .table) s x) r → Decides (CanGoOn s t) r
     test-is lo hi small r u =
         alike r u
         (λ v. record { low = lo; high = hi; small = small; at = subst (RowCursorAt (t .table) s) (c .is) v })
@@ -56,14 +56,14 @@ module _ (s : List ℕ) (t : RowState) where
 -- ---- the answer
 
 module _ (t : RowState) (n : NextCursor) (r : RowGiven) where
-  pub given-none : not (n .given) ≡ true → r ≡ record { number = 0; place = 0; rows = 0; state = t } → Gives t n r
+  pub given-none : not (n .given) ≡ true → r ≡ record { number = 0; place = 0; rows = 0; state = t } → GivenIs t n r
   given-none h e = record { row = λ q. absurd (clash (n .given) h q); none = λ q. e }
     where
       clash : (b : Bool) → not b ≡ true → b ≡ true → ⊥
       clash true h q = subst T (sym h) tt
       clash false h q = subst T (sym q) tt
 
-  pub given-row : not (n .given) ≡ false → (x : RowState) → x ≡ stateOf (t .table) (n .cursor) → r ≡ record { number = 0; place = 0; rows = 1; state = x } → Gives t n r
+  pub given-row : not (n .given) ≡ false → (x : RowState) → x ≡ stateOf (t .table) (n .cursor) → r ≡ record { number = 0; place = 0; rows = 1; state = x } → GivenIs t n r
   given-row h x ex e = record { row = λ q. rw ex at e; none = λ q. absurd (clash (n .given) h q) }
     where
       clash : (b : Bool) → not b ≡ false → b ≡ false → ⊥
@@ -83,7 +83,7 @@ module _ (s : List ℕ) (t : RowState) where
     none = λ l. absurd (omega arith);
   }
 
-  module _ (ok : Bool) (u : Tells (CanGoOn s t) ok) where
+  module _ (ok : Bool) (u : Decides (CanGoOn s t) ok) where
     pub next-other : not ok ≡ true → (row : List ℕ) → 42 ≤ length row → (r : RowGiven) → r ≡ record { number = 15; place = 0; rows = 0; state = t } → StateNexts s t row row r
     next-other z row h r e = record {
       short = λ l. absurd (omega arith);
@@ -103,7 +103,7 @@ module _ (s : List ℕ) (t : RowState) where
         pub next-at : RowCursorAt (t .table) s x
         next-at = subst (RowCursorAt (t .table) s) (sym (c .is)) (can .at)
 
-        pub next-is : (row put : List ℕ) → 42 ≤ length row → (n : NextCursor) → RowNexts (t .table) s x row put n → (r : RowGiven) → Gives t n r → StateNexts s t row put r
+        pub next-is : (row put : List ℕ) → 42 ≤ length row → (n : NextCursor) → RowNexts (t .table) s x row put n → (r : RowGiven) → GivenIs t n r → StateNexts s t row put r
         next-is row put h n m r g = go (n .given) refl (subst (λ (y : RowCursor). RowNextIs (t .table) s y row put (n .given) (n .cursor)) (c .is) (m .is))
           where
             go : (b : Bool) → n .given ≡ b → RowNextIs (t .table) s (cursorOf t) row put b (n .cursor) → StateNexts s t row put r

@@ -6,6 +6,10 @@ use mathlib.Core.Bool.{true, false}
 use mathlib.Core.List.{List, [], _∷_}
 use lib.ListN.{length, replicate}
 use lib.Seq.{sets as stored}
+use Rattle.layout.specs.Rows.{mostBytes}
+use Rattle.layout.specs.Refusals as refusals
+use Rattle.b3d_spec.specs.Rules.{levels}
+use Rattle.b3d_spec.specs.Tables.{vertexWidth}
 use Rattle.b3d_spec_plain_rows.specs.Flat.{flatAt}
 use Rattle.b3d_spec_plain_rows.specs.Rows.{fileRows}
 use Rattle.b3d_rows_positions.specs.Positions.{Comes}
@@ -13,7 +17,7 @@ use Rattle.b3d_rows_nodes.specs.NextNode.{Shallow}
 use Rattle.b3d_rows_nodes.specs.declared.NextCursor.{NextCursor}
 use Rattle.b3d_rows_nodes.specs.declared.RowCursor.{RowCursor}
 use Rattle.b3d_rows.specs.NextRow.{rowsFrom, RowCursorAt}
-use Rattle.b3d_rows_valid.specs.Tells.{SixteenCells}
+use Rattle.b3d_rows_valid.specs.Decides.{SixteenCells}
 use Rattle.b3d_rows_state.specs.declared.RowState.{RowState}
 use Rattle.b3d_rows_state.specs.declared.RowGiven.{RowGiven}
 
@@ -94,8 +98,8 @@ noState = record {
   lists = 0;
   keys = 0;
   depth = 0;
-  «open_ends» = replicate 16 0;
-  «open_nodes» = replicate 16 0;
+  «open_ends» = replicate levels 0;
+  «open_nodes» = replicate levels 0;
 }
 
 -- what `cursor_of` returns
@@ -115,7 +119,7 @@ pub record CanGoOn (s : List ℕ) (t : RowState) : Type 0 where
   pub low : 1 ≤ t .table
   pub high : t .table ≤ 10
   -- the file is not too large
-  pub small : length s ≤ 16777216
+  pub small : length s ≤ mostBytes
   -- its numbers are those of a cursor over the rows of this table
   pub at : RowCursorAt (t .table) s (cursorOf t)
 
@@ -128,7 +132,7 @@ pub record Startable (k : ℕ) (s : List ℕ) : Type 0 where
   pub high : k ≤ 10
   -- the file has a size that files may have
   pub long : 12 ≤ length s
-  pub small : length s ≤ 16777216
+  pub small : length s ≤ mostBytes
 
 -- r is the state before the first row of table k
 pub record Started (k : ℕ) (s : List ℕ) (r : RowState) : Type 0 where
@@ -149,7 +153,7 @@ pub record StateStarts (k : ℕ) (s : List ℕ) (r : RowState) : Type 0 where
 -- ---- the next row
 
 -- what `given` returns
-pub record Gives (t : RowState) (n : NextCursor) (r : RowGiven) : Type 0 where
+pub record GivenIs (t : RowState) (n : NextCursor) (r : RowGiven) : Type 0 where
   -- where a row was given: the state behind it
   pub row : n .given ≡ true → r ≡ record { number = 0; place = 0; rows = 1; state = stateOf (t .table) (n .cursor) }
   -- where none is left: the state as it was
@@ -175,19 +179,19 @@ pub record Given (s : List ℕ) (t : RowState) (row put : List ℕ) (r : RowGive
 -- what `next` does, by the lent row, the state and the file
 pub record StateNexts (s : List ℕ) (t : RowState) (row put : List ℕ) (r : RowGiven) : Type 0 where
   -- the lent row is too short
-  pub short : length row < 42 → Refused 11 42 t row put r
+  pub short : length row < vertexWidth → Refused refusals.tooShort vertexWidth t row put r
   -- the state cannot be gone on with
-  pub other : 42 ≤ length row → (CanGoOn s t → ⊥) → Refused 15 0 t row put r
+  pub other : vertexWidth ≤ length row → (CanGoOn s t → ⊥) → Refused refusals.closed 0 t row put r
   -- a row is to come
-  pub row-comes : 42 ≤ length row → CanGoOn s t → (stateRows s t ≡ [] → ⊥) → Given s t row put r
+  pub row-comes : vertexWidth ≤ length row → CanGoOn s t → (stateRows s t ≡ [] → ⊥) → Given s t row put r
   -- none is left: so it is said, and nothing changed
-  pub none : 42 ≤ length row → CanGoOn s t → stateRows s t ≡ [] → Refused 0 0 t row put r
+  pub none : vertexWidth ≤ length row → CanGoOn s t → stateRows s t ≡ [] → Refused 0 0 t row put r
 
 -- ---- row after row
 
 -- one `next` after the other, each with the state of the last and any row of 42 words: first these rows, each stored in the row that was lent, then none
 abbrev pub Yields : List ℕ → RowState → List (List ℕ) → Type 0
-Yields s t [] = (row put : List ℕ) (r : RowGiven) → 42 ≤ length row → StateNexts s t row put r → Refused 0 0 t row put r
+Yields s t [] = (row put : List ℕ) (r : RowGiven) → vertexWidth ≤ length row → StateNexts s t row put r → Refused 0 0 t row put r
 Yields s t (cells ∷ rest) =
-    (row put : List ℕ) (r : RowGiven) → 42 ≤ length row → StateNexts s t row put r
+    (row put : List ℕ) (r : RowGiven) → vertexWidth ≤ length row → StateNexts s t row put r
     → (r .number ≡ 0) × (r .rows ≡ 1) × (put ≡ stored row 0 cells) × Yields s (r .state) rest

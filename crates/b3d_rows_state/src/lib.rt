@@ -3,14 +3,19 @@
 ghost use mathlib.Core.Path.{_≡_};
 ghost use Prim.Native.Nat.{_≤_};
 ghost use lib.ListN.{length};
-ghost use Rattle.b3d_rows_valid.specs.Tells.{Tells};
-ghost use Rattle.b3d_rows_state.specs.States.{stateOf, noState, CursorOf, CanGoOn, StateStarts, Gives, StateNexts};
+ghost use Rattle.b3d_rows_valid.specs.Decides.{Decides};
+ghost use Rattle.b3d_rows_state.specs.States.{stateOf, noState, CursorOf, CanGoOn, StateStarts, GivenIs, StateNexts};
 use b3d_rows_nodes::NextCursor;
 use b3d_rows_nodes::OpenNodes;
 use b3d_rows_nodes::RowCursor;
 use b3d_rows_open_items::OpenItems;
 use b3d_rows_positions::Position;
 use b3d_spec::Counts;
+use b3d_spec::LEVELS;
+use b3d_spec::VERTEX_WIDTH;
+use layout::FEWEST_BYTES;
+use layout::MOST_BYTES;
+use layout::refusals;
 use wire::Cursor;
 
 // A state: a cursor over the rows of a `table` (`b3d_rows_nodes::RowCursor`) as numbers. The flat run of chunks goes on at `at`; from `inner_at` to `inner_end`
@@ -37,8 +42,8 @@ pub struct RowState {
     pub lists: usize,
     pub keys: usize,
     pub depth: usize,
-    pub open_ends: [usize; 16],
-    pub open_nodes: [u32; 16],
+    pub open_ends: [usize; LEVELS],
+    pub open_nodes: [u32; LEVELS],
 }
 
 // What `next` answers: 0 at place 0, and `rows`, which is 1 where a row was written and 0 where none is left; or a refusal with its place; and the state for
@@ -154,8 +159,8 @@ fn no_state() -> RowState
         lists: 0,
         keys: 0,
         depth: 0,
-        open_ends: [0; 16],
-        open_nodes: [0; 16],
+        open_ends: [0; LEVELS],
+        open_nodes: [0; LEVELS],
     }
 }
 
@@ -169,10 +174,10 @@ pub fn start(file: &[u8], table: u32) -> RowState
     if 10 < table {
         return no_state();
     }
-    if file.len() < 12 {
+    if file.len() < FEWEST_BYTES {
         return no_state();
     }
-    if 16777216 < file.len() {
+    if MOST_BYTES < file.len() {
         return no_state();
     }
     let x = b3d_rows::begin(file, table);
@@ -181,7 +186,7 @@ pub fn start(file: &[u8], table: u32) -> RowState
 
 // Returns whether `t` is a state that can be gone on with over `file`.
 fn can_go_on(file: &[u8], t: RowState) -> bool
-    ensures { λ r. ⌜ Tells (CanGoOn (now (file .entry)) t) r ⌝ }
+    ensures { λ r. ⌜ Decides (CanGoOn (now (file .entry)) t) r ⌝ }
 {
     if t.table < 1 {
         return false;
@@ -189,7 +194,7 @@ fn can_go_on(file: &[u8], t: RowState) -> bool
     if 10 < t.table {
         return false;
     }
-    if 16777216 < file.len() {
+    if MOST_BYTES < file.len() {
         return false;
     }
     let x = cursor_of(t);
@@ -198,7 +203,7 @@ fn can_go_on(file: &[u8], t: RowState) -> bool
 
 // Returns the answer to a caller whose state is `t`, where `n` is the cursor behind a row or tells that none is left.
 fn given(t: RowState, n: NextCursor) -> RowGiven
-    ensures { λ r. ⌜ Gives t n r ⌝ }
+    ensures { λ r. ⌜ GivenIs t n r ⌝ }
 {
     if !n.given {
         return RowGiven {
@@ -223,9 +228,9 @@ fn given(t: RowState, n: NextCursor) -> RowGiven
 pub fn next(file: &[u8], t: RowState, row: &mut [u32]) -> RowGiven
     ensures { λ r. ⌜ StateNexts (now (file .entry)) t (now (row .entry)) (now (row .exit)) r ⌝ }
 {
-    if row.len() < 42 {
+    if row.len() < VERTEX_WIDTH {
         return RowGiven {
-            number: 11,
+            number: refusals::TOO_SHORT,
             place: 42,
             rows: 0,
             state: t,
@@ -233,7 +238,7 @@ pub fn next(file: &[u8], t: RowState, row: &mut [u32]) -> RowGiven
     }
     if !can_go_on(file, t) {
         return RowGiven {
-            number: 15,
+            number: refusals::CLOSED,
             place: 0,
             rows: 0,
             state: t,

@@ -1,2 +1,2 @@
 -- What a test of numbers tells.
-pub mod Tells
+pub mod Decides

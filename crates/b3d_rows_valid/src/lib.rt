@@ -2,34 +2,38 @@
 ghost use mathlib.Core.Path.{_≡_};
 ghost use Prim.Native.Nat.{_<_, _≤_};
 ghost use lib.ListN.{length};
-ghost use Rattle.b3d_spec.specs.Tables.{width};
+ghost use Rattle.b3d_spec.specs.Tables.{width, brushWidth};
 ghost use Rattle.b3d_rows_open_items.specs.ItemsLeft.{ItemTable, OfVertex, Measured};
 ghost use Rattle.b3d_rows_positions.specs.Positions.{MeshPosition, ItemPosition};
 ghost use Rattle.b3d_rows_items.specs.NextText.{TextPosition};
 ghost use Rattle.b3d_rows_nodes.specs.NextNode.{NodePosition};
 ghost use Rattle.b3d_rows_chunks.specs.NextChunk.{ChunkPosition, SetPosition};
 ghost use Rattle.b3d_rows.specs.NextRow.{PartAt, RowCursorAt};
-ghost use Rattle.b3d_rows_valid.specs.Tells.{Tells, SixteenCells};
+ghost use Rattle.b3d_rows_valid.specs.Decides.{Decides, SixteenCells};
 use b3d_rows_nodes::OpenNodes;
 use b3d_rows_nodes::RowCursor;
 use b3d_rows_open_items::OpenItems;
 use b3d_rows_positions::Position;
+use b3d_spec::BRUSH_WIDTH;
+use b3d_spec::LEVELS;
+use b3d_spec::TEXTURE_WIDTH;
+use b3d_spec::VERTEX_WIDTH;
 
 // Returns how many words a row of table `k`, which is 1 or 2, has.
 fn text_row_words(k: u32) -> usize
     requires { ⌜ (1 ≤ k) × (k ≤ 2) ⌝ }
-    ensures { λ r. ⌜ (r ≡ width k) × (r ≤ 17) ⌝ }
+    ensures { λ r. ⌜ (r ≡ width k) × (r ≤ brushWidth) ⌝ }
 {
     if k == 1 {
-        return 9;
+        return TEXTURE_WIDTH;
     }
-    17
+    BRUSH_WIDTH
 }
 
 // Returns whether `x` is a position in table `k`, which is 1 or 2.
 fn is_text(file: &[u8], k: u32, x: Position) -> bool
     requires { ⌜ (1 ≤ k) × (k ≤ 2) × (length (now file) < 0x100000000) ⌝ }
-    ensures { λ r. ⌜ Tells (TextPosition k (now (file .entry)) x) r ⌝ }
+    ensures { λ r. ⌜ Decides (TextPosition k (now (file .entry)) x) r ⌝ }
 {
     let items = x.items;
     let rest = items.rest;
@@ -55,13 +59,13 @@ fn is_text(file: &[u8], k: u32, x: Position) -> bool
 // Returns whether `x` is a position in table 3 under the open nodes of `path`.
 fn is_node(file: &[u8], x: Position, path: OpenNodes) -> bool
     requires { ⌜ SixteenCells path × (length (now file) < 0x100000000) ⌝ }
-    ensures { λ r. ⌜ Tells (NodePosition (now (file .entry)) x path) r ⌝ }
+    ensures { λ r. ⌜ Decides (NodePosition (now (file .entry)) x path) r ⌝ }
 {
     let counts = x.counts;
     if file.len() < x.at {
         return false;
     }
-    if 16 < path.depth {
+    if LEVELS < path.depth {
         return false;
     }
     if x.at < counts.nodes {
@@ -79,7 +83,7 @@ fn is_node(file: &[u8], x: Position, path: OpenNodes) -> bool
 // Returns whether `x` is a position in table 4 or 9.
 fn is_chunk(file: &[u8], x: Position) -> bool
     requires { ⌜ length (now file) < 0x100000000 ⌝ }
-    ensures { λ r. ⌜ Tells (ChunkPosition (now (file .entry)) x) r ⌝ }
+    ensures { λ r. ⌜ Decides (ChunkPosition (now (file .entry)) x) r ⌝ }
 {
     let counts = x.counts;
     if file.len() < x.at {
@@ -102,7 +106,7 @@ fn is_chunk(file: &[u8], x: Position) -> bool
 
 // Returns whether `x` is a position of `file` from which the next MESH can be sought.
 fn is_mesh(file: &[u8], x: Position) -> bool
-    ensures { λ r. ⌜ Tells (MeshPosition (now (file .entry)) x) r ⌝ }
+    ensures { λ r. ⌜ Decides (MeshPosition (now (file .entry)) x) r ⌝ }
 {
     let counts = x.counts;
     let inner = x.inner;
@@ -127,7 +131,7 @@ fn is_mesh(file: &[u8], x: Position) -> bool
 // Returns whether `x` is a position in table 6.
 fn is_set(file: &[u8], x: Position) -> bool
     requires { ⌜ length (now file) < 0x100000000 ⌝ }
-    ensures { λ r. ⌜ Tells (SetPosition (now (file .entry)) x) r ⌝ }
+    ensures { λ r. ⌜ Decides (SetPosition (now (file .entry)) x) r ⌝ }
 {
     let counts = x.counts;
     let inner = x.inner;
@@ -145,7 +149,7 @@ fn is_set(file: &[u8], x: Position) -> bool
 
 // Returns whether the numbers of `i` say how many words a vertex has.
 fn is_vertex(i: OpenItems) -> bool
-    ensures { λ r. ⌜ Tells (OfVertex i) r ⌝ }
+    ensures { λ r. ⌜ Decides (OfVertex i) r ⌝ }
 {
     if 3 < i.flags {
         return false;
@@ -165,12 +169,12 @@ fn is_vertex(i: OpenItems) -> bool
 // Returns whether items of table `k` have as many words as the numbers of `i` say.
 fn is_measured(k: u32, i: OpenItems) -> bool
     requires { ⌜ ItemTable k ⌝ }
-    ensures { λ r. ⌜ Tells (Measured k i) r ⌝ }
+    ensures { λ r. ⌜ Decides (Measured k i) r ⌝ }
 {
     if i.words < 1 {
         return false;
     }
-    if 42 < i.words {
+    if VERTEX_WIDTH < i.words {
         return false;
     }
     if k == 5 {
@@ -197,7 +201,7 @@ fn is_measured(k: u32, i: OpenItems) -> bool
 // Returns whether `x` is a position in table `k`, which is 5, 7, 8 or 10.
 fn is_item(file: &[u8], k: u32, x: Position) -> bool
     requires { ⌜ ItemTable k ⌝ }
-    ensures { λ r. ⌜ Tells (ItemPosition k (now (file .entry)) x) r ⌝ }
+    ensures { λ r. ⌜ Decides (ItemPosition k (now (file .entry)) x) r ⌝ }
 {
     let items = x.items;
     let rest = items.rest;
@@ -219,7 +223,7 @@ fn is_item(file: &[u8], k: u32, x: Position) -> bool
 // Returns whether `x` is a position in table `k`, which is 4 to 10.
 fn is_part(file: &[u8], k: u32, x: Position) -> bool
     requires { ⌜ (4 ≤ k) × (k ≤ 10) × (length (now file) < 0x100000000) ⌝ }
-    ensures { λ r. ⌜ Tells (PartAt k (now (file .entry)) x) r ⌝ }
+    ensures { λ r. ⌜ Decides (PartAt k (now (file .entry)) x) r ⌝ }
 {
     if k == 4 {
         return is_chunk(file, x);
@@ -236,7 +240,7 @@ fn is_part(file: &[u8], k: u32, x: Position) -> bool
 // Returns whether `x` is a cursor over the rows of table `k`, which is 1 to 10.
 pub fn is_cursor(file: &[u8], k: u32, x: RowCursor) -> bool
     requires { ⌜ (1 ≤ k) × (k ≤ 10) × SixteenCells (x .path) × (length (now file) < 0x100000000) ⌝ }
-    ensures { λ r. ⌜ Tells (RowCursorAt k (now (file .entry)) x) r ⌝ }
+    ensures { λ r. ⌜ Decides (RowCursorAt k (now (file .entry)) x) r ⌝ }
 {
     let position = x.position;
     let path = x.path;

@@ -9,7 +9,7 @@ TellsIs P true = P
 TellsIs P false = P → ⊥
 
 -- the answer r of a test is whether P holds
-pub record Tells (P : Type 0) (r : Bool) : Type 0 where
+pub record Decides (P : Type 0) (r : Bool) : Type 0 where
   -- by the case of the answer
   pub is : TellsIs P r
 
