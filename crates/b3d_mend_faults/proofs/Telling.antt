@@ -1,24 +1,22 @@
 -- Edits of the bytes from one place to another, and the faults that their entries are of; the edits of chunks inside a chunk, woven into what stands there.
 use mathlib.Core.Logic.{inr}
 use mathlib.Core.Path.{_≡_, refl, ap, sym, _∙_, subst}
-use Prim.Native.Nat.{ℕ, zero, suc, _+_, _≤_}
+use Prim.Native.Nat.{ℕ, _+_}
 use native.Mathlib.Omega.{arith}
 use mathlib.Core.Bool.{Bool, true, false}
 use mathlib.Core.Option.{Option, none, some}
 use mathlib.Core.List.{List, [], _∷_, _++_, append-assoc, append-nil}
-use lib.ListN.{length, take, drop, length-append, length-drop}
-use lib.Seq.{length-take-le}
-use lib.Dec.{leb, leb→le}
-use Rattle.wire.specs.Bytes.{word, bytes}
+use lib.ListN.{length, length-append}
+use Rattle.wire.specs.Bytes.{bytes}
 use Rattle.wire.specs.Test.{if}
-use Rattle.layout.proofs.Outs.{if-case}
 use Rattle.b3d_spec.specs.declared.Tag.{Tag}
 use Rattle.b3d_spec.specs.Nesting.{nesting, Reached, start, requiredBetween, end, next}
-use Rattle.b3d_spec.specs.Tags.{code, tagOf}
+use Rattle.b3d_spec.specs.Tags.{code}
 use Rattle.b3d_mend_spec.specs.Edits.{Edit, keep, follow, mend, was, before, after}
-use Rattle.b3d_mend_spec.specs.Pieces.{Pieces, none-left, spare, past, other, known, piece, piecesIn, pieces, wrapped, woven}
+use Rattle.b3d_mend_spec.specs.Pieces.{Pieces, none-left, spare, past, other, known, pieces, wrapped, woven}
 use Rattle.b3d_mend_spec.specs.Report.{Entry, entries}
 use Rattle.b3d_mend_spec.proofs.EditLaws.{before-append}
+use Rattle.b3d_mend_spec.proofs.Placing.{Placed, pieces-placed}
 use Rattle.b3d_mend_spec.proofs.StepLaws.{entries-append}
 use Rattle.b3d_mend_faults.specs.Faults.{Fault, mendable, Within, finished, refused, spareAt, chunkAt, found, onwardFrom, inOrder, within}
 use Rattle.b3d_mend_faults.specs.ReportTells.{Fixes, Tells}
@@ -72,39 +70,6 @@ Told (spareAt p w) xs l = (g : List Fault) × (l ≡ mendable 4 3 p ∷ g) × To
 Told (chunkAt t p b w) xs l =
     (x : List Edit) × (ys : List (List Edit)) × (f : List Fault) × (g : List Fault) × (xs ≡ x ∷ ys) × (l ≡ f ++ g) × Made (p + 8) (p + 8 + length b) x f × Told w ys g
 
--- pieces stand one behind the other, from place p up to q
-abbrev Spaced : ℕ → ℕ → Pieces → Type 0
-Spaced p q none-left = p ≡ q
-Spaced p q (spare i s) = (i ≡ p) × (p + length s ≡ q)
-Spaced p q (past i s) = Unit {0}
-Spaced p q (other o r) = Spaced (p + length o) q r
-Spaced p q (known t i b r) = (i ≡ p) × Spaced (p + 8 + length b) q r
-
-piece-spaced : (o : Option Tag) (p q n : ℕ) (h b : List ℕ) (r : Pieces) → length h ≡ 8 → length b ≡ n → Spaced (p + 8 + n) q r → Spaced p q (piece o p h b r)
-unfolding piece
-piece-spaced none p q n h b r eh eb k = let e : p + 8 + n ≡ p + length (h ++ b) = omega (arith, length-append h b) in subst (λ (z : ℕ). Spaced z q r) e k
-piece-spaced (some t) p q n h b r eh eb k = (refl, subst (λ (z : ℕ). Spaced (p + 8 + z) q r) (sym eb) k)
-
-pieces-spaced : (f p q : ℕ) (s : List ℕ) → length s ≤ f → p + length s ≡ q → Spaced p q (piecesIn f p s)
-unfolding piecesIn
-pieces-spaced zero p q [] h e = omega arith
-pieces-spaced zero p q (c ∷ s) h e = absurd (omega arith)
-pieces-spaced (suc f) p q [] h e = omega arith
-pieces-spaced (suc f) p q (a ∷ []) h e = (refl, e)
-pieces-spaced (suc f) p q (a ∷ b ∷ []) h e = (refl, e)
-pieces-spaced (suc f) p q (a ∷ b ∷ c ∷ []) h e = (refl, e)
-pieces-spaced (suc f) p q (a ∷ b ∷ c ∷ d ∷ []) h e = (refl, e)
-pieces-spaced (suc f) p q (a ∷ b ∷ c ∷ d ∷ i ∷ []) h e = (refl, e)
-pieces-spaced (suc f) p q (a ∷ b ∷ c ∷ d ∷ i ∷ j ∷ []) h e = (refl, e)
-pieces-spaced (suc f) p q (a ∷ b ∷ c ∷ d ∷ i ∷ j ∷ k ∷ []) h e = (refl, e)
-pieces-spaced (suc f) p q (a ∷ b ∷ c ∷ d ∷ i ∷ j ∷ k ∷ m ∷ s) h e =
-    let n = word i j k m in
-    if-case (Spaced p q) (leb n (length s)) _ _
-    (λ t. let le = leb→le n (length s) t in
-    piece-spaced (tagOf (word a b c d)) p q n (a ∷ b ∷ c ∷ d ∷ i ∷ j ∷ k ∷ m ∷ []) (take n s) (piecesIn f (p + 8 + n) (drop n s)) refl (length-take-le n s le)
-    (pieces-spaced f (p + 8 + n) q (drop n s) (omega (arith, length-drop n s)) (omega (arith, length-drop n s))))
-    (λ t. tt)
-
 module _ (k : Tag) (head : ℕ) where
   -- behind the last chunk
   none-told : (c : Bool) (xs : List (List Edit)) (l : List Fault) → Told (if c (refused 8 head) finished) xs l → l ≡ []
@@ -118,7 +83,7 @@ module _ (k : Tag) (head : ℕ) where
   onward-told none t p b w xs l h = absurd h
   onward-told (some r) t p b w xs l h = (r, h)
 
-  woven-made : (P : Pieces) (r : Reached) (p q : ℕ) (xs : List (List Edit)) (l : List Fault) → Spaced p q P → Told (inOrder k head r (found P)) xs l → Made p q (woven P xs) l
+  woven-made : (P : Pieces) (r : Reached) (p q : ℕ) (xs : List (List Edit)) (l : List Fault) → Placed p q P → Told (inOrder k head r (found P)) xs l → Made p q (woven P xs) l
   unfolding inOrder found woven wrapped
   woven-made none-left r p q xs l s h = subst (Made p q []) (sym (none-told (requiredBetween (nesting k) (r .turn) end) xs l h)) (made-none p q s)
   woven-made (spare i b) r p q xs l s h =
@@ -138,7 +103,7 @@ module _ (k : Tag) (head : ℕ) where
 
   -- what stands in a chunk from place q on, with the edits of its chunks
   pub within-made : (p q last : ℕ) (s t : List ℕ) (xs : List (List Edit)) (l : List Fault) → q ≡ p → t ≡ s → q + length t ≡ last → Told (within k head p s) xs l → Made q last (woven (pieces q t) xs) l
-  unfolding within pieces
+  unfolding within
   within-made p q last s t xs l ep es e h =
-      woven-made (pieces q t) start q last xs l (pieces-spaced (length t) q last t (omega arith) e)
+      woven-made (pieces q t) start q last xs l (pieces-placed q last t e)
       (subst (λ (z : List ℕ). Told (within k head q z) xs l) (sym es) (subst (λ (z : ℕ). Told (within k head z s) xs l) (sym ep) h))

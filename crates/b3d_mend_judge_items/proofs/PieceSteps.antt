@@ -1,11 +1,11 @@
 -- The pieces of a stretch of bytes, one at a time: by the list, and at a cursor by what its header says.
-use Prim.Native.Nat.{ℕ, zero, suc, _+_, _-_, _≤_, _<_}
+use Prim.Native.Nat.{ℕ, _+_, _-_, _≤_, _<_}
 use native.Mathlib.Omega.{arith}
-use mathlib.Core.Path.{_≡_, refl, ap, _∙_}
+use mathlib.Core.Path.{_≡_, refl, _∙_}
 use mathlib.Core.Option.{Option, none, some}
 use mathlib.Core.List.{List, [], _∷_}
-use lib.ListN.{length, take, drop, getD, length-drop}
-use lib.Dec.{T, leb, leb→le, le→leb, not-T}
+use lib.ListN.{length, take, drop, getD}
+use lib.Dec.{leb, le→leb}
 use Rattle.wire.specs.Bytes.{word, wordAt}
 use Rattle.wire.specs.Test.{if}
 use Rattle.wire.specs.Cursors.{Inside, left}
@@ -14,69 +14,15 @@ use Rattle.wire.specs.declared.Header.the-variants as header
 use Rattle.wire.proofs.Left.{span, left-length, left-nil, left-four, left-drop, left-take}
 use Rattle.layout.specs.Chunks.{stop, keep}
 use Rattle.layout.proofs.ChunkLaws.{split-step, split-past}
-use Rattle.layout.proofs.Outs.{if-yes, if-no}
+use Rattle.layout.proofs.Outs.{if-yes}
 use Rattle.b3d_spec.specs.declared.Tag.{Tag}
 use Rattle.b3d_spec.specs.Tags.{tagOf, split}
-use Rattle.b3d_mend_spec.specs.Pieces.{Pieces, none-left, spare, past, piece, piecesIn, pieces, chunksOf}
+use Rattle.b3d_mend_spec.proofs.StepLaws.{pieces-none, pieces-short, pieces-past, pieces-whole}
+use Rattle.b3d_mend_spec.specs.Pieces.{Pieces, none-left, spare, past, piece, pieces, chunksOf}
 
 -- ---- by the list
 
-fuel : (f g p : ℕ) (s : List ℕ) → length s ≤ f → length s ≤ g → piecesIn f p s ≡ piecesIn g p s
-unfolding piecesIn
-fuel zero zero p s hf hg = refl
-fuel zero (suc g) p [] hf hg = refl
-fuel zero (suc g) p (a ∷ s) hf hg = absurd (omega arith)
-fuel (suc f) zero p [] hf hg = refl
-fuel (suc f) zero p (a ∷ s) hf hg = absurd (omega arith)
-fuel (suc f) (suc g) p [] hf hg = refl
-fuel (suc f) (suc g) p (a ∷ []) hf hg = refl
-fuel (suc f) (suc g) p (a ∷ b ∷ []) hf hg = refl
-fuel (suc f) (suc g) p (a ∷ b ∷ c ∷ []) hf hg = refl
-fuel (suc f) (suc g) p (a ∷ b ∷ c ∷ d ∷ []) hf hg = refl
-fuel (suc f) (suc g) p (a ∷ b ∷ c ∷ d ∷ e ∷ []) hf hg = refl
-fuel (suc f) (suc g) p (a ∷ b ∷ c ∷ d ∷ e ∷ x ∷ []) hf hg = refl
-fuel (suc f) (suc g) p (a ∷ b ∷ c ∷ d ∷ e ∷ x ∷ y ∷ []) hf hg = refl
-fuel (suc f) (suc g) p (a ∷ b ∷ c ∷ d ∷ e ∷ x ∷ y ∷ z ∷ s) hf hg =
-    let n = word e x y z in
-    let k = length-drop n s in
-    ap (λ (r : Pieces). if (leb n (length s)) (piece (tagOf (word a b c d)) p (a ∷ b ∷ c ∷ d ∷ e ∷ x ∷ y ∷ z ∷ []) (take n s) r) (past p (a ∷ b ∷ c ∷ d ∷ e ∷ x ∷ y ∷ z ∷ s)))
-    (fuel f g (p + 8 + n) (drop n s) (omega arith) (omega arith))
-
-pub pieces-none : (p : ℕ) → pieces p [] ≡ none-left
-unfolding pieces piecesIn
-pieces-none p = refl
-
-pub pieces-short : (p : ℕ) (s : List ℕ) → 0 < length s → length s < 8 → pieces p s ≡ spare p s
-unfolding pieces piecesIn
-pieces-short p [] h k = absurd (omega arith)
-pieces-short p (a ∷ []) h k = refl
-pieces-short p (a ∷ b ∷ []) h k = refl
-pieces-short p (a ∷ b ∷ c ∷ []) h k = refl
-pieces-short p (a ∷ b ∷ c ∷ d ∷ []) h k = refl
-pieces-short p (a ∷ b ∷ c ∷ d ∷ e ∷ []) h k = refl
-pieces-short p (a ∷ b ∷ c ∷ d ∷ e ∷ f ∷ []) h k = refl
-pieces-short p (a ∷ b ∷ c ∷ d ∷ e ∷ f ∷ g ∷ []) h k = refl
-pieces-short p (a ∷ b ∷ c ∷ d ∷ e ∷ f ∷ g ∷ i ∷ s) h k = absurd (omega arith)
-
 module _ (p a b c d e x y z : ℕ) (s : List ℕ) where
-  pieces-step : pieces p (a ∷ b ∷ c ∷ d ∷ e ∷ x ∷ y ∷ z ∷ s)
-      ≡ if (leb (word e x y z) (length s))
-      (piece (tagOf (word a b c d)) p (a ∷ b ∷ c ∷ d ∷ e ∷ x ∷ y ∷ z ∷ []) (take (word e x y z) s) (pieces (p + 8 + word e x y z) (drop (word e x y z) s)))
-      (past p (a ∷ b ∷ c ∷ d ∷ e ∷ x ∷ y ∷ z ∷ s))
-  unfolding pieces piecesIn
-  pieces-step =
-      let n = word e x y z in
-      let k = length-drop n s in
-      ap (λ (r : Pieces). if (leb n (length s)) (piece (tagOf (word a b c d)) p (a ∷ b ∷ c ∷ d ∷ e ∷ x ∷ y ∷ z ∷ []) (take n s) r) (past p (a ∷ b ∷ c ∷ d ∷ e ∷ x ∷ y ∷ z ∷ s)))
-      (fuel (suc (suc (suc (suc (suc (suc (suc (length s)))))))) (length (drop n s)) (p + 8 + n) (drop n s) (omega arith) (omega arith))
-
-  pub pieces-past : length s < word e x y z → pieces p (a ∷ b ∷ c ∷ d ∷ e ∷ x ∷ y ∷ z ∷ s) ≡ past p (a ∷ b ∷ c ∷ d ∷ e ∷ x ∷ y ∷ z ∷ s)
-  pieces-past k = pieces-step ∙ if-no (leb (word e x y z) (length s)) _ _ (not-T (leb (word e x y z) (length s)) (λ t. let q = leb→le (word e x y z) (length s) t in omega arith))
-
-  pub pieces-whole : word e x y z ≤ length s → pieces p (a ∷ b ∷ c ∷ d ∷ e ∷ x ∷ y ∷ z ∷ s)
-      ≡ piece (tagOf (word a b c d)) p (a ∷ b ∷ c ∷ d ∷ e ∷ x ∷ y ∷ z ∷ []) (take (word e x y z) s) (pieces (p + 8 + word e x y z) (drop (word e x y z) s))
-  pieces-whole k = pieces-step ∙ if-yes (leb (word e x y z) (length s)) _ _ (le→leb _ _ k)
-
   pub split-whole : word e x y z ≤ length s → split p (a ∷ b ∷ c ∷ d ∷ e ∷ x ∷ y ∷ z ∷ s)
       ≡ keep (tagOf (word a b c d)) p (take (word e x y z) s) (split (p + 8 + word e x y z) (drop (word e x y z) s))
   split-whole k = split-step tagOf p a b c d e x y z s ∙ if-yes (leb (word e x y z) (length s)) _ _ (le→leb _ _ k)

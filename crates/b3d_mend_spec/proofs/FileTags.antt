@@ -7,32 +7,20 @@ use Rattle.wire.specs.Test.{if}
 use Rattle.layout.specs.Chunks.{done, stop, chunk, ended}
 use Rattle.layout.specs.Result.{Result, accept, _>>=_}
 use Rattle.layout.proofs.Outs.{by-got, bad-got, got-inj}
-use Rattle.b3d_spec.specs.Nesting.{Reached, start, next, onward, order}
+use Rattle.b3d_spec.specs.Nesting.{start, reachedAt, next, onward, order}
 use Rattle.b3d_spec.specs.Tags.{is, Chunks}
 use Rattle.b3d_spec.specs.declared.Tag.{Tag}
 use Rattle.b3d_spec.specs.declared.Tag.the-variants.{BB3D, TEXS, BRUS, NODE}
+use Rattle.b3d_spec.proofs.Files.Entries.{Either}
 use Rattle.b3d_spec.proofs.Files.TagCodes.{by-tag}
+use Rattle.b3d_spec.proofs.Files.TagLaws.{Nothing}
 use Rattle.b3d_mend_spec.specs.Mend.{Mended, Taken, found, mendOne}
 
--- A where the test holds, else B
-abbrev pick : Bool → Type 0 → Type 0 → Type 0
-pick true A B = A
-pick false A B = B
-
--- no chunk
-abbrev Nothing : Chunks → Type 0
-Nothing done = Unit {0}
-Nothing (stop n p) = Unit {0}
-Nothing (chunk t p b r) = ⊥
-
 -- at most one chunk of this tag, and then P
-abbrev Then : Tag → (Chunks → Type 0) → Chunks → Type 0
+abbrev pub Then : Tag → (Chunks → Type 0) → Chunks → Type 0
 Then k P done = Unit {0}
 Then k P (stop n p) = Unit {0}
-Then k P (chunk t p b r) = pick (is t k) (P r) (P (chunk t p b r))
-
-abbrev reached : ℕ → Bool → Reached
-reached n b = record { turn = n; spent = b }
+Then k P (chunk t p b r) = Either (is t k) (P r) (P (chunk t p b r))
 
 -- what is left after a chunk that may be missing
 one-then : {A : Type 0} (k : Tag) (P : Chunks → Type 0) → P done → (a : A) (one : ℕ → List ℕ → Result (Mended A)) (cs : Chunks) (x : Taken A) → Then k P cs → mendOne k a one cs ≡ accept x → P (x .rest)
@@ -41,40 +29,40 @@ one-then {A} k P d a one done x h e = subst (λ (y : Taken A). P (y .rest)) (got
 one-then k P d a one (stop n p) x h e = bad-got e
 one-then {A} k P d a one (chunk t p b r) x h e = go (is t k) h e
   where
-    go : (c : Bool) → pick c (P r) (P (chunk t p b r))
+    go : (c : Bool) → Either c (P r) (P (chunk t p b r))
         → if c (one p b >>= λ m. accept (record { value = m .value; bodies = m .edits ∷ []; rest = r })) (accept (record { value = a; bodies = []; rest = chunk t p b r })) ≡ accept x → P (x .rest)
     go true h e = by-got (one p b) _ e (λ m em e₁. subst (λ (y : Taken A). P (y .rest)) (got-inj e₁) h)
     go false h e = subst (λ (y : Taken A). P (y .rest)) (got-inj e) h
 
 -- at most a root; at most brushes and then a root
-abbrev Root : Chunks → Type 0
+abbrev pub Root : Chunks → Type 0
 Root cs = Then NODE Nothing cs
 
-abbrev Rest : Chunks → Type 0
+abbrev pub Rest : Chunks → Type 0
 Rest cs = Then BRUS Root cs
 
-after-root : (head : ℕ) (cs : Chunks) → Nothing (order BB3D head (reached 3 true) cs)
+after-root : (head : ℕ) (cs : Chunks) → Nothing (order BB3D head (reachedAt 3 true) cs)
 unfolding order onward next if
 after-root head done = tt
 after-root head (stop n p) = tt
 after-root head (chunk t p b r) =
-    by-tag (λ k. Nothing (order BB3D head (reached 3 true) (chunk k p b r))) (tt, tt, tt, tt, tt, tt, tt, tt, tt, tt) t
+    by-tag (λ k. Nothing (order BB3D head (reachedAt 3 true) (chunk k p b r))) (tt, tt, tt, tt, tt, tt, tt, tt, tt, tt) t
 
-after-brushes : (head : ℕ) (cs : Chunks) → Root (order BB3D head (reached 2 true) cs)
+after-brushes : (head : ℕ) (cs : Chunks) → Root (order BB3D head (reachedAt 2 true) cs)
 unfolding order onward next if
 after-brushes head done = tt
 after-brushes head (stop n p) = tt
 after-brushes head (chunk t p b r) =
-    by-tag (λ k. Root (order BB3D head (reached 2 true) (chunk k p b r))) (tt, tt, tt, after-root head r, tt, tt, tt, tt, tt, tt) t
+    by-tag (λ k. Root (order BB3D head (reachedAt 2 true) (chunk k p b r))) (tt, tt, tt, after-root head r, tt, tt, tt, tt, tt, tt) t
 
-after-textures : (head : ℕ) (cs : Chunks) → Rest (order BB3D head (reached 1 true) cs)
+after-textures : (head : ℕ) (cs : Chunks) → Rest (order BB3D head (reachedAt 1 true) cs)
 unfolding order onward next if
 after-textures head done = tt
 after-textures head (stop n p) = tt
 after-textures head (chunk t p b r) =
-    by-tag (λ k. Rest (order BB3D head (reached 1 true) (chunk k p b r))) (tt, tt, after-brushes head r, after-root head r, tt, tt, tt, tt, tt, tt) t
+    by-tag (λ k. Rest (order BB3D head (reachedAt 1 true) (chunk k p b r))) (tt, tt, after-brushes head r, after-root head r, tt, tt, tt, tt, tt, tt) t
 
-file-order : (head : ℕ) (cs : Chunks) → Then TEXS Rest (order BB3D head start cs)
+pub file-order : (head : ℕ) (cs : Chunks) → Then TEXS Rest (order BB3D head start cs)
 unfolding order onward next if
 file-order head done = tt
 file-order head (stop n p) = tt

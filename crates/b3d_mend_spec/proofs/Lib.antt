@@ -5,6 +5,7 @@ pub mod Agreeing
 pub mod PartLaws
 pub mod LeafLaws
 pub mod PieceLaws
+pub mod Placing
 pub mod StageLaws
 pub mod NodeLaws
 pub mod FileTags

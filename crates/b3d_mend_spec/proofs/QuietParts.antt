@@ -1,5 +1,5 @@
 -- Words, rows and items: what the reading accepts, the mending leaves as it is; what it refuses, the mending refuses, but for what it mends.
-use mathlib.Core.Path.{_≡_, refl, ap, ap₂, sym, _∙_, subst}
+use mathlib.Core.Path.{_≡_, refl, ap, ap₂, sym, subst}
 use mathlib.Core.Logic.{inl, inr}
 use Prim.Native.Nat.{ℕ, zero, suc, _+_}
 use native.Mathlib.Omega.{arith}
@@ -13,7 +13,8 @@ use Rattle.layout.specs.Result.{Result, accept, reject, check, _>>=_}
 use Rattle.layout.specs.Parts.{Name, Step, text, words, judged, row, named, itemsIn, items}
 use Rattle.layout.specs.Rules.{Rule, any, upTo, exactly, names, namesOrNone, unit, holds, refusal}
 use Rattle.layout.proofs.Lists.{All, all-append}
-use Rattle.layout.proofs.Outs.{by-got, bad-got, got-inj}
+use Rattle.layout.proofs.HeldLaws.{words-count}
+use Rattle.layout.proofs.Outs.{bad-got}
 use Rattle.b3d_mend_spec.specs.Edits.{keep}
 use Rattle.b3d_mend_spec.specs.Mend.{Mended, mendWord, andWords, mendWords, mendRow, withName, mendNamed, allHold, stays, mendItem, gathered, mendItems, asRead}
 use Rattle.b3d_mend_spec.proofs.Agreeing.{Mendable, Beside, bind-beside, same-beside}
@@ -64,16 +65,6 @@ words-beside {A} (r ∷ rs) p (w ∷ ws) a n =
     one-more (accept b) (accept x) v hv h = (h .0, (ap₂ _∷_ (hv .0) (h .1 .0), all-append Quiet (v .edits) (x .edits) (hv .1) (h .1 .1)))
     one-more (accept b) (reject i q) v hv h = absurd h
     one-more (reject i q) m v hv h = elim h [ inl j ↦ inl j | inr e ↦ inr (ap (λ (z : Result (Mended (List ℕ))). z >>= λ x. accept (record { value = v .value ∷ x .value; edits = v .edits ++ x .edits })) e) ]
-
-pub words-count : (start n p : ℕ) (s : List ℕ) (x : Step (List ℕ)) → words start n p s ≡ accept x → length (x .value) ≡ n
-unfolding words
-words-count start zero p s x e = ap (λ (y : Step (List ℕ)). length (y .value)) (sym (got-inj e))
-words-count start (suc n) p [] x e = bad-got e
-words-count start (suc n) p (a ∷ []) x e = bad-got e
-words-count start (suc n) p (a ∷ b ∷ []) x e = bad-got e
-words-count start (suc n) p (a ∷ b ∷ c ∷ []) x e = bad-got e
-words-count start (suc n) p (a ∷ b ∷ c ∷ d ∷ s) x e =
-    by-got (words start n (p + 4) s) _ e (λ y ey e₁. ap (λ (z : Step (List ℕ)). length (z .value)) (sym (got-inj e₁)) ∙ ap suc (words-count start n (p + 4) s y ey))
 
 -- ---- rows and names
 

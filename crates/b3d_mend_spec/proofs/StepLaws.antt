@@ -3,10 +3,10 @@
 use mathlib.Core.Path.{_≡_, refl, ap, sym, _∙_}
 use Prim.Native.Nat.{ℕ, zero, suc, _+_, _*_, _<_, _≤_}
 use native.Mathlib.Omega.{arith}
-use mathlib.Core.Option.{Option, none, some}
+use mathlib.Core.Option.{none}
 use mathlib.Core.List.{List, [], _∷_, _++_, append-assoc}
 use lib.ListN.{length, take, drop, length-append, length-drop}
-use lib.Dec.{leb, leb→le, le→leb, not-T}
+use lib.Dec.{leb, leb→le, le→leb, nleb→lt, not-T}
 use Rattle.wire.specs.Bytes.{word}
 use Rattle.wire.specs.Test.{if}
 use Rattle.shared_seven_bit_groups.specs.Groups.{writeNumbers}
@@ -14,13 +14,12 @@ use Rattle.shared_seven_bit_groups.proofs.Fronts.{numbers-append}
 use Rattle.layout.specs.Result.{Result, accept, reject, _>>=_}
 use Rattle.layout.specs.Parts.{Step, words, wordsOf, items}
 use Rattle.layout.specs.Rules.{Rule}
-use Rattle.layout.proofs.Outs.{if-yes, if-no, by-got, bad-got, got-inj, bind-bind, bind-cong}
+use Rattle.layout.proofs.Outs.{by-test, if-yes, if-no, by-got, bad-got, got-inj, bind-bind, bind-cong}
 use Rattle.layout.proofs.StepLaws.{Shrinks, items-none, items-step, words-enough, words-short}
 use Rattle.b3d_spec.specs.Tags.{tagOf}
-use Rattle.b3d_spec.specs.declared.Tag.{Tag}
 use Rattle.b3d_mend_spec.specs.Edits.{Edit, keep, follow, mend, was, before, after}
 use Rattle.b3d_mend_spec.specs.Mend.{Mended, stays, allHold, mendItem, gathered, mendItems}
-use Rattle.b3d_mend_spec.specs.Pieces.{Pieces, none-left, spare, past, other, known, piece, piecesIn, pieces}
+use Rattle.b3d_mend_spec.specs.Pieces.{Pieces, none-left, spare, past, piece, piecesIn, pieces}
 use Rattle.b3d_mend_spec.specs.Report.{Entry, entries, numbersOf, entryBytes, reportBytes}
 
 -- ---- pieces
@@ -79,33 +78,20 @@ module _ (p a b c d e g h i : ℕ) (s : List ℕ) where
   pub pieces-past : length s < word e g h i → pieces p all ≡ past p all
   pieces-past k = step ∙ if-no (leb (word e g h i) (length s)) _ _ (not-T (leb (word e g h i) (length s)) (λ t. let q = leb→le (word e g h i) (length s) t in omega arith))
 
-  module _ (k : word e g h i ≤ length s) where
-    pub pieces-known : (t : Tag) → tagOf (word a b c d) ≡ some t → pieces p all ≡ known t p (take (word e g h i) s) (pieces (p + 8 + word e g h i) (drop (word e g h i) s))
-    unfolding piece
-    pieces-known t q =
-        step ∙ if-yes (leb (word e g h i) (length s)) _ _ (le→leb _ _ k)
-        ∙ ap (λ (o : Option Tag). piece o p (a ∷ b ∷ c ∷ d ∷ e ∷ g ∷ h ∷ i ∷ []) (take (word e g h i) s) (pieces (p + 8 + word e g h i) (drop (word e g h i) s))) q
-
-    pub pieces-other : tagOf (word a b c d) ≡ none
-        → pieces p all ≡ other ((a ∷ b ∷ c ∷ d ∷ e ∷ g ∷ h ∷ i ∷ []) ++ take (word e g h i) s) (pieces (p + 8 + word e g h i) (drop (word e g h i) s))
-    unfolding piece
-    pieces-other q =
-        step ∙ if-yes (leb (word e g h i) (length s)) _ _ (le→leb _ _ k)
-        ∙ ap (λ (o : Option Tag). piece o p (a ∷ b ∷ c ∷ d ∷ e ∷ g ∷ h ∷ i ∷ []) (take (word e g h i) s) (pieces (p + 8 + word e g h i) (drop (word e g h i) s))) q
+  -- a chunk that is all there
+  pub pieces-whole : word e g h i ≤ length s
+      → pieces p all ≡ piece (tagOf (word a b c d)) p (a ∷ b ∷ c ∷ d ∷ e ∷ g ∷ h ∷ i ∷ []) (take (word e g h i) s) (pieces (p + 8 + word e g h i) (drop (word e g h i) s))
+  pieces-whole k = step ∙ if-yes (leb (word e g h i) (length s)) _ _ (le→leb _ _ k)
 
 -- ---- items
 
 pub left-in : (start n p : ℕ) (s : List ℕ) (x : Step (List ℕ)) → words start n p s ≡ accept x → 4 * n + length (x .left) ≡ length s
-unfolding words
-left-in start zero p s x e = let q = ap (λ (v : Step (List ℕ)). length (v .left)) (got-inj e) in omega arith
-left-in start (suc n) p [] x e = bad-got e
-left-in start (suc n) p (a ∷ []) x e = bad-got e
-left-in start (suc n) p (a ∷ b ∷ []) x e = bad-got e
-left-in start (suc n) p (a ∷ b ∷ c ∷ []) x e = bad-got e
-left-in start (suc n) p (a ∷ b ∷ c ∷ d ∷ s) x e =
-    by-got (words start n (p + 4) s) _ e (λ y ey e₁. let z = left-in start n (p + 4) s y ey in
-    let q = ap (λ (v : Step (List ℕ)). length (v .left)) (got-inj e₁) in
-    omega arith)
+left-in start n p s x e =
+    by-test (leb (4 * n) (length s))
+    (λ t. let h = leb→le (4 * n) (length s) t in
+    let q = ap (λ (y : Step (List ℕ)). length (y .left)) (got-inj (sym e ∙ words-enough start n p s h)) in
+    omega (arith, length-drop (4 * n) s))
+    (λ t. bad-got (sym (words-short start n p s (nleb→lt (4 * n) (length s) t)) ∙ e))
 
 pub item-shrinks : (rs : List Rule) → 0 < length rs → Shrinks (mendItem rs)
 unfolding mendItem

@@ -21,12 +21,11 @@ use Rattle.layout.proofs.StepLaws.{words-enough, row-any, judged-got}
 use Rattle.b3d_spec.specs.declared.Mode.the-variants.{Lenient}
 use Rattle.b3d_spec.specs.declared.Tag.{Tag}
 use Rattle.b3d_spec.specs.declared.Tag.the-variants.{BB3D, TEXS, BRUS, NODE}
-use Rattle.b3d_spec.specs.Nesting.{start, next, onward, order, reachedAt}
+use Rattle.b3d_spec.specs.Nesting.{start, order}
 use Rattle.b3d_spec.specs.Parse.{readTextures, readBrushes, readRoot}
 use Rattle.b3d_spec.specs.Rules.{levels, header, fileHead}
 use Rattle.b3d_spec.specs.Scene.{Texture, Brush, Forest, noNodes, Scene}
 use Rattle.b3d_spec.specs.Tags.{is, code, Chunks}
-use Rattle.b3d_spec.proofs.Files.Entries.{Either}
 use Rattle.b3d_spec.proofs.Files.TagCodes.{by-tag}
 use Rattle.b3d_spec.proofs.Files.TagLaws.{Nothing}
 use Rattle.b3d_mend_spec.specs.Edits.{Edit, keep, follow, mend, was, becomes, before, after, fileLength}
@@ -36,12 +35,13 @@ use Rattle.b3d_mend_spec.specs.Trees.{texturesOf}
 use Rattle.b3d_mend_spec.specs.Walks.{brusEdits}
 use Rattle.b3d_mend_spec.proofs.PieceLaws.{Fine, FineC, Fill, within, within-fine, order-kept}
 use Rattle.b3d_mend_spec.proofs.FileLaws.{high}
-use Rattle.b3d_mend_spec.proofs.FileTags.{file-end}
+use Rattle.b3d_mend_spec.proofs.FileTags.{Then, Root, Rest, file-order, file-end}
 use Rattle.b3d_mend_spec.proofs.LeafLaws.{bareTextures, bareBrushes, textures-mend, brushes-mend}
 use Rattle.b3d_mend_spec.proofs.NodeLaws.{bareForest, root-mend}
 use Rattle.b3d_mend_spec.proofs.QuietStages.{row-left}
 use Rattle.b3d_mend_spec.proofs.StageLaws.{one-stage}
 use Rattle.b3d_mend_spec.proofs.WalkLaws.{brus-edits}
+use Rattle.b3d_mend_spec.proofs.Placing.{pieces-placed}
 use Rattle.b3d_mend_write_spec.specs.Shown.{shown}
 use Rattle.b3d_mend_write_spec.proofs.Shows.{shown-append}
 use Rattle.b3d_mend_judge_items.specs.Lax.{every}
@@ -50,48 +50,7 @@ use Rattle.b3d_mend_judge_items.proofs.LaxFile.{SameBrushes, brus-alike}
 use Rattle.b3d_mend_write_scopes.specs.Shown.{Walked, walked, nextScope, walkChunks, shownPieces, walkInside, brushCount, walkLeaf, walkChunk, walkLevels, fileScope, numberOf, walkBody, walkFile}
 use Rattle.b3d_mend_write_scopes.specs.declared.Scope.{Scope}
 use Rattle.b3d_mend_write_scopes.proofs.NodeShows.{Tells, node-walk}
-use Rattle.b3d_mend_write_scopes.proofs.PieceShows.{pieces-placed, shownBodies, woven-shown}
-
--- ---- which tags come: at most a TEXS, a BRUS and a NODE, in that order
-
-abbrev pub RootTags : Chunks → Type 0
-RootTags done = Unit {0}
-RootTags (stop n p) = Unit {0}
-RootTags (chunk t p b r) = Either (is t NODE) (Nothing r) ⊥
-
-abbrev pub RestTags : Chunks → Type 0
-RestTags done = Unit {0}
-RestTags (stop n p) = Unit {0}
-RestTags (chunk t p b r) = Either (is t BRUS) (RootTags r) (RootTags (chunk t p b r))
-
-abbrev pub FileTags : Chunks → Type 0
-FileTags done = Unit {0}
-FileTags (stop n p) = Unit {0}
-FileTags (chunk t p b r) = Either (is t TEXS) (RestTags r) (RestTags (chunk t p b r))
-
-after-root : (head : ℕ) (cs : Chunks) → Nothing (order BB3D head (reachedAt 3 true) cs)
-unfolding order onward next if
-after-root head done = tt
-after-root head (stop n p) = tt
-after-root head (chunk t p b r) = by-tag (λ k. Nothing (order BB3D head (reachedAt 3 true) (chunk k p b r))) (tt, tt, tt, tt, tt, tt, tt, tt, tt, tt) t
-
-after-brushes : (head : ℕ) (cs : Chunks) → RootTags (order BB3D head (reachedAt 2 true) cs)
-unfolding order onward next if
-after-brushes head done = tt
-after-brushes head (stop n p) = tt
-after-brushes head (chunk t p b r) = by-tag (λ k. RootTags (order BB3D head (reachedAt 2 true) (chunk k p b r))) (tt, tt, tt, after-root head r, tt, tt, tt, tt, tt, tt) t
-
-after-textures : (head : ℕ) (cs : Chunks) → RestTags (order BB3D head (reachedAt 1 true) cs)
-unfolding order onward next if
-after-textures head done = tt
-after-textures head (stop n p) = tt
-after-textures head (chunk t p b r) = by-tag (λ k. RestTags (order BB3D head (reachedAt 1 true) (chunk k p b r))) (tt, tt, after-brushes head r, after-root head r, tt, tt, tt, tt, tt, tt) t
-
-pub file-tags : (head : ℕ) (cs : Chunks) → FileTags (order BB3D head start cs)
-unfolding order onward next if
-file-tags head done = tt
-file-tags head (stop n p) = tt
-file-tags head (chunk t p b r) = by-tag (λ k. FileTags (order BB3D head start (chunk k p b r))) (tt, after-textures head r, after-brushes head r, after-root head r, tt, tt, tt, tt, tt, tt) t
+use Rattle.b3d_mend_write_scopes.proofs.PieceShows.{shownBodies, woven-shown}
 
 -- ---- the chunks
 
@@ -114,12 +73,12 @@ module _ (report : Bool) where
   nothing-walk e (stop n p) h = refl
   nothing-walk e (chunk t p b r) h = absurd h
 
-  pub root-walk : (textures brushes : ℕ) (cs : Chunks) (n : Taken Forest) (e : Scope) → RootTags cs → FineC cs → Top textures brushes e → mendOne NODE noNodes (mendRoot brushes) cs ≡ accept n → walk e cs ≡ shownBodies report cs (n .bodies)
+  pub root-walk : (textures brushes : ℕ) (cs : Chunks) (n : Taken Forest) (e : Scope) → Root cs → FineC cs → Top textures brushes e → mendOne NODE noNodes (mendRoot brushes) cs ≡ accept n → walk e cs ≡ shownBodies report cs (n .bodies)
   unfolding mendOne mendRoot found walkChunks if
   root-walk textures brushes done n e g f m q = refl
   root-walk textures brushes (stop i p) n e g f m q = bad-got q
   root-walk textures brushes (chunk t p b r) n e g f m q =
-      let P : Tag → Type 0 = λ u. RootTags (chunk u p b r) → mendOne NODE noNodes (mendRoot brushes) (chunk u p b r) ≡ accept n → walk e (chunk u p b r) ≡ shownBodies report (chunk u p b r) (n .bodies) in
+      let P : Tag → Type 0 = λ u. Root (chunk u p b r) → mendOne NODE noNodes (mendRoot brushes) (chunk u p b r) ≡ accept n → walk e (chunk u p b r) ≡ shownBodies report (chunk u p b r) (n .bodies) in
       let nodes : P NODE = λ g q. by-got (mendRoot brushes p b) _ q (λ x ex q₁. by-got (mendNode levels brushes none p b) _ ex (λ y ey q₂.
       let w : walkChunk report 17 e NODE p b ≡ walked (shown report (p + 8) (y .edits)) 0 =
       node-walk report 16 e none (m .tells) p b y (f .0) (subst (λ (i : ℕ). mendNode 16 i none p b ≡ accept y) (sym (m .brush)) ey) in
@@ -131,7 +90,7 @@ module _ (report : Bool) where
 
   module _ (ys : List (List Edit)) where
     abbrev GoesRoot : ℕ → Taken (ℕ × List Brush) → Type 0
-    GoesRoot textures u = (e : Scope) → Top textures (length (u .value .1)) e → RootTags (u .rest) → walk e (u .rest) ≡ shownBodies report (u .rest) ys
+    GoesRoot textures u = (e : Scope) → Top textures (length (u .value .1)) e → Root (u .rest) → walk e (u .rest) ≡ shownBodies report (u .rest) ys
 
     abbrev ShownBrushes : ℕ → Scope → Chunks → Taken (ℕ × List Brush) → Type 0
     ShownBrushes textures e cs u = GoesRoot textures u → walk e cs ≡ shownBodies report cs (u .bodies ++ ys)
@@ -143,12 +102,12 @@ module _ (report : Bool) where
     count-same (reject n p) (accept y) x h e = absurd h
     count-same (reject n p) (reject m q) x h e = bad-got e
 
-    pub brus-walk : (textures : ℕ) (cs : Chunks) (u : Taken (ℕ × List Brush)) (e : Scope) → RestTags cs → FineC cs → Top textures 0 e → mendOne BRUS (0, []) (mendBrushes textures) cs ≡ accept u → ShownBrushes textures e cs u
+    pub brus-walk : (textures : ℕ) (cs : Chunks) (u : Taken (ℕ × List Brush)) (e : Scope) → Rest cs → FineC cs → Top textures 0 e → mendOne BRUS (0, []) (mendBrushes textures) cs ≡ accept u → ShownBrushes textures e cs u
     unfolding mendOne found walkChunks walkChunk walkLeaf nextScope if
     brus-walk textures done u e g f m q = subst (ShownBrushes textures e done) (got-inj q) (λ h. h e m tt)
     brus-walk textures (stop i p) u e g f m q = bad-got q
     brus-walk textures (chunk t p b r) u e g f m q =
-        let P : Tag → Type 0 = λ k. RestTags (chunk k p b r) → mendOne BRUS (0, []) (mendBrushes textures) (chunk k p b r) ≡ accept u → ShownBrushes textures e (chunk k p b r) u in
+        let P : Tag → Type 0 = λ k. Rest (chunk k p b r) → mendOne BRUS (0, []) (mendBrushes textures) (chunk k p b r) ≡ accept u → ShownBrushes textures e (chunk k p b r) u in
         let nodes : P NODE = λ g q. subst (ShownBrushes textures e (chunk NODE p b r)) (got-inj q) (λ h. h e m g) in
         let brushes : P BRUS = λ g q. by-got (mendBrushes textures p b) _ q (λ x ex q₁.
         subst (ShownBrushes textures e (chunk BRUS p b r)) (got-inj q₁) (λ h.
@@ -161,18 +120,18 @@ module _ (report : Bool) where
         by-tag P (never, never, brushes, nodes, never, never, never, never, never, never) t g q
 
     abbrev GoesRest : Taken (List Texture) → Type 0
-    GoesRest t = (e : Scope) → Top (length (t .value)) 0 e → RestTags (t .rest) → walk e (t .rest) ≡ shownBodies report (t .rest) ys
+    GoesRest t = (e : Scope) → Top (length (t .value)) 0 e → Rest (t .rest) → walk e (t .rest) ≡ shownBodies report (t .rest) ys
 
     abbrev ShownTextures : Scope → Chunks → Taken (List Texture) → Type 0
     ShownTextures e cs t = GoesRest t → walk e cs ≡ shownBodies report cs (t .bodies ++ ys)
 
-    pub texs-walk : (cs : Chunks) (t : Taken (List Texture)) (e : Scope) → FileTags cs → Top 0 0 e → mendOne TEXS [] (asRead readTextures) cs ≡ accept t → ShownTextures e cs t
+    pub texs-walk : (cs : Chunks) (t : Taken (List Texture)) (e : Scope) → Then TEXS Rest cs → Top 0 0 e → mendOne TEXS [] (asRead readTextures) cs ≡ accept t → ShownTextures e cs t
     unfolding mendOne found asRead walkChunks walkChunk walkLeaf nextScope texturesOf if
     texs-walk done t e g m q = subst (ShownTextures e done) (got-inj q) (λ h. h e m tt)
     texs-walk (stop i p) t e g m q = bad-got q
     texs-walk (chunk k p b r) t e g m q =
-        let P : Tag → Type 0 = λ u. FileTags (chunk u p b r) → mendOne TEXS [] (asRead readTextures) (chunk u p b r) ≡ accept t → ShownTextures e (chunk u p b r) t in
-        let as-it-is : (u : Tag) → RestTags (chunk u p b r) → _≡_ {A = Result (Taken (List Texture))} (accept (record { value = []; bodies = []; rest = chunk u p b r })) (accept t) → ShownTextures e (chunk u p b r) t =
+        let P : Tag → Type 0 = λ u. Then TEXS Rest (chunk u p b r) → mendOne TEXS [] (asRead readTextures) (chunk u p b r) ≡ accept t → ShownTextures e (chunk u p b r) t in
+        let as-it-is : (u : Tag) → Rest (chunk u p b r) → _≡_ {A = Result (Taken (List Texture))} (accept (record { value = []; bodies = []; rest = chunk u p b r })) (accept t) → ShownTextures e (chunk u p b r) t =
         (λ u g q. subst (ShownTextures e (chunk u p b r)) (got-inj q) (λ h. h e m g)) in
         let textures : P TEXS = λ g q. by-got (asRead readTextures p b) _ q (λ x ex q₁. by-got (readTextures p b) _ ex (λ l el q₂.
         subst (ShownTextures e (chunk TEXS p b r)) (got-inj q₁) (λ h.
@@ -231,7 +190,7 @@ body-walk p b m f e =
     let P = pieces (h .place) (h .left) in
     let kept = order-kept BB3D 0 start (chunksOf P) xs (st .fill (u .bodies ++ r .bodies) (su .fill (r .bodies) fr)) in
     let walk₁ : (report : Bool) → walkChunks (walkChunk report 17) fileScope cs .bodies ≡ shownBodies report cs xs = (λ report.
-    texs-walk report (u .bodies ++ r .bodies) cs t fileScope (file-tags 0 (chunksOf P)) top-start et (λ e′ top tags.
+    texs-walk report (u .bodies ++ r .bodies) cs t fileScope (file-order 0 (chunksOf P)) top-start et (λ e′ top tags.
     brus-walk report (r .bodies) (length (t .value)) (t .rest) u e′ tags (st .rest-fine) top eu (λ e″ top′ tags′.
     root-walk report (length (t .value)) (length (u .value .1)) (u .rest) r e″ tags′ (su .rest-fine) top′ er))) in
     record {
@@ -242,7 +201,7 @@ body-walk p b m f e =
       shows = λ report.
           let walk₂ : walkChunks (walkChunk report 17) fileScope (chunksOf P) .bodies ≡ shownBodies report (chunksOf P) xs =
           subst (λ (z : Chunks). walkChunks (walkChunk report 17) fileScope z .bodies ≡ shownBodies report z xs) (kept .same) (walk₁ report) in
-          woven-shown report P (h .place) xs (pieces-placed (h .place) (h .left)) (kept .fill) ∙ ap (shownPieces report P) (sym walk₂);
+          woven-shown report P (h .place) (h .place + length (h .left)) xs (pieces-placed (h .place) _ (h .left) refl) (kept .fill) ∙ ap (shownPieces report P) (sym walk₂);
     }))))
 
 length-four : (said is new : ℕ) → length (was (fileLength said is new)) ≡ 4

@@ -32,11 +32,12 @@ use Rattle.b3d_mend_spec.proofs.PartLaws.{row-good}
 use Rattle.b3d_mend_spec.proofs.PieceLaws.{Fine, within, within-fine, order-kept}
 use Rattle.b3d_mend_spec.proofs.StageLaws.{left-fine, one-stage, sets-stage}
 use Rattle.b3d_mend_spec.proofs.StepLaws.{left-in}
+use Rattle.b3d_mend_spec.proofs.Placing.{pieces-placed}
 use Rattle.b3d_mend_write_spec.specs.Shown.{shown}
 use Rattle.b3d_mend_write_spec.proofs.Shows.{shown-append}
 use Rattle.b3d_mend_write_scopes.specs.Shown.{Walked, walked, nextScope, meshScope, Within, walkChunks, shownPieces, walkInside, walkLeaf, walkChunk}
 use Rattle.b3d_mend_write_scopes.specs.declared.Scope.{Scope}
-use Rattle.b3d_mend_write_scopes.proofs.PieceShows.{pieces-placed, shownBodies, woven-shown}
+use Rattle.b3d_mend_write_scopes.proofs.PieceShows.{shownBodies, woven-shown}
 
 -- ---- which tags come: a VRTS, then only TRIS
 
@@ -163,7 +164,7 @@ mesh-walk report lv c p b m f e =
     let walk : walkChunks (walkChunk report lv) (meshScope c) (chunksOf P) ≡ record { bodies = shownBodies report (chunksOf P) xs; own = length (v .value .items) } =
     subst (λ (z : Chunks). walkChunks (walkChunk report lv) (meshScope c) z ≡ record { bodies = shownBodies report z xs; own = length (v .value .items) }) (kept .same) in-scope in
     let inner : shown report (h .place) (woven P xs) ≡ shownPieces report P (walkChunks (walkChunk report lv) (meshScope c) (chunksOf P) .bodies) =
-    woven-shown report P (h .place) xs (pieces-placed (h .place) (h .left)) (kept .fill) ∙ ap (λ (z : Within). shownPieces report P (z .bodies)) (sym walk) in
+    woven-shown report P (h .place) (h .place + length (h .left)) xs (pieces-placed (h .place) _ (h .left) refl) (kept .fill) ∙ ap (λ (z : Within). shownPieces report P (z .bodies)) (sym walk) in
     let all : shown report (p + 8) (h .value .edits ++ woven P xs) ≡ shown report (p + 8) (wordEdits (meshHead brushes) (wordsOf 1 b)) ++ shownPieces report P (walkChunks (walkChunk report lv) (meshScope c) (chunksOf P) .bodies) =
     shown-append report (p + 8) (h .value .edits) (woven P xs) .is
     ∙ ap₂ (λ (z : List Edit) (k : ℕ). shown report (p + 8) z ++ shown report k (woven P xs)) eh₁ lh

@@ -36,11 +36,12 @@ use Rattle.b3d_mend_spec.proofs.LeafLaws.{named-exact}
 use Rattle.b3d_mend_spec.proofs.NodeLaws.{named-joins, nodes-stage, node-mend}
 use Rattle.b3d_mend_spec.proofs.StageLaws.{left-fine, kind-stage, moves-stage}
 use Rattle.b3d_mend_spec.proofs.TreeLaws.{read-edits}
+use Rattle.b3d_mend_spec.proofs.Placing.{pieces-placed}
 use Rattle.b3d_mend_write_spec.specs.Shown.{shown}
 use Rattle.b3d_mend_write_spec.proofs.Shows.{shown-cons}
 use Rattle.b3d_mend_write_scopes.specs.Shown.{Walked, walked, nextScope, nodeScope, walkChunks, shownPieces, walkInside, walkLeaf, walkNode, walkChunk}
 use Rattle.b3d_mend_write_scopes.specs.declared.Scope.{Scope}
-use Rattle.b3d_mend_write_scopes.proofs.PieceShows.{pieces-placed, shownBodies, woven-shown}
+use Rattle.b3d_mend_write_scopes.proofs.PieceShows.{shownBodies, woven-shown}
 use Rattle.b3d_mend_write_scopes.proofs.MeshShows.{mesh-walk}
 
 -- ---- which tags come: at most a MESH or a BONE, then KEYS and ANIM, then only NODE
@@ -311,7 +312,7 @@ node-step report l below c above t p b m f e =
     let at : p + 8 + length X ≡ h .place = omega (arith, named-place nodeRow (p + 8) b h eh, ap (λ (z : List ℕ). length z) given₀, length-append X (h .left)) in
     let all : shown report (p + 8) (keep X ∷ woven P xs) ≡ shown report (p + 8) (keep X ∷ []) ++ shownPieces report P (walkChunks (walkChunk report (suc l)) (nodeScope c) (chunksOf P) .bodies) =
     shown-cons report (p + 8) (keep X) (woven P xs) .is ∙ ap (λ (i : ℕ). shown report (p + 8) (keep X ∷ []) ++ shown report i (woven P xs)) at
-    ∙ ap (λ (z : List ℕ). shown report (p + 8) (keep X ∷ []) ++ z) (woven-shown report P (h .place) xs (pieces-placed (h .place) (h .left)) (kept .fill) ∙ ap (shownPieces report P) (sym walk)) in
+    ∙ ap (λ (z : List ℕ). shown report (p + 8) (keep X ∷ []) ++ z) (woven-shown report P (h .place) (h .place + length (h .left)) xs (pieces-placed (h .place) _ (h .left) refl) (kept .fill) ∙ ap (shownPieces report P) (sym walk)) in
     ap (λ (o : Result (Step (Name × List ℕ))). walked (walkNode report (walkChunk report (suc l)) c (p + 8) b o) 0) eh
     ∙ ap (λ (z : List ℕ). walked z 0) (sym all)
     ∙ ap (λ (z : Mended Inner). walked (shown report (p + 8) (z .edits)) 0) (got-inj e₄)))))

@@ -39,7 +39,7 @@ use Rattle.b3d_mend_write_spec.proofs.Shows.{shown-none}
 use Rattle.b3d_mend_write_edits.proofs.Slices.{words-slice, left-first}
 use Rattle.b3d_mend_write_brushes.proofs.BrushPuts.{take-over}
 use Rattle.b3d_mend_write_brushes.proofs.ListPuts.{named-text}
-use Rattle.b3d_mend_judge_items.proofs.PieceSteps.{pieces-none}
+use Rattle.b3d_mend_spec.proofs.StepLaws.{pieces-none}
 use Rattle.b3d_mend_write_scopes.specs.Shown.{Walked, walked, nodeScope, meshScope, walkChunks, shownPieces, walkInside, walkLeaf, walkNode, walkChunk}
 use Rattle.b3d_mend_write_scopes.specs.declared.Scope.{Scope}
 use Rattle.b3d_mend_write_scopes.specs.Opens.{nodeFront, meshFront, walkFrom, Opens}

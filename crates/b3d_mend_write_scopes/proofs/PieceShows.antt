@@ -1,64 +1,22 @@
 -- What pieces with mended bodies show: each piece by itself, each body at its own place.
-use mathlib.Core.Path.{_≡_, refl, ap, ap₂, sym, _∙_, subst}
-use Prim.Native.Nat.{ℕ, zero, suc, _+_}
+use mathlib.Core.Path.{_≡_, refl, ap, ap₂, sym, _∙_}
+use Prim.Native.Nat.{ℕ, _+_}
 use native.Mathlib.Omega.{arith}
 use mathlib.Core.Bool.{Bool, true, false}
-use mathlib.Core.Option.{Option, none, some}
+use mathlib.Core.Option.{none}
 use mathlib.Core.List.{List, [], _∷_, _++_}
-use lib.ListN.{length, take, drop, length-append, length-take}
-use lib.Dec.{leb, leb→le}
-use Rattle.wire.specs.Bytes.{word}
+use lib.ListN.{length}
 use Rattle.layout.specs.Chunks.{done, stop, chunk}
-use Rattle.layout.proofs.Outs.{if-case}
-use Rattle.b3d_spec.specs.Tags.{tagOf, Chunks}
+use Rattle.b3d_spec.specs.Tags.{Chunks}
 use Rattle.b3d_spec.specs.declared.Tag.{Tag}
 use Rattle.b3d_mend_spec.specs.Edits.{Edit, keep, was, becomes, before, after, spareOut}
-use Rattle.b3d_mend_spec.specs.Pieces.{Pieces, none-left, spare, past, other, known, piece, piecesIn, pieces, chunksOf, wrapped, woven}
+use Rattle.b3d_mend_spec.specs.Pieces.{Pieces, none-left, spare, past, other, known, chunksOf, wrapped, woven}
 use Rattle.b3d_mend_spec.specs.Report.{entries, reportBytes}
 use Rattle.b3d_mend_spec.proofs.PieceLaws.{Fill}
+use Rattle.b3d_mend_spec.proofs.Placing.{Placed}
 use Rattle.b3d_mend_write_spec.specs.Shown.{shown}
 use Rattle.b3d_mend_write_spec.proofs.Shows.{shown-none, shown-cons, shown-append}
 use Rattle.b3d_mend_write_scopes.specs.Shown.{headed, shownPieces}
-
--- ---- pieces stand one after the other
-
-abbrev pub Placed : ℕ → Pieces → Type 0
-Placed q none-left = Unit {0}
-Placed q (spare p s) = p ≡ q
-Placed q (past p s) = p ≡ q
-Placed q (other o r) = Placed (q + length o) r
-Placed q (known t p b r) = (p ≡ q) × Placed (q + 8 + length b) r
-
-piece-placed : (o : Option Tag) (p : ℕ) (h b : List ℕ) (r : Pieces) → length h ≡ 8 → Placed (p + 8 + length b) r → Placed p (piece o p h b r)
-unfolding piece
-piece-placed none p h b r n k = let e : p + 8 + length b ≡ p + length (h ++ b) = omega (arith, length-append h b) in subst (λ (q : ℕ). Placed q r) e k
-piece-placed (some t) p h b r n k = (refl, k)
-
-in-placed : (f p : ℕ) (s : List ℕ) → Placed p (piecesIn f p s)
-unfolding piecesIn
-in-placed zero p s = tt
-in-placed (suc f) p [] = tt
-in-placed (suc f) p (a ∷ []) = refl
-in-placed (suc f) p (a ∷ b ∷ []) = refl
-in-placed (suc f) p (a ∷ b ∷ c ∷ []) = refl
-in-placed (suc f) p (a ∷ b ∷ c ∷ d ∷ []) = refl
-in-placed (suc f) p (a ∷ b ∷ c ∷ d ∷ e ∷ []) = refl
-in-placed (suc f) p (a ∷ b ∷ c ∷ d ∷ e ∷ g ∷ []) = refl
-in-placed (suc f) p (a ∷ b ∷ c ∷ d ∷ e ∷ g ∷ h ∷ []) = refl
-in-placed (suc f) p (a ∷ b ∷ c ∷ d ∷ e ∷ g ∷ h ∷ i ∷ s) =
-    let n = word e g h i in
-    if-case (Placed p) (leb n (length s)) _ _
-    (λ t. let le = leb→le n (length s) t in
-    let l : p + 8 + n ≡ p + 8 + length (take n s) = omega (arith, length-take n s) in
-    piece-placed (tagOf (word a b c d)) p (a ∷ b ∷ c ∷ d ∷ e ∷ g ∷ h ∷ i ∷ []) (take n s) (piecesIn f (p + 8 + n) (drop n s)) refl
-    (subst (λ (q : ℕ). Placed q (piecesIn f (p + 8 + n) (drop n s))) l (in-placed f (p + 8 + n) (drop n s))))
-    (λ t. refl)
-
-pub pieces-placed : (p : ℕ) (s : List ℕ) → Placed p (pieces p s)
-unfolding pieces
-pieces-placed p s = in-placed (length s) p s
-
--- ---- what they show
 
 -- the bodies of chunks, each at its place
 abbrev pub shownBodies : Bool → Chunks → List (List Edit) → List (List ℕ)
@@ -81,16 +39,16 @@ wrapped-long : (t : Tag) (n : ℕ) (x : List Edit) → length (before (wrapped t
 unfolding wrapped before was
 wrapped-long t n x = omega arith
 
-pub woven-shown : (report : Bool) (P : Pieces) (q : ℕ) (xs : List (List Edit)) → Placed q P → Fill (chunksOf P) xs → shown report q (woven P xs) ≡ shownPieces report P (shownBodies report (chunksOf P) xs)
+pub woven-shown : (report : Bool) (P : Pieces) (q last : ℕ) (xs : List (List Edit)) → Placed q last P → Fill (chunksOf P) xs → shown report q (woven P xs) ≡ shownPieces report P (shownBodies report (chunksOf P) xs)
 unfolding woven chunksOf shownPieces was
-woven-shown report none-left q xs k h = shown-none report q
-woven-shown report (spare p s) q xs k h = ap (λ (i : ℕ). shown report i (spareOut s ∷ [])) (sym k)
-woven-shown report (past p s) q xs k h = absurd h
-woven-shown report (other o r) q xs k h =
-    shown-cons report q (keep o) (woven r xs) .is ∙ ap₂ _++_ (keep-anywhere report q 0 o) (woven-shown report r (q + length o) xs k h)
-woven-shown report (known t p b r) q [] k h = absurd h
-woven-shown report (known t p b r) q (x ∷ xs) k h =
+woven-shown report none-left q last xs k h = shown-none report q
+woven-shown report (spare p s) q last xs k h = ap (λ (i : ℕ). shown report i (spareOut s ∷ [])) (sym (k .0))
+woven-shown report (past p s) q last xs k h = absurd h
+woven-shown report (other o r) q last xs k h =
+    shown-cons report q (keep o) (woven r xs) .is ∙ ap₂ _++_ (keep-anywhere report q 0 o) (woven-shown report r (q + length o) last xs k h)
+woven-shown report (known t p b r) q last [] k h = absurd h
+woven-shown report (known t p b r) q last (x ∷ xs) k h =
     let l : q + length (before (wrapped t (length b) x)) ≡ q + 8 + length b = omega (arith, wrapped-long t (length b) x, ap (λ (z : List ℕ). length z) (h .0)) in
     shown-append report q (wrapped t (length b) x) (woven r xs) .is
     ∙ ap₂ _++_ (wrapped-shown report q t (length b) x ∙ ap (λ (i : ℕ). headed report t (shown report (i + 8) x)) (sym (k .0)))
-    (ap (λ (i : ℕ). shown report i (woven r xs)) l ∙ woven-shown report r (q + 8 + length b) xs (k .1) (h .2))
+    (ap (λ (i : ℕ). shown report i (woven r xs)) l ∙ woven-shown report r (q + 8 + length b) last xs (k .1) (h .2))
