@@ -7,7 +7,7 @@ use b3d_compare_spec::Compared;
 use b3d_spec::Mode;
 use layout::refusals;
 
-// The list of two accepted files with the twelve numbers x and y; where the output is too short, 11 and the size that is needed.
+// Writes the list of two accepted files with the twelve numbers `x` and `y`; where the output is too short, answers 11 and the size that is needed.
 fn list_into(a: &[u8], b: &[u8], x: [u32; 12], y: [u32; 12], out: &mut [u8]) -> Compared
     requires { ⌜ Judged (now a) x × Judged (now b) y ⌝ }
     ensures { λ r. ⌜ r ≡ compared (roomFor (length (now (out .entry))) (filesBytes (now (a .entry)) (now (b .entry)) x y)) ⌝ }

@@ -9,7 +9,7 @@ ghost use Rattle.b3d_compare_difference.specs.Spans.{Within, SpanIs, ent
 use b3d_compare_spec::Difference;
 use b3d_compare_spec::Span;
 
-// Whether word w of table k is a float.
+// Returns whether word `w` of table `k` is a float.
 fn is_float(k: usize, w: usize) -> bool
     requires { ⌜ w < wordsOf k ⌝ }
     ensures { λ r. ⌜ r ≡ isFloat (kindAt k w) ⌝ }
@@ -44,7 +44,7 @@ fn is_float(k: usize, w: usize) -> bool
     false
 }
 
-// The difference of two numbers, word w of table k.
+// Returns the difference of the numbers `x` and `y`, word `w` of table `k` in both files.
 pub fn numbers(k: usize, w: usize, x: u32, y: u32) -> Difference
     requires { ⌜ w < wordsOf k ⌝ }
     ensures { λ r. ⌜ r ≡ numbersOf (isFloat (kindAt k w)) x y ⌝ }
@@ -66,7 +66,7 @@ pub fn numbers(k: usize, w: usize, x: u32, y: u32) -> Difference
     Difference::Floats(first, second)
 }
 
-// The span of a name by its place and length, cut to the file.
+// Returns the span of a name of the file `s` by its `place` and its length `size`, cut to the file; an empty one where `place` is beyond its end.
 pub fn span_of(s: &[u8], place: u32, size: u32) -> Span
     ensures { λ r. ⌜ SpanIs (now (s .entry)) place size r ⌝ }
 {
@@ -91,7 +91,7 @@ pub fn span_of(s: &[u8], place: u32, size: u32) -> Span
     }
 }
 
-// Whether n bytes from two places on are the same.
+// Returns whether the `n` bytes of `a` from `p` on and of `b` from `q` on are the same.
 fn same_bytes(a: &[u8], b: &[u8], p: usize, q: usize, n: usize) -> bool
     requires { ⌜ p + n ≤ length (now a) ⌝ }
     requires { ⌜ q + n ≤ length (now b) ⌝ }
@@ -107,7 +107,7 @@ fn same_bytes(a: &[u8], b: &[u8], p: usize, q: usize, n: usize) -> bool
     true
 }
 
-// Whether the texts of two spans are the same.
+// Returns whether the text of the span `x` of `a` and that of the span `y` of `b` are the same.
 pub fn same_text(a: &[u8], b: &[u8], x: Span, y: Span) -> bool
     requires { ⌜ Within (now a) x ⌝ }
     requires { ⌜ Within (now b) y ⌝ }
@@ -125,7 +125,7 @@ pub fn same_text(a: &[u8], b: &[u8], x: Span, y: Span) -> bool
     )
 }
 
-// The numbers that an entry begins with: table, row, word, and the two cells, or the lengths of the two texts.
+// Returns the numbers that the entry of the difference `d` begins with: table `k`, row `r`, word `w`, and the two cells, or the lengths of the two texts.
 pub fn entry_numbers(k: u32, r: u32, w: u32, d: Difference) -> [u32; 5]
     requires { ⌜ Clean d ⌝ }
     ensures { λ n. ⌜ n ≡ entryNumbers k r w d ⌝ }

@@ -1,5 +1,5 @@
 -- A law for each way through the functions.
-use mathlib.Core.Path.{_≡_, ap, sym, _∙_}
+use mathlib.Core.Path.{_≡_, refl, ap, sym, _∙_}
 use Prim.Native.Nat.{ℕ, _+_, _<_, _≤_}
 use native.Mathlib.Numerals.{add-one}
 use native.Mathlib.Omega.{arith}
@@ -16,7 +16,8 @@ use Rattle.shared_put_or_count.proofs.Putting.{emits-none, fits-first, fits-sec
 use Rattle.b3d_compare_spec.specs.declared.Span.{Span}
 use Rattle.b3d_compare_spec.specs.declared.Difference.{Difference}
 use Rattle.b3d_compare_spec.specs.declared.Difference.the-variants.{Wholes, Floats, Texts}
-use Rattle.b3d_compare_spec.specs.List.{leadBytes, textBytes, changeBytes}
+use Rattle.b3d_compare_spec.specs.Changes.{Change}
+use Rattle.b3d_compare_spec.specs.List.{leadBytes, textBytes, changeBytes, listBytes}
 use Rattle.b3d_compare_spec.specs.Differences.{spanText, firstOf, secondOf}
 use Rattle.b3d_compare_difference.specs.Spans.{Within, entryNumbers}
 use Rattle.b3d_compare_difference.proofs.Values.{text-long}
@@ -135,3 +136,13 @@ module _ (a b : List ℕ) (k r w : ℕ) where
       entry-put zs q m = emits-both entry-is wet xs at ys p g zs q m
 
 pub ruleset entry-laws = (numbers-fit, texts-fit, entry-put)
+
+-- ---- lists of one entry and of none
+
+pub one-bytes : (c : Change) → listBytes (c ∷ []) ≡ changeBytes c []
+unfolding listBytes
+one-bytes c = refl
+
+pub no-bytes : listBytes [] ≡ []
+unfolding listBytes
+no-bytes = refl

@@ -9,8 +9,8 @@ ghost use Rattle.b3d_compare_entries.specs.Entries.{Lies, changeOf, text
 use b3d_compare_spec::Difference;
 use b3d_compare_spec::Span;
 
-// Puts or counts the five numbers in their groups, and gives the place after them.
-fn put_numbers(ns: [u32; 5], wet: bool, out: &mut [u8], at: usize) -> usize
+// Puts or counts the five numbers `ns` in their groups. Returns the place after them.
+pub fn put_numbers(ns: [u32; 5], wet: bool, out: &mut [u8], at: usize) -> usize
     requires { ⌜ Fits wet (writeNumbers ns []) at (now out) ⌝ }
     ensures { λ r. ⌜ Emits wet (writeNumbers ns []) (now (out .entry)) at (now (out .exit)) r ⌝ }
 {
@@ -23,7 +23,7 @@ fn put_numbers(ns: [u32; 5], wet: bool, out: &mut [u8], at: usize) -> usize
     next
 }
 
-// Puts or counts the text of a span of the file s, and gives the place after it.
+// Puts or counts the text of the span `x` of the file `s`. Returns the place after it.
 fn put_span(s: &[u8], x: Span, wet: bool, out: &mut [u8], at: usize) -> usize
     requires { ⌜ Within (now s) x ⌝ }
     requires { ⌜ Fits wet (spanText (now s) x) at (now out) ⌝ }
@@ -34,7 +34,7 @@ fn put_span(s: &[u8], x: Span, wet: bool, out: &mut [u8], at: usize) -> usize
     shared_put_or_count::put_copy(s, p, n, wet, out, at)
 }
 
-// Puts or counts the two texts of a difference between the files a and b, none where it is of numbers, and gives the place after them.
+// Puts or counts the two texts of the difference `d` between the files `a` and `b`, none where it is of numbers. Returns the place after them.
 fn put_texts(a: &[u8], b: &[u8], d: Difference, wet: bool, out: &mut [u8], at: usize) -> usize
     requires { ⌜ Lies (now a) (now b) d ⌝ }
     requires { ⌜ Fits wet (textsOf (now a) (now b) d) at (now out) ⌝ }
@@ -50,7 +50,7 @@ fn put_texts(a: &[u8], b: &[u8], d: Difference, wet: bool, out: &mut [u8], at: u
     }
 }
 
-// Puts or counts the entry of the difference d of word w of row r of table k, between the files a and b, and gives the place after it.
+// Puts or counts the entry of the difference `d` of word `w` of row `r` of table `k`, between the files `a` and `b`. Returns the place after it.
 pub fn put_entry(
     a: &[u8],
     b: &[u8],

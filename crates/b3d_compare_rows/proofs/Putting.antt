@@ -16,10 +16,9 @@ use Rattle.b3d_compare_spec.specs.Differences.{numbersOf}
 use Rattle.b3d_compare_spec.proofs.Exact.{words-zero}
 use Rattle.b3d_compare_spec.proofs.Sizes.{list-append}
 use Rattle.b3d_compare_entries.specs.Entries.{changeOf}
-use Rattle.b3d_compare_rows.specs.declared.Names.{Names}
-use Rattle.b3d_compare_rows.specs.declared.Names.the-variants.{Same, Differ}
-use Rattle.b3d_compare_rows.specs.Rows.{wordEntry, Plain, NamesAre}
-use Rattle.b3d_compare_rows.proofs.Rowing.{word-small, numbers-clean, numbers-lie, entry-none, no-bytes, number-bytes, plainLeft, plain-step, plain-end, two-long, name-clean, name-lies, same-bytes, differ-bytes, plain-zero, plain-high, plain-named, row-plain, row-named}
+use Rattle.b3d_compare_entries.proofs.Entering.{no-bytes}
+use Rattle.b3d_compare_rows.specs.Rows.{wordEntry, Plain}
+use Rattle.b3d_compare_rows.proofs.Rowing.{word-small, numbers-clean, numbers-lie, entry-none, number-bytes, plainLeft, plain-step, plain-end, plain-zero, plain-high, plain-named, row-plain, row-named}
 
 -- ---- `put_word`
 
@@ -73,21 +72,6 @@ module _ (k r : ℕ) (x y : List ℕ) where
       words-done h = left-done wet (rest from) xs at ys next (rest w) (g .left) (ap listBytes (plain-end k r x y w (omega arith)) ∙ no-bytes)
 
 pub ruleset plain-laws = (words-start, words-low, words-fit, words-next, words-done)
-
--- ---- `put_name`
-
-module _ (k r : ℕ) (h : 0 < k) (i : k < 4) (a b x y : List ℕ) (n : Names) (g : NamesAre a b x y n) (wet : Bool) (xs : List ℕ) (at : ℕ) where
-  pub name-same : n ≡ Same → Emits wet (listBytes (wordChanges k a b r x y 0 2)) xs at xs at
-  name-same e = emits-none wet (listBytes (wordChanges k a b r x y 0 2)) xs at (same-bytes k r h i a b x y n g e)
-
-  module _ (d : Difference) (e : n ≡ Differ d) where
-    pub name-fits : Fits wet (listBytes (wordChanges k a b r x y 0 2)) at xs → Fits wet (changeBytes (changeOf a b k r 0 d) []) at xs
-    name-fits f = fits-same (differ-bytes k r h i a b x y n g d e) wet xs at f
-
-    pub name-put : (ys : List ℕ) (m : ℕ) → Emits wet (changeBytes (changeOf a b k r 0 d) []) xs at ys m → Emits wet (listBytes (wordChanges k a b r x y 0 2)) xs at ys m
-    name-put ys m p = emits-same (differ-bytes k r h i a b x y n g d e) wet xs at ys m p
-
-pub ruleset name-laws = (two-long, name-clean, name-lies, name-same, name-fits, name-put)
 
 -- ---- `put_row`
 

@@ -1,4 +1,4 @@
--- What the entries of two rows are: words that are numbers, names, and both one after the other.
+-- What the entries of two rows are: words that are numbers, and names before them.
 use mathlib.Core.Path.{_≡_, refl, ap, sym, _∙_, subst}
 use Prim.Native.Nat.{ℕ, zero, suc, _+_, _-_, _<_, _≤_}
 use native.Mathlib.Nat.{add-zero, zero-add, sub-zero}
@@ -27,9 +27,9 @@ use Rattle.b3d_compare_spec.specs.Differences.{spanText, firstOf, secondOf, num
 use Rattle.b3d_compare_spec.proofs.WordLaws.{few-words, kinds-by, three}
 use Rattle.b3d_compare_difference.specs.Spans.{Within, SpanIs, Clean}
 use Rattle.b3d_compare_entries.specs.Entries.{Lies, changeOf}
-use Rattle.b3d_compare_rows.specs.Rows.{wordEntry, Plain, nameEntries, NamesAre}
-use Rattle.b3d_compare_rows.specs.declared.Names.{Names}
-use Rattle.b3d_compare_rows.specs.declared.Names.the-variants.{Same, Differ}
+use Rattle.b3d_compare_entries.proofs.Entering.{one-bytes}
+use Rattle.b3d_compare_names.proofs.Naming.{two-words}
+use Rattle.b3d_compare_rows.specs.Rows.{wordEntry, Plain}
 
 -- ---- how many words, and of which kind
 
@@ -155,17 +155,9 @@ pub entry-none : (k r w p q : ℕ) → p ≡ q → wordEntry k r w p q ≡ []
 unfolding wordEntry
 entry-none k r w p q e = if-yes (eqb p q) _ _ (yes-eqb {a = p} e)
 
-entry-some : (k r w p q : ℕ) → (p ≡ q → ⊥) → wordEntry k r w p q ≡ numberChange k r w p q ∷ []
+pub entry-some : (k r w p q : ℕ) → (p ≡ q → ⊥) → wordEntry k r w p q ≡ numberChange k r w p q ∷ []
 unfolding wordEntry if
 entry-some k r w p q d = rw (ne-eqb p q d)
-
-pub one-bytes : (c : Change) → listBytes (c ∷ []) ≡ changeBytes c []
-unfolding listBytes
-one-bytes c = refl
-
-pub no-bytes : listBytes [] ≡ []
-unfolding listBytes
-no-bytes = refl
 
 module _ (k r w p q : ℕ) where
   module _ (h : p ≡ q → ⊥) (hp : p < 4294967296) (hq : q < 4294967296) (f : Bool) (d : Difference) (e : d ≡ numbersOf f p q) where
@@ -207,82 +199,6 @@ module _ (k r : ℕ) (x y : List ℕ) where
   pub plain-end : (w : ℕ) → wordsOf k ≤ w → plainLeft w ≡ []
   unfolding wordChanges
   plain-end w h = let e : wordsOf k - w ≡ 0 = omega arith in rw e
-
--- ---- names
-
-module _ (k : ℕ) (h : 0 < k) (i : k < 4) where
-  kind-name : kindAt k 0 ≡ Name
-  unfolding kindAt wordKinds if
-  kind-name = three (λ j. kindAt j 0 ≡ Name) k h i refl refl refl
-
-  kind-length : kindAt k 1 ≡ Length
-  unfolding kindAt wordKinds if
-  kind-length = three (λ j. kindAt j 1 ≡ Length) k h i refl refl refl
-
-  two-words : 2 ≤ wordsOf k
-  unfolding wordKinds if
-  two-words = three (λ j. 2 ≤ wordsOf j) k h i (lit≤ tt) (lit≤ tt) (lit≤ tt)
-
-  pub two-long : (n : ℕ) → wordsOf k ≤ n → 2 ≤ n
-  two-long n l = omega (arith, two-words)
-
-  module _ (a b x y : List ℕ) (r : ℕ) where
-    abbrev nameChange : Change
-    nameChange = record { table = k; row = r; word = 0; first = text (nameFrom a x .bytes); second = text (nameFrom b y .bytes) }
-
-    name-part : wordChanges k a b r x y 0 2 ≡ if (same (nameFrom a x .bytes) (nameFrom b y .bytes)) [] (nameChange ∷ [])
-    unfolding wordChanges cellAt cellOf sameCell if
-    name-part = rw (kind-name, kind-length)
-
-    module _ (s t : Span) (hs : SpanIs a (getD x 0 0) (getD x 1 0) s) (ht : SpanIs b (getD y 0 0) (getD y 1 0) t) where
-      same-names : same (spanText a s) (spanText b t) ≡ same (nameFrom a x .bytes) (nameFrom b y .bytes)
-      unfolding nameFrom
-      same-names = rw (hs .is, ht .is)
-
-      module _ (f : Bool) (e : f ≡ same (spanText a s) (spanText b t)) where
-        no-name : f ≡ true → wordChanges k a b r x y 0 2 ≡ []
-        unfolding if
-        no-name g = name-part ∙ rw (← same-names, ← e, g)
-
-        a-name : f ≡ false → wordChanges k a b r x y 0 2 ≡ changeOf a b k r 0 (Texts s t) ∷ []
-        unfolding if changeOf firstOf secondOf nameFrom
-        a-name g = name-part ∙ rw (← same-names, ← e, g, hs .is, ht .is)
-
-module _ (a b x y : List ℕ) (s t : Span) (hs : SpanIs a (getD x 0 0) (getD x 1 0) s) (ht : SpanIs b (getD y 0 0) (getD y 1 0) t) where
-  pub first-lies : Within a s
-  first-lies = hs .lies
-
-  pub second-lies : Within b t
-  second-lies = ht .lies
-
-  module _ (f : Bool) (e : f ≡ same (spanText a s) (spanText b t)) where
-    pub names-same : f ≡ true → NamesAre a b x y Same
-    unfolding nameEntries
-    names-same g = record { is = λ k r h i. no-name k h i a b x y r s t hs ht f e g; fine = tt }
-
-    pub names-differ : f ≡ false → NamesAre a b x y (Differ (Texts s t))
-    unfolding nameEntries
-    names-differ g = record { is = λ k r h i. a-name k h i a b x y r s t hs ht f e g; fine = (tt, (hs .lies, ht .lies)) }
-
-pub ruleset names-laws = (first-lies, second-lies, names-same, names-differ)
-
--- the bytes of a name's entry
-module _ (k r : ℕ) (h : 0 < k) (i : k < 4) (a b x y : List ℕ) (n : Names) (g : NamesAre a b x y n) where
-  pub same-bytes : n ≡ Same → listBytes (wordChanges k a b r x y 0 2) ≡ []
-  unfolding nameEntries
-  same-bytes e = ap listBytes (g .is k r h i ∙ rw e) ∙ no-bytes
-
-  module _ (d : Difference) (e : n ≡ Differ d) where
-    pub differ-bytes : listBytes (wordChanges k a b r x y 0 2) ≡ changeBytes (changeOf a b k r 0 d) []
-    unfolding nameEntries
-    differ-bytes = ap listBytes (g .is k r h i ∙ rw e) ∙ one-bytes (changeOf a b k r 0 d)
-
-module _ (a b x y : List ℕ) (n : Names) (g : NamesAre a b x y n) (d : Difference) (e : n ≡ Differ d) where
-  pub name-clean : Clean d
-  name-clean = (rw e at (g .fine)) .0
-
-  pub name-lies : Lies a b d
-  name-lies = (rw e at (g .fine)) .1
 
 -- ---- a row
 

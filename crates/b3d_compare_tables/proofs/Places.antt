@@ -4,26 +4,32 @@ use mathlib.Core.Logic.{_⊎_, ⊎-elim}
 use Prim.Native.Nat.{ℕ, zero, suc, _+_, _-_, _<_, _≤_}
 use native.Mathlib.Nat.{eq-or-lt-of-le}
 use native.Mathlib.Omega.{arith}
+use mathlib.Core.Bool.{Bool, not, false}
 use mathlib.Core.List.{List, [], _∷_, _++_}
-use lib.ListN.{length, getD, length-append}
+use lib.ListN.{length, length-append}
 use lib.Seq.{length-sets}
-use borrow.Author.Tests.{eq-eqb}
+use borrow.Author.Tests.{not-false}
 use Rattle.layout.proofs.Lists.{All}
+use Rattle.shared_output.proofs.Joining.{Both}
+use Rattle.shared_put_or_count.specs.Emits.{Fits}
+use Rattle.shared_put_or_count.proofs.Putting.{fits-first}
 use Rattle.b3d_spec.specs.Tables.{width, tables, nodeTables}
 use Rattle.b3d_spec_plain_rows.specs.Flat.{flatAt}
+use Rattle.b3d_rows_open_items.specs.ItemsLeft.{itemRows}
+use Rattle.b3d_rows_positions.specs.Positions.{itemsLater}
 use Rattle.b3d_rows_nodes.specs.NextNode.{Shallow}
 use Rattle.b3d_rows_nodes.specs.declared.RowCursor.{RowCursor}
 use Rattle.b3d_rows.specs.NextRow.{rowsFrom, RowCursorAt, Starts, RowNext}
+use Rattle.b3d_rows_past.specs.Past.{cursorPast}
+use Rattle.b3d_rows_past.proofs.PastLaws.{items-inside, items-measured, items-most, rows-front, rows-past, cursor-past}
 use Rattle.b3d_compare_spec.specs.Words.{wordsOf}
-use Rattle.wire.specs.Test.{if}
-use Rattle.b3d_rows_same.specs.declared.EqualItems.{EqualItems}
-use Rattle.b3d_rows_open_items.specs.declared.OpenItems.{OpenItems}
-use Rattle.b3d_rows_same.specs.SameItems.{RowsSame, SameItems, cursorPast}
-use Rattle.b3d_rows_same.proofs.PastLaws.{above-four, rows-past, cursor-past}
-use Rattle.b3d_compare_spec.specs.Changes.{Change, sameCell, wordChanges, rowChanges, tableChanges}
+use Rattle.b3d_compare_spec.specs.Changes.{rowChanges, tableChanges}
 use Rattle.b3d_compare_spec.specs.List.{listBytes}
 use Rattle.b3d_compare_spec.proofs.WordLaws.{widths, few-words}
-use Rattle.b3d_compare_rows.proofs.Rowing.{plain-high}
+use Rattle.b3d_compare_shapes.specs.Shapes.{IsSameShape}
+use Rattle.b3d_compare_items.specs.Items.{ItemPairs, PutItems}
+use Rattle.b3d_compare_items.specs.declared.ItemsPut.{ItemsPut}
+use Rattle.b3d_compare_items.proofs.TableParts.{bytes-parts, bytes-front}
 use Rattle.b3d_compare_tables.proofs.TableLaws.{come-step, come-end}
 use Rattle.b3d_compare_tables.specs.Tables.{Comparable, bytesFrom, tableBytes, Onward}
 
@@ -82,61 +88,64 @@ module _ (k : ℕ) (lo : 1 ≤ k) (hi : k ≤ 10) (a b : List ℕ) (x y : RowCur
     pub turn-second : wordsOf kk ≤ length q′
     turn-second = omega (arith, few-words kk, next-long k b y q q′ y′ nb)
 
--- ---- rows that are the same
+-- ---- rows of the open chunks' items
 
-module _ (k : ℕ) (a b : List ℕ) (hk : 4 ≤ k) where
-  none-words : (r : ℕ) (x : List ℕ) (n w : ℕ) → w + n ≤ wordsOf k → wordChanges k a b r x x w n ≡ []
-  unfolding wordChanges sameCell if
-  none-words r x zero w h = refl
-  none-words r x (suc n) w h =
-      let g = plain-high k hk in
-      rw (g .numbers w (omega arith) (omega arith) a x, g .numbers w (omega arith) (omega arith) b x, eq-eqb (getD x w 0) (getD x w 0) refl) (none-words r x n (w + 1) (omega arith))
+module _ (k r : ℕ) (a b : List ℕ) (x y : RowCursor) where
+  module _ (t : Bool) (s : IsSameShape k (x .position .items) (y .position .items) t) (e : not t ≡ false) where
+    pub pairs-are : RowCursorAt k a x → RowCursorAt k b y → r + length (rowsFrom k a x) ≤ 2097151 → ItemPairs k r a b (x .position .items) (y .position .items)
+    pairs-are ax by h =
+        let v = s .is (not-false t e) in
+        record {
+          shape = v;
+          first-in = items-inside k a x (v .table) ax;
+          second-in = items-inside k b y (v .table) by;
+          measured = items-measured k a x (v .table) ax;
+          most = omega (arith, items-most k a x (v .table));
+        }
 
-  none-row : (r : ℕ) (x : List ℕ) → rowChanges k a b r x x ≡ []
-  unfolding rowChanges
-  none-row r x = none-words r x (wordsOf k) 0 (omega arith)
+    pub pairs-fit : (wet : Bool) (at : ℕ) (xs : List ℕ) → Fits wet (bytesFrom k a b r x y) at xs
+        → Fits wet (listBytes (tableChanges k a b r (itemRows k a (x .position .items)) (itemRows k b (y .position .items)))) at xs
+    unfolding bytesFrom
+    pairs-fit wet at xs f =
+        let v = s .is (not-false t e) in
+        fits-first (bytes-front k a b (itemRows k a (x .position .items)) (itemRows k b (y .position .items)) (itemsLater k a (x .position)) (itemsLater k b (y .position)) r) wet xs at
+        (rw (rows-front k a x (v .table), rows-front k b y (v .table)) at f)
 
-  -- rows that are the same have no entries
-  same-front : (l : List (List ℕ)) (r : ℕ) (xs ys : List (List ℕ)) → tableChanges k a b r (l ++ xs) (l ++ ys) ≡ tableChanges k a b (r + length l) xs ys
-  unfolding tableChanges
-  same-front [] r xs ys = let z : r + 0 ≡ r = omega arith in rw z
-  same-front (x ∷ l) r xs ys =
-      let z : r + 1 + length l ≡ r + suc (length l) = omega arith in
-      ap (λ (c : List Change). c ++ tableChanges k a b (r + 1) (l ++ xs) (l ++ ys)) (none-row r x) ∙ same-front l (r + 1) xs ys ∙ ap (λ (n : ℕ). tableChanges k a b n xs ys) z
+    module _ (wet : Bool) (xs : List ℕ) (at : ℕ) (ys : List ℕ) (u : ItemsPut) (v : PutItems k r a b (x .position .items) (y .position .items) wet xs at ys u) where
+      pub run-first : x .position .items .rest .at + u .bytes ≤ x .position .items .rest .end
+      run-first = v .first-there
 
-module _ (k : ℕ) (a b : List ℕ) (i j : OpenItems) (t : EqualItems) (s : SameItems k a b i j t) (h : t .count ≡ 0 → ⊥) where
-  pub run-first : i .rest .at + t .bytes ≤ i .rest .end
-  run-first = s .is (omega arith) .first-there
+      pub run-second : y .position .items .rest .at + u .bytes ≤ y .position .items .rest .end
+      run-second = v .second-there
 
-  pub run-second : j .rest .at + t .bytes ≤ j .rest .end
-  run-second = s .is (omega arith) .second-there
+      first-past : rowsFrom k a x ≡ v .firsts ++ rowsFrom k a (cursorPast (u .bytes) x)
+      first-past = rows-past k a x (s .is (not-false t e) .table) (u .bytes) (v .firsts) (v .first)
 
-module _ (k : ℕ) (a b : List ℕ) (x y : RowCursor) (t : EqualItems) (v : RowsSame k a b (x .position .items) (y .position .items) t) where
-  first-past : rowsFrom k a x ≡ v .rows ++ rowsFrom k a (cursorPast (t .bytes) x)
-  first-past = rows-past k a x (v .items) (t .bytes) (v .rows) (v .first)
+      second-past : rowsFrom k b y ≡ v .seconds ++ rowsFrom k b (cursorPast (u .bytes) y)
+      second-past = rows-past k b y (s .is (not-false t e) .table) (u .bytes) (v .seconds) (v .second)
 
-  second-past : rowsFrom k b y ≡ v .rows ++ rowsFrom k b (cursorPast (t .bytes) y)
-  second-past = rows-past k b y (v .items) (t .bytes) (v .rows) (v .second)
+      pub run-is : Both (bytesFrom k a b r x y) (listBytes (tableChanges k a b r (v .firsts) (v .seconds))) (bytesFrom k a b (r + u .rows) (cursorPast (u .bytes) x) (cursorPast (u .bytes) y))
+      unfolding bytesFrom
+      run-is =
+          let c = rowsFrom k a (cursorPast (u .bytes) x) in
+          let d = rowsFrom k b (cursorPast (u .bytes) y) in
+          record {
+            is = ap₂ (λ (us vs : List (List ℕ)). listBytes (tableChanges k a b r us vs)) first-past second-past
+                ∙ bytes-parts k a b (v .firsts) (v .seconds) c d r (r + u .rows) (v .first-long ∙ sym (v .second-long)) (ap (λ (n : ℕ). r + n) (v .first-long)) .is;
+          }
 
-  pub pass-is : (r : ℕ) → bytesFrom k a b r x y ≡ bytesFrom k a b (r + t .count) (cursorPast (t .bytes) x) (cursorPast (t .bytes) y)
-  unfolding bytesFrom
-  pass-is r =
-      let h = above-four k (v .items) in
-      ap₂ (λ (xs ys : List (List ℕ)). listBytes (tableChanges k a b r xs ys)) first-past second-past
-      ∙ ap listBytes (same-front k a b (omega arith) (v .rows) r (rowsFrom k a (cursorPast (t .bytes) x)) (rowsFrom k b (cursorPast (t .bytes) y)))
-      ∙ ap (λ (n : ℕ). listBytes (tableChanges k a b (r + n) (rowsFrom k a (cursorPast (t .bytes) x)) (rowsFrom k b (cursorPast (t .bytes) y)))) (v .long)
-
-  pub pass-on : 0 < t .count → RowCursorAt k a x → RowCursorAt k b y → (p q : List ℕ) → Onward k a b x y (cursorPast (t .bytes) x) (cursorPast (t .bytes) y) p q p q (t .count)
-  pass-on h ax by p q =
-      record {
-        some = omega arith;
-        first-at = cursor-past k a x (v .items) (t .bytes) ax (v .first-there);
-        second-at = cursor-past k b y (v .items) (t .bytes) by (v .second-there);
-        first-on = ap length first-past ∙ length-append (v .rows) (rowsFrom k a (cursorPast (t .bytes) x)) ∙ ap (λ (n : ℕ). n + length (rowsFrom k a (cursorPast (t .bytes) x))) (v .long);
-        second-on = ap length second-past ∙ length-append (v .rows) (rowsFrom k b (cursorPast (t .bytes) y)) ∙ ap (λ (n : ℕ). n + length (rowsFrom k b (cursorPast (t .bytes) y))) (v .long);
-        first-kept = refl;
-        second-kept = refl;
-      }
+      pub run-on : RowCursorAt k a x → RowCursorAt k b y → (p q : List ℕ) → Onward k a b x y (cursorPast (u .bytes) x) (cursorPast (u .bytes) y) p q p q (u .rows)
+      run-on ax by p q =
+          let w = s .is (not-false t e) .table in
+          record {
+            some = v .some;
+            first-at = cursor-past k a x w (u .bytes) ax (v .first-there);
+            second-at = cursor-past k b y w (u .bytes) by (v .second-there);
+            first-on = ap length first-past ∙ length-append (v .firsts) (rowsFrom k a (cursorPast (u .bytes) x)) ∙ ap (λ (n : ℕ). n + length (rowsFrom k a (cursorPast (u .bytes) x))) (v .first-long);
+            second-on = ap length second-past ∙ length-append (v .seconds) (rowsFrom k b (cursorPast (u .bytes) y)) ∙ ap (λ (n : ℕ). n + length (rowsFrom k b (cursorPast (u .bytes) y))) (v .second-long);
+            first-kept = refl;
+            second-kept = refl;
+          }
 
 -- ---- rows from r on are left
 
@@ -200,6 +209,9 @@ module _ (k rows : ℕ) (a b p₀ q₀ : List ℕ) where
     pub row-long-2 : 42 ≤ length q
     row-long-2 = omega (arith, g .second-long, g .second-same)
 
+    pub row-most : r + length (rowsFrom k a x) ≤ 2097151
+    row-most = omega (arith, g .most, g .first-left)
+
     module _ (h : rows ≤ r) where
       pub end-bytes : bytesFrom k a b r x y ≡ []
       unfolding bytesFrom
@@ -216,9 +228,6 @@ module _ (k rows : ℕ) (a b p₀ q₀ : List ℕ) where
       row-some-2 = omega (arith, g .second-left)
 
     module _ (x′ y′ : RowCursor) (p′ q′ : List ℕ) (n : ℕ) (s : Onward k a b x y x′ y′ p q p′ q′ n) where
-      pub rows-low : n < 4294967296
-      rows-low = omega (arith, g .most, g .first-left, s .first-on)
-
       pub rows-sum : r + n < 4294967296
       rows-sum = omega (arith, g .most, g .first-left, s .first-on)
 

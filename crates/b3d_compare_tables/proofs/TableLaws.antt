@@ -11,7 +11,7 @@ use Rattle.b3d_compare_spec.specs.List.{listBytes}
 use Rattle.b3d_compare_spec.proofs.Sizes.{list-append}
 use Rattle.b3d_compare_spec.proofs.Walking.{row-front}
 use Rattle.b3d_compare_spec.proofs.WordLaws.{few-words}
-use Rattle.b3d_compare_rows.proofs.Rowing.{no-bytes}
+use Rattle.b3d_compare_entries.proofs.Entering.{no-bytes}
 
 -- a row that was stored over the front of a longer one
 stored-front : (n : ℕ) (row cells : List ℕ) → length cells ≡ n → n ≤ length row → take n (sets row 0 cells) ≡ take n cells

@@ -1,22 +1,23 @@
 -- A law for each way through the functions.
-use mathlib.Core.Path.{_≡_, refl, ap, sym, _∙_}
+use mathlib.Core.Path.{_≡_, ap, sym, _∙_}
 use Prim.Native.Nat.{ℕ, _+_, _≤_}
-use native.Mathlib.Omega.{arith}
-use mathlib.Core.Bool.{Bool}
-use mathlib.Core.List.{List, [], _++_}
+use mathlib.Core.Bool.{Bool, not, false}
+use mathlib.Core.List.{List, _++_}
 use lib.ListN.{length}
 use Rattle.shared_output.proofs.Joining.{Both}
 use Rattle.shared_put_or_count.specs.Emits.{Fits, Emits}
-use Rattle.shared_put_or_count.proofs.Putting.{emits-none, fits-first, Left, left-none, left-done, left-next}
+use Rattle.shared_put_or_count.proofs.Putting.{fits-first, Left, left-none, left-done, left-next}
 use Rattle.b3d_rows_nodes.specs.declared.RowCursor.{RowCursor}
 use Rattle.b3d_rows.specs.NextRow.{RowCursorAt, Starts, RowNext}
-use Rattle.b3d_rows_same.specs.declared.EqualItems.{EqualItems}
-use Rattle.b3d_rows_same.specs.SameItems.{SameItems, cursorPast}
-use Rattle.b3d_compare_spec.specs.Changes.{rowChanges}
+use Rattle.b3d_rows_past.specs.Past.{cursorPast}
+use Rattle.b3d_compare_spec.specs.Changes.{rowChanges, tableChanges}
 use Rattle.b3d_compare_spec.specs.List.{listBytes}
+use Rattle.b3d_compare_shapes.specs.Shapes.{IsSameShape}
+use Rattle.b3d_compare_items.specs.Items.{PutItems}
+use Rattle.b3d_compare_items.specs.declared.ItemsPut.{ItemsPut}
 use Rattle.b3d_compare_tables.specs.declared.Turn.{Turn}
 use Rattle.b3d_compare_tables.specs.Tables.{Comparable, bytesFrom, tableBytes, PutTurn}
-use Rattle.b3d_compare_tables.proofs.Places.{step-is, step-on, BothLeft, both-start, start-bytes, end-bytes, both-next, pass-is, pass-on}
+use Rattle.b3d_compare_tables.proofs.Places.{step-is, step-on, BothLeft, both-start, start-bytes, end-bytes, both-next, run-is, run-on}
 
 -- ---- `put_turn`
 
@@ -34,12 +35,18 @@ module _ (k : ℕ) (lo : 1 ≤ k) (hi : k ≤ 10) (a b : List ℕ) (x y : RowCur
 
 -- ---- `put_rows`
 
-pub run-turn : (k : ℕ) (a b : List ℕ) (x y : RowCursor) (t : EqualItems) → SameItems k a b (x .position .items) (y .position .items) t → (t .count ≡ 0 → ⊥)
-    → (r : ℕ) → RowCursorAt k a x → RowCursorAt k b y → (p q : List ℕ) (first second : RowCursor) → first ≡ cursorPast (t .bytes) x → second ≡ cursorPast (t .bytes) y
-    → (wet : Bool) (xs : List ℕ) (at : ℕ) → PutTurn k r a b x y p q p q wet xs at xs (record { first = first; second = second; rows = t .count; next = at })
-run-turn k a b x y t s h r ax by p q first second e f wet xs at =
-    let v = s .is (omega arith) in
-    rw (e, f) (record { on = pass-on k a b x y t v (omega arith) ax by p q; here = []; is = record { is = pass-is k a b x y t v r }; put = emits-none wet [] xs at refl })
+pub run-turn : (k r : ℕ) (a b : List ℕ) (x y : RowCursor) (t : Bool) → IsSameShape k (x .position .items) (y .position .items) t → not t ≡ false
+    → (wet : Bool) (xs : List ℕ) (at : ℕ) (ys : List ℕ) (u : ItemsPut) → PutItems k r a b (x .position .items) (y .position .items) wet xs at ys u
+    → RowCursorAt k a x → RowCursorAt k b y → (p q : List ℕ) (first second : RowCursor) → first ≡ cursorPast (u .bytes) x → second ≡ cursorPast (u .bytes) y
+    → PutTurn k r a b x y p q p q wet xs at ys (record { first = first; second = second; rows = u .rows; next = u .next })
+run-turn k r a b x y t s h wet xs at ys u v ax by p q first second e f =
+    rw (e, f)
+    (record {
+      on = run-on k r a b x y t s h wet xs at ys u v ax by p q;
+      here = listBytes (tableChanges k a b r (v .firsts) (v .seconds));
+      is = run-is k r a b x y t s h wet xs at ys u v;
+      put = v .put;
+    })
 
 -- ---- `put_table`
 

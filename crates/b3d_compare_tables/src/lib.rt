@@ -1,5 +1,5 @@
 // What differs between two files in one table, row by row with no table lent, as entries that are put into a lent output from a place on, or only counted.
-ghost use Prim.Native.Nat.{_<_, _≤_};
+ghost use Prim.Native.Nat.{_+_, _<_, _≤_};
 ghost use lib.ListN.{length};
 ghost use Rattle.shared_put_or_count.specs.Emits.{Fits, Emits};
 ghost use Rattle.b3d_spec.specs.Tables.{vertexWidth};
@@ -12,11 +12,11 @@ use b3d_rows_nodes::RowCursor;
 pub struct Turn {
     pub first: RowCursor,
     pub second: RowCursor,
-    pub rows: usize,
+    pub rows: u32,
     pub next: usize,
 }
 
-// Puts or counts the entries of the next row of both files, row r of table k; p and q are rows to read into.
+// Puts or counts the entries of the next row of the files `a` and `b` from `x` and `y` on, row `r` of table `k`; `p` and `q` are rows to read into.
 fn put_turn(
     a: &[u8],
     b: &[u8],
@@ -47,8 +47,8 @@ fn put_turn(
     }
 }
 
-// Passes over the next rows of both files whose items are the same, which have no entry; where the next items differ, or are no items, puts or counts the
-// entries of one row, row r of table k. p and q are rows to read into.
+// Puts or counts the entries of the next rows of the files `a` and `b` from `x` and `y` on, the first of them row `r` of table `k`: of all items of the open
+// chunks where these have the same shape, else of one row. `p` and `q` are rows to read into.
 fn put_rows(
     a: &[u8],
     b: &[u8],
@@ -62,6 +62,7 @@ fn put_rows(
     out: &mut [u8],
     at: usize,
 ) -> Turn
+    requires { ⌜ r + length (rowsFrom k (now a) x) ≤ rowLimit ⌝ }
     requires { ⌜ (1 ≤ k) × (k ≤ 10) × RowCursorAt k (now a) x × (0 < length (rowsFrom k (now a) x)) × (vertexWidth ≤ length (now p))
         × RowCursorAt k (now b) y × (0 < length (rowsFrom k (now b) y)) × (vertexWidth ≤ length (now q))
         × Fits wet (bytesFrom k (now a) (now b) r x y) at (now out) ⌝ }
@@ -72,22 +73,22 @@ fn put_rows(
     let t = y.position;
     let i = s.items;
     let j = t.items;
-    let run = b3d_rows_same::same_items(a, b, k, i, j);
-    if run.count == 0 {
+    if !b3d_compare_shapes::same_shape(k, i, j) {
         return put_turn(a, b, k, r, x, y, p, q, wet, out, at);
     }
-    let first = b3d_rows_same::past(x, run.bytes);
-    let second = b3d_rows_same::past(y, run.bytes);
+    let run = b3d_compare_items::put_items(a, b, k, r, i, j, wet, out, at);
+    let first = b3d_rows_past::past(x, run.bytes);
+    let second = b3d_rows_past::past(y, run.bytes);
     Turn {
         first,
         second,
-        rows: run.count,
-        next: at,
+        rows: run.rows,
+        next: run.next,
     }
 }
 
-// Puts or counts the entries of table k, which has this number of rows in both files, 0 among them; p and q are rows to read into. Gives the place after
-// them.
+// Puts or counts the entries of table `k`, which has this number of `rows` in both files `a` and `b`, 0 among them; `p` and `q` are rows to read into. Returns
+// the place after them.
 pub fn put_table(
     a: &[u8],
     b: &[u8],
@@ -112,7 +113,7 @@ pub fn put_table(
         x = t.first;
         y = t.second;
         next = t.next;
-        r += t.rows as u32;
+        r += t.rows;
     }
     next
 }

@@ -1,6 +1,6 @@
 -- `put_table` puts the entries of some rows a turn: those from r on are left.
 use Prim.Native.Nat.{_-_}
-use Rattle.b3d_compare_tables.proofs.Places.{file-laws, row-long, row-long-2, row-some, row-some-2, rows-low, rows-sum, rows-less}
+use Rattle.b3d_compare_tables.proofs.Places.{file-laws, row-long, row-long-2, row-most, row-some, row-some-2, rows-sum, rows-less}
 use Rattle.b3d_compare_tables.proofs.Turning.{PutLeft, left-laws, left-turns}
 use borrow.Author.Needs.{needs}
 use Rattle.b3d_compare_tables.proofs.put_table.Statement.{statement}
@@ -21,8 +21,7 @@ put-table-spec =
     (λ c κs. search (left-laws, file-laws, needs))
     (λ c κs. search (left-laws, file-laws, needs))
     (λ c. search (left-laws, file-laws, needs))
-    (λ c κs. let v = c .before .before .before .before .loop .inv .both in let t = c .before .before .before .loop-test .taken in (v .low, v .high, v .first-at, row-some _ _ _ _ _ _ _ _ _ _ _ v t, row-long _ _ _ _ _ _ _ _ _ _ _ v, v .second-at, row-some-2 _ _ _ _ _ _ _ _ _ _ _ v t, row-long-2 _ _ _ _ _ _ _ _ _ _ _ v, c .before .before .before .before .loop .inv .left .fits))
-    (λ c. let n = rows-low _ _ _ _ _ _ _ _ _ _ _ (c .before .before .before .before .before .before .before .before .before .before .before .before .before .before .loop .inv .both) _ _ _ _ _ (c .before .before .before .before .before .before .before .before .before .put-rows .ensures .on) in search needs)
+    (λ c κs. let v = c .before .before .before .before .loop .inv .both in let t = c .before .before .before .loop-test .taken in (row-most _ _ _ _ _ _ _ _ _ _ _ v, (v .low, v .high, v .first-at, row-some _ _ _ _ _ _ _ _ _ _ _ v t, row-long _ _ _ _ _ _ _ _ _ _ _ v, v .second-at, row-some-2 _ _ _ _ _ _ _ _ _ _ _ v t, row-long-2 _ _ _ _ _ _ _ _ _ _ _ v, c .before .before .before .before .loop .inv .left .fits)))
     (λ c. let n = rows-sum _ _ _ _ _ _ _ _ _ _ _ (c .before .before .before .before .before .before .before .before .before .before .before .before .before .before .loop .inv .both) _ _ _ _ _ (c .before .before .before .before .before .before .before .before .before .put-rows .ensures .on) in search needs)
     (λ c. rows-less _ _ _ _ _ _ _ _ _ _ _ (c .before .before .before .before .before .before .before .before .before .before .before .before .before .before .loop .inv .both) _ _ _ _ _ (c .before .before .before .before .before .before .before .before .before .put-rows .ensures .on))
     (λ c. left-turns _ _ _ _ _ _ _ _ _ _ _ _ _ _ _ _ (c .before .before .before .before .before .before .before .before .before .before .before .before .before .before .loop .inv) _ _ _ _ (c .before .before .before .before .before .before .before .before .before .put-rows .ensures))

@@ -1,0 +1,14 @@
+-- `put_word` by its ways.
+use Rattle.b3d_compare_item_words.proofs.WordPutting.{word-laws}
+use borrow.Author.Needs.{needs}
+use Rattle.b3d_compare_item_words.proofs.put_word.Statement.{statement}
+use Rattle.b3d_compare_item_words.proofs.put_word.Tie as tie
+
+pub put-word-spec : {M : Type 1} → statement M
+put-word-spec =
+    tie.close
+    (tie.spec
+    (λ c. search (word-laws, needs))
+    (λ c κs. search (word-laws, needs))
+    (λ c. search needs)
+    (λ c. search (word-laws, needs)))

@@ -1,0 +1,2 @@
+-- What the code for two items promises.
+pub mod ItemWords

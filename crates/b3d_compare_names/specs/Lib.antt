@@ -1,0 +1,2 @@
+-- What the code for two names promises.
+pub mod NameEntries

@@ -1,0 +1,2 @@
+-- A law for each way through the functions.
+pub mod ShapeLaws

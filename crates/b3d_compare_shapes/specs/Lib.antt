@@ -1,0 +1,2 @@
+-- What the code for the shape of items promises.
+pub mod Shapes

@@ -1,0 +1,2 @@
+-- The rows from a cursor that was moved on.
+pub mod PastLaws

@@ -1,0 +1,2 @@
+-- Places behind items of the open chunk.
+pub mod Past

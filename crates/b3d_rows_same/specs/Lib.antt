@@ -1,2 +1,0 @@
--- Items of two files that are the same.
-pub mod SameItems
