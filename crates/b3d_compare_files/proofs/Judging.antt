@@ -17,7 +17,7 @@ use Rattle.b3d_compare_spec.specs.List.{listBytes}
 use Rattle.b3d_compare_spec.proofs.Sizes.{list-append}
 use Rattle.b3d_compare_spec.proofs.Walking.{changes-twelve, changes-cells, same-twelve, tables-step}
 use Rattle.b3d_compare_tables.specs.Tables.{Comparable, tableBytes}
-use Rattle.b3d_compare_tables.proofs.Places.{range, at-range}
+use Rattle.b3d_compare_next_rows.proofs.NextLaws.{range, at-range}
 use Rattle.b3d_compare_tables.proofs.Accepted.{comparable}
 use Rattle.b3d_compare_files.specs.Files.{Judged, tablesBytes, orElse, filesBytes}
 

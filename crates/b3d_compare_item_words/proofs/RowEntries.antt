@@ -1,6 +1,6 @@
 -- The entries of two rows are those of the words that are there: the others are 0 in both.
-use mathlib.Core.Path.{_≡_, refl, ap, ap₂, sym, subst, _∙_}
-use Prim.Native.Nat.{ℕ, zero, suc, _+_, _-_, _<_, _≤_}
+use mathlib.Core.Path.{_≡_, refl, ap, sym, _∙_}
+use Prim.Native.Nat.{ℕ, zero, suc, _+_, _-_, _≤_}
 use native.Mathlib.Nat.{suc-inj, suc-ne-zero, add-zero}
 use native.Mathlib.Omega.{arith}
 use mathlib.Core.Bool.{Bool, true, false}
@@ -11,7 +11,7 @@ use Rattle.wire.specs.Test.{if}
 use Rattle.b3d_spec.specs.Mask.{mask, ones, padded, vertexHas, vertexMask, keyHas, keyMask}
 use Rattle.b3d_spec.proofs.Rows.MaskLaws.{mask-length, mask-same, spread-length}
 use Rattle.b3d_compare_spec.specs.Words.{wordKinds, wordsOf}
-use Rattle.b3d_compare_spec.specs.Changes.{Change, wordChanges, rowChanges}
+use Rattle.b3d_compare_spec.specs.Changes.{Change, rowChanges}
 use Rattle.b3d_compare_spec.proofs.WordLaws.{few-words}
 use Rattle.b3d_compare_rows.specs.Rows.{wordEntry}
 use Rattle.b3d_compare_rows.proofs.Rowing.{entry-none, plainLeft, plain-step, plain-end, plain-high, row-plain}

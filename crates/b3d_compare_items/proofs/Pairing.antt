@@ -1,7 +1,6 @@
 -- Items of two open chunks, pair by pair: a law for each need.
 use mathlib.Core.Path.{_≡_, refl, ap, ap₂, sym, subst, _∙_}
-use Prim.Native.Nat.{ℕ, suc, _+_, _-_, _*_, _<_, _≤_}
-use native.Mathlib.Nat.{add-zero}
+use Prim.Native.Nat.{ℕ, _+_, _-_, _*_, _<_, _≤_}
 use native.Mathlib.Omega.{arith}
 use mathlib.Core.Bool.{Bool}
 use mathlib.Core.List.{List, [], _∷_, _++_, append-assoc, append-nil}
@@ -9,19 +8,16 @@ use lib.ListN.{length, length-append}
 use Rattle.wire.specs.Test.{if}
 use Rattle.wire.specs.Cursors.{Inside, left}
 use Rattle.wire.proofs.Left.{span}
-use Rattle.layout.specs.Parts.{wordsOf}
 use Rattle.shared_table_words.specs.Words.{wordsAt}
 use Rattle.shared_table_words.proofs.Copying.{length-words, words-at}
 use Rattle.shared_output.proofs.Joining.{Both}
 use Rattle.shared_put_or_count.specs.Emits.{Fits, Emits}
-use Rattle.shared_put_or_count.proofs.Putting.{emits-none, fits-first, fits-second, emits-both, fits-same, emits-same}
-use Rattle.b3d_spec.specs.Mask.{ones, keyMask}
+use Rattle.shared_put_or_count.proofs.Putting.{emits-none, fits-first, fits-second, emits-both}
 use Rattle.b3d_spec.proofs.Rows.MaskLaws.{vertex-words}
 use Rattle.b3d_rows_open_items.specs.ItemsLeft.{ItemTable, itemRow, itemRows, Measured}
 use Rattle.b3d_rows_open_items.specs.declared.OpenItems.{OpenItems}
 use Rattle.b3d_rows_open_items.proofs.ItemsLeftLaws.{by-table, items-one}
-use Rattle.b3d_rows_past.specs.Past.{itemsPast}
-use Rattle.b3d_compare_spec.specs.Changes.{Change, rowChanges, tableChanges}
+use Rattle.b3d_compare_spec.specs.Changes.{rowChanges, tableChanges}
 use Rattle.b3d_compare_spec.specs.List.{listBytes}
 use Rattle.b3d_compare_spec.proofs.Sizes.{list-append}
 use Rattle.b3d_compare_entries.proofs.Entering.{no-bytes}
@@ -29,7 +25,6 @@ use Rattle.b3d_compare_item_words.specs.ItemWords.{ItemColumns, itemEntries}
 use Rattle.b3d_compare_item_words.proofs.RowEntries.{vertex-row, key-row, triangle-row, weight-row}
 use Rattle.b3d_compare_shapes.specs.Shapes.{SameShape}
 use Rattle.b3d_compare_items.specs.Items.{ItemPairs, PutItems}
-use Rattle.b3d_compare_items.specs.declared.ItemsPut.{ItemsPut}
 use Rattle.b3d_compare_items.proofs.TableParts.{bytes-parts}
 
 -- ---- the entries of one pair
@@ -139,21 +134,6 @@ module _ (k r : ℕ) (a b : List ℕ) (i j : OpenItems) (cols : List ℕ) (wet :
   }
 
   module _ (ys : List ℕ) (step p q row next : ℕ) (g : PairsLeft ys step p q row next) where
-    pub pairs-same : length ys ≡ length xs
-    pairs-same = g .put .long
-
-    pub pairs-high : p ≤ i .rest .end
-    pairs-high = g .first-high
-
-    pub pairs-high-2 : q ≤ j .rest .end
-    pairs-high-2 = g .second-high
-
-    pub pairs-low : i .rest .at ≤ p
-    pairs-low = g .first-low
-
-    pub pairs-row : r ≤ row
-    pairs-row = g .row-low
-
     es : step ≡ 4 * i .words
     es = g .step-is
 
@@ -269,5 +249,3 @@ module _ (k r : ℕ) (a b : List ℕ) (i j : OpenItems) (cols : List ℕ) (wet :
 -- what the first turn needs
 pub step-small : (k r : ℕ) (a b : List ℕ) (i j : OpenItems) → ItemPairs k r a b i j → i .words ≤ 42
 step-small k r a b i j v = v .measured .most
-
-pub ruleset pairs-laws = (pairs-start, pairs-same, pairs-high, pairs-high-2, pairs-low, pairs-row, pairs-done, pairs-stop, pairs-first, pairs-second, pairs-wide, pairs-most, pairs-fit, pairs-next, pairs-less)

@@ -7,25 +7,23 @@ use mathlib.Core.Bool.{Bool, true, false, not, _&&_}
 use mathlib.Core.List.{List, [], _∷_, _++_}
 use lib.ListN.{length, drop, getD}
 use lib.Seq.{getD-drop}
-use lib.Dec.{T, eqb, leb, leb→le, lit≤}
+use lib.Dec.{T, eqb, leb, leb→le}
 use lib.Ieee.{binary32, ofBits, toBits, nanBits, isNan}
 use lib.Ieee.Bits.{toBits-ofBits, nanBits-is}
 use borrow.Author.Tests.{ne-eqb}
 use mir.Facts.{and-yes, yes-eqb}
 use Rattle.wire.specs.Test.{if}
 use Rattle.layout.proofs.Outs.{if-case, if-yes, if-no, by-test}
-use Rattle.b3d_spec.specs.Rebuild.{same, nameFrom}
 use Rattle.b3d_compare_spec.specs.declared.WordKind.{WordKind}
 use Rattle.b3d_compare_spec.specs.declared.WordKind.the-variants.{Whole, Float, Name, Length}
-use Rattle.b3d_compare_spec.specs.declared.Span.{Span}
 use Rattle.b3d_compare_spec.specs.declared.Difference.{Difference}
-use Rattle.b3d_compare_spec.specs.declared.Difference.the-variants.{Wholes, Floats, Texts}
+use Rattle.b3d_compare_spec.specs.declared.Difference.the-variants.{Wholes, Floats}
 use Rattle.b3d_compare_spec.specs.Words.{wordKinds, wordsOf, kindAt}
-use Rattle.b3d_compare_spec.specs.Changes.{number, text, sameCell, cellOf, cellAt, Change, wordChanges, rowChanges}
+use Rattle.b3d_compare_spec.specs.Changes.{number, sameCell, cellOf, cellAt, Change, wordChanges, rowChanges}
 use Rattle.b3d_compare_spec.specs.List.{changeBytes, listBytes}
-use Rattle.b3d_compare_spec.specs.Differences.{spanText, firstOf, secondOf, numbersOf}
+use Rattle.b3d_compare_spec.specs.Differences.{firstOf, secondOf, numbersOf}
 use Rattle.b3d_compare_spec.proofs.WordLaws.{few-words, kinds-by, three}
-use Rattle.b3d_compare_difference.specs.Spans.{Within, SpanIs, Clean}
+use Rattle.b3d_compare_difference.specs.Spans.{Clean}
 use Rattle.b3d_compare_entries.specs.Entries.{Lies, changeOf}
 use Rattle.b3d_compare_entries.proofs.Entering.{one-bytes}
 use Rattle.b3d_compare_names.proofs.Naming.{two-words}

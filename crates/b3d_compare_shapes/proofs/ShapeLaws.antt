@@ -1,13 +1,12 @@
 -- Items of the same shape: a law for each way through the functions.
 use mathlib.Core.Path.{_≡_, sym, _∙_}
-use Prim.Native.Nat.{ℕ, _-_, _/_, _<_, _≤_}
+use Prim.Native.Nat.{ℕ, _-_, _/_, _<_}
 use native.Mathlib.Omega.{arith}
 use mathlib.Core.Bool.{Bool, true, false, not}
 use lib.Dec.{eqb, eqb→eq, leb, leb→le}
 use borrow.Author.Tests.{not-false}
-use Rattle.b3d_rows_open_items.specs.ItemsLeft.{ItemTable}
 use Rattle.b3d_rows_open_items.specs.declared.OpenItems.{OpenItems}
-use Rattle.b3d_compare_shapes.specs.Shapes.{IsItems, HasItem, SameShape, IsSameShape}
+use Rattle.b3d_compare_shapes.specs.Shapes.{IsItems, HasItem, IsSameShape}
 
 true-false : _≡_ {A = Bool} false true → ⊥
 true-false e = let z : _≡_ {A = ℕ} 0 1 = cc in omega arith

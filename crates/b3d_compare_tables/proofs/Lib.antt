@@ -1,5 +1,4 @@
 -- Two tables row by row, and a law for each way through the functions.
-pub mod TableLaws
 pub mod Places
 pub mod Turning
 pub mod Accepted

@@ -1,37 +1,23 @@
 -- A law for each way through the functions.
-use mathlib.Core.Path.{_≡_, ap, sym, _∙_}
+use mathlib.Core.Path.{_≡_}
 use Prim.Native.Nat.{ℕ, _+_, _≤_}
 use mathlib.Core.Bool.{Bool, not, false}
-use mathlib.Core.List.{List, _++_}
+use mathlib.Core.List.{List}
 use lib.ListN.{length}
-use Rattle.shared_output.proofs.Joining.{Both}
 use Rattle.shared_put_or_count.specs.Emits.{Fits, Emits}
-use Rattle.shared_put_or_count.proofs.Putting.{fits-first, Left, left-none, left-done, left-next}
+use Rattle.shared_put_or_count.proofs.Putting.{Left, left-none, left-done, left-next}
 use Rattle.b3d_rows_nodes.specs.declared.RowCursor.{RowCursor}
-use Rattle.b3d_rows.specs.NextRow.{RowCursorAt, Starts, RowNext}
+use Rattle.b3d_rows.specs.NextRow.{RowCursorAt, Starts}
 use Rattle.b3d_rows_past.specs.Past.{cursorPast}
-use Rattle.b3d_compare_spec.specs.Changes.{rowChanges, tableChanges}
+use Rattle.b3d_compare_spec.specs.Changes.{tableChanges}
 use Rattle.b3d_compare_spec.specs.List.{listBytes}
 use Rattle.b3d_compare_shapes.specs.Shapes.{IsSameShape}
 use Rattle.b3d_compare_items.specs.Items.{PutItems}
 use Rattle.b3d_compare_items.specs.declared.ItemsPut.{ItemsPut}
-use Rattle.b3d_compare_tables.specs.declared.Turn.{Turn}
-use Rattle.b3d_compare_tables.specs.Tables.{Comparable, bytesFrom, tableBytes, PutTurn}
-use Rattle.b3d_compare_tables.proofs.Places.{step-is, step-on, BothLeft, both-start, start-bytes, end-bytes, both-next, run-is, run-on}
-
--- ---- `put_turn`
-
-module _ (k : ℕ) (lo : 1 ≤ k) (hi : k ≤ 10) (a b : List ℕ) (x y : RowCursor) (p q : List ℕ) (hp : 42 ≤ length p) (hq : 42 ≤ length q) (p′ q′ : List ℕ) (first second : RowCursor)
-    (na : RowNext k a x p p′ first) (nb : RowNext k b y q q′ second) (kk : ℕ) (ek : kk ≡ k) (r : ℕ) (wet : Bool) (xs : List ℕ) (at : ℕ) where
-  here-is : Both (bytesFrom k a b r x y) (listBytes (rowChanges kk a b r p′ q′)) (bytesFrom k a b (r + 1) first second)
-  here-is = record { is = step-is k lo hi a b x y p q hp hq p′ q′ first second na nb r ∙ ap (λ (j : ℕ). listBytes (rowChanges j a b r p′ q′) ++ bytesFrom k a b (r + 1) first second) (sym ek) }
-
-  pub turn-fits : Fits wet (bytesFrom k a b r x y) at xs → Fits wet (listBytes (rowChanges kk a b r p′ q′)) at xs
-  turn-fits f = fits-first here-is wet xs at f
-
-  pub turn-puts : (ys : List ℕ) (n : ℕ) → Emits wet (listBytes (rowChanges kk a b r p′ q′)) xs at ys n
-      → PutTurn k r a b x y p q p′ q′ wet xs at ys (record { first = first; second = second; rows = 1; next = n })
-  turn-puts ys n s = record { on = step-on k lo hi a b x y p q hp hq p′ q′ first second na nb; here = listBytes (rowChanges kk a b r p′ q′); is = here-is; put = s }
+use Rattle.b3d_compare_next_rows.specs.declared.Turn.{Turn}
+use Rattle.b3d_compare_next_rows.specs.NextRows.{bytesFrom, PutTurn}
+use Rattle.b3d_compare_tables.specs.Tables.{Comparable, tableBytes}
+use Rattle.b3d_compare_tables.proofs.Places.{BothLeft, both-start, start-bytes, end-bytes, both-next, run-is, run-on}
 
 -- ---- `put_rows`
 

@@ -1,9 +1,8 @@
 -- `put_turn` reads a row of each file, then puts the entries of both.
-use Rattle.b3d_compare_tables.proofs.Places.{turn-high, turn-first, turn-second}
-use Rattle.b3d_compare_tables.proofs.Turning.{turn-fits, turn-puts}
+use Rattle.b3d_compare_next_rows.proofs.NextLaws.{turn-high, turn-first, turn-second, turn-fits, turn-puts}
 use borrow.Author.Needs.{needs}
-use Rattle.b3d_compare_tables.proofs.put_turn.Statement.{statement}
-use Rattle.b3d_compare_tables.proofs.put_turn.Tie as tie
+use Rattle.b3d_compare_next_rows.proofs.put_turn.Statement.{statement}
+use Rattle.b3d_compare_next_rows.proofs.put_turn.Tie as tie
 
 pub put-turn-spec : {M : Type 1} → statement M
 put-turn-spec =

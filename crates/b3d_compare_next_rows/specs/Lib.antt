@@ -1,0 +1,2 @@
+-- What the code for the next rows of two files promises.
+pub mod NextRows
