@@ -1,4 +1,4 @@
-pub mod RoundLaws
-pub mod TestRounds
-pub mod PieceRounds
 pub mod CloseRounds
+pub mod PieceRounds
+pub mod RoundLaws
+pub mod WeighRounds

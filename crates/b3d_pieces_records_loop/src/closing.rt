@@ -1,21 +1,23 @@
-// What the close answers after the records were tested.
+// What the close answers after the records were weighed.
 ghost use Rattle.b3d_pieces_records_loop.specs.Rounds.{CloseReady, ClosedIs};
 use crate::PieceClosed;
-use crate::Round;
 use b3d_pieces_answers::answer_of;
 use b3d_pieces_answers::joined;
 use b3d_pieces_answers::refused;
+use b3d_pieces_records_tests::RowWeight;
+use b3d_pieces_records_tests::first_number;
+use b3d_pieces_records_tests::first_place;
 use b3d_pieces_state::PieceState;
+use b3d_pieces_state::states::judge_of;
 use b3d_pieces_state::states::state_of;
 
-// Returns what the close answers after the records were tested, `state` being what was handed in: a refusal gives it back.
-pub fn closed(t: Round, state: PieceState) -> PieceClosed
-    requires { ⌜ CloseReady t ⌝ }
-    ensures { λ r. ⌜ ClosedIs t state r ⌝ }
+// Returns what the close answers after the row was weighed as `w`, `state` being what was handed in: a refusal gives it back.
+pub fn closed(w: RowWeight, state: PieceState) -> PieceClosed
+    requires { ⌜ CloseReady w ⌝ }
+    ensures { λ r. ⌜ ClosedIs w state r ⌝ }
 {
-    let number = t.number;
-    let turn = t.turn;
-    let j = turn.judge;
+    let j = judge_of(state);
+    let number = first_number(w, j);
     if number == 0 {
         let verdict = joined(j);
         let answer = answer_of(verdict);
@@ -24,6 +26,7 @@ pub fn closed(t: Round, state: PieceState) -> PieceClosed
         let state = state_of(shut);
         return PieceClosed { answer, state };
     }
-    let answer = refused(number, t.place as usize);
+    let place = first_place(number);
+    let answer = refused(number, place as usize);
     PieceClosed { answer, state }
 }

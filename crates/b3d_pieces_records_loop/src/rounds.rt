@@ -1,18 +1,51 @@
-// A round, and what a piece answers after the last.
-ghost use Rattle.b3d_pieces_records_loop.specs.Rounds.{TurnReady, TurnedIs, NextReady, NextIs, LastIs};
+// The first round, the next, and what a piece answers after the last.
+ghost use mathlib.Core.Path.{_≡_};
+ghost use Rattle.b3d_pieces_state.specs.States.{stateOf};
+ghost use Rattle.b3d_pieces_records_loop.specs.Rounds.{FirstIs, TurnReady, TurnedIs, LastIs};
 use crate::Round;
-use crate::tests::test;
+use b3d_pieces_at_once::AtOnce;
+use b3d_pieces_header_steps::fresh;
+use b3d_pieces_judge_step::Turn;
 use b3d_pieces_judge_step::steps::step;
 use b3d_pieces_skip::passing::pass;
 use b3d_pieces_state::OpenRecord;
 use b3d_pieces_state::PieceFed;
-use b3d_pieces_state::PieceState;
 use b3d_pieces_state::records::open_of;
 use b3d_pieces_state::records::record_of;
+use b3d_pieces_state::states::judge_of;
 use b3d_pieces_state::states::state_of;
+use b3d_pieces_step::turning::slot;
+use b3d_spec::Tag;
+
+// Returns the first round over a piece of `bytes` bytes, after those that `x` took at once.
+pub fn first(x: AtOnce, bytes: usize) -> Round
+    ensures { λ r. ⌜ FirstIs x bytes r ⌝ }
+{
+    let fed = x.fed;
+    let state = fed.state;
+    let j = judge_of(state);
+    let get = slot(j.depth);
+    let blank = fresh(Tag::BB3D, 0, 0, 0, 0);
+    let rec = record_of(blank);
+    let t = Turn {
+        judge: j,
+        at: x.at,
+        end: bytes,
+        get: get,
+        put: 0,
+        rec: blank,
+    };
+    Round {
+        go: x.at < bytes,
+        get: get,
+        put: 0,
+        rec: rec,
+        turn: t,
+    }
+}
 
 // Takes the bytes that can be taken at once, then makes a turn at the next byte, if one is left, with `rec` as the record read.
-pub fn turned(t: Round, rec: OpenRecord, bytes: &[u8]) -> Round
+pub fn next(t: Round, rec: OpenRecord, bytes: &[u8]) -> Round
     requires { ⌜ TurnReady t rec (now bytes) ⌝ }
     ensures { λ r. ⌜ TurnedIs t rec (now (bytes .entry)) r ⌝ }
 {
@@ -29,10 +62,6 @@ pub fn turned(t: Round, rec: OpenRecord, bytes: &[u8]) -> Round
             get: x.get,
             put: x.put,
             rec: back,
-            testing: false,
-            load: 0,
-            number: 0,
-            place: 0,
             turn: x,
         };
     }
@@ -41,43 +70,20 @@ pub fn turned(t: Round, rec: OpenRecord, bytes: &[u8]) -> Round
         get: y.get,
         put: t.get,
         rec: rec,
-        testing: false,
-        load: 0,
-        number: 0,
-        place: 0,
         turn: y,
     }
 }
 
-// Makes the next round with `rec` as the record read: a test of it, or a turn over the bytes of the piece.
-pub fn next(t: Round, rec: OpenRecord, bytes: &[u8]) -> Round
-    requires { ⌜ NextReady t rec (now bytes) ⌝ }
-    ensures { λ r. ⌜ NextIs t rec (now (bytes .entry)) r ⌝ }
+// Returns what a piece answers after the last round.
+pub fn last(t: Round) -> PieceFed
+    ensures { λ r. ⌜ LastIs t r ⌝ }
 {
-    if t.testing {
-        return test(t, rec);
-    }
-    turned(t, rec, bytes)
-}
-
-// Returns what a piece answers after the last round, `state` being what was handed in: a refusal gives it back.
-pub fn last(t: Round, state: PieceState) -> PieceFed
-    ensures { λ r. ⌜ LastIs t state r ⌝ }
-{
-    let number = t.number;
     let turn = t.turn;
     let j = turn.judge;
-    if number == 0 {
-        let next = state_of(j);
-        return PieceFed {
-            number: 0,
-            place: 0,
-            state: next,
-        };
-    }
+    let next = state_of(j);
     PieceFed {
-        number: number,
-        place: t.place,
-        state: state,
+        number: 0,
+        place: 0,
+        state: next,
     }
 }

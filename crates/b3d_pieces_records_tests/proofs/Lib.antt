@@ -1,1 +1,1 @@
-pub mod DecisionLaws
+pub mod WeightLaws

@@ -1,111 +1,112 @@
-// What the rounds that test a caller's state and row decide: refusal 11, refusal 15, another record to test, or turns over the piece's bytes. The row is not
-// at hand: a round is handed the record that it tests.
-ghost use mathlib.Core.Path.{_≡_};
+// The test of the state and the row that a caller hands to the piece judge. The row is not at hand: its records in use are weighed one after the other, and of
+// them only a few numbers are carried; then the state is tested with their weight.
 ghost use Prim.Native.Nat.{_≤_};
-ghost use Rattle.b3d_pieces_spec.specs.Limits.{mostCounted, overCounted, mostAroundMesh};
-ghost use Rattle.b3d_pieces_records_tests.specs.Decisions.{refusing, FineBy, FirstBy, TestBy};
+ghost use mathlib.Core.Path.{_≡_};
+ghost use Rattle.b3d_pieces_records_tests.specs.Weights.{resting as restingOf, FirstWeighs, WeighReady, WeighIs, NumberIs, placeOf};
 use b3d_pieces_judge_step::Judge;
-use b3d_pieces_spec::MOST_AROUND;
-use b3d_pieces_spec::MOST_COUNTED;
-use b3d_pieces_spec::OVER_COUNTED;
-use b3d_pieces_spec::Open;
-use b3d_pieces_spec::RECORDS;
-use b3d_pieces_spec::RECORDS_NEEDED;
+use b3d_pieces_state::OpenRecord;
+use b3d_pieces_state::PieceState;
+use b3d_pieces_state::records::open_of;
 use b3d_pieces_valid_record::loads::rows_to_add;
 use b3d_pieces_valid_state::state::state_valid;
-use layout::refusals;
 
-// A decision: `go`, whether another round follows; `get`, the place of the record to read; `testing`, whether it is to be tested, and `load`, the rows that
-// those before it may still add; `number` and `place`, the refusal, or 0 and 0.
-pub struct Decision {
+// The weight of a row's first records: `go`, whether the record at `get` is to be weighed next; `depth`, how many are in use; `records`, how many the row has;
+// `load`, the rows that those before `get` may still add, or 16,777,218 if these are too many or a file cannot have these chunks open.
+pub struct RowWeight {
     pub go: bool,
     pub get: usize,
-    pub testing: bool,
+    pub depth: usize,
+    pub records: usize,
     pub load: usize,
-    pub number: u32,
-    pub place: u32,
 }
 
-// Returns the decision to refuse with `number` at `place`.
-fn refusal(number: u32, place: u32) -> Decision
-    ensures { λ r. ⌜ r ≡ refusing number place ⌝ }
+// Returns the weight of no record, with none to be weighed, where `depth` of `records` records are in use.
+fn resting(depth: usize, records: usize) -> RowWeight
+    ensures { λ r. ⌜ r ≡ restingOf depth records ⌝ }
 {
-    Decision {
+    RowWeight {
         go: false,
         get: 0,
-        testing: false,
+        depth: depth,
+        records: records,
         load: 0,
-        number: number,
-        place: place,
     }
 }
 
-// Returns the decision after all records in use were tested, which may still add `load` rows: 15 at place 0 if `j` is not as calls leave it; else turns, the
-// first reading the record at `get`, if `go` says that there are bytes.
-fn decided(j: Judge, load: usize, go: bool, get: usize) -> Decision
-    requires { ⌜ load ≤ overCounted ⌝ }
-    ensures { λ r. ⌜ FineBy j load go get r ⌝ }
+// Returns the weight of no record of a row of `records` records, with `state` handed in. Nothing is to be weighed if these are fewer than 19, or if more than
+// 18 are in use: such a call is refused whatever they weigh.
+pub fn weigh_first(state: PieceState, records: usize) -> RowWeight
+    ensures { λ r. ⌜ FirstWeighs state records r ⌝ }
 {
-    if state_valid(j, load) {
-        return Decision {
-            go: go,
-            get: get,
-            testing: false,
-            load: 0,
-            number: 0,
-            place: 0,
+    let depth = state.depth;
+    if records < 19 {
+        return resting(depth, records);
+    }
+    if 18 < depth {
+        return resting(depth, records);
+    }
+    RowWeight {
+        go: 0 < depth,
+        get: 0,
+        depth: depth,
+        records: records,
+        load: 0,
+    }
+}
+
+// Returns the weight of the records weighed by `w` and of the next one, `rec`.
+pub fn weigh_next(w: RowWeight, rec: OpenRecord) -> RowWeight
+    requires { ⌜ WeighReady w ⌝ }
+    ensures { λ r. ⌜ WeighIs w rec r ⌝ }
+{
+    let f = open_of(rec);
+    let v = rows_to_add(f, w.get);
+    let sum = w.load + v;
+    if 16777217 < sum {
+        return RowWeight {
+            go: false,
+            get: w.get,
+            depth: w.depth,
+            records: w.records,
+            load: 16777218,
         };
     }
-    refusal(refusals::CLOSED, 0)
+    RowWeight {
+        go: w.get + 1 < w.depth,
+        get: w.get + 1,
+        depth: w.depth,
+        records: w.records,
+        load: sum,
+    }
 }
 
-// Returns the decision before any record is tested: 11 with size 19 if `records` is less; 15 after the close, or if more than 18 records are in use; else to
-// test record 0, if one is in use.
-pub fn first_decision(j: Judge, records: usize, go: bool, get: usize) -> Decision
-    ensures { λ r. ⌜ FirstBy j records go get r ⌝ }
+// Returns how a call with `j` held and a row of the weight `w` begins: 11 if the row has fewer than 19 records; then 15 after the close, or if `j` and the row
+// are not as calls leave them; else 0.
+pub fn first_number(w: RowWeight, j: Judge) -> u32
+    requires { ⌜ w .load ≤ 16777218 ⌝ }
+    ensures { λ r. ⌜ NumberIs w j r ⌝ }
 {
-    if records < RECORDS {
-        return refusal(refusals::TOO_SHORT, RECORDS_NEEDED);
+    if w.records < 19 {
+        return 11;
     }
     if j.shut {
-        return refusal(refusals::CLOSED, 0);
+        return 15;
     }
-    let depth = j.depth;
-    if MOST_AROUND < depth {
-        return refusal(refusals::CLOSED, 0);
+    if 18 < j.depth {
+        return 15;
     }
-    if depth == 0 {
-        return decided(j, 0, go, get);
+    if state_valid(j, w.load) {
+        return 0;
     }
-    Decision {
-        go: true,
-        get: 0,
-        testing: true,
-        load: 0,
-        number: 0,
-        place: 0,
-    }
+    15
 }
 
-// Returns the decision after the test of record `i`, which is `f`, where the records before it may still add `load` rows.
-pub fn test_decision(j: Judge, load: usize, i: usize, f: Open, go: bool, get: usize) -> Decision
-    requires { ⌜ (load ≤ mostCounted) × (i ≤ mostAroundMesh) ⌝ }
-    ensures { λ r. ⌜ TestBy j load i f go get r ⌝ }
+// Returns the place of a call that begins with `number`: with 11 it is 19, the records needed, else 0.
+pub fn first_place(number: u32) -> u32
+    ensures { λ r. ⌜ r ≡ placeOf number ⌝ }
 {
-    let v = rows_to_add(f, i);
-    let sum = load + v;
-    if MOST_COUNTED < sum {
-        return decided(j, OVER_COUNTED, go, get);
+    if number == 11 {
+        return 19;
     }
-    if i + 1 < j.depth {
-        return Decision {
-            go: true,
-            get: i + 1,
-            testing: true,
-            load: sum,
-            number: 0,
-            place: 0,
-        };
-    }
-    decided(j, sum, go, get)
+    0
 }

@@ -27,7 +27,7 @@ use denote.Slice.{sliceTy, sliceVal}
 use denote.Index.{row, place-is, elem-out, elem-back, looks-slice, shuts-slice}
 use denote.Steps.{nothing}
 use denote.Triple.Call.{calls-from, calls-from-last}
-use Rattle.kelompuris_c_pieces.proofs.WalkParts.{word, Element, typeOf, Carried, tyOf, valOf, Gives, loops}
+use Rattle.kelompuris_c_pieces.proofs.WalkParts.{word, Element, typeOf, Weight, weightTy, weightVal, Gives, loops}
 
 -- ---- the code as the compiler has it, over the functions that it calls and the types of its locals
 
@@ -47,7 +47,7 @@ abbrev from-loop : Name → Name → Ty → Body
 from-loop test last ω = seq (block (loop (turn test ω))) (after-loop last)
 
 abbrev from-first : Name → Name → Name → Ty → Body
-from-first first test last ω = seq (call first (copy (place 1 []) ∷ copy (place 4 []) ∷ int w64 0 ∷ []) (place 3 [])) (from-loop test last ω)
+from-first first test last ω = seq (call first (copy (place 1 []) ∷ copy (place 4 []) ∷ []) (place 3 [])) (from-loop test last ω)
 
 abbrev function : Name → Name → Name → (result state row carried element : Ty) → Fn
 function first test last φ σ ρ τ ω = record {
@@ -58,7 +58,7 @@ function first test last φ σ ρ τ ω = record {
   body = seq (assign (place 4 []) (rvOpd (copy (place 2 (field 1 ∷ []))))) (from-first first test last ω);
 }
 
-module _ {M : Type 1} (𝓤 : URA M) (H : Heap 𝓤) (A : Atoms 𝓤) (W : Given 𝓤 H A) (𝓣 : Tables 𝓤 H) (e : Element 𝓤 H A) (c : Carried 𝓤 H A e) (#first #test #last : Name)
+module _ {M : Type 1} (𝓤 : URA M) (H : Heap 𝓤) (A : Atoms 𝓤) (W : Given 𝓤 H A) (𝓣 : Tables 𝓤 H) (e : Element 𝓤 H A) (c : Weight 𝓤 H A) (#first #test #last : Name)
     (φ σ π : Ty) (F : Type 0) (IsF : F → Val → Type 0) (state : Val) (κ : Lft) (q : Share) (b o : ℕ) (xs : List (e .Of)) (none : e .Of) (Row : Fml) (Post : Val → SProp 𝓤) where
   abbrev n : ℕ
   n = length xs
@@ -67,10 +67,10 @@ module _ {M : Type 1} (𝓤 : URA M) (H : Heap 𝓤) (A : Atoms 𝓤) (W : Given
   R = typeOf 𝓤 H A e
 
   abbrev τ : Ty
-  τ = tyOf 𝓤 H A e c
+  τ = weightTy 𝓤 H A c
 
   abbrev low : c .Of → Val
-  low = valOf 𝓤 H A e c
+  low = weightVal 𝓤 H A c
 
   abbrev ρ : Ty
   ρ = sliceTy (tyRef (named 0) imm π)
@@ -91,7 +91,7 @@ module _ {M : Type 1} (𝓤 : URA M) (H : Heap 𝓤) (A : Atoms 𝓤) (W : Given
     pub Inv : c .Of → Type 0
     pub left : c .Of → ℕ
     pub First : c .Of → Type 0
-    pub first : ent 𝓤 (emp 𝓤) (𝓣 .C #first (state ∷ vint w64 n ∷ vint w64 0 ∷ []) (λ v. mean 𝓤 H A (Gives 𝓤 H A (c .Of) (λ r v. c .Is r v × First r) (‵ ftrue) v)))
+    pub first : ent 𝓤 (emp 𝓤) (𝓣 .C #first (state ∷ vint w64 n ∷ []) (λ v. mean 𝓤 H A (Gives 𝓤 H A (c .Of) (λ r v. c .Is r v × First r) (‵ ftrue) v)))
     pub starts : (r : c .Of) (v : Val) → c .Is r v → First r → Inv r
     -- a turn
     pub Next : c .Of → c .Of → Type 0
@@ -198,8 +198,8 @@ module _ {M : Type 1} (𝓤 : URA M) (H : Heap 𝓤) (A : Atoms 𝓤) (W : Given
       begins : ent 𝓤 (⋆ 𝓤 H A (Passed (‵ (froom τ l₃ 0)))) (Wp 𝓤 H C Λ En (from-first #first #test #last (e .ty)) (atReturn 𝓤 H En Post))
       begins =
           qed W (Passed (‵ (froom τ l₃ 0))) ∵ exec ! C Λ En (from-first #first #test #last (e .ty)) (atRet En Post) $
-          nothing ! $ calls-from ! fm (‵ ftrue) (state ∷ vint w64 n ∷ vint w64 0 ∷ []) (λ v. mean 𝓤 H A (Gives 𝓤 H A (c .Of) (λ r v. c .Is r v × k .First r) (‵ ftrue) v)) (k .first)
-          (and-then ! (load ! (from ! (stop !)) (look ! 15 refl)) (and-then ! (load ! (from ! (stop !)) (look ! 9 refl)) (and-then ! (lit ! tt) (no-more !)))) (λ v.
+          nothing ! $ calls-from ! fm (‵ ftrue) (state ∷ vint w64 n ∷ []) (λ v. mean 𝓤 H A (Gives 𝓤 H A (c .Of) (λ r v. c .Is r v × k .First r) (‵ ftrue) v)) (k .first)
+          (and-then ! (load ! (from ! (stop !)) (look ! 15 refl)) (and-then ! (load ! (from ! (stop !)) (look ! 9 refl)) (no-more !))) (λ v.
           use1 W (Gives 𝓤 H A (c .Of) (λ r v. c .Is r v × k .First r) (‵ ftrue) v) (id⊢ 𝓤 _) $ await ! tt $ pick ! (λ r. learn ! (λ made. drop ! $
           land ! (from ! (stop !)) (init ! 10 refl (c .typed r v (made .0))) $ rewrite ! 10 (λ (u : Val). ‵ (fat fullShare τ l₃ 0 u)) (c .tells r v (made .0)) refl $
           by ! (opening r (k .starts r v (made .0) (made .1))))))

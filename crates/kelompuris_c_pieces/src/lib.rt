@@ -1,16 +1,19 @@
 // The piece judge (E6) as C functions, which terminals call to hand a file over in pieces, with a lent row of records. `rust/build-lib` puts them into the
 // one archive, include/kelompuris.h declares them. `kelompuris_b3d_pieces_piece` and `_close` are proved by walks of their code by hand; all that they call
-// is covered (`b3d_pieces_records_loop`). They ask nothing of the caller: with any state and any row they end.
+// is covered (`b3d_pieces_records_tests`, `b3d_pieces_at_once`, `b3d_pieces_records_loop`). They ask nothing of the caller: with any state and any row they
+// end.
 ghost use mathlib.Core.Path.{_≡_};
 ghost use Rattle.b3d_pieces_words.specs.Called.{freshJudge, PieceIs, CloseIs};
 ghost use Rattle.b3d_pieces_records_loop.specs.Rounds.{numbers};
 ghost use Rattle.b3d_pieces_state.specs.States.{stateOf};
+use b3d_pieces_at_once::at_once;
 use b3d_pieces_records_loop::PieceClosed;
 use b3d_pieces_records_loop::closing::closed;
+use b3d_pieces_records_loop::rounds::first;
 use b3d_pieces_records_loop::rounds::last;
 use b3d_pieces_records_loop::rounds::next;
-use b3d_pieces_records_loop::tests::first;
-use b3d_pieces_records_loop::tests::test;
+use b3d_pieces_records_tests::weigh_first;
+use b3d_pieces_records_tests::weigh_next;
 use b3d_pieces_state::OpenRecord;
 use b3d_pieces_state::PieceFed;
 use b3d_pieces_state::PieceState;
@@ -36,12 +39,20 @@ pub extern "C" fn kelompuris_b3d_pieces_piece(
 ) -> PieceFed
     ensures { λ r. ⌜ PieceIs numbers state (now (row .entry)) (now (bytes .entry)) (r .number) (r .place) (r .state) (now (row .exit)) ⌝ }
 {
-    let mut t = first(state, row.len(), bytes.len());
+    let mut w = weigh_first(state, row.len());
+    while w.go {
+        w = weigh_next(w, row[w.get]);
+    }
+    let x = at_once(w, state, bytes);
+    if x.done {
+        return x.fed;
+    }
+    let mut t = first(x, bytes.len());
     while t.go {
         t = next(t, row[t.get], bytes);
         row[t.put] = t.rec;
     }
-    last(t, state)
+    last(t)
 }
 
 // Closes the file and answers what the reader, lent ample tables, says of all bytes joined. Refuses as a piece does, and then gives `state` back.
@@ -49,9 +60,9 @@ pub extern "C" fn kelompuris_b3d_pieces_piece(
 pub extern "C" fn kelompuris_b3d_pieces_close(state: PieceState, row: &[OpenRecord]) -> PieceClosed
     ensures { λ r. ⌜ CloseIs numbers state (now (row .entry)) (r .answer) (r .state) ⌝ }
 {
-    let mut t = first(state, row.len(), 0);
-    while t.go {
-        t = test(t, row[t.get]);
+    let mut w = weigh_first(state, row.len());
+    while w.go {
+        w = weigh_next(w, row[w.get]);
     }
-    closed(t, state)
+    closed(w, state)
 }

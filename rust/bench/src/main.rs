@@ -37,8 +37,10 @@ const TIME: Duration = Duration::from_millis(150);
 const LEAST_RUNS: usize = 11;
 
 fn main() {
-    if std::env::args().nth(1).as_deref() == Some("mend") {
-        return mend::lines();
+    match std::env::args().nth(1).as_deref() {
+        Some("mend") => return mend::lines(),
+        Some("pieces") => return pieces::lines(),
+        _ => {}
     }
     println!(
         "{:<10} {:>6} {:>9} | {:>7} {:>7} {:>7} {:>7} {:>8} {:>7} | {:>10} {:>9}",

@@ -33,6 +33,80 @@ impl Row {
     }
 }
 
+/// The state that says the same as another in the numbers that the close writes: flags are 0
+/// or 1, an unknown tag is 9, an unknown kind 4, and numbers that are not in use are 0. A piece
+/// may keep those that it was handed.
+fn plain(state: State) -> State {
+    let flag = |number: usize| usize::from(number == 1);
+    let held = State {
+        size: state.size,
+        worth: state.worth,
+        letters: state.letters,
+        length: state.length,
+        shut: flag(state.shut),
+        depth: state.depth,
+        ..State::default()
+    };
+    if state.kind == 3 {
+        return State {
+            kind: 3,
+            number: state.number,
+            at: state.at,
+            ..held
+        };
+    }
+    let over = State {
+        kind: 4,
+        version: state.version,
+        slots: state.slots,
+        textures: state.textures,
+        brushes: state.brushes,
+        own: state.own,
+        told: state.told,
+        below: state.below,
+        nodes: state.nodes,
+        meshes: state.meshes,
+        vertices: state.vertices,
+        sets: state.sets,
+        triangles: state.triangles,
+        weights: state.weights,
+        lists: state.lists,
+        keys: state.keys,
+        ..held
+    };
+    if state.kind > 3 {
+        return over;
+    }
+    let live = State {
+        kind: state.kind,
+        at: state.at,
+        start: state.start,
+        inner: OpenChunk {
+            tag: state.inner.tag.min(9),
+            spent: flag(state.inner.spent),
+            ..state.inner
+        },
+        ..over
+    };
+    match state.kind {
+        0 => State {
+            fixed: flag(state.fixed),
+            ..live
+        },
+        1 => State {
+            fixed: flag(state.fixed),
+            index: state.index,
+            came: state.came,
+            value: state.value,
+            first: state.first,
+            second: state.second,
+            third: state.third,
+            ..live
+        },
+        _ => live,
+    }
+}
+
 /// A number: small, at an edge, or any.
 pub fn any_number(rng: &mut Rng) -> usize {
     match rng.below(4) {
@@ -179,7 +253,7 @@ impl Compared {
                 let closed = close(fed.state, row.records());
                 let shut = State {
                     shut: 1,
-                    ..fed.state
+                    ..plain(fed.state)
                 };
                 if state.shut == 1 || closed.state != shut || *row != after {
                     return disagree(format!("{state:?}: taken, then not closed"), bytes);
