@@ -6,6 +6,7 @@ use mathlib.Core.List.{List, _++_}
 use lib.ListN.{length}
 use Rattle.wire.specs.Cursors.{Inside}
 use Rattle.shared_put_or_count.specs.Emits.{Emits}
+use Rattle.b3d_spec.specs.Rules.{rowLimit}
 use Rattle.b3d_rows_open_items.specs.ItemsLeft.{itemRows, Measured}
 use Rattle.b3d_rows_open_items.specs.declared.OpenItems.{OpenItems}
 use Rattle.b3d_rows_past.specs.Past.{itemsPast}
@@ -24,7 +25,7 @@ pub record ItemPairs (k r : ℕ) (a b : List ℕ) (i j : OpenItems) : Type 0 whe
   -- and have the words that their numbers say
   pub measured : Measured k i
   -- there are no more rows than a table may have
-  pub most : r + length (itemRows k a i) ≤ 2097151
+  pub most : r + length (itemRows k a i) ≤ rowLimit
 
 -- what `put_items` returns: the entries of some pairs, the first of them row r of table k, were put or counted from `at` on
 pub record PutItems (k r : ℕ) (a b : List ℕ) (i j : OpenItems) (wet : Bool) (xs : List ℕ) (at : ℕ) (ys : List ℕ) (t : ItemsPut) : Type 0 where

@@ -4,6 +4,7 @@ ghost use mathlib.Core.Path.{_≡_};
 ghost use Prim.Native.Nat.{_+_, _≤_};
 ghost use lib.Dec.{eqb};
 ghost use lib.ListN.{length};
+ghost use Rattle.b3d_pieces_spec.specs.Limits.{mostCounted};
 ghost use Rattle.b3d_pieces_spec.specs.declared.Part.the-variants.{Text as aText, Row as aRow, Skip as aSkip};
 ghost use Rattle.b3d_pieces_skip.specs.Passes.{PassReady};
 ghost use Rattle.b3d_pieces_state.specs.States.{judgeIn};
@@ -33,7 +34,7 @@ pub struct AtOnce {
 
 // Returns `state` after `n` bytes that are only counted.
 fn counted(state: PieceState, n: usize) -> PieceState
-    requires { ⌜ state .size + n ≤ 16777217 ⌝ }
+    requires { ⌜ state .size + n ≤ mostCounted ⌝ }
     ensures { λ r. ⌜ r ≡ countedBy state n ⌝ }
 {
     let mut s = state;
@@ -43,7 +44,7 @@ fn counted(state: PieceState, n: usize) -> PieceState
 
 // Returns `state` after `n` bytes that change only the present place.
 fn advanced(state: PieceState, n: usize) -> PieceState
-    requires { ⌜ (state .size + n ≤ 16777217) × (state .at + n ≤ 16777217) ⌝ }
+    requires { ⌜ (state .size + n ≤ mostCounted) × (state .at + n ≤ mostCounted) ⌝ }
     ensures { λ r. ⌜ r ≡ advancedBy state n ⌝ }
 {
     let mut s = state;
@@ -54,7 +55,7 @@ fn advanced(state: PieceState, n: usize) -> PieceState
 
 // Returns `state` with `y` as the place in its rows, which is `y.from` bytes on.
 fn rows_on(state: PieceState, y: RowPlace) -> PieceState
-    requires { ⌜ state .size + y .from ≤ 16777217 ⌝ }
+    requires { ⌜ state .size + y .from ≤ mostCounted ⌝ }
     ensures { λ r. ⌜ r ≡ rowsBy state y ⌝ }
 {
     let kept = y.kept;

@@ -4,6 +4,7 @@ use Prim.Native.Nat.{ℕ, _<_, _≤_}
 use mathlib.Core.List.{List}
 use lib.ListN.{length, getD}
 use lib.Dec.{ltb}
+use Rattle.b3d_pieces_spec.specs.Limits.{overCounted}
 use Rattle.b3d_pieces_spec.specs.declared.Open.{Open}
 use Rattle.b3d_pieces_spec.specs.Close.{closing}
 use Rattle.b3d_pieces_judge_step.specs.declared.Turn.{Turn}
@@ -96,7 +97,7 @@ pub record LastIs (t : Round) (r : PieceFed) : Type 0 where
 -- what the close's answer asks of the weight of the row
 pub record CloseReady (w : RowWeight) : Type 0 where
   -- `load` is at most 16,777,218
-  pub most : w .load ≤ 16777218
+  pub most : w .load ≤ overCounted
 
 -- the promise of the close's answer r, for the state s and a row of the weight w
 pub record ClosedIs (w : RowWeight) (s : PieceState) (r : PieceClosed) : Type 0 where

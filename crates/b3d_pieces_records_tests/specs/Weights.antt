@@ -4,6 +4,8 @@ use Prim.Native.Nat.{ℕ, _+_, _<_, _≤_}
 use mathlib.Core.Bool.{true, false}
 use lib.Dec.{eqb}
 use Rattle.wire.specs.Test.{if}
+use Rattle.layout.specs.Refusals as refusals
+use Rattle.b3d_pieces_spec.specs.Limits.{mostCounted, overCounted}
 use Rattle.b3d_pieces_spec.specs.declared.Open.{Open}
 use Rattle.b3d_pieces_spec.specs.Good.{Deep, load}
 use Rattle.b3d_pieces_step.specs.Turns.{stackBy}
@@ -29,7 +31,7 @@ pub record Weighed (rs : ℕ → Open) (d n : ℕ) (w : RowWeight) : Type 0 wher
   -- the row has n
   pub records : w .records ≡ n
   -- `load` is at most 16,777,218
-  pub most : w .load ≤ 16777218
+  pub most : w .load ≤ overCounted
   -- while records are weighed, the row has 19
   pub room : w .go ≡ true → 19 ≤ n
   -- while records are weighed, the one at `get` is in use
@@ -41,7 +43,7 @@ pub record Weighed (rs : ℕ → Open) (d n : ℕ) (w : RowWeight) : Type 0 wher
   -- while records are weighed, `load` is the rows that these may still add
   pub sum : w .go ≡ true → load (stackBy rs (w .get)) ≡ w .load
   -- while records are weighed, `load` is at most 16,777,217
-  pub few : w .go ≡ true → w .load ≤ 16777217
+  pub few : w .go ≡ true → w .load ≤ mostCounted
   -- afterwards `load` is the weight of all records in use, if the row has 19 and at most 18 are in use
   pub all : w .go ≡ false → 19 ≤ n → d ≤ 18 → RowFits rs d (w .load)
 
@@ -53,7 +55,7 @@ pub record FirstWeighs (s : PieceState) (n : ℕ) (r : RowWeight) : Type 0 where
 -- what weighing another record asks
 pub record WeighReady (w : RowWeight) : Type 0 where
   -- `load` is at most 16,777,217
-  pub few : w .load ≤ 16777217
+  pub few : w .load ≤ mostCounted
   -- the record to weigh is one of the first 18
   pub get : w .get ≤ 17
 
@@ -69,15 +71,15 @@ pub record WeighIs (w : RowWeight) (rec : OpenRecord) (r : RowWeight) : Type 0 w
 -- r is the number that a call begins with, where j is held and the row has n records rs
 pub record Numbered (j : Judge) (n : ℕ) (rs : ℕ → Open) (r : ℕ) : Type 0 where
   -- fewer than 19 records: 11
-  pub short : n < 19 → r ≡ 11
+  pub short : n < 19 → r ≡ refusals.tooShort
   -- after the close: 15
-  pub shut : 19 ≤ n → j .shut ≡ true → r ≡ 15
+  pub shut : 19 ≤ n → j .shut ≡ true → r ≡ refusals.closed
   -- on 0, state and row are as calls leave them
   pub fine : 19 ≤ n → j .shut ≡ false → r ≡ 0 → CanRun j n rs
   -- on another number they are not
   pub unfit : 19 ≤ n → j .shut ≡ false → (r ≡ 0 → ⊥) → CanRun j n rs → ⊥
   -- that number is 15
-  pub number : 19 ≤ n → j .shut ≡ false → (r ≡ 0 → ⊥) → r ≡ 15
+  pub number : 19 ≤ n → j .shut ≡ false → (r ≡ 0 → ⊥) → r ≡ refusals.closed
 
 -- the promise of the number r, for the judge j and a row of the weight w
 pub record NumberIs (w : RowWeight) (j : Judge) (r : ℕ) : Type 0 where
@@ -86,4 +88,4 @@ pub record NumberIs (w : RowWeight) (j : Judge) (r : ℕ) : Type 0 where
 
 -- the place of a call that begins with n: with 11 the records needed
 unfoldable pub placeOf : ℕ → ℕ
-placeOf n = if (eqb n 11) 19 0
+placeOf n = if (eqb n refusals.tooShort) 19 0
