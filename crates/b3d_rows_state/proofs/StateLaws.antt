@@ -9,8 +9,8 @@ use lib.Dec.{T}
 use Rattle.b3d_rows_nodes.specs.declared.NextCursor.{NextCursor}
 use Rattle.b3d_rows_nodes.specs.declared.RowCursor.{RowCursor}
 use Rattle.b3d_rows.specs.NextRow.{RowCursorAt, Begins, RowNext, RowNextIs, RowNexts}
-use Rattle.b3d_rows_valid.specs.Decides.{Decides}
-use Rattle.b3d_rows_valid.proofs.TestLaws.{alike, told-yes, told-no}
+use Rattle.b3d_rows_valid_items.specs.Decides.{Decides}
+use Rattle.b3d_rows_valid_items.proofs.ItemTestLaws.{alike, told-yes, told-no}
 use Rattle.b3d_rows_state.specs.declared.RowState.{RowState}
 use Rattle.b3d_rows_state.specs.declared.RowGiven.{RowGiven}
 use Rattle.b3d_rows_state.specs.States.{cursorOf, stateOf, noState, CursorOf, stateRows, CanGoOn, Startable, StateStarts, GivenIs, Refused, StateNexts}

@@ -17,7 +17,7 @@ use Rattle.b3d_rows_nodes.specs.NextNode.{Shallow}
 use Rattle.b3d_rows_nodes.specs.declared.NextCursor.{NextCursor}
 use Rattle.b3d_rows_nodes.specs.declared.RowCursor.{RowCursor}
 use Rattle.b3d_rows.specs.NextRow.{rowsFrom, RowCursorAt}
-use Rattle.b3d_rows_valid.specs.Decides.{SixteenCells}
+use Rattle.b3d_rows_valid.specs.Cells.{SixteenCells}
 use Rattle.b3d_rows_state.specs.declared.RowState.{RowState}
 use Rattle.b3d_rows_state.specs.declared.RowGiven.{RowGiven}
 

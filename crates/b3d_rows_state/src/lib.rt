@@ -3,7 +3,7 @@
 ghost use mathlib.Core.Path.{_≡_};
 ghost use Prim.Native.Nat.{_≤_};
 ghost use lib.ListN.{length};
-ghost use Rattle.b3d_rows_valid.specs.Decides.{Decides};
+ghost use Rattle.b3d_rows_valid_items.specs.Decides.{Decides};
 ghost use Rattle.b3d_rows_state.specs.States.{stateOf, noState, CursorOf, CanGoOn, StateStarts, GivenIs, StateNexts};
 use b3d_rows_nodes::NextCursor;
 use b3d_rows_nodes::OpenNodes;

@@ -1,2 +1,2 @@
--- What a test of numbers tells.
-pub mod Decides
+-- The cells of open nodes.
+pub mod Cells

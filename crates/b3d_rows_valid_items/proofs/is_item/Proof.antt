@@ -1,8 +1,8 @@
 -- `is_item` tests number by number.
-use Rattle.b3d_rows_valid.proofs.TestLaws.{item-laws}
+use Rattle.b3d_rows_valid_items.proofs.ItemTestLaws.{item-laws}
 use borrow.Author.Needs.{needs}
-use Rattle.b3d_rows_valid.proofs.is_item.Statement.{statement}
-use Rattle.b3d_rows_valid.proofs.is_item.Tie as tie
+use Rattle.b3d_rows_valid_items.proofs.is_item.Statement.{statement}
+use Rattle.b3d_rows_valid_items.proofs.is_item.Tie as tie
 
 pub is-item-spec : {M : Type 1} → statement M
 is-item-spec =

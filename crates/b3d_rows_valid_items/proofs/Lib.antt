@@ -1,0 +1,2 @@
+-- A law for each need of the functions.
+pub mod ItemTestLaws

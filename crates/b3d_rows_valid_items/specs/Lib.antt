@@ -1,0 +1,2 @@
+-- What a test of numbers tells.
+pub mod Decides
