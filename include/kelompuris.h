@@ -388,10 +388,10 @@ enum {
 /* What is kept between two calls. Bytes are counted from the start of the file. */
 typedef struct {
     uint32_t table;      /* 1 to 10; 0 where no row comes */
-    uint32_t item_flags; /* of the open chunk's items: their flags, texture coordinates and size of one, by which they have */
+    uint32_t item_flags; /* of the open chunk's items: their flags, texture coordinates and size of one */
     uint32_t item_sets;
     uint32_t item_size;
-    size_t item_words;   /* so many words */
+    size_t item_words;   /* how many words each of them has */
     size_t items_at;     /* where the next item stands, and where the items end */
     size_t items_end;
     size_t inner_at;     /* where the next chunk of the open MESH stands, and where they end */

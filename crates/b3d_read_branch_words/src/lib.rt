@@ -28,10 +28,13 @@ fn below(file: &[u8], rows: &[u32], nodes: usize, i: usize) -> usize
         if end + 8 <= name {
             return j - (i + 1);
         }
-        if end < end_of(file, name) {
+        let word = wire::size(rows[row + columns::NODE_BELOW]);
+        if word == 0 {
+            j += 1;
+        } else if end < end_of(file, name) {
             j += 1;
         } else {
-            j += 1 + wire::size(rows[row + columns::NODE_BELOW]);
+            j += 1 + word;
         }
     }
     j - (i + 1)
