@@ -43,7 +43,8 @@ pub record FirstFault (s : List ℕ) : Type 0 where
   -- the mender's answer is the first fault of another kind, whatever room its outputs have
   pub refused : (n p : ℕ) → refusalBy (others (faults s)) ≡ reject n p → (room reportRoom : ℕ) → mendInto room reportRoom s ≡ reject n p
   -- an answer 1 to 9 of the mender is the first fault of another kind: 10 and 11 come only where none is left
-  pub refused-by : (n p : ℕ) → n ≤ refusals.tooDeep → (room reportRoom : ℕ) → mendInto room reportRoom s ≡ reject n p → refusalBy (others (faults s)) ≡ reject n p
+  pub refused-by : (n p : ℕ) → n ≤ refusals.tooDeep → (room reportRoom : ℕ) → mendInto room reportRoom s ≡ reject n p
+      → refusalBy (others (faults s)) ≡ reject n p
   -- where the first fault is of another kind, reader and mender both answer it
   pub same : (n p : ℕ) (l : List Fault) → faults s ≡ other n p ∷ l
       → (room reportRoom : ℕ) → (judge Lenient s ≡ reject n p) × (mendInto room reportRoom s ≡ reject n p)

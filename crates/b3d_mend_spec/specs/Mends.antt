@@ -57,11 +57,13 @@ pub record Mends (s : List ℕ) : Type 0 where
   -- each is of bytes that stay, of a length that follows, or one of the four mends: no other byte changes
   pub four : (x : Mended Scene) → mendJudged s ≡ accept x → All OfFour (x .edits)
   -- the mended file and the report are made of them
-  pub written : (x : Mended Scene) → mendJudged s ≡ accept x → (room reportRoom : ℕ) → mendInto room reportRoom s ≡ roomForBoth room reportRoom (mending (x .edits))
+  pub written : (x : Mended Scene) → mendJudged s ≡ accept x → (room reportRoom : ℕ)
+      → mendInto room reportRoom s ≡ roomForBoth room reportRoom (mending (x .edits))
   -- the report goes by place in the given file
   pub ordered : (x : Mended Scene) → mendJudged s ≡ accept x → Ordered 0 (entries 0 (x .edits))
   -- each mend has one entry: the place where its bytes begin, which of the four, and its bytes as the given and the mended file have them
-  pub entered : (x : Mended Scene) → mendJudged s ≡ accept x → (l r : List Edit) (k : ℕ) (b a : List ℕ) → x .edits ≡ l ++ (mend k b a ∷ r) → Entered s (x .edits) l k b a r
+  pub entered : (x : Mended Scene) → mendJudged s ≡ accept x → (l r : List Edit) (k : ℕ) (b a : List ℕ) → x .edits ≡ l ++ (mend k b a ∷ r)
+      → Entered s (x .edits) l k b a r
   -- the report, read by its own bytes, gives its entries
   pub readable : (x : Mended Scene) → mendJudged s ≡ accept x → readReport (reportBytes (entries 0 (x .edits))) ≡ accept (entries 0 (x .edits))
   -- what the mended file says
@@ -77,7 +79,8 @@ pub record Mends (s : List ℕ) : Type 0 where
   -- the report is at most ten times as long as the given file
   pub report-size : (x : Mended Scene) → mendJudged s ≡ accept x → length (reportBytes (entries 0 (x .edits))) ≤ 10 * length s
   -- an accepted file comes back as it was with an empty report
-  pub unchanged : (t : Scene) → judge Lenient s ≡ accept t → (room reportRoom : ℕ) → mendInto room reportRoom s ≡ roomForBoth room reportRoom (record { file = s; report = [] })
+  pub unchanged : (t : Scene) → judge Lenient s ≡ accept t → (room reportRoom : ℕ)
+      → mendInto room reportRoom s ≡ roomForBoth room reportRoom (record { file = s; report = [] })
   -- a mended file comes back as it was with an empty report
   pub again : (x : Mended Scene) → mendJudged s ≡ accept x → (room reportRoom : ℕ)
       → mendInto room reportRoom (after (x .edits)) ≡ roomForBoth room reportRoom (record { file = after (x .edits); report = [] })
@@ -90,29 +93,36 @@ pub record Mends (s : List ℕ) : Type 0 where
   -- a file that can be mended has no fault of another kind, and no table of the mended file has more rows than the limit
   pub few : (x : Mended Scene) → mendJudged s ≡ accept x → (mendFile s ≡ accept x) × All (FewRows x) tables
   -- 10 is counted over the mended rows, at the lowest table with more than the limit
-  pub limit : (x : Mended Scene) → mendFile s ≡ accept x → (p : ℕ) → firstNot (λ k. leb (length (rows k (x .value))) rowLimit) tables ≡ p → 0 < p → mendJudged s ≡ reject refusals.tooManyRows p
+  pub limit : (x : Mended Scene) → mendFile s ≡ accept x → (p : ℕ) → firstNot (λ k. leb (length (rows k (x .value))) rowLimit) tables ≡ p → 0 < p
+      → mendJudged s ≡ reject refusals.tooManyRows p
   -- outputs with room for both get the mended file and the report
-  pub enough : (x : Mended Scene) → mendJudged s ≡ accept x → (room reportRoom : ℕ) → length (after (x .edits)) ≤ room → length (reportBytes (entries 0 (x .edits))) ≤ reportRoom
+  pub enough : (x : Mended Scene) → mendJudged s ≡ accept x → (room reportRoom : ℕ) → length (after (x .edits)) ≤ room
+      → length (reportBytes (entries 0 (x .edits))) ≤ reportRoom
       → mendInto room reportRoom s ≡ accept (mending (x .edits))
   -- 11, with the mended file's size as its place, where the output for the file is shorter
-  pub file-short : (x : Mended Scene) → mendJudged s ≡ accept x → (room reportRoom : ℕ) → room < length (after (x .edits)) → mendInto room reportRoom s ≡ reject refusals.tooShort (length (after (x .edits)))
+  pub file-short : (x : Mended Scene) → mendJudged s ≡ accept x → (room reportRoom : ℕ) → room < length (after (x .edits))
+      → mendInto room reportRoom s ≡ reject refusals.tooShort (length (after (x .edits)))
   -- 11, with the report's size as its place, where the file has room and the output for the report is shorter
-  pub report-short : (x : Mended Scene) → mendJudged s ≡ accept x → (room reportRoom : ℕ) → length (after (x .edits)) ≤ room → reportRoom < length (reportBytes (entries 0 (x .edits)))
+  pub report-short : (x : Mended Scene) → mendJudged s ≡ accept x → (room reportRoom : ℕ) → length (after (x .edits)) ≤ room
+      → reportRoom < length (reportBytes (entries 0 (x .edits)))
       → mendInto room reportRoom s ≡ reject refusals.tooShort (length (reportBytes (entries 0 (x .edits))))
 
 -- What a caller sees, who lends the output `out` for the mended file of s and the output `report` for the report.
 pub record MenderSays (s out report : List ℕ) : Type 0 where
   -- a file that can be mended, with room for both: 0, both sizes, and each output holds what was written, then what stood there
-  pub mended : (x : Mended Scene) → mendJudged s ≡ accept x → length (after (x .edits)) ≤ length out → length (reportBytes (entries 0 (x .edits))) ≤ length report
+  pub mended : (x : Mended Scene) → mendJudged s ≡ accept x → length (after (x .edits)) ≤ length out
+      → length (reportBytes (entries 0 (x .edits))) ≤ length report
       → (mendAnswer s out report ≡ record { number = 0; place = 0; size = length (after (x .edits)); «report_size» = length (reportBytes (entries 0 (x .edits))) })
       × (mendOutput s out report ≡ over (after (x .edits)) out)
       × (mendReport s out report ≡ over (reportBytes (entries 0 (x .edits))) report)
   -- 0 only where the file can be mended and there is room for both
-  pub zero : mendAnswer s out report .number ≡ 0 → (x : Mended Scene) × (mendJudged s ≡ accept x) × (length (after (x .edits)) ≤ length out) × (length (reportBytes (entries 0 (x .edits))) ≤ length report)
+  pub zero : mendAnswer s out report .number ≡ 0 → (x : Mended Scene) × (mendJudged s ≡ accept x) × (length (after (x .edits)) ≤ length out)
+      × (length (reportBytes (entries 0 (x .edits))) ≤ length report)
   -- the number is 0 to 11
   pub most : mendAnswer s out report .number ≤ refusals.tooShort
   -- a refused call changes neither output, and both sizes are 0
-  pub untouched : (mendAnswer s out report .number ≡ 0 → ⊥) → (mendOutput s out report ≡ out) × (mendReport s out report ≡ report) × (mendAnswer s out report .size ≡ 0) × (mendAnswer s out report .«report_size» ≡ 0)
+  pub untouched : (mendAnswer s out report .number ≡ 0 → ⊥) → (mendOutput s out report ≡ out) × (mendReport s out report ≡ report)
+      × (mendAnswer s out report .size ≡ 0) × (mendAnswer s out report .«report_size» ≡ 0)
   -- an output as long as the file has room for the mended one: with such an output 11 is the report's, with its size as the place
   pub report-short : AllBytes s → length s ≤ length out → mendAnswer s out report .number ≡ refusals.tooShort
       → (x : Mended Scene) × (mendJudged s ≡ accept x) × (mendAnswer s out report .place ≡ length (reportBytes (entries 0 (x .edits))))

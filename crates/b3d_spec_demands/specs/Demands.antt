@@ -89,7 +89,8 @@ pub record Writing (mode : Mode) (T : Lent) (ns : List ℕ) : Type 0 where
   -- one file is written into every output that has room for it
   pub enough : (room : ℕ) (b : List ℕ) → write mode T ns room ≡ accept b → (more : ℕ) → length b ≤ more → write mode T ns more ≡ accept b
   -- an output with less room gets 11 and the file's size, which comes after 12
-  pub short : (room : ℕ) (b : List ℕ) → write mode T ns room ≡ accept b → (less : ℕ) → less < length b → write mode T ns less ≡ reject refusals.tooShort (length b)
+  pub short : (room : ℕ) (b : List ℕ) → write mode T ns room ≡ accept b → (less : ℕ) → less < length b
+      → write mode T ns less ≡ reject refusals.tooShort (length b)
   -- an output as long as some file that has the tables has room for the file written
   pub given-room : (s : List ℕ) → AllBytes s → Has mode s T ns → (b : List ℕ) × (write mode T ns (length s) ≡ accept b)
 
