@@ -11,6 +11,7 @@ use b3d_pieces_item_steps::Now;
 use b3d_pieces_judge_step::Judge;
 use b3d_pieces_judge_step::taking::nothing;
 use b3d_pieces_spec::LENT_WORDS;
+use b3d_pieces_spec::RECORDS;
 use b3d_pieces_spec::RECORDS_NEEDED;
 use b3d_pieces_valid_state::state::judge_valid;
 use b3d_pieces_words_loop::run;
@@ -71,7 +72,7 @@ pub fn judge_close(state: Judge, row: &[usize]) -> Closed
     ensures { λ r. ⌜ CloseIs words state (now (row .entry)) (r .answer) (r .judge) ⌝ }
 {
     if row.len() < LENT_WORDS {
-        let few = refused(refusals::TOO_SHORT, RECORDS_NEEDED);
+        let few = refused(refusals::TOO_SHORT, RECORDS);
         return Closed {
             answer: few,
             judge: state,
