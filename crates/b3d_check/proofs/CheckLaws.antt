@@ -9,8 +9,8 @@ use lib.Dec.{T, leb, eqb, leb→le, eqb→eq}
 use borrow.Author.Tests.{not-false}
 use Rattle.wire.specs.Test.{if}
 use Rattle.layout.specs.WellFormed.{all}
-use Rattle.layout.proofs.Testing.{and-true, and-assoc}
-use Rattle.layout.proofs.Outs.{if-case}
+use Rattle.layout.proofs.TestLaws.{and-true, and-assoc}
+use Rattle.layout.proofs.ResultLaws.{if-case}
 use Rattle.b3d_spec.specs.Colours.{passes}
 use Rattle.b3d_spec.specs.Rebuild.{Lent, lentRows, hasCountedRows, cut}
 use Rattle.b3d_spec.specs.Tables.{width, tables, nodeTables, nodeWidth}
@@ -19,13 +19,13 @@ use Rattle.b3d_spec.specs.declared.Mode.{Mode}
 use Rattle.b3d_spec.specs.declared.Mode.the-variants.{Strict, Lenient}
 use Rattle.b3d_check_spec.specs.Check.{nameValid, brushValid, slotsValid, treeValid, check, checkIn}
 use Rattle.b3d_check_rows.specs.Rows.{rowsAt}
-use Rattle.b3d_check_rows.proofs.Ands.{and-stop, and-go}
-use Rattle.b3d_check_rows.proofs.Rows.{rows-whole}
+use Rattle.b3d_check_rows.proofs.AndLaws.{and-stop, and-go}
+use Rattle.b3d_check_rows.proofs.RowCellLaws.{rows-whole}
 use Rattle.b3d_check_node_counts.specs.Parts.{partRows}
 use Rattle.b3d_check_table_lengths.specs.LentRooms.{partCounts, fitsIn, rooms}
 use Rattle.b3d_check_colours.specs.LentColours.{coloursPart}
 use Rattle.b3d_check.specs.Lent.{lentOf}
-use Rattle.b3d_check.proofs.SameRows.{Agree, same-tree}
+use Rattle.b3d_check.proofs.SameRowLaws.{Agree, same-tree}
 
 -- ---- what the parts require
 

@@ -1,4 +1,4 @@
 -- The laws of the whole check.
-pub mod SameRows
+pub mod SameRowLaws
 pub mod CheckLaws
-pub mod Verdict
+pub mod VerdictLaws

@@ -1,2 +1,2 @@
 -- Rows by the runs that are left out.
-pub mod Cleaning
+pub mod CleanRowLaws

@@ -1,3 +1,3 @@
 -- The laws of rows with colours, and of modes.
-pub mod ColourRows
-pub mod ColourModes
+pub mod ColourRowLaws
+pub mod ColourModeLaws

@@ -26,7 +26,7 @@ fn row_coloured(t: &[u32], width: usize, word: usize, i: usize) -> bool
 }
 
 // Returns whether in each of the first `count` rows of `t` the four words from word `word` on are colours from 0 to 1; a row has `width` words.
-pub fn rows_coloured(t: &[u32], width: usize, word: usize, count: usize) -> bool
+fn rows_coloured(t: &[u32], width: usize, word: usize, count: usize) -> bool
     requires { ⌜ (word + 4 ≤ width) × (width * count ≤ length (now t)) ⌝ }
     ensures { λ r. ⌜ r ≡ all (coloured word) (rowsAt width 0 count (now (t .entry))) ⌝ }
 {

@@ -9,13 +9,13 @@ use lib.Dec.{leb, ltb, eqb}
 use borrow.Author.Tests.{lt-ltb, le-ltb, lt-leb, le-leb}
 use Rattle.layout.specs.WellFormed.{all}
 use Rattle.layout.specs.Rules.{NONE}
-use Rattle.layout.proofs.Testing.{and-assoc}
+use Rattle.layout.proofs.TestLaws.{and-assoc}
 use Rattle.b3d_spec.specs.Mask.{vertexMask}
 use Rattle.b3d_spec.specs.declared.Counts.{Counts}
 use Rattle.b3d_check_spec.specs.Check.{clean, rowsValid, groupsValid, setValid, meshValid}
 use Rattle.b3d_check_rows.specs.Rows.{rowAt, rowsAt}
-use Rattle.b3d_check_rows.proofs.Ands.{and-stop, and-go}
-use Rattle.b3d_check_rows.proofs.Rows.{row-cell, row-first, rows-length, rows-take}
+use Rattle.b3d_check_rows.proofs.AndLaws.{and-stop, and-go}
+use Rattle.b3d_check_rows.proofs.RowCellLaws.{row-cell, row-first, rows-length, rows-take}
 use Rattle.b3d_check_mesh.specs.Parts.{meshRowHere, meshSets}
 
 pub head-cells : (brushes node first i own from : ℕ) (t : List ℕ) → own ≡ getD t (9 * i) 0 → from ≡ getD t (9 * i + 5) 0

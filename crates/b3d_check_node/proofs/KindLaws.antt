@@ -8,15 +8,15 @@ use lib.ListN.{drop, getD}
 use lib.Dec.{ltb, eqb}
 use borrow.Author.Tests.{ne-eqb, lt-ltb, le-ltb}
 use Rattle.wire.specs.Test.{if}
-use Rattle.layout.proofs.Testing.{and-assoc}
+use Rattle.layout.proofs.TestLaws.{and-assoc}
 use Rattle.b3d_spec.specs.Rebuild.{cut}
 use Rattle.b3d_spec.specs.Rules.{weightRow}
 use Rattle.b3d_spec.specs.declared.Counts.{Counts}
 use Rattle.b3d_spec.specs.Tables.{nodeWidth}
 use Rattle.b3d_check_spec.specs.Check.{keeps, rowsValid, meshValid, kindValid}
 use Rattle.b3d_check_rows.specs.Rows.{rowAt, rowsAt}
-use Rattle.b3d_check_rows.proofs.Ands.{and-stop, and-go}
-use Rattle.b3d_check_rows.proofs.Rows.{rows-length, rows-from, rows-first}
+use Rattle.b3d_check_rows.proofs.AndLaws.{and-stop, and-go}
+use Rattle.b3d_check_rows.proofs.RowCellLaws.{rows-length, rows-from, rows-first}
 use Rattle.b3d_check_node_counts.proofs.AfterLaws.{kind-cell}
 use Rattle.b3d_check_node_counts.specs.Parts.{partRows, Below}
 

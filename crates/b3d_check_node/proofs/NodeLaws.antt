@@ -10,14 +10,14 @@ use lib.Dec.{eqb}
 use borrow.Author.Tests.{eq-eqb, ne-eqb}
 use Rattle.wire.specs.Test.{if}
 use Rattle.layout.specs.WellFormed.{all}
-use Rattle.layout.proofs.Testing.{and-true}
+use Rattle.layout.proofs.TestLaws.{and-true}
 use Rattle.b3d_spec.specs.Rebuild.{ownedBy}
 use Rattle.b3d_spec.specs.declared.Counts.{Counts}
 use Rattle.b3d_spec.specs.Tables.{nodeWidth}
 use Rattle.b3d_check_spec.specs.Check.{groupsValid, nameValid, kindValid, keyListValid, animValid, nodeValid}
-use Rattle.b3d_check_spec.proofs.Check.Rows.{cells, cells-are}
+use Rattle.b3d_check_spec.proofs.Check.RowLaws.{cells, cells-are}
 use Rattle.b3d_check_rows.specs.Rows.{rowAt, rowsAt}
-use Rattle.b3d_check_rows.proofs.Rows.{row-length, rows-from}
+use Rattle.b3d_check_rows.proofs.RowCellLaws.{row-length, rows-from}
 use Rattle.b3d_check_rows.proofs.RowLaws.{name-cells}
 use Rattle.b3d_check_row_runs.specs.Mine.{MineTo}
 use Rattle.b3d_check_node_counts.proofs.AfterLaws.{kind-cell}

@@ -9,13 +9,13 @@ use lib.Dec.{eqb}
 use mir.Syntax.{w64}
 use mir.Val.{Fits}
 use Rattle.wire.specs.Test.{if}
-use Rattle.layout.proofs.Outs.{if-case}
+use Rattle.layout.proofs.ResultLaws.{if-case}
 use Rattle.b3d_spec.specs.Rebuild.{Rows, ownedBy}
 use Rattle.b3d_spec.specs.declared.Counts.{Counts}
 use Rattle.b3d_spec.specs.Tables.{nodeWidth}
 use Rattle.b3d_check_spec.specs.CellCounts.{endOf, meshCounts, weightCounts, kindCounts, nodeCounts, cellCounts}
 use Rattle.b3d_check_rows.specs.Rows.{rowAt, rowsAt}
-use Rattle.b3d_check_rows.proofs.Rows.{row-cell, rows-from, rows-length}
+use Rattle.b3d_check_rows.proofs.RowCellLaws.{row-cell, rows-from, rows-length}
 use Rattle.b3d_check_row_runs.specs.Mine.{MineTo}
 use Rattle.b3d_check_spec.specs.Rooms.{Limited}
 use Rattle.b3d_check_node_counts.specs.Parts.{partRows, Below}

@@ -11,7 +11,7 @@ use Rattle.wire.specs.Test.{if}
 use Rattle.b3d_spec.specs.declared.Counts.{Counts}
 use Rattle.b3d_check_spec.specs.CellCounts.{endOf, meshCounts, weightCounts, kindCounts}
 use Rattle.b3d_check_rows.specs.Rows.{rowAt, rowsAt}
-use Rattle.b3d_check_rows.proofs.Rows.{row-cell, rows-from, rows-first, rows-take}
+use Rattle.b3d_check_rows.proofs.RowCellLaws.{row-cell, rows-from, rows-first, rows-take}
 use Rattle.b3d_check_spec.specs.Rooms.{Limited}
 use Rattle.b3d_check_node_counts.specs.Parts.{partRows, Below, MeshEnds}
 

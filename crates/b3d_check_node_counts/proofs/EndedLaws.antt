@@ -3,10 +3,10 @@ use mathlib.Core.Path.{_≡_}
 use Prim.Native.Nat.{ℕ}
 use mathlib.Core.List.{List}
 use Rattle.wire.specs.Test.{if}
-use Rattle.layout.proofs.Testing.{and-true}
+use Rattle.layout.proofs.TestLaws.{and-true}
 use Rattle.b3d_spec.specs.Tables.{reached}
 use Rattle.b3d_spec.specs.declared.Counts.{Counts}
-use Rattle.b3d_spec.proofs.Rows.RowLists.{cut-length}
+use Rattle.b3d_spec.proofs.Rows.RowListLaws.{cut-length}
 use Rattle.b3d_check_spec.specs.Check.{spent}
 use Rattle.b3d_check_node_counts.specs.Parts.{partRows}
 use Rattle.b3d_check_node_counts.specs.Ended.{ended}

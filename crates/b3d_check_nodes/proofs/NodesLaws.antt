@@ -10,7 +10,7 @@ use borrow.Author.Tests.{lt-ltb, le-ltb}
 use mir.Syntax.{w64}
 use mir.Val.{Fits}
 use Rattle.wire.specs.Test.{if}
-use Rattle.layout.proofs.Outs.{if-case}
+use Rattle.layout.proofs.ResultLaws.{if-case}
 use Rattle.b3d_spec.specs.Rebuild.{Rows}
 use Rattle.b3d_spec.specs.Rules.{levels}
 use Rattle.b3d_spec.specs.Tables.{nodeWidth}
@@ -18,13 +18,13 @@ use Rattle.b3d_spec.specs.declared.Counts.{Counts}
 use Rattle.b3d_check_spec.specs.CellCounts.{meshCounts, weightCounts, kindCounts, nodeCounts, cellCounts, cellBoneLimit}
 use Rattle.b3d_check_spec.specs.Check.{nodeValid, spent, Level, upTo, endFrom, boneLimitOf, nodesValid}
 use Rattle.b3d_check_rows.specs.Rows.{rowAt, rowsAt}
-use Rattle.b3d_check_rows.proofs.Ands.{and-stop, and-go}
-use Rattle.b3d_check_rows.proofs.Rows.{row-cell, rows-none, rows-next}
+use Rattle.b3d_check_rows.proofs.AndLaws.{and-stop, and-go}
+use Rattle.b3d_check_rows.proofs.RowCellLaws.{row-cell, rows-none, rows-next}
 use Rattle.b3d_check_spec.specs.Rooms.{Limited}
 use Rattle.b3d_check_node_counts.specs.Parts.{partRows, Below}
 use Rattle.b3d_check_node_counts.proofs.AfterLaws.{kind-keeps}
 use Rattle.b3d_check_node_counts.proofs.EndedLaws.{ended-spent}
-use Rattle.b3d_check_node.proofs.Bounds.{after-below}
+use Rattle.b3d_check_node.proofs.BoundLaws.{after-below}
 use Rattle.b3d_check_node_counts.specs.Ended.{ended}
 use Rattle.b3d_check_parents.specs.Path.{pathOf, CutTo, Ending}
 use Rattle.b3d_check_parents.proofs.PathLaws.{path-length, path-told, path-set}

@@ -13,11 +13,11 @@ use Rattle.b3d_spec.specs.declared.Counts.{Counts}
 use Rattle.b3d_check_spec.specs.CellCounts.{nodeCounts, cellCounts}
 use Rattle.b3d_check_spec.specs.Check.{nodeValid, endFrom, nodesValid, treeValid}
 use Rattle.b3d_check_rows.specs.Rows.{rowAt, rowsAt}
-use Rattle.b3d_check_rows.proofs.Ands.{and-stop, and-go}
-use Rattle.b3d_check_rows.proofs.Rows.{row-cell, rows-next, rows-whole}
+use Rattle.b3d_check_rows.proofs.AndLaws.{and-stop, and-go}
+use Rattle.b3d_check_rows.proofs.RowCellLaws.{row-cell, rows-next, rows-whole}
 use Rattle.b3d_check_node_counts.specs.Parts.{partRows, Below}
 use Rattle.b3d_check_node_counts.proofs.AfterLaws.{kind-keeps}
-use Rattle.b3d_check_node.proofs.Bounds.{after-below}
+use Rattle.b3d_check_node.proofs.BoundLaws.{after-below}
 use Rattle.b3d_check_node_counts.specs.Ended.{ended}
 use Rattle.b3d_check_node_counts.proofs.EndedLaws.{ended-spent}
 use Rattle.b3d_check_nodes.proofs.NodesLaws.{counts-few}

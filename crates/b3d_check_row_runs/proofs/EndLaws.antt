@@ -7,9 +7,9 @@ use lib.ListN.{getD}
 use mir.Syntax.{w64}
 use mir.Val.{Fits}
 use Rattle.b3d_check_spec.specs.CellCounts.{endOf}
-use Rattle.b3d_check_spec.proofs.Below.{end-rises}
+use Rattle.b3d_check_spec.proofs.BelowLaws.{end-rises}
 use Rattle.b3d_check_rows.specs.Rows.{rowsAt}
-use Rattle.b3d_check_rows.proofs.Rows.{row-cell, rows-none, rows-next}
+use Rattle.b3d_check_rows.proofs.RowCellLaws.{row-cell, rows-none, rows-next}
 
 end-cons : (r : ℕ) (x : List ℕ) (xs : List (List ℕ)) → endOf r (x ∷ xs) ≡ endOf (r + getD x 3 0) xs
 unfolding endOf

@@ -12,7 +12,7 @@ use Rattle.b3d_spec.specs.Mask.{keyMask}
 use Rattle.b3d_spec.specs.Rules.{triangleRow}
 use Rattle.b3d_check_spec.specs.Check.{keeps, clean, setValid, keyListValid}
 use Rattle.b3d_check_rows.specs.Rows.{rowAt, rowsAt}
-use Rattle.b3d_check_rows.proofs.Rows.{row-cell, row-first}
+use Rattle.b3d_check_rows.proofs.RowCellLaws.{row-cell, row-first}
 use Rattle.b3d_check_row_runs.specs.declared.Run.{Run}
 use Rattle.b3d_check_row_runs.specs.declared.Run.the-variants.{Keys, Triangles}
 use Rattle.b3d_check_row_runs.specs.Items.{runWidth, runTest}

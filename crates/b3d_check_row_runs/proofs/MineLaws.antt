@@ -10,7 +10,7 @@ use borrow.Author.Tests.{not-true, not-false}
 use Rattle.wire.specs.Test.{if}
 use Rattle.b3d_spec.specs.Rebuild.{ownedBy}
 use Rattle.b3d_check_rows.specs.Rows.{rowAt, rowsAt}
-use Rattle.b3d_check_rows.proofs.Rows.{row-first, rows-none, rows-next}
+use Rattle.b3d_check_rows.proofs.RowCellLaws.{row-first, rows-none, rows-next}
 use Rattle.b3d_check_row_runs.specs.Mine.{MineTo}
 
 -- the rows before i are the node's

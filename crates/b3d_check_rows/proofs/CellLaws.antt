@@ -9,8 +9,8 @@ use lib.Seq.{drop-cons}
 use Rattle.layout.specs.WellFormed.{all}
 use Rattle.b3d_check_rows.specs.Cells.{ofCell}
 use Rattle.b3d_check_rows.specs.Rows.{rowAt, rowsAt}
-use Rattle.b3d_check_rows.proofs.Loops.{AllFrom, all-none, all-done, all-stop, all-next}
-use Rattle.b3d_check_rows.proofs.Rows.{row-first, rows-none, rows-next}
+use Rattle.b3d_check_rows.proofs.LoopLaws.{AllFrom, all-none, all-done, all-stop, all-next}
+use Rattle.b3d_check_rows.proofs.RowCellLaws.{row-first, rows-none, rows-next}
 
 module _ (g : ℕ → Bool) where
   cell-is : (i : ℕ) (ws : List ℕ) → g (getD ws i 0) ≡ ofCell g (rowAt 1 i ws)

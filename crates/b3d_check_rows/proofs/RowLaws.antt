@@ -11,15 +11,15 @@ use mir.Syntax.{w64}
 use mir.Val.{Fits}
 use Rattle.layout.specs.WellFormed.{all}
 use Rattle.layout.specs.Rules.{Rule}
-use Rattle.layout.proofs.Testing.{and-true}
+use Rattle.layout.proofs.TestLaws.{and-true}
 use Rattle.b3d_spec.specs.Rules.{triangleRow, weightRow}
 use Rattle.b3d_check_spec.specs.Check.{keeps, nameValid}
-use Rattle.b3d_check_spec.proofs.Check.Rows.{cells, cells-are}
+use Rattle.b3d_check_spec.proofs.Check.RowLaws.{cells, cells-are}
 use Rattle.b3d_check_rows.specs.declared.Ids.{Ids}
 use Rattle.b3d_check_rows.specs.declared.Ids.the-variants.{Triangles, Weights}
 use Rattle.b3d_check_rows.specs.IdRows.{idWidth, idRow}
 use Rattle.b3d_check_rows.specs.Rows.{rowAt}
-use Rattle.b3d_check_rows.proofs.Rows.{row-cell, row-first, row-length}
+use Rattle.b3d_check_rows.proofs.RowCellLaws.{row-cell, row-first, row-length}
 
 -- a row of w words as its cells
 keeps-cells : (rs : List Rule) (w i : ℕ) (ws : List ℕ) → w * i + w ≤ length ws → keeps rs (cells (rowAt w i ws) 0 w) ≡ keeps rs (rowAt w i ws)

@@ -1,14 +1,14 @@
 -- Each test of specs/Check with what it says, from a row's cells up to the whole: `Verdict` has that `check` is the verdict of `rebuild`.
-pub mod Testing
-pub mod Rows
-pub mod Masks
-pub mod Runs
-pub mod Meshes
-pub mod Kinds
-pub mod Nodes
-pub mod Counts
-pub mod Walk
-pub mod Parents
-pub mod Forests
-pub mod Brushes
-pub mod Verdict
+pub mod TestLaws
+pub mod RowLaws
+pub mod MaskLaws
+pub mod GroupLaws
+pub mod MeshLaws
+pub mod KindLaws
+pub mod NodeLaws
+pub mod CountLaws
+pub mod WalkLaws
+pub mod ParentLaws
+pub mod ForestLaws
+pub mod MaterialLaws
+pub mod VerdictLaws

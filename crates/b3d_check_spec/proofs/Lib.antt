@@ -1,4 +1,4 @@
 -- That the verdict of specs/Check is that of `rebuild`, and how code walks the rows of tables that are sound.
 pub mod Check
-pub mod Below
-pub mod Places
+pub mod BelowLaws
+pub mod PlaceLaws

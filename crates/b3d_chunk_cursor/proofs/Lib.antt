@@ -1,5 +1,5 @@
 -- The laws of the steps: what the functions rest on, and what their answers say to callers.
-pub mod Tagging
-pub mod Passing
-pub mod Nexts
-pub mod Names
+pub mod TagLaws
+pub mod PassLaws
+pub mod NextLaws
+pub mod NamedLaws

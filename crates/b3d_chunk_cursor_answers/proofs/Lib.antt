@@ -1,2 +1,2 @@
 -- A cursor's answers are what the definitions read.
-pub mod Told
+pub mod AnswerLaws

@@ -1,4 +1,4 @@
 -- Its laws, and those of the chunks that a cursor has left.
-pub mod Steps
-pub mod Stepping
-pub mod Rests
+pub mod PermitLaws
+pub mod InsideLaws
+pub mod RestLaws

@@ -30,7 +30,7 @@ permitFor k q (next.Chunk t p b n) = permitOf (nest.next (nest.nesting k) (nest.
 -- the chunks that an answer on s stands for: the one found, and those after it, inside a chunk of tag k whose header is at `head`
 abbrev pub chunksOf : List ℕ → Tag → ℕ → Enclosed → Chunks
 chunksOf s k head (enclosed.Chunk t p b n z) = chunk t p (left b s) (order k head (reachedOf z) (split (n .at) (left n s)))
-chunksOf s k head (enclosed.Not e p) = stop e p
+chunksOf s k head (enclosed.Reject e p) = stop e p
 chunksOf s k head enclosed.End = done
 
 -- the next chunk from c on, of tag t, with its header at p, its body b and the cursor n after it, may stand inside a chunk of tag k
@@ -43,7 +43,7 @@ pub record Stood (s : List ℕ) (k : Tag) (q z : Reached) (c : Cursor) (t : Tag)
 -- where an answer's parts stand: a chunk that may stand from c on; a refusal's place not past the end of c; at the end no chunk is left
 abbrev pub EnclosedIn : List ℕ → Tag → Reached → Cursor → Enclosed → Type 0
 EnclosedIn s k q c (enclosed.Chunk t p b n z) = Stood s k q z c t p b n
-EnclosedIn s k q c (enclosed.Not e p) = p ≤ c .end
+EnclosedIn s k q c (enclosed.Reject e p) = p ≤ c .end
 EnclosedIn s k q c enclosed.End = NextIs s c next.Done
 
 -- r is what the nesting rule makes of the bytes of c, inside a chunk of tag k whose header is at `head`, after q

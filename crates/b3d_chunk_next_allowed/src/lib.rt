@@ -23,7 +23,7 @@ pub enum Enclosed {
         next: Cursor,
         reached: Reached,
     },
-    Not(u32, usize),
+    Reject(u32, usize),
     End,
 }
 
@@ -65,9 +65,9 @@ fn by_permit(
     ensures { λ r. ⌜ EnclosedIs (now (s .entry)) enclosing head reached from r ⌝ }
 {
     match found {
-        Next::Cut(p) => Enclosed::Not(refusals::CUT_CHUNK, p),
+        Next::Cut(p) => Enclosed::Reject(refusals::CUT_CHUNK, p),
         Next::Done => match permit {
-            Permit::No => Enclosed::Not(refusals::NO_VRTS_OR_TRIS, head),
+            Permit::No => Enclosed::Reject(refusals::NO_VRTS_OR_TRIS, head),
             Permit::Yes(_) => Enclosed::End,
         },
         Next::Chunk {
@@ -76,7 +76,7 @@ fn by_permit(
             body,
             next,
         } => match permit {
-            Permit::No => Enclosed::Not(refusals::NESTING, at),
+            Permit::No => Enclosed::Reject(refusals::NESTING, at),
             Permit::Yes(z) => Enclosed::Chunk {
                 tag,
                 at,

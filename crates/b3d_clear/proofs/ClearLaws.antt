@@ -6,7 +6,7 @@ use mathlib.Core.List.{List}
 use lib.ListN.{length}
 use Rattle.wire.specs.Bytes.{AllBytes, over}
 use Rattle.layout.specs.Result.{Result, accept, reject, _>>=_}
-use Rattle.layout.proofs.Outs.{by-check}
+use Rattle.layout.proofs.ResultLaws.{by-check}
 use Rattle.layout.specs.Rows.{sizeFits, mostBytes}
 use Rattle.shared_output.specs.Writing.{Room, Put}
 use Rattle.b3d_spec.specs.declared.Mode.the-variants.{Lenient}
@@ -23,12 +23,12 @@ use Rattle.b3d_judge.specs.Answers.{verdictOf}
 use Rattle.b3d_judge_file_body.specs.declared.Summary.{Summary}
 use Rattle.b3d_judge_file_body.specs.declared.Verdict.{Verdict}
 use Rattle.b3d_judge_file_body.specs.declared.Verdict.the-variants as verdict
-use Rattle.b3d_judge.proofs.Verdicts.{was-bad}
+use Rattle.b3d_judge.proofs.VerdictLaws.{was-bad}
 use Rattle.b3d_clear_spec.specs.Copies.{fileCopy}
-use Rattle.b3d_clear_spec.proofs.Files.{file-copied}
-use Rattle.b3d_spec.proofs.Refusals.{judge-place}
+use Rattle.b3d_clear_spec.proofs.FileLaws.{file-copied}
+use Rattle.b3d_spec.proofs.RefusalLaws.{judge-place}
 use Rattle.b3d_spec_output_answer.specs.Sizes.{OfSize}
-use Rattle.b3d_spec_output_answer.proofs.SizeAnswers.{room-short, room-fits, fits-where, short-where}
+use Rattle.b3d_spec_output_answer.proofs.SizeAnswerLaws.{room-short, room-fits, fits-where, short-where}
 
 -- ---- what the judge says
 
@@ -38,7 +38,7 @@ record Gave (o : Result Scene) (size : ℕ) : Type 0 where
   is : o ≡ accept scene
   long : size ≡ length (copy scene)
 
-was-good : (o : Result Scene) (x : Summary) → verdictOf o ≡ verdict.Good x → Gave o (x .tally .copy)
+was-good : (o : Result Scene) (x : Summary) → verdictOf o ≡ verdict.Accept x → Gave o (x .tally .copy)
 was-good (accept t) x e = let z : x .tally ≡ tallyOf t = cc in record { scene = t; is = refl; long = ap (λ (y : Tally). y .copy) z }
 was-good (reject m q) x e = let z : _≡_ {A = ℕ} 0 1 = cc in absurd (omega arith)
 
@@ -59,7 +59,7 @@ module _ (s out : List ℕ) where
 
   module _ (r : Verdict) (e : r ≡ verdictOf (judge Lenient s)) where
     -- refused
-    module _ (n p : ℕ) (z : r ≡ verdict.Bad n p) where
+    module _ (n p : ℕ) (z : r ≡ verdict.Reject n p) where
       refused : judge Lenient s ≡ reject n p
       refused = was-bad (judge Lenient s) n p (sym e ∙ z)
 
@@ -78,7 +78,7 @@ module _ (s out : List ℕ) where
       clear-untouched = left-so (reject n p) stopped out refl
 
     -- accepted
-    module _ (x : Summary) (z : r ≡ verdict.Good x) (all : AllBytes s) where
+    module _ (x : Summary) (z : r ≡ verdict.Accept x) (all : AllBytes s) where
       gave : Gave (judge Lenient s) (x .tally .copy)
       gave = was-good (judge Lenient s) x (sym e ∙ z)
 

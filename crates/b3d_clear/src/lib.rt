@@ -12,12 +12,12 @@ pub fn clear(file: &[u8], out: &mut [u8]) -> Written
     ensures { λ _. ⌜ now (out .exit) ≡ clearOutput (now (file .entry)) (now (out .entry)) ⌝ }
 {
     match b3d_judge::judge(Mode::Lenient, file) {
-        Verdict::Bad(number, place) => Written {
+        Verdict::Reject(number, place) => Written {
             number,
             place: shared_table_words::cell(place),
             size: 0,
         },
-        Verdict::Good(x) => {
+        Verdict::Accept(x) => {
             b3d_judge::are_bytes(file);
             let answer = b3d_spec_output_answer::answer_of(x.tally.copy, out.len());
             if answer.number != 0 {

@@ -11,11 +11,11 @@ use Rattle.wire.specs.declared.Number.the-variants as number
 use Rattle.layout.specs.Rules.{any}
 use Rattle.layout.specs.Rows.{mostBytes}
 use Rattle.shared_output.specs.Writing.{Room, Put}
-use Rattle.shared_output.proofs.Joining.{none-put}
+use Rattle.shared_output.proofs.PartLaws.{none-put}
 use Rattle.b3d_spec.specs.Tags.{code}
 use Rattle.b3d_spec.specs.declared.Tag.the-variants.{MESH}
 use Rattle.b3d_spec_chunk_places.specs.Places.{Body}
-use Rattle.b3d_spec_chunk_places.proofs.Heads.{head-cut, head-got}
+use Rattle.b3d_spec_chunk_places.proofs.HeadLaws.{head-cut, head-got}
 use Rattle.b3d_clear_spec.specs.Copies.{chunkOf, chunksAt, inMesh, meshOf, meshCopy}
 use Rattle.b3d_clear_materials.proofs.ListLaws.{texs-inside, list-inside}
 

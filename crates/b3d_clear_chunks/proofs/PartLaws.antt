@@ -12,7 +12,7 @@ use Rattle.b3d_spec.specs.Tags.{code, is}
 use Rattle.b3d_spec.specs.declared.Tag.{Tag}
 use Rattle.b3d_spec.specs.declared.Tag.the-variants.{BB3D, TEXS, BRUS, NODE, MESH, VRTS, TRIS, BONE, KEYS, ANIM}
 use Rattle.b3d_spec.proofs.Tag.{the-type}
-use Rattle.b3d_spec_chunk_places.proofs.TagTests.{ten, one-of}
+use Rattle.b3d_spec_chunk_places.proofs.TagTestLaws.{ten, one-of}
 use Rattle.b3d_clear_spec.specs.Copies.{chunkOf, texsCopy, brusCopy, meshCopy, partCopy}
 use Rattle.b3d_clear_materials.proofs.ListLaws.{texs-inside}
 

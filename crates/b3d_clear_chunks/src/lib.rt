@@ -27,7 +27,7 @@ fn mesh_chunk(file: &[u8], from: Cursor, brush: u32, out: &mut [u8]) -> usize
 }
 
 // Writes what the MESH at `at` with this `body` becomes. Returns its size; 0 where its brush is cut.
-pub fn clear_mesh(file: &[u8], at: usize, body: Cursor, out: &mut [u8]) -> usize
+fn clear_mesh(file: &[u8], at: usize, body: Cursor, out: &mut [u8]) -> usize
     requires { ⌜ Body at body (length (now file)) ⌝ }
     requires { ⌜ Room (meshCopy at (left body (now file))) (now out) ⌝ }
     ensures { λ r. ⌜ Put (meshCopy at (left body (now (file .entry)))) (now (out .entry)) (now (out .exit)) r ⌝ }

@@ -1,3 +1,3 @@
 -- The laws of writing chunks of the copy: one, two one after the other, each of a tag.
-pub mod Chunking
-pub mod Each
+pub mod ChunkLaws
+pub mod EachChunkLaws

@@ -10,7 +10,7 @@ use Rattle.shared_output.specs.Writing.{Wrote, Room, Put, head}
 use Rattle.b3d_spec.specs.Tags.{code}
 use Rattle.b3d_spec.specs.declared.Tag.the-variants.{BB3D}
 use Rattle.b3d_clear_spec.specs.Copies.{chunksAt, inFile, fileCopy}
-use Rattle.b3d_clear_copied_chunks.proofs.Chunking.{open-fits, open-room, open-asks, open-done}
+use Rattle.b3d_clear_copied_chunks.proofs.ChunkLaws.{open-fits, open-room, open-asks, open-done}
 
 pub file-inside : (s : List ℕ) → 12 ≤ length s → Inside (record { at = 12; end = length s }) (length s)
 file-inside s h = record { before = h; within = omega arith }

@@ -9,23 +9,23 @@ use lib.ListN.{length, take, drop, set, replicate, length-set, length-replicate}
 use Rattle.wire.specs.Bytes.{AllBytes}
 use Rattle.wire.specs.Cursors.{Inside, left}
 use Rattle.wire.specs.declared.Cursor.{Cursor}
-use Rattle.wire.proofs.Left.{span, left-length, left-take, left-bytes}
+use Rattle.wire.proofs.LeftLaws.{span, left-length, left-take, left-bytes}
 use Rattle.layout.specs.Parts.{wordsOf}
 use Rattle.layout.specs.Rules.{any}
 use Rattle.layout.specs.Write.{writeWords}
 use Rattle.layout.proofs.PartLaws.{length-words}
 use Rattle.layout.proofs.StepLaws.{length-words-of}
 use Rattle.shared_output.specs.Writing.{Wrote, Room, Put}
-use Rattle.shared_output.proofs.Pieces.{Pieces, pieces-none, piece-room, piece-next, pieces-done}
-use Rattle.shared_output.proofs.Writes.{wrote-none, wrote-byte, wrote-part, part-length}
+use Rattle.shared_output.proofs.PieceLaws.{Pieces, pieces-none, piece-room, piece-next, pieces-done}
+use Rattle.shared_output.proofs.WroteLaws.{wrote-none, wrote-byte, wrote-part, part-length}
 use Rattle.b3d_chunk_cursor.specs.Chunks.{namedAt, NamedIn}
 use Rattle.b3d_chunk_cursor.specs.declared.Named.{Named}
 use Rattle.b3d_chunk_cursor.specs.declared.Named.the-variants as named
-use Rattle.b3d_chunk_cursor.proofs.Names.{named-cut, named-any, named-among}
+use Rattle.b3d_chunk_cursor.proofs.NamedLaws.{named-cut, named-any, named-among}
 use Rattle.b3d_clear_spec.specs.Copies.{unnamed, itemOf, unnamedItems}
-use Rattle.b3d_clear_spec.proofs.Exact.{words-of-exact}
-use Rattle.b3d_clear_spec.proofs.Items.{items-step}
-use Rattle.b3d_clear_copied_chunks.proofs.Chunking.{left-part}
+use Rattle.b3d_clear_spec.proofs.ExactLaws.{words-of-exact}
+use Rattle.b3d_clear_spec.proofs.ItemLaws.{items-step}
+use Rattle.b3d_clear_copied_chunks.proofs.ChunkLaws.{left-part}
 
 -- ---- an item
 

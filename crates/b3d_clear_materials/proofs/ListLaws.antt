@@ -9,14 +9,14 @@ use Rattle.wire.specs.Cursors.{Inside, left, numberAt}
 use Rattle.wire.specs.declared.Cursor.{Cursor}
 use Rattle.wire.specs.declared.Number.{Number}
 use Rattle.wire.specs.declared.Number.the-variants as number
-use Rattle.wire.proofs.Left.{left-length, left-nil}
+use Rattle.wire.proofs.LeftLaws.{left-length, left-nil}
 use Rattle.layout.specs.Rules.{upTo}
 use Rattle.shared_output.specs.Writing.{Room, Put}
-use Rattle.shared_output.proofs.Joining.{none-put}
+use Rattle.shared_output.proofs.PartLaws.{none-put}
 use Rattle.b3d_spec.specs.Tags.{code}
 use Rattle.b3d_spec.specs.declared.Tag.the-variants.{TEXS, BRUS}
 use Rattle.b3d_spec_chunk_places.specs.Places.{Body}
-use Rattle.b3d_spec_chunk_places.proofs.Heads.{body-inside, head-cut, head-inside, head-over, head-within}
+use Rattle.b3d_spec_chunk_places.proofs.HeadLaws.{body-inside, head-cut, head-inside, head-over, head-within}
 use Rattle.b3d_clear_spec.specs.Copies.{chunkOf, unnamedItems, ifAny, texsCopy, brusOf, brusCopy}
 
 some-bytes : (b w : List ℕ) → 0 < length b → ifAny b w ≡ w

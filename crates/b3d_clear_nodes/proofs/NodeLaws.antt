@@ -8,16 +8,16 @@ use Rattle.wire.specs.Cursors.{Inside, left}
 use Rattle.wire.specs.declared.Cursor.{Cursor}
 use Rattle.layout.specs.Parts.{wordsOf, named as namedOf}
 use Rattle.shared_output.specs.Writing.{Room, Put}
-use Rattle.shared_output.proofs.Joining.{none-put}
+use Rattle.shared_output.proofs.PartLaws.{none-put}
 use Rattle.b3d_spec.specs.Rules.{nodeRow}
 use Rattle.b3d_spec.specs.Tags.{code}
 use Rattle.b3d_spec.specs.declared.Tag.the-variants.{NODE}
 use Rattle.b3d_chunk_cursor.specs.Chunks.{namedAt, NamedIn}
 use Rattle.b3d_chunk_cursor.specs.declared.Named.{Named}
 use Rattle.b3d_chunk_cursor.specs.declared.Named.the-variants as named
-use Rattle.b3d_chunk_cursor.proofs.Names.{named-cut, named-any, named-among}
+use Rattle.b3d_chunk_cursor.proofs.NamedLaws.{named-cut, named-any, named-among}
 use Rattle.b3d_spec_chunk_places.specs.Places.{Body}
-use Rattle.b3d_spec_chunk_places.proofs.Heads.{body-inside}
+use Rattle.b3d_spec_chunk_places.proofs.HeadLaws.{body-inside}
 use Rattle.b3d_clear_spec.specs.Copies.{chunkOf, each, chunksAt, ownCopy, nodeOf, nodeCopy}
 
 -- with a level left a node goes by its text and words

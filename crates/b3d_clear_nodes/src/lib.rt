@@ -55,7 +55,7 @@ fn clear_own(file: &[u8], row: Cursor, next: Cursor, out: &mut [u8]) -> usize
 }
 
 // Writes what the NODE at `at` with this `body` becomes, with `levels` levels left. Returns its size; 0 where no level is left, or text or words are cut.
-pub fn clear_node(file: &[u8], at: usize, body: Cursor, levels: u32, out: &mut [u8]) -> usize
+fn clear_node(file: &[u8], at: usize, body: Cursor, levels: u32, out: &mut [u8]) -> usize
     requires { ⌜ Body at body (length (now file)) × AllBytes (now file) ⌝ }
     requires { ⌜ Room (nodeCopy levels at (left body (now file))) (now out) ⌝ }
     ensures { λ r. ⌜ Put (nodeCopy levels at (left body (now (file .entry)))) (now (out .entry)) (now (out .exit)) r ⌝ }

@@ -1,9 +1,9 @@
 -- The laws of the copy without names.
-pub mod Exact
-pub mod Leaves
-pub mod Items
-pub mod Parts
-pub mod Lists
-pub mod Meshes
-pub mod Nodes
-pub mod Files
+pub mod ExactLaws
+pub mod LeafLaws
+pub mod ItemLaws
+pub mod PartLaws
+pub mod MaterialLaws
+pub mod MeshLaws
+pub mod NodeLaws
+pub mod FileLaws

@@ -2,14 +2,14 @@
 ghost use mathlib.Core.Path.{_≡_};
 ghost use lib.ListN.{length};
 ghost use Rattle.b3d_compare_spec.specs.Compare.{compareAnswer, compareOutput, roomFor, compared, outputAfter};
-ghost use Rattle.b3d_compare_files.specs.Files.{Judged, filesBytes};
+ghost use Rattle.b3d_compare_files.specs.Files.{AcceptedFile, filesBytes};
 use b3d_compare_spec::Compared;
 use b3d_spec::Mode;
 use layout::refusals;
 
 // Writes the list of two accepted files with the twelve numbers `x` and `y`; where the output is too short, answers 11 and the size that is needed.
 fn list_into(a: &[u8], b: &[u8], x: [u32; 12], y: [u32; 12], out: &mut [u8]) -> Compared
-    requires { ⌜ Judged (now a) x × Judged (now b) y ⌝ }
+    requires { ⌜ AcceptedFile (now a) x × AcceptedFile (now b) y ⌝ }
     ensures { λ r. ⌜ r ≡ compared (roomFor (length (now (out .entry))) (filesBytes (now (a .entry)) (now (b .entry)) x y)) ⌝ }
     ensures { λ _. ⌜ now (out .exit) ≡ outputAfter (roomFor (length (now (out .entry))) (filesBytes (now (a .entry)) (now (b .entry)) x y))
         (now (out .entry)) ⌝ }
@@ -49,7 +49,7 @@ pub fn compare(first: &[u8], second: &[u8], out: &mut [u8]) -> Compared
     ensures { λ r. ⌜ r ≡ compareAnswer (now (first .entry)) (now (second .entry)) (now (out .entry)) ⌝ }
     ensures { λ _. ⌜ now (out .exit) ≡ compareOutput (now (first .entry)) (now (second .entry)) (now (out .entry)) ⌝ }
 {
-    let x = b3d_read_answer::judge(Mode::Lenient, first);
+    let x = b3d_read_answer::judge_answer(Mode::Lenient, first);
     if x.number != 0 {
         return Compared {
             number: x.number,
@@ -58,7 +58,7 @@ pub fn compare(first: &[u8], second: &[u8], out: &mut [u8]) -> Compared
             size: 0,
         };
     }
-    let y = b3d_read_answer::judge(Mode::Lenient, second);
+    let y = b3d_read_answer::judge_answer(Mode::Lenient, second);
     if y.number != 0 {
         return Compared {
             number: y.number,

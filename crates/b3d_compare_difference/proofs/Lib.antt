@@ -1,2 +1,2 @@
-pub mod FloatWords
-pub mod Values
+pub mod FloatWordLaws
+pub mod ValueLaws

@@ -12,14 +12,14 @@ use Rattle.b3d_compare_spec.specs.declared.Difference.the-variants.{Wholes, Flo
 use Rattle.b3d_compare_spec.specs.Differences.{spanText}
 
 -- the span x lies in the file s
-pub record Within (s : List ℕ) (x : Span) : Type 0 where
+pub record SpanWithin (s : List ℕ) (x : Span) : Type 0 where
   -- it ends where the file does, or before
   pub within : x .place + x .length ≤ length s
 
 -- the span of the bytes that stand in s from a place on, at most `size` of them
 pub record SpanIs (s : List ℕ) (place size : ℕ) (x : Span) : Type 0 where
   -- it lies in the file
-  pub lies : Within s x
+  pub lies : SpanWithin s x
   -- and its text is these bytes
   pub is : spanText s x ≡ take size (drop place s)
 

@@ -5,7 +5,7 @@ ghost use lib.ListN.{length, take, drop};
 ghost use Rattle.b3d_spec.specs.Rebuild.{same};
 ghost use Rattle.b3d_compare_spec.specs.Words.{wordsOf, kindAt};
 ghost use Rattle.b3d_compare_spec.specs.Differences.{spanText, isFloat, numbersOf};
-ghost use Rattle.b3d_compare_difference.specs.Spans.{Within, SpanIs, entryNumbers, Clean};
+ghost use Rattle.b3d_compare_difference.specs.Spans.{SpanWithin, SpanIs, entryNumbers, Clean};
 use b3d_compare_spec::Difference;
 use b3d_compare_spec::Span;
 
@@ -109,8 +109,8 @@ fn same_bytes(a: &[u8], b: &[u8], p: usize, q: usize, n: usize) -> bool
 
 // Returns whether the text of the span `x` of `a` and that of the span `y` of `b` are the same.
 pub fn same_text(a: &[u8], b: &[u8], x: Span, y: Span) -> bool
-    requires { ⌜ Within (now a) x ⌝ }
-    requires { ⌜ Within (now b) y ⌝ }
+    requires { ⌜ SpanWithin (now a) x ⌝ }
+    requires { ⌜ SpanWithin (now b) y ⌝ }
     ensures { λ r. ⌜ r ≡ same (spanText (now (a .entry)) x) (spanText (now (b .entry)) y) ⌝ }
 {
     if x.length != y.length {

@@ -5,13 +5,13 @@ use Rattle.b3d_compare_spec.specs.declared.Difference.{Difference}
 use Rattle.b3d_compare_spec.specs.declared.Difference.the-variants.{Wholes, Floats, Texts}
 use Rattle.b3d_compare_spec.specs.Changes.{Change}
 use Rattle.b3d_compare_spec.specs.Differences.{spanText, firstOf, secondOf}
-use Rattle.b3d_compare_difference.specs.Spans.{Within}
+use Rattle.b3d_compare_difference.specs.Spans.{SpanWithin}
 
 -- spans lie in their files
 abbrev pub Lies : List ℕ → List ℕ → Difference → Type 0
 Lies a b (Wholes x y) = Unit {0}
 Lies a b (Floats x y) = Unit {0}
-Lies a b (Texts x y) = Within a x × Within b y
+Lies a b (Texts x y) = SpanWithin a x × SpanWithin b y
 
 -- what a difference of word w of row r of table k is in the list
 unfoldable pub changeOf : List ℕ → List ℕ → ℕ → ℕ → ℕ → Difference → Change

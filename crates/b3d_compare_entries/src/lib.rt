@@ -1,17 +1,17 @@
 // An entry of the list of differences, put into a lent output from a place on, or only counted.
 ghost use mathlib.Core.List.{[]};
 ghost use Rattle.shared_seven_bit_groups.specs.Groups.{writeNumbers};
-ghost use Rattle.shared_put_or_count.specs.Emits.{Fits, Emits};
+ghost use Rattle.shared_put_or_count.specs.Emits.{RoomFrom, Emits};
 ghost use Rattle.b3d_compare_spec.specs.List.{changeBytes};
 ghost use Rattle.b3d_compare_spec.specs.Differences.{spanText};
-ghost use Rattle.b3d_compare_difference.specs.Spans.{Within, Clean};
+ghost use Rattle.b3d_compare_difference.specs.Spans.{SpanWithin, Clean};
 ghost use Rattle.b3d_compare_entries.specs.Entries.{Lies, changeOf, textsOf};
 use b3d_compare_spec::Difference;
 use b3d_compare_spec::Span;
 
 // Puts or counts the five numbers `ns` in their groups. Returns the place after them.
 pub fn put_numbers(ns: [u32; 5], wet: bool, out: &mut [u8], at: usize) -> usize
-    requires { ⌜ Fits wet (writeNumbers ns []) at (now out) ⌝ }
+    requires { ⌜ RoomFrom wet (writeNumbers ns []) at (now out) ⌝ }
     ensures { λ r. ⌜ Emits wet (writeNumbers ns []) (now (out .entry)) at (now (out .exit)) r ⌝ }
 {
     let mut next = at;
@@ -25,8 +25,8 @@ pub fn put_numbers(ns: [u32; 5], wet: bool, out: &mut [u8], at: usize) -> usize
 
 // Puts or counts the text of the span `x` of the file `s`. Returns the place after it.
 fn put_span(s: &[u8], x: Span, wet: bool, out: &mut [u8], at: usize) -> usize
-    requires { ⌜ Within (now s) x ⌝ }
-    requires { ⌜ Fits wet (spanText (now s) x) at (now out) ⌝ }
+    requires { ⌜ SpanWithin (now s) x ⌝ }
+    requires { ⌜ RoomFrom wet (spanText (now s) x) at (now out) ⌝ }
     ensures { λ r. ⌜ Emits wet (spanText (now (s .entry)) x) (now (out .entry)) at (now (out .exit)) r ⌝ }
 {
     let p = wire::size(x.place);
@@ -37,7 +37,7 @@ fn put_span(s: &[u8], x: Span, wet: bool, out: &mut [u8], at: usize) -> usize
 // Puts or counts the two texts of the difference `d` between the files `a` and `b`, none where it is of numbers. Returns the place after them.
 fn put_texts(a: &[u8], b: &[u8], d: Difference, wet: bool, out: &mut [u8], at: usize) -> usize
     requires { ⌜ Lies (now a) (now b) d ⌝ }
-    requires { ⌜ Fits wet (textsOf (now a) (now b) d) at (now out) ⌝ }
+    requires { ⌜ RoomFrom wet (textsOf (now a) (now b) d) at (now out) ⌝ }
     ensures { λ r. ⌜ Emits wet (textsOf (now (a .entry)) (now (b .entry)) d) (now (out .entry)) at (now (out .exit)) r ⌝ }
 {
     match d {
@@ -64,7 +64,7 @@ pub fn put_entry(
 ) -> usize
     requires { ⌜ Clean d ⌝ }
     requires { ⌜ Lies (now a) (now b) d ⌝ }
-    requires { ⌜ Fits wet (changeBytes (changeOf (now a) (now b) k r w d) []) at (now out) ⌝ }
+    requires { ⌜ RoomFrom wet (changeBytes (changeOf (now a) (now b) k r w d) []) at (now out) ⌝ }
     ensures { λ n. ⌜ Emits wet (changeBytes (changeOf (now (a .entry)) (now (b .entry)) k r w d) []) (now (out .entry)) at (now (out .exit)) n ⌝ }
 {
     let ns = b3d_compare_difference::entry_numbers(k, r, w, d);

@@ -1,3 +1,3 @@
 -- The list of two accepted files, and a law for each way through the functions.
-pub mod Judging
-pub mod Filing
+pub mod AcceptedPairLaws
+pub mod FileLaws

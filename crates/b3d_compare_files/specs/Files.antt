@@ -12,7 +12,7 @@ use Rattle.b3d_compare_spec.specs.List.{listBytes}
 use Rattle.b3d_compare_tables.specs.Tables.{tableBytes}
 
 -- an accepted file, with its twelve numbers
-pub record Judged (s x : List ℕ) : Type 0 where
+pub record AcceptedFile (s x : List ℕ) : Type 0 where
   -- what it holds
   pub scene : Scene
   -- it is accepted under the lenient mode

@@ -1,4 +1,4 @@
 -- A law for each way through the functions, and what the entries of two items are in their rows.
-pub mod Columning
-pub mod WordPutting
-pub mod RowEntries
+pub mod ColumnLaws
+pub mod WordEntryLaws
+pub mod RowEntryLaws

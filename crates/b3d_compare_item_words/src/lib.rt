@@ -4,7 +4,7 @@ ghost use mathlib.Core.Path.{_≡_};
 ghost use Prim.Native.Nat.{_+_, _*_, _≤_};
 ghost use lib.ListN.{length};
 ghost use Rattle.shared_table_words.specs.Words.{wordsAt};
-ghost use Rattle.shared_put_or_count.specs.Emits.{Fits, Emits};
+ghost use Rattle.shared_put_or_count.specs.Emits.{RoomFrom, Emits};
 ghost use Rattle.b3d_spec.specs.Mask.{vertexHas, keyHas};
 ghost use Rattle.b3d_compare_spec.specs.List.{listBytes};
 ghost use Rattle.b3d_compare_rows.specs.Rows.{wordEntry};
@@ -81,7 +81,7 @@ pub fn columns(k: u32, flags: u32, sets: u32, size: u32) -> [u32; 42]
 // Puts or counts the entry of word `w` of row `r` of table `k`, a number `p` in the first file and `q` in the second, none where they are the same. Returns
 // the place after it.
 fn put_word(k: u32, r: u32, w: u32, p: u32, q: u32, wet: bool, out: &mut [u8], at: usize) -> usize
-    requires { ⌜ Fits wet (listBytes (wordEntry k r w p q)) at (now out) ⌝ }
+    requires { ⌜ RoomFrom wet (listBytes (wordEntry k r w p q)) at (now out) ⌝ }
     ensures { λ n. ⌜ Emits wet (listBytes (wordEntry k r w p q)) (now (out .entry)) at (now (out .exit)) n ⌝ }
 {
     if p == q {
@@ -106,7 +106,7 @@ pub fn put_item_words(
     at: usize,
 ) -> usize
     requires { ⌜ (p + 4 * n ≤ length (now a)) × (q + 4 * n ≤ length (now b)) × (n ≤ length (now cols))
-        × Fits wet (listBytes (itemEntries k r (now cols) (wordsAt n (now a) p) (wordsAt n (now b) q))) at (now out) ⌝ }
+        × RoomFrom wet (listBytes (itemEntries k r (now cols) (wordsAt n (now a) p) (wordsAt n (now b) q))) at (now out) ⌝ }
     ensures { λ m. ⌜ Emits wet (listBytes (itemEntries k r (now (cols .entry)) (wordsAt n (now (a .entry)) p) (wordsAt n (now (b .entry)) q)))
         (now (out .entry)) at (now (out .exit)) m ⌝ }
 {

@@ -1,3 +1,3 @@
 -- The entries of pairs of items, and a law for each way through the functions.
-pub mod TableParts
-pub mod Pairing
+pub mod TablePartLaws
+pub mod PairLaws

@@ -1,8 +1,7 @@
 // What differs between the items of two open chunks, all pairs of them in one loop with no row made, as entries that are put into a lent output from a place
 // on, or only counted. Vertices, triangles, weights and keys are items; pairs that are the same have no entry.
-ghost use Prim.Native.Nat.{_+_, _≤_};
-ghost use lib.ListN.{length};
-ghost use Rattle.shared_put_or_count.specs.Emits.{Fits};
+ghost use Prim.Native.Nat.{_+_};
+ghost use Rattle.shared_put_or_count.specs.Emits.{RoomFrom};
 ghost use Rattle.b3d_rows_open_items.specs.ItemsLeft.{itemRows};
 ghost use Rattle.b3d_compare_spec.specs.Changes.{tableChanges};
 ghost use Rattle.b3d_compare_spec.specs.List.{listBytes};
@@ -32,7 +31,7 @@ fn put_pairs(
     at: usize,
 ) -> ItemsPut
     requires { ⌜ ItemPairs k r (now a) (now b) i j × ItemColumns k (i .flags) (i .sets) (i .size) (now cols)
-        × Fits wet (listBytes (tableChanges k (now a) (now b) r (itemRows k (now a) i) (itemRows k (now b) j))) at (now out) ⌝ }
+        × RoomFrom wet (listBytes (tableChanges k (now a) (now b) r (itemRows k (now a) i) (itemRows k (now b) j))) at (now out) ⌝ }
     ensures { λ t. ⌜ PutItems k r (now (a .entry)) (now (b .entry)) i j wet (now (out .entry)) at (now (out .exit)) t ⌝ }
 {
     let step = 4 * i.words;
@@ -86,7 +85,7 @@ pub fn put_items(
     at: usize,
 ) -> ItemsPut
     requires { ⌜ ItemPairs k r (now a) (now b) i j
-        × Fits wet (listBytes (tableChanges k (now a) (now b) r (itemRows k (now a) i) (itemRows k (now b) j))) at (now out) ⌝ }
+        × RoomFrom wet (listBytes (tableChanges k (now a) (now b) r (itemRows k (now a) i) (itemRows k (now b) j))) at (now out) ⌝ }
     ensures { λ t. ⌜ PutItems k r (now (a .entry)) (now (b .entry)) i j wet (now (out .entry)) at (now (out .exit)) t ⌝ }
 {
     let cols = b3d_compare_item_words::columns(k, i.flags, i.sets, i.size);

@@ -1,2 +1,2 @@
 -- A law for each way through the functions.
-pub mod Naming
+pub mod NameLaws

@@ -2,7 +2,7 @@
 // name: the first two words of their rows, its place and its length.
 ghost use Prim.Native.Nat.{_<_, _≤_};
 ghost use lib.ListN.{length};
-ghost use Rattle.shared_put_or_count.specs.Emits.{Fits, Emits};
+ghost use Rattle.shared_put_or_count.specs.Emits.{RoomFrom, Emits};
 ghost use Rattle.b3d_compare_spec.specs.Words.{wordsOf};
 ghost use Rattle.b3d_compare_spec.specs.Changes.{wordChanges};
 ghost use Rattle.b3d_compare_spec.specs.List.{listBytes};
@@ -45,7 +45,7 @@ pub fn put_name(
     requires { ⌜ (0 < k) × (k < 4) ⌝ }
     requires { ⌜ wordsOf k ≤ length (now x) ⌝ }
     requires { ⌜ wordsOf k ≤ length (now y) ⌝ }
-    requires { ⌜ Fits wet (listBytes (wordChanges k (now a) (now b) r (now x) (now y) 0 2)) at (now out) ⌝ }
+    requires { ⌜ RoomFrom wet (listBytes (wordChanges k (now a) (now b) r (now x) (now y) 0 2)) at (now out) ⌝ }
     ensures { λ n. ⌜ Emits wet (listBytes (wordChanges k (now (a .entry)) (now (b .entry)) r (now (x .entry)) (now (y .entry)) 0 2)) (now (out .entry)) at
         (now (out .exit)) n ⌝ }
 {

@@ -8,10 +8,10 @@ use mathlib.Core.Bool.{Bool}
 use mathlib.Core.List.{List, [], _∷_, _++_}
 use lib.ListN.{length}
 use lib.Seq.{length-sets}
-use Rattle.layout.proofs.Lists.{All}
-use Rattle.shared_output.proofs.Joining.{Both}
-use Rattle.shared_put_or_count.specs.Emits.{Fits, Emits}
-use Rattle.shared_put_or_count.proofs.Putting.{fits-first}
+use Rattle.layout.proofs.AllLaws.{All}
+use Rattle.shared_output.proofs.PartLaws.{Both}
+use Rattle.shared_put_or_count.specs.Emits.{RoomFrom, Emits}
+use Rattle.shared_put_or_count.proofs.PutLaws.{fits-first}
 use Rattle.b3d_spec.specs.Tables.{width, tables, nodeTables}
 use Rattle.b3d_rows_nodes.specs.declared.RowCursor.{RowCursor}
 use Rattle.b3d_rows.specs.NextRow.{rowsFrom, RowNext}
@@ -84,7 +84,7 @@ module _ (k : ℕ) (lo : 1 ≤ k) (hi : k ≤ 10) (a b : List ℕ) (x y : RowCur
   here-is : Both (bytesFrom k a b r x y) (listBytes (rowChanges kk a b r p′ q′)) (bytesFrom k a b (r + 1) first second)
   here-is = record { is = step-is k lo hi a b x y p q hp hq p′ q′ first second na nb r ∙ ap (λ (j : ℕ). listBytes (rowChanges j a b r p′ q′) ++ bytesFrom k a b (r + 1) first second) (sym ek) }
 
-  pub turn-fits : Fits wet (bytesFrom k a b r x y) at xs → Fits wet (listBytes (rowChanges kk a b r p′ q′)) at xs
+  pub turn-fits : RoomFrom wet (bytesFrom k a b r x y) at xs → RoomFrom wet (listBytes (rowChanges kk a b r p′ q′)) at xs
   turn-fits f = fits-first here-is wet xs at f
 
   pub turn-puts : (ys : List ℕ) (n : ℕ) → Emits wet (listBytes (rowChanges kk a b r p′ q′)) xs at ys n

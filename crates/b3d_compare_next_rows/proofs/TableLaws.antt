@@ -8,10 +8,10 @@ use lib.Seq.{sets, sets-eq, take-append-le}
 use Rattle.b3d_compare_spec.specs.Words.{wordsOf}
 use Rattle.b3d_compare_spec.specs.Changes.{Change, rowChanges, tableChanges}
 use Rattle.b3d_compare_spec.specs.List.{listBytes}
-use Rattle.b3d_compare_spec.proofs.Sizes.{list-append}
-use Rattle.b3d_compare_spec.proofs.Walking.{row-front}
+use Rattle.b3d_compare_spec.proofs.SizeLaws.{list-append}
+use Rattle.b3d_compare_spec.proofs.WalkLaws.{row-front}
 use Rattle.b3d_compare_spec.proofs.WordLaws.{few-words}
-use Rattle.b3d_compare_entries.proofs.Entering.{no-bytes}
+use Rattle.b3d_compare_entries.proofs.EntryLaws.{no-bytes}
 
 -- a row that was stored over the front of a longer one
 stored-front : (n : ℕ) (row cells : List ℕ) → length cells ≡ n → n ≤ length row → take n (sets row 0 cells) ≡ take n cells

@@ -4,7 +4,7 @@ use Prim.Native.Nat.{ℕ, _+_, _≤_}
 use mathlib.Core.Bool.{Bool}
 use mathlib.Core.List.{List}
 use lib.ListN.{length}
-use Rattle.shared_output.proofs.Joining.{Both}
+use Rattle.shared_output.proofs.PartLaws.{Both}
 use Rattle.shared_put_or_count.specs.Emits.{Emits}
 use Rattle.b3d_rows_nodes.specs.declared.RowCursor.{RowCursor}
 use Rattle.b3d_rows.specs.NextRow.{rowsFrom, RowCursorAt}

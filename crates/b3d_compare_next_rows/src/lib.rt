@@ -1,7 +1,7 @@
 // What differs between the next row of a table in two files, with no table lent, as entries that are put into a lent output from a place on, or only counted.
 ghost use Prim.Native.Nat.{_<_, _≤_};
 ghost use lib.ListN.{length};
-ghost use Rattle.shared_put_or_count.specs.Emits.{Fits};
+ghost use Rattle.shared_put_or_count.specs.Emits.{RoomFrom};
 ghost use Rattle.b3d_spec.specs.Tables.{vertexWidth};
 ghost use Rattle.b3d_rows.specs.NextRow.{rowsFrom, RowCursorAt};
 ghost use Rattle.b3d_compare_next_rows.specs.NextRows.{bytesFrom, PutTurn};
@@ -31,7 +31,7 @@ pub fn put_turn(
 ) -> Turn
     requires { ⌜ (1 ≤ k) × (k ≤ 10) × RowCursorAt k (now a) x × (0 < length (rowsFrom k (now a) x)) × (vertexWidth ≤ length (now p))
         × RowCursorAt k (now b) y × (0 < length (rowsFrom k (now b) y)) × (vertexWidth ≤ length (now q))
-        × Fits wet (bytesFrom k (now a) (now b) r x y) at (now out) ⌝ }
+        × RoomFrom wet (bytesFrom k (now a) (now b) r x y) at (now out) ⌝ }
     ensures { λ t. ⌜ PutTurn k r (now (a .entry)) (now (b .entry)) x y (now (p .entry)) (now (q .entry)) (now (p .exit)) (now (q .exit))
         wet (now (out .entry)) at (now (out .exit)) t ⌝ }
 {

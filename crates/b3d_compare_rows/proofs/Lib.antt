@@ -1,3 +1,3 @@
 -- What the entries of two rows are, and a law for each way through the functions.
-pub mod Rowing
-pub mod Putting
+pub mod RowLaws
+pub mod PutLaws

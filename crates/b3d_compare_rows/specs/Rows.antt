@@ -13,7 +13,7 @@ unfoldable pub wordEntry : ℕ → ℕ → ℕ → ℕ → ℕ → List Change
 wordEntry k r w p q = if (eqb p q) [] (record { table = k; row = r; word = w; first = number p; second = number q } ∷ [])
 
 -- the words of table k from w on are numbers
-pub record Plain (k from : ℕ) : Type 0 where
+pub record NumbersFrom (k from : ℕ) : Type 0 where
   -- the table is that wide at least
   pub start : from ≤ wordsOf k
   -- each cell of them is the number that the row has there, whatever the file

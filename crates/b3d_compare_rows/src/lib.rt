@@ -4,12 +4,12 @@ ghost use mathlib.Core.Path.{_≡_};
 ghost use Prim.Native.Nat.{_-_, _<_, _≤_};
 ghost use mathlib.Core.List.{[]};
 ghost use lib.ListN.{length};
-ghost use Rattle.shared_put_or_count.specs.Emits.{Fits, Emits};
+ghost use Rattle.shared_put_or_count.specs.Emits.{RoomFrom, Emits};
 ghost use Rattle.b3d_spec.specs.Tables.{vertexWidth};
 ghost use Rattle.b3d_compare_spec.specs.Words.{wordsOf};
 ghost use Rattle.b3d_compare_spec.specs.Changes.{wordChanges, rowChanges};
 ghost use Rattle.b3d_compare_spec.specs.List.{listBytes};
-ghost use Rattle.b3d_compare_rows.specs.Rows.{wordEntry, Plain};
+ghost use Rattle.b3d_compare_rows.specs.Rows.{wordEntry, NumbersFrom};
 use b3d_spec::BRUSH_WIDTH;
 use b3d_spec::KEY_LIST_WIDTH;
 use b3d_spec::KEY_WIDTH;
@@ -60,7 +60,7 @@ fn put_word(
 ) -> usize
     requires { ⌜ k ≤ 10 ⌝ }
     requires { ⌜ w < wordsOf k ⌝ }
-    requires { ⌜ Fits wet (listBytes (wordEntry k r w p q)) at (now out) ⌝ }
+    requires { ⌜ RoomFrom wet (listBytes (wordEntry k r w p q)) at (now out) ⌝ }
     ensures { λ n. ⌜ Emits wet (listBytes (wordEntry k r w p q)) (now (out .entry)) at (now (out .exit)) n ⌝ }
 {
     if p == q {
@@ -87,8 +87,8 @@ fn put_plain(
     requires { ⌜ k ≤ 10 ⌝ }
     requires { ⌜ wordsOf k ≤ length (now x) ⌝ }
     requires { ⌜ wordsOf k ≤ length (now y) ⌝ }
-    requires { ⌜ Plain k from ⌝ }
-    requires { ⌜ Fits wet (listBytes (wordChanges k [] [] r (now x) (now y) from (wordsOf k - from))) at (now out) ⌝ }
+    requires { ⌜ NumbersFrom k from ⌝ }
+    requires { ⌜ RoomFrom wet (listBytes (wordChanges k [] [] r (now x) (now y) from (wordsOf k - from))) at (now out) ⌝ }
     ensures { λ n. ⌜ Emits wet (listBytes (wordChanges k [] [] r (now (x .entry)) (now (y .entry)) from (wordsOf k - from))) (now (out .entry)) at
         (now (out .exit)) n ⌝ }
 {
@@ -117,7 +117,7 @@ pub fn put_row(
     requires { ⌜ k ≤ 10 ⌝ }
     requires { ⌜ wordsOf k ≤ length (now x) ⌝ }
     requires { ⌜ wordsOf k ≤ length (now y) ⌝ }
-    requires { ⌜ Fits wet (listBytes (rowChanges k (now a) (now b) r (now x) (now y))) at (now out) ⌝ }
+    requires { ⌜ RoomFrom wet (listBytes (rowChanges k (now a) (now b) r (now x) (now y))) at (now out) ⌝ }
     ensures { λ n. ⌜ Emits wet (listBytes (rowChanges k (now (a .entry)) (now (b .entry)) r (now (x .entry)) (now (y .entry)))) (now (out .entry)) at
         (now (out .exit)) n ⌝ }
 {
@@ -141,7 +141,7 @@ pub fn put_twelve(
     out: &mut [u8],
     at: usize,
 ) -> usize
-    requires { ⌜ Fits wet (listBytes (rowChanges 0 (now a) (now b) 0 x y)) at (now out) ⌝ }
+    requires { ⌜ RoomFrom wet (listBytes (rowChanges 0 (now a) (now b) 0 x y)) at (now out) ⌝ }
     ensures { λ n. ⌜ Emits wet (listBytes (rowChanges 0 (now (a .entry)) (now (b .entry)) 0 x y)) (now (out .entry)) at (now (out .exit)) n ⌝ }
 {
     put_row(a, b, &x, &y, 0, 0, wet, out, at)

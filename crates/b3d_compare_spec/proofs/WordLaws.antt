@@ -6,8 +6,8 @@ use mathlib.Core.List.{List, [], _∷_}
 use lib.ListN.{length}
 use lib.Dec.{T, eqb, eqb→eq, leb, leb→le}
 use Rattle.wire.specs.Test.{if}
-use Rattle.layout.proofs.Lists.{All}
-use Rattle.layout.proofs.Outs.{if-case}
+use Rattle.layout.proofs.AllLaws.{All}
+use Rattle.layout.proofs.ResultLaws.{if-case}
 use Rattle.b3d_spec.specs.Tables.{width, tables, nodeTables}
 use Rattle.b3d_compare_spec.specs.declared.WordKind.{WordKind}
 use Rattle.b3d_compare_spec.specs.Words.{wordKinds, wordsOf}

@@ -58,7 +58,7 @@ module _ (a b : List ℕ) (t u : Scene) where
     pub differs : firstCell k r w ≡ secondCell k r w → ⊥
 
   -- an entry of the list: of a cell that differs
-  pub record Told (ks : List ℕ) (c : Change) : Type 0 where
+  pub record EntryIs (ks : List ℕ) (c : Change) : Type 0 where
     -- its table, row and word
     pub table : ℕ
     pub row : ℕ
@@ -73,7 +73,7 @@ module _ (a b : List ℕ) (t u : Scene) where
     -- every cell that differs
     pub each : (k r w : ℕ) → Differs ks k r w → In (changeAt k r w) l
     -- nothing else
-    pub only : (c : Change) → In c l → Told ks c
+    pub only : (c : Change) → In c l → EntryIs ks c
     -- each before the next, so once
     pub once : InOrder l
 

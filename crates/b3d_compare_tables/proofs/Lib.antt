@@ -1,4 +1,4 @@
 -- Two tables row by row, and a law for each way through the functions.
-pub mod Places
-pub mod Turning
-pub mod Accepted
+pub mod PlaceLaws
+pub mod RowStepLaws
+pub mod AcceptedLaws

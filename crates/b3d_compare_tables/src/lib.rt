@@ -1,7 +1,7 @@
 // What differs between two files in one table, row by row with no table lent, as entries that are put into a lent output from a place on, or only counted.
 ghost use Prim.Native.Nat.{_+_, _<_, _≤_};
 ghost use lib.ListN.{length};
-ghost use Rattle.shared_put_or_count.specs.Emits.{Fits, Emits};
+ghost use Rattle.shared_put_or_count.specs.Emits.{RoomFrom, Emits};
 ghost use Rattle.b3d_spec.specs.Tables.{vertexWidth};
 ghost use Rattle.b3d_spec.specs.Rules.{rowLimit};
 ghost use Rattle.b3d_rows.specs.NextRow.{rowsFrom, RowCursorAt};
@@ -28,7 +28,7 @@ fn put_rows(
     requires { ⌜ r + length (rowsFrom k (now a) x) ≤ rowLimit ⌝ }
     requires { ⌜ (1 ≤ k) × (k ≤ 10) × RowCursorAt k (now a) x × (0 < length (rowsFrom k (now a) x)) × (vertexWidth ≤ length (now p))
         × RowCursorAt k (now b) y × (0 < length (rowsFrom k (now b) y)) × (vertexWidth ≤ length (now q))
-        × Fits wet (bytesFrom k (now a) (now b) r x y) at (now out) ⌝ }
+        × RoomFrom wet (bytesFrom k (now a) (now b) r x y) at (now out) ⌝ }
     ensures { λ t. ⌜ PutTurn k r (now (a .entry)) (now (b .entry)) x y (now (p .entry)) (now (q .entry)) (now (p .exit)) (now (q .exit))
         wet (now (out .entry)) at (now (out .exit)) t ⌝ }
 {
@@ -64,7 +64,7 @@ pub fn put_table(
     at: usize,
 ) -> usize
     requires { ⌜ Comparable k rows (now a) × Comparable k rows (now b) × (rows ≤ rowLimit) × (vertexWidth ≤ length (now p)) × (vertexWidth ≤ length (now q))
-        × Fits wet (tableBytes k (now a) (now b)) at (now out) ⌝ }
+        × RoomFrom wet (tableBytes k (now a) (now b)) at (now out) ⌝ }
     ensures { λ n. ⌜ Emits wet (tableBytes k (now (a .entry)) (now (b .entry))) (now (out .entry)) at (now (out .exit)) n ⌝ }
 {
     let mut x = b3d_rows::start(a, k);

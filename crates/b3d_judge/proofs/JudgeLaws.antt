@@ -20,15 +20,15 @@ use Rattle.b3d_spec.specs.Tables.{rows, tables}
 use Rattle.b3d_spec.specs.Answers.{judge}
 use Rattle.b3d_spec.proofs.Laws.{fine}
 use Rattle.b3d_judge_tally.specs.Tally.{sceneTally, tallyOf}
-use Rattle.b3d_spec_chunk_places.proofs.Heads.{head-is}
+use Rattle.b3d_spec_chunk_places.proofs.HeadLaws.{head-is}
 use Rattle.b3d_judge.specs.Answers.{verdictOf}
 use Rattle.b3d_judge_file_body.specs.Bodies.{walked, Walks}
 use Rattle.b3d_judge_limits.specs.Limits.{overLimit}
-use Rattle.b3d_judge_limits.proofs.Limits.{over-none, over-some}
+use Rattle.b3d_judge_limits.proofs.LimitLaws.{over-none, over-some}
 use Rattle.b3d_judge_file_body.specs.declared.Summary.{Summary}
 use Rattle.b3d_judge_file_body.specs.declared.Verdict.{Verdict}
 use Rattle.b3d_judge_file_body.specs.declared.Verdict.the-variants as verdict
-use Rattle.b3d_judge_tally.proofs.Totals.{total}
+use Rattle.b3d_judge_tally.proofs.TotalLaws.{total}
 
 -- ---- a slice's bytes
 
@@ -55,7 +55,7 @@ size-high n h = rw (le-leb 12 n (omega arith), lt-leb n 16777216 h)
 size-good : (n : ℕ) → 12 ≤ n → n ≤ 16777216 → sizeFits n ≡ true
 size-good n a b = rw (le-leb 12 n a, le-leb n 16777216 b)
 
-walked-bad : (o : Result Scene) (e q : ℕ) → walked o ≡ verdict.Bad e q → o ≡ reject e q
+walked-bad : (o : Result Scene) (e q : ℕ) → walked o ≡ verdict.Reject e q → o ≡ reject e q
 walked-bad (accept t) e q h = let z : _≡_ {A = ℕ} 0 1 = cc in absurd (omega arith)
 walked-bad (reject n p) e q h = cc
 
@@ -66,18 +66,18 @@ record GaveScene (o : Result Scene) (x : Summary) : Type 0 where
   slots : x .«n_texs» ≡ value .slots
   has : x .tally ≡ sceneTally value
 
-walked-good : (o : Result Scene) (x : Summary) → walked o ≡ verdict.Good x → GaveScene o x
+walked-good : (o : Result Scene) (x : Summary) → walked o ≡ verdict.Accept x → GaveScene o x
 walked-good (accept t) x h =
     let e : record { version = t .version; «n_texs» = t .slots; tally = sceneTally t } ≡ x = cc in
     record { value = t; is = refl; version = sym (ap (λ (y : Summary). y .version) e); slots = sym (ap (λ (y : Summary). y .«n_texs») e); has = sym (ap (λ (y : Summary). y .tally) e) }
 walked-good (reject n p) x h = let z : _≡_ {A = ℕ} 0 1 = cc in absurd (omega arith)
 
 module _ (mode : Mode) (s : List ℕ) where
-  pub judge-low : length s < 12 → verdict.Bad 1 0 ≡ verdictOf (judge mode s)
+  pub judge-low : length s < 12 → verdict.Reject 1 0 ≡ verdictOf (judge mode s)
   unfolding judge parse check
   judge-low h = rw (size-low (length s) h)
 
-  pub judge-high : 16777216 < length s → verdict.Bad 1 0 ≡ verdictOf (judge mode s)
+  pub judge-high : 16777216 < length s → verdict.Reject 1 0 ≡ verdictOf (judge mode s)
   unfolding judge parse check
   judge-high h = rw (size-high (length s) h)
 
@@ -85,12 +85,12 @@ module _ (mode : Mode) (s : List ℕ) where
     eight : 8 ≤ length s
     eight = omega arith
 
-    pub judge-tag : (tag ≡ 0x44334242 → ⊥) → verdict.Bad 2 0 ≡ verdictOf (judge mode s)
+    pub judge-tag : (tag ≡ 0x44334242 → ⊥) → verdict.Reject 2 0 ≡ verdictOf (judge mode s)
     unfolding judge parse check
     judge-tag d = rw (size-good (length s) lo hi, head-is s eight, first-word s eight, ← et, ne-eqb tag 0x44334242 d)
 
     module _ (is : tag ≡ 0x44334242) (size k : ℕ) (ek : k ≡ wordAt s 4) (es : size ≡ k) where
-      pub judge-length : (size ≡ length s - 8 → ⊥) → verdict.Bad 2 4 ≡ verdictOf (judge mode s)
+      pub judge-length : (size ≡ length s - 8 → ⊥) → verdict.Reject 2 4 ≡ verdictOf (judge mode s)
       unfolding judge parse check
       judge-length d =
           rw (size-good (length s) lo hi, head-is s eight, first-word s eight, ← et, eq-eqb tag 0x44334242 is, second-word s eight, ← ek, ← es, length-drop 8 s, ne-eqb size (length s - 8) d)
@@ -101,11 +101,11 @@ module _ (mode : Mode) (s : List ℕ) where
         parsed =
             rw (size-good (length s) lo hi, head-is s eight, first-word s eight, ← et, eq-eqb tag 0x44334242 is, second-word s eight, ← ek, ← es, length-drop 8 s, eq-eqb size (length s - 8) fits)
 
-        pub judge-refused : (e q : ℕ) → j ≡ verdict.Bad e q → verdict.Bad e q ≡ verdictOf (judge mode s)
+        pub judge-refused : (e q : ℕ) → j ≡ verdict.Reject e q → verdict.Reject e q ≡ verdictOf (judge mode s)
         unfolding judge
         judge-refused e q z = rw (parsed, walked-bad (readBody mode 8 (drop 8 s)) e q (sym (hj .is) ∙ z))
 
-        module _ (b : AllBytes s) (x : Summary) (z : j ≡ verdict.Good x) where
+        module _ (b : AllBytes s) (x : Summary) (z : j ≡ verdict.Accept x) where
           gave : GaveScene (parse mode s) x
           gave = subst (λ (o : Result Scene). GaveScene o x) (sym parsed) (walked-good (readBody mode 8 (drop 8 s)) x (sym (hj .is) ∙ z))
 
@@ -116,23 +116,23 @@ module _ (mode : Mode) (s : List ℕ) where
             over-at : n ≡ overLimit (tallyOf (gave .value))
             over-at = en ∙ ap overLimit tally-is
 
-            pub judge-over : (n ≡ 0 → ⊥) → verdict.Bad 10 n ≡ verdictOf (judge mode s)
+            pub judge-over : (n ≡ 0 → ⊥) → verdict.Reject 10 n ≡ verdictOf (judge mode s)
             unfolding judge
             judge-over d = finish (parse mode s) (gave .value) (gave .is)
                 (over-some (λ k. length (rows k (gave .value))) (tallyOf (gave .value) .copy) n over-at d)
               where
                 finish : (o : Result Scene) (t : Scene) → o ≡ accept t → eachOf 10 (λ k. leb (length (rows k t)) rowLimit) tables ≡ reject 10 n
-                    → verdict.Bad 10 n ≡ verdictOf (o >>= λ t. eachOf 10 (λ k. leb (length (rows k t)) rowLimit) tables >>= λ _. accept t)
+                    → verdict.Reject 10 n ≡ verdictOf (o >>= λ t. eachOf 10 (λ k. leb (length (rows k t)) rowLimit) tables >>= λ _. accept t)
                 finish o t e h = rw (e, h)
 
-            pub judge-good : n ≡ 0 → verdict.Good x ≡ verdictOf (judge mode s)
+            pub judge-good : n ≡ 0 → verdict.Accept x ≡ verdictOf (judge mode s)
             unfolding judge
             judge-good q = finish (parse mode s) (gave .value) (gave .is) (over-none (λ k. length (rows k (gave .value))) (tallyOf (gave .value) .copy) n over-at q)
                 (λ i. record { version = gave .version i; «n_texs» = gave .slots i; tally = tally-is i })
               where
                 finish : (o : Result Scene) (t : Scene) → o ≡ accept t → eachOf 10 (λ k. leb (length (rows k t)) rowLimit) tables ≡ accept tt
                     → x ≡ record { version = t .version; «n_texs» = t .slots; tally = tallyOf t }
-                    → verdict.Good x ≡ verdictOf (o >>= λ t. eachOf 10 (λ k. leb (length (rows k t)) rowLimit) tables >>= λ _. accept t)
-                finish o t e h k = ap verdict.Good k ∙ sym (rw (e, h))
+                    → verdict.Accept x ≡ verdictOf (o >>= λ t. eachOf 10 (λ k. leb (length (rows k t)) rowLimit) tables >>= λ _. accept t)
+                finish o t e h k = ap verdict.Accept k ∙ sym (rw (e, h))
 
 pub ruleset judge-laws = (judge-low, judge-high, judge-tag, judge-length, judge-refused, judge-over, judge-good)

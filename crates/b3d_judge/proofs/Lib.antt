@@ -1,3 +1,3 @@
 -- The laws of the judge's ways, and what its verdict says.
 pub mod JudgeLaws
-pub mod Verdicts
+pub mod VerdictLaws

@@ -27,26 +27,26 @@ pub fn judge(mode: Mode, file: &[u8]) -> Verdict
 {
     let n = file.len();
     if n < FEWEST_BYTES {
-        return Verdict::Bad(refusals::FILE_SIZE, 0);
+        return Verdict::Reject(refusals::FILE_SIZE, 0);
     }
     if MOST_BYTES < n {
-        return Verdict::Bad(refusals::FILE_SIZE, 0);
+        return Verdict::Reject(refusals::FILE_SIZE, 0);
     }
     if wire::number_at(file, 0) != letters::BB3D {
-        return Verdict::Bad(refusals::FIRST_TAG, 0);
+        return Verdict::Reject(refusals::FIRST_TAG, 0);
     }
     if wire::size(wire::number_at(file, 4)) != n - 8 {
-        return Verdict::Bad(refusals::FIRST_TAG, 4);
+        return Verdict::Reject(refusals::FIRST_TAG, 4);
     }
     match b3d_judge_file_body::judge_body(file, mode) {
-        Verdict::Bad(e, p) => Verdict::Bad(e, p),
-        Verdict::Good(x) => {
+        Verdict::Reject(e, p) => Verdict::Reject(e, p),
+        Verdict::Accept(x) => {
             are_bytes(file);
             let over = b3d_judge_limits::over_limit(x.tally);
             if over != 0 {
-                return Verdict::Bad(refusals::TOO_MANY_ROWS, over);
+                return Verdict::Reject(refusals::TOO_MANY_ROWS, over);
             }
-            Verdict::Good(x)
+            Verdict::Accept(x)
         }
     }
 }

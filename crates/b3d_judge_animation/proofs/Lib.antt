@@ -1,3 +1,3 @@
 -- The laws of its ways.
 pub mod MoveLaws
-pub mod Moving
+pub mod AnimationLaws

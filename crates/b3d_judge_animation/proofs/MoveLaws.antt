@@ -15,7 +15,7 @@ use Rattle.b3d_spec.specs.Rules.{animated}
 use Rattle.b3d_spec.specs.Parse.{Animation, withKeys, readKeys, readAnim, readAnimation}
 use Rattle.b3d_judge_tally.specs.Tally.{noTally, listTally, listsTally, animTally, animationTally, plus, bytesTally, Within}
 use Rattle.b3d_judge_tally.specs.declared.Tally.{Tally}
-use Rattle.b3d_judge_tally.proofs.Tallies.{none-plus, plus-assoc, within-none, within-bytes}
+use Rattle.b3d_judge_tally.proofs.TallyLaws.{none-plus, plus-assoc, within-none, within-bytes}
 use Rattle.b3d_judge_animation.specs.Answers.{moved, movedFrom, animOf}
 
 -- ---- tallies of moves

@@ -30,13 +30,13 @@ movedFrom m = beside (λ x. animated (x .anim)) (λ x. plus m (animationTally x)
 
 -- what an answer says: whether there is an ANIM, the tally, and the chunks from the cursor on by `rest`; or the refusal
 abbrev pub movedBy : (Cursor → Chunks) → Motion → Result (Bool × Tally × Chunks)
-movedBy rest (motion.To a t c) = accept (a, t, rest c)
-movedBy rest (motion.Not n p) = reject n p
+movedBy rest (motion.Accept a t c) = accept (a, t, rest c)
+movedBy rest (motion.Reject n p) = reject n p
 
 -- bounds of an answer from the cursor `from` on: the cursor further on, with a tally of no more bytes than lie between; a refusal's place not past the end
 abbrev pub MovedIn : Cursor → Motion → Type 0
-MovedIn from (motion.To a t c) = Onward from c t
-MovedIn from (motion.Not n p) = p ≤ from .end
+MovedIn from (motion.Accept a t c) = Onward from c t
+MovedIn from (motion.Reject n p) = p ≤ from .end
 
 -- r is the answer on the KEYS and ANIM o from the cursor `from` on, `rest` giving the chunks from a cursor on
 pub record Motions (o : Result (Found Animation)) (rest : Cursor → Chunks) (from : Cursor) (r : Motion) : Type 0 where

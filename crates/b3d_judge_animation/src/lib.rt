@@ -20,8 +20,8 @@ use wire::Cursor;
 
 // Whether a node has an ANIM, the tally of its KEYS and ANIM, and the cursor after them; or a refusal and its place.
 pub enum Motion {
-    To(bool, Tally, Cursor),
-    Not(u32, usize),
+    Accept(bool, Tally, Cursor),
+    Reject(u32, usize),
 }
 
 // How far the chunks inside a NODE have come after its MESH or BONE, or without one.
@@ -55,10 +55,10 @@ pub fn judge_animation(s: &[u8], at: usize, from: Cursor) -> Motion
         let found = b3d_chunk_cursor::next_chunk(s, c);
         match b3d_chunk_next_allowed::next_inside(s, c, found, Tag::NODE, at, q) {
             Enclosed::End => {
-                return Motion::To(q.spent, with_anim(m, q.spent), c);
+                return Motion::Accept(q.spent, with_anim(m, q.spent), c);
             }
-            Enclosed::Not(e, p) => {
-                return Motion::Not(e, p);
+            Enclosed::Reject(e, p) => {
+                return Motion::Reject(e, p);
             }
             Enclosed::Chunk {
                 tag,
@@ -68,10 +68,10 @@ pub fn judge_animation(s: &[u8], at: usize, from: Cursor) -> Motion
                 reached,
             } => match tag {
                 Tag::KEYS => match b3d_judge_bodies::judge_keys(s, p, body) {
-                    Judged::Bad(e, i) => {
-                        return Motion::Not(e, i);
+                    Judged::Reject(e, i) => {
+                        return Motion::Reject(e, i);
                     }
-                    Judged::Good(t) => {
+                    Judged::Accept(t) => {
                         m = b3d_judge_tally::plus(m, t);
                         q = reached;
                         c = next;
@@ -79,13 +79,13 @@ pub fn judge_animation(s: &[u8], at: usize, from: Cursor) -> Motion
                 },
                 Tag::ANIM => {
                     if body.end - body.at != 12 {
-                        return Motion::Not(refusals::CUT_ITEM, body.at);
+                        return Motion::Reject(refusals::CUT_ITEM, body.at);
                     }
                     q = reached;
                     c = next;
                 }
                 _ => {
-                    return Motion::To(q.spent, with_anim(m, q.spent), c);
+                    return Motion::Accept(q.spent, with_anim(m, q.spent), c);
                 }
             },
         }

@@ -16,27 +16,27 @@ use Rattle.b3d_spec.specs.Rules.{keyFlags, keyRow, keyWords}
 use Rattle.b3d_judge_items.specs.Items.{counted, dividedAt, CountedIn}
 use Rattle.b3d_judge_items.specs.declared.Counted.{Counted}
 use Rattle.b3d_judge_items.specs.declared.Counted.the-variants as counts
-use Rattle.b3d_judge_items.proofs.Divided.{divided-is, counted-room, counted-before}
+use Rattle.b3d_judge_items.proofs.DividedLaws.{divided-is, counted-room, counted-before}
 use Rattle.b3d_spec_chunk_places.specs.Places.{Body}
 use Rattle.b3d_judge_tally.specs.Answers.{Judges}
 use Rattle.b3d_judge_tally.specs.Tally.{keysTally, listTally}
 use Rattle.b3d_judge_tally.specs.declared.Judged.the-variants as judge
 use Rattle.b3d_judge_tally.specs.declared.Tally.{Tally}
-use Rattle.b3d_spec_chunk_places.proofs.Heads.{head-cut, head-numbered, head-inside, head-over, head-within}
-use Rattle.b3d_judge_bodies.proofs.Judging.{judges-bad, items-bad, items-good}
-use Rattle.b3d_judge_tally.proofs.Tallies.{within-keys}
+use Rattle.b3d_spec_chunk_places.proofs.HeadLaws.{head-cut, head-numbered, head-inside, head-over, head-within}
+use Rattle.b3d_judge_bodies.proofs.AnswerLaws.{judges-bad, items-bad, items-good}
+use Rattle.b3d_judge_tally.proofs.TallyLaws.{within-keys}
 
 -- the keys from a cursor on
 abbrev keysAt : List ℕ → Cursor → ℕ → Result (List (List ℕ))
 keysAt s c flags = items (row (keyRow flags)) (c .at) (left c s)
 
 module _ (s : List ℕ) (at : ℕ) (b : Cursor) (body : Body at b (length s)) (r : Number) (e : r ≡ numberAt s b) where
-  pub keys-cut : r ≡ number.Cut → Judges listTally (readKeys at (left b s)) at (b .end) (judge.Bad 5 (b .at))
+  pub keys-cut : r ≡ number.Cut → Judges listTally (readKeys at (left b s)) at (b .end) (judge.Reject 5 (b .at))
   unfolding readKeys
   keys-cut w = judges-bad listTally _ at (b .end) _ _ (rw (head-cut s at b body r e keyFlags w)) (body .room)
 
   module _ (flags : ℕ) (c : Cursor) (w : r ≡ number.Is flags c) where
-    pub keys-over : 7 < flags → Judges listTally (readKeys at (left b s)) at (b .end) (judge.Bad 6 (b .at))
+    pub keys-over : 7 < flags → Judges listTally (readKeys at (left b s)) at (b .end) (judge.Reject 6 (b .at))
     unfolding readKeys
     keys-over h = judges-bad listTally _ at (b .end) _ _ (rw (head-over s at b body r e flags c w 7 h)) (body .room)
 
@@ -46,13 +46,13 @@ module _ (s : List ℕ) (at : ℕ) (b : Cursor) (body : Body at b (length s)) (r
       found : x ≡ counted (keysAt s c flags)
       found = rw (← v) (y ∙ divided-is c words s (head-inside s at b body r e flags c w) pos)
 
-      pub keys-bad : (n p : ℕ) → x ≡ counts.Not n p → Judges listTally (readKeys at (left b s)) at (b .end) (judge.Bad n p)
+      pub keys-bad : (n p : ℕ) → x ≡ counts.Reject n p → Judges listTally (readKeys at (left b s)) at (b .end) (judge.Reject n p)
       unfolding readKeys
       keys-bad n p q =
           items-bad listTally _ at (b .end) (keysAt s c flags) x found n p q (λ g. rw (head-within s at b body r e flags c w 7 h, g))
           (omega (arith, counted-before c words x z n p q, head-numbered s at b body r e flags c w))
 
-      pub keys-all : (k : ℕ) → x ≡ counts.Is k → (t : Tally) → t ≡ keysTally k words → Judges listTally (readKeys at (left b s)) at (b .end) (judge.Good t)
+      pub keys-all : (k : ℕ) → x ≡ counts.Accept k → (t : Tally) → t ≡ keysTally k words → Judges listTally (readKeys at (left b s)) at (b .end) (judge.Accept t)
       unfolding readKeys listTally
       keys-all k q t u =
           let f = head-numbered s at b body r e flags c w in

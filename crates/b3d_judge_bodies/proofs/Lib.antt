@@ -1,6 +1,6 @@
 -- The laws of the judges of bodies: what each body's steps say.
-pub mod Judging
+pub mod AnswerLaws
 pub mod KeyLaws
 pub mod IdLaws
 pub mod VertexLaws
-pub mod Going
+pub mod ChunkLoopLaws

@@ -8,7 +8,7 @@ use borrow.Author.Tests.{le-leb, lt-leb}
 use Rattle.wire.specs.Bytes.{wordAt}
 use Rattle.wire.specs.Cursors.{Inside, left}
 use Rattle.wire.specs.declared.Cursor.{Cursor}
-use Rattle.wire.proofs.Left.{span, left-length, left-drop}
+use Rattle.wire.proofs.LeftLaws.{span, left-length, left-drop}
 use Rattle.layout.specs.Result.{Result, accept, reject, check}
 use Rattle.layout.specs.Parts.{wordsOf, judged, row, items}
 use Rattle.layout.specs.Rules.{Rule, any, unit}
@@ -20,12 +20,12 @@ use Rattle.b3d_spec.specs.Rules.{verticesHead, vertexRow, vertexWords}
 use Rattle.b3d_judge_items.specs.Items.{partRow, colourItems, counted, dividedAt, CountedIn}
 use Rattle.b3d_judge_items.specs.declared.Counted.{Counted}
 use Rattle.b3d_judge_items.specs.declared.Counted.the-variants as counts
-use Rattle.b3d_judge_items.proofs.Divided.{divided-is, counted-room, counted-before, counted-got, counted-bad}
+use Rattle.b3d_judge_items.proofs.DividedLaws.{divided-is, counted-room, counted-before, counted-got, counted-bad}
 use Rattle.b3d_spec_chunk_places.specs.Places.{Body}
 use Rattle.b3d_judge_bodies.specs.Answers.{Shapes}
 use Rattle.b3d_judge_bodies.specs.Colours.{beforeColour, coloursOf}
 use Rattle.b3d_judge_bodies.specs.declared.VerticesSummary.the-variants as shape
-use Rattle.b3d_spec_chunk_places.proofs.Heads.{body-inside}
+use Rattle.b3d_spec_chunk_places.proofs.HeadLaws.{body-inside}
 
 -- ---- a vertex's rules: words that are not looked at, the colours that the mode looks at, and others
 
@@ -83,14 +83,14 @@ after b = span (b .at + 12) (b .end)
 abbrev verticesAt : Mode → List ℕ → Cursor → ℕ → ℕ → ℕ → Result (List (List ℕ))
 verticesAt mode s c flags sets size = items (row (vertexRow mode flags sets size)) (c .at) (left c s)
 
-refuses : (o : Result Vertices) (b : Cursor) (n p : ℕ) → o ≡ reject n p → p ≤ b .end → Shapes o b (shape.Not n p)
+refuses : (o : Result Vertices) (b : Cursor) (n p : ℕ) → o ≡ reject n p → p ≤ b .end → Shapes o b (shape.Reject n p)
 refuses o b n p e h = record { is = rw e; within = h }
 
 module _ (mode : Mode) (s : List ℕ) (at : ℕ) (b : Cursor) (body : Body at b (length s)) where
   inside : Inside b (length s)
   inside = body-inside s at b body
 
-  pub shape-cut : b .end - b .at < 12 → Shapes (readVertices mode at (left b s)) b (shape.Not 5 (b .at))
+  pub shape-cut : b .end - b .at < 12 → Shapes (readVertices mode at (left b s)) b (shape.Reject 5 (b .at))
   unfolding readVertices
   shape-cut h =
       refuses _ b 5 (b .at) (rw (← body .head, row-short verticesHead (b .at) (left b s) (omega (arith, left-length s b inside)))) (body .room)
@@ -98,9 +98,6 @@ module _ (mode : Mode) (s : List ℕ) (at : ℕ) (b : Cursor) (body : Body at b 
   module _
       (room : 12 ≤ b .end - b .at) (flags sets size : ℕ)
       (f : flags ≡ wordAt s (b .at)) (g : sets ≡ wordAt s (b .at + 4)) (h : size ≡ wordAt s (b .at + 8)) where
-    inside-after : Inside (after b) (length s)
-    inside-after = record { before = omega arith; within = body .within }
-
     three : wordsOf 3 (left b s) ≡ flags ∷ sets ∷ size ∷ []
     three = three-left s b inside room ∙ rw (f, g, h)
 
@@ -110,17 +107,17 @@ module _ (mode : Mode) (s : List ℕ) (at : ℕ) (b : Cursor) (body : Body at b 
         rw (← body .head, left-drop s b 12 (after b) refl refl, ← three)
         (row-enough verticesHead (b .at) (left b s) (omega (arith, left-length s b inside)))
 
-    pub shape-flags : 3 < flags → Shapes (readVertices mode at (left b s)) b (shape.Not 6 (b .at))
+    pub shape-flags : 3 < flags → Shapes (readVertices mode at (left b s)) b (shape.Reject 6 (b .at))
     unfolding readVertices judged check
     shape-flags o = refuses _ b 6 (b .at) (rw (head, lt-leb _ _ o)) (body .room)
 
     module _ (f3 : flags ≤ 3) where
-      pub shape-sets : 8 < sets → Shapes (readVertices mode at (left b s)) b (shape.Not 6 (b .at + 4))
+      pub shape-sets : 8 < sets → Shapes (readVertices mode at (left b s)) b (shape.Reject 6 (b .at + 4))
       unfolding readVertices judged check
       shape-sets o = refuses _ b 6 (b .at + 4) (rw (head, le-leb _ _ f3, lt-leb _ _ o)) (omega arith)
 
       module _ (s8 : sets ≤ 8) where
-        pub shape-size : 4 < size → Shapes (readVertices mode at (left b s)) b (shape.Not 6 (b .at + 8))
+        pub shape-size : 4 < size → Shapes (readVertices mode at (left b s)) b (shape.Reject 6 (b .at + 8))
         unfolding readVertices judged check
         shape-size o =
             let p : b .at + 4 + 4 ≡ b .at + 8 = omega arith in
@@ -140,13 +137,13 @@ module _ (mode : Mode) (s : List ℕ) (at : ℕ) (b : Cursor) (body : Body at b 
               y ∙ ap (λ (rs : List Rule). counted (items (row rs) (b .at + 12) (left (after b) s)))
               (ap (λ (n : ℕ). partRow unit (beforeColour flags) (coloursOf mode flags) (n - (beforeColour flags + coloursOf mode flags))) v ∙ sym (colours-are mode flags sets size))
 
-          pub shape-bad : (n p : ℕ) → x ≡ counts.Not n p → Shapes (readVertices mode at (left b s)) b (shape.Not n p)
+          pub shape-bad : (n p : ℕ) → x ≡ counts.Reject n p → Shapes (readVertices mode at (left b s)) b (shape.Reject n p)
           unfolding readVertices
           shape-bad n p q =
               let g = counted-bad (verticesAt mode s (after b) flags sets size) n p (sym found ∙ q) in
               refuses _ b n p (rw (whole, g)) (counted-before (after b) words x z n p q)
 
-          pub shape-all : (k : ℕ) → x ≡ counts.Is k → Shapes (readVertices mode at (left b s)) b (shape.Is k words)
+          pub shape-all : (k : ℕ) → x ≡ counts.Accept k → Shapes (readVertices mode at (left b s)) b (shape.Accept k words)
           unfolding readVertices
           shape-all k q =
               let g = counted-got (verticesAt mode s (after b) flags sets size) k (sym found ∙ q) in

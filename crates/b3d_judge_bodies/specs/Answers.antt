@@ -12,13 +12,13 @@ use Rattle.b3d_judge_bodies.specs.declared.VerticesSummary.the-variants 
 
 -- the answer on a VRTS that was read: how many vertices, and of how many words; or its refusal
 abbrev pub shaped : Result Vertices → VerticesSummary
-shaped (accept v) = shape.Is (length (v .items)) (vertexWords (v .flags) (v .sets) (v .size))
-shaped (reject n p) = shape.Not n p
+shaped (accept v) = shape.Accept (length (v .items)) (vertexWords (v .flags) (v .sets) (v .size))
+shaped (reject n p) = shape.Reject n p
 
 -- bounds of an answer on a VRTS with the body b: its fixed data and k vertices have room there; a refusal's place is not past its end
 abbrev pub ShapedIn : Cursor → VerticesSummary → Type 0
-ShapedIn b (shape.Is k words) = (12 + k * (4 * words) ≤ b .end - b .at) × (3 ≤ words) × (words ≤ vertexWidth)
-ShapedIn b (shape.Not n p) = p ≤ b .end
+ShapedIn b (shape.Accept k words) = (12 + k * (4 * words) ≤ b .end - b .at) × (3 ≤ words) × (words ≤ vertexWidth)
+ShapedIn b (shape.Reject n p) = p ≤ b .end
 
 -- r is the answer on the VRTS o with the body b
 pub record Shapes (o : Result Vertices) (b : Cursor) (r : VerticesSummary) : Type 0 where

@@ -26,8 +26,8 @@ use wire::Number;
 
 // How many vertices there are and how many words each has, or a refusal and its place.
 pub enum VerticesSummary {
-    Is(usize, usize),
-    Not(u32, usize),
+    Accept(usize, usize),
+    Reject(u32, usize),
 }
 
 // Judges the `body` of a KEYS whose header is at `at`: its flags, then keys to the end, none at all being allowed. Returns its tally; 5 where flags or a key
@@ -37,15 +37,15 @@ pub fn judge_keys(s: &[u8], at: usize, body: Cursor) -> Judged
     ensures { λ r. ⌜ Judges listTally (readKeys at (left body (now (s .entry)))) at (body .end) r ⌝ }
 {
     match body.number(s) {
-        Number::Cut => Judged::Bad(refusals::CUT_ITEM, body.at),
+        Number::Cut => Judged::Reject(refusals::CUT_ITEM, body.at),
         Number::Is(flags, items) => {
             if HIGHEST_KEY_FLAGS < flags {
-                return Judged::Bad(refusals::RANGE, body.at);
+                return Judged::Reject(refusals::RANGE, body.at);
             }
             let words = b3d_rule_widths::key_words(flags);
             match b3d_judge_items::whole_items(items, words) {
-                Counted::Not(n, p) => Judged::Bad(n, p),
-                Counted::Is(count) => Judged::Good(b3d_judge_tally::keys(count, words)),
+                Counted::Reject(n, p) => Judged::Reject(n, p),
+                Counted::Accept(count) => Judged::Accept(b3d_judge_tally::keys(count, words)),
             }
         }
     }
@@ -58,8 +58,8 @@ pub fn judge_bone(s: &[u8], at: usize, body: Cursor, vertices: usize) -> Judged
     ensures { λ r. ⌜ Judges boneTally (readBone vertices at (left body (now (s .entry)))) at (body .end) r ⌝ }
 {
     match b3d_judge_items::id_items(s, body, 2, 1, vertices) {
-        Counted::Not(n, p) => Judged::Bad(n, p),
-        Counted::Is(count) => Judged::Good(b3d_judge_tally::weights(count)),
+        Counted::Reject(n, p) => Judged::Reject(n, p),
+        Counted::Accept(count) => Judged::Accept(b3d_judge_tally::weights(count)),
     }
 }
 
@@ -99,19 +99,19 @@ pub fn judge_vertices(s: &[u8], at: usize, body: Cursor, mode: Mode) -> Vertices
     let start = body.at;
     let end = body.end;
     if end - start < 12 {
-        return VerticesSummary::Not(refusals::CUT_ITEM, start);
+        return VerticesSummary::Reject(refusals::CUT_ITEM, start);
     }
     let flags = wire::number_at(s, start);
     let sets = wire::number_at(s, start + 4);
     let size = wire::number_at(s, start + 8);
     if HIGHEST_VERTEX_FLAGS < flags {
-        return VerticesSummary::Not(refusals::RANGE, start);
+        return VerticesSummary::Reject(refusals::RANGE, start);
     }
     if MOST_SETS < sets {
-        return VerticesSummary::Not(refusals::RANGE, start + 4);
+        return VerticesSummary::Reject(refusals::RANGE, start + 4);
     }
     if LARGEST_SET < size {
-        return VerticesSummary::Not(refusals::RANGE, start + 8);
+        return VerticesSummary::Reject(refusals::RANGE, start + 8);
     }
     let words = b3d_rule_widths::vertex_words(flags, sets, size);
     let items = Cursor {
@@ -119,8 +119,8 @@ pub fn judge_vertices(s: &[u8], at: usize, body: Cursor, mode: Mode) -> Vertices
         end,
     };
     match vertex_items(s, items, words, flags, mode) {
-        Counted::Not(n, p) => VerticesSummary::Not(n, p),
-        Counted::Is(count) => VerticesSummary::Is(count, words),
+        Counted::Reject(n, p) => VerticesSummary::Reject(n, p),
+        Counted::Accept(count) => VerticesSummary::Accept(count, words),
     }
 }
 
@@ -131,14 +131,14 @@ pub fn judge_triangles(s: &[u8], at: usize, body: Cursor, brushes: usize, vertic
     ensures { λ r. ⌜ Judges setTally (readTriangles brushes vertices at (left body (now (s .entry)))) at (body .end) r ⌝ }
 {
     match body.number(s) {
-        Number::Cut => Judged::Bad(refusals::CUT_ITEM, body.at),
+        Number::Cut => Judged::Reject(refusals::CUT_ITEM, body.at),
         Number::Is(brush, items) => {
             if !shared_ids::id_valid(brush, brushes, true) {
-                return Judged::Bad(refusals::NO_SUCH_ID, body.at);
+                return Judged::Reject(refusals::NO_SUCH_ID, body.at);
             }
             match b3d_judge_items::id_items(s, items, 3, 3, vertices) {
-                Counted::Not(n, p) => Judged::Bad(n, p),
-                Counted::Is(count) => Judged::Good(b3d_judge_tally::triangles(count)),
+                Counted::Reject(n, p) => Judged::Reject(n, p),
+                Counted::Accept(count) => Judged::Accept(b3d_judge_tally::triangles(count)),
             }
         }
     }

@@ -1,3 +1,3 @@
 -- Rows that begin with a name, counted; brushes.
-pub mod Counting
-pub mod Brushes
+pub mod CountLaws
+pub mod BrushLaws

@@ -17,10 +17,10 @@ brushColours Lenient = 0
 
 -- how many brushes were read, or the refusal
 abbrev pub countedBrushes : Result (List Brush) → Counted
-countedBrushes (accept l) = counts.Is (length l)
-countedBrushes (reject n p) = counts.Not n p
+countedBrushes (accept l) = counts.Accept (length l)
+countedBrushes (reject n p) = counts.Reject n p
 
 -- k brushes have room in what c has left, each the zero of a text, seven words and `slots` ids at least; a refusal's place is not past its end
 abbrev pub BrushesIn : Cursor → ℕ → Counted → Type 0
-BrushesIn c slots (counts.Is k) = k * (29 + 4 * slots) ≤ c .end - c .at
-BrushesIn c slots (counts.Not n p) = p ≤ c .end
+BrushesIn c slots (counts.Accept k) = k * (29 + 4 * slots) ≤ c .end - c .at
+BrushesIn c slots (counts.Reject n p) = p ≤ c .end

@@ -34,13 +34,13 @@ pub fn brush_items(s: &[u8], from: Cursor, slots: usize, textures: usize, mode: 
     while c.at < c.end {
         match b3d_chunk_cursor::named_row(s, c, 7 + slots) {
             Named::Cut => {
-                return Counted::Not(refusals::CUT_ITEM, c.at);
+                return Counted::Reject(refusals::CUT_ITEM, c.at);
             }
             Named::Is { row, next, .. } => {
                 let colours = brush_colours(mode);
                 let passed = b3d_judge_colour_items::first_bad_colour(s, row, colours);
                 if passed < colours {
-                    return Counted::Not(refusals::RANGE, row.at + 4 * passed);
+                    return Counted::Reject(refusals::RANGE, row.at + 4 * passed);
                 }
                 let ids = Cursor {
                     at: row.at + 28,
@@ -48,12 +48,12 @@ pub fn brush_items(s: &[u8], from: Cursor, slots: usize, textures: usize, mode: 
                 };
                 let good = shared_ids::first_invalid(s, ids, slots, textures, true);
                 if good < slots {
-                    return Counted::Not(refusals::NO_SUCH_ID, ids.at + 4 * good);
+                    return Counted::Reject(refusals::NO_SUCH_ID, ids.at + 4 * good);
                 }
                 count += 1;
                 c = next;
             }
         }
     }
-    Counted::Is(count)
+    Counted::Accept(count)
 }

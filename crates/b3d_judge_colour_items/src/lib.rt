@@ -40,15 +40,15 @@ pub fn colour_items(s: &[u8], from: Cursor, words: usize, before: usize, n: usiz
     let mut count: usize = 0;
     while at < end {
         if end - at < item {
-            return Counted::Not(refusals::CUT_ITEM, at);
+            return Counted::Reject(refusals::CUT_ITEM, at);
         }
         let first = at + 4 * before;
         let good = first_bad_colour(s, Cursor { at: first, end }, n);
         if good < n {
-            return Counted::Not(refusals::RANGE, first + 4 * good);
+            return Counted::Reject(refusals::RANGE, first + 4 * good);
         }
         at += item;
         count += 1;
     }
-    Counted::Is(count)
+    Counted::Accept(count)
 }

@@ -10,7 +10,7 @@ use Rattle.wire.specs.declared.Cursor.{Cursor}
 use Rattle.wire.specs.declared.Number.{Number}
 use Rattle.wire.specs.declared.Number.the-variants as number
 use Rattle.layout.specs.Result.{Result, accept, _>>=_}
-use Rattle.layout.proofs.Outs.{bind-cong, bind-bind}
+use Rattle.layout.proofs.ResultLaws.{bind-cong, bind-bind}
 use Rattle.b3d_spec.specs.declared.Mode.{Mode}
 use Rattle.b3d_spec.specs.declared.Tag.the-variants.{BB3D, TEXS, BRUS, NODE}
 use Rattle.layout.specs.Chunks.{done, stop, chunk, ended}
@@ -21,7 +21,7 @@ use Rattle.b3d_spec.specs.Rules.{version}
 use Rattle.b3d_spec.specs.Nesting.{start, inside}
 use Rattle.b3d_spec.specs.Parse.{readOne, readTextures, readBrushes, readRoot, slotsOf, readBody}
 use Rattle.b3d_spec_chunk_places.specs.Places.{Body, restIn, Among}
-use Rattle.b3d_spec_chunk_places.proofs.Heads.{head-cut, head-numbered, head-over, head-within}
+use Rattle.b3d_spec_chunk_places.proofs.HeadLaws.{head-cut, head-numbered, head-over, head-within}
 use Rattle.b3d_judge_file_chunks.specs.Answers.{readLast, readRest}
 use Rattle.b3d_judge_file_body.specs.Bodies.{readChunks, walked, WalkedIn, Walks}
 use Rattle.b3d_judge_file_body.specs.declared.Verdict.{Verdict}
@@ -87,12 +87,12 @@ module _ (mode : Mode) (s : List ℕ) (lo : 8 ≤ length s) (hi : length s ≤ m
   abbrev Body-right : Verdict → Type 0
   Body-right y = Walks (readBody mode 8 (drop 8 s)) (length s) y
 
-  pub body-cut : r ≡ number.Cut → Body-right (verdict.Bad 5 8)
+  pub body-cut : r ≡ number.Cut → Body-right (verdict.Reject 5 8)
   unfolding readBody
   body-cut w = record { is = rw (← left-behind s, head-cut s 0 (behind s) body-is r e version w); within = lo }
 
   module _ (k : ℕ) (c : Cursor) (w : r ≡ number.Is k c) where
-    pub body-version : 99 < k → Body-right (verdict.Bad 6 8)
+    pub body-version : 99 < k → Body-right (verdict.Reject 6 8)
     unfolding readBody
     body-version h = record { is = rw (← left-behind s, head-over s 0 (behind s) body-is r e k c w 99 h); within = lo }
 

@@ -19,7 +19,7 @@ use Rattle.b3d_judge_materials.specs.Answers.{SlottedIn}
 use Rattle.b3d_judge_materials.specs.declared.BrushesSummary.{BrushesSummary}
 use Rattle.b3d_judge_materials.specs.declared.BrushesSummary.the-variants as slotted
 use Rattle.b3d_judge_tally.specs.declared.Tally.{Tally}
-use Rattle.b3d_judge_tally.proofs.Tallies.{plus-assoc, within-more, within-plus, within-bytes}
+use Rattle.b3d_judge_tally.proofs.TallyLaws.{plus-assoc, within-more, within-plus, within-bytes}
 use Rattle.b3d_spec_chunk_places.specs.Places.{restIn, Among}
 use Rattle.b3d_judge_file_chunks.specs.Answers.{readRest, PhasedIn, Phases, brushes, Rests}
 use Rattle.b3d_judge_file_body.specs.Bodies.{readChunks, walked, Walks}
@@ -28,8 +28,8 @@ use Rattle.b3d_judge_file_chunks.specs.declared.Phase.{Phase}
 use Rattle.b3d_judge_file_chunks.specs.declared.Phase.the-variants as phase
 use Rattle.b3d_judge_file_body.specs.declared.Verdict.{Verdict}
 use Rattle.b3d_judge_file_body.specs.declared.Verdict.the-variants as verdict
-use Rattle.b3d_judge_materials.proofs.TallyCounts.{texs-count}
-use Rattle.b3d_judge_file_chunks.proofs.Answered.{tallied-bad, GaveFound, tallied-good, phases-at, rested-bad, rested-good}
+use Rattle.b3d_judge_materials.proofs.TallyCountLaws.{texs-count}
+use Rattle.b3d_judge_file_chunks.proofs.AnswerLaws.{tallied-bad, GaveFound, tallied-good, phases-at, rested-bad, rested-good}
 
 -- ---- the ways of `file_rows`
 
@@ -59,13 +59,13 @@ module _ (mode : Mode) (s : List ℕ) (v : ℕ) (from : Cursor) (g : Among 0 fro
   abbrev all : Result (Found (List Texture)) → Result Scene
   all o = o >>= λ t. then (t .value) (readRest mode (length (t .value)) (t .rest))
 
-  pub chunks-texs-bad : (e q : ℕ) → j ≡ phase.Not e q → Right (verdict.Bad e q)
+  pub chunks-texs-bad : (e q : ℕ) → j ≡ phase.Reject e q → Right (verdict.Reject e q)
   unfolding readChunks
   chunks-texs-bad e q z =
       let b = tallied-bad texsTally (readOne TEXS [] readTextures (restIn s BB3D 0 start from)) e q (phases-at texsTally (readOne TEXS [] readTextures (restIn s BB3D 0 start from)) (restIn s BB3D 0 (reachedAt 1 true)) from j hj z) in
       record { is = rw b; within = subst (PhasedIn from) z (hj .within) }
 
-  module _ (t : Tally) (c : Cursor) (z : j ≡ phase.To t c) where
+  module _ (t : Tally) (c : Cursor) (z : j ≡ phase.Accept t c) where
     texs-on : Onward from c t
     texs-on = subst (PhasedIn from) z (hj .within)
 
@@ -92,21 +92,21 @@ module _ (mode : Mode) (s : List ℕ) (v : ℕ) (from : Cursor) (g : Among 0 fro
         ap all (a .is) ∙ ap (λ (n : ℕ). then (a .value) (readRest mode n (restIn s BB3D 0 (reachedAt 1 true) c))) e
 
     module _ (i : BrushesSummary) (hi : Rests (readRest mode (t .textures) (restIn s BB3D 0 (reachedAt 1 true) c)) (c .at) (c .end) i) where
-      pub chunks-rest-bad : (e q : ℕ) → i ≡ slotted.Not e q → Right (verdict.Bad e q)
+      pub chunks-rest-bad : (e q : ℕ) → i ≡ slotted.Reject e q → Right (verdict.Reject e q)
       chunks-rest-bad e q w =
           let n = rested-bad (readRest mode (t .textures) (restIn s BB3D 0 (reachedAt 1 true) c)) e q (sym (hi .is) ∙ w) in
           let le : q ≤ c .end = subst (SlottedIn (c .at) (c .end)) w (hi .within) in
           let o = texs-on in
           record { is = rw (texs-read, n); within = omega (arith, o .same) }
 
-      module _ (slots : ℕ) (r : Tally) (w : i ≡ slotted.Is slots r) where
+      module _ (slots : ℕ) (r : Tally) (w : i ≡ slotted.Accept slots r) where
         rest-within : Within r (c .end - c .at)
         rest-within = subst (SlottedIn (c .at) (c .end)) w (hi .within)
 
         pub chunks-rest-small : Within r mostBytes
         chunks-rest-small = let a = chunks-among in within-more (c .end - c .at) mostBytes rest-within (omega (arith, a .within, a .small))
 
-        pub chunks-good : (m : Tally) → m ≡ plus (plus (bytesTally 12) t) r → Right (verdict.Good (record { version = v; «n_texs» = slots; tally = m }))
+        pub chunks-good : (m : Tally) → m ≡ plus (plus (bytesTally 12) t) r → Right (verdict.Accept (record { version = v; «n_texs» = slots; tally = m }))
         unfolding sceneTally
         chunks-good m e =
             let o = texs-on in
@@ -118,7 +118,7 @@ module _ (mode : Mode) (s : List ℕ) (v : ℕ) (from : Cursor) (g : Among 0 fro
             e ∙ ap₂ plus (ap (plus (bytesTally 12)) (a .has)) (x .has)
             ∙ sym (plus-assoc (plus (bytesTally 12) (texsTally (a .value))) (brusTally (x .value .0 .0) (x .value .0 .1)) (forestTally (x .value .1))) in
             record {
-              is = (λ i. verdict.Good (record { version = v; «n_texs» = x .slots i; tally = total i })) ∙ ap walked (sym to);
+              is = (λ i. verdict.Accept (record { version = v; «n_texs» = x .slots i; tally = total i })) ∙ ap walked (sym to);
               within = rw e (within-plus (plus (bytesTally 12) t) r (c .at) (c .end - c .at) (from .end) first-within rest-within (omega (arith, o .room, o .same)));
             }
 

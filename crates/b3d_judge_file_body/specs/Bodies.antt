@@ -23,13 +23,13 @@ readChunks mode version cs = do
 
 -- the answer before the row limit is looked at: version, n_texs and the tally of the walk; or the refusal
 abbrev pub walked : Result Scene → Verdict
-walked (accept t) = verdict.Good (record { version = t .version; «n_texs» = t .slots; tally = sceneTally t })
-walked (reject n p) = verdict.Bad n p
+walked (accept t) = verdict.Accept (record { version = t .version; «n_texs» = t .slots; tally = sceneTally t })
+walked (reject n p) = verdict.Reject n p
 
 -- bounds of an answer on n bytes: the tally is of no more bytes than that; a refusal's place is not past them
 abbrev pub WalkedIn : ℕ → Verdict → Type 0
-WalkedIn n (verdict.Good x) = Within (x .tally) n
-WalkedIn n (verdict.Bad k p) = p ≤ n
+WalkedIn n (verdict.Accept x) = Within (x .tally) n
+WalkedIn n (verdict.Reject k p) = p ≤ n
 
 -- r is the answer on the scene o of a file of `to` bytes, before the row limit is looked at
 pub record Walks (o : Result Scene) (to : ℕ) (r : Verdict) : Type 0 where

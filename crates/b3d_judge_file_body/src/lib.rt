@@ -27,8 +27,8 @@ pub struct Summary {
 
 // What a file says, or its refusal and the place.
 pub enum Verdict {
-    Good(Summary),
-    Bad(u32, usize),
+    Accept(Summary),
+    Reject(u32, usize),
 }
 
 // Returns the tally of a file: BB3D's header and version, its `textures`, and the `rest`.
@@ -48,10 +48,10 @@ fn judge_chunks(s: &[u8], version: u32, from: Cursor, mode: Mode) -> Verdict
     ensures { λ r. ⌜ Walks (readChunks mode version (restIn (now (s .entry)) BB3D 0 start from)) (from .end) r ⌝ }
 {
     match b3d_judge_file_chunks::judge_texs_chunk(s, from) {
-        Phase::Not(e, p) => Verdict::Bad(e, p),
-        Phase::To(t, c) => match b3d_judge_file_chunks::judge_rest(s, c, t.textures, mode) {
-            BrushesSummary::Not(e, p) => Verdict::Bad(e, p),
-            BrushesSummary::Is(slots, r) => Verdict::Good(Summary {
+        Phase::Reject(e, p) => Verdict::Reject(e, p),
+        Phase::Accept(t, c) => match b3d_judge_file_chunks::judge_rest(s, c, t.textures, mode) {
+            BrushesSummary::Reject(e, p) => Verdict::Reject(e, p),
+            BrushesSummary::Accept(slots, r) => Verdict::Accept(Summary {
                 version,
                 n_texs: slots,
                 tally: file_rows(t, r),
@@ -71,10 +71,10 @@ pub fn judge_body(s: &[u8], mode: Mode) -> Verdict
         end: s.len(),
     };
     match behind.number(s) {
-        Number::Cut => Verdict::Bad(refusals::CUT_ITEM, 8),
+        Number::Cut => Verdict::Reject(refusals::CUT_ITEM, 8),
         Number::Is(version, c) => {
             if HIGHEST_VERSION < version {
-                return Verdict::Bad(refusals::RANGE, 8);
+                return Verdict::Reject(refusals::RANGE, 8);
             }
             judge_chunks(s, version, c, mode)
         }

@@ -1,5 +1,5 @@
 -- The laws of its ways.
-pub mod Answered
+pub mod AnswerLaws
 pub mod OneLaws
 pub mod FileLaws
 pub mod RestLaws

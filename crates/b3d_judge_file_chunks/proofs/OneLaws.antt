@@ -11,7 +11,7 @@ use Rattle.wire.specs.Cursors.{left}
 use Rattle.wire.specs.declared.Cursor.{Cursor}
 use Rattle.layout.specs.Result.{Result, accept, _>>=_}
 use Rattle.layout.specs.Chunks.{done, chunk}
-use Rattle.layout.proofs.Outs.{if-yes, if-no}
+use Rattle.layout.proofs.ResultLaws.{if-yes, if-no}
 use Rattle.b3d_spec.specs.declared.Tag.{Tag}
 use Rattle.b3d_spec.specs.declared.Tag.the-variants.{BB3D}
 use Rattle.b3d_spec.specs.Tags.{is}
@@ -22,8 +22,8 @@ use Rattle.b3d_chunk_cursor.specs.Chunks.{NextIs}
 use Rattle.b3d_chunk_cursor.specs.declared.Next.{Next}
 use Rattle.b3d_chunk_cursor.specs.declared.Next.the-variants as next
 use Rattle.b3d_spec_chunk_places.specs.Places.{restIn}
-use Rattle.b3d_chunk_next_allowed.proofs.Rests.{rest-chunk, rest-done}
-use Rattle.b3d_spec_chunk_places.proofs.TagTests.{plain, plain-here}
+use Rattle.b3d_chunk_next_allowed.proofs.RestLaws.{rest-chunk, rest-done}
+use Rattle.b3d_spec_chunk_places.proofs.TagTestLaws.{plain, plain-here}
 
 -- nothing is owed at the end of a BB3D
 file-done : (q : Reached) → order BB3D 0 q done ≡ done

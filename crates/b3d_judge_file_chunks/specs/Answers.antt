@@ -42,13 +42,13 @@ tallied f (reject n p) = reject n p
 
 -- what an answer says: the tally, and the chunks from the cursor on by `rest`; or the refusal
 abbrev pub phased : (Cursor → Chunks) → Phase → Result (Tally × Chunks)
-phased rest (phase.To t c) = accept (t, rest c)
-phased rest (phase.Not n p) = reject n p
+phased rest (phase.Accept t c) = accept (t, rest c)
+phased rest (phase.Reject n p) = reject n p
 
 -- bounds of an answer from the cursor `from` on: the cursor further on, with a tally of no more bytes than lie between; a refusal's place not past the end
 abbrev pub PhasedIn : Cursor → Phase → Type 0
-PhasedIn from (phase.To t c) = Onward from c t
-PhasedIn from (phase.Not n p) = p ≤ from .end
+PhasedIn from (phase.Accept t c) = Onward from c t
+PhasedIn from (phase.Reject n p) = p ≤ from .end
 
 -- r is the answer on what was read, o, from the cursor `from` on, `rest` giving the chunks from a cursor on
 pub record Phases {A : Type 0} (tally : A → Tally) (o : Result (Found A)) (rest : Cursor → Chunks) (from : Cursor) (r : Phase) : Type 0 where
@@ -71,14 +71,14 @@ brushes = beside slotsIn brusIn
 
 -- what an answer on a BRUS says: n_texs, the tally, and the chunks from the cursor on by `rest`; or the refusal
 abbrev pub brushedBy : (Cursor → Chunks) → BrusSummary → Result (ℕ × Tally × Chunks)
-brushedBy rest (brushed.To k t c) = accept (k, t, rest c)
-brushedBy rest (brushed.Not n p) = reject n p
+brushedBy rest (brushed.Accept k t c) = accept (k, t, rest c)
+brushedBy rest (brushed.Reject n p) = reject n p
 
 -- bounds of an answer on a BRUS from the cursor `from` on: the cursor further on, with a tally of no more bytes than lie between; a refusal's place not past
 -- the end
 abbrev pub BrushedIn : Cursor → BrusSummary → Type 0
-BrushedIn from (brushed.To k t c) = Onward from c t
-BrushedIn from (brushed.Not n p) = p ≤ from .end
+BrushedIn from (brushed.Accept k t c) = Onward from c t
+BrushedIn from (brushed.Reject n p) = p ≤ from .end
 
 -- r is the answer on the BRUS o from the cursor `from` on, `rest` giving the chunks from a cursor on
 pub record Brushes (o : Result (Found (ℕ × List Brush))) (rest : Cursor → Chunks) (from : Cursor) (r : BrusSummary) : Type 0 where
@@ -89,8 +89,8 @@ pub record Brushes (o : Result (Found (ℕ × List Brush))) (rest : Cursor → C
 
 -- the answer on brushes and nodes that were read: n_texs and their tally; or the refusal
 abbrev pub rested : Result ((ℕ × List Brush) × Forest) → BrushesSummary
-rested (accept x) = slots.Is (x .0 .0) (plus (brusTally (x .0 .0) (x .0 .1)) (forestTally (x .1)))
-rested (reject n p) = slots.Not n p
+rested (accept x) = slots.Accept (x .0 .0) (plus (brusTally (x .0 .0) (x .0 .1)) (forestTally (x .1)))
+rested (reject n p) = slots.Reject n p
 
 -- r is the answer on the brushes and nodes o, which stand from place `from` to place `to`
 pub record Rests (o : Result ((ℕ × List Brush) × Forest)) (from to : ℕ) (r : BrushesSummary) : Type 0 where

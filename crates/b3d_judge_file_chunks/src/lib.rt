@@ -23,14 +23,14 @@ use wire::Cursor;
 
 // The tally of chunks that were judged, and the cursor after them; or a refusal and its place.
 pub enum Phase {
-    To(Tally, Cursor),
-    Not(u32, usize),
+    Accept(Tally, Cursor),
+    Reject(u32, usize),
 }
 
 // n_texs, 0 without a brush, the tally of the brushes, and the cursor after them; or a refusal and its place.
 pub enum BrusSummary {
-    To(u32, Tally, Cursor),
-    Not(u32, usize),
+    Accept(u32, Tally, Cursor),
+    Reject(u32, usize),
 }
 
 // How far the chunks of a file have come after its TEXS, or without one.
@@ -60,8 +60,8 @@ pub fn judge_texs_chunk(s: &[u8], from: Cursor) -> Phase
 {
     let found = b3d_chunk_cursor::next_chunk(s, from);
     match b3d_chunk_next_allowed::first_inside(s, from, found, Tag::BB3D, 0) {
-        Enclosed::End => Phase::To(b3d_judge_tally::none(), from),
-        Enclosed::Not(e, p) => Phase::Not(e, p),
+        Enclosed::End => Phase::Accept(b3d_judge_tally::none(), from),
+        Enclosed::Reject(e, p) => Phase::Reject(e, p),
         Enclosed::Chunk {
             tag,
             at,
@@ -70,10 +70,10 @@ pub fn judge_texs_chunk(s: &[u8], from: Cursor) -> Phase
             ..
         } => match tag {
             Tag::TEXS => match b3d_judge_materials::judge_textures(s, at, body) {
-                Judged::Bad(e, p) => Phase::Not(e, p),
-                Judged::Good(t) => Phase::To(t, next),
+                Judged::Reject(e, p) => Phase::Reject(e, p),
+                Judged::Accept(t) => Phase::Accept(t, next),
             },
-            _ => Phase::To(b3d_judge_tally::none(), from),
+            _ => Phase::Accept(b3d_judge_tally::none(), from),
         },
     }
 }
@@ -87,8 +87,8 @@ pub fn judge_brus_chunk(s: &[u8], from: Cursor, textures: usize, mode: Mode) -> 
 {
     let found = b3d_chunk_cursor::next_chunk(s, from);
     match b3d_chunk_next_allowed::next_inside(s, from, found, Tag::BB3D, 0, TEXS_READ) {
-        Enclosed::End => BrusSummary::To(0, b3d_judge_tally::none(), from),
-        Enclosed::Not(e, p) => BrusSummary::Not(e, p),
+        Enclosed::End => BrusSummary::Accept(0, b3d_judge_tally::none(), from),
+        Enclosed::Reject(e, p) => BrusSummary::Reject(e, p),
         Enclosed::Chunk {
             tag,
             at,
@@ -97,10 +97,10 @@ pub fn judge_brus_chunk(s: &[u8], from: Cursor, textures: usize, mode: Mode) -> 
             ..
         } => match tag {
             Tag::BRUS => match b3d_judge_materials::judge_brushes(s, at, body, textures, mode) {
-                BrushesSummary::Not(e, p) => BrusSummary::Not(e, p),
-                BrushesSummary::Is(slots, t) => BrusSummary::To(slots, t, next),
+                BrushesSummary::Reject(e, p) => BrusSummary::Reject(e, p),
+                BrushesSummary::Accept(slots, t) => BrusSummary::Accept(slots, t, next),
             },
-            _ => BrusSummary::To(0, b3d_judge_tally::none(), from),
+            _ => BrusSummary::Accept(0, b3d_judge_tally::none(), from),
         },
     }
 }
@@ -114,12 +114,12 @@ fn judge_root(s: &[u8], from: Cursor, brushes: usize, mode: Mode) -> Phase
 {
     let found = b3d_chunk_cursor::next_chunk(s, from);
     match b3d_chunk_next_allowed::next_inside(s, from, found, Tag::BB3D, 0, BRUS_READ) {
-        Enclosed::End => Phase::To(b3d_judge_tally::none(), from),
-        Enclosed::Not(e, p) => Phase::Not(e, p),
+        Enclosed::End => Phase::Accept(b3d_judge_tally::none(), from),
+        Enclosed::Reject(e, p) => Phase::Reject(e, p),
         Enclosed::Chunk { at, body, next, .. } => {
             match b3d_judge_nodes::judge_node(s, at, body, ALL_LEVELS, brushes, Above::Root, mode) {
-                Judged::Bad(e, p) => Phase::Not(e, p),
-                Judged::Good(t) => Phase::To(t, next),
+                Judged::Reject(e, p) => Phase::Reject(e, p),
+                Judged::Accept(t) => Phase::Accept(t, next),
             }
         }
     }
@@ -132,14 +132,14 @@ fn judge_last(s: &[u8], from: Cursor, brushes: usize, mode: Mode) -> Judged
     ensures { λ r. ⌜ Judges forestTally (readLast mode brushes (restIn (now (s .entry)) BB3D 0 (reachedAt 2 true) from)) (from .at) (from .end) r ⌝ }
 {
     match judge_root(s, from, brushes, mode) {
-        Phase::Not(e, p) => Judged::Bad(e, p),
-        Phase::To(t, end) => {
+        Phase::Reject(e, p) => Judged::Reject(e, p),
+        Phase::Accept(t, end) => {
             let found = b3d_chunk_cursor::next_chunk(s, end);
             match b3d_chunk_next_allowed::next_inside(s, end, found, Tag::BB3D, 0, ROOT_READ) {
-                Enclosed::End => Judged::Good(t),
-                Enclosed::Not(e, p) => Judged::Bad(e, p),
+                Enclosed::End => Judged::Accept(t),
+                Enclosed::Reject(e, p) => Judged::Reject(e, p),
                 // Nothing may stand here.
-                Enclosed::Chunk { .. } => Judged::Good(t),
+                Enclosed::Chunk { .. } => Judged::Accept(t),
             }
         }
     }
@@ -152,10 +152,10 @@ pub fn judge_rest(s: &[u8], from: Cursor, textures: usize, mode: Mode) -> Brushe
     ensures { λ r. ⌜ Rests (readRest mode textures (restIn (now (s .entry)) BB3D 0 (reachedAt 1 true) from)) (from .at) (from .end) r ⌝ }
 {
     match judge_brus_chunk(s, from, textures, mode) {
-        BrusSummary::Not(e, p) => BrushesSummary::Not(e, p),
-        BrusSummary::To(slots, b, c) => match judge_last(s, c, b.brushes, mode) {
-            Judged::Bad(e, p) => BrushesSummary::Not(e, p),
-            Judged::Good(f) => BrushesSummary::Is(slots, b3d_judge_tally::plus(b, f)),
+        BrusSummary::Reject(e, p) => BrushesSummary::Reject(e, p),
+        BrusSummary::Accept(slots, b, c) => match judge_last(s, c, b.brushes, mode) {
+            Judged::Reject(e, p) => BrushesSummary::Reject(e, p),
+            Judged::Accept(f) => BrushesSummary::Accept(slots, b3d_judge_tally::plus(b, f)),
         },
     }
 }

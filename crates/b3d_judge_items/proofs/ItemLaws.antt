@@ -7,13 +7,13 @@ use mathlib.Core.List.{List, _∷_, _++_}
 use lib.ListN.{length, drop, replicate, length-append, length-replicate, length-drop}
 use Rattle.wire.specs.Cursors.{Inside, left}
 use Rattle.wire.specs.declared.Cursor.{Cursor}
-use Rattle.wire.proofs.Left.{span, left-length, left-nil, left-drop}
+use Rattle.wire.proofs.LeftLaws.{span, left-length, left-nil, left-drop}
 use Rattle.layout.specs.Result.{Result, accept, reject, _>>=_}
 use Rattle.layout.specs.Parts.{wordsOf, judged, row}
 use Rattle.layout.specs.Rules.{Rule, any, names, unit, refusal}
 use Rattle.layout.proofs.StepLaws.{length-words-of, judged-any, row-enough, row-short, row-shrinks, items-none, items-step, Shrinks, words-add}
 use Rattle.shared_ids.specs.Ids.{firstBad}
-use Rattle.shared_ids.proofs.Ids.{any-pass, ids-pass, ids-stop}
+use Rattle.shared_ids.proofs.IdLaws.{any-pass, ids-pass, ids-stop}
 use Rattle.b3d_judge_items.specs.Items.{partRow, partItems, idItems, colourItems, counted}
 use Rattle.b3d_judge_items.specs.declared.Counted.{Counted}
 use Rattle.b3d_judge_items.specs.declared.Counted.the-variants as counts
@@ -44,15 +44,15 @@ module _ {A : Type 0} (r : Rule) (k n j p : ℕ) (l : List ℕ) (a : A) (h : 4 *
 
 -- so many items before others
 abbrev countedFrom : ℕ → Result (List (List ℕ)) → Counted
-countedFrom k (accept l) = counts.Is (k + length l)
-countedFrom k (reject n p) = counts.Not n p
+countedFrom k (accept l) = counts.Accept (k + length l)
+countedFrom k (reject n p) = counts.Reject n p
 
 from-none : (o : Result (List (List ℕ))) → counted o ≡ countedFrom 0 o
-from-none (accept l) = let e : length l ≡ 0 + length l = omega arith in ap counts.Is e
+from-none (accept l) = let e : length l ≡ 0 + length l = omega arith in ap counts.Accept e
 from-none (reject n p) = refl
 
 from-one : (k : ℕ) (v : List ℕ) (o : Result (List (List ℕ))) → countedFrom k (o >>= λ l. accept (v ∷ l)) ≡ countedFrom (k + 1) o
-from-one k v (accept l) = let e : k + length (v ∷ l) ≡ k + 1 + length l = omega arith in ap counts.Is e
+from-one k v (accept l) = let e : k + length (v ∷ l) ≡ k + 1 + length l = omega arith in ap counts.Accept e
 from-one k v (reject n p) = refl
 
 -- so many items have been passed, from `from` up to a place; x is the answer
@@ -89,7 +89,7 @@ module _ (s : List ℕ) (words : ℕ) (r : Rule) (k n j : ℕ) (from : Cursor) (
     left-here : length (left (span at (from .end)) s) ≡ from .end - at
     left-here = left-length s (span at (from .end)) (record { before = c .to; within = c .within })
 
-    count-done : from .end ≤ at → counts.Is count ≡ x
+    count-done : from .end ≤ at → counts.Accept count ≡ x
     count-done h =
         let e : count + 0 ≡ count = omega arith in
         sym (c .rest ∙ rw (left-nil s (span at (from .end)) h, items-none (row (partRow r k n j)) (less words r k n j pos sum) at, e))
@@ -99,7 +99,7 @@ module _ (s : List ℕ) (words : ℕ) (r : Rule) (k n j : ℕ) (from : Cursor) (
           ≡ (row (partRow r k n j) at (left (span at (from .end)) s) >>= λ v. partItems r k n j (v .place) (v .left) >>= λ l. accept (v .value ∷ l))
       step = items-step (row (partRow r k n j)) (less words r k n j pos sum) at (left (span at (from .end)) s) (omega (arith, left-here))
 
-      count-cut : from .end - at < 4 * words → counts.Not 5 at ≡ x
+      count-cut : from .end - at < 4 * words → counts.Reject 5 at ≡ x
       count-cut q = sym (c .rest ∙ rw (step, row-short (partRow r k n j) at (left (span at (from .end)) s) (omega (arith, left-here, long words r k n j pos sum))))
 
       module _ (whole : 4 * words ≤ from .end - at) (first : ℕ) (d : first ≡ at + 4 * k) (g : ℕ) (e : g ≡ firstBad r (wordsOf n (left (record { at = first; end = from .end }) s))) where
@@ -107,7 +107,7 @@ module _ (s : List ℕ) (words : ℕ) (r : Rule) (k n j : ℕ) (from : Cursor) (
         there : g ≡ firstBad r (wordsOf n (drop (4 * k) (left (span at (from .end)) s)))
         there = e ∙ ap (λ (l : List ℕ). firstBad r (wordsOf n l)) (left-drop s (span at (from .end)) (4 * k) (span first (from .end)) d refl)
 
-        count-bad : g < n → counts.Not (refusal r) (first + 4 * g) ≡ x
+        count-bad : g < n → counts.Reject (refusal r) (first + 4 * g) ≡ x
         count-bad q =
             let l = left (span at (from .end)) s in
             sym (c .rest ∙ rw (step, one words r k n j pos sum at l (omega (arith, left-here)), part-bad r k n j at l _ (omega (arith, left-here)) (omega (arith, there)), ← there, ← d))
@@ -139,18 +139,18 @@ module _ (s : List ℕ) (words ids limit : ℕ) (from : Cursor) (x : Counted) wh
     id-items-sum : 0 + (ids + (words - ids)) ≡ words
     id-items-sum = omega arith
 
-    pub id-items-done : from .end ≤ at → counts.Is count ≡ x
+    pub id-items-done : from .end ≤ at → counts.Accept count ≡ x
     id-items-done = count-done s words (names limit) 0 ids (words - ids) from x at count c pos id-items-sum
 
     module _ (h : at < from .end) where
-      pub id-items-cut : from .end - at < 4 * words → counts.Not 5 at ≡ x
+      pub id-items-cut : from .end - at < 4 * words → counts.Reject 5 at ≡ x
       id-items-cut = count-cut s words (names limit) 0 ids (words - ids) from x at count c pos id-items-sum h
 
       module _ (whole : 4 * words ≤ from .end - at) (g : ℕ) (e : g ≡ firstBad (names limit) (wordsOf ids (left (record { at = at; end = from .end }) s))) where
         first-is : at ≡ at + 4 * 0
         first-is = omega arith
 
-        pub id-items-bad : g < ids → counts.Not 7 (at + 4 * g) ≡ x
+        pub id-items-bad : g < ids → counts.Reject 7 (at + 4 * g) ≡ x
         id-items-bad = count-bad s words (names limit) 0 ids (words - ids) from x at count c pos id-items-sum h whole at first-is g e
 
         pub id-items-one : ids ≤ g → g ≤ ids → Counting s words (names limit) 0 ids (words - ids) from x (at + 4 * words) (count + 1)
@@ -168,15 +168,15 @@ module _ (s : List ℕ) (words k n : ℕ) (from : Cursor) (x : Counted) where
     colour-items-sum : k + (n + (words - (k + n))) ≡ words
     colour-items-sum = omega arith
 
-    pub colour-items-done : from .end ≤ at → counts.Is count ≡ x
+    pub colour-items-done : from .end ≤ at → counts.Accept count ≡ x
     colour-items-done = count-done s words unit k n (words - (k + n)) from x at count c pos colour-items-sum
 
     module _ (h : at < from .end) where
-      pub colour-items-cut : from .end - at < 4 * words → counts.Not 5 at ≡ x
+      pub colour-items-cut : from .end - at < 4 * words → counts.Reject 5 at ≡ x
       colour-items-cut = count-cut s words unit k n (words - (k + n)) from x at count c pos colour-items-sum h
 
       module _ (whole : 4 * words ≤ from .end - at) (first : ℕ) (d : first ≡ at + 4 * k) (g : ℕ) (e : g ≡ firstBad unit (wordsOf n (left (record { at = first; end = from .end }) s))) where
-        pub colour-items-bad : g < n → counts.Not 6 (first + 4 * g) ≡ x
+        pub colour-items-bad : g < n → counts.Reject 6 (first + 4 * g) ≡ x
         colour-items-bad = count-bad s words unit k n (words - (k + n)) from x at count c pos colour-items-sum h whole first d g e
 
         pub colour-items-one : n ≤ g → g ≤ n → Counting s words unit k n (words - (k + n)) from x (at + 4 * words) (count + 1)

@@ -1,3 +1,3 @@
 -- The laws of items: what the functions rest on, and what their answers say to callers.
-pub mod Divided
+pub mod DividedLaws
 pub mod ItemLaws

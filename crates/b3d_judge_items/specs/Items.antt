@@ -29,17 +29,17 @@ colourItems before n after p s = partItems unit before n after p s
 
 -- how many items were read, or the refusal
 abbrev pub counted : Result (List (List ℕ)) → Counted
-counted (accept l) = counts.Is (length l)
-counted (reject n p) = counts.Not n p
+counted (accept l) = counts.Accept (length l)
+counted (reject n p) = counts.Reject n p
 
 -- how many items of `words` words the cursor c has left, by one division; 5 at an item that is cut
 unfoldable pub dividedAt : Cursor → ℕ → Counted
 dividedAt c words =
     let size = 4 * words in
     let n = c .end - c .at in
-    if (eqb (n % size) 0) (counts.Is (n / size)) (counts.Not 5 (c .at + n / size * size))
+    if (eqb (n % size) 0) (counts.Accept (n / size)) (counts.Reject 5 (c .at + n / size * size))
 
 -- k items of `words` words have room in what c has left; a refusal's place is not past its end
 abbrev pub CountedIn : Cursor → ℕ → Counted → Type 0
-CountedIn c words (counts.Is k) = k * (4 * words) ≤ c .end - c .at
-CountedIn c words (counts.Not n p) = p ≤ c .end
+CountedIn c words (counts.Accept k) = k * (4 * words) ≤ c .end - c .at
+CountedIn c words (counts.Reject n p) = p ≤ c .end

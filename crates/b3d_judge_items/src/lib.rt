@@ -9,8 +9,8 @@ use wire::Cursor;
 
 // How many items there are, or a refusal and its place.
 pub enum Counted {
-    Is(usize),
-    Not(u32, usize),
+    Accept(usize),
+    Reject(u32, usize),
 }
 
 // Counts the items of `words` words that `c` has left, by one division; no word is looked at. Answers 5 at an item that is cut, 0 items where no byte is
@@ -24,9 +24,9 @@ pub fn whole_items(c: Cursor, words: usize) -> Counted
     let size = 4 * words;
     let count = (end - at) / size;
     if (end - at) % size == 0 {
-        return Counted::Is(count);
+        return Counted::Accept(count);
     }
-    Counted::Not(refusals::CUT_ITEM, at + count * size)
+    Counted::Reject(refusals::CUT_ITEM, at + count * size)
 }
 
 // Counts the items of `words` words that `from` has left. The first `ids` words of each are ids below `limit`, none absent. Answers 5 at an item that is cut,
@@ -41,14 +41,14 @@ pub fn id_items(s: &[u8], from: Cursor, words: usize, ids: usize, limit: usize) 
     let mut count: usize = 0;
     while at < end {
         if end - at < size {
-            return Counted::Not(refusals::CUT_ITEM, at);
+            return Counted::Reject(refusals::CUT_ITEM, at);
         }
         let good = shared_ids::first_invalid(s, Cursor { at, end }, ids, limit, false);
         if good < ids {
-            return Counted::Not(refusals::NO_SUCH_ID, at + 4 * good);
+            return Counted::Reject(refusals::NO_SUCH_ID, at + 4 * good);
         }
         at += size;
         count += 1;
     }
-    Counted::Is(count)
+    Counted::Accept(count)
 }

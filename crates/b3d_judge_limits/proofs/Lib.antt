@@ -1,3 +1,3 @@
 -- Their laws.
-pub mod Limits
+pub mod LimitLaws
 pub mod RoomLaws

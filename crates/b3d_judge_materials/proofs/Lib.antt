@@ -1,4 +1,4 @@
 -- The laws of the judges of TEXS and BRUS.
-pub mod Textures
-pub mod Slots
-pub mod TallyCounts
+pub mod TextureLaws
+pub mod SlotLaws
+pub mod TallyCountLaws

@@ -11,13 +11,13 @@ use Rattle.b3d_judge_materials.specs.declared.BrushesSummary.the-variant
 
 -- the answer on a BRUS that was read: n_texs, 0 without a brush, and its tally; or its refusal
 abbrev pub slotted : Result (ℕ × List Brush) → BrushesSummary
-slotted (accept x) = slots.Is (slotsOf (x .0) (x .1)) (brusTally (slotsOf (x .0) (x .1)) (x .1))
-slotted (reject n p) = slots.Not n p
+slotted (accept x) = slots.Accept (slotsOf (x .0) (x .1)) (brusTally (slotsOf (x .0) (x .1)) (x .1))
+slotted (reject n p) = slots.Reject n p
 
 -- bounds of an answer on what stands from place `from` to place `to`: the tally is of no more bytes than there are; a refusal's place is not past `to`
 abbrev pub SlottedIn : ℕ → ℕ → BrushesSummary → Type 0
-SlottedIn from to (slots.Is k t) = Within t (to - from)
-SlottedIn from to (slots.Not n p) = p ≤ to
+SlottedIn from to (slots.Accept k t) = Within t (to - from)
+SlottedIn from to (slots.Reject n p) = p ≤ to
 
 -- r is the answer on the BRUS o, which stands from place `from` to place `to`
 pub record SlotsAre (o : Result (ℕ × List Brush)) (from to : ℕ) (r : BrushesSummary) : Type 0 where

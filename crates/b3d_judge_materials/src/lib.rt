@@ -18,8 +18,8 @@ use wire::Number;
 
 // n_texs, 0 without a brush, and a tally; or a refusal and its place.
 pub enum BrushesSummary {
-    Is(u32, Tally),
-    Not(u32, usize),
+    Accept(u32, Tally),
+    Reject(u32, usize),
 }
 
 // Judges the `body` of a TEXS whose header is at `at`: textures to the end. Returns its tally, that of no TEXS without a texture; 5 at a texture that is cut.
@@ -32,7 +32,7 @@ pub fn judge_textures(s: &[u8], at: usize, body: Cursor) -> Judged
     while c.at < c.end {
         match b3d_chunk_cursor::named_row(s, c, 7) {
             Named::Cut => {
-                return Judged::Bad(refusals::CUT_ITEM, c.at);
+                return Judged::Reject(refusals::CUT_ITEM, c.at);
             }
             Named::Is { next, .. } => {
                 count += 1;
@@ -40,7 +40,7 @@ pub fn judge_textures(s: &[u8], at: usize, body: Cursor) -> Judged
             }
         }
     }
-    Judged::Good(b3d_judge_tally::texs(count))
+    Judged::Accept(b3d_judge_tally::texs(count))
 }
 
 // Judges the `body` of a BRUS whose header is at `at`: n_texs, then brushes to the end, whose texture ids are -1 or below `textures`. Returns n_texs, 0
@@ -57,19 +57,19 @@ pub fn judge_brushes(
     ensures { λ r. ⌜ SlotsAre (readBrushes mode textures at (left body (now (s .entry)))) at (body .end) r ⌝ }
 {
     match body.number(s) {
-        Number::Cut => BrushesSummary::Not(refusals::CUT_ITEM, body.at),
+        Number::Cut => BrushesSummary::Reject(refusals::CUT_ITEM, body.at),
         Number::Is(slots, items) => {
             if MOST_SLOTS < slots {
-                return BrushesSummary::Not(refusals::RANGE, body.at);
+                return BrushesSummary::Reject(refusals::RANGE, body.at);
             }
             let n = wire::size(slots);
             match b3d_judge_brush_items::brush_items(s, items, n, textures, mode) {
-                Counted::Not(e, p) => BrushesSummary::Not(e, p),
-                Counted::Is(count) => {
+                Counted::Reject(e, p) => BrushesSummary::Reject(e, p),
+                Counted::Accept(count) => {
                     if count == 0 {
-                        return BrushesSummary::Is(0, b3d_judge_tally::none());
+                        return BrushesSummary::Accept(0, b3d_judge_tally::none());
                     }
-                    BrushesSummary::Is(slots, b3d_judge_tally::brus(n, count))
+                    BrushesSummary::Accept(slots, b3d_judge_tally::brus(n, count))
                 }
             }
         }

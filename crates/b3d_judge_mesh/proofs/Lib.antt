@@ -1,4 +1,4 @@
 -- The laws of its ways.
-pub mod Answered
+pub mod AnswerLaws
 pub mod SetLaws
 pub mod MeshLaws

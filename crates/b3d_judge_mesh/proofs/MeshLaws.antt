@@ -20,7 +20,7 @@ use Rattle.b3d_spec.specs.Nesting.{start, inside}
 use Rattle.b3d_spec.specs.Parse.{readOne, Vertices, noVertices, readVertices, readSets, readMesh}
 use Rattle.b3d_judge_tally.specs.Tally.{meshTally}
 use Rattle.b3d_spec_chunk_places.specs.Places.{Body, restIn, Among}
-use Rattle.b3d_spec_chunk_places.proofs.Heads.{head-cut, head-numbered, head-refused, head-kept, body-inside}
+use Rattle.b3d_spec_chunk_places.proofs.HeadLaws.{head-cut, head-numbered, head-refused, head-kept, body-inside}
 use Rattle.b3d_judge_mesh.specs.Answers.{readAfter, readInside, meshed, MeshedIn, Meshes}
 use Rattle.b3d_judge_mesh.specs.declared.MeshSummary.{MeshSummary}
 use Rattle.b3d_judge_mesh.specs.declared.MeshSummary.the-variants as meshes
@@ -47,12 +47,12 @@ module _ (mode : Mode) (s : List ℕ) (at : ℕ) (body : Cursor) (g : Body at bo
   pub mesh-inside : Inside body (length s)
   mesh-inside = body-inside s at body g
 
-  pub mesh-cut : r ≡ number.Cut → Right (meshes.Not 5 (body .at))
+  pub mesh-cut : r ≡ number.Cut → Right (meshes.Reject 5 (body .at))
   unfolding readMesh
   mesh-cut w = record { is = rw (head-cut s at body g r e (brushId brushes) w); within = g .room }
 
   module _ (k : ℕ) (c : Cursor) (w : r ≡ number.Is k c) (ok : Bool) (a : ok ≡ holds (brushId brushes) k) where
-    pub mesh-brush : not ok ≡ true → Right (meshes.Not 7 (body .at))
+    pub mesh-brush : not ok ≡ true → Right (meshes.Reject 7 (body .at))
     unfolding readMesh
     mesh-brush h = record { is = rw (head-refused s at body g r e k c w (brushId brushes) ok a h); within = g .room }
 

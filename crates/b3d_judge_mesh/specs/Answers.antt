@@ -27,13 +27,13 @@ readInside mode brushes brush cs = do
 
 -- the answer on a mesh that was read: how many vertices it has, and its tally; or its refusal
 abbrev pub meshed : Result Mesh → MeshSummary
-meshed (accept m) = mesh.Is (length (m .vertices)) (meshTally m)
-meshed (reject n p) = mesh.Not n p
+meshed (accept m) = mesh.Accept (length (m .vertices)) (meshTally m)
+meshed (reject n p) = mesh.Reject n p
 
 -- bounds of an answer on a MESH from place `from` to place `to`: the tally is of no more bytes than there are; a refusal's place is not past `to`
 abbrev pub MeshedIn : ℕ → ℕ → MeshSummary → Type 0
-MeshedIn from to (mesh.Is k t) = Within t (to - from)
-MeshedIn from to (mesh.Not n p) = p ≤ to
+MeshedIn from to (mesh.Accept k t) = Within t (to - from)
+MeshedIn from to (mesh.Reject n p) = p ≤ to
 
 -- r is the answer on the mesh o, which stands from place `from` to place `to`
 pub record Meshes (o : Result Mesh) (from to : ℕ) (r : MeshSummary) : Type 0 where

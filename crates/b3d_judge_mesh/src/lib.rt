@@ -26,8 +26,8 @@ use wire::Number;
 
 // How many vertices a mesh has, and its tally; or a refusal and its place.
 pub enum MeshSummary {
-    Is(usize, Tally),
-    Not(u32, usize),
+    Accept(usize, Tally),
+    Reject(u32, usize),
 }
 
 // How far the chunks inside a MESH have come after its VRTS.
@@ -49,10 +49,10 @@ pub fn judge_sets(s: &[u8], at: usize, from: Cursor, brushes: usize, vertices: u
         let found = b3d_chunk_cursor::next_chunk(s, c);
         match b3d_chunk_next_allowed::next_inside(s, c, found, Tag::MESH, at, q) {
             Enclosed::End => {
-                return Judged::Good(m);
+                return Judged::Accept(m);
             }
-            Enclosed::Not(e, p) => {
-                return Judged::Bad(e, p);
+            Enclosed::Reject(e, p) => {
+                return Judged::Reject(e, p);
             }
             Enclosed::Chunk {
                 at: p,
@@ -61,10 +61,10 @@ pub fn judge_sets(s: &[u8], at: usize, from: Cursor, brushes: usize, vertices: u
                 reached,
                 ..
             } => match b3d_judge_bodies::judge_triangles(s, p, body, brushes, vertices) {
-                Judged::Bad(e, i) => {
-                    return Judged::Bad(e, i);
+                Judged::Reject(e, i) => {
+                    return Judged::Reject(e, i);
                 }
-                Judged::Good(t) => {
+                Judged::Accept(t) => {
                     m = b3d_judge_tally::plus(m, t);
                     q = reached;
                     c = next;
@@ -98,10 +98,10 @@ fn judge_shape(
         (restIn (now (s .entry)) MESH at (reachedAt 1 true) next)) at (next .end) r ⌝ }
 {
     match b3d_judge_bodies::judge_vertices(s, p, body, mode) {
-        VerticesSummary::Not(e, q) => MeshSummary::Not(e, q),
-        VerticesSummary::Is(n, words) => match judge_sets(s, at, next, brushes, n) {
-            Judged::Bad(e, q) => MeshSummary::Not(e, q),
-            Judged::Good(t) => MeshSummary::Is(n, mesh_rows(n, words, t)),
+        VerticesSummary::Reject(e, q) => MeshSummary::Reject(e, q),
+        VerticesSummary::Accept(n, words) => match judge_sets(s, at, next, brushes, n) {
+            Judged::Reject(e, q) => MeshSummary::Reject(e, q),
+            Judged::Accept(t) => MeshSummary::Accept(n, mesh_rows(n, words, t)),
         },
     }
 }
@@ -115,8 +115,8 @@ fn judge_inside(s: &[u8], at: usize, from: Cursor, brushes: usize, mode: Mode) -
     let found = b3d_chunk_cursor::next_chunk(s, from);
     match b3d_chunk_next_allowed::first_inside(s, from, found, Tag::MESH, at) {
         // No mesh ends here: it owes its VRTS.
-        Enclosed::End => MeshSummary::Is(0, b3d_judge_tally::none()),
-        Enclosed::Not(e, p) => MeshSummary::Not(e, p),
+        Enclosed::End => MeshSummary::Accept(0, b3d_judge_tally::none()),
+        Enclosed::Reject(e, p) => MeshSummary::Reject(e, p),
         Enclosed::Chunk {
             at: p,
             body,
@@ -133,10 +133,10 @@ pub fn judge_mesh(s: &[u8], at: usize, body: Cursor, brushes: usize, mode: Mode)
     ensures { λ r. ⌜ Meshes (readMesh mode brushes at (left body (now (s .entry)))) at (body .end) r ⌝ }
 {
     match body.number(s) {
-        Number::Cut => MeshSummary::Not(refusals::CUT_ITEM, body.at),
+        Number::Cut => MeshSummary::Reject(refusals::CUT_ITEM, body.at),
         Number::Is(brush, c) => {
             if !shared_ids::id_valid(brush, brushes, true) {
-                return MeshSummary::Not(refusals::NO_SUCH_ID, body.at);
+                return MeshSummary::Reject(refusals::NO_SUCH_ID, body.at);
             }
             judge_inside(s, at, c, brushes, mode)
         }

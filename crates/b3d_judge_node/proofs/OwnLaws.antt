@@ -21,13 +21,13 @@ use Rattle.b3d_spec.specs.Parse.{Animation, readKind, readAnimation}
 use Rattle.b3d_chunk_cursor.specs.Chunks.{namedAt, NamedIn}
 use Rattle.b3d_chunk_cursor.specs.declared.Named.{Named}
 use Rattle.b3d_chunk_cursor.specs.declared.Named.the-variants as named
-use Rattle.b3d_chunk_cursor.proofs.Names.{named-cut, named-any, named-among}
-use Rattle.b3d_judge_tally.proofs.Answered.{GaveBeside, beside-bad, beside-good}
+use Rattle.b3d_chunk_cursor.proofs.NamedLaws.{named-cut, named-any, named-among}
+use Rattle.b3d_judge_tally.proofs.AnswerLaws.{GaveBeside, beside-bad, beside-good}
 use Rattle.b3d_judge_tally.specs.Tally.{headTally, kindTally, animationTally, dataTally, plus, Within}
 use Rattle.b3d_spec_chunk_places.specs.Places.{Body, restIn, Among}
-use Rattle.b3d_spec_chunk_places.proofs.Heads.{body-inside}
+use Rattle.b3d_spec_chunk_places.proofs.HeadLaws.{body-inside}
 use Rattle.b3d_judge_tally.specs.declared.Tally.{Tally}
-use Rattle.b3d_judge_tally.proofs.Tallies.{within-more, within-plus, within-head}
+use Rattle.b3d_judge_tally.proofs.TallyLaws.{within-more, within-plus, within-head}
 use Rattle.b3d_judge_node.specs.Answers.{readParts, readOwn, kinded, kindedBy, KindedIn, Kinds, aboveOf, owned, OwnedIn, parted, Parted, Owns}
 use Rattle.b3d_judge_tally.specs.Answers.{Onward}
 use Rattle.b3d_judge_animation.specs.Answers.{moved, movedBy, MovedIn, Motions}
@@ -91,13 +91,13 @@ module _ (mode : Mode) (s : List ℕ) (at : ℕ) (from : Cursor) (g : Among at f
   abbrev go : Result (Found Kind) → Result (Found (Kind × Animation))
   go o = o >>= λ v. made (v .value) (readAnimation noAnim (v .rest))
 
-  pub parts-kind-bad : (e q : ℕ) → k ≡ kind.Not e q → Right-parts (own.Not e q)
+  pub parts-kind-bad : (e q : ℕ) → k ≡ kind.Reject e q → Right-parts (own.Reject e q)
   unfolding readParts
   parts-kind-bad e q z =
       let b = beside-bad ownVertices kindTally (readKind mode brushes bones (restIn s NODE at start from)) e q (kinds-at (readKind mode brushes bones (restIn s NODE at start from)) (restIn s NODE at (reachedAt 2 false)) from k hk z) in
       record { is = rw (← eb, b); within = subst (KindedIn from) z (hk .within) }
 
-  module _ (have : ℕ) (t : Tally) (c : Cursor) (z : k ≡ kind.To have t c) where
+  module _ (have : ℕ) (t : Tally) (c : Cursor) (z : k ≡ kind.Accept have t c) where
     on : Onward from c t
     on = subst (KindedIn from) z (hk .within)
 
@@ -119,7 +119,7 @@ module _ (mode : Mode) (s : List ℕ) (at : ℕ) (from : Cursor) (g : Among at f
     parts-first-small = let q = parts-among in within-more (c .at - at) mostBytes first-within (omega (arith, q .room, q .within, g .small))
 
     module _ (j : Motion) (hj : Motions (readAnimation noAnim (restIn s NODE at (reachedAt 2 false) c)) (restIn s NODE at (reachedAt 3 false)) c j) where
-      pub parts-moves-bad : (e q : ℕ) → j ≡ motion.Not e q → Right-parts (own.Not e q)
+      pub parts-moves-bad : (e q : ℕ) → j ≡ motion.Reject e q → Right-parts (own.Reject e q)
       unfolding readParts
       parts-moves-bad e q y =
           let o = on in
@@ -128,14 +128,14 @@ module _ (mode : Mode) (s : List ℕ) (at : ℕ) (from : Cursor) (g : Among at f
           let le : q ≤ c .end = subst (MovedIn c) y (hj .within) in
           record { is = rw (← eb, v .is, b); within = omega (arith, o .same) }
 
-      module _ (seen : Bool) (u : Tally) (d : Cursor) (y : j ≡ motion.To seen u d) where
+      module _ (seen : Bool) (u : Tally) (d : Cursor) (y : j ≡ motion.Accept seen u d) where
         after-moves : Onward c d u
         after-moves = subst (MovedIn c) y (hj .within)
 
         pub parts-moves-small : Within u mostBytes
         parts-moves-small = let q = parts-among in let m = after-moves in within-more (d .at - c .at) mostBytes (m .within) (omega (arith, m .room, m .same, q .within, g .small))
 
-        pub parts-good : (x : Tally) → x ≡ plus (plus headTally t) u → (below : Above) → aboveOf below ≡ boneLimitFrom a seen have → Right-parts (own.To below x d)
+        pub parts-good : (x : Tally) → x ≡ plus (plus headTally t) u → (below : Above) → aboveOf below ≡ boneLimitFrom a seen have → Right-parts (own.Accept below x d)
         unfolding readParts
         parts-good x ex below e-below =
             let o = on in
@@ -164,8 +164,8 @@ pub ruleset parts-laws = (parts-kind-bad, parts-among, parts-kind-small, parts-f
 -- ---- the ways of `judge_own`
 
 owned-in : (at : ℕ) (n body : Cursor) → n .end ≡ body .end → (k : NodeSummary) → OwnedIn at n k → OwnedIn at body k
-owned-in at n body e (own.To b t c) h = subst (λ (z : ℕ). Onward (record { at = at; end = z }) c t × (at + 8 ≤ c .at)) e h
-owned-in at n body e (own.Not i p) h = rw (← e) h
+owned-in at n body e (own.Accept b t c) h = subst (λ (z : ℕ). Onward (record { at = at; end = z }) c t × (at + 8 ≤ c .at)) e h
+owned-in at n body e (own.Reject i p) h = rw (← e) h
 
 module _ (s : List ℕ) (at : ℕ) (body : Cursor) (g : Body at body (length s)) (r : Named) (ir : NamedIn body 10 r) (len : ℕ) (v n : Cursor) (w : r ≡ named.Is len v n) where
   pub own-among : Among at n (length s)
@@ -181,7 +181,7 @@ module _ (mode : Mode) (s : List ℕ) (at : ℕ) (body : Cursor) (g : Body at bo
   abbrev Right : NodeSummary → Type 0
   Right x = Owns a (readOwn mode brushes a at (left body s)) (restIn s NODE at (reachedAt 3 false)) at body x
 
-  pub own-cut : r ≡ named.Cut → Right (own.Not 5 (body .at))
+  pub own-cut : r ≡ named.Cut → Right (own.Reject 5 (body .at))
   unfolding readOwn
   own-cut w = record { is = rw (← g .head, named-cut s body 10 (body-inside s at body g) nodeRow refl r er w); within = g .room }
 

@@ -49,13 +49,13 @@ kinded = beside ownVertices kindTally
 
 -- what an answer on a kind says: the vertices, the tally, and the chunks from the cursor on by `rest`; or the refusal
 abbrev pub kindedBy : (Cursor → Chunks) → KindSummary → Result (ℕ × Tally × Chunks)
-kindedBy rest (kind.To k t c) = accept (k, t, rest c)
-kindedBy rest (kind.Not n p) = reject n p
+kindedBy rest (kind.Accept k t c) = accept (k, t, rest c)
+kindedBy rest (kind.Reject n p) = reject n p
 
 -- bounds of an answer from the cursor `from` on: the cursor further on, with a tally of no more bytes than lie between; a refusal's place not past the end
 abbrev pub KindedIn : Cursor → KindSummary → Type 0
-KindedIn from (kind.To k t c) = Onward from c t
-KindedIn from (kind.Not n p) = p ≤ from .end
+KindedIn from (kind.Accept k t c) = Onward from c t
+KindedIn from (kind.Reject n p) = p ≤ from .end
 
 -- r is the answer on the kind o from the cursor `from` on, `rest` giving the chunks from a cursor on
 pub record Kinds (o : Result (Found Kind)) (rest : Cursor → Chunks) (from : Cursor) (r : KindSummary) : Type 0 where
@@ -75,14 +75,14 @@ owned a = beside (boneLimitBelow a) dataTally
 
 -- what an answer on a node's data says: the vertices for bones below, the tally, and the chunks from the cursor on by `rest`; or the refusal
 abbrev pub ownedBy : (Cursor → Chunks) → NodeSummary → Result (Option ℕ × Tally × Chunks)
-ownedBy rest (own.To a t c) = accept (aboveOf a, t, rest c)
-ownedBy rest (own.Not n p) = reject n p
+ownedBy rest (own.Accept a t c) = accept (aboveOf a, t, rest c)
+ownedBy rest (own.Reject n p) = reject n p
 
 -- bounds of an answer on a node from its header at `at` on: the cursor behind the header, with a tally of no more bytes than lie between; a refusal's place
 -- not past the end
 abbrev pub OwnedIn : ℕ → Cursor → NodeSummary → Type 0
-OwnedIn at body (own.To a t c) = Onward (record { at = at; end = body .end }) c t × (at + 8 ≤ c .at)
-OwnedIn at body (own.Not n p) = p ≤ body .end
+OwnedIn at body (own.Accept a t c) = Onward (record { at = at; end = body .end }) c t × (at + 8 ≤ c .at)
+OwnedIn at body (own.Reject n p) = p ≤ body .end
 
 -- a node's kind with its KEYS and ANIM that were read: how many vertices a bone below it may name, the node's tally and the chunks that are left; or the
 -- refusal

@@ -25,8 +25,8 @@ use wire::Cursor;
 
 // How many vertices a node's own mesh has, the tally of its kind, and the cursor after it; or a refusal and its place.
 pub enum KindSummary {
-    To(usize, Tally, Cursor),
-    Not(u32, usize),
+    Accept(usize, Tally, Cursor),
+    Reject(u32, usize),
 }
 
 // How many vertices a bone of a node may name (E3), by the nodes above it; `Root`, above which there is none: no vertex.
@@ -37,8 +37,8 @@ pub enum Above {
 
 // How many vertices a bone below a node may name, the node's own tally, and the cursor at its children; or a refusal and its place.
 pub enum NodeSummary {
-    To(Above, Tally, Cursor),
-    Not(u32, usize),
+    Accept(Above, Tally, Cursor),
+    Reject(u32, usize),
 }
 
 // Returns how many vertices a bone of a node may name, `a` being what holds above it: 0 for the root.
@@ -68,7 +68,7 @@ pub fn bones_below(a: Above, anim: bool, own: usize) -> Above
 
 // Judges a MESH or a BONE, if it comes first from the cursor `from` on, inside a NODE whose header is at `at`; a bone may name `bones` vertices. Returns the
 // vertices of the node's mesh, 0 without one, the tally and the cursor after it; the cursor `from` where neither comes first; or the first refusal.
-pub fn judge_kind(
+fn judge_kind(
     s: &[u8],
     at: usize,
     from: Cursor,
@@ -82,8 +82,8 @@ pub fn judge_kind(
 {
     let found = b3d_chunk_cursor::next_chunk(s, from);
     match b3d_chunk_next_allowed::first_inside(s, from, found, Tag::NODE, at) {
-        Enclosed::End => KindSummary::To(0, b3d_judge_tally::none(), from),
-        Enclosed::Not(e, p) => KindSummary::Not(e, p),
+        Enclosed::End => KindSummary::Accept(0, b3d_judge_tally::none(), from),
+        Enclosed::Reject(e, p) => KindSummary::Reject(e, p),
         Enclosed::Chunk {
             tag,
             at: p,
@@ -92,14 +92,14 @@ pub fn judge_kind(
             ..
         } => match tag {
             Tag::MESH => match b3d_judge_mesh::judge_mesh(s, p, body, brushes, mode) {
-                MeshSummary::Not(e, q) => KindSummary::Not(e, q),
-                MeshSummary::Is(own, t) => KindSummary::To(own, t, next),
+                MeshSummary::Reject(e, q) => KindSummary::Reject(e, q),
+                MeshSummary::Accept(own, t) => KindSummary::Accept(own, t, next),
             },
             Tag::BONE => match b3d_judge_bodies::judge_bone(s, p, body, bones) {
-                Judged::Bad(e, q) => KindSummary::Not(e, q),
-                Judged::Good(t) => KindSummary::To(0, t, next),
+                Judged::Reject(e, q) => KindSummary::Reject(e, q),
+                Judged::Accept(t) => KindSummary::Accept(0, t, next),
             },
-            _ => KindSummary::To(0, b3d_judge_tally::none(), from),
+            _ => KindSummary::Accept(0, b3d_judge_tally::none(), from),
         },
     }
 }
@@ -127,10 +127,10 @@ fn judge_parts(
         (restIn (now (s .entry)) NODE at (reachedAt 3 false)) at from r ⌝ }
 {
     match judge_kind(s, at, from, brushes, bone_vertices(above), mode) {
-        KindSummary::Not(e, q) => NodeSummary::Not(e, q),
-        KindSummary::To(own, k, c) => match b3d_judge_animation::judge_animation(s, at, c) {
-            Motion::Not(e, q) => NodeSummary::Not(e, q),
-            Motion::To(anim, m, d) => NodeSummary::To(
+        KindSummary::Reject(e, q) => NodeSummary::Reject(e, q),
+        KindSummary::Accept(own, k, c) => match b3d_judge_animation::judge_animation(s, at, c) {
+            Motion::Reject(e, q) => NodeSummary::Reject(e, q),
+            Motion::Accept(anim, m, d) => NodeSummary::Accept(
                 bones_below(above, anim, own),
                 own_rows(k, m),
                 d,
@@ -154,7 +154,7 @@ pub fn judge_own(
         (restIn (now (s .entry)) NODE at (reachedAt 3 false)) at body r ⌝ }
 {
     match b3d_chunk_cursor::named_row(s, body, 10) {
-        Named::Cut => NodeSummary::Not(refusals::CUT_ITEM, body.at),
+        Named::Cut => NodeSummary::Reject(refusals::CUT_ITEM, body.at),
         Named::Is { next, .. } => judge_parts(s, at, next, brushes, above, mode),
     }
 }

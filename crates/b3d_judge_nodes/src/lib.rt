@@ -40,11 +40,11 @@ pub fn judge_node(
     ensures { λ r. ⌜ Judges innerTally (readNode mode levels brushes (aboveOf above) at (left body (now (s .entry)))) at (body .end) r ⌝ }
 {
     if levels == 0 {
-        return Judged::Bad(refusals::TOO_DEEP, at);
+        return Judged::Reject(refusals::TOO_DEEP, at);
     }
     match b3d_judge_node::judge_own(s, at, body, brushes, above, mode) {
-        NodeSummary::Not(e, p) => Judged::Bad(e, p),
-        NodeSummary::To(below, t, c) => match judge_nodes(
+        NodeSummary::Reject(e, p) => Judged::Reject(e, p),
+        NodeSummary::Accept(below, t, c) => match judge_nodes(
             s,
             at,
             c,
@@ -53,8 +53,8 @@ pub fn judge_node(
             below,
             mode,
         ) {
-            Judged::Bad(e, p) => Judged::Bad(e, p),
-            Judged::Good(f) => Judged::Good(b3d_judge_tally::plus(t, f)),
+            Judged::Reject(e, p) => Judged::Reject(e, p),
+            Judged::Accept(f) => Judged::Accept(b3d_judge_tally::plus(t, f)),
         },
     }
 }
@@ -81,10 +81,10 @@ pub fn judge_nodes(
         let found = b3d_chunk_cursor::next_chunk(s, c);
         match b3d_chunk_next_allowed::next_inside(s, c, found, Tag::NODE, at, q) {
             Enclosed::End => {
-                return Judged::Good(m);
+                return Judged::Accept(m);
             }
-            Enclosed::Not(e, p) => {
-                return Judged::Bad(e, p);
+            Enclosed::Reject(e, p) => {
+                return Judged::Reject(e, p);
             }
             Enclosed::Chunk {
                 at: p,
@@ -93,10 +93,10 @@ pub fn judge_nodes(
                 reached,
                 ..
             } => match judge_node(s, p, body, levels, brushes, above, mode) {
-                Judged::Bad(e, i) => {
-                    return Judged::Bad(e, i);
+                Judged::Reject(e, i) => {
+                    return Judged::Reject(e, i);
                 }
-                Judged::Good(t) => {
+                Judged::Accept(t) => {
                     m = b3d_judge_tally::plus(m, t);
                     q = reached;
                     c = next;

@@ -1,6 +1,6 @@
 -- Laws of tallies, of answers that hold them, and the sum over a scene.
-pub mod Tallies
-pub mod Answered
-pub mod Chains
-pub mod Totals
-pub mod OnlyKeys
+pub mod TallyLaws
+pub mod AnswerLaws
+pub mod ChainLaws
+pub mod TotalLaws
+pub mod KeyLimitLaws

@@ -11,13 +11,13 @@ use Rattle.b3d_judge_tally.specs.declared.Judged.the-variants as judge
 
 -- the answer on a part that was read: its tally, or its refusal
 abbrev pub judged : {A : Type 0} → (A → Tally) → Result A → Judged
-judged tally (accept a) = judge.Good (tally a)
-judged tally (reject n p) = judge.Bad n p
+judged tally (accept a) = judge.Accept (tally a)
+judged tally (reject n p) = judge.Reject n p
 
 -- bounds of an answer on a part from place `from` to place `to`: the tally is of no more bytes than there are; a refusal's place is not past `to`
 abbrev pub JudgedIn : ℕ → ℕ → Judged → Type 0
-JudgedIn from to (judge.Good t) = Within t (to - from)
-JudgedIn from to (judge.Bad n p) = p ≤ to
+JudgedIn from to (judge.Accept t) = Within t (to - from)
+JudgedIn from to (judge.Reject n p) = p ≤ to
 
 -- r is the answer on the part o, which stands from place `from` to place `to`
 pub record Judges {A : Type 0} (tally : A → Tally) (o : Result A) (from to : ℕ) (r : Judged) : Type 0 where
@@ -28,8 +28,8 @@ pub record Judges {A : Type 0} (tally : A → Tally) (o : Result A) (from to : �
 
 -- the answer on a part that was read, its tally added to m; or its refusal
 abbrev pub judgedFrom : {A : Type 0} → Tally → (A → Tally) → Result A → Judged
-judgedFrom m tally (accept a) = judge.Good (plus m (tally a))
-judgedFrom m tally (reject n p) = judge.Bad n p
+judgedFrom m tally (accept a) = judge.Accept (plus m (tally a))
+judgedFrom m tally (reject n p) = judge.Reject n p
 
 -- what `part` takes of a value that was read, beside its tally and the chunks that are left; or the refusal
 abbrev pub beside : {A B : Type 0} → (A → B) → (A → Tally) → Result (Found A) → Result (B × Tally × Chunks)

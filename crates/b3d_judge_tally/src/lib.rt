@@ -1,5 +1,5 @@
 // Tallies: what a chunk adds to the ten row counts and to the size of the cleared copy, and an answer that holds a tally or a refusal. The sum over a scene
-// is the rows of its tables and the size of its copy (proofs/Totals).
+// is the rows of its tables and the size of its copy (proofs/TotalLaws).
 ghost use Prim.Native.Nat.{_≤_};
 ghost use mathlib.Core.Path.{_≡_};
 ghost use Rattle.layout.specs.Rows.{mostBytes};
@@ -24,8 +24,8 @@ pub struct Tally {
 
 // What a part of a file adds, or a refusal with its place.
 pub enum Judged {
-    Good(Tally),
-    Bad(u32, usize),
+    Accept(Tally),
+    Reject(u32, usize),
 }
 
 // Returns a tally of 0 rows and 0 bytes.

@@ -1,6 +1,6 @@
 -- The laws of the functions that walk.
-pub mod Seeking
-pub mod Heads
-pub mod Vertices
-pub mod Roots
-pub mod Files
+pub mod SeekLaws
+pub mod HeadLaws
+pub mod VertexLaws
+pub mod RootLaws
+pub mod FileLaws

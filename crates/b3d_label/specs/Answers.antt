@@ -12,8 +12,8 @@ use Rattle.b3d_label_spec.specs.declared.TrayLabel.{TrayLabel}
 
 -- what an answer says in the paper's numbers: how many vertices; or 14, at place 0
 abbrev pub manySays : Many → Result ℕ
-manySays (many.Are n) = accept n
-manySays many.Not = reject refusals.noLabel 0
+manySays (many.Accept n) = accept n
+manySays many.Reject = reject refusals.noLabel 0
 
 -- what a step of the walk says, as the label has it: for each refusal 14 at place 0
 abbrev pub onLabel : Result ℕ → Result ℕ

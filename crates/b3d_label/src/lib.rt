@@ -24,8 +24,8 @@ use wire::Number;
 
 // How many vertices there are, or that the walk is refused.
 pub enum Many {
-    Are(usize),
-    Not,
+    Accept(usize),
+    Reject,
 }
 
 // Returns how many vertices the VRTS with this `body` has; `Not` if its fixed data is cut or out of range, or its items do not fill it.
@@ -36,19 +36,19 @@ fn vrts_vertices(s: &[u8], body: Cursor) -> Many
     let start = body.at;
     let end = body.end;
     if end - start < 12 {
-        return Many::Not;
+        return Many::Reject;
     }
     let flags = wire::number_at(s, start);
     let sets = wire::number_at(s, start + 4);
     let size = wire::number_at(s, start + 8);
     if HIGHEST_VERTEX_FLAGS < flags {
-        return Many::Not;
+        return Many::Reject;
     }
     if MOST_SETS < sets {
-        return Many::Not;
+        return Many::Reject;
     }
     if LARGEST_SET < size {
-        return Many::Not;
+        return Many::Reject;
     }
     let words = b3d_rule_widths::vertex_words(flags, sets, size);
     let items = Cursor {
@@ -56,8 +56,8 @@ fn vrts_vertices(s: &[u8], body: Cursor) -> Many
         end,
     };
     match b3d_judge_items::whole_items(items, words) {
-        Counted::Not(_, _) => Many::Not,
-        Counted::Is(count) => Many::Are(count),
+        Counted::Reject(_, _) => Many::Reject,
+        Counted::Accept(count) => Many::Accept(count),
     }
 }
 
@@ -67,9 +67,9 @@ fn mesh_vertices(s: &[u8], body: Cursor) -> Many
     ensures { λ r. ⌜ manySays r ≡ onLabel (meshVertices (body .at) (left body (now (s .entry)))) ⌝ }
 {
     match body.number(s) {
-        Number::Cut => Many::Not,
+        Number::Cut => Many::Reject,
         Number::Is(_, inside) => match b3d_chunk_walk::seek(s, inside, Tag::VRTS) {
-            Sought::Nothing => Many::Not,
+            Sought::Nothing => Many::Reject,
             Sought::Found { body: vrts, .. } => vrts_vertices(s, vrts),
         },
     }
@@ -81,13 +81,13 @@ fn root_vertices(s: &[u8], from: Cursor) -> Many
     ensures { λ r. ⌜ manySays r ≡ onLabel (rootVertices (split (from .at) (left from (now (s .entry))))) ⌝ }
 {
     match b3d_chunk_cursor::next_chunk(s, from) {
-        Next::Done => Many::Are(0),
-        Next::Cut(_) => Many::Not,
+        Next::Done => Many::Accept(0),
+        Next::Cut(_) => Many::Reject,
         Next::Chunk { tag, body, .. } => {
             if b3d_chunk_cursor::letters(tag) == letters::MESH {
                 return mesh_vertices(s, body);
             }
-            Many::Are(0)
+            Many::Accept(0)
         }
     }
 }
@@ -113,8 +113,8 @@ fn root_label(s: &[u8], body: Cursor) -> TrayLabel
     match b3d_chunk_cursor::named_row(s, body, 10) {
         Named::Cut => refused(),
         Named::Is { length, next, .. } => match root_vertices(s, next) {
-            Many::Not => refused(),
-            Many::Are(vertices) => TrayLabel {
+            Many::Reject => refused(),
+            Many::Accept(vertices) => TrayLabel {
                 number: 0,
                 place: 0,
                 name_place: body.at,

@@ -1,4 +1,4 @@
 -- The label of accepted files, and worked files.
-pub mod Walked
-pub mod Tables
+pub mod WalkLaws
+pub mod TableLaws
 pub mod Cases

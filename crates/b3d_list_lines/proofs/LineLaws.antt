@@ -10,7 +10,7 @@ use Rattle.b3d_spec.specs.Tables.{nodeWidth}
 use Rattle.b3d_list_name.specs.Name.{nameOr}
 use Rattle.b3d_list_text.specs.Puts.{Puts}
 use Rattle.b3d_list_text.specs.Text.{textLine}
-use Rattle.b3d_list_text.proofs.Putting.{Putting, putting-start, putting-part, putting-done}
+use Rattle.b3d_list_text.proofs.PutLaws.{Putting, putting-start, putting-part, putting-done}
 use Rattle.b3d_list_lines.specs.Lines.{unnamed, rowLine, rowLines}
 
 -- ---- `put_name`

@@ -1,2 +1,2 @@
 -- The laws of the names that rows name.
-pub mod Names
+pub mod NameLaws

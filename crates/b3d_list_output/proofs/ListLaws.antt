@@ -13,13 +13,13 @@ use Rattle.b3d_judge_file_body.specs.declared.Summary.{Summary}
 use Rattle.b3d_judge_file_body.specs.declared.Verdict.{Verdict}
 use Rattle.b3d_judge_file_body.specs.declared.Verdict.the-variants as verdict
 use Rattle.b3d_judge_limits.specs.Rooms.{countsIn}
-use Rattle.b3d_judge.proofs.Verdicts.{summaryOf, Good, was-bad, was-good}
+use Rattle.b3d_judge.proofs.VerdictLaws.{summaryOf, Good, was-bad, was-good}
 use Rattle.b3d_list_text.specs.Puts.{Puts}
 use Rattle.b3d_list_text.specs.Text.{numberLine}
-use Rattle.b3d_list_text.proofs.Putting.{put-both, put-inside}
+use Rattle.b3d_list_text.proofs.PutLaws.{put-both, put-inside}
 use Rattle.b3d_list_spec.specs.Listing.{nodeLines, listed, listing}
 use Rattle.b3d_list_output_parts.specs.Parts.{headLines, nodeLinesOf, Listable}
-use Rattle.b3d_list_spec.proofs.Lengths.{listing-over, listing-short}
+use Rattle.b3d_list_spec.proofs.LengthLaws.{listing-over, listing-short}
 
 -- the text of what the judge has accepted
 accepted-lines : (t : Scene) → headLines (summaryOf t) ++ nodeLines (t .nodes) ≡ listed (accept t)
@@ -31,11 +31,11 @@ module _ (s xs ys : List ℕ) (p : ℕ) where
   listing-long h k = rw (listing-over s h) k
 
   module _ (h : length s ≤ 65536) (v : Verdict) (ev : v ≡ verdictOf (judge Strict s)) where
-    pub listing-bad : (n q : ℕ) → v ≡ verdict.Bad n q → (k : ℕ) → k ≡ n → Puts (numberLine (k ∷ q ∷ [])) xs 0 ys p → Puts (listing s) xs 0 ys p
+    pub listing-bad : (n q : ℕ) → v ≡ verdict.Reject n q → (k : ℕ) → k ≡ n → Puts (numberLine (k ∷ q ∷ [])) xs 0 ys p → Puts (listing s) xs 0 ys p
     unfolding listed
     listing-bad n q w k e g = rw (listing-short s h, was-bad (judge Strict s) n q (sym ev ∙ w), ← e) g
 
-    module _ (x : Summary) (w : v ≡ verdict.Good x) where
+    module _ (x : Summary) (w : v ≡ verdict.Accept x) where
       good : Good (judge Strict s) x
       good = was-good (judge Strict s) x (sym ev ∙ w)
 
@@ -48,7 +48,7 @@ module _ (s xs ys : List ℕ) (p : ℕ) where
       pub listing-good : Puts (headLines x) xs 0 ys p → (zs : List ℕ) (q : ℕ) → Puts (nodeLinesOf (judge Strict s)) ys p zs q → Puts (listing s) xs 0 zs q
       listing-good k zs q l = rw (← listing-lines) (put-both (headLines x) (nodeLinesOf (judge Strict s)) xs 0 ys p zs q k l)
 
-pub listing-nodes : (s : List ℕ) → length s ≤ 65536 → (v : Verdict) → v ≡ verdictOf (judge Strict s) → (x : Summary) → v ≡ verdict.Good x → Listable s (x .tally .nodes)
+pub listing-nodes : (s : List ℕ) → length s ≤ 65536 → (v : Verdict) → v ≡ verdictOf (judge Strict s) → (x : Summary) → v ≡ verdict.Accept x → Listable s (x .tally .nodes)
 listing-nodes s h v ev x w =
     let g = was-good (judge Strict s) x (sym ev ∙ w) in
     record { scene = g .scene; accepted = g .is; count = ap (λ (y : Summary). y .tally .nodes) (g .same); short = h }

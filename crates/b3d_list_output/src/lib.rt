@@ -14,8 +14,8 @@ pub fn put_listing(file: &[u8], out: &mut [u8]) -> usize
         return b3d_list_lines::put_pair(1, 0, out, 0);
     }
     match b3d_judge::judge(Mode::Strict, file) {
-        Verdict::Bad(e, p) => b3d_list_lines::put_pair(wire::size(e), p, out, 0),
-        Verdict::Good(x) => {
+        Verdict::Reject(e, p) => b3d_list_lines::put_pair(wire::size(e), p, out, 0),
+        Verdict::Accept(x) => {
             let t = x.tally;
             let next = b3d_list_output_parts::put_heads(x, out);
             b3d_list_output_parts::put_nodes(file, t.nodes, out, next)

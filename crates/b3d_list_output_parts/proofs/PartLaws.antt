@@ -21,9 +21,9 @@ use Rattle.b3d_spec_plain_rows.specs.Rows.{fileRows}
 use Rattle.b3d_spec_plain_rows.proofs.Laws.{rows-law}
 use Rattle.b3d_list_text.specs.Puts.{Puts}
 use Rattle.b3d_list_text.specs.Text.{numberLine}
-use Rattle.b3d_list_text.proofs.Putting.{put-both, put-inside}
+use Rattle.b3d_list_text.proofs.PutLaws.{put-both, put-inside}
 use Rattle.b3d_list_output_parts.specs.Parts.{headLines, nodeLinesOf, Listable}
-use Rattle.b3d_list_spec.proofs.NameLines.{nodes-count, table-room, table-lines}
+use Rattle.b3d_list_spec.proofs.NameLineLaws.{nodes-count, table-room, table-lines}
 use Rattle.b3d_list_lines.specs.Lines.{rowLines}
 
 -- ---- `put_heads`

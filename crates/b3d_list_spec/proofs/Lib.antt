@@ -1,4 +1,4 @@
 -- The laws of the lister's text.
-pub mod NameLines
-pub mod Lengths
+pub mod NameLineLaws
+pub mod LengthLaws
 pub mod Cases

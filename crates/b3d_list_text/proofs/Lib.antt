@@ -1,5 +1,5 @@
 -- Laws of text that is put into a lent slice.
-pub mod Putting
-pub mod Decimals
+pub mod PutLaws
+pub mod DecimalLaws
 pub mod TextLaws
-pub mod Lengths
+pub mod LengthLaws

@@ -10,8 +10,8 @@ use borrow.Author.Tests.{lt-ltb, le-ltb}
 use Rattle.wire.specs.Test.{if}
 use Rattle.b3d_list_text.specs.Puts.{Puts}
 use Rattle.b3d_list_text.specs.Text.{shown, decimal, after, numberAt, numberLine, textLine}
-use Rattle.b3d_list_text.proofs.Decimals.{decimal-one, decimal-more}
-use Rattle.b3d_list_text.proofs.Putting.{put-both, put-inside, Putting, putting-start, putting-part, putting-done}
+use Rattle.b3d_list_text.proofs.DecimalLaws.{decimal-one, decimal-more}
+use Rattle.b3d_list_text.proofs.PutLaws.{put-both, put-inside, Putting, putting-start, putting-part, putting-done}
 
 -- ---- `shown`
 

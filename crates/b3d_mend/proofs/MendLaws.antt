@@ -7,7 +7,7 @@ use lib.ListN.{length, take, drop}
 use lib.Seq.{take-length}
 use Rattle.wire.specs.Bytes.{AllBytes, over}
 use Rattle.layout.specs.Result.{Result, accept, reject}
-use Rattle.layout.proofs.Outs.{by-got}
+use Rattle.layout.proofs.ResultLaws.{by-got}
 use Rattle.shared_output.specs.Writing.{Wrote}
 use Rattle.b3d_spec.specs.declared.Mode.the-variants.{Lenient}
 use Rattle.b3d_spec.specs.Answers.{judge}
@@ -23,24 +23,24 @@ use Rattle.b3d_mend_spec.specs.Mend.{Mended}
 use Rattle.b3d_mend_spec.specs.Report.{Mending, mendJudged, roomForBoth, mendInto}
 use Rattle.b3d_mend_spec.specs.declared.WrittenBoth.{WrittenBoth}
 use Rattle.b3d_mend_spec.proofs.Laws.{mends, is-first, room-yes}
-use Rattle.b3d_mend_judge.specs.Answers.{mendedVerdict, Placed}
+use Rattle.b3d_mend_judge.specs.Answers.{mendedVerdict, PlaceValid}
 use Rattle.b3d_mend_write_both.specs.BothSizes.{OfSizes}
 use Rattle.b3d_mend_write_both.specs.Mendable.{CanMend}
-use Rattle.b3d_mend_write_both.proofs.BothAnswers.{fits-both, short-both}
+use Rattle.b3d_mend_write_both.proofs.BothAnswerLaws.{fits-both, short-both}
 use Rattle.b3d_mend_write_both.proofs.BothLaws.{answered, file-so, report-so}
 use Rattle.b3d_mend.specs.Accepted.{Accepted}
 
 -- ---- what the judges say
 
-was-bad : (o : Result (Mended Scene)) (n p : ℕ) → mendedVerdict o ≡ verdict.Bad n p → o ≡ reject n p
+was-bad : (o : Result (Mended Scene)) (n p : ℕ) → mendedVerdict o ≡ verdict.Reject n p → o ≡ reject n p
 was-bad (accept m) n p h = let z : _≡_ {A = ℕ} 0 1 = cc in absurd (omega arith)
 was-bad (reject m q) n p h = cc
 
-was-good : (o : Result (Mended Scene)) (v : Summary) → mendedVerdict o ≡ verdict.Good v → (x : Mended Scene) × (o ≡ accept x)
+was-good : (o : Result (Mended Scene)) (v : Summary) → mendedVerdict o ≡ verdict.Accept v → (x : Mended Scene) × (o ≡ accept x)
 was-good (accept m) v h = (m, refl)
 was-good (reject n p) v h = let z : _≡_ {A = ℕ} 0 1 = cc in absurd (omega arith)
 
-was-accepted : (o : Result Scene) (v : Summary) → verdictOf o ≡ verdict.Good v → (t : Scene) × (o ≡ accept t)
+was-accepted : (o : Result Scene) (v : Summary) → verdictOf o ≡ verdict.Accept v → (t : Scene) × (o ≡ accept t)
 was-accepted (accept t) v h = (t, refl)
 was-accepted (reject n p) v h = let z : _≡_ {A = ℕ} 0 1 = cc in absurd (omega arith)
 
@@ -48,7 +48,7 @@ accepted-small : (s : List ℕ) (t : Scene) → judge Lenient s ≡ accept t →
 unfolding judge
 accepted-small s t e = by-got (parse Lenient s) _ e (λ u eu _. omega (arith, parse-size s u eu))
 
-pub is-accepted : (s : List ℕ) (r : Verdict) → r ≡ verdictOf (judge Lenient s) → (v : Summary) → r ≡ verdict.Good v → AllBytes s → Accepted s
+pub is-accepted : (s : List ℕ) (r : Verdict) → r ≡ verdictOf (judge Lenient s) → (v : Summary) → r ≡ verdict.Accept v → AllBytes s → Accepted s
 is-accepted s r e v z all = let g = was-accepted (judge Lenient s) v (sym e ∙ z) in record { bytes = all; scene = g .0; is = g .1; small = accepted-small s (g .0) (g .1) }
 
 -- ---- the ways
@@ -56,12 +56,12 @@ is-accepted s r e v z all = let g = was-accepted (judge Lenient s) v (sym e ∙ 
 module _ (s out report : List ℕ) where
   -- what the judge says
   module _ (r : Verdict) (e : r ≡ mendedVerdict (mendJudged s)) where
-    pub mend-can : (v : Summary) → r ≡ verdict.Good v → AllBytes s → CanMend s
+    pub mend-can : (v : Summary) → r ≡ verdict.Accept v → AllBytes s → CanMend s
     mend-can v z all = let g = was-good (mendJudged s) v (sym e ∙ z) in record { bytes = all; value = g .0; is = g .1 }
 
     -- refused
-    module _ (n p : ℕ) (z : r ≡ verdict.Bad n p) where
-      pub mend-place : Placed r → p < 0x100000000
+    module _ (n p : ℕ) (z : r ≡ verdict.Reject n p) where
+      pub mend-place : PlaceValid r → p < 0x100000000
       mend-place h = omega (arith, h .most n p z)
 
       stopped : mendInto (length out) (length report) s ≡ reject n p

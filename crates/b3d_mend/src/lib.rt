@@ -29,13 +29,13 @@ fn mend_faults(file: &[u8], out: &mut [u8], report: &mut [u8]) -> WrittenBoth
     ensures { λ _. ⌜ now (report .exit) ≡ mendReport (now (file .entry)) (now (out .entry)) (now (report .entry)) ⌝ }
 {
     match b3d_mend_judge::judge_mended(file) {
-        Verdict::Bad(number, place) => WrittenBoth {
+        Verdict::Reject(number, place) => WrittenBoth {
             number,
             place: shared_table_words::cell(place),
             size: 0,
             report_size: 0,
         },
-        Verdict::Good(_) => {
+        Verdict::Accept(_) => {
             b3d_judge::are_bytes(file);
             b3d_mend_write_both::put_both(file, out, report)
         }
@@ -51,10 +51,10 @@ pub fn mend(file: &[u8], out: &mut [u8], report: &mut [u8]) -> WrittenBoth
     ensures { λ _. ⌜ now (report .exit) ≡ mendReport (now (file .entry)) (now (out .entry)) (now (report .entry)) ⌝ }
 {
     match b3d_judge::judge(Mode::Lenient, file) {
-        Verdict::Good(_) => {
+        Verdict::Accept(_) => {
             b3d_judge::are_bytes(file);
             copy_accepted(file, out, report)
         }
-        Verdict::Bad(_, _) => mend_faults(file, out, report),
+        Verdict::Reject(_, _) => mend_faults(file, out, report),
     }
 }

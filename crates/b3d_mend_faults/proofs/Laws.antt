@@ -11,7 +11,7 @@ use Rattle.wire.specs.Bytes.{AllBytes}
 use Rattle.layout.specs.Result.{Result, accept, reject, check, _>>=_}
 use Rattle.layout.specs.Rows.{eachOf}
 use Rattle.layout.specs.Parts.{itemsIn, items}
-use Rattle.layout.proofs.Outs.{bad-got, by-got, by-check, got-inj}
+use Rattle.layout.proofs.ResultLaws.{bad-got, by-got, by-check, got-inj}
 use Rattle.b3d_spec.specs.declared.Mode.the-variants.{Lenient}
 use Rattle.b3d_spec.specs.Answers.{judge}
 use Rattle.b3d_spec.specs.Parse.{parse}
@@ -19,22 +19,22 @@ use Rattle.b3d_spec.specs.Rules.{rowLimit}
 use Rattle.b3d_spec.specs.Scene.{Scene}
 use Rattle.b3d_spec.specs.Tables.{rows, tables}
 use Rattle.b3d_mend_spec.specs.Mend.{Mended, mendFile}
-use Rattle.b3d_mend_spec.specs.Report.{Entry, entries, reportBytes, readReport, Mending, mending, mendJudged, roomForBoth, mendInto}
+use Rattle.b3d_mend_spec.specs.Report.{ReportEntry, entries, reportBytes, readReport, Mending, mending, mendJudged, roomForBoth, mendInto}
 use Rattle.b3d_mend_spec.proofs.Laws.{mends}
-use Rattle.b3d_mend_faults.specs.Faults.{Fault, mendable, Reading, gives, ends, passes, listed, fileFaults, faults}
+use Rattle.b3d_mend_faults.specs.Faults.{Fault, mendable, FaultReading, gives, ends, passes, listed, fileFaults, faults}
 use Rattle.b3d_mend_faults.specs.Headers.{Spare, Past}
 use Rattle.b3d_mend_faults.specs.FirstFault.{refusalBy, others, refusalOf, FirstFault}
 use Rattle.b3d_mend_faults.specs.ReportTells.{Tells, ReportTellsFaults}
-use Rattle.b3d_mend_faults.proofs.Agreeing.{Agrees, Any, listed-all}
-use Rattle.b3d_mend_faults.proofs.Reader.{file-read}
-use Rattle.b3d_mend_faults.proofs.Mender.{file-mend}
-use Rattle.b3d_mend_faults.proofs.Dues.{apart}
-use Rattle.b3d_mend_faults.proofs.Threes.{Each, Three, file-each}
+use Rattle.b3d_mend_faults.proofs.AgreeLaws.{Agrees, Any, listed-all}
+use Rattle.b3d_mend_faults.proofs.ReaderLaws.{file-read}
+use Rattle.b3d_mend_faults.proofs.MenderLaws.{file-mend}
+use Rattle.b3d_mend_faults.proofs.HeaderDueLaws.{apart}
+use Rattle.b3d_mend_faults.proofs.RefusalThreeLaws.{Each, Three, file-each}
 
 -- ---- the list
 
 -- who refuses all refuses the first
-first-of : {A B : Type 0} (m : Reading A) (o : Result B) → Agrees false Any m o → refusalOf o ≡ refusalBy (listed m)
+first-of : {A B : Type 0} (m : FaultReading A) (o : Result B) → Agrees false Any m o → refusalOf o ≡ refusalBy (listed m)
 unfolding refusalOf refusalBy listed
 first-of (gives a) (accept b) h = refl
 first-of (gives a) (reject n p) h = absurd h
@@ -42,7 +42,7 @@ first-of (ends n p) o h = ap refusalOf h
 first-of (passes k n p m) o h = ap refusalOf h
 
 -- who passes the four refuses the first other
-other-of : {A B : Type 0} (R : List Fault → A → B → Type 0) (m : Reading A) (o : Result B) → Agrees true R m o → refusalOf o ≡ refusalBy (others (listed m))
+other-of : {A B : Type 0} (R : List Fault → A → B → Type 0) (m : FaultReading A) (o : Result B) → Agrees true R m o → refusalOf o ≡ refusalBy (others (listed m))
 unfolding refusalOf refusalBy others listed
 other-of R (gives a) (accept b) h = refl
 other-of R (gives a) (reject n p) h = absurd h
@@ -106,13 +106,13 @@ same-refusal : {A : Type 0} {i q n p : ℕ} → _≡_ {A = Result A} (reject i q
 same-refusal e = (cc, cc)
 
 -- a 3 that comes first is spare bytes, or a length past what encloses it, which comes first of the others too
-first-three : {A : Type 0} (s : List ℕ) (R : A → Type 0) (m : Reading A) (p : ℕ) → Each (Three s) R m → refusalBy (listed m) ≡ reject 3 p → Spare s p ⊎ (Past s p × (refusalBy (others (listed m)) ≡ reject 3 p))
+first-three : {A : Type 0} (s : List ℕ) (R : A → Type 0) (m : FaultReading A) (p : ℕ) → Each (Three s) R m → refusalBy (listed m) ≡ reject 3 p → Spare s p ⊎ (Past s p × (refusalBy (others (listed m)) ≡ reject 3 p))
 unfolding refusalBy others listed
 first-three s R (gives a) p h e = bad-got (sym e)
 first-three s R (ends n q) p h e = let z = same-refusal e in inr (subst (Past s) (z .1) (h (z .0)), e)
 first-three s R (passes k n q m) p h e = let z = same-refusal e in inl (subst (Spare s) (z .1) (h .0 (z .0)))
 
-other-three : {A : Type 0} (s : List ℕ) (R : A → Type 0) (m : Reading A) (p : ℕ) → Each (Three s) R m → refusalBy (others (listed m)) ≡ reject 3 p → Past s p
+other-three : {A : Type 0} (s : List ℕ) (R : A → Type 0) (m : FaultReading A) (p : ℕ) → Each (Three s) R m → refusalBy (others (listed m)) ≡ reject 3 p → Past s p
 unfolding refusalBy others listed
 other-three s R (gives a) p h e = bad-got (sym e)
 other-three s R (ends n q) p h e = let z = same-refusal e in subst (Past s) (z .1) (h (z .0))
@@ -162,7 +162,7 @@ written s room reportRoom m e =
     by-check (leb (length (y .file)) room) 11 (length (y .file)) _ e₁ (λ t e₂.
     by-check (leb (length (y .report)) reportRoom) 11 (length (y .report)) _ e₂ (λ u e₃. (x, ex, ap (λ (z : Mending). z .report) (got-inj e₃)))))
 
-empty-read : (l : List Entry) → readReport (reportBytes l) ≡ accept l → reportBytes l ≡ [] → l ≡ []
+empty-read : (l : List ReportEntry) → readReport (reportBytes l) ≡ accept l → reportBytes l ≡ [] → l ≡ []
 unfolding readReport items itemsIn
 empty-read l e n = sym (got-inj (sym (ap readReport n) ∙ e))
 
@@ -178,6 +178,6 @@ report-tells s a =
       silent = λ room reportRoom m e n.
           let (x, ex, er) = written s room reportRoom m e in
           let none : entries 0 (x .edits) ≡ [] = empty-read (entries 0 (x .edits)) (readable x ex) (er ∙ n) in
-          let clear : faults s ≡ [] = subst (λ (z : List Entry). Tells z (faults s)) none (told x ex) in
+          let clear : faults s ≡ [] = subst (λ (z : List ReportEntry). Tells z (faults s)) none (told x ex) in
           reads (parse Lenient s) (first-fault s .reader ∙ ap refusalBy clear);
     }

@@ -1,10 +1,10 @@
 -- The reader's refusal is the first of a file's faults, the mender's the first of another kind than the four; the report's entries are of the faults that were mended.
-pub mod Agreeing
-pub mod Telling
-pub mod Shared
-pub mod Reader
-pub mod Mender
-pub mod Dues
-pub mod Threes
+pub mod AgreeLaws
+pub mod ReportTellsLaws
+pub mod SharedLaws
+pub mod ReaderLaws
+pub mod MenderLaws
+pub mod HeaderDueLaws
+pub mod RefusalThreeLaws
 pub mod Cases
 pub mod Laws

@@ -33,44 +33,44 @@ pub data Fault : Type 0 where
   other : ℕ → ℕ → Fault
 
 -- what reading a part of a file gives: a value, behind the faults that were found
-pub data Reading (A : Type 0) : Type 0 where
+pub data FaultReading (A : Type 0) : Type 0 where
   -- a value, and no fault
-  gives : A → Reading A
+  gives : A → FaultReading A
   -- a fault of another kind, its number and place: nothing behind it is read
-  ends : ℕ → ℕ → Reading A
+  ends : ℕ → ℕ → FaultReading A
   -- one of the four, which of them, its number and place, and then what reading gives behind it
-  passes : ℕ → ℕ → ℕ → Reading A → Reading A
+  passes : ℕ → ℕ → ℕ → FaultReading A → FaultReading A
 
 -- `m >>= f` reads on by `f` from the value of `m`, behind the faults of `m`
-abbrev pub _>>=_ : {A B : Type 0} → Reading A → (A → Reading B) → Reading B
+abbrev pub _>>=_ : {A B : Type 0} → FaultReading A → (A → FaultReading B) → FaultReading B
 _>>=_ (gives a) f = f a
 _>>=_ (ends n p) f = ends n p
 _>>=_ (passes k n p m) f = passes k n p (m >>= f)
 
 infixl 10 _>>=_
 -- the faults of a reading, in order
-unfoldable pub listed : {A : Type 0} → Reading A → List Fault
+unfoldable pub listed : {A : Type 0} → FaultReading A → List Fault
 listed (gives a) = []
 listed (ends n p) = other n p ∷ []
 listed (passes k n p m) = mendable k n p ∷ listed m
 
 -- a reading `o` in which nothing is mended: its refusal is of another kind
-unfoldable pub plainly : {A : Type 0} → Result A → Reading A
+unfoldable pub plainly : {A : Type 0} → Result A → FaultReading A
 plainly (accept a) = gives a
 plainly (reject n p) = ends n p
 
 -- ---- numbers
 
 -- the number w at place p of fixed data or of a brush, against its rule r: an id that may be -1 and names nothing is one of the four
-unfoldable pub numberFault : Rule → ℕ → ℕ → Reading (Unit {0})
+unfoldable pub numberFault : Rule → ℕ → ℕ → FaultReading (Unit {0})
 numberFault r p w = if (holds r w) (gives tt) (if (mayBeNone r) (passes 2 (refusal r) p (gives tt)) (ends (refusal r) p))
 
 -- the number w at place p of a triangle or a weight, against its rule r: an id that names nothing is one of the four
-unfoldable pub itemFault : Rule → ℕ → ℕ → Reading (Unit {0})
+unfoldable pub itemFault : Rule → ℕ → ℕ → FaultReading (Unit {0})
 itemFault r p w = if (holds r w) (gives tt) (passes 3 (refusal r) p (gives tt))
 
 -- the words ws from place p on, in file order, each by `one` against its rule; the value is `a`
-unfoldable pub numberFaults : {A : Type 0} → (Rule → ℕ → ℕ → Reading (Unit {0})) → List Rule → ℕ → List ℕ → A → Reading A
+unfoldable pub numberFaults : {A : Type 0} → (Rule → ℕ → ℕ → FaultReading (Unit {0})) → List Rule → ℕ → List ℕ → A → FaultReading A
 numberFaults one [] p ws a = gives a
 numberFaults one (r ∷ rs) p [] a = gives a
 numberFaults one (r ∷ rs) p (w ∷ ws) a = do
@@ -78,20 +78,20 @@ numberFaults one (r ∷ rs) p (w ∷ ws) a = do
   numberFaults one rs (p + 4) ws a
 
 -- a word for each rule of rs, at place p: first that all are there, then each number by `one`
-unfoldable pub rowFaults : (Rule → ℕ → ℕ → Reading (Unit {0})) → List Rule → ℕ → List ℕ → Reading (Step (List ℕ))
+unfoldable pub rowFaults : (Rule → ℕ → ℕ → FaultReading (Unit {0})) → List Rule → ℕ → List ℕ → FaultReading (Step (List ℕ))
 rowFaults one rs p s = do
   x ← plainly (words p (length rs) p s)
   numberFaults one rs p (x .value) x
 
 -- a brush at place p: a text, then a word for each rule of rs
-unfoldable pub brushFaults : List Rule → ℕ → List ℕ → Reading (Step (List ℕ))
+unfoldable pub brushFaults : List Rule → ℕ → List ℕ → FaultReading (Step (List ℕ))
 brushFaults rs p s = do
   n ← plainly (text p p s)
   x ← plainly (words p (length rs) (n .place) (n .left))
   numberFaults numberFault rs (n .place) (x .value) x
 
 -- items by `item` to the end of the bytes, at most f of them; the value is how many there are
-unfoldable pub itemFaultsIn : {A : Type 0} → ℕ → (ℕ → List ℕ → Reading (Step A)) → ℕ → List ℕ → Reading ℕ
+unfoldable pub itemFaultsIn : {A : Type 0} → ℕ → (ℕ → List ℕ → FaultReading (Step A)) → ℕ → List ℕ → FaultReading ℕ
 itemFaultsIn zero item p [] = gives 0
 itemFaultsIn zero item p (c ∷ s) = ends 5 p
 itemFaultsIn (suc f) item p [] = gives 0
@@ -101,54 +101,54 @@ itemFaultsIn (suc f) item p (c ∷ s) = do
   gives (suc n)
 
 -- items by `item` to the end of the bytes; an item has at least one byte
-unfoldable pub itemFaults : {A : Type 0} → (ℕ → List ℕ → Reading (Step A)) → ℕ → List ℕ → Reading ℕ
+unfoldable pub itemFaults : {A : Type 0} → (ℕ → List ℕ → FaultReading (Step A)) → ℕ → List ℕ → FaultReading ℕ
 itemFaults item p s = itemFaultsIn (length s) item p s
 
 -- ---- chunks that hold items only
 
 -- a TEXS whose header is at p; the value is how many textures it has
-unfoldable pub textureFaults : ℕ → List ℕ → Reading ℕ
+unfoldable pub textureFaults : ℕ → List ℕ → FaultReading ℕ
 textureFaults p b = do
   l ← plainly (readTextures p b)
   gives (length l)
 
 -- a BRUS whose header is at p, in a file with `textures` textures; the value is how many brushes it has
-unfoldable pub brushesFaults : ℕ → ℕ → List ℕ → Reading ℕ
+unfoldable pub brushesFaults : ℕ → ℕ → List ℕ → FaultReading ℕ
 brushesFaults textures p b = do
   h ← plainly (row brushesHead (p + 8) b)
   itemFaults (brushFaults (brushRow Lenient ++ brushIds (number h 0) textures)) (h .place) (h .left)
 
 -- a VRTS whose header is at p; the value is how many vertices it has
-unfoldable pub vertexFaults : ℕ → List ℕ → Reading ℕ
+unfoldable pub vertexFaults : ℕ → List ℕ → FaultReading ℕ
 vertexFaults p b = do
   v ← plainly (readVertices Lenient p b)
   gives (length (v .items))
 
 -- a TRIS whose header is at p, whose ids name one of `brushes` brushes and of `vertices` vertices; the value is how many triangles it has
-unfoldable pub triangleFaults : ℕ → ℕ → ℕ → List ℕ → Reading ℕ
+unfoldable pub triangleFaults : ℕ → ℕ → ℕ → List ℕ → FaultReading ℕ
 triangleFaults brushes vertices p b = do
   h ← rowFaults numberFault (trianglesHead brushes) (p + 8) b
   itemFaults (rowFaults itemFault (triangleRow vertices)) (h .place) (h .left)
 
 -- a BONE whose header is at p, whose ids name one of `vertices` vertices; the value is how many weights it has
-unfoldable pub boneFaults : ℕ → ℕ → List ℕ → Reading ℕ
+unfoldable pub boneFaults : ℕ → ℕ → List ℕ → FaultReading ℕ
 boneFaults vertices p b = itemFaults (rowFaults itemFault (weightRow vertices)) (p + 8) b
 
 -- ---- the chunks inside a BB3D, a NODE or a MESH
 
 -- the known chunks inside a chunk, one after the other, and the faults of their headers
-pub data Within : Type 0 where
+pub data ChunkFaults : Type 0 where
   -- no chunk more
-  finished : Within
+  finished : ChunkFaults
   -- a fault of another kind, its number and place: nothing behind it is read
-  refused : ℕ → ℕ → Within
+  refused : ℕ → ℕ → ChunkFaults
   -- 1 to 7 spare bytes at this place, and then what is found behind them
-  spareAt : ℕ → Within → Within
+  spareAt : ℕ → ChunkFaults → ChunkFaults
   -- a chunk, its tag, the place of its header, its body, and then what is found behind it
-  chunkAt : Tag → ℕ → List ℕ → Within → Within
+  chunkAt : Tag → ℕ → List ℕ → ChunkFaults → ChunkFaults
 
 -- the known chunks among pieces: of 3's two kinds, 1 to 7 bytes that are left are one of the four, a length that passes the end is not
-unfoldable pub found : Pieces → Within
+unfoldable pub found : Pieces → ChunkFaults
 found none-left = finished
 found (spare p s) = spareAt p finished
 found (past p s) = refused refusals.cutChunk p
@@ -156,44 +156,44 @@ found (unknown o r) = found r
 found (known t p b r) = chunkAt t p b (found r)
 
 -- goes on by `go` if a chunk at p may stand there, else 4 at p
-unfoldable pub onwardFrom : Option Reached → ℕ → (Reached → Within) → Within
+unfoldable pub onwardFrom : Option Reached → ℕ → (Reached → ChunkFaults) → ChunkFaults
 onwardFrom none p go = refused refusals.nesting p
 onwardFrom (some r) p go = go r
 
 -- the chunks inside a chunk of tag k whose header is at `head`, after chunks that came to r: 4 at the first that may not stand where it does, 8
 -- at `head` where one that must stand is missing, behind spare bytes too
-unfoldable pub inOrder : Tag → ℕ → Reached → Within → Within
+unfoldable pub inOrder : Tag → ℕ → Reached → ChunkFaults → ChunkFaults
 inOrder k head r finished = if (requiredBetween (nesting k) (r .turn) end) (refused refusals.noVrtsOrTris head) finished
 inOrder k head r (refused n p) = refused n p
 inOrder k head r (spareAt p l) = spareAt p (inOrder k head r l)
 inOrder k head r (chunkAt t p b l) = onwardFrom (next (nesting k) (nesting k) r t) p (λ q. chunkAt t p b (inOrder k head q l))
 
 -- the chunks of the bytes s from place p on, inside a chunk of tag k whose header is at `head`
-unfoldable pub within : Tag → ℕ → ℕ → List ℕ → Within
+unfoldable pub within : Tag → ℕ → ℕ → List ℕ → ChunkFaults
 within k head p s = inOrder k head start (found (pieces p s))
 
 -- ---- what is read of them
 
 -- what was read of chunks: a value, and the chunks behind it
-pub record Part (A : Type 0) : Type 0 where
+pub record FoundPart (A : Type 0) : Type 0 where
   pub value : A
-  pub rest : Within
+  pub rest : ChunkFaults
 
 -- the value a, before the chunks r
-abbrev pub part : {A : Type 0} → A → Within → Part A
+abbrev pub part : {A : Type 0} → A → ChunkFaults → FoundPart A
 part a r = record { value = a; rest = r }
 
 -- the first chunk, by `one`, if its tag is k; else the value is `a`
-unfoldable pub oneFaults : {A : Type 0} → Tag → A → (ℕ → List ℕ → Reading A) → Within → Reading (Part A)
+unfoldable pub oneFaults : {A : Type 0} → Tag → A → (ℕ → List ℕ → FaultReading A) → ChunkFaults → FaultReading (FoundPart A)
 oneFaults k a one finished = gives (part a finished)
 oneFaults k a one (refused n p) = ends n p
 oneFaults k a one (spareAt p l) = passes 4 3 p (oneFaults k a one l)
 oneFaults {A} k a one (chunkAt t p b r) =
-    let it : Reading (Part A) = one p b >>= λ x. gives (part x r) in
+    let it : FaultReading (FoundPart A) = one p b >>= λ x. gives (part x r) in
     if (is t k) it (gives (part a (chunkAt t p b r)))
 
 -- TRIS chunks to the end, whose ids name one of `brushes` brushes and of `vertices` vertices
-unfoldable pub setFaults : ℕ → ℕ → Within → Reading (Unit {0})
+unfoldable pub setFaults : ℕ → ℕ → ChunkFaults → FaultReading (Unit {0})
 setFaults brushes vertices finished = gives tt
 setFaults brushes vertices (refused n p) = ends n p
 setFaults brushes vertices (spareAt p l) = passes 4 3 p (setFaults brushes vertices l)
@@ -202,7 +202,7 @@ setFaults brushes vertices (chunkAt t p b r) = do
   setFaults brushes vertices r
 
 -- a MESH whose header is at p, in a file with `brushes` brushes; the value is how many vertices it has
-unfoldable pub meshFaults : ℕ → ℕ → List ℕ → Reading ℕ
+unfoldable pub meshFaults : ℕ → ℕ → List ℕ → FaultReading ℕ
 meshFaults brushes p b = do
   h ← rowFaults numberFault (meshHead brushes) (p + 8) b
   v ← oneFaults VRTS 0 vertexFaults (within MESH p (h .place) (h .left))
@@ -211,18 +211,18 @@ meshFaults brushes p b = do
 
 -- a MESH or a BONE, if it comes first, in a file with this number of `brushes`, where a bone may name this number of `vertices`; the value is how many
 -- vertices the node has of its own, 0 without a MESH
-unfoldable pub kindFaults : ℕ → ℕ → Within → Reading (Part ℕ)
+unfoldable pub kindFaults : ℕ → ℕ → ChunkFaults → FaultReading (FoundPart ℕ)
 kindFaults brushes vertices finished = gives (part 0 finished)
 kindFaults brushes vertices (refused n p) = ends n p
 kindFaults brushes vertices (spareAt p l) = passes 4 3 p (kindFaults brushes vertices l)
 kindFaults brushes vertices (chunkAt t p b r) =
-    let m : Reading (Part ℕ) = meshFaults brushes p b >>= λ n. gives (part n r) in
-    let w : Reading (Part ℕ) = boneFaults vertices p b >>= λ n. gives (part 0 r) in
+    let m : FaultReading (FoundPart ℕ) = meshFaults brushes p b >>= λ n. gives (part n r) in
+    let w : FaultReading (FoundPart ℕ) = boneFaults vertices p b >>= λ n. gives (part 0 r) in
     let neither = if (is t BONE) w (gives (part 0 (chunkAt t p b r))) in
     if (is t MESH) m neither
 
 -- KEYS and ANIM, in any mix; the value is whether there was an ANIM, one that was `seen` before counting too
-unfoldable pub moveFaults : Bool → Within → Reading (Part Bool)
+unfoldable pub moveFaults : Bool → ChunkFaults → FaultReading (FoundPart Bool)
 moveFaults seen finished = gives (part seen finished)
 moveFaults seen (refused n p) = ends n p
 moveFaults seen (spareAt p l) = passes 4 3 p (moveFaults seen l)
@@ -233,7 +233,7 @@ moveFaults seen (chunkAt t p b r) =
     if (is t KEYS) k neither
 
 -- NODE chunks to the end, each by `one`
-unfoldable pub nodesFaults : (ℕ → List ℕ → Reading (Unit {0})) → Within → Reading (Unit {0})
+unfoldable pub nodesFaults : (ℕ → List ℕ → FaultReading (Unit {0})) → ChunkFaults → FaultReading (Unit {0})
 nodesFaults one finished = gives tt
 nodesFaults one (refused n p) = ends n p
 nodesFaults one (spareAt p l) = passes 4 3 p (nodesFaults one l)
@@ -242,7 +242,7 @@ nodesFaults one (chunkAt t p b r) = do
   nodesFaults one r
 
 -- a NODE whose header is at p, with l levels left, in a file with this number of `brushes`; `above`: how many vertices its bones may name, none for the root
-unfoldable pub nodeFaults : ℕ → ℕ → Option ℕ → ℕ → List ℕ → Reading (Unit {0})
+unfoldable pub nodeFaults : ℕ → ℕ → Option ℕ → ℕ → List ℕ → FaultReading (Unit {0})
 nodeFaults zero brushes above p b = ends 9 p
 nodeFaults (suc l) brushes above p b = do
   h ← plainly (named nodeRow (p + 8) b)
@@ -253,14 +253,14 @@ nodeFaults (suc l) brushes above p b = do
 -- ---- the file
 
 -- the faults of headers that are left behind the root
-unfoldable pub endFaults : Within → Reading (Unit {0})
+unfoldable pub endFaults : ChunkFaults → FaultReading (Unit {0})
 endFaults finished = gives tt
 endFaults (refused n p) = ends n p
 endFaults (spareAt p l) = passes 4 3 p (endFaults l)
 endFaults (chunkAt t p b r) = endFaults r
 
 -- the body b of BB3D, at place p
-unfoldable pub bodyFaults : ℕ → List ℕ → Reading (Unit {0})
+unfoldable pub bodyFaults : ℕ → List ℕ → FaultReading (Unit {0})
 bodyFaults p b = do
   h ← plainly (row fileHead p b)
   t ← oneFaults TEXS 0 textureFaults (within BB3D 0 (h .place) (h .left))
@@ -269,12 +269,12 @@ bodyFaults p b = do
   endFaults (n .rest)
 
 -- whether BB3D's length is right: a wrong one is one of the four, and BB3D's end is then the file's
-unfoldable pub lengthFault : Bool → Reading (Unit {0})
+unfoldable pub lengthFault : Bool → FaultReading (Unit {0})
 lengthFault true = gives tt
 lengthFault false = passes 1 2 4 (gives tt)
 
 -- a file s: its size, its first tag, BB3D's length, and then BB3D's body up to the end of the file
-unfoldable pub fileFaults : List ℕ → Reading (Unit {0})
+unfoldable pub fileFaults : List ℕ → FaultReading (Unit {0})
 fileFaults s = do
   _ ← plainly (check (sizeFits (length s)) refusals.fileSize 0)
   h ← plainly (row header 0 s)

@@ -9,7 +9,7 @@ use Rattle.wire.specs.declared.Cursor.{Cursor}
 use Rattle.wire.specs.declared.Number.{Number}
 use Rattle.wire.specs.declared.Number.the-variants as number
 use Rattle.layout.specs.Result.{Result, accept, _>>=_}
-use Rattle.layout.proofs.Outs.{bind-cong, bind-bind}
+use Rattle.layout.proofs.ResultLaws.{bind-cong, bind-bind}
 use Rattle.b3d_spec.specs.declared.Mode.the-variants.{Lenient}
 use Rattle.b3d_spec.specs.declared.Tag.the-variants.{BB3D, TEXS, BRUS, NODE}
 use Rattle.layout.specs.Chunks.{done, stop, chunk, ended}
@@ -20,8 +20,8 @@ use Rattle.b3d_spec.specs.Rules.{version}
 use Rattle.b3d_spec.specs.Nesting.{start}
 use Rattle.b3d_spec.specs.Parse.{readOne, readTextures, readBrushes, slotsOf}
 use Rattle.b3d_spec_chunk_places.specs.Places.{Body, restIn, Among}
-use Rattle.b3d_spec_chunk_places.proofs.Heads.{head-cut, head-numbered, head-over, head-within}
-use Rattle.b3d_judge_tally.proofs.Tallies.{within-more}
+use Rattle.b3d_spec_chunk_places.proofs.HeadLaws.{head-cut, head-numbered, head-over, head-within}
+use Rattle.b3d_judge_tally.proofs.TallyLaws.{within-more}
 use Rattle.b3d_judge_file_body.proofs.BodyLaws.{behind, left-behind}
 use Rattle.b3d_mend_judge_items.specs.Lax.{every, laxInside, laxRoot, laxBody}
 use Rattle.b3d_mend_judge_items.specs.Trimmed.{Trimmed}
@@ -78,8 +78,8 @@ regroup v cs =
 
 -- the same answer in more bytes
 wider : (n more : ℕ) (y : Verdict) → n ≤ more → WalkedIn n y → WalkedIn more y
-wider n more (verdict.Good x) le h = within-more n more h le
-wider n more (verdict.Bad k p) le h = omega arith
+wider n more (verdict.Accept x) le h = within-more n more h le
+wider n more (verdict.Reject k p) le h = omega arith
 
 module _ (s : List ℕ) (lo : 8 ≤ length s) (hi : length s ≤ mostBytes) (r : Number) (e : r ≡ numberAt s (behind s)) where
   body-is : Body 0 (behind s) (length s)
@@ -88,12 +88,12 @@ module _ (s : List ℕ) (lo : 8 ≤ length s) (hi : length s ≤ mostBytes) (r :
   abbrev Body-right : Verdict → Type 0
   Body-right y = Walks (laxBody 8 (drop 8 s)) (length s) y
 
-  pub body-cut : r ≡ number.Cut → Body-right (verdict.Bad 5 8)
+  pub body-cut : r ≡ number.Cut → Body-right (verdict.Reject 5 8)
   unfolding laxBody
   body-cut w = record { is = rw (← left-behind s, head-cut s 0 (behind s) body-is r e version w); within = lo }
 
   module _ (k : ℕ) (c : Cursor) (w : r ≡ number.Is k c) where
-    pub body-version : 99 < k → Body-right (verdict.Bad 6 8)
+    pub body-version : 99 < k → Body-right (verdict.Reject 6 8)
     unfolding laxBody
     body-version h = record { is = rw (← left-behind s, head-over s 0 (behind s) body-is r e k c w 99 h); within = lo }
 

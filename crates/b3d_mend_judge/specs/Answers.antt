@@ -10,9 +10,9 @@ use Rattle.b3d_judge_file_body.specs.declared.Verdict.the-variants as verdict
 use Rattle.b3d_mend_spec.specs.Mend.{Mended}
 
 abbrev pub mendedVerdict : Result (Mended Scene) → Verdict
-mendedVerdict (accept x) = verdict.Good (record { version = x .value .version; «n_texs» = x .value .slots; tally = sceneTally (x .value) })
-mendedVerdict (reject n p) = verdict.Bad n p
+mendedVerdict (accept x) = verdict.Accept (record { version = x .value .version; «n_texs» = x .value .slots; tally = sceneTally (x .value) })
+mendedVerdict (reject n p) = verdict.Reject n p
 
 -- a refusal's place is one of the file, or a table's number
-pub record Placed (r : Verdict) : Type 0 where
-  pub most : (n p : ℕ) → r ≡ verdict.Bad n p → p ≤ mostBytes
+pub record PlaceValid (r : Verdict) : Type 0 where
+  pub most : (n p : ℕ) → r ≡ verdict.Reject n p → p ≤ mostBytes

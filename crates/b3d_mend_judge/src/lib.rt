@@ -11,7 +11,7 @@ ghost use Rattle.layout.specs.Rows.{mostBytes};
 ghost use Rattle.b3d_mend_judge_items.specs.Lax.{laxBody};
 ghost use Rattle.b3d_mend_judge.specs.Bodies.{laxChunks};
 ghost use Rattle.b3d_mend_spec.specs.Report.{mendJudged};
-ghost use Rattle.b3d_mend_judge.specs.Answers.{mendedVerdict, Placed};
+ghost use Rattle.b3d_mend_judge.specs.Answers.{mendedVerdict, PlaceValid};
 use b3d_judge_file_body::Summary;
 use b3d_judge_file_body::Verdict;
 use b3d_judge_file_chunks::Phase;
@@ -30,10 +30,10 @@ fn lax_chunks(s: &[u8], version: u32, from: Cursor) -> Verdict
     ensures { λ r. ⌜ Walks (laxChunks version (restIn (now (s .entry)) BB3D 0 start from)) (from .end) r ⌝ }
 {
     match b3d_judge_file_chunks::judge_texs_chunk(s, from) {
-        Phase::Not(e, p) => Verdict::Bad(e, p),
-        Phase::To(t, c) => match b3d_mend_judge_file::lax_rest(s, c) {
-            BrushesSummary::Not(e, p) => Verdict::Bad(e, p),
-            BrushesSummary::Is(slots, r) => Verdict::Good(Summary {
+        Phase::Reject(e, p) => Verdict::Reject(e, p),
+        Phase::Accept(t, c) => match b3d_mend_judge_file::lax_rest(s, c) {
+            BrushesSummary::Reject(e, p) => Verdict::Reject(e, p),
+            BrushesSummary::Accept(slots, r) => Verdict::Accept(Summary {
                 version,
                 n_texs: slots,
                 tally: b3d_judge_file_body::file_rows(t, r),
@@ -43,7 +43,7 @@ fn lax_chunks(s: &[u8], version: u32, from: Cursor) -> Verdict
 }
 
 // Judges all that follows the header of a file: its version, then its chunks without spare bytes.
-pub fn lax_body(s: &[u8]) -> Verdict
+fn lax_body(s: &[u8]) -> Verdict
     requires { ⌜ (8 ≤ length (now s)) × (length (now s) ≤ mostBytes) ⌝ }
     ensures { λ r. ⌜ Walks (laxBody 8 (drop 8 (now (s .entry)))) (length (now (s .entry))) r ⌝ }
 {
@@ -52,10 +52,10 @@ pub fn lax_body(s: &[u8]) -> Verdict
         end: s.len(),
     };
     match behind.number(s) {
-        Number::Cut => Verdict::Bad(refusals::CUT_ITEM, 8),
+        Number::Cut => Verdict::Reject(refusals::CUT_ITEM, 8),
         Number::Is(version, c) => {
             if HIGHEST_VERSION < version {
-                return Verdict::Bad(refusals::RANGE, 8);
+                return Verdict::Reject(refusals::RANGE, 8);
             }
             let d = b3d_mend_judge_items::trimmed(s, c);
             lax_chunks(s, version, d)
@@ -66,27 +66,27 @@ pub fn lax_body(s: &[u8]) -> Verdict
 // Returns what a file says as it is mended, or the first fault that is not mended. BB3D ends where the file does, whatever its length says.
 pub fn judge_mended(file: &[u8]) -> Verdict
     ensures { λ r. ⌜ r ≡ mendedVerdict (mendJudged (now (file .entry))) ⌝ }
-    ensures { λ r. ⌜ Placed r ⌝ }
+    ensures { λ r. ⌜ PlaceValid r ⌝ }
 {
     let n = file.len();
     if n < FEWEST_BYTES {
-        return Verdict::Bad(refusals::FILE_SIZE, 0);
+        return Verdict::Reject(refusals::FILE_SIZE, 0);
     }
     if MOST_BYTES < n {
-        return Verdict::Bad(refusals::FILE_SIZE, 0);
+        return Verdict::Reject(refusals::FILE_SIZE, 0);
     }
     if wire::number_at(file, 0) != letters::BB3D {
-        return Verdict::Bad(refusals::FIRST_TAG, 0);
+        return Verdict::Reject(refusals::FIRST_TAG, 0);
     }
     b3d_judge::are_bytes(file);
     match lax_body(file) {
-        Verdict::Bad(e, p) => Verdict::Bad(e, p),
-        Verdict::Good(x) => {
+        Verdict::Reject(e, p) => Verdict::Reject(e, p),
+        Verdict::Accept(x) => {
             let over = b3d_judge_limits::over_limit(x.tally);
             if over != 0 {
-                return Verdict::Bad(refusals::TOO_MANY_ROWS, over);
+                return Verdict::Reject(refusals::TOO_MANY_ROWS, over);
             }
-            Verdict::Good(x)
+            Verdict::Accept(x)
         }
     }
 }

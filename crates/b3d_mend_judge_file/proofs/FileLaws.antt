@@ -19,7 +19,7 @@ use Rattle.b3d_rule_nesting_order.specs.declared.Reached.{Reached as State}
 use Rattle.b3d_chunk_next_allowed.specs.declared.Enclosed.{Enclosed}
 use Rattle.b3d_chunk_next_allowed.specs.declared.Enclosed.the-variants as enclosed
 use Rattle.b3d_chunk_next_allowed.specs.Steps.{EnclosedIs}
-use Rattle.b3d_chunk_next_allowed.proofs.Rests.{among-inside, among-head}
+use Rattle.b3d_chunk_next_allowed.proofs.RestLaws.{among-inside, among-head}
 use Rattle.b3d_judge_file_chunks.specs.declared.Phase.the-variants as phase
 use Rattle.b3d_judge_file_chunks.proofs.FileLaws.{file-body, Root, root-judges, root-end, root-stop, any-root-bad, any-root-good}
 use Rattle.b3d_mend_judge_items.specs.Lax.{laxNode, laxRoot}
@@ -30,10 +30,10 @@ module _ (s : List ℕ) (from : Cursor) (g : Among 0 from (length s)) (r : Enclo
   unfolding laxRoot
   root-is = root-judges (laxNode 16 none p (left b s)) p (b .end) j hj
 
-  pub root-bad : (i q : ℕ) → j ≡ judge.Bad i q → Root laxRoot s from g r x (phase.Not i q)
+  pub root-bad : (i q : ℕ) → j ≡ judge.Reject i q → Root laxRoot s from g r x (phase.Reject i q)
   root-bad = any-root-bad laxRoot s from g r x t p b n v w j root-is
 
-  pub root-good : (m : Tally) → j ≡ judge.Good m → Root laxRoot s from g r x (phase.To m n)
+  pub root-good : (m : Tally) → j ≡ judge.Accept m → Root laxRoot s from g r x (phase.Accept m n)
   root-good = any-root-good laxRoot s from g r x t p b n v w j root-is
 
 pub ruleset root-laws = (among-inside, among-head, file-body, root-end, root-stop, root-bad, root-good)

@@ -45,12 +45,12 @@ fn lax_root(s: &[u8], from: Cursor) -> Phase
 {
     let found = b3d_chunk_cursor::next_chunk(s, from);
     match b3d_chunk_next_allowed::next_inside(s, from, found, Tag::BB3D, 0, BRUS_READ) {
-        Enclosed::End => Phase::To(b3d_judge_tally::none(), from),
-        Enclosed::Not(e, p) => Phase::Not(e, p),
+        Enclosed::End => Phase::Accept(b3d_judge_tally::none(), from),
+        Enclosed::Reject(e, p) => Phase::Reject(e, p),
         Enclosed::Chunk { at, body, next, .. } => {
             match b3d_mend_judge_tree::lax_node(s, at, body, ALL_LEVELS, Above::Root) {
-                Judged::Bad(e, p) => Phase::Not(e, p),
-                Judged::Good(t) => Phase::To(t, next),
+                Judged::Reject(e, p) => Phase::Reject(e, p),
+                Judged::Accept(t) => Phase::Accept(t, next),
             }
         }
     }
@@ -62,14 +62,14 @@ fn lax_last(s: &[u8], from: Cursor) -> Judged
     ensures { λ r. ⌜ Judges forestTally (laxLast (restIn (now (s .entry)) BB3D 0 (reachedAt 2 true) from)) (from .at) (from .end) r ⌝ }
 {
     match lax_root(s, from) {
-        Phase::Not(e, p) => Judged::Bad(e, p),
-        Phase::To(t, end) => {
+        Phase::Reject(e, p) => Judged::Reject(e, p),
+        Phase::Accept(t, end) => {
             let found = b3d_chunk_cursor::next_chunk(s, end);
             match b3d_chunk_next_allowed::next_inside(s, end, found, Tag::BB3D, 0, ROOT_READ) {
-                Enclosed::End => Judged::Good(t),
-                Enclosed::Not(e, p) => Judged::Bad(e, p),
+                Enclosed::End => Judged::Accept(t),
+                Enclosed::Reject(e, p) => Judged::Reject(e, p),
                 // Nothing may stand here.
-                Enclosed::Chunk { .. } => Judged::Good(t),
+                Enclosed::Chunk { .. } => Judged::Accept(t),
             }
         }
     }
@@ -81,10 +81,10 @@ pub fn lax_rest(s: &[u8], from: Cursor) -> BrushesSummary
     ensures { λ r. ⌜ Rests (laxRest (restIn (now (s .entry)) BB3D 0 (reachedAt 1 true) from)) (from .at) (from .end) r ⌝ }
 {
     match b3d_judge_file_chunks::judge_brus_chunk(s, from, EVERY, Mode::Lenient) {
-        BrusSummary::Not(e, p) => BrushesSummary::Not(e, p),
-        BrusSummary::To(slots, b, c) => match lax_last(s, c) {
-            Judged::Bad(e, p) => BrushesSummary::Not(e, p),
-            Judged::Good(f) => BrushesSummary::Is(slots, b3d_judge_tally::plus(b, f)),
+        BrusSummary::Reject(e, p) => BrushesSummary::Reject(e, p),
+        BrusSummary::Accept(slots, b, c) => match lax_last(s, c) {
+            Judged::Reject(e, p) => BrushesSummary::Reject(e, p),
+            Judged::Accept(f) => BrushesSummary::Accept(slots, b3d_judge_tally::plus(b, f)),
         },
     }
 }

@@ -2,12 +2,12 @@
 -- The mending read beside what is counted of it.
 -- The laws of its loop.
 -- The laws of its functions.
-pub mod PieceSteps
-pub mod Alike
-pub mod LaxParts
-pub mod LaxNodes
-pub mod LaxFile
-pub mod Counts
-pub mod Trimming
-pub mod Keeping
+pub mod PieceStepLaws
+pub mod AlikeLaws
+pub mod LaxPartLaws
+pub mod LaxNodeLaws
+pub mod LaxFileLaws
+pub mod CountLaws
+pub mod TrimLaws
+pub mod KeepLaws
 pub mod KeptLaws

@@ -62,7 +62,7 @@ pub fn kept_one(s: &[u8], c: Cursor, words: usize, ids: usize, limit: usize) -> 
 }
 
 // Counts the items of `words` words that `from` has left and that stay: the first `ids` words of each are below `limit`. Answers 5 at an item that is cut.
-pub fn kept_items(s: &[u8], from: Cursor, words: usize, ids: usize, limit: usize) -> Counted
+fn kept_items(s: &[u8], from: Cursor, words: usize, ids: usize, limit: usize) -> Counted
     requires { ⌜ Inside from (length (now s)) × (0 < words) × (words ≤ 64) × (ids ≤ words) ⌝ }
     ensures { λ r. ⌜ (r ≡ counted (laxItems (idRow ids (words - ids) limit) (from .at) (left from (now (s .entry))))) × CountedIn from words r ⌝ }
 {
@@ -72,13 +72,13 @@ pub fn kept_items(s: &[u8], from: Cursor, words: usize, ids: usize, limit: usize
     let mut count: usize = 0;
     while at < end {
         if end - at < size {
-            return Counted::Not(refusals::CUT_ITEM, at);
+            return Counted::Reject(refusals::CUT_ITEM, at);
         }
         let one = kept_one(s, Cursor { at, end }, words, ids, limit);
         at += size;
         count += one;
     }
-    Counted::Is(count)
+    Counted::Accept(count)
 }
 
 // Judges the BONE whose header is at `at`: its weights that name one of `vertices` vertices are counted.
@@ -87,8 +87,8 @@ pub fn lax_bone(s: &[u8], at: usize, body: Cursor, vertices: usize) -> Judged
     ensures { λ r. ⌜ Judges boneTally (laxBone vertices at (left body (now (s .entry)))) at (body .end) r ⌝ }
 {
     match kept_items(s, body, 2, 1, vertices) {
-        Counted::Not(n, p) => Judged::Bad(n, p),
-        Counted::Is(count) => Judged::Good(b3d_judge_tally::weights(count)),
+        Counted::Reject(n, p) => Judged::Reject(n, p),
+        Counted::Accept(count) => Judged::Accept(b3d_judge_tally::weights(count)),
     }
 }
 
@@ -98,10 +98,10 @@ pub fn lax_triangles(s: &[u8], at: usize, body: Cursor, vertices: usize) -> Judg
     ensures { λ r. ⌜ Judges setTally (laxTriangles vertices at (left body (now (s .entry)))) at (body .end) r ⌝ }
 {
     match body.number(s) {
-        Number::Cut => Judged::Bad(refusals::CUT_ITEM, body.at),
+        Number::Cut => Judged::Reject(refusals::CUT_ITEM, body.at),
         Number::Is(_, items) => match kept_items(s, items, 3, 3, vertices) {
-            Counted::Not(n, p) => Judged::Bad(n, p),
-            Counted::Is(count) => Judged::Good(b3d_judge_tally::triangles(count)),
+            Counted::Reject(n, p) => Judged::Reject(n, p),
+            Counted::Accept(count) => Judged::Accept(b3d_judge_tally::triangles(count)),
         },
     }
 }

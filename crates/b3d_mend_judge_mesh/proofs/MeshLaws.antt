@@ -17,9 +17,9 @@ use Rattle.b3d_spec.specs.Scene.{TriangleSet}
 use Rattle.b3d_spec.specs.Nesting.{start, order}
 use Rattle.b3d_spec.specs.Parse.{readOne, Vertices, noVertices, readVertices}
 use Rattle.b3d_judge_tally.specs.Tally.{meshTally}
-use Rattle.b3d_judge_tally.proofs.Tallies.{within-more}
+use Rattle.b3d_judge_tally.proofs.TallyLaws.{within-more}
 use Rattle.b3d_spec_chunk_places.specs.Places.{Body, restIn, Among}
-use Rattle.b3d_spec_chunk_places.proofs.Heads.{head-cut, head-numbered, head-got, body-inside}
+use Rattle.b3d_spec_chunk_places.proofs.HeadLaws.{head-cut, head-numbered, head-got, body-inside}
 use Rattle.b3d_judge_mesh.specs.Answers.{meshed, MeshedIn, Meshes}
 use Rattle.b3d_judge_mesh.specs.declared.MeshSummary.{MeshSummary}
 use Rattle.b3d_judge_mesh.specs.declared.MeshSummary.the-variants as meshes
@@ -44,8 +44,8 @@ brush-free x y cs = go (readOne VRTS noVertices (readVertices Lenient) cs)
 
 -- the same answer in more bytes
 wider : (from to more : ℕ) (j : MeshSummary) → to ≤ more → MeshedIn from to j → MeshedIn from more j
-wider from to more (meshes.Is k t) le h = within-more (to - from) (more - from) h (omega arith)
-wider from to more (meshes.Not n p) le h = omega arith
+wider from to more (meshes.Accept k t) le h = within-more (to - from) (more - from) h (omega arith)
+wider from to more (meshes.Reject n p) le h = omega arith
 
 module _ (s : List ℕ) (at : ℕ) (body : Cursor) (g : Body at body (length s)) (r : Number) (e : r ≡ numberAt s body) where
   abbrev Right : MeshSummary → Type 0
@@ -54,7 +54,7 @@ module _ (s : List ℕ) (at : ℕ) (body : Cursor) (g : Body at body (length s))
   pub mesh-inside : Inside body (length s)
   mesh-inside = body-inside s at body g
 
-  pub mesh-cut : r ≡ number.Cut → Right (meshes.Not 5 (body .at))
+  pub mesh-cut : r ≡ number.Cut → Right (meshes.Reject 5 (body .at))
   unfolding laxMesh
   mesh-cut w = record { is = rw (head-cut s at body g r e any w); within = g .room }
 

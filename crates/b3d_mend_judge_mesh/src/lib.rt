@@ -43,10 +43,10 @@ fn lax_sets(s: &[u8], at: usize, from: Cursor, vertices: usize) -> Judged
         let found = b3d_chunk_cursor::next_chunk(s, c);
         match b3d_chunk_next_allowed::next_inside(s, c, found, Tag::MESH, at, q) {
             Enclosed::End => {
-                return Judged::Good(m);
+                return Judged::Accept(m);
             }
-            Enclosed::Not(e, p) => {
-                return Judged::Bad(e, p);
+            Enclosed::Reject(e, p) => {
+                return Judged::Reject(e, p);
             }
             Enclosed::Chunk {
                 at: p,
@@ -55,10 +55,10 @@ fn lax_sets(s: &[u8], at: usize, from: Cursor, vertices: usize) -> Judged
                 reached,
                 ..
             } => match b3d_mend_judge_items::lax_triangles(s, p, body, vertices) {
-                Judged::Bad(e, i) => {
-                    return Judged::Bad(e, i);
+                Judged::Reject(e, i) => {
+                    return Judged::Reject(e, i);
                 }
-                Judged::Good(t) => {
+                Judged::Accept(t) => {
                     m = b3d_judge_tally::plus(m, t);
                     q = reached;
                     c = next;
@@ -75,10 +75,10 @@ fn lax_shape(s: &[u8], at: usize, p: usize, body: Cursor, next: Cursor) -> MeshS
         (restIn (now (s .entry)) MESH at (reachedAt 1 true) next)) at (next .end) r ⌝ }
 {
     match b3d_judge_bodies::judge_vertices(s, p, body, Mode::Lenient) {
-        VerticesSummary::Not(e, q) => MeshSummary::Not(e, q),
-        VerticesSummary::Is(n, words) => match lax_sets(s, at, next, n) {
-            Judged::Bad(e, q) => MeshSummary::Not(e, q),
-            Judged::Good(t) => MeshSummary::Is(n, b3d_judge_mesh::mesh_rows(n, words, t)),
+        VerticesSummary::Reject(e, q) => MeshSummary::Reject(e, q),
+        VerticesSummary::Accept(n, words) => match lax_sets(s, at, next, n) {
+            Judged::Reject(e, q) => MeshSummary::Reject(e, q),
+            Judged::Accept(t) => MeshSummary::Accept(n, b3d_judge_mesh::mesh_rows(n, words, t)),
         },
     }
 }
@@ -91,8 +91,8 @@ fn lax_inside(s: &[u8], at: usize, from: Cursor) -> MeshSummary
     let found = b3d_chunk_cursor::next_chunk(s, from);
     match b3d_chunk_next_allowed::first_inside(s, from, found, Tag::MESH, at) {
         // No mesh ends here: it owes its VRTS.
-        Enclosed::End => MeshSummary::Is(0, b3d_judge_tally::none()),
-        Enclosed::Not(e, p) => MeshSummary::Not(e, p),
+        Enclosed::End => MeshSummary::Accept(0, b3d_judge_tally::none()),
+        Enclosed::Reject(e, p) => MeshSummary::Reject(e, p),
         Enclosed::Chunk {
             at: p,
             body,
@@ -108,7 +108,7 @@ pub fn lax_mesh(s: &[u8], at: usize, body: Cursor) -> MeshSummary
     ensures { λ r. ⌜ Meshes (laxMesh at (left body (now (s .entry)))) at (body .end) r ⌝ }
 {
     match body.number(s) {
-        Number::Cut => MeshSummary::Not(refusals::CUT_ITEM, body.at),
+        Number::Cut => MeshSummary::Reject(refusals::CUT_ITEM, body.at),
         Number::Is(_, c) => {
             let d = b3d_mend_judge_items::trimmed(s, c);
             lax_inside(s, at, d)

@@ -20,13 +20,13 @@ use Rattle.b3d_spec.specs.Parse.{Animation, readAnimation}
 use Rattle.b3d_chunk_cursor.specs.Chunks.{namedAt, NamedIn}
 use Rattle.b3d_chunk_cursor.specs.declared.Named.{Named}
 use Rattle.b3d_chunk_cursor.specs.declared.Named.the-variants as named
-use Rattle.b3d_chunk_cursor.proofs.Names.{named-cut, named-any, named-among}
-use Rattle.b3d_judge_tally.proofs.Answered.{GaveBeside, beside-bad, beside-good}
+use Rattle.b3d_chunk_cursor.proofs.NamedLaws.{named-cut, named-any, named-among}
+use Rattle.b3d_judge_tally.proofs.AnswerLaws.{GaveBeside, beside-bad, beside-good}
 use Rattle.b3d_judge_tally.specs.Tally.{headTally, kindTally, animationTally, dataTally, plus, Within}
 use Rattle.b3d_spec_chunk_places.specs.Places.{Body, restIn, Among}
-use Rattle.b3d_spec_chunk_places.proofs.Heads.{body-inside}
+use Rattle.b3d_spec_chunk_places.proofs.HeadLaws.{body-inside}
 use Rattle.b3d_judge_tally.specs.declared.Tally.{Tally}
-use Rattle.b3d_judge_tally.proofs.Tallies.{within-more, within-plus, within-head}
+use Rattle.b3d_judge_tally.proofs.TallyLaws.{within-more, within-plus, within-head}
 use Rattle.b3d_judge_node.specs.Answers.{kinded, kindedBy, KindedIn, Kinds, aboveOf, owned, parted, Parted}
 use Rattle.b3d_judge_node.specs.Answers as judged
 use Rattle.b3d_mend_judge_items.specs.Lax.{laxInside, laxKind}
@@ -64,13 +64,13 @@ module _ (s : List ℕ) (at : ℕ) (from : Cursor) (g : Among at from (length s)
   abbrev go : Result (Found Kind) → Result (Found (Kind × Animation))
   go o = o >>= λ v. made (v .value) (readAnimation noAnim (v .rest))
 
-  pub parts-kind-bad : (e q : ℕ) → k ≡ kind.Not e q → Right-parts (own.Not e q)
+  pub parts-kind-bad : (e q : ℕ) → k ≡ kind.Reject e q → Right-parts (own.Reject e q)
   unfolding laxParts
   parts-kind-bad e q z =
       let b = beside-bad ownVertices kindTally (laxKind bones (restIn s NODE at start from)) e q (kinds-at (laxKind bones (restIn s NODE at start from)) (restIn s NODE at (reachedAt 2 false)) from k hk z) in
       record { is = rw (← eb, b); within = subst (KindedIn from) z (hk .within) }
 
-  module _ (have : ℕ) (t : Tally) (c : Cursor) (z : k ≡ kind.To have t c) where
+  module _ (have : ℕ) (t : Tally) (c : Cursor) (z : k ≡ kind.Accept have t c) where
     on : Onward from c t
     on = subst (KindedIn from) z (hk .within)
 
@@ -92,7 +92,7 @@ module _ (s : List ℕ) (at : ℕ) (from : Cursor) (g : Among at from (length s)
     parts-first-small = let q = parts-among in within-more (c .at - at) mostBytes first-within (omega (arith, q .room, q .within, g .small))
 
     module _ (j : Motion) (hj : Motions (readAnimation noAnim (restIn s NODE at (reachedAt 2 false) c)) (restIn s NODE at (reachedAt 3 false)) c j) where
-      pub parts-moves-bad : (e q : ℕ) → j ≡ motion.Not e q → Right-parts (own.Not e q)
+      pub parts-moves-bad : (e q : ℕ) → j ≡ motion.Reject e q → Right-parts (own.Reject e q)
       unfolding laxParts
       parts-moves-bad e q y =
           let o = on in
@@ -101,14 +101,14 @@ module _ (s : List ℕ) (at : ℕ) (from : Cursor) (g : Among at from (length s)
           let le : q ≤ c .end = subst (MovedIn c) y (hj .within) in
           record { is = rw (← eb, v .is, b); within = omega (arith, o .same) }
 
-      module _ (seen : Bool) (u : Tally) (d : Cursor) (y : j ≡ motion.To seen u d) where
+      module _ (seen : Bool) (u : Tally) (d : Cursor) (y : j ≡ motion.Accept seen u d) where
         after-moves : Onward c d u
         after-moves = subst (MovedIn c) y (hj .within)
 
         pub parts-moves-small : Within u mostBytes
         parts-moves-small = let q = parts-among in let m = after-moves in within-more (d .at - c .at) mostBytes (m .within) (omega (arith, m .room, m .same, q .within, g .small))
 
-        pub parts-good : (x : Tally) → x ≡ plus (plus headTally t) u → (below : Above) → aboveOf below ≡ boneLimitFrom a seen have → Right-parts (own.To below x d)
+        pub parts-good : (x : Tally) → x ≡ plus (plus headTally t) u → (below : Above) → aboveOf below ≡ boneLimitFrom a seen have → Right-parts (own.Accept below x d)
         unfolding laxParts
         parts-good x ex below e-below =
             let o = on in
@@ -138,8 +138,8 @@ pub ruleset parts-laws = (parts-kind-bad, parts-among, parts-kind-small, parts-f
 
 -- the same answer in more bytes
 owned-in : (at end : ℕ) (d : Cursor) → d .end ≤ end → (k : NodeSummary) → judged.OwnedIn at d k → OwnedIn at end k
-owned-in at end d le (own.To b t c) h = record { head = h .1; room = h .0 .room; before = omega (arith, h .0 .same); within = h .0 .within }
-owned-in at end d le (own.Not i p) h = omega arith
+owned-in at end d le (own.Accept b t c) h = record { head = h .1; room = h .0 .room; before = omega (arith, h .0 .same); within = h .0 .within }
+owned-in at end d le (own.Reject i p) h = omega arith
 
 module _ (s : List ℕ) (at : ℕ) (body : Cursor) (g : Body at body (length s)) (r : Named) (ir : NamedIn body 10 r) (len : ℕ) (v n : Cursor) (w : r ≡ named.Is len v n) where
   pub own-inside : Inside n (length s)
@@ -159,7 +159,7 @@ module _ (s : List ℕ) (at : ℕ) (body : Cursor) (g : Body at body (length s))
   abbrev Right : NodeSummary → Type 0
   Right x = Owns a (laxOwn a at (left body s)) (restIn s NODE at (reachedAt 3 false)) at (body .end) x
 
-  pub own-cut : r ≡ named.Cut → Right (own.Not 5 (body .at))
+  pub own-cut : r ≡ named.Cut → Right (own.Reject 5 (body .at))
   unfolding laxOwn
   own-cut w = record { is = rw (← g .head, named-cut s body 10 (body-inside s at body g) nodeRow refl r er w); within = g .room }
 

@@ -45,8 +45,8 @@ pub record Ahead (at end : ℕ) (c : Cursor) (t : Tally) : Type 0 where
   pub within : Within t (c .at - at)
 
 abbrev pub OwnedIn : ℕ → ℕ → NodeSummary → Type 0
-OwnedIn at end (own.To a t c) = Ahead at end c t
-OwnedIn at end (own.Not n p) = p ≤ end
+OwnedIn at end (own.Accept a t c) = Ahead at end c t
+OwnedIn at end (own.Reject n p) = p ≤ end
 
 pub record Owns (a : Option ℕ) (o : Result (Found Data)) (rest : Cursor → Chunks) (at end : ℕ) (r : NodeSummary) : Type 0 where
   pub is : ownedBy rest r ≡ owned a o

@@ -29,8 +29,8 @@ fn lax_kind(s: &[u8], at: usize, from: Cursor, bones: usize) -> KindSummary
 {
     let found = b3d_chunk_cursor::next_chunk(s, from);
     match b3d_chunk_next_allowed::first_inside(s, from, found, Tag::NODE, at) {
-        Enclosed::End => KindSummary::To(0, b3d_judge_tally::none(), from),
-        Enclosed::Not(e, p) => KindSummary::Not(e, p),
+        Enclosed::End => KindSummary::Accept(0, b3d_judge_tally::none(), from),
+        Enclosed::Reject(e, p) => KindSummary::Reject(e, p),
         Enclosed::Chunk {
             tag,
             at: p,
@@ -39,14 +39,14 @@ fn lax_kind(s: &[u8], at: usize, from: Cursor, bones: usize) -> KindSummary
             ..
         } => match tag {
             Tag::MESH => match b3d_mend_judge_mesh::lax_mesh(s, p, body) {
-                MeshSummary::Not(e, q) => KindSummary::Not(e, q),
-                MeshSummary::Is(own, t) => KindSummary::To(own, t, next),
+                MeshSummary::Reject(e, q) => KindSummary::Reject(e, q),
+                MeshSummary::Accept(own, t) => KindSummary::Accept(own, t, next),
             },
             Tag::BONE => match b3d_mend_judge_items::lax_bone(s, p, body, bones) {
-                Judged::Bad(e, q) => KindSummary::Not(e, q),
-                Judged::Good(t) => KindSummary::To(0, t, next),
+                Judged::Reject(e, q) => KindSummary::Reject(e, q),
+                Judged::Accept(t) => KindSummary::Accept(0, t, next),
             },
-            _ => KindSummary::To(0, b3d_judge_tally::none(), from),
+            _ => KindSummary::Accept(0, b3d_judge_tally::none(), from),
         },
     }
 }
@@ -58,10 +58,10 @@ fn lax_parts(s: &[u8], at: usize, from: Cursor, above: Above) -> NodeSummary
         (restIn (now (s .entry)) NODE at (reachedAt 3 false)) at from r ⌝ }
 {
     match lax_kind(s, at, from, b3d_judge_node::bone_vertices(above)) {
-        KindSummary::Not(e, q) => NodeSummary::Not(e, q),
-        KindSummary::To(own, k, c) => match b3d_judge_animation::judge_animation(s, at, c) {
-            Motion::Not(e, q) => NodeSummary::Not(e, q),
-            Motion::To(anim, m, d) => NodeSummary::To(
+        KindSummary::Reject(e, q) => NodeSummary::Reject(e, q),
+        KindSummary::Accept(own, k, c) => match b3d_judge_animation::judge_animation(s, at, c) {
+            Motion::Reject(e, q) => NodeSummary::Reject(e, q),
+            Motion::Accept(anim, m, d) => NodeSummary::Accept(
                 b3d_judge_node::bones_below(above, anim, own),
                 b3d_judge_node::own_rows(k, m),
                 d,
@@ -77,7 +77,7 @@ pub fn lax_own(s: &[u8], at: usize, body: Cursor, above: Above) -> NodeSummary
         (restIn (now (s .entry)) NODE at (reachedAt 3 false)) at (body .end) r ⌝ }
 {
     match b3d_chunk_cursor::named_row(s, body, 10) {
-        Named::Cut => NodeSummary::Not(refusals::CUT_ITEM, body.at),
+        Named::Cut => NodeSummary::Reject(refusals::CUT_ITEM, body.at),
         Named::Is { next, .. } => {
             let d = b3d_mend_judge_items::trimmed(s, next);
             lax_parts(s, at, d, above)

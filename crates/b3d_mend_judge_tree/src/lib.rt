@@ -31,13 +31,13 @@ pub fn lax_node(s: &[u8], at: usize, body: Cursor, levels: u32, above: Above) ->
     ensures { λ r. ⌜ Judges innerTally (laxNode levels (aboveOf above) at (left body (now (s .entry)))) at (body .end) r ⌝ }
 {
     if levels == 0 {
-        return Judged::Bad(refusals::TOO_DEEP, at);
+        return Judged::Reject(refusals::TOO_DEEP, at);
     }
     match b3d_mend_judge_node::lax_own(s, at, body, above) {
-        NodeSummary::Not(e, p) => Judged::Bad(e, p),
-        NodeSummary::To(below, t, c) => match lax_nodes(s, at, c, levels - 1, below) {
-            Judged::Bad(e, p) => Judged::Bad(e, p),
-            Judged::Good(f) => Judged::Good(b3d_judge_tally::plus(t, f)),
+        NodeSummary::Reject(e, p) => Judged::Reject(e, p),
+        NodeSummary::Accept(below, t, c) => match lax_nodes(s, at, c, levels - 1, below) {
+            Judged::Reject(e, p) => Judged::Reject(e, p),
+            Judged::Accept(f) => Judged::Accept(b3d_judge_tally::plus(t, f)),
         },
     }
 }
@@ -55,10 +55,10 @@ fn lax_nodes(s: &[u8], at: usize, from: Cursor, levels: u32, above: Above) -> Ju
         let found = b3d_chunk_cursor::next_chunk(s, c);
         match b3d_chunk_next_allowed::next_inside(s, c, found, Tag::NODE, at, q) {
             Enclosed::End => {
-                return Judged::Good(m);
+                return Judged::Accept(m);
             }
-            Enclosed::Not(e, p) => {
-                return Judged::Bad(e, p);
+            Enclosed::Reject(e, p) => {
+                return Judged::Reject(e, p);
             }
             Enclosed::Chunk {
                 at: p,
@@ -67,10 +67,10 @@ fn lax_nodes(s: &[u8], at: usize, from: Cursor, levels: u32, above: Above) -> Ju
                 reached,
                 ..
             } => match lax_node(s, p, body, levels, above) {
-                Judged::Bad(e, i) => {
-                    return Judged::Bad(e, i);
+                Judged::Reject(e, i) => {
+                    return Judged::Reject(e, i);
                 }
-                Judged::Good(t) => {
+                Judged::Accept(t) => {
                     m = b3d_judge_tally::plus(m, t);
                     q = reached;
                     c = next;

@@ -7,7 +7,7 @@ use mathlib.Core.List.{List, [], _∷_, _++_, append-assoc}
 use lib.ListN.{length, length-append}
 use Rattle.wire.specs.Bytes.{bytes}
 use Rattle.layout.specs.Rules.{NONE}
-use Rattle.layout.proofs.Lists.{All}
+use Rattle.layout.proofs.AllLaws.{All}
 use Rattle.b3d_mend_spec.specs.Edits.{Edit, keep, follow, mend, was, becomes, before, after, idSet, itemOut, spareOut}
 use Rattle.b3d_mend_spec.specs.Four.{OfFour}
 use Rattle.b3d_mend_spec.specs.Report.{entries}

@@ -4,10 +4,10 @@ use native.Mathlib.Omega.{arith}
 use mathlib.Core.List.{List, [], _∷_}
 use lib.ListN.{length}
 use Rattle.b3d_mend_spec.specs.Edits.{Edit, keep, follow, mend}
-use Rattle.b3d_mend_spec.specs.Report.{Entry, entries}
+use Rattle.b3d_mend_spec.specs.Report.{ReportEntry, entries}
 use Rattle.b3d_mend_spec.specs.Mends.{Ordered}
 
-ordered-from : (l : List Entry) (p q : ℕ) → p ≤ q → Ordered q l → Ordered p l
+ordered-from : (l : List ReportEntry) (p q : ℕ) → p ≤ q → Ordered q l → Ordered p l
 ordered-from [] p q h k = tt
 ordered-from (e ∷ l) p q h k = (omega (arith, k .0), k .1)
 

@@ -13,9 +13,9 @@ use Rattle.layout.specs.Result.{accept}
 use Rattle.layout.specs.Parts.{Step, row, number}
 use Rattle.layout.specs.Write.{writeWords}
 use Rattle.layout.specs.Rows.{mostBytes, sizeFits}
-use Rattle.layout.proofs.Fitting.{Fits}
-use Rattle.layout.proofs.Lists.{All}
-use Rattle.layout.proofs.Outs.{if-case, by-got, by-check, check-yes, by-test, if-yes, if-no, got-inj}
+use Rattle.layout.proofs.WellFormedLaws.{Fits}
+use Rattle.layout.proofs.AllLaws.{All}
+use Rattle.layout.proofs.ResultLaws.{if-case, by-got, by-check, check-yes, by-test, if-yes, if-no, got-inj}
 use Rattle.layout.proofs.ChunkLaws.{ended-fine}
 use Rattle.layout.proofs.PartLaws.{words-append, row-back, row-fine}
 use Rattle.b3d_spec.specs.declared.Mode.the-variants.{Lenient}
@@ -26,12 +26,12 @@ use Rattle.b3d_spec.specs.Rules.{version, fileHead, header}
 use Rattle.b3d_spec.specs.Scene.{Texture, Brush, Forest, noNodes, Scene}
 use Rattle.b3d_spec.specs.Tags.{code, Chunks, Found}
 use Rattle.b3d_spec.specs.declared.Tag.the-variants.{BB3D, TEXS, BRUS, NODE}
-use Rattle.b3d_spec.proofs.Files.TagCodes.{code-word}
+use Rattle.b3d_spec.proofs.Files.TagCodeLaws.{code-word}
 use Rattle.b3d_mend_spec.specs.Edits.{Edit, keep, was, becomes, before, after, fileLength}
 use Rattle.b3d_mend_spec.specs.Mend.{Mended, asRead, mendBrushes, mendOne, mendRoot, sceneOf, mendBody, mendFile}
 use Rattle.b3d_mend_spec.specs.Pieces.{pieces, woven}
 use Rattle.b3d_mend_spec.proofs.EditLaws.{Small, keep-small, follow-small, length-small, after-less}
-use Rattle.b3d_mend_spec.proofs.FileTags.{file-end}
+use Rattle.b3d_mend_spec.proofs.FileTagLaws.{file-end}
 use Rattle.b3d_mend_spec.proofs.LeafLaws.{one-is, row-exact, bareTextures, bareBrushes, textures-mend, brushes-mend}
 use Rattle.b3d_mend_spec.proofs.NodeLaws.{bareForest, root-mend}
 use Rattle.b3d_mend_spec.proofs.PieceLaws.{Fine, Fill, swap, within, within-fine, held}

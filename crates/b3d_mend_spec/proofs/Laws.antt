@@ -11,8 +11,8 @@ use Rattle.wire.specs.Bytes.{AllBytes}
 use Rattle.wire.specs.Test.{if}
 use Rattle.layout.specs.Result.{Result, accept, reject, check, _>>=_}
 use Rattle.layout.specs.Rows.{eachOf}
-use Rattle.layout.proofs.Lists.{All, all-zip, all-map}
-use Rattle.layout.proofs.Outs.{by-got, bad-got, got-inj, each-got, check-yes, check-no, by-test}
+use Rattle.layout.proofs.AllLaws.{All, all-zip, all-map}
+use Rattle.layout.proofs.ResultLaws.{by-got, bad-got, got-inj, each-got, check-yes, check-no, by-test}
 use Rattle.b3d_spec.specs.declared.Mode.the-variants.{Lenient}
 use Rattle.b3d_spec.specs.Answers.{judge, firstNot}
 use Rattle.b3d_spec.specs.Names.{withoutPlaces, named, unplaced}
@@ -21,23 +21,23 @@ use Rattle.b3d_spec.specs.Rules.{rowLimit}
 use Rattle.b3d_spec.specs.Scene.{Scene}
 use Rattle.b3d_spec.specs.Tables.{rows, tables}
 use Rattle.b3d_spec.proofs.AnswerLaws.{Small, judge-yes, first-some}
-use Rattle.b3d_spec.proofs.Rows.Rename.{bare-same}
+use Rattle.b3d_spec.proofs.Rows.RenameLaws.{bare-same}
 use Rattle.b3d_mend_spec.specs.Answers.{writtenBoth, fileAfter, reportAfter, mendAnswer, mendOutput, mendReport}
 use Rattle.b3d_mend_spec.specs.Edits.{Edit, before, after, mend, was, becomes}
 use Rattle.b3d_mend_spec.specs.Mend.{Mended, mendFile}
 use Rattle.b3d_mend_spec.specs.Report.{entries, reportBytes, Mending, mending, mendJudged, roomForBoth, mendInto}
-use Rattle.b3d_mend_spec.proofs.Agreeing.{Beside, bind-beside}
+use Rattle.b3d_mend_spec.proofs.AgreeLaws.{Beside, bind-beside}
 use Rattle.b3d_mend_spec.proofs.EditLaws.{Quiet, quiet-same, quiet-unsaid, before-append, after-append, Small as SmallEdit}
 use Rattle.b3d_mend_spec.proofs.EntryLaws.{entries-ordered}
 use Rattle.b3d_mend_spec.specs.Mends.{Entered, Mendable, Unmended, FewRows, Mends, MenderSays}
 use Rattle.b3d_mend_spec.proofs.FileLaws.{FileMended, file-mended}
-use Rattle.b3d_mend_spec.proofs.QuietFile.{file-beside}
-use Rattle.b3d_mend_spec.proofs.QuietParts.{Same}
+use Rattle.b3d_mend_spec.proofs.QuietFileLaws.{file-beside}
+use Rattle.b3d_mend_spec.proofs.QuietPartLaws.{Same}
 use Rattle.b3d_mend_spec.specs.Four.{OfFour}
 use Rattle.b3d_mend_spec.proofs.StepLaws.{entries-append}
 use Rattle.b3d_mend_spec.proofs.ReportLaws.{after-bytes, entries-told, report-least, report-back}
 use Rattle.b3d_mend_spec.proofs.RefusalLaws.{file-refusal}
-use Rattle.b3d_mend_spec.proofs.FileWalk.{file-edits}
+use Rattle.b3d_mend_spec.proofs.FileWalkLaws.{file-edits}
 
 -- ---- rows do not depend on name places
 

@@ -10,9 +10,9 @@ use Rattle.layout.specs.Result.{Result, accept}
 use Rattle.layout.specs.Parts.{Name, Step, text, words, row, number, named, itemsIn, items}
 use Rattle.layout.specs.Rules.{Rule}
 use Rattle.layout.specs.Write.{writeWords, writeText, writeItems}
-use Rattle.layout.proofs.Fitting.{Fits}
-use Rattle.layout.proofs.Lists.{All}
-use Rattle.layout.proofs.Outs.{by-got, bad-got, got-inj}
+use Rattle.layout.proofs.WellFormedLaws.{Fits}
+use Rattle.layout.proofs.AllLaws.{All}
+use Rattle.layout.proofs.ResultLaws.{by-got, bad-got, got-inj}
 use Rattle.layout.proofs.PartLaws.{words-append, row-back, row-fine, named-fine}
 use Rattle.layout.proofs.StepLaws.{judged-got}
 use Rattle.b3d_spec.specs.declared.Mode.the-variants.{Lenient}
@@ -22,11 +22,11 @@ use Rattle.b3d_spec.specs.Parse.{readTexture, readTextures, readBrushes, Vertic
 use Rattle.b3d_spec.specs.Rules.{slots, textureRow, brushRow, brushIds, brushId, vertexRow, keyRow, triangleRow, weightRow, brushesHead, verticesHead, trianglesHead, keysHead, animRow}
 use Rattle.b3d_spec.specs.Scene.{Texture, Brush, Keys}
 use Rattle.b3d_spec.proofs.Files.LeafLaws.{rows-back, rows-fine, vertex-some, key-some, textures-back, textures-fine, brushes-back, bone-back}
-use Rattle.b3d_spec.proofs.Fitting.{FitBrush}
+use Rattle.b3d_spec.proofs.WellFormedLaws.{FitBrush}
 use Rattle.b3d_mend_spec.specs.Edits.{Edit, was, becomes, before, after}
 use Rattle.b3d_mend_spec.specs.Mend.{Mended, mendRow, mendNamed, mendItem, mendItems, asRead, oneBrush, mendBrush, mendBrushes, mendTriangles, mendBone}
 use Rattle.b3d_mend_spec.proofs.EditLaws.{before-append, after-append, Small, keep-small}
-use Rattle.b3d_mend_spec.proofs.Exact.{words-exact, text-exact, text-append}
+use Rattle.b3d_mend_spec.proofs.ExactLaws.{words-exact, text-exact, text-append}
 use Rattle.b3d_mend_spec.proofs.PartLaws.{text-read, GoodStep, row-good, named-good, item-good, items-good}
 
 -- a body that was mended: its given bytes are these, it does not grow, and at any place it is read as the value found, name places aside

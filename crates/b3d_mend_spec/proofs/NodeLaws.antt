@@ -8,7 +8,7 @@ use Rattle.layout.specs.Chunks.{done, stop, chunk}
 use Rattle.layout.specs.Result.{Result, accept}
 use Rattle.layout.specs.Parts.{named}
 use Rattle.layout.specs.Write.{writeWords, writeText}
-use Rattle.layout.proofs.Outs.{by-got, bad-got, got-inj}
+use Rattle.layout.proofs.ResultLaws.{by-got, bad-got, got-inj}
 use Rattle.layout.proofs.PartLaws.{words-append, named-back, named-fine}
 use Rattle.b3d_spec.specs.declared.Mode.the-variants.{Lenient}
 use Rattle.b3d_spec.specs.Names.{renameData, renameForest, bareName}
@@ -21,7 +21,7 @@ use Rattle.b3d_mend_spec.specs.Edits.{Edit, was, becomes, before, after}
 use Rattle.b3d_mend_spec.specs.Mend.{Mended, mendKind, mendMoves, mendNodes, dataOf, mendNode, mendRoot}
 use Rattle.b3d_mend_spec.specs.Pieces.{pieces, woven}
 use Rattle.b3d_mend_spec.proofs.EditLaws.{keep-small}
-use Rattle.b3d_mend_spec.proofs.Exact.{text-append}
+use Rattle.b3d_mend_spec.proofs.ExactLaws.{text-append}
 use Rattle.b3d_mend_spec.proofs.LeafLaws.{Body, named-exact}
 use Rattle.b3d_mend_spec.proofs.PieceLaws.{FineC, Fill, swap, within, within-fine, held}
 use Rattle.b3d_mend_spec.proofs.StageLaws.{MendsFine, left-fine, kind-stage, moves-stage}

@@ -10,19 +10,19 @@ use lib.ListN.{length}
 use lib.Dec.{T, lit<}
 use mir.Facts.{and-yes}
 use Rattle.wire.specs.Bytes.{bytes, IsWord, AllBytes}
-use Rattle.wire.proofs.Words.{word-fits}
+use Rattle.wire.proofs.WordLaws.{word-fits}
 use Rattle.layout.specs.Result.{Result, accept}
 use Rattle.layout.specs.Parts.{Name, Step, text, words, itemsIn, items}
 use Rattle.layout.specs.Rules.{Rule, any, upTo, exactly, names, namesOrNone, unit, NONE, holds}
 use Rattle.layout.specs.Write.{writeWords, writeText, writeItems}
-use Rattle.layout.proofs.Fitting.{Fits, FitText}
-use Rattle.layout.proofs.Lists.{All, all-append}
-use Rattle.layout.proofs.Outs.{by-got, by-if, bad-got, got-inj}
+use Rattle.layout.proofs.WellFormedLaws.{Fits, FitText}
+use Rattle.layout.proofs.AllLaws.{All, all-append}
+use Rattle.layout.proofs.ResultLaws.{by-got, by-if, bad-got, got-inj}
 use Rattle.layout.proofs.PartLaws.{length-words, words-append}
 use Rattle.b3d_mend_spec.specs.Edits.{keep, was, becomes, before, after, idSet}
 use Rattle.b3d_mend_spec.specs.Mend.{Mended, mayBeNone, mendWord, andWords, mendWords, mendRow, withName, mendNamed, allHold, stays, mendItem, gathered, mendItems}
 use Rattle.b3d_mend_spec.proofs.EditLaws.{before-append, after-append, Small, keep-small, id-small, item-small}
-use Rattle.b3d_mend_spec.proofs.Exact.{words-exact, text-exact, text-append}
+use Rattle.b3d_mend_spec.proofs.ExactLaws.{words-exact, text-exact, text-append}
 
 -- ---- words that were read
 

@@ -10,20 +10,20 @@ use lib.Seq.{take-append-seam, drop-append-seam}
 use lib.Dec.{leb, eqb, leb→le, le→leb, eqb→eq}
 use Rattle.wire.specs.Bytes.{word, bytes, AllBytes}
 use Rattle.wire.specs.Test.{if}
-use Rattle.wire.proofs.Words.{word-bytes, take-bytes, drop-bytes}
+use Rattle.wire.proofs.WordLaws.{word-bytes, take-bytes, drop-bytes}
 use Rattle.layout.specs.Chunks.{done, stop, chunk, keep as keepOf}
 use Rattle.layout.proofs.ChunkLaws.{split-step, split-none, split-unknown}
-use Rattle.layout.proofs.Lists.{All, all-append}
-use Rattle.layout.proofs.Outs.{by-test, by-if, if-yes, if-no}
+use Rattle.layout.proofs.AllLaws.{All, all-append}
+use Rattle.layout.proofs.ResultLaws.{by-test, by-if, if-yes, if-no}
 use Rattle.b3d_spec.specs.Nesting.{nesting, Reached, start, requiredBetween, end, next, onward, order, inside}
 use Rattle.b3d_spec.specs.Tags.{tagOf, code, Chunks, split}
 use Rattle.b3d_spec.specs.declared.Tag.{Tag}
 use Rattle.b3d_spec.specs.declared.Tag.the-variants.{BB3D, TEXS, BRUS, NODE, MESH, VRTS, TRIS, BONE, KEYS, ANIM}
-use Rattle.b3d_spec.proofs.Files.TagCodes.{tag-code, code-word}
+use Rattle.b3d_spec.proofs.Files.TagCodeLaws.{tag-code, code-word}
 use Rattle.b3d_mend_spec.specs.Edits.{Edit, was, becomes, before, after}
 use Rattle.b3d_mend_spec.specs.Pieces.{Pieces, none-left, spare, past, other, known, piece, piecesIn, pieces, chunksOf, wrapped, woven}
 use Rattle.b3d_mend_spec.proofs.EditLaws.{before-append, after-append, Small, keep-small, follow-small, spare-small, after-less}
-use Rattle.b3d_mend_spec.proofs.Exact.{bytes-of}
+use Rattle.b3d_mend_spec.proofs.ExactLaws.{bytes-of}
 
 -- ---- a tag by its letters
 

@@ -13,7 +13,7 @@ use Rattle.layout.specs.Result.{Result, accept, reject, check, _>>=_}
 use Rattle.layout.specs.Parts.{Step, text, words, judged, row, number, named, itemsIn, items}
 use Rattle.layout.specs.Rules.{Rule, any, upTo, exactly, names, namesOrNone, unit, holds, refusal}
 use Rattle.layout.specs.Rows.{sizeFits}
-use Rattle.layout.proofs.Lists.{All}
+use Rattle.layout.proofs.AllLaws.{All}
 use Rattle.b3d_spec.specs.declared.Mode.the-variants.{Lenient}
 use Rattle.b3d_spec.specs.Nesting.{nesting, Reached, start, requiredBetween, end, next, onward, order}
 use Rattle.b3d_spec.specs.Parse.{readTexture, readTextures, noVertices, readVertices, readKeys, filled, readAnim, Inner}

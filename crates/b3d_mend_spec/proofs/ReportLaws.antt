@@ -8,20 +8,20 @@ use lib.ListN.{length, length-append}
 use lib.Seq.{take-append-seam, drop-append-seam}
 use lib.Dec.{leb, le→leb}
 use Rattle.wire.specs.Bytes.{bytes, AllBytes}
-use Rattle.wire.proofs.Words.{append-bytes}
+use Rattle.wire.proofs.WordLaws.{append-bytes}
 use Rattle.shared_seven_bit_groups.specs.Groups.{AtMost, groups, writeNumbers}
-use Rattle.shared_seven_bit_groups.proofs.Fronts.{count-is, groups-length, groups-most}
-use Rattle.shared_seven_bit_groups.proofs.Coding.{word-groups}
+use Rattle.shared_seven_bit_groups.proofs.GroupLaws.{count-is, groups-length, groups-most}
+use Rattle.shared_seven_bit_groups.proofs.NumberLaws.{word-groups}
 use Rattle.shared_seven_bit_groups.proofs.Laws.{numbers-back}
 use Rattle.layout.specs.Counted.{run}
 use Rattle.layout.specs.Result.{Result, accept, _>>=_}
 use Rattle.layout.specs.Parts.{Step, itemsIn, items}
 use Rattle.layout.specs.Rules.{NONE}
-use Rattle.layout.proofs.Lists.{All}
-use Rattle.layout.proofs.Outs.{check-yes}
+use Rattle.layout.proofs.AllLaws.{All}
+use Rattle.layout.proofs.ResultLaws.{check-yes}
 use Rattle.b3d_mend_spec.specs.Edits.{Edit, keep, follow, mend, was, becomes, before, after}
 use Rattle.b3d_mend_spec.specs.Four.{OfFour}
-use Rattle.b3d_mend_spec.specs.Report.{Entry, entries, numbersOf, entryBytes, reportBytes, mostOf, readEntry, readReport}
+use Rattle.b3d_mend_spec.specs.Report.{ReportEntry, entries, numbersOf, entryBytes, reportBytes, mostOf, readEntry, readReport}
 use Rattle.b3d_mend_spec.proofs.EditLaws.{Small}
 
 -- ---- what a mend may be
@@ -64,7 +64,7 @@ after-bytes (mend k b c ∷ x) h a = append-bytes c (after x) (sizes k b c (h .0
 
 -- ---- how long it is
 
-abbrev Told : Entry → Type 0
+abbrev Told : ReportEntry → Type 0
 Told e = AtMost mostOf (numbersOf e)
 
 told : (p k : ℕ) (b a : List ℕ) → OfFour (mend k b a) → p ≤ 4294967295 → Told (record { place = p; which = k; before = b; after = a })
@@ -77,7 +77,7 @@ entries-told (keep b ∷ x) p h n = entries-told x (p + length b) (h .1) (omega 
 entries-told (follow i j ∷ x) p h n = entries-told x (p + 4) (h .1) (omega arith)
 entries-told (mend k b a ∷ x) p h n = (told p k b a (h .0 .four) (omega arith), entries-told x (p + length b) (h .1) (omega (arith, length-append b (before x))))
 
-entry-size : (e : Entry) (r : List ℕ) → Told e → 1 ≤ length (e .before) → length (e .after) ≤ length (e .before) → length (entryBytes e r) ≤ 10 * length (e .before) + length r
+entry-size : (e : ReportEntry) (r : List ℕ) → Told e → 1 ≤ length (e .before) → length (e .after) ≤ length (e .before) → length (entryBytes e r) ≤ 10 * length (e .before) + length r
 unfolding entryBytes writeNumbers
 entry-size e r t some less =
     let l = e .before ++ (e .after ++ r) in
@@ -113,7 +113,7 @@ run-all b r p =
     let n : length b ≤ length (b ++ r) = omega (arith, length-append b r) in
     rw (check-yes (leb (length b) (length (b ++ r))) 5 p (le→leb (length b) (length (b ++ r)) n), take-append-seam b r, drop-append-seam b r)
 
-pub entry-back : (e : Entry) (p : ℕ) (r : List ℕ) → Told e → (q : ℕ) × (readEntry p (entryBytes e r) ≡ accept (record { value = e; place = q; left = r }))
+pub entry-back : (e : ReportEntry) (p : ℕ) (r : List ℕ) → Told e → (q : ℕ) × (readEntry p (entryBytes e r) ≡ accept (record { value = e; place = q; left = r }))
 unfolding readEntry entryBytes
 entry-back e p r t =
     let (q, f) = numbers-back mostOf (numbersOf e) t p (e .before ++ (e .after ++ r)) in
@@ -125,7 +125,7 @@ one-more item f p [] h = absurd (omega arith)
 one-more item f p (c ∷ s) h = refl
 
 -- an entry has its own bytes before what follows
-entry-more : (e : Entry) (r : List ℕ) → length r < length (entryBytes e r)
+entry-more : (e : ReportEntry) (r : List ℕ) → length r < length (entryBytes e r)
 unfolding entryBytes writeNumbers
 entry-more e r =
     let l = e .before ++ (e .after ++ r) in
@@ -137,7 +137,7 @@ entry-more e r =
     let g₀ = groups-length (e .place) (groups (e .which) (groups (length (e .before)) (groups (length (e .after)) l))) in
     omega (arith, count-is (e .place))
 
-in-back : (l : List Entry) (f p : ℕ) → length (reportBytes l) ≤ f → All Told l → itemsIn f readEntry p (reportBytes l) ≡ accept l
+in-back : (l : List ReportEntry) (f p : ℕ) → length (reportBytes l) ≤ f → All Told l → itemsIn f readEntry p (reportBytes l) ≡ accept l
 unfolding reportBytes itemsIn
 in-back [] zero p n h = refl
 in-back [] (suc f) p n h = refl
@@ -147,6 +147,6 @@ in-back (e ∷ l) (suc f) p n h =
     let (q, b) = entry-back e p (reportBytes l) (h .0) in
     one-more readEntry f p (entryBytes e (reportBytes l)) (omega arith) ∙ rw (b, in-back l f q (omega arith) (h .1))
 
-pub report-back : (l : List Entry) → All Told l → readReport (reportBytes l) ≡ accept l
+pub report-back : (l : List ReportEntry) → All Told l → readReport (reportBytes l) ≡ accept l
 unfolding readReport items
 report-back l h = in-back l (length (reportBytes l)) 0 (omega arith) h

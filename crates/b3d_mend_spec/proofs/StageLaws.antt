@@ -10,8 +10,8 @@ use Rattle.wire.specs.Bytes.{bytes, AllBytes}
 use Rattle.layout.specs.Chunks.{done, stop, chunk}
 use Rattle.layout.specs.Result.{Result, accept}
 use Rattle.layout.specs.Write.{writeWords}
-use Rattle.layout.proofs.Lists.{all-append}
-use Rattle.layout.proofs.Outs.{by-got, by-if, bad-got, got-inj, if-yes, if-no}
+use Rattle.layout.proofs.AllLaws.{all-append}
+use Rattle.layout.proofs.ResultLaws.{by-got, by-if, bad-got, got-inj, if-yes, if-no}
 use Rattle.layout.proofs.PartLaws.{row-back}
 use Rattle.b3d_spec.specs.declared.Mode.the-variants.{Lenient}
 use Rattle.b3d_spec.specs.Parse.{readOne, Vertices, noVertices, readVertices, readTriangles, readSets, readMesh, readBone, readKeys, readAnim, aMesh, aBone, readKind, Animation, withKeys as withKeysRead, readAnimation}

@@ -11,7 +11,7 @@ use Rattle.layout.specs.Result.{Result, accept}
 use Rattle.layout.specs.Parts.{Step, words, named}
 use Rattle.layout.specs.Write.{writeWords, writeText}
 use Rattle.layout.proofs.PartLaws.{named-fine}
-use Rattle.layout.proofs.Outs.{by-got, by-if, if-yes, if-no, bad-got, got-inj}
+use Rattle.layout.proofs.ResultLaws.{by-got, by-if, if-yes, if-no, bad-got, got-inj}
 use Rattle.layout.proofs.StepLaws.{words-enough}
 use Rattle.b3d_spec.specs.declared.Mode.the-variants.{Lenient}
 use Rattle.b3d_spec.specs.Nesting.{start}

@@ -12,7 +12,7 @@ use Rattle.layout.specs.Result.{accept}
 use Rattle.layout.specs.Parts.{Name, Step, text, words, wordsOf, row, number, named, itemsIn, items}
 use Rattle.layout.specs.Rules.{Rule, any, NONE, holds}
 use Rattle.layout.specs.Write.{writeWords, writeText}
-use Rattle.layout.proofs.Outs.{by-got, by-if, if-yes, if-no, bad-got, got-inj}
+use Rattle.layout.proofs.ResultLaws.{by-got, by-if, if-yes, if-no, bad-got, got-inj}
 use Rattle.layout.proofs.StepLaws.{words-enough, judged-any}
 use Rattle.b3d_spec.specs.declared.Mode.the-variants.{Lenient}
 use Rattle.b3d_spec.specs.Rules.{brushRow, brushIds, brushesHead, trianglesHead, triangleRow, weightRow}

@@ -19,11 +19,11 @@ use Rattle.b3d_mend_spec.specs.Answers.{mendAnswer, mendOutput, mendRepo
 use Rattle.b3d_mend_spec.specs.Edits.{Edit, mend, before, after}
 use Rattle.b3d_mend_spec.specs.Four.{OfFour}
 use Rattle.b3d_mend_spec.specs.Mend.{Mended, mendFile}
-use Rattle.b3d_mend_spec.specs.Report.{Entry, entries, reportBytes, readReport, mending, mendJudged, roomForBoth, mendInto}
+use Rattle.b3d_mend_spec.specs.Report.{ReportEntry, entries, reportBytes, readReport, mending, mendJudged, roomForBoth, mendInto}
 use Rattle.b3d_mend_spec.specs.Trees.{fileEdits}
 
 -- the places of entries go up from p on, and no entry begins inside the bytes of another
-abbrev pub Ordered : ℕ → List Entry → Type 0
+abbrev pub Ordered : ℕ → List ReportEntry → Type 0
 Ordered p [] = Unit {0}
 Ordered p (e ∷ l) = (p ≤ e .place) × Ordered (e .place + length (e .before)) l
 

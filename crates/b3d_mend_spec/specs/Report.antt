@@ -18,7 +18,7 @@ use Rattle.b3d_mend_spec.specs.Mend.{Mended, mendFile}
 -- ---- the report
 
 -- an entry of the report: one mend
-pub record Entry : Type 0 where
+pub record ReportEntry : Type 0 where
   -- the place in the given file where its bytes begin
   pub place : ℕ
   -- which of the four, 1 to 4
@@ -29,22 +29,22 @@ pub record Entry : Type 0 where
   pub after : List ℕ
 
 -- the entries of the edits of the bytes from place p on: one for each mend, where its bytes begin in the given file
-unfoldable pub entries : ℕ → List Edit → List Entry
+unfoldable pub entries : ℕ → List Edit → List ReportEntry
 entries p [] = []
 entries p (keep b ∷ l) = entries (p + length b) l
 entries p (follow n m ∷ l) = entries (p + 4) l
 entries p (mend k b a ∷ l) = record { place = p; which = k; before = b; after = a } ∷ entries (p + length b) l
 
 -- the four numbers of entry e: place, which, the byte counts before and after
-abbrev pub numbersOf : Entry → List ℕ
+abbrev pub numbersOf : ReportEntry → List ℕ
 numbersOf e = e .place ∷ e .which ∷ length (e .before) ∷ length (e .after) ∷ []
 
 -- entry e in bytes, before r: its four numbers in E1's groups, then the bytes before and after
-unfoldable pub entryBytes : Entry → List ℕ → List ℕ
+unfoldable pub entryBytes : ReportEntry → List ℕ → List ℕ
 entryBytes e r = writeNumbers (numbersOf e) (e .before ++ (e .after ++ r))
 
 -- the report of entries in bytes, one after the other
-unfoldable pub reportBytes : List Entry → List ℕ
+unfoldable pub reportBytes : List ReportEntry → List ℕ
 reportBytes [] = []
 reportBytes (e ∷ l) = entryBytes e (reportBytes l)
 
@@ -55,7 +55,7 @@ abbrev pub mostOf : List ℕ
 mostOf = 4294967295 ∷ 4 ∷ 12 ∷ 4 ∷ []
 
 -- an entry of a report, read at place p
-unfoldable pub readEntry : ℕ → List ℕ → Result (Step Entry)
+unfoldable pub readEntry : ℕ → List ℕ → Result (Step ReportEntry)
 readEntry p s = do
   x ← readNumbers mostOf p s
   b ← run (getD (x .value) 2 0) (x .place) (x .left)
@@ -63,7 +63,7 @@ readEntry p s = do
   accept (record { value = record { place = getD (x .value) 0 0; which = getD (x .value) 1 0; before = b .value; after = a .value }; place = a .place; left = a .left })
 
 -- the entries of the report s, to its end
-unfoldable pub readReport : List ℕ → Result (List Entry)
+unfoldable pub readReport : List ℕ → Result (List ReportEntry)
 readReport s = items readEntry 0 s
 
 -- ---- the answer

@@ -11,7 +11,7 @@ use Rattle.wire.specs.Bytes.{AllBytes, bytes, over}
 use Rattle.wire.specs.Test.{if}
 use Rattle.layout.specs.Result.{Result, accept, reject}
 use Rattle.layout.specs.Rows.{sizeFits, mostBytes}
-use Rattle.layout.proofs.Outs.{by-check, got-inj}
+use Rattle.layout.proofs.ResultLaws.{by-check, got-inj}
 use Rattle.b3d_spec.specs.Scene.{Scene}
 use Rattle.b3d_spec.specs.Tags.{code}
 use Rattle.b3d_spec.specs.declared.Tag.the-variants.{BB3D}
@@ -24,14 +24,14 @@ use Rattle.b3d_mend_spec.specs.Mends.{Mends}
 use Rattle.b3d_mend_spec.specs.Report.{Mending, mending, roomForBoth, mendInto}
 use Rattle.b3d_mend_spec.specs.declared.WrittenBoth.{WrittenBoth}
 use Rattle.b3d_mend_spec.proofs.Laws.{mends, room-yes}
-use Rattle.b3d_mend_write_both.specs.Mendable.{CanMend, HaveRoom, Sized}
-use Rattle.b3d_mend_write_both.specs.declared.Sizes.{Sizes}
-use Rattle.shared_put_or_count.specs.Emits.{written, Fits, Emits}
+use Rattle.b3d_mend_write_both.specs.Mendable.{CanMend, HaveRoom, SizesAre}
+use Rattle.b3d_mend_write_both.specs.declared.MendedSizes.{MendedSizes}
+use Rattle.shared_put_or_count.specs.Emits.{written, RoomFrom, Emits}
 use Rattle.b3d_mend_write_spec.specs.Shown.{shown}
 use Rattle.b3d_mend_write_both.specs.BothSizes.{OfSizes}
-use Rattle.b3d_mend_write_both.proofs.BothAnswers.{fits-both, short-both}
+use Rattle.b3d_mend_write_both.proofs.BothAnswerLaws.{fits-both, short-both}
 use Rattle.b3d_mend_write_scopes.specs.Shown.{numberOf, walkBody, walkFile}
-use Rattle.b3d_mend_write_scopes.proofs.FileShows.{file-walk}
+use Rattle.b3d_mend_write_scopes.proofs.FileShowsLaws.{file-walk}
 
 size-within : (s : List ℕ) (x : Mended Scene) → mendFile s ≡ accept x → (12 ≤ length s) × (length s ≤ mostBytes)
 unfolding mendFile
@@ -125,7 +125,7 @@ module _ (s out report : List ℕ) where
     body-of : (n : ℕ) → n ≡ length (M .file) → n - 12 ≡ length (walkBody false s)
     body-of n e = omega (arith, e, sym (length-is 0), file-long 0 s)
 
-    pub dry-file : Fits false (walkFile false 0 s) 0 out
+    pub dry-file : RoomFrom false (walkFile false 0 s) 0 out
     dry-file = record { room = omega (arith, length-is 0, file-most, mend-high); small = omega (arith, length-is 0, file-most, mend-high) }
 
     -- counted
@@ -142,7 +142,7 @@ module _ (s out report : List ℕ) where
       report-counted : walkFile true (n - 12) s ≡ M .report
       report-counted = ap (λ (k : ℕ). walkFile true k s) (body-of n n-file) ∙ report-is
 
-      pub dry-report : Fits false (walkFile true (n - 12) s) 0 report
+      pub dry-report : RoomFrom false (walkFile true (n - 12) s) 0 report
       dry-report = record { room = omega (arith, ap length report-counted, report-most, mend-high); small = omega (arith, ap length report-counted, report-most, mend-high) }
 
       pub file-left : out₁ ≡ out
@@ -153,7 +153,7 @@ module _ (s out report : List ℕ) where
         m-report : m ≡ length (M .report)
         m-report = omega (arith, g .to, ap length report-counted)
 
-        pub both-sized : Sized s (record { file = n; report = m })
+        pub both-sized : SizesAre s (record { file = n; report = m })
         both-sized = record {
           files = λ y q. n-file ∙ ap (λ (z : Mended Scene). length (mending (z .edits) .file)) (got-inj (sym (can .is) ∙ q));
           reports = λ y q. m-report ∙ ap (λ (z : Mended Scene). length (mending (z .edits) .report)) (got-inj (sym (can .is) ∙ q));
@@ -167,7 +167,7 @@ module _ (s out report : List ℕ) where
     room-for = laws .written x (can .is) (length out) (length report)
 
     -- of these sizes
-    module _ (n : Sizes) (c : Sized s n) where
+    module _ (n : MendedSizes) (c : SizesAre s n) where
       file-size : n .file ≡ length (M .file)
       file-size = c .files x (can .is)
 
@@ -240,10 +240,10 @@ module _ (s out report : List ℕ) where
     report-same : walkFile true (n - 12) s ≡ N .report
     report-same = ap (λ (k : ℕ). walkFile true k s) (body-of (h .can) n (h .long)) ∙ report-is (h .can)
 
-    pub wet-file : Fits true (walkFile false (n - 12) s) 0 out
+    pub wet-file : RoomFrom true (walkFile false (n - 12) s) 0 out
     wet-file = record { room = omega (arith, ap length file-same, h .room); small = omega (arith, ap length file-same, file-most (h .can), put-high) }
 
-    pub wet-report : Fits true (walkFile true (n - 12) s) 0 report
+    pub wet-report : RoomFrom true (walkFile true (n - 12) s) 0 report
     wet-report = record { room = omega (arith, ap length report-same, h .reportRoom); small = omega (arith, ap length report-same, report-most (h .can), put-high) }
 
     pub mend-file : (ys : List ℕ) (k : ℕ) → Emits true (walkFile false (n - 12) s) out 0 ys k → ys ≡ mendOutput s out report

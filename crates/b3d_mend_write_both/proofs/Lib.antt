@@ -1,3 +1,3 @@
 -- The laws of the answer and of both outputs.
-pub mod BothAnswers
+pub mod BothAnswerLaws
 pub mod BothLaws

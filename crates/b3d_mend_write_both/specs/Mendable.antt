@@ -8,7 +8,7 @@ use Rattle.layout.specs.Result.{accept}
 use Rattle.b3d_spec.specs.Scene.{Scene}
 use Rattle.b3d_mend_spec.specs.Mend.{Mended}
 use Rattle.b3d_mend_spec.specs.Report.{mending, mendJudged}
-use Rattle.b3d_mend_write_both.specs.declared.Sizes.{Sizes}
+use Rattle.b3d_mend_write_both.specs.declared.MendedSizes.{MendedSizes}
 
 -- without faults of another kind, and within the row limits
 pub record CanMend (s : List ℕ) : Type 0 where
@@ -17,7 +17,7 @@ pub record CanMend (s : List ℕ) : Type 0 where
   pub is : mendJudged s ≡ accept value
 
 -- r has the sizes of the mended file and of the report
-pub record Sized (s : List ℕ) (r : Sizes) : Type 0 where
+pub record SizesAre (s : List ℕ) (r : MendedSizes) : Type 0 where
   pub files : (x : Mended Scene) → mendJudged s ≡ accept x → r .file ≡ length (mending (x .edits) .file)
   pub reports : (x : Mended Scene) → mendJudged s ≡ accept x → r .report ≡ length (mending (x .edits) .report)
 

@@ -3,7 +3,7 @@ ghost use mathlib.Core.Path.{_≡_};
 ghost use Prim.Native.Nat.{_<_};
 ghost use Rattle.b3d_mend_spec.specs.Answers.{mendAnswer, mendOutput, mendReport};
 ghost use Rattle.b3d_mend_write_both.specs.BothSizes.{OfSizes};
-ghost use Rattle.b3d_mend_write_both.specs.Mendable.{CanMend, HaveRoom, Sized};
+ghost use Rattle.b3d_mend_write_both.specs.Mendable.{CanMend, HaveRoom, SizesAre};
 use b3d_mend_spec::WrittenBoth;
 use b3d_mend_write_file::walk_file;
 use layout::refusals;
@@ -45,21 +45,21 @@ pub fn answer_of_both(
 }
 
 // The sizes of a mended file and of its report.
-pub struct Sizes {
+pub struct MendedSizes {
     pub file: usize,
     pub report: usize,
 }
 
 // Returns how long the mended file and the report are, for a file that can be mended. Nothing is written.
-fn sizes_of(file: &[u8], out: &mut [u8], report: &mut [u8]) -> Sizes
+fn sizes_of(file: &[u8], out: &mut [u8], report: &mut [u8]) -> MendedSizes
     requires { ⌜ CanMend (now file) ⌝ }
-    ensures { λ r. ⌜ Sized (now (file .entry)) r ⌝ }
+    ensures { λ r. ⌜ SizesAre (now (file .entry)) r ⌝ }
     ensures { λ _. ⌜ now (out .exit) ≡ now (out .entry) ⌝ }
     ensures { λ _. ⌜ now (report .exit) ≡ now (report .entry) ⌝ }
 {
     let size = walk_file(file, 0, false, false, out, 0);
     let report_size = walk_file(file, size - 12, true, false, report, 0);
-    Sizes {
+    MendedSizes {
         file: size,
         report: report_size,
     }

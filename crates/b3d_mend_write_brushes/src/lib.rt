@@ -2,7 +2,7 @@
 ghost use Prim.Native.Nat.{_+_, _*_, _≤_, _<_};
 ghost use lib.ListN.{length};
 ghost use Rattle.wire.specs.Bytes.{AllBytes};
-ghost use Rattle.shared_put_or_count.specs.Emits.{Emits, Fits};
+ghost use Rattle.shared_put_or_count.specs.Emits.{Emits, RoomFrom};
 ghost use Rattle.b3d_mend_write_spec.specs.Shown.{shown};
 ghost use Rattle.b3d_mend_write_brushes.specs.Ids.{idEdits};
 ghost use Rattle.wire.specs.Cursors.{Inside, left};
@@ -18,7 +18,7 @@ use wire::Cursor;
 use wire::Number;
 
 // Puts `n` ids of the file from `from` on, each set to -1 where it is neither -1 nor below `limit`.
-pub fn put_ids(
+fn put_ids(
     file: &[u8],
     from: usize,
     n: usize,
@@ -29,7 +29,7 @@ pub fn put_ids(
     start: usize,
 ) -> usize
     requires { ⌜ (from + 4 * n ≤ length (now file)) × (length (now file) < 4294967296) × AllBytes (now file) ⌝ }
-    requires { ⌜ Fits wet (shown report from (idEdits limit n from (now file))) start (now out) ⌝ }
+    requires { ⌜ RoomFrom wet (shown report from (idEdits limit n from (now file))) start (now out) ⌝ }
     ensures { λ r. ⌜ Emits wet (shown report from (idEdits limit n from (now (file .entry)))) (now (out .entry)) start (now (out .exit)) r ⌝ }
 {
     let mut i: usize = 0;
@@ -42,7 +42,7 @@ pub fn put_ids(
 }
 
 // Puts the brush at `c`: its name and its seven words, which begin at `row`, as they stand, then its `slots` texture ids.
-pub fn put_brush(
+fn put_brush(
     file: &[u8],
     c: Cursor,
     row: Cursor,
@@ -55,7 +55,7 @@ pub fn put_brush(
 ) -> usize
     requires { ⌜ BrushAt (now file) c row slots ⌝ }
     requires { ⌜ (length (now file) < 4294967296) × AllBytes (now file) ⌝ }
-    requires { ⌜ Fits wet (shown report (c .at) (brushEdits slots textures c row (now file))) at (now out) ⌝ }
+    requires { ⌜ RoomFrom wet (shown report (c .at) (brushEdits slots textures c row (now file))) at (now out) ⌝ }
     ensures { λ r. ⌜ Emits wet (shown report (c .at) (brushEdits slots textures c row (now (file .entry)))) (now (out .entry)) at (now (out .exit)) r ⌝ }
 {
     let from = c.at;
@@ -65,7 +65,7 @@ pub fn put_brush(
 }
 
 // Puts the brushes of `slots` texture ids that `from` has left, up to the first that is cut.
-pub fn put_brushes(
+fn put_brushes(
     file: &[u8],
     from: Cursor,
     slots: usize,
@@ -77,7 +77,7 @@ pub fn put_brushes(
 ) -> usize
     requires { ⌜ Inside from (length (now file)) × (slots ≤ mostSlots) ⌝ }
     requires { ⌜ (length (now file) < 4294967296) × AllBytes (now file) ⌝ }
-    requires { ⌜ Fits wet (shown report (from .at) (brushesAt slots textures (now file) from)) start (now out) ⌝ }
+    requires { ⌜ RoomFrom wet (shown report (from .at) (brushesAt slots textures (now file) from)) start (now out) ⌝ }
     ensures { λ r. ⌜ Emits wet (shown report (from .at) (brushesAt slots textures (now (file .entry)) from)) (now (out .entry)) start (now (out .exit)) r ⌝ }
 {
     let mut c = from;
@@ -108,7 +108,7 @@ pub fn put_brus(
     at: usize,
 ) -> usize
     requires { ⌜ Body p body (length (now file)) × AllBytes (now file) ⌝ }
-    requires { ⌜ Fits wet (shown report (body .at) (brusEdits textures p (left body (now file)))) at (now out) ⌝ }
+    requires { ⌜ RoomFrom wet (shown report (body .at) (brusEdits textures p (left body (now file)))) at (now out) ⌝ }
     ensures { λ r. ⌜ Emits wet (shown report (body .at) (brusEdits textures p (left body (now (file .entry))))) (now (out .entry)) at (now (out .exit)) r ⌝ }
 {
     match body.number(file) {

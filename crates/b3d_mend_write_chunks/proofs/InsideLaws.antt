@@ -14,10 +14,10 @@ use Rattle.wire.specs.Cursors.{Inside, left, headerAt}
 use Rattle.wire.specs.declared.Cursor.{Cursor}
 use Rattle.wire.specs.declared.Header.{Header}
 use Rattle.wire.specs.declared.Header.the-variants as header
-use Rattle.wire.proofs.Left.{span, left-four}
-use Rattle.wire.proofs.Found.{Framed, framed, header-end, header-cut}
+use Rattle.wire.proofs.LeftLaws.{span, left-four}
+use Rattle.wire.proofs.AnswerLaws.{Framed, framed, header-end, header-cut}
 use Rattle.layout.specs.Rows.{mostBytes}
-use Rattle.shared_output.proofs.Joining.{Both}
+use Rattle.shared_output.proofs.PartLaws.{Both}
 use Rattle.shared_output.specs.Writing.{head}
 use Rattle.b3d_spec.specs.Tags.{code, tagOf}
 use Rattle.b3d_spec.specs.declared.Tag.{Tag}
@@ -28,11 +28,11 @@ use Rattle.b3d_spec_chunk_places.specs.Places.{Body}
 use Rattle.b3d_mend_spec.specs.Edits.{keep, spareOut, after}
 use Rattle.b3d_mend_spec.specs.Pieces.{Pieces, none-left, spare, past, piece, pieces, chunksOf}
 use Rattle.b3d_mend_spec.specs.Report.{entries, reportBytes}
-use Rattle.b3d_mend_judge_items.proofs.PieceSteps.{headAt, at-end, at-spare, at-past, at-piece}
-use Rattle.shared_put_or_count.specs.Emits.{written, Fits, Emits}
+use Rattle.b3d_mend_judge_items.proofs.PieceStepLaws.{headAt, at-end, at-spare, at-past, at-piece}
+use Rattle.shared_put_or_count.specs.Emits.{written, RoomFrom, Emits}
 use Rattle.b3d_mend_write_spec.specs.Shown.{shown}
-use Rattle.shared_put_or_count.proofs.Putting.{Left, left-none, left-done, left-fits, left-next, left-last}
-use Rattle.b3d_mend_write_scopes.specs.Shown.{Walked, walked, nextScope, walkChunks, headed, shownPieces, walkInside, walkChunk}
+use Rattle.shared_put_or_count.proofs.PutLaws.{Left, left-none, left-done, left-fits, left-next, left-last}
+use Rattle.b3d_mend_write_scopes.specs.Shown.{ChunkShown, walked, nextScope, walkChunks, headed, shownPieces, walkInside, walkChunk}
 use Rattle.b3d_mend_write_scopes.specs.declared.Scope.{Scope}
 use Rattle.b3d_mend_write_leaves.specs.Answers.{Walks}
 use Rattle.b3d_mend_write_leaves.specs.declared.Walk.{Walk}
@@ -45,8 +45,8 @@ use Rattle.b3d_mend_write_scopes.proofs.HeadLaws.{chunk-fits, chunk-room, chunk
 
 -- ---- by the pieces
 
-module _ (report : Bool) (one : Scope → Tag → ℕ → List ℕ → Walked) where
-  abbrev by : Scope → Pieces → Walked
+module _ (report : Bool) (one : Scope → Tag → ℕ → List ℕ → ChunkShown) where
+  abbrev by : Scope → Pieces → ChunkShown
   by k x = let y = walkChunks one k (chunksOf x) in walked (shownPieces report x (y .bodies)) (y .own)
 
   by-none : (k : Scope) → by k none-left ≡ walked [] (k .own)
@@ -141,7 +141,7 @@ module _ (report : Bool) (l : ℕ) (k : Scope) (s : List ℕ) (c : Cursor) (i : 
     at-other : tagOf t ≡ none → walkFrom report l k s c ≡ walked (shown report (c .at) (keep (take (n .at - c .at) (drop (c .at) s)) ∷ []) ++ walkFrom report l k s n .bytes) (walkFrom report l k s n .count)
     at-other e =
         first none e ∙ by-other report (walkChunk report l) k (c .at) (headAt s (c .at)) (left (span (c .at + 8) (n .at)) s) (pieces (n .at) (left n s))
-        ∙ ap₂ (λ (x : List ℕ) (y : Walked). walked (x ++ y .bytes) (y .count)) (ap (λ (x : List ℕ). shown report 0 (keep x ∷ [])) stands ∙ keep-anywhere report (c .at) (take (n .at - c .at) (drop (c .at) s))) (rest k)
+        ∙ ap₂ (λ (x : List ℕ) (y : ChunkShown). walked (x ++ y .bytes) (y .count)) (ap (λ (x : List ℕ). shown report 0 (keep x ∷ [])) stands ∙ keep-anywhere report (c .at) (take (n .at - c .at) (drop (c .at) s))) (rest k)
 
     body-left : left (span (c .at + 8) (n .at)) s ≡ left b s
     body-left = ap₂ (λ (x y : ℕ). left (span x y) s) (sym (f .body)) (f .after)
@@ -151,12 +151,12 @@ module _ (report : Bool) (l : ℕ) (k : Scope) (s : List ℕ) (c : Cursor) (i : 
     at-known u e =
         first (some u) e ∙ by-known report (walkChunk report l) k u (c .at) (headAt s (c .at)) (left (span (c .at + 8) (n .at)) s) (pieces (n .at) (left n s))
         ∙ ap (λ (x : List ℕ). let w = walkChunk report l k u (c .at) x in let y = by report (walkChunk report l) (nextScope k u (w .count)) (pieces (n .at) (left n s)) in walked (headed report u (w .bytes) ++ y .bytes) (y .count)) body-left
-        ∙ ap (λ (y : Walked). walked (headed report u (walkChunk report l k u (c .at) (left b s) .bytes) ++ y .bytes) (y .count)) (rest (nextScope k u (walkChunk report l k u (c .at) (left b s) .count)))
+        ∙ ap (λ (y : ChunkShown). walked (headed report u (walkChunk report l k u (c .at) (left b s) .bytes) ++ y .bytes) (y .count)) (rest (nextScope k u (walkChunk report l k u (c .at) (left b s) .count)))
 
 -- ---- the loop
 
 -- a walk ends behind where it began
-pub walked-order : {wet : Bool} {w : Walked} {xs ys : List ℕ} {at : ℕ} {r : Walk} → Walks wet w xs at ys r → at ≤ r .at
+pub walked-order : {wet : Bool} {w : ChunkShown} {xs ys : List ℕ} {at : ℕ} {r : Walk} → Walks wet w xs at ys r → at ≤ r .at
 walked-order g = omega (arith, g .put .to)
 
 -- the chunks from a cursor on are left to be put
@@ -166,7 +166,7 @@ pub record Going (s : List ℕ) (l : ℕ) (from : Cursor) (scope : Scope) (repor
   pub counted : walkFrom report l scope s from .count ≡ walkFrom report l k s c .count
 
 module _ (s : List ℕ) (l : ℕ) (from : Cursor) (scope : Scope) (report wet : Bool) (xs : List ℕ) (start : ℕ) where
-  pub going-start : Inside from (length s) → Fits wet (walkFrom report l scope s from .bytes) start xs → Going s l from scope report wet xs start xs from scope start
+  pub going-start : Inside from (length s) → RoomFrom wet (walkFrom report l scope s from .bytes) start xs → Going s l from scope report wet xs start xs from scope start
   going-start i f = record { inside = i; rest = left-none wet (walkFrom report l scope s from .bytes) xs start f; counted = refl }
 
   module _ (ys : List ℕ) (c : Cursor) (k : Scope) (at : ℕ) (g : Going s l from scope report wet xs start ys c k at) (r : Header) (e : r ≡ headerAt s c) where
@@ -180,8 +180,8 @@ module _ (s : List ℕ) (l : ℕ) (from : Cursor) (scope : Scope) (report wet : 
     going-end w =
         let n = at-none report l k s c (g .inside) (header-end s c (sym e ∙ w)) in
         record {
-          put = left-done wet All xs start ys at (walkFrom report l k s c .bytes) (g .rest) (ap (λ (x : Walked). x .bytes) n);
-          counted = sym (g .counted ∙ ap (λ (x : Walked). x .count) n);
+          put = left-done wet All xs start ys at (walkFrom report l k s c .bytes) (g .rest) (ap (λ (x : ChunkShown). x .bytes) n);
+          counted = sym (g .counted ∙ ap (λ (x : ChunkShown). x .count) n);
         }
 
     module _ (w : r ≡ header.Cut) where
@@ -189,15 +189,15 @@ module _ (s : List ℕ) (l : ℕ) (from : Cursor) (scope : Scope) (report wet : 
       cut = at-cut report l k s c (g .inside) (sym e ∙ w)
 
       cut-both : Both (walkFrom report l k s c .bytes) (cutShown report s c) []
-      cut-both = record { is = ap (λ (x : Walked). x .bytes) cut ∙ sym (append-nil (cutShown report s c)) }
+      cut-both = record { is = ap (λ (x : ChunkShown). x .bytes) cut ∙ sym (append-nil (cutShown report s c)) }
 
-      pub cut-fits : Fits wet (cutShown report s c) at ys
+      pub cut-fits : RoomFrom wet (cutShown report s c) at ys
       cut-fits = left-fits wet All xs start ys at (walkFrom report l k s c .bytes) (g .rest) (cutShown report s c) [] cut-both
 
       pub cut-done : (zs : List ℕ) (n : ℕ) → Emits wet (cutShown report s c) ys at zs n → Walks wet (walkFrom report l scope s from) xs start zs (record { at = n; count = k .own })
       cut-done zs n h = record {
         put = left-last wet All xs start ys at (walkFrom report l k s c .bytes) (g .rest) (cutShown report s c) [] cut-both refl zs n h;
-        counted = sym (g .counted ∙ ap (λ (x : Walked). x .count) cut);
+        counted = sym (g .counted ∙ ap (λ (x : ChunkShown). x .count) cut);
       }
 
     module _ (t : ℕ) (b n : Cursor) (w : r ≡ header.Whole t b n) where
@@ -225,29 +225,29 @@ module _ (s : List ℕ) (l : ℕ) (from : Cursor) (scope : Scope) (report wet : 
           away = at-other report l k s c (g .inside) t b n frame (no-tag (tagOf t) (sym q ∙ eo))
 
           away-both : Both (walkFrom report l k s c .bytes) (shown report (c .at) (keep (take (n .at - c .at) (drop (c .at) s)) ∷ [])) (walkFrom report l k s n .bytes)
-          away-both = record { is = ap (λ (x : Walked). x .bytes) away }
+          away-both = record { is = ap (λ (x : ChunkShown). x .bytes) away }
 
-          pub other-fits : Fits wet (shown report (c .at) (keep (take (n .at - c .at) (drop (c .at) s)) ∷ [])) at ys
+          pub other-fits : RoomFrom wet (shown report (c .at) (keep (take (n .at - c .at) (drop (c .at) s)) ∷ [])) at ys
           other-fits = left-fits wet All xs start ys at _ (g .rest) _ _ away-both
 
           pub other-next : (zs : List ℕ) (m : ℕ) → Emits wet (shown report (c .at) (keep (take (n .at - c .at) (drop (c .at) s)) ∷ [])) ys at zs m → Going s l from scope report wet xs start zs n k m
           other-next zs m h = record {
             inside = next-inside;
             rest = left-next wet All xs start ys at _ (g .rest) _ _ away-both zs m h;
-            counted = g .counted ∙ ap (λ (x : Walked). x .count) away;
+            counted = g .counted ∙ ap (λ (x : ChunkShown). x .count) away;
           }
 
         module _ (u : Tag) (q : o ≡ tags.Known u) where
-          abbrev one : Walked
+          abbrev one : ChunkShown
           one = walkChunk report l k u (c .at) (left b s)
 
           here : walkFrom report l k s c ≡ let y = walkFrom report l (nextScope k u (one .count)) s n in walked (headed report u (one .bytes) ++ y .bytes) (y .count)
           here = at-known report l k s c (g .inside) t b n frame u (one-tag (tagOf t) u (sym q ∙ eo))
 
           here-both : Both (walkFrom report l k s c .bytes) (headed report u (one .bytes)) (walkFrom report l (nextScope k u (one .count)) s n .bytes)
-          here-both = record { is = ap (λ (x : Walked). x .bytes) here }
+          here-both = record { is = ap (λ (x : ChunkShown). x .bytes) here }
 
-          known-fits : Fits wet (headed report u (one .bytes)) at ys
+          known-fits : RoomFrom wet (headed report u (one .bytes)) at ys
           known-fits = left-fits wet All xs start ys at _ (g .rest) _ _ here-both
 
           pub known-small : at < 4294967296
@@ -255,8 +255,8 @@ module _ (s : List ℕ) (l : ℕ) (from : Cursor) (scope : Scope) (report wet : 
 
           -- its body, and then its header before it
           module _ (m : ℕ) (em : m ≡ bodyAt report at) where
-            pub known-body : Fits wet (walkChunk report l k u (c .at) (left b s) .bytes) m ys
-            known-body = subst (λ (i : ℕ). Fits wet (one .bytes) i ys) (sym em) (chunk-fits report wet u (one .bytes) ys at known-fits)
+            pub known-body : RoomFrom wet (walkChunk report l k u (c .at) (left b s) .bytes) m ys
+            known-body = subst (λ (i : ℕ). RoomFrom wet (one .bytes) i ys) (sym em) (chunk-fits report wet u (one .bytes) ys at known-fits)
 
             module _ (zs : List ℕ) (a : Walk) (x : Walks wet (walkChunk report l k u (c .at) (left b s)) ys m zs a) where
               put : Emits wet (one .bytes) ys (bodyAt report at) zs (a .at)
@@ -275,5 +275,5 @@ module _ (s : List ℕ) (l : ℕ) (from : Cursor) (scope : Scope) (report wet : 
                   record {
                     inside = next-inside;
                     rest = subst (λ (v : Scope). Left wet All xs start vs (a .at) (walkFrom report l v s n .bytes)) (sym z) (left-next wet All xs start ys at _ (g .rest) _ _ here-both vs (a .at) done);
-                    counted = g .counted ∙ ap (λ (y : Walked). y .count) here ∙ ap (λ (v : Scope). walkFrom report l v s n .count) (sym z);
+                    counted = g .counted ∙ ap (λ (y : ChunkShown). y .count) here ∙ ap (λ (v : Scope). walkFrom report l v s n .count) (sym z);
                   }

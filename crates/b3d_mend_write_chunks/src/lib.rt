@@ -5,7 +5,7 @@ ghost use Rattle.wire.specs.Bytes.{AllBytes};
 ghost use Rattle.wire.specs.Cursors.{Inside, left};
 ghost use Rattle.layout.specs.Rows.{mostBytes};
 ghost use Rattle.b3d_spec_chunk_places.specs.Places.{Body};
-ghost use Rattle.shared_put_or_count.specs.Emits.{Fits};
+ghost use Rattle.shared_put_or_count.specs.Emits.{RoomFrom};
 ghost use Rattle.b3d_mend_write_scopes.specs.Shown.{walkChunk};
 ghost use Rattle.b3d_mend_write_leaves.specs.Answers.{Walks};
 ghost use Rattle.b3d_mend_write_scopes.specs.Opens.{walkFrom};
@@ -31,7 +31,7 @@ fn walk_body(
     at: usize,
 ) -> Walk
     requires { ⌜ Body p body (length (now file)) × AllBytes (now file) ⌝ }
-    requires { ⌜ Fits wet (walkChunk report levels scope tag p (left body (now file)) .bytes) at (now out) ⌝ }
+    requires { ⌜ RoomFrom wet (walkChunk report levels scope tag p (left body (now file)) .bytes) at (now out) ⌝ }
     ensures { λ r. ⌜ Walks wet (walkChunk report levels scope tag p (left body (now (file .entry)))) (now (out .entry)) at (now (out .exit)) r ⌝ }
 {
     let first = body.at;
@@ -68,7 +68,7 @@ pub fn walk_inside(
     start: usize,
 ) -> Walk
     requires { ⌜ Inside from (length (now file)) × (length (now file) ≤ mostBytes) × AllBytes (now file) ⌝ }
-    requires { ⌜ Fits wet (walkFrom report levels scope (now file) from .bytes) start (now out) ⌝ }
+    requires { ⌜ RoomFrom wet (walkFrom report levels scope (now file) from .bytes) start (now out) ⌝ }
     ensures { λ r. ⌜ Walks wet (walkFrom report levels scope (now (file .entry)) from) (now (out .entry)) start (now (out .exit)) r ⌝ }
 {
     let mut c = from;

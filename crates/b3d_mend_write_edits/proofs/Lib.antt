@@ -1,4 +1,4 @@
 -- The laws of one edit.
-pub mod Showing
-pub mod Slices
+pub mod EditLaws
+pub mod SliceLaws
 pub mod RestLaws

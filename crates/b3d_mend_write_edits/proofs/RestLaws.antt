@@ -10,14 +10,14 @@ use borrow.Author.Tests.{lt-ltb, le-ltb}
 use Rattle.wire.specs.Test.{if}
 use Rattle.wire.specs.Cursors.{Inside, left}
 use Rattle.wire.specs.declared.Cursor.{Cursor}
-use Rattle.wire.proofs.Left.{left-length}
+use Rattle.wire.proofs.LeftLaws.{left-length}
 use Rattle.layout.specs.Rows.{mostBytes}
 use Rattle.b3d_mend_spec.specs.Edits.{keep, mend}
-use Rattle.shared_put_or_count.specs.Emits.{Fits, Emits}
+use Rattle.shared_put_or_count.specs.Emits.{RoomFrom, Emits}
 use Rattle.b3d_mend_write_spec.specs.Shown.{shown}
-use Rattle.shared_put_or_count.proofs.Putting.{fits-same, emits-same}
+use Rattle.shared_put_or_count.proofs.PutLaws.{fits-same, emits-same}
 use Rattle.b3d_mend_write_edits.specs.Rests.{cutShown}
-use Rattle.b3d_mend_write_edits.proofs.Slices.{left-first}
+use Rattle.b3d_mend_write_edits.proofs.SliceLaws.{left-first}
 
 -- ---- all that a cursor has left
 
@@ -35,7 +35,7 @@ module _ (s : List ℕ) (c : Cursor) (i : Inside c (length s)) where
     same : shown report (c .at) (keep (left c s) ∷ []) ≡ shown report (c .at) (keep (take (c .end - c .at) (drop (c .at) s)) ∷ [])
     same = ap (λ (l : List ℕ). shown report (c .at) (keep l ∷ [])) left-whole
 
-    pub whole-fits : Fits wet (shown report (c .at) (keep (left c s) ∷ [])) at xs → Fits wet (shown report (c .at) (keep (take (c .end - c .at) (drop (c .at) s)) ∷ [])) at xs
+    pub whole-fits : RoomFrom wet (shown report (c .at) (keep (left c s) ∷ [])) at xs → RoomFrom wet (shown report (c .at) (keep (take (c .end - c .at) (drop (c .at) s)) ∷ [])) at xs
     whole-fits f = fits-same same wet xs at f
 
     pub whole-done : (ys : List ℕ) (n : ℕ) → Emits wet (shown report (c .at) (keep (take (c .end - c .at) (drop (c .at) s)) ∷ [])) xs at ys n → Emits wet (shown report (c .at) (keep (left c s) ∷ [])) xs at ys n
@@ -61,7 +61,7 @@ module _ (s : List ℕ) (c : Cursor) (i : Inside c (length s)) where
       unfolding cutShown if
       spare = rw (lt-ltb _ _ h) (ap (λ (l : List ℕ). shown report (c .at) (mend 4 l [] ∷ [])) (left-whole s c i))
 
-      pub spare-fits : Fits wet (cutShown report s c) at xs → Fits wet (shown report (c .at) (mend 4 (take (c .end - c .at) (drop (c .at) s)) [] ∷ [])) at xs
+      pub spare-fits : RoomFrom wet (cutShown report s c) at xs → RoomFrom wet (shown report (c .at) (mend 4 (take (c .end - c .at) (drop (c .at) s)) [] ∷ [])) at xs
       spare-fits f = fits-same spare wet xs at f
 
       pub spare-done : (ys : List ℕ) (n : ℕ) → Emits wet (shown report (c .at) (mend 4 (take (c .end - c .at) (drop (c .at) s)) [] ∷ [])) xs at ys n → Emits wet (cutShown report s c) xs at ys n
@@ -72,7 +72,7 @@ module _ (s : List ℕ) (c : Cursor) (i : Inside c (length s)) where
       unfolding cutShown if
       past = rw (le-ltb _ _ h)
 
-      pub past-fits : Fits wet (cutShown report s c) at xs → Fits wet (shown report (c .at) (keep (left c s) ∷ [])) at xs
+      pub past-fits : RoomFrom wet (cutShown report s c) at xs → RoomFrom wet (shown report (c .at) (keep (left c s) ∷ [])) at xs
       past-fits f = fits-same past wet xs at f
 
       pub past-done : (ys : List ℕ) (n : ℕ) → Emits wet (shown report (c .at) (keep (left c s) ∷ [])) xs at ys n → Emits wet (cutShown report s c) xs at ys n

@@ -7,14 +7,14 @@ ghost use Rattle.shared_seven_bit_groups.specs.Groups.{writeNumbers};
 ghost use Rattle.b3d_mend_spec.specs.Edits.{keep, mend};
 ghost use Rattle.layout.specs.Rows.{mostBytes};
 ghost use Rattle.wire.specs.Cursors.{Inside, left};
-ghost use Rattle.shared_put_or_count.specs.Emits.{Emits, Fits};
+ghost use Rattle.shared_put_or_count.specs.Emits.{Emits, RoomFrom};
 ghost use Rattle.b3d_mend_write_spec.specs.Shown.{shown};
 ghost use Rattle.b3d_mend_write_edits.specs.Rests.{cutShown};
 use wire::Cursor;
 
 // Puts `n` and `m` in groups.
 fn put_two(n: u32, m: u32, wet: bool, out: &mut [u8], at: usize) -> usize
-    requires { ⌜ Fits wet (writeNumbers (n ∷ m ∷ []) []) at (now out) ⌝ }
+    requires { ⌜ RoomFrom wet (writeNumbers (n ∷ m ∷ []) []) at (now out) ⌝ }
     ensures { λ r. ⌜ Emits wet (writeNumbers (n ∷ m ∷ []) []) (now (out .entry)) at (now (out .exit)) r ⌝ }
 {
     let next = shared_put_or_count::put_grouped(n, wet, out, at);
@@ -31,7 +31,7 @@ fn put_entry(
     out: &mut [u8],
     at: usize,
 ) -> usize
-    requires { ⌜ Fits wet (writeNumbers (place ∷ which ∷ before ∷ after ∷ []) []) at (now out) ⌝ }
+    requires { ⌜ RoomFrom wet (writeNumbers (place ∷ which ∷ before ∷ after ∷ []) []) at (now out) ⌝ }
     ensures { λ r. ⌜ Emits wet (writeNumbers (place ∷ which ∷ before ∷ after ∷ []) []) (now (out .entry)) at (now (out .exit)) r ⌝ }
 {
     let next = put_two(place, which, wet, out, at);
@@ -49,7 +49,7 @@ pub fn put_kept(
     at: usize,
 ) -> usize
     requires { ⌜ from + count ≤ length (now file) ⌝ }
-    requires { ⌜ Fits wet (shown report from (keep (take count (drop from (now file))) ∷ [])) at (now out) ⌝ }
+    requires { ⌜ RoomFrom wet (shown report from (keep (take count (drop from (now file))) ∷ [])) at (now out) ⌝ }
     ensures { λ r. ⌜ Emits wet (shown report from (keep (take count (drop from (now (file .entry)))) ∷ [])) (now (out .entry)) at (now (out .exit)) r ⌝ }
 {
     if report {
@@ -70,7 +70,7 @@ pub fn put_taken(
     at: usize,
 ) -> usize
     requires { ⌜ (from + count ≤ length (now file)) × (length (now file) < 4294967296) ⌝ }
-    requires { ⌜ Fits wet (shown report from (mend which (take count (drop from (now file))) [] ∷ [])) at (now out) ⌝ }
+    requires { ⌜ RoomFrom wet (shown report from (mend which (take count (drop from (now file))) [] ∷ [])) at (now out) ⌝ }
     ensures { λ r. ⌜ Emits wet (shown report from (mend which (take count (drop from (now (file .entry)))) [] ∷ [])) (now (out .entry)) at
         (now (out .exit)) r ⌝ }
 {
@@ -84,7 +84,7 @@ pub fn put_taken(
 // Puts the number of the file at `from`, then `value`.
 fn put_pair(file: &[u8], from: usize, value: u32, wet: bool, out: &mut [u8], at: usize) -> usize
     requires { ⌜ from + 4 ≤ length (now file) ⌝ }
-    requires { ⌜ Fits wet (take 4 (drop from (now file)) ++ bytes value []) at (now out) ⌝ }
+    requires { ⌜ RoomFrom wet (take 4 (drop from (now file)) ++ bytes value []) at (now out) ⌝ }
     ensures { λ r. ⌜ Emits wet (take 4 (drop from (now (file .entry))) ++ bytes value []) (now (out .entry)) at (now (out .exit)) r ⌝ }
 {
     let next = shared_put_or_count::put_copy(file, from, 4, wet, out, at);
@@ -103,7 +103,7 @@ pub fn put_set(
     at: usize,
 ) -> usize
     requires { ⌜ (from + 4 ≤ length (now file)) × (length (now file) < 4294967296) ⌝ }
-    requires { ⌜ Fits wet (shown report from (mend which (take 4 (drop from (now file))) (bytes value []) ∷ [])) at (now out) ⌝ }
+    requires { ⌜ RoomFrom wet (shown report from (mend which (take 4 (drop from (now file))) (bytes value []) ∷ [])) at (now out) ⌝ }
     ensures { λ r. ⌜ Emits wet (shown report from (mend which (take 4 (drop from (now (file .entry)))) (bytes value []) ∷ [])) (now (out .entry)) at
         (now (out .exit)) r ⌝ }
 {
@@ -124,7 +124,7 @@ pub fn put_whole(
     at: usize,
 ) -> usize
     requires { ⌜ Inside c (length (now file)) ⌝ }
-    requires { ⌜ Fits wet (shown report (c .at) (keep (left c (now file)) ∷ [])) at (now out) ⌝ }
+    requires { ⌜ RoomFrom wet (shown report (c .at) (keep (left c (now file)) ∷ [])) at (now out) ⌝ }
     ensures { λ r. ⌜ Emits wet (shown report (c .at) (keep (left c (now (file .entry))) ∷ [])) (now (out .entry)) at (now (out .exit)) r ⌝ }
 {
     let from = c.at;
@@ -135,7 +135,7 @@ pub fn put_whole(
 // Puts what `c` has left where no chunk is: spare bytes are taken out, the bytes of a chunk whose length passes its end stay.
 pub fn put_rest(file: &[u8], c: Cursor, report: bool, wet: bool, out: &mut [u8], at: usize) -> usize
     requires { ⌜ Inside c (length (now file)) × (length (now file) ≤ mostBytes) ⌝ }
-    requires { ⌜ Fits wet (cutShown report (now file) c) at (now out) ⌝ }
+    requires { ⌜ RoomFrom wet (cutShown report (now file) c) at (now out) ⌝ }
     ensures { λ r. ⌜ Emits wet (cutShown report (now (file .entry)) c) (now (out .entry)) at (now (out .exit)) r ⌝ }
 {
     let from = c.at;

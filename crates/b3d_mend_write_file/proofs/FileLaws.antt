@@ -10,18 +10,18 @@ use borrow.Author.Tests.{eq-eqb, ne-eqb}
 use Rattle.wire.specs.Bytes.{bytes, wordAt, AllBytes}
 use Rattle.wire.specs.Test.{if}
 use Rattle.wire.specs.Cursors.{Inside}
-use Rattle.wire.proofs.Left.{span, left-four}
+use Rattle.wire.proofs.LeftLaws.{span, left-four}
 use Rattle.layout.specs.Parts.{wordsOf}
 use Rattle.layout.specs.Rows.{mostBytes}
-use Rattle.shared_output.proofs.Joining.{Both}
+use Rattle.shared_output.proofs.PartLaws.{Both}
 use Rattle.b3d_spec.specs.Tags.{code}
 use Rattle.b3d_spec.specs.declared.Tag.the-variants.{BB3D}
 use Rattle.b3d_mend_spec.specs.Edits.{Edit, keep, follow, mend, fileLength, becomes, after}
 use Rattle.b3d_mend_spec.specs.Report.{entries, reportBytes}
-use Rattle.shared_put_or_count.specs.Emits.{Fits, Emits}
+use Rattle.shared_put_or_count.specs.Emits.{RoomFrom, Emits}
 use Rattle.b3d_mend_write_spec.specs.Shown.{shown}
-use Rattle.shared_put_or_count.proofs.Putting.{emits-none, fits-first, fits-second, emits-both, fits-same, emits-same}
-use Rattle.b3d_mend_write_edits.proofs.Slices.{left-all, word-slice}
+use Rattle.shared_put_or_count.proofs.PutLaws.{emits-none, fits-first, fits-second, emits-both, fits-same, emits-same}
+use Rattle.b3d_mend_write_edits.proofs.SliceLaws.{left-all, word-slice}
 use Rattle.b3d_mend_write_scopes.specs.Shown.{walkInside, walkChunk, fileScope, walkBody, walkFile}
 use Rattle.b3d_mend_write_leaves.specs.Answers.{Walks}
 use Rattle.b3d_mend_write_leaves.specs.declared.Walk.{Walk}
@@ -30,25 +30,25 @@ use Rattle.b3d_mend_write_file.specs.Starts.{startShown}
 
 -- ---- three numbers
 
-module _ (a b c : ℕ) (wet : Bool) (xs : List ℕ) (at : ℕ) (f : Fits wet (bytes a (bytes b (bytes c []))) at xs) where
+module _ (a b c : ℕ) (wet : Bool) (xs : List ℕ) (at : ℕ) (f : RoomFrom wet (bytes a (bytes b (bytes c []))) at xs) where
   first : Both (bytes a (bytes b (bytes c []))) (bytes a []) (bytes b (bytes c []))
   first = record { is = refl }
 
   second : Both (bytes b (bytes c [])) (bytes b []) (bytes c [])
   second = record { is = refl }
 
-  pub three-a : Fits wet (bytes a []) at xs
+  pub three-a : RoomFrom wet (bytes a []) at xs
   three-a = fits-first first wet xs at f
 
   module _ (ys : List ℕ) (m : ℕ) (e : Emits wet (bytes a []) xs at ys m) where
-    behind : Fits wet (bytes b (bytes c [])) m ys
+    behind : RoomFrom wet (bytes b (bytes c [])) m ys
     behind = fits-second first wet xs at ys m e f
 
-    pub three-b : Fits wet (bytes b []) m ys
+    pub three-b : RoomFrom wet (bytes b []) m ys
     three-b = fits-first second wet ys m behind
 
     module _ (zs : List ℕ) (n : ℕ) (g : Emits wet (bytes b []) ys m zs n) where
-      pub three-c : Fits wet (bytes c []) n zs
+      pub three-c : RoomFrom wet (bytes c []) n zs
       three-c = fits-second second wet ys m zs n g behind
 
       pub three-done : (us : List ℕ) (o : ℕ) → Emits wet (bytes c []) zs n us o → Emits wet (bytes a (bytes b (bytes c []))) xs at us o
@@ -121,7 +121,7 @@ module _ (s : List ℕ) (size : ℕ) (lo : 12 ≤ length s) (hi : length s ≤ m
           ∙ told-wrong (wordAt s 4) (length s - 8) (size + 4) (wordAt s 8) (λ z. q (eu ∙ ev ∙ z))
           ∙ ap₂ (λ (b : Bool) (l : List ℕ). shown b 4 (mend 1 l (bytes (size + 4) []) ∷ [])) (sym e) (word-slice s 4 all start-four)
 
-      pub start-wrong-fits : Fits wet (startShown report size s) at xs → Fits wet (shown report 4 (mend 1 (take 4 (drop 4 s)) (bytes (size + 4) []) ∷ [])) at xs
+      pub start-wrong-fits : RoomFrom wet (startShown report size s) at xs → RoomFrom wet (shown report 4 (mend 1 (take 4 (drop 4 s)) (bytes (size + 4) []) ∷ [])) at xs
       start-wrong-fits f = fits-same wrong wet xs at f
 
       pub start-wrong : (ys : List ℕ) (n : ℕ) → Emits wet (shown report 4 (mend 1 (take 4 (drop 4 s)) (bytes (size + 4) []) ∷ [])) xs at ys n → Emits wet (startShown report size s) xs at ys n
@@ -134,7 +134,7 @@ module _ (s : List ℕ) (size : ℕ) (lo : 12 ≤ length s) (hi : length s ≤ m
         ∙ in-file (wordAt s 4) (length s - 8) (size + 4) (wordAt s 8)
         ∙ ap (λ (w : ℕ). bytes (code BB3D) (bytes (size + 4) (bytes w []))) (sym ev)
 
-    pub start-file-fits : Fits wet (startShown report size s) at xs → Fits wet (bytes (code BB3D) (bytes (size + 4) (bytes v []))) at xs
+    pub start-file-fits : RoomFrom wet (startShown report size s) at xs → RoomFrom wet (bytes (code BB3D) (bytes (size + 4) (bytes v []))) at xs
     start-file-fits f = fits-same in-bytes wet xs at f
 
     pub start-file : (ys : List ℕ) (n : ℕ) → Emits wet (bytes (code BB3D) (bytes (size + 4) (bytes v []))) xs at ys n → Emits wet (startShown report size s) xs at ys n
@@ -155,12 +155,12 @@ module _ (s : List ℕ) (size : ℕ) (report wet : Bool) (xs : List ℕ) (at : �
   unfolding walkFile walkBody startShown walkFrom
   both = record { is = ap (λ (l : List ℕ). startShown report size s ++ walkInside report (walkChunk report 17) fileScope 12 l .bytes) (sym (left-all s 12)) }
 
-  module _ (f : Fits wet (walkFile report size s) at xs) where
-    pub file-start : Fits wet (startShown report size s) at xs
+  module _ (f : RoomFrom wet (walkFile report size s) at xs) where
+    pub file-start : RoomFrom wet (startShown report size s) at xs
     file-start = fits-first both wet xs at f
 
     module _ (ys : List ℕ) (m : ℕ) (e : Emits wet (startShown report size s) xs at ys m) where
-      pub file-chunks : Fits wet (walkFrom report 17 fileScope s (span 12 (length s)) .bytes) m ys
+      pub file-chunks : RoomFrom wet (walkFrom report 17 fileScope s (span 12 (length s)) .bytes) m ys
       file-chunks = fits-second both wet xs at ys m e f
 
       pub file-done : (zs : List ℕ) (w : Walk) → Walks wet (walkFrom report 17 fileScope s (span 12 (length s))) ys m zs w → Emits wet (walkFile report size s) xs at zs (w .at)

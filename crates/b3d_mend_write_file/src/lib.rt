@@ -4,7 +4,7 @@ ghost use Prim.Native.Nat.{_+_, _≤_, _<_};
 ghost use lib.ListN.{length};
 ghost use Rattle.layout.specs.Rows.{mostBytes};
 ghost use Rattle.wire.specs.Bytes.{bytes, AllBytes};
-ghost use Rattle.shared_put_or_count.specs.Emits.{Emits, Fits};
+ghost use Rattle.shared_put_or_count.specs.Emits.{Emits, RoomFrom};
 ghost use Rattle.b3d_mend_write_scopes.specs.Shown.{walkFile};
 ghost use Rattle.b3d_mend_write_file.specs.Starts.{startShown};
 use b3d_mend_write_scopes::Scope;
@@ -27,7 +27,7 @@ const WALK_LEVELS: u32 = 17;
 
 // Puts three numbers.
 fn put_three(a: u32, b: u32, c: u32, wet: bool, out: &mut [u8], at: usize) -> usize
-    requires { ⌜ Fits wet (bytes a (bytes b (bytes c []))) at (now out) ⌝ }
+    requires { ⌜ RoomFrom wet (bytes a (bytes b (bytes c []))) at (now out) ⌝ }
     ensures { λ r. ⌜ Emits wet (bytes a (bytes b (bytes c []))) (now (out .entry)) at (now (out .exit)) r ⌝ }
 {
     let m = shared_put_or_count::put_word(a, wet, out, at);
@@ -39,7 +39,7 @@ fn put_three(a: u32, b: u32, c: u32, wet: bool, out: &mut [u8], at: usize) -> us
 fn put_start(file: &[u8], size: usize, report: bool, wet: bool, out: &mut [u8], at: usize) -> usize
     requires { ⌜ (12 ≤ length (now file)) × (length (now file) ≤ mostBytes) × AllBytes (now file) ⌝ }
     requires { ⌜ size + 4 < 4294967296 ⌝ }
-    requires { ⌜ Fits wet (startShown report size (now file)) at (now out) ⌝ }
+    requires { ⌜ RoomFrom wet (startShown report size (now file)) at (now out) ⌝ }
     ensures { λ r. ⌜ Emits wet (startShown report size (now (file .entry))) (now (out .entry)) at (now (out .exit)) r ⌝ }
 {
     let long = (size + 4) as u32;
@@ -65,7 +65,7 @@ pub fn walk_file(
 ) -> usize
     requires { ⌜ (12 ≤ length (now file)) × (length (now file) ≤ mostBytes) × AllBytes (now file) ⌝ }
     requires { ⌜ size + 4 < 4294967296 ⌝ }
-    requires { ⌜ Fits wet (walkFile report size (now file)) at (now out) ⌝ }
+    requires { ⌜ RoomFrom wet (walkFile report size (now file)) at (now out) ⌝ }
     ensures { λ r. ⌜ Emits wet (walkFile report size (now (file .entry))) (now (out .entry)) at (now (out .exit)) r ⌝ }
 {
     let chunks = Cursor {

@@ -1,4 +1,4 @@
 -- The laws of its functions.
 -- The laws of its functions.
-pub mod ItemPuts
-pub mod SetPuts
+pub mod ItemPutLaws
+pub mod SetPutLaws

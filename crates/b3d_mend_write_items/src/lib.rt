@@ -8,7 +8,7 @@ ghost use Rattle.wire.specs.Cursors.{Inside, left};
 ghost use Rattle.layout.specs.Rules.{namesOrNone};
 ghost use Rattle.shared_ids.specs.Ids.{idRow};
 ghost use Rattle.b3d_mend_spec.specs.Walks.{wordEdit, itemEdits, trisEdits, boneEdits};
-ghost use Rattle.shared_put_or_count.specs.Emits.{Emits, Fits};
+ghost use Rattle.shared_put_or_count.specs.Emits.{Emits, RoomFrom};
 ghost use Rattle.b3d_mend_write_spec.specs.Shown.{shown};
 ghost use Rattle.b3d_mend_write_items.specs.Runs.{AllStay};
 use wire::Cursor;
@@ -24,7 +24,7 @@ pub fn put_id(
     at: usize,
 ) -> usize
     requires { ⌜ (from + 4 ≤ length (now file)) × (length (now file) < 4294967296) × AllBytes (now file) ⌝ }
-    requires { ⌜ Fits wet (shown report from (wordEdit (namesOrNone limit) (wordAt (now file) from) ∷ [])) at (now out) ⌝ }
+    requires { ⌜ RoomFrom wet (shown report from (wordEdit (namesOrNone limit) (wordAt (now file) from) ∷ [])) at (now out) ⌝ }
     ensures { λ r. ⌜ Emits wet (shown report from (wordEdit (namesOrNone limit) (wordAt (now (file .entry)) from) ∷ [])) (now (out .entry)) at
         (now (out .exit)) r ⌝ }
 {
@@ -71,7 +71,7 @@ pub fn put_items(
 ) -> usize
     requires { ⌜ Inside from (length (now file)) × (0 < words) × (words ≤ 64) × (ids ≤ words) ⌝ }
     requires { ⌜ (length (now file) < 4294967296) × AllBytes (now file) ⌝ }
-    requires { ⌜ Fits wet (shown report (from .at) (itemEdits (idRow ids (words - ids) limit) (left from (now file)))) start (now out) ⌝ }
+    requires { ⌜ RoomFrom wet (shown report (from .at) (itemEdits (idRow ids (words - ids) limit) (left from (now file)))) start (now out) ⌝ }
     ensures { λ r. ⌜ Emits wet (shown report (from .at) (itemEdits (idRow ids (words - ids) limit) (left from (now (file .entry)))))
         (now (out .entry)) start (now (out .exit)) r ⌝ }
 {
@@ -102,7 +102,7 @@ pub fn put_bone(
     at: usize,
 ) -> usize
     requires { ⌜ Inside body (length (now file)) × (length (now file) < 4294967296) × AllBytes (now file) ⌝ }
-    requires { ⌜ Fits wet (shown report (body .at) (boneEdits vertices (left body (now file)))) at (now out) ⌝ }
+    requires { ⌜ RoomFrom wet (shown report (body .at) (boneEdits vertices (left body (now file)))) at (now out) ⌝ }
     ensures { λ r. ⌜ Emits wet (shown report (body .at) (boneEdits vertices (left body (now (file .entry))))) (now (out .entry)) at (now (out .exit)) r ⌝ }
 {
     put_items(file, body, 2, 1, vertices, report, wet, out, at)
@@ -121,7 +121,7 @@ pub fn put_tris(
     at: usize,
 ) -> usize
     requires { ⌜ Inside body (length (now file)) × (length (now file) < 4294967296) × AllBytes (now file) ⌝ }
-    requires { ⌜ Fits wet (shown report (body .at) (trisEdits brushes vertices (left body (now file)))) at (now out) ⌝ }
+    requires { ⌜ RoomFrom wet (shown report (body .at) (trisEdits brushes vertices (left body (now file)))) at (now out) ⌝ }
     ensures { λ r. ⌜ Emits wet (shown report (body .at) (trisEdits brushes vertices (left body (now (file .entry))))) (now (out .entry)) at
         (now (out .exit)) r ⌝ }
 {

@@ -18,13 +18,13 @@ use Rattle.b3d_spec.specs.declared.Tag.{Tag}
 use Rattle.b3d_spec.specs.declared.Tag.the-variants.{BB3D, TEXS, BRUS, NODE, MESH, VRTS, TRIS, BONE, KEYS, ANIM}
 use Rattle.b3d_spec.proofs.Tag.{the-type}
 use Rattle.b3d_spec_chunk_places.specs.Places.{Body}
-use Rattle.b3d_spec_chunk_places.proofs.TagTests.{ten, one-of}
+use Rattle.b3d_spec_chunk_places.proofs.TagTestLaws.{ten, one-of}
 use Rattle.b3d_mend_spec.specs.Edits.{keep}
 use Rattle.b3d_mend_spec.specs.Trees.{texturesOf, verticesOf}
 use Rattle.b3d_mend_spec.specs.Walks.{trisEdits, boneEdits, brusEdits}
-use Rattle.shared_put_or_count.specs.Emits.{Fits, Emits}
+use Rattle.shared_put_or_count.specs.Emits.{RoomFrom, Emits}
 use Rattle.b3d_mend_write_spec.specs.Shown.{shown}
-use Rattle.shared_put_or_count.proofs.Putting.{fits-same, emits-same}
+use Rattle.shared_put_or_count.proofs.PutLaws.{fits-same, emits-same}
 use Rattle.b3d_mend_judge_items.specs.Lax.{every}
 use Rattle.b3d_mend_write_scopes.specs.Shown.{walkLeaf, brushCount}
 use Rattle.b3d_mend_write_scopes.specs.declared.Scope.{Scope}
@@ -71,7 +71,7 @@ module _ (s : List ℕ) (t : Tag) (p : ℕ) (b : Cursor) (body : Body p b (lengt
     unfolding walkLeaf
     brus = rw (e, body .head)
 
-    pub brus-fits : Fits wet All at xs → Fits wet (shown report (b .at) (brusEdits (k .textures) p (left b s))) at xs
+    pub brus-fits : RoomFrom wet All at xs → RoomFrom wet (shown report (b .at) (brusEdits (k .textures) p (left b s))) at xs
     brus-fits f = fits-same brus wet xs at f
 
     pub brus-put : (ys : List ℕ) (n : ℕ) → Emits wet (shown report (b .at) (brusEdits (k .textures) p (left b s))) xs at ys n → Emits wet All xs at ys n
@@ -82,7 +82,7 @@ module _ (s : List ℕ) (t : Tag) (p : ℕ) (b : Cursor) (body : Body p b (lengt
     unfolding walkLeaf
     tris = rw (e, body .head)
 
-    pub tris-fits : Fits wet All at xs → Fits wet (shown report (b .at) (trisEdits (k .brushes) (k .own) (left b s))) at xs
+    pub tris-fits : RoomFrom wet All at xs → RoomFrom wet (shown report (b .at) (trisEdits (k .brushes) (k .own) (left b s))) at xs
     tris-fits f = fits-same tris wet xs at f
 
     pub tris-put : (ys : List ℕ) (n : ℕ) → Emits wet (shown report (b .at) (trisEdits (k .brushes) (k .own) (left b s))) xs at ys n → Emits wet All xs at ys n
@@ -93,7 +93,7 @@ module _ (s : List ℕ) (t : Tag) (p : ℕ) (b : Cursor) (body : Body p b (lengt
     unfolding walkLeaf
     bone = rw (e, body .head)
 
-    pub bone-fits : Fits wet All at xs → Fits wet (shown report (b .at) (boneEdits (k .bones) (left b s))) at xs
+    pub bone-fits : RoomFrom wet All at xs → RoomFrom wet (shown report (b .at) (boneEdits (k .bones) (left b s))) at xs
     bone-fits f = fits-same bone wet xs at f
 
     pub bone-put : (ys : List ℕ) (n : ℕ) → Emits wet (shown report (b .at) (boneEdits (k .bones) (left b s))) xs at ys n → Emits wet All xs at ys n
@@ -104,7 +104,7 @@ module _ (s : List ℕ) (t : Tag) (p : ℕ) (b : Cursor) (body : Body p b (lengt
     unfolding standing
     stands = as-it-stands report k t (one-of plain ks h t o) p (left b s) ∙ ap (λ (n : ℕ). shown report n (keep (left b s) ∷ [])) (sym (body .head))
 
-    pub other-fits : Fits wet All at xs → Fits wet (shown report (b .at) (keep (left b s) ∷ [])) at xs
+    pub other-fits : RoomFrom wet All at xs → RoomFrom wet (shown report (b .at) (keep (left b s) ∷ [])) at xs
     other-fits f = fits-same stands wet xs at f
 
     pub other-put : (ys : List ℕ) (n : ℕ) → Emits wet (shown report (b .at) (keep (left b s) ∷ [])) xs at ys n → Emits wet All xs at ys n

@@ -9,7 +9,7 @@ ghost use Rattle.b3d_mend_spec.specs.Trees.{texturesOf, verticesOf};
 ghost use Rattle.b3d_mend_judge_items.specs.Lax.{every};
 ghost use Rattle.b3d_mend_write_scopes.specs.Shown.{brushCount, walkLeaf};
 ghost use Rattle.wire.specs.Bytes.{AllBytes};
-ghost use Rattle.shared_put_or_count.specs.Emits.{Emits, Fits};
+ghost use Rattle.shared_put_or_count.specs.Emits.{Emits, RoomFrom};
 ghost use Rattle.b3d_mend_write_leaves.specs.Answers.{leafCount, Walks};
 use b3d_judge_bodies::VerticesSummary;
 use b3d_judge_materials::BrushesSummary;
@@ -23,35 +23,35 @@ use wire::Cursor;
 const EVERY: usize = 4294967296;
 
 // Returns how many textures a TEXS has whose header is at `p`; 0 where it is refused.
-pub fn textures_in(file: &[u8], p: usize, body: Cursor) -> usize
+fn textures_in(file: &[u8], p: usize, body: Cursor) -> usize
     requires { ⌜ Body p body (length (now file)) ⌝ }
     ensures { λ r. ⌜ r ≡ texturesOf (readTextures p (left body (now (file .entry)))) ⌝ }
 {
     match b3d_judge_materials::judge_textures(file, p, body) {
-        Judged::Bad(_, _) => 0,
-        Judged::Good(t) => t.textures,
+        Judged::Reject(_, _) => 0,
+        Judged::Accept(t) => t.textures,
     }
 }
 
 // Returns how many brushes a BRUS has whose header is at `p`, whatever its ids; 0 where it is refused.
-pub fn brushes_in(file: &[u8], p: usize, body: Cursor) -> usize
+fn brushes_in(file: &[u8], p: usize, body: Cursor) -> usize
     requires { ⌜ Body p body (length (now file)) ⌝ }
     ensures { λ r. ⌜ r ≡ brushCount (readBrushes Lenient every p (left body (now (file .entry)))) ⌝ }
 {
     match b3d_judge_materials::judge_brushes(file, p, body, EVERY, Mode::Lenient) {
-        BrushesSummary::Not(_, _) => 0,
-        BrushesSummary::Is(_, t) => t.brushes,
+        BrushesSummary::Reject(_, _) => 0,
+        BrushesSummary::Accept(_, t) => t.brushes,
     }
 }
 
 // Returns how many vertices a VRTS has whose header is at `p`; 0 where it is refused.
-pub fn vertices_in(file: &[u8], p: usize, body: Cursor) -> usize
+fn vertices_in(file: &[u8], p: usize, body: Cursor) -> usize
     requires { ⌜ Body p body (length (now file)) ⌝ }
     ensures { λ r. ⌜ r ≡ verticesOf (readVertices Lenient p (left body (now (file .entry)))) ⌝ }
 {
     match b3d_judge_bodies::judge_vertices(file, p, body, Mode::Lenient) {
-        VerticesSummary::Not(_, _) => 0,
-        VerticesSummary::Is(n, _) => n,
+        VerticesSummary::Reject(_, _) => 0,
+        VerticesSummary::Accept(n, _) => n,
     }
 }
 
@@ -74,7 +74,7 @@ fn put_leaf(
     at: usize,
 ) -> usize
     requires { ⌜ Body p body (length (now file)) × AllBytes (now file) ⌝ }
-    requires { ⌜ Fits wet (walkLeaf report scope tag p (left body (now file)) .bytes) at (now out) ⌝ }
+    requires { ⌜ RoomFrom wet (walkLeaf report scope tag p (left body (now file)) .bytes) at (now out) ⌝ }
     ensures { λ r. ⌜ Emits wet (walkLeaf report scope tag p (left body (now (file .entry))) .bytes) (now (out .entry)) at (now (out .exit)) r ⌝ }
 {
     match tag {
@@ -129,7 +129,7 @@ pub fn walk_leaf(
     at: usize,
 ) -> Walk
     requires { ⌜ Body p body (length (now file)) × AllBytes (now file) ⌝ }
-    requires { ⌜ Fits wet (walkLeaf report scope tag p (left body (now file)) .bytes) at (now out) ⌝ }
+    requires { ⌜ RoomFrom wet (walkLeaf report scope tag p (left body (now file)) .bytes) at (now out) ⌝ }
     ensures { λ r. ⌜ Walks wet (walkLeaf report scope tag p (left body (now (file .entry)))) (now (out .entry)) at (now (out .exit)) r ⌝ }
 {
     let count = count_leaf(file, tag, p, body);

@@ -11,9 +11,9 @@ use Rattle.wire.specs.Bytes.{bytes}
 use Rattle.shared_output.specs.Writing.{Wrote, head}
 use Rattle.b3d_spec.specs.declared.Tag.{Tag}
 use Rattle.b3d_spec.specs.Tags.{code}
-use Rattle.shared_put_or_count.specs.Emits.{written, Fits, Emits}
-use Rattle.shared_table_words.proofs.Storing.{sets-append}
-use Rattle.shared_put_or_count.proofs.Putting.{part-over}
+use Rattle.shared_put_or_count.specs.Emits.{written, RoomFrom, Emits}
+use Rattle.shared_table_words.proofs.StoreLaws.{sets-append}
+use Rattle.shared_put_or_count.proofs.PutLaws.{part-over}
 use Rattle.b3d_mend_write_scopes.specs.Shown.{headed}
 use Rattle.b3d_mend_write_scopes.specs.Heads.{bodyAt}
 use Rattle.b3d_mend_write_scopes.specs.HeadRooms.{headWet, headEnd, HeadRoom}
@@ -92,12 +92,12 @@ wet-chunk t n {x} {xs} {ys} {zs} {at} {m} h e z =
     record { is = put; long = ap length put ∙ length-sets xs at (headed false t x); to = omega (arith, h .to, header-long t x) }
 
 -- what the body needs of the room, and what both come to
-module _ (report wet : Bool) (t : Tag) (x xs : List ℕ) (at : ℕ) (f : Fits wet (headed report t x) at xs) where
-  pub chunk-fits : Fits wet x (bodyAt report at) xs
+module _ (report wet : Bool) (t : Tag) (x xs : List ℕ) (at : ℕ) (f : RoomFrom wet (headed report t x) at xs) where
+  pub chunk-fits : RoomFrom wet x (bodyAt report at) xs
   unfolding headed
   chunk-fits = go report f
     where
-      go : (b : Bool) → Fits wet (headed b t x) at xs → Fits wet x (bodyAt b at) xs
+      go : (b : Bool) → RoomFrom wet (headed b t x) at xs → RoomFrom wet x (bodyAt b at) xs
       go true g = g
       go false g = record { room = omega (arith, g .room, header-long t x); small = omega (arith, g .small, header-long t x) }
 
@@ -105,7 +105,7 @@ module _ (report wet : Bool) (t : Tag) (x xs : List ℕ) (at : ℕ) (f : Fits we
     pub chunk-room : (size : ℕ) → size ≡ m - bodyAt report at → HeadRoom report wet at size ys
     chunk-room size es = go report wet f e (es ∙ ap (λ (k : ℕ). k - bodyAt report at) (e .to))
       where
-        go : (b w : Bool) → Fits w (headed b t x) at xs → Emits w x xs (bodyAt b at) ys m → size ≡ bodyAt b at + length x - bodyAt b at → HeadRoom b w at size ys
+        go : (b w : Bool) → RoomFrom w (headed b t x) at xs → Emits w x xs (bodyAt b at) ys m → size ≡ bodyAt b at + length x - bodyAt b at → HeadRoom b w at size ys
         go true true g h q = record { room = omega arith; small = omega (arith, g .small, report-long t x) }
         go true false g h q = record { room = omega arith; small = omega (arith, g .small, report-long t x) }
         go false true g h q = record { room = omega (arith, g .room, h .long, header-long t x); small = omega (arith, g .small, header-long t x) }

@@ -14,35 +14,35 @@ use Rattle.wire.specs.Cursors.{Inside, left, numberAt}
 use Rattle.wire.specs.declared.Cursor.{Cursor}
 use Rattle.wire.specs.declared.Number.{Number}
 use Rattle.wire.specs.declared.Number.the-variants as number
-use Rattle.wire.proofs.Left.{span, left-length, left-four, left-drop, left-bytes}
-use Rattle.wire.proofs.Found.{numbered, number-cut, Texted, texted}
+use Rattle.wire.proofs.LeftLaws.{span, left-length, left-four, left-drop, left-bytes}
+use Rattle.wire.proofs.AnswerLaws.{numbered, number-cut, Texted, texted}
 use Rattle.layout.specs.Result.{Result, accept, reject}
 use Rattle.layout.specs.Parts.{Name, Step, wordsOf, named}
 use Rattle.layout.specs.Rules.{any, namesOrNone}
 use Rattle.layout.specs.Write.{writeWords, writeText}
-use Rattle.shared_output.proofs.Appends.{text-append, text-zero}
+use Rattle.shared_output.proofs.AppendLaws.{text-append, text-zero}
 use Rattle.b3d_chunk_cursor.specs.Chunks.{namedAt, RowIn, NamedIn}
 use Rattle.b3d_chunk_cursor.specs.declared.Named.{Named}
 use Rattle.b3d_chunk_cursor.specs.declared.Named.the-variants as row
-use Rattle.b3d_chunk_cursor.proofs.Names.{named-cut, named-any, named-among}
+use Rattle.b3d_chunk_cursor.proofs.NamedLaws.{named-cut, named-any, named-among}
 use Rattle.b3d_spec.specs.Rules.{nodeRow, meshHead}
 use Rattle.b3d_spec.specs.Tags.{is}
 use Rattle.b3d_spec.specs.declared.Tag.{Tag}
 use Rattle.b3d_spec.specs.declared.Tag.the-variants.{BB3D, TEXS, BRUS, NODE, MESH, VRTS, TRIS, BONE, KEYS, ANIM}
 use Rattle.b3d_spec.proofs.Tag.{the-type}
-use Rattle.b3d_spec_chunk_places.proofs.TagTests.{ten, one-of}
+use Rattle.b3d_spec_chunk_places.proofs.TagTestLaws.{ten, one-of}
 use Rattle.b3d_mend_spec.specs.Edits.{keep}
 use Rattle.b3d_mend_spec.specs.Pieces.{Pieces, chunksOf}
 use Rattle.b3d_mend_spec.specs.Walks.{wordEdit, wordEdits}
 use Rattle.b3d_mend_write_spec.specs.Shown.{shown}
-use Rattle.b3d_mend_write_spec.proofs.Shows.{shown-none}
-use Rattle.b3d_mend_write_edits.proofs.Slices.{words-slice, left-first}
-use Rattle.b3d_mend_write_brushes.proofs.BrushPuts.{take-over}
-use Rattle.b3d_mend_write_brushes.proofs.ListPuts.{named-text}
+use Rattle.b3d_mend_write_spec.proofs.ShowsLaws.{shown-none}
+use Rattle.b3d_mend_write_edits.proofs.SliceLaws.{words-slice, left-first}
+use Rattle.b3d_mend_write_brushes.proofs.BrushPutLaws.{take-over}
+use Rattle.b3d_mend_write_brushes.proofs.ListPutLaws.{named-text}
 use Rattle.b3d_mend_spec.proofs.StepLaws.{pieces-none}
-use Rattle.b3d_mend_write_scopes.specs.Shown.{Walked, walked, nodeScope, meshScope, walkChunks, shownPieces, walkInside, walkLeaf, walkNode, walkChunk}
+use Rattle.b3d_mend_write_scopes.specs.Shown.{ChunkShown, walked, nodeScope, meshScope, walkChunks, shownPieces, walkInside, walkLeaf, walkNode, walkChunk}
 use Rattle.b3d_mend_write_scopes.specs.declared.Scope.{Scope}
-use Rattle.b3d_mend_write_scopes.specs.Opens.{nodeFront, meshFront, walkFrom, Opens}
+use Rattle.b3d_mend_write_scopes.specs.Opens.{nodeFront, meshFront, walkFrom, OpeningIs}
 use Rattle.b3d_mend_write_scopes.specs.declared.Opening.the-variants as opening
 
 -- ---- chunks that hold no chunks
@@ -73,11 +73,11 @@ unfolding leaves
 eight = tt
 
 module _ (s : List ℕ) (l : ℕ) (t : Tag) (b : Cursor) where
-  pub open-last : l ≡ 0 → Opens s l t b opening.Flat
+  pub open-last : l ≡ 0 → OpeningIs s l t b opening.Flat
   unfolding walkChunk
   open-last e = record { is = (λ report k p h. rw e) }
 
-  pub open-leaf : (ks : List ℕ) → OneOf ks (tagOf the-type t) → T (leaves ks) → Opens s l t b opening.Flat
+  pub open-leaf : (ks : List ℕ) → OneOf ks (tagOf the-type t) → T (leaves ks) → OpeningIs s l t b opening.Flat
   unfolding leaves
   open-leaf ks o h = record { is = (λ report k p e. flat report l k t (one-of noNodes ks h t o) p (left b s)) }
 
@@ -117,7 +117,7 @@ node-got report k p b h e (suc l) d =
     (let z : l ≡ suc l - 1 = omega arith in z)
 
 module _ (s : List ℕ) (l : ℕ) (t : Tag) (b : Cursor) (e : t ≡ NODE) (i : Inside b (length s)) (r : Named) (q : r ≡ namedAt s b 10) where
-  pub open-cut : r ≡ row.Cut → Opens s l t b opening.Flat
+  pub open-cut : r ≡ row.Cut → OpeningIs s l t b opening.Flat
   open-cut w = record {
     is = (λ report k p h.
         ap (λ (u : Tag). walkChunk report l k u p (left b s)) e
@@ -132,7 +132,7 @@ module _ (s : List ℕ) (l : ℕ) (t : Tag) (b : Cursor) (e : t ≡ NODE) (i : I
     stands : writeText (take len (left b s)) (writeWords (wordsOf 10 (left w s)) []) ≡ take (n .at - b .at) (drop (b .at) s)
     stands = row-stands s b 10 len w n h i (texted s b len w (named-text s b 10 len w n (sym q ∙ x))) (named-among b 10 r j len w n x)
 
-    pub open-node : Opens s l t b (opening.Node n)
+    pub open-node : OpeningIs s l t b (opening.Node n)
     unfolding nodeFront walkFrom
     open-node =
         let f = named-among b 10 r j len w n x in
@@ -155,7 +155,7 @@ first-word : (s : List ℕ) (c : Cursor) → Inside c (length s) → c .at + 4 �
 unfolding wordAt
 first-word s c i h = rw (left-four s c (span (c .at + 4) (c .end)) i h refl refl)
 
-none-inside : (report : Bool) (one : Scope → Tag → ℕ → List ℕ → Walked) (k : Scope) (p : ℕ) → walkInside report one k p [] ≡ walked [] (k .own)
+none-inside : (report : Bool) (one : Scope → Tag → ℕ → List ℕ → ChunkShown) (k : Scope) (p : ℕ) → walkInside report one k p [] ≡ walked [] (k .own)
 unfolding walkInside walkChunks shownPieces chunksOf
 none-inside report one k p = ap (λ (x : Pieces). let y = walkChunks one k (chunksOf x) in walked (shownPieces report x (y .bodies)) (y .own)) (pieces-none p)
 
@@ -166,7 +166,7 @@ few-words (x ∷ y ∷ []) h = (refl, refl)
 few-words (x ∷ y ∷ z ∷ []) h = (refl, refl)
 few-words (x ∷ y ∷ z ∷ u ∷ b) h = absurd (omega arith)
 
-abbrev mesh-by : Bool → ℕ → Scope → ℕ → ℕ → List ℕ → List ℕ → Walked
+abbrev mesh-by : Bool → ℕ → Scope → ℕ → ℕ → List ℕ → List ℕ → ChunkShown
 mesh-by report l k p q ws b = let x = walkInside report (walkChunk report l) (meshScope k) q b in walked (shown report p (wordEdits (meshHead (k .brushes)) ws) ++ x .bytes) (x .count)
 
 mesh-got : (report : Bool) (k : Scope) (p : ℕ) (b : List ℕ) (l : ℕ) → (l ≡ 0 → ⊥) → walkChunk report l k MESH p b ≡ mesh-by report (l - 1) k (p + 8) (p + 8 + 4) (wordsOf 1 b) (drop 4 b)
@@ -184,7 +184,7 @@ unfolding wordEdits
 mesh-word report k p q l v b = refl
 
 module _ (s : List ℕ) (l : ℕ) (t : Tag) (b : Cursor) (e : t ≡ MESH) (d : l ≡ 0 → ⊥) (i : Inside b (length s)) (r : Number) (q : r ≡ numberAt s b) where
-  pub open-short : r ≡ number.Cut → Opens s l t b opening.Nothing
+  pub open-short : r ≡ number.Cut → OpeningIs s l t b opening.Nothing
   open-short w =
       let h : length (left b s) < 4 = omega (arith, left-length s b i, number-cut s b (sym q ∙ w)) in
       record {
@@ -195,7 +195,7 @@ module _ (s : List ℕ) (l : ℕ) (t : Tag) (b : Cursor) (e : t ≡ MESH) (d : l
       }
 
   module _ (v : ℕ) (n : Cursor) (x : r ≡ number.Is v n) where
-    pub open-mesh : Opens s l t b (opening.Mesh n)
+    pub open-mesh : OpeningIs s l t b (opening.Mesh n)
     unfolding meshFront walkFrom
     open-mesh =
         let f = numbered s b v n (sym q ∙ x) in

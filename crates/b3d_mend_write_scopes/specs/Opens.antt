@@ -12,7 +12,7 @@ use Rattle.b3d_spec.specs.declared.Tag.{Tag}
 use Rattle.b3d_mend_spec.specs.Edits.{keep}
 use Rattle.b3d_mend_spec.specs.Walks.{wordEdit}
 use Rattle.b3d_mend_write_spec.specs.Shown.{shown}
-use Rattle.b3d_mend_write_scopes.specs.Shown.{Walked, walked, nodeScope, meshScope, walkInside, walkLeaf, walkChunk}
+use Rattle.b3d_mend_write_scopes.specs.Shown.{ChunkShown, walked, nodeScope, meshScope, walkInside, walkLeaf, walkChunk}
 use Rattle.b3d_mend_write_scopes.specs.declared.Scope.{Scope}
 use Rattle.b3d_mend_write_scopes.specs.declared.Opening.{Opening}
 use Rattle.b3d_mend_write_scopes.specs.declared.Opening.the-variants as opening
@@ -26,14 +26,14 @@ unfoldable pub meshFront : Bool → List ℕ → Cursor → Scope → List ℕ
 meshFront report s b k = shown report (b .at) (wordEdit (namesOrNone (k .brushes)) (wordAt s (b .at)) ∷ [])
 
 -- the walk over the chunks from a cursor on
-unfoldable pub walkFrom : Bool → ℕ → Scope → List ℕ → Cursor → Walked
+unfoldable pub walkFrom : Bool → ℕ → Scope → List ℕ → Cursor → ChunkShown
 walkFrom report l k s from = walkInside report (walkChunk report l) k (from .at) (left from s)
 
 -- in every scope
-abbrev pub Always : (l : ℕ) → Tag → List ℕ → Cursor → (Bool → Scope → ℕ → Walked) → Type 0
+abbrev pub Always : (l : ℕ) → Tag → List ℕ → Cursor → (Bool → Scope → ℕ → ChunkShown) → Type 0
 Always l t s b w = (report : Bool) (k : Scope) (p : ℕ) → b .at ≡ p + 8 → walkChunk report l k t p (left b s) ≡ w report k p
 
-pub record Opened (l : ℕ) (t : Tag) (s : List ℕ) (b from : Cursor) (w : Bool → Scope → ℕ → Walked) : Type 0 where
+pub record ScopeOpened (l : ℕ) (t : Tag) (s : List ℕ) (b from : Cursor) (w : Bool → Scope → ℕ → ChunkShown) : Type 0 where
   pub levels : 0 < l
   pub after : b .at ≤ from .at
   pub inside : Inside from (length s)
@@ -44,9 +44,9 @@ abbrev pub OpensAs : List ℕ → ℕ → Tag → Cursor → Opening → Type 0
 OpensAs s l t b opening.Flat = Always l t s b (λ report k p. walkLeaf report k t p (left b s))
 OpensAs s l t b opening.Nothing = Always l t s b (λ report k p. walked [] 0)
 OpensAs s l t b (opening.Node from) =
-    Opened l t s b from (λ report k p. walked (nodeFront report s b from ++ walkFrom report (l - 1) (nodeScope k) s from .bytes) 0)
+    ScopeOpened l t s b from (λ report k p. walked (nodeFront report s b from ++ walkFrom report (l - 1) (nodeScope k) s from .bytes) 0)
 OpensAs s l t b (opening.Mesh from) =
-    Opened l t s b from (λ report k p. let x = walkFrom report (l - 1) (meshScope k) s from in walked (meshFront report s b k ++ x .bytes) (x .count))
+    ScopeOpened l t s b from (λ report k p. let x = walkFrom report (l - 1) (meshScope k) s from in walked (meshFront report s b k ++ x .bytes) (x .count))
 
-pub record Opens (s : List ℕ) (l : ℕ) (t : Tag) (b : Cursor) (r : Opening) : Type 0 where
+pub record OpeningIs (s : List ℕ) (l : ℕ) (t : Tag) (b : Cursor) (r : Opening) : Type 0 where
   pub is : OpensAs s l t b r

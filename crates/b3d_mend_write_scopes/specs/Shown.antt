@@ -26,11 +26,11 @@ use Rattle.b3d_mend_judge_items.specs.Lax.{every}
 use Rattle.b3d_mend_write_scopes.specs.declared.Scope.{Scope}
 
 -- what a chunk's body shows, and what it counts: textures, brushes or vertices
-pub record Walked : Type 0 where
+pub record ChunkShown : Type 0 where
   pub bytes : List ℕ
   pub count : ℕ
 
-abbrev pub walked : List ℕ → ℕ → Walked
+abbrev pub walked : List ℕ → ℕ → ChunkShown
 walked b n = record { bytes = b; count = n }
 
 -- ---- scopes
@@ -59,11 +59,11 @@ meshScope c = record { textures = c .textures; brushes = c .brushes; top = false
 -- ---- the chunks inside a chunk
 
 -- what their bodies show, and the vertices of the mesh among them
-pub record Within : Type 0 where
+pub record BodiesShown : Type 0 where
   pub bodies : List (List ℕ)
   pub own : ℕ
 
-unfoldable pub walkChunks : (Scope → Tag → ℕ → List ℕ → Walked) → Scope → Chunks → Within
+unfoldable pub walkChunks : (Scope → Tag → ℕ → List ℕ → ChunkShown) → Scope → Chunks → BodiesShown
 walkChunks one c done = record { bodies = []; own = c .own }
 walkChunks one c (stop n p) = record { bodies = []; own = c .own }
 walkChunks one c (chunk t p b r) =
@@ -86,7 +86,7 @@ shownPieces report (known t p b r) [] = []
 shownPieces report (known t p b r) (x ∷ xs) = headed report t x ++ shownPieces report r xs
 
 -- the chunks from place p on
-unfoldable pub walkInside : Bool → (Scope → Tag → ℕ → List ℕ → Walked) → Scope → ℕ → List ℕ → Walked
+unfoldable pub walkInside : Bool → (Scope → Tag → ℕ → List ℕ → ChunkShown) → Scope → ℕ → List ℕ → ChunkShown
 walkInside report one c p s = let x = walkChunks one c (chunksOf (pieces p s)) in walked (shownPieces report (pieces p s) (x .bodies)) (x .own)
 
 -- ---- chunks by their tags
@@ -96,7 +96,7 @@ brushCount (accept x) = length (x .1)
 brushCount (reject n p) = 0
 
 -- a chunk that holds no chunks, with its header at p
-unfoldable pub walkLeaf : Bool → Scope → Tag → ℕ → List ℕ → Walked
+unfoldable pub walkLeaf : Bool → Scope → Tag → ℕ → List ℕ → ChunkShown
 walkLeaf report c TEXS p b = walked (shown report (p + 8) (keep b ∷ [])) (texturesOf (readTextures p b))
 walkLeaf report c BRUS p b = walked (shown report (p + 8) (brusEdits (c .textures) p b)) (brushCount (readBrushes Lenient every p b))
 walkLeaf report c VRTS p b = walked (shown report (p + 8) (keep b ∷ [])) (verticesOf (readVertices Lenient p b))
@@ -109,14 +109,14 @@ walkLeaf report c KEYS p b = walked (shown report (p + 8) (keep b ∷ [])) 0
 walkLeaf report c ANIM p b = walked (shown report (p + 8) (keep b ∷ [])) 0
 
 -- a NODE by its text and words, then the chunks inside
-unfoldable pub walkNode : Bool → (Scope → Tag → ℕ → List ℕ → Walked) → Scope → ℕ → List ℕ → Result (Step (Name × List ℕ)) → List ℕ
+unfoldable pub walkNode : Bool → (Scope → Tag → ℕ → List ℕ → ChunkShown) → Scope → ℕ → List ℕ → Result (Step (Name × List ℕ)) → List ℕ
 walkNode report one c p b (accept h) =
     shown report p (keep (writeText (h .value .0 .bytes) (writeWords (h .value .1) [])) ∷ [])
     ++ walkInside report one (nodeScope c) (h .place) (h .left) .bytes
 walkNode report one c p b (reject n q) = shown report p (keep b ∷ [])
 
 -- a chunk with its header at p, with the levels of chunks that are left
-unfoldable pub walkChunk : Bool → ℕ → Scope → Tag → ℕ → List ℕ → Walked
+unfoldable pub walkChunk : Bool → ℕ → Scope → Tag → ℕ → List ℕ → ChunkShown
 walkChunk report zero c t p b = walkLeaf report c t p b
 walkChunk report (suc l) c NODE p b = walked (walkNode report (walkChunk report l) c (p + 8) b (named nodeRow (p + 8) b)) 0
 walkChunk report (suc l) c MESH p b =

@@ -9,7 +9,7 @@ ghost use Rattle.b3d_mend_write_scopes.specs.Shown.{nextScope, nodeScope
 ghost use Rattle.b3d_mend_write_scopes.specs.Heads.{bodyAt};
 ghost use Rattle.wire.specs.Bytes.{AllBytes};
 ghost use Rattle.wire.specs.Cursors.{Inside};
-ghost use Rattle.b3d_mend_write_scopes.specs.Opens.{Opens};
+ghost use Rattle.b3d_mend_write_scopes.specs.Opens.{OpeningIs};
 ghost use Rattle.b3d_spec.specs.Tags.{code};
 ghost use Rattle.shared_output.specs.Writing.{head};
 ghost use Rattle.shared_put_or_count.specs.Emits.{written};
@@ -137,7 +137,7 @@ pub enum Opening {
 // Finds where the chunks inside a chunk of this tag begin; no chunk is looked into where `levels` is 0.
 pub fn find_chunks(file: &[u8], levels: u32, tag: Tag, body: Cursor) -> Opening
     requires { ⌜ Inside body (length (now file)) × AllBytes (now file) ⌝ }
-    ensures { λ r. ⌜ Opens (now (file .entry)) levels tag body r ⌝ }
+    ensures { λ r. ⌜ OpeningIs (now (file .entry)) levels tag body r ⌝ }
 {
     if levels == 0 {
         return Opening::Flat;

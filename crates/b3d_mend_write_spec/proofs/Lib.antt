@@ -1,2 +1,2 @@
 -- The laws of what edits show.
-pub mod Shows
+pub mod ShowsLaws

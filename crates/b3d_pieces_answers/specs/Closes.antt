@@ -17,12 +17,12 @@ use Rattle.b3d_pieces_step.specs.Turns.{pends}
 use Rattle.b3d_pieces_judge_step.specs.declared.Judge.{Judge}
 use Rattle.b3d_pieces_judge_step.specs.Takes.{heldOf}
 use Rattle.b3d_pieces_answers.specs.declared.Closing.{Closing}
-use Rattle.b3d_pieces_answers.specs.declared.Closing.the-variants.{Good, Bad}
+use Rattle.b3d_pieces_answers.specs.declared.Closing.the-variants.{Accept, Reject}
 
 -- a result of the definitions as code holds it
 abbrev pub closingOf : Result Totals → Closing
-closingOf (accept g) = Good g
-closingOf (reject n p) = Bad n p
+closingOf (accept g) = Accept g
+closingOf (reject n p) = Reject n p
 
 -- how many rows of table k were counted
 abbrev pub rowsIn : Totals → ℕ → ℕ
@@ -34,8 +34,8 @@ asWord n = if (leb n 0xFFFFFFFF) n 0xFFFFFFFF
 
 -- the answer: on acceptance version, n_texs and the ten counts, on a refusal its number and place, all else 0
 abbrev pub answerBy : Closing → Answer
-answerBy (Good g) = record { number = 0; place = 0; version = g .version; «n_texs» = g .slots; counts = countsOf g }
-answerBy (Bad n p) = record { number = n; place = p; version = 0; «n_texs» = 0; counts = replicate 10 0 }
+answerBy (Accept g) = record { number = 0; place = 0; version = g .version; «n_texs» = g .slots; counts = countsOf g }
+answerBy (Reject n p) = record { number = n; place = p; version = 0; «n_texs» = 0; counts = replicate 10 0 }
 
 -- the answer a with its numbers in 32 bits
 abbrev pub wordAnswer : Answer → Answer

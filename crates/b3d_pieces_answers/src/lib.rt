@@ -3,7 +3,7 @@ ghost use mathlib.Core.Path.{_≡_};
 ghost use mathlib.Core.Bool.{false};
 ghost use Rattle.b3d_judge_limits.specs.Limits.{tallied};
 ghost use Rattle.b3d_pieces_step.specs.Turns.{pends};
-ghost use Rattle.b3d_pieces_answers.specs.declared.Closing.the-variants.{Good, Bad};
+ghost use Rattle.b3d_pieces_answers.specs.declared.Closing.the-variants.{Accept, Reject};
 ghost use Rattle.b3d_pieces_answers.specs.Closes.{rowsIn, asWord, answerBy, wordAnswer, EndIs, Closes};
 use b3d_judge_tally::Tally;
 use b3d_pieces_item_steps::Now;
@@ -20,8 +20,8 @@ const OPENING: usize = letters::BB3D as usize;
 
 // What all bytes joined come to: the totals, or a refusal and its place.
 pub enum Closing {
-    Good(Totals),
-    Bad(u32, usize),
+    Accept(Totals),
+    Reject(u32, usize),
 }
 
 // Returns the rows that `g` counted as a tally, with 0 bytes of copy.
@@ -50,41 +50,41 @@ fn ended(held: Now) -> Closing
     ensures { λ r. ⌜ EndIs held r ⌝ }
 {
     match held {
-        Now::Live(_, _, g, _) => Closing::Good(g),
-        Now::Push(_, _, _, _) => Closing::Bad(refusals::CLOSED, 0),
-        Now::Pop(_, _) => Closing::Bad(refusals::CLOSED, 0),
-        Now::Fault(n, p) => Closing::Bad(n, p),
-        Now::Over(g) => Closing::Good(g),
+        Now::Live(_, _, g, _) => Closing::Accept(g),
+        Now::Push(_, _, _, _) => Closing::Reject(refusals::CLOSED, 0),
+        Now::Pop(_, _) => Closing::Reject(refusals::CLOSED, 0),
+        Now::Fault(n, p) => Closing::Reject(n, p),
+        Now::Over(g) => Closing::Accept(g),
     }
 }
 
 // Returns what all bytes joined come to by `j`: check 1, then 2, then the machine's refusal, then 10; else the totals.
-pub fn joined(j: Judge) -> Closing
+pub fn closing_of(j: Judge) -> Closing
     requires { ⌜ pends (j .now) ≡ false ⌝ }
     ensures { λ r. ⌜ Closes j r ⌝ }
 {
     let size = j.size;
     if size < FEWEST_BYTES {
-        return Closing::Bad(refusals::FILE_SIZE, 0);
+        return Closing::Reject(refusals::FILE_SIZE, 0);
     }
     if MOST_BYTES < size {
-        return Closing::Bad(refusals::FILE_SIZE, 0);
+        return Closing::Reject(refusals::FILE_SIZE, 0);
     }
     if j.letters != OPENING {
-        return Closing::Bad(refusals::FIRST_TAG, 0);
+        return Closing::Reject(refusals::FIRST_TAG, 0);
     }
     if j.length != size - 8 {
-        return Closing::Bad(refusals::FIRST_TAG, 4);
+        return Closing::Reject(refusals::FIRST_TAG, 4);
     }
     let now = j.now;
     match ended(now) {
-        Closing::Bad(n, p) => Closing::Bad(n, p),
-        Closing::Good(g) => {
+        Closing::Reject(n, p) => Closing::Reject(n, p),
+        Closing::Accept(g) => {
             let k = b3d_judge_limits::over_limit(counted(g));
             if k == 0 {
-                return Closing::Good(g);
+                return Closing::Accept(g);
             }
-            Closing::Bad(refusals::TOO_MANY_ROWS, k)
+            Closing::Reject(refusals::TOO_MANY_ROWS, k)
         }
     }
 }
@@ -101,7 +101,7 @@ fn as_word(n: usize) -> u32
 
 // Returns the answer of a refusal with `number` at `place`: version, n_texs and counts are 0.
 pub fn refused(number: u32, place: usize) -> Answer
-    ensures { λ r. ⌜ r ≡ wordAnswer (answerBy (Bad number place)) ⌝ }
+    ensures { λ r. ⌜ r ≡ wordAnswer (answerBy (Reject number place)) ⌝ }
 {
     let p = as_word(place);
     Answer {
@@ -115,7 +115,7 @@ pub fn refused(number: u32, place: usize) -> Answer
 
 // Returns the answer of an accepted file with the totals `g`.
 fn accepted(g: Totals) -> Answer
-    ensures { λ r. ⌜ r ≡ wordAnswer (answerBy (Good g)) ⌝ }
+    ensures { λ r. ⌜ r ≡ wordAnswer (answerBy (Accept g)) ⌝ }
 {
     let n = g.rows;
     let version = as_word(g.version);
@@ -151,11 +151,11 @@ fn accepted(g: Totals) -> Answer
 }
 
 // Returns the answer for what all bytes joined come to.
-pub fn answer_of(c: Closing) -> Answer
+pub fn closing_answer(c: Closing) -> Answer
     ensures { λ r. ⌜ r ≡ wordAnswer (answerBy c) ⌝ }
 {
     match c {
-        Closing::Good(g) => accepted(g),
-        Closing::Bad(n, p) => refused(n, p),
+        Closing::Accept(g) => accepted(g),
+        Closing::Reject(n, p) => refused(n, p),
     }
 }

@@ -2,7 +2,7 @@
 use mathlib.Core.Path.{_≡_, refl, ap, sym, subst, _∙_}
 use Prim.Native.Nat.{ℕ, _+_, _-_, _≤_}
 use native.Mathlib.Omega.{arith}
-use mathlib.Core.Bool.{Bool, true, false, false≢true, true≢false}
+use mathlib.Core.Bool.{Bool, true, false, false≢true}
 use mathlib.Core.List.{List}
 use lib.ListN.{length}
 use lib.Dec.{eqb, ltb, leb}
@@ -14,7 +14,7 @@ use Rattle.b3d_pieces_spec.specs.declared.Part.the-variants.{Text, Row, Skip}
 use Rattle.b3d_pieces_spec.specs.Machine.{rules}
 use Rattle.b3d_pieces_spec.specs.Good.{Words}
 use Rattle.b3d_pieces_item_steps.specs.declared.Now.{Now}
-use Rattle.b3d_pieces_item_steps.specs.declared.Now.the-variants.{Live, Fault, Over}
+use Rattle.b3d_pieces_item_steps.specs.declared.Now.the-variants.{Live}
 use Rattle.b3d_pieces_judge_step.specs.declared.Judge.{Judge}
 use Rattle.b3d_pieces_judge_step.specs.declared.Turn.{Turn}
 use Rattle.b3d_pieces_judge_step.specs.Runs.{CanRun}
@@ -23,9 +23,9 @@ use Rattle.b3d_pieces_skip_numbers.specs.declared.RowPlace.{RowPlace}
 use Rattle.b3d_pieces_skip_numbers.specs.declared.RowRules.{RowRules}
 use Rattle.b3d_pieces_skip_numbers.specs.Places.{RulesAre, Sound, Advanced, Gathered}
 use Rattle.b3d_pieces_skip_rows.proofs.JudgedLaws.{every-row}
-use Rattle.b3d_pieces_skip_lengths.specs.Ahead.{Before, UntilZero, RoomIs}
-use Rattle.b3d_pieces_skip.specs.Passes.{movedTo, PassReady, PassFrom, PassIs}
-use Rattle.b3d_pieces_skip.proofs.PassLaws.{pass-none, skip-moves, text-moves, from-sound, from-words, from-long, rows-move, room-live, room-fault, room-over, going-ready}
+use Rattle.b3d_pieces_skip_lengths.specs.Ahead.{BytesBefore, UntilZero, RoomIs}
+use Rattle.b3d_pieces_skip.specs.Passes.{movedTo, PassReady, PassIs}
+use Rattle.b3d_pieces_skip.proofs.PassLaws.{pass-none, skip-moves, text-moves, from-sound, rows-move, room-live, room-fault, room-over, going-ready}
 use Rattle.b3d_pieces_state.specs.declared.OpenRecord.{OpenRecord}
 use Rattle.b3d_pieces_state.specs.declared.PieceFed.{PieceFed}
 use Rattle.b3d_pieces_state.specs.declared.PieceState.{PieceState}
@@ -33,7 +33,7 @@ use Rattle.b3d_pieces_state.specs.Records.{openIn}
 use Rattle.b3d_pieces_state.specs.States.{nowBy, judgeIn}
 use Rattle.b3d_pieces_state.proofs.StateLaws.{now-text, now-row, now-skip, now-fault, now-over}
 use Rattle.b3d_pieces_records_tests.specs.declared.RowWeight.{RowWeight}
-use Rattle.b3d_pieces_records_tests.specs.Weights.{Weighed, Numbered, NumberIs, placeOf}
+use Rattle.b3d_pieces_records_tests.specs.Weights.{Numbered, NumberIs, placeOf}
 use Rattle.b3d_pieces_at_once.specs.declared.AtOnce.{AtOnce}
 use Rattle.b3d_pieces_at_once.specs.Onces.{turnAt, countedBy, advancedBy, counting, rowsBy, PartReady, MovedIs, OnceReady, OnceIs}
 
@@ -97,7 +97,7 @@ module _ (s : PieceState) (p : List ℕ) where
     part-file : (m : Part) → PartReady s p n m → s .size + n ≤ 16777217
     part-file m h = let a = h .file in let b = size-is s in omega arith
 
-    module _ (h : PartReady s p n (Skip (s .start))) (k : ℕ) (b : Before (s .at) (s .start) n k) where
+    module _ (h : PartReady s p n (Skip (s .start))) (k : ℕ) (b : BytesBefore (s .at) (s .start) n k) where
       pub skip-size : s .size + k ≤ 16777217
       skip-size = let a = part-file (Skip (s .start)) h in let m = b .most in omega arith
 
@@ -108,7 +108,7 @@ module _ (s : PieceState) (p : List ℕ) where
       skip-moved e r q = rw q (moved-by (Live (s .at + k) (Skip (s .start)) (s .totals) (openIn (s .inner))) k (advancedBy s k) (skip-is s k e) refl
           (skip-moves t p n (s .at) (s .totals) (openIn (s .inner)) _ (s .start) h k b refl))
 
-    module _ (h : PartReady s p n (Text (eqb (s .fixed) 1) (s .start))) (f : Open) (ef : f ≡ openIn (s .inner)) (most : ℕ) (b : Before (s .at) (f .end) n most) where
+    module _ (h : PartReady s p n (Text (eqb (s .fixed) 1) (s .start))) (f : Open) (ef : f ≡ openIn (s .inner)) (most : ℕ) (b : BytesBefore (s .at) (f .end) n most) where
       pub text-long : most ≤ length p
       text-long = let a = h .room in let m = b .most in omega arith
 
@@ -122,7 +122,7 @@ module _ (s : PieceState) (p : List ℕ) where
         pub text-moved : s .kind ≡ 0 → (r : PieceState) → r ≡ advancedBy s k → MovedIs s p r
         text-moved e r q = rw q (moved-by (Live (s .at + k) (Text (eqb (s .fixed) 1) (s .start)) (s .totals) (openIn (s .inner))) k (advancedBy s k) (text-is s k e) refl
             (text-moves t p n (s .at) (s .totals) (openIn (s .inner)) (movedTo t (Live (s .at + k) (Text (eqb (s .fixed) 1) (s .start)) (s .totals) (openIn (s .inner))) k) (eqb (s .fixed) 1) (s .start) h most
-            (subst (λ (g : Open). Before (s .at) (g .end) n most) ef b) k (subst (λ (l : ℕ). UntilZero p 0 l k) (let z : most ≡ 0 + most = omega arith in z) u)
+            (subst (λ (g : Open). BytesBefore (s .at) (g .end) n most) ef b) k (subst (λ (l : ℕ). UntilZero p 0 l k) (let z : most ≡ 0 + most = omega arith in z) u)
             (let z : k ≡ k - 0 = omega arith in ap (λ (l : ℕ). movedTo t (Live (s .at + l) (Text (eqb (s .fixed) 1) (s .start)) (s .totals) (openIn (s .inner))) l) z)))
 
     module _ (f : Open) (ef : f ≡ openIn (s .inner)) (h : PartReady s p n (Row (eqb (s .fixed) 1) (s .start) (s .index) (s .came) (s .value) (s .kept))) where

@@ -54,7 +54,7 @@ pub fn fixed_done(at: usize, k: Kept, g: Totals, f: Open) -> Now
 
 // Returns whether `left` bytes of a chunk of tag `tag` are wrong for `n` numbers of fixed data: for ANIM if they are not just these, else if they are too
 // few.
-pub fn wrong_for(tag: Tag, left: usize, n: usize) -> bool
+fn wrong_for(tag: Tag, left: usize, n: usize) -> bool
     requires { ⌜ n ≤ 10 ⌝ }
     ensures { λ r. ⌜ r ≡ wrongFor tag left (4 * n) ⌝ }
 {
@@ -66,7 +66,7 @@ pub fn wrong_for(tag: Tag, left: usize, n: usize) -> bool
 }
 
 // Begins the numbers of the fixed data of `f` at `at`, or answers 5 there if the chunk's length is wrong for them. Where there are none, `f` goes on at once.
-pub fn fixed_row_from(at: usize, g: Totals, f: Open) -> Now
+fn fixed_row_from(at: usize, g: Totals, f: Open) -> Now
     requires { ⌜ Ready 0 at g f ⌝ }
     ensures { λ r. ⌜ Gives 0 at g f r (fixedRowFrom at g f) ⌝ }
 {

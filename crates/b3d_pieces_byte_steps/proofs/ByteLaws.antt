@@ -15,8 +15,8 @@ use Rattle.b3d_pieces_spec.specs.Good.{Words, worth, Off}
 use Rattle.b3d_pieces_item_steps.specs.declared.Now.{Now}
 use Rattle.b3d_pieces_item_steps.specs.declared.Now.the-variants.{Live}
 use Rattle.b3d_pieces_item_steps.specs.Nows.{GoodNow, Ready, Gives}
-use Rattle.b3d_pieces_item_steps.proofs.Giving.{gives, gives-on, gives-spare}
-use Rattle.b3d_pieces_byte_steps.specs.Bytes.{gathers, Adds, cameOf, spareOf}
+use Rattle.b3d_pieces_item_steps.proofs.StepLaws.{gives, gives-on, gives-spare}
+use Rattle.b3d_pieces_byte_steps.specs.Bytes.{gathers, AddsByte, cameOf, spareOf}
 
 -- ---- a byte of a number
 
@@ -28,16 +28,16 @@ is-three (suc (suc (suc zero))) h a b c = refl
 is-three (suc (suc (suc (suc j)))) h a b c = absurd (omega arith)
 
 module _ (j acc b r : ℕ) (v : b < 256) where
-  pub adds-0 : j ≡ 0 → r ≡ b → Adds j acc b r
+  pub adds-0 : j ≡ 0 → r ≡ b → AddsByte j acc b r
   adds-0 e q = rw e (record { is = q; low = λ y. omega arith; most = λ y. omega arith; word = omega arith })
 
-  pub adds-1 : j ≡ 1 → acc < worth j → r ≡ acc + 256 * b → Adds j acc b r
+  pub adds-1 : j ≡ 1 → acc < worth j → r ≡ acc + 256 * b → AddsByte j acc b r
   adds-1 e h q = let l : acc < 256 = rw e at h in rw e (record { is = q; low = λ y. omega arith; most = λ y. omega arith; word = omega arith })
 
-  pub adds-2 : j ≡ 2 → acc < worth j → r ≡ acc + 65536 * b → Adds j acc b r
+  pub adds-2 : j ≡ 2 → acc < worth j → r ≡ acc + 65536 * b → AddsByte j acc b r
   adds-2 e h q = let l : acc < 65536 = rw e at h in rw e (record { is = q; low = λ y. omega arith; most = λ y. omega arith; word = omega arith })
 
-  pub adds-3 : j ≤ 3 → (j ≡ 0 → ⊥) → (j ≡ 1 → ⊥) → (j ≡ 2 → ⊥) → acc < 16777216 → r ≡ acc + 16777216 * b → Adds j acc b r
+  pub adds-3 : j ≤ 3 → (j ≡ 0 → ⊥) → (j ≡ 1 → ⊥) → (j ≡ 2 → ⊥) → acc < 16777216 → r ≡ acc + 16777216 * b → AddsByte j acc b r
   adds-3 t x y z h q = rw (is-three j t x y z) (record { is = q; low = λ s. absurd (omega arith); most = λ s. absurd (omega arith); word = omega arith })
 
 pub ruleset adds-laws = (adds-0, adds-1, adds-2, adds-3)
@@ -63,7 +63,7 @@ byte-last : (fixed : Bool) (start i b acc : ℕ) (k : Kept) (at : ℕ) (g : Tota
 unfolding rowByte
 byte-last fixed start i b acc k at g f j e R = rw e
 
-pub word-of : (j acc b v : ℕ) → Adds j acc b v → IsWord v
+pub word-of : (j acc b v : ℕ) → AddsByte j acc b v → IsWord v
 word-of j acc b v a = a .word
 
 -- ---- a byte of a text
@@ -134,7 +134,7 @@ module _ (m : Part) (at : ℕ) (g : Totals) (f : Open) where
         let n : at + j + 1 ≡ at + 4 = omega arith in
         subst (λ (x : ℕ). Ready 1 x g f) n y
 
-    module _ (b : ℕ) (r : Now) (v : ℕ) (a : Adds j acc b v) where
+    module _ (b : ℕ) (r : Now) (v : ℕ) (a : AddsByte j acc b v) where
       pub row-goes : (j ≡ 3 → ⊥) → r ≡ Live at (Row fixed start i (j + 1) v k) g f → Gives (spareOf m + 1) (cameOf m at + 1) g f r (byteIn m b at g f)
       unfolding cameOf spareOf byteIn
       row-goes z q =

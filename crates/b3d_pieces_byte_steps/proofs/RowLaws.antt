@@ -15,13 +15,13 @@ use Rattle.b3d_pieces_spec.specs.declared.Part.the-variants.{Row}
 use Rattle.b3d_pieces_spec.specs.Bodies.{rulesOf, ruleAt, nests, noneKept, keep}
 use Rattle.b3d_pieces_spec.specs.Machine.{rules, counting, fixedDone, headerDone, innerDone, rowDone, rowFrom, wordDone, textDone}
 use Rattle.b3d_pieces_spec.specs.Good.{Words}
-use Rattle.b3d_pieces_spec.proofs.Depth.{none-words, keep-words}
+use Rattle.b3d_pieces_spec.proofs.DepthLaws.{none-words, keep-words}
 use Rattle.b3d_pieces_rules.specs.Faults.{faultOf, faultIn, rowFault}
 use Rattle.b3d_pieces_item_steps.specs.declared.Now.{Now}
 use Rattle.b3d_pieces_item_steps.specs.declared.Now.the-variants.{Live, Fault}
 use Rattle.b3d_pieces_item_steps.specs.Nows.{Ready, Gives, edgeHere}
-use Rattle.b3d_pieces_item_steps.proofs.Giving.{gives, gives-on, gives-spare, gives-from}
-use Rattle.b3d_pieces_item_steps.proofs.Edges.{ready-words, short, long}
+use Rattle.b3d_pieces_item_steps.proofs.StepLaws.{gives, gives-on, gives-spare, gives-from}
+use Rattle.b3d_pieces_item_steps.proofs.EdgeLaws.{ready-words, short, long}
 use Rattle.b3d_pieces_header_steps.proofs.HeadLaws.{ready-less}
 
 -- ---- kept numbers

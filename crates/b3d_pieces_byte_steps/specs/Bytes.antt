@@ -14,7 +14,7 @@ gathers (suc (suc zero)) acc b = acc + 65536 * b
 gathers (suc (suc (suc j))) acc b = acc + 16777216 * b
 
 -- r is the value of j bytes of a number, worth acc, and one more, b
-pub record Adds (j acc b r : ℕ) : Type 0 where
+pub record AddsByte (j acc b r : ℕ) : Type 0 where
   -- r is what `gathers` gives
   pub is : r ≡ gathers j acc b
   -- if the number is not complete, r is below what j + 1 bytes can be

@@ -4,7 +4,7 @@ ghost use Rattle.layout.specs.Rows.{mostBytes};
 ghost use Rattle.b3d_pieces_spec.specs.Machine.{textByte, byteIn};
 ghost use Rattle.b3d_pieces_spec.specs.Good.{worth, Off};
 ghost use Rattle.b3d_pieces_item_steps.specs.Nows.{Ready, Gives};
-ghost use Rattle.b3d_pieces_byte_steps.specs.Bytes.{Adds, cameOf, spareOf};
+ghost use Rattle.b3d_pieces_byte_steps.specs.Bytes.{AddsByte, cameOf, spareOf};
 use crate::rows::text_done;
 use crate::rows::word_done;
 use b3d_pieces_body_steps::skip_from;
@@ -17,7 +17,7 @@ use b3d_pieces_spec::Totals;
 // Returns the value of `j` bytes of a number, worth `acc`, and one more, `b`.
 pub fn gathered(j: usize, acc: usize, b: u8) -> usize
     requires { ⌜ (j ≤ 3) × (acc < worth j) × (acc < 16777216) ⌝ }
-    ensures { λ r. ⌜ Adds j acc b r ⌝ }
+    ensures { λ r. ⌜ AddsByte j acc b r ⌝ }
 {
     let v = b as usize;
     if j == 0 {
@@ -33,7 +33,7 @@ pub fn gathered(j: usize, acc: usize, b: u8) -> usize
 }
 
 // Takes byte `b` of a text, at `at`: 0 ends the text.
-pub fn text_byte(fixed: bool, start: usize, b: u8, at: usize, g: Totals, f: Open) -> Now
+fn text_byte(fixed: bool, start: usize, b: u8, at: usize, g: Totals, f: Open) -> Now
     requires { ⌜ Ready 1 (at + 1) g f ⌝ }
     ensures { λ r. ⌜ Gives 1 (at + 1) g f r (textByte fixed start b at g f) ⌝ }
 {

@@ -42,7 +42,7 @@ pub fn keep(i: usize, w: usize, k: Kept) -> Kept
 }
 
 // Ends a row of `f` that began at `start`: fixed data, a header inside `f`, or an item, which is counted.
-pub fn row_done(fixed: bool, start: usize, at: usize, k: Kept, g: Totals, f: Open) -> Now
+fn row_done(fixed: bool, start: usize, at: usize, k: Kept, g: Totals, f: Open) -> Now
     requires { ⌜ Ready 1 at g f × Words k ⌝ }
     ensures { λ r. ⌜ Gives 1 at g f r (rowDone fixed start at k g f) ⌝ }
 {
@@ -61,7 +61,7 @@ pub fn row_done(fixed: bool, start: usize, at: usize, k: Kept, g: Totals, f: Ope
 }
 
 // Begins number `i` of a row at `at`, or ends the row if it has no such number.
-pub fn row_from(fixed: bool, start: usize, i: usize, at: usize, k: Kept, g: Totals, f: Open) -> Now
+fn row_from(fixed: bool, start: usize, i: usize, at: usize, k: Kept, g: Totals, f: Open) -> Now
     requires { ⌜ Ready 1 at g f × Words k × (i ≤ at) ⌝ }
     ensures { λ r. ⌜ Gives 1 at g f r (rowFrom fixed start i at k g f) ⌝ }
 {

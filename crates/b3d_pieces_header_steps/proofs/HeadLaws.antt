@@ -12,7 +12,7 @@ use Rattle.b3d_spec.specs.declared.Tag.{Tag}
 use Rattle.b3d_spec.specs.declared.Tag.the-variants.{BB3D, TEXS, BRUS, NODE, MESH, VRTS, TRIS, BONE, KEYS, ANIM}
 use Rattle.b3d_spec.specs.Tags.{tagOf}
 use Rattle.b3d_spec.specs.Nesting.{nesting, Reached, next, reachedAt}
-use Rattle.b3d_spec.proofs.Files.Entries.{same-tag}
+use Rattle.b3d_spec.proofs.Files.EntryLaws.{same-tag}
 use Rattle.b3d_chunk_cursor.specs.declared.Tagged.{Tagged}
 use Rattle.b3d_chunk_cursor.specs.declared.Tagged.the-variants.{Known, Other}
 use Rattle.b3d_chunk_cursor.specs.Chunks.{tagged}
@@ -21,7 +21,7 @@ use Rattle.b3d_pieces_spec.specs.declared.Open.{Open}
 use Rattle.b3d_pieces_spec.specs.Bodies.{entered}
 use Rattle.b3d_pieces_spec.specs.Machine.{fault, fresh, reachedBy, enter, enterNode, opened, skipFrom, stand, known, headerDone}
 use Rattle.b3d_pieces_spec.specs.Good.{Deep, Bound, sum, load, extra, Child}
-use Rattle.b3d_pieces_spec.proofs.Depth.{none-words, child}
+use Rattle.b3d_pieces_spec.proofs.DepthLaws.{none-words, child}
 use Rattle.b3d_rule_nesting_order.specs.declared.Reached.{Reached as Turns}
 use Rattle.b3d_rule_nesting_order.specs.declared.Permit.{Permit}
 use Rattle.b3d_rule_nesting_order.specs.declared.Permit.the-variants.{No, Yes}
@@ -29,8 +29,8 @@ use Rattle.b3d_rule_nesting_order.specs.Turns.{permitOf}
 use Rattle.b3d_pieces_item_steps.specs.declared.Now.{Now}
 use Rattle.b3d_pieces_item_steps.specs.declared.Now.the-variants.{Push, Fault}
 use Rattle.b3d_pieces_item_steps.specs.Nows.{stateWith, GoodNow, Ready, Gives, texted}
-use Rattle.b3d_pieces_item_steps.proofs.Giving.{gives, gives-on, gives-spare}
-use Rattle.b3d_pieces_header_steps.specs.Heads.{Opens, standHere}
+use Rattle.b3d_pieces_item_steps.proofs.StepLaws.{gives, gives-on, gives-spare}
+use Rattle.b3d_pieces_header_steps.specs.Heads.{OpensChunk, standHere}
 
 apart : {B : Type 0} → _≡_ {A = Bool} true false → B
 apart e = let z : _≡_ {A = ℕ} 0 1 = cc in absurd (omega arith)
@@ -81,31 +81,31 @@ bound-node (suc l) n z c = let q : suc l - 1 ≡ l = omega arith in rw q (c l re
 
 -- a value that is made
 opens : (t : Tag) (head e at : ℕ) (g : Totals) (f : Open) (r x : Now) → r ≡ x → ((R : List Open) → stateWith R x ≡ opened t head e at g f R)
-    → ((R : List Open) → Deep (f ∷ R) → sum g + load (f ∷ R) + 1 ≤ at → Child t (f .level) (length R) → GoodNow at R x) → Opens t head e at g f r
+    → ((R : List Open) → Deep (f ∷ R) → sum g + load (f ∷ R) + 1 ≤ at → Child t (f .level) (length R) → GoodNow at R x) → OpensChunk t head e at g f r
 opens t head e at g f r x q z h = record { is = λ R. ap (stateWith R) q ∙ z R; good = λ R d l c. rw q (h R d l c) }
 
 module _ (head e at : ℕ) (g : Totals) (f : Open) (r : Now) where
-  node-none : f .level ≡ 0 → r ≡ Fault 9 head → Opens NODE head e at g f r
+  node-none : f .level ≡ 0 → r ≡ Fault 9 head → OpensChunk NODE head e at g f r
   unfolding opened
   node-none z q = opens NODE head e at g f r (Fault 9 head) q (λ R. sym (opened-none head e at g f R (f .level) z)) (λ R d l c. tt)
 
-  node-some : (f .level ≡ 0 → ⊥) → r ≡ Push at (entered g) (fresh NODE head e (f .level - 1) (g .below)) f → Opens NODE head e at g f r
+  node-some : (f .level ≡ 0 → ⊥) → r ≡ Push at (entered g) (fresh NODE head e (f .level - 1) (g .below)) f → OpensChunk NODE head e at g f r
   unfolding opened
   node-some z q =
       opens NODE head e at g f r (Push at (entered g) (fresh NODE head e (f .level - 1) (g .below)) f) q (λ R. sym (opened-node head e at g f R (f .level) z))
       (λ R d l c. (((bound-node (f .level) (length R) z c, none-words, d), omega arith), refl))
 
 module _ (t : Tag) (head e at : ℕ) (g : Totals) (f : Open) (r : Now) (b : Bool) (eb : b ≡ texted t) where
-  pub open-none : b ≡ true → f .level ≡ 0 → r ≡ Fault 9 head → Opens t head e at g f r
+  pub open-none : b ≡ true → f .level ≡ 0 → r ≡ Fault 9 head → OpensChunk t head e at g f r
   open-none v z q = rw (same-tag t NODE (sym eb ∙ v)) (node-none head e at g f r z q)
 
-  pub open-node : b ≡ true → (f .level ≡ 0 → ⊥) → (x : Totals) → x ≡ entered g → (y : Open) → y ≡ fresh t head e (f .level - 1) (g .below) → r ≡ Push at x y f → Opens t head e at g f r
+  pub open-node : b ≡ true → (f .level ≡ 0 → ⊥) → (x : Totals) → x ≡ entered g → (y : Open) → y ≡ fresh t head e (f .level - 1) (g .below) → r ≡ Push at x y f → OpensChunk t head e at g f r
   open-node v z x ex y ey q =
       let o = same-tag t NODE (sym eb ∙ v) in
       let p : r ≡ Push at (entered g) (fresh t head e (f .level - 1) (g .below)) f = rw (← ex, ← ey) q in
       rw o (node-some head e at g f r z (rw o at p))
 
-  pub open-other : b ≡ false → (y : Open) → y ≡ fresh t head e (f .level) 0 → r ≡ Push at g y f → Opens t head e at g f r
+  pub open-other : b ≡ false → (y : Open) → y ≡ fresh t head e (f .level) 0 → r ≡ Push at g y f → OpensChunk t head e at g f r
   open-other v y ey q =
       let z = sym eb ∙ v in
       let p : r ≡ Push at g (fresh t head e (f .level) 0) f = rw (← ey) q in
@@ -150,7 +150,7 @@ module _ (t : Tag) (head e at : ℕ) (g : Totals) (f : Open) (r : Now) (x : Perm
     is-some : o ≡ some (record { turn = a .turn; spent = a .spent })
     is-some = permit-some o a (sym ex ∙ z)
 
-    pub stand-at : Opens t head e at g (record { tag = f .tag; head = f .head; end = f .end; turn = a .turn; spent = a .spent; level = f .level; kept = f .kept; count = f .count; told = f .told }) r → Gives 1 at g f r (standHere t head e at g f)
+    pub stand-at : OpensChunk t head e at g (record { tag = f .tag; head = f .head; end = f .end; turn = a .turn; spent = a .spent; level = f .level; kept = f .kept; count = f .count; told = f .told }) r → Gives 1 at g f r (standHere t head e at g f)
     unfolding standHere stand
     stand-at q = record {
       is = λ R. q .is R ∙ ap (λ (y : Option Reached). stand y t head e at g f R) (sym is-some);

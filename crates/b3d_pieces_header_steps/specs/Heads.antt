@@ -13,7 +13,7 @@ use Rattle.b3d_pieces_item_steps.specs.declared.Now.{Now}
 use Rattle.b3d_pieces_item_steps.specs.Nows.{stateWith, GoodNow}
 
 -- the promise of opening a chunk of tag t inside f, for every stack R of outer chunks
-pub record Opens (t : Tag) (head e at : ℕ) (g : Totals) (f : Open) (r : Now) : Type 0 where
+pub record OpensChunk (t : Tag) (head e at : ℕ) (g : Totals) (f : Open) (r : Now) : Type 0 where
   -- r stands for the machine's state
   pub is : (R : List Open) → stateWith R r ≡ opened t head e at g f R
   -- if the invariant holds before with one row to spare, and a chunk of tag t may be opened inside f, it holds after

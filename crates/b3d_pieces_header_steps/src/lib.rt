@@ -3,7 +3,7 @@ ghost use mathlib.Core.Path.{_≡_};
 ghost use Rattle.wire.specs.Bytes.{IsWord};
 ghost use Rattle.b3d_pieces_spec.specs.Machine.{fresh as freshOf, headerDone};
 ghost use Rattle.b3d_pieces_item_steps.specs.Nows.{Ready, Gives};
-ghost use Rattle.b3d_pieces_header_steps.specs.Heads.{Opens, standHere};
+ghost use Rattle.b3d_pieces_header_steps.specs.Heads.{OpensChunk, standHere};
 use b3d_chunk_cursor::Tagged;
 use b3d_chunk_cursor::tag_of;
 use b3d_pieces_body_steps::skip_from;
@@ -40,7 +40,7 @@ pub fn fresh(tag: Tag, head: usize, end: usize, level: usize, told: usize) -> Op
 // where no level is left.
 fn open_chunk(t: Tag, head: usize, e: usize, at: usize, g: Totals, f: Open) -> Now
     requires { ⌜ Ready 1 at g f ⌝ }
-    ensures { λ r. ⌜ Opens t head e at g f r ⌝ }
+    ensures { λ r. ⌜ OpensChunk t head e at g f r ⌝ }
 {
     let level = f.level;
     if texted(t) {

@@ -1,3 +1,3 @@
 pub mod NestLaws
-pub mod Giving
-pub mod Edges
+pub mod StepLaws
+pub mod EdgeLaws

@@ -9,7 +9,7 @@ use Rattle.b3d_spec.specs.Tags.{is}
 use Rattle.b3d_pieces_spec.specs.declared.Totals.{Totals}
 use Rattle.b3d_pieces_spec.specs.declared.Open.{Open}
 use Rattle.b3d_pieces_spec.specs.Machine.{State, live, fault, over, edge, enter}
-use Rattle.b3d_pieces_spec.specs.Good.{Words, Deep, sum, load, Fits, Off}
+use Rattle.b3d_pieces_spec.specs.Good.{Words, Deep, sum, load, OpenChunksFit, Off}
 use Rattle.b3d_pieces_spec.specs.Limits.{mostCounted}
 use Rattle.b3d_pieces_item_steps.specs.declared.Now.{Now}
 use Rattle.b3d_pieces_item_steps.specs.declared.Now.the-variants.{Live, Push, Pop, Fault, Over}
@@ -28,9 +28,9 @@ stateWith R (Over g) = over g
 
 -- the machine's invariant after n bytes, with the open chunks R of the row: open chunks and totals fit, and the present place is right
 abbrev pub GoodNow : ℕ → List Open → Now → Type 0
-GoodNow n R (Live at m g f) = Fits at g (f ∷ R) × Off m at n
-GoodNow n R (Push at g f o) = Fits at g (f ∷ o ∷ R) × (at ≡ n)
-GoodNow n R (Pop at g) = Fits at g R × (at ≡ n)
+GoodNow n R (Live at m g f) = OpenChunksFit at g (f ∷ R) × Off m at n
+GoodNow n R (Push at g f o) = OpenChunksFit at g (f ∷ o ∷ R) × (at ≡ n)
+GoodNow n R (Pop at g) = OpenChunksFit at g R × (at ≡ n)
 GoodNow n R (Fault m p) = Unit {0}
 GoodNow n R (Over g) = sum g ≤ n
 

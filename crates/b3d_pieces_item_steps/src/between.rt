@@ -27,7 +27,7 @@ pub fn less(a: usize, b: usize) -> usize
 }
 
 // Returns whether the items of a chunk of tag `tag` begin with a text.
-pub fn text_items(tag: Tag) -> bool
+fn text_items(tag: Tag) -> bool
     ensures { λ r. ⌜ r ≡ textItems tag ⌝ }
 {
     same(tag, Tag::TEXS) | same(tag, Tag::BRUS)

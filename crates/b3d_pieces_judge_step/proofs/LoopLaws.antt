@@ -142,12 +142,6 @@ module _ (t : Turn) (rs rs′ : ℕ → Open) (p : List ℕ) (g : Going t rs p) 
         ∙ ap (λ (x : Held). piece x (drop (t .at + 1) p)) (s .took .is rs rs′ changes)
         ∙ sym (took-rest (pends (t .judge .now)) (heldOf (t .judge) rs) b (t .at) p (omega arith) eb)
 
-    pub turn-put : r .put ≤ 18
-    turn-put = s .took .put
-
-    pub turn-shut : r .judge .shut ≡ t .judge .shut
-    turn-shut = s .took .shut
-
 -- ---- at first, and at the end
 
 module _ (j : Judge) (rs : ℕ → Open) (p : List ℕ) (t : Turn) (b : Begins j (length p) t) (c : pends (j .now) ≡ false) where

@@ -15,10 +15,10 @@ use Rattle.b3d_pieces_spec.specs.declared.Open.{Open}
 use Rattle.b3d_pieces_spec.specs.Machine.{State, step, enter, fresh}
 use Rattle.b3d_pieces_spec.specs.Close.{Whole, heading, inside, Held, headByte, wholeByte, byte, nothing, body}
 use Rattle.b3d_pieces_spec.specs.Good.{worth}
-use Rattle.b3d_pieces_spec.proofs.Depth.{none-words}
+use Rattle.b3d_pieces_spec.proofs.DepthLaws.{none-words}
 use Rattle.b3d_pieces_item_steps.specs.declared.Now.{Now}
 use Rattle.b3d_pieces_item_steps.specs.Nows.{stateWith, GoodNow, Ready, Gives, texted}
-use Rattle.b3d_pieces_byte_steps.specs.Bytes.{Adds}
+use Rattle.b3d_pieces_byte_steps.specs.Bytes.{AddsByte}
 use Rattle.b3d_pieces_byte_steps.proofs.ByteLaws.{most-low}
 use Rattle.b3d_pieces_step.specs.declared.Turned.{Turned}
 use Rattle.b3d_pieces_step.specs.Turns.{stackBy, slotOf, pends, ReadyNow, afterTurn, taken, Rows, TurnIs}
@@ -48,17 +48,17 @@ module _ (size acc b : ℕ) where
     pub first-low : acc < headLow size → acc < worth size
     first-low l = rw (near size h) at l
 
-    pub first-is : (r : ℕ) → Adds size acc b r → r ≡ headWorth size acc b
+    pub first-is : (r : ℕ) → AddsByte size acc b r → r ≡ headWorth size acc b
     first-is r a = rw (near size h) (a .is)
 
   module _ (h : 4 ≤ size) where
     pub second-low : acc < headLow size → acc < worth (size - 4)
     second-low l = rw (far size h) at l
 
-    pub second-is : (r : ℕ) → Adds (size - 4) acc b r → r ≡ headWorth size acc b
+    pub second-is : (r : ℕ) → AddsByte (size - 4) acc b r → r ≡ headWorth size acc b
     second-is r a = rw (far size h) (a .is)
 
-pub number-word : (j acc b r : ℕ) → Adds j acc b r → r < 4294967296
+pub number-word : (j acc b r : ℕ) → AddsByte j acc b r → r < 4294967296
 number-word j acc b r a = a .word
 
 pub ruleset number-laws = (first-low, first-is, second-low, second-is, number-word)
@@ -132,9 +132,6 @@ not-both x a b = none (sym a ∙ b)
 
 take-calm : (p : Bool) (h : Held) (b : ℕ) → p ≡ false → byte h b ≡ afterTake p h b
 take-calm p h b e = rw e
-
-take-wait : (p : Bool) (h : Held) (b : ℕ) → p ≡ true → h ≡ afterTake p h b
-take-wait p h b e = rw e
 
 abbrev holding : ℕ → Whole → Held
 holding s w = record { size = s; whole = w }
@@ -297,12 +294,6 @@ module _ (j : Judge) (rec : Open) (b came : ℕ) (ready : TakeReady j rec) (k : 
 
 pub ready-depth : (j : Judge) (rec : Open) → TakeReady j rec → j .depth ≤ 18
 ready-depth j rec h = h .depth
-
-pub ready-size : (j : Judge) (rec : Open) → TakeReady j rec → j .size ≤ 16777217
-ready-size j rec h = h .size
-
-pub came-one : (j : Judge) (came : ℕ) → BodyReady j came → came ≤ 1
-came-one j came k = k .one
 
 pub ruleset body-laws = (body-asks, ready-depth, body-next)
 

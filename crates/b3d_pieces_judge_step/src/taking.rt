@@ -21,7 +21,7 @@ use b3d_spec::Tag;
 use layout::MOST_BYTES;
 
 // Returns the value of the present number of BB3D's header after `size` bytes, worth `worth`, and one more, `b`.
-pub fn head_number(size: usize, worth: usize, b: u8) -> usize
+fn head_number(size: usize, worth: usize, b: u8) -> usize
     requires { ⌜ (size < 8) × (worth < headLow size) × (worth < 16777216) ⌝ }
     ensures { λ r. ⌜ (r ≡ headWorth size worth b) × (r < 4294967296) ⌝ }
 {
@@ -49,7 +49,7 @@ pub fn nothing() -> Totals
 }
 
 // Takes byte `b` of BB3D's header; after the eighth the body of BB3D begins. The record `rec` goes back as it was.
-pub fn head_turn(j: Judge, rec: Open, b: u8) -> Taken
+fn head_turn(j: Judge, rec: Open, b: u8) -> Taken
     requires { ⌜ TakeReady j rec × (j .size < 8) × (pends (j .now) ≡ false) ⌝ }
     ensures { λ r. ⌜ TakeIs j rec b r ⌝ }
 {
@@ -84,7 +84,7 @@ pub fn head_turn(j: Judge, rec: Open, b: u8) -> Taken
 }
 
 // Makes a turn of the machine with byte `b` and the record `rec` read, which takes `came` bytes: 0 while chunks are entered or left, else 1.
-pub fn body_turn(j: Judge, rec: Open, b: u8, came: usize) -> Taken
+fn body_turn(j: Judge, rec: Open, b: u8, came: usize) -> Taken
     requires { ⌜ TakeReady j rec × BodyReady j came ⌝ }
     ensures { λ r. ⌜ TakeIs j rec b r ⌝ }
 {

@@ -1,4 +1,4 @@
-pub mod CloseRounds
-pub mod PieceRounds
+pub mod CloseRoundLaws
+pub mod PieceRoundLaws
 pub mod RoundLaws
-pub mod WeighRounds
+pub mod WeighRoundLaws

@@ -29,7 +29,7 @@ use Rattle.b3d_pieces_state.specs.Records.{openIn, recordOf}
 use Rattle.b3d_pieces_state.specs.States.{nowBy, judgeIn, stateOf}
 use Rattle.b3d_pieces_state.proofs.RecordLaws.{record-back}
 use Rattle.b3d_pieces_answers.specs.declared.Closing.{Closing}
-use Rattle.b3d_pieces_answers.specs.declared.Closing.the-variants.{Bad}
+use Rattle.b3d_pieces_answers.specs.declared.Closing.the-variants.{Reject}
 use Rattle.b3d_pieces_answers.specs.Closes.{closingOf, answerBy, wordAnswer, Closes}
 use Rattle.b3d_pieces_words.specs.Called.{shutting}
 use Rattle.b3d_pieces_records_tests.specs.declared.RowWeight.{RowWeight}
@@ -38,12 +38,12 @@ use Rattle.b3d_pieces_at_once.specs.declared.AtOnce.{AtOnce}
 use Rattle.b3d_pieces_at_once.specs.Onces.{turnAt}
 use Rattle.b3d_pieces_records_loop.specs.declared.Round.{Round}
 use Rattle.b3d_pieces_records_loop.specs.declared.PieceClosed.{PieceClosed}
-use Rattle.b3d_pieces_records_loop.specs.Rounds.{FirstIs, TurnReady, ended, stepped, TurnedIs, LastIs, CloseReady, ClosedIs}
+use Rattle.b3d_pieces_records_loop.specs.Rounds.{FirstRoundIs, TurnReady, ended, stepped, TurnedIs, LastIs, CloseReady, ClosedIs}
 
 -- ---- the first round
 
 pub first-is : (x : AtOnce) (bytes : ℕ) (j : Judge) → j ≡ judgeIn (x .fed .state) → (get : ℕ) → get ≡ slotOf (j .depth) → (blank : Open) → blank ≡ fresh BB3D 0 0 0 0 → (rec : OpenRecord)
-    → (r : Round) → r ≡ record { go = ltb (x .at) bytes; get = get; put = 0; rec = rec; turn = record { judge = j; at = x .at; end = bytes; get = get; put = 0; rec = blank } } → FirstIs x bytes r
+    → (r : Round) → r ≡ record { go = ltb (x .at) bytes; get = get; put = 0; rec = rec; turn = record { judge = j; at = x .at; end = bytes; get = get; put = 0; rec = blank } } → FirstRoundIs x bytes r
 first-is x bytes j ej get eg blank eb rec r q = rw q (record { turn = turn-is; go = refl; get = refl })
   where
     turn-is : record { judge = j; at = x .at; end = bytes; get = get; put = 0; rec = blank } ≡ turnAt (judgeIn (x .fed .state)) (x .at) bytes
@@ -121,13 +121,13 @@ module _ (w : RowWeight) (s : PieceState) (j : Judge) (ej : j ≡ judgeIn s) whe
       state = λ f. absurd (f e);
     })
 
-    pub closed-refused : (m ≡ 0 → ⊥) → (place : ℕ) → place ≡ placeOf m → (x : Answer) → x ≡ wordAnswer (answerBy (Bad m place)) → r ≡ record { answer = x; state = s } → ClosedIs w s r
+    pub closed-refused : (m ≡ 0 → ⊥) → (place : ℕ) → place ≡ placeOf m → (x : Answer) → x ≡ wordAnswer (answerBy (Reject m place)) → r ≡ record { answer = x; state = s } → ClosedIs w s r
     closed-refused f place ep x ex q = rw q (record {
       number = m;
       says = number-is;
       answer = λ y rs. absurd (f y);
       next = λ y. absurd (f y);
-      refused = λ g. ex ∙ ap (λ (u : ℕ). wordAnswer (answerBy (Bad m u))) ep;
+      refused = λ g. ex ∙ ap (λ (u : ℕ). wordAnswer (answerBy (Reject m u))) ep;
       state = λ g. refl;
     })
 

@@ -16,7 +16,7 @@ use Rattle.b3d_pieces_state.specs.declared.PieceState.{PieceState}
 use Rattle.b3d_pieces_state.specs.declared.PieceFed.{PieceFed}
 use Rattle.b3d_pieces_state.specs.Records.{openIn}
 use Rattle.b3d_pieces_state.specs.States.{judgeIn, stateOf}
-use Rattle.b3d_pieces_answers.specs.declared.Closing.the-variants.{Bad}
+use Rattle.b3d_pieces_answers.specs.declared.Closing.the-variants.{Reject}
 use Rattle.b3d_pieces_answers.specs.Closes.{closingOf, answerBy, wordAnswer}
 use Rattle.b3d_pieces_words.specs.Called.{Holding, shutting}
 use Rattle.b3d_pieces_records_tests.specs.declared.RowWeight.{RowWeight}
@@ -43,7 +43,7 @@ numbers = record { judge = judgeIn; count = length; at = opensIn }
 -- ---- the first round
 
 -- the promise of the first round r over a piece of this many bytes, after those that x took at once
-pub record FirstIs (x : AtOnce) (bytes : ℕ) (r : Round) : Type 0 where
+pub record FirstRoundIs (x : AtOnce) (bytes : ℕ) (r : Round) : Type 0 where
   -- the turn is at the bytes that are left
   pub turn : r .turn ≡ turnAt (judgeIn (x .fed .state)) (x .at) bytes
   -- another round follows if bytes are left
@@ -65,17 +65,17 @@ pub record TurnReady (t : Round) (rec : OpenRecord) (p : List ℕ) : Type 0 wher
   pub more : t .turn .at < t .turn .end
 
 -- what a turn did
-pub data Turned (t : Round) (rec : OpenRecord) (p : List ℕ) (r : Round) : Type 0 where
+pub data TurnDid (t : Round) (rec : OpenRecord) (p : List ℕ) (r : Round) : Type 0 where
   -- all bytes left were taken at once, and the record goes back as it was
-  ended : PassIs (t .turn) p (r .turn) → r .turn .end ≤ r .turn .at → r .put ≡ t .get → r .rec ≡ rec → Turned t rec p r
+  ended : PassIs (t .turn) p (r .turn) → r .turn .end ≤ r .turn .at → r .put ≡ t .get → r .rec ≡ rec → TurnDid t rec p r
   -- bytes were taken at once up to the turn y, then a step was made at the byte y .at
   stepped : (y : Turn) → PassIs (t .turn) p y → y .at < y .end → StepIs y (openIn rec) (getD p (y .at) 0) (r .turn) → r .put ≡ r .turn .put → openIn (r .rec) ≡ r .turn .rec
-      → Turned t rec p r
+      → TurnDid t rec p r
 
 -- the promise of a round r that is a turn
 pub record TurnedIs (t : Round) (rec : OpenRecord) (p : List ℕ) (r : Round) : Type 0 where
   -- what the turn did
-  pub is : Turned t rec p r
+  pub is : TurnDid t rec p r
   -- another round follows if bytes are left
   pub go : r .go ≡ ltb (r .turn .at) (r .turn .end)
   -- the record to read is the turn's
@@ -110,6 +110,6 @@ pub record ClosedIs (w : RowWeight) (s : PieceState) (r : PieceClosed) : Type 0 
   -- on 0 the file is closed
   pub next : number ≡ 0 → r .state ≡ stateOf (shutting (judgeIn s))
   -- on a refusal it has only the number and the place
-  pub refused : (number ≡ 0 → ⊥) → r .answer ≡ wordAnswer (answerBy (Bad number (placeOf number)))
+  pub refused : (number ≡ 0 → ⊥) → r .answer ≡ wordAnswer (answerBy (Reject number (placeOf number)))
   -- on a refusal the state is as it was
   pub state : (number ≡ 0 → ⊥) → r .state ≡ s

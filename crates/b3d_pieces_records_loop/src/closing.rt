@@ -1,8 +1,8 @@
 // What the close answers after the records were weighed.
 ghost use Rattle.b3d_pieces_records_loop.specs.Rounds.{CloseReady, ClosedIs};
 use crate::PieceClosed;
-use b3d_pieces_answers::answer_of;
-use b3d_pieces_answers::joined;
+use b3d_pieces_answers::closing_answer;
+use b3d_pieces_answers::closing_of;
 use b3d_pieces_answers::refused;
 use b3d_pieces_records_tests::RowWeight;
 use b3d_pieces_records_tests::first_number;
@@ -19,8 +19,8 @@ pub fn closed(w: RowWeight, state: PieceState) -> PieceClosed
     let j = judge_of(state);
     let number = first_number(w, j);
     if number == 0 {
-        let verdict = joined(j);
-        let answer = answer_of(verdict);
+        let verdict = closing_of(j);
+        let answer = closing_answer(verdict);
         let mut shut = j;
         shut.shut = true;
         let state = state_of(shut);

@@ -1,7 +1,5 @@
 // The first round, the next, and what a piece answers after the last.
-ghost use mathlib.Core.Path.{_≡_};
-ghost use Rattle.b3d_pieces_state.specs.States.{stateOf};
-ghost use Rattle.b3d_pieces_records_loop.specs.Rounds.{FirstIs, TurnReady, TurnedIs, LastIs};
+ghost use Rattle.b3d_pieces_records_loop.specs.Rounds.{FirstRoundIs, TurnReady, TurnedIs, LastIs};
 use crate::Round;
 use b3d_pieces_at_once::AtOnce;
 use b3d_pieces_header_steps::fresh;
@@ -19,7 +17,7 @@ use b3d_spec::Tag;
 
 // Returns the first round over a piece of `bytes` bytes, after those that `x` took at once.
 pub fn first(x: AtOnce, bytes: usize) -> Round
-    ensures { λ r. ⌜ FirstIs x bytes r ⌝ }
+    ensures { λ r. ⌜ FirstRoundIs x bytes r ⌝ }
 {
     let fed = x.fed;
     let state = fed.state;

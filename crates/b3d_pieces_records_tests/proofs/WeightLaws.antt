@@ -1,5 +1,5 @@
 -- The laws of a row's weight, in the words of the code.
-use mathlib.Core.Path.{_≡_, refl, ap, sym, subst, _∙_}
+use mathlib.Core.Path.{_≡_, refl, sym, subst, _∙_}
 use Prim.Native.Nat.{ℕ, _+_, _<_, _≤_}
 use native.Mathlib.Omega.{arith}
 use mathlib.Core.Bool.{Bool, true, false, false≢true, true≢false}
@@ -12,13 +12,13 @@ use Rattle.b3d_pieces_judge_step.specs.declared.Judge.{Judge}
 use Rattle.b3d_pieces_judge_step.specs.Runs.{CanRun}
 use Rattle.b3d_pieces_valid_record.specs.Tests.{Weighs, OpenFits}
 use Rattle.b3d_pieces_valid_state.specs.Entry.{RowFits, StateTests}
-use Rattle.b3d_pieces_valid_state.proofs.Testing.{Loaded, loaded-none, loaded-over, loaded-next, loaded-all}
+use Rattle.b3d_pieces_valid_state.proofs.RowTestLaws.{Loaded, loaded-none, loaded-over, loaded-next, loaded-all}
 use Rattle.b3d_pieces_state.specs.declared.OpenRecord.{OpenRecord}
 use Rattle.b3d_pieces_state.specs.declared.PieceState.{PieceState}
 use Rattle.b3d_pieces_state.specs.Records.{openIn}
 use Rattle.b3d_pieces_state.specs.States.{judgeIn}
 use Rattle.b3d_pieces_records_tests.specs.declared.RowWeight.{RowWeight}
-use Rattle.b3d_pieces_records_tests.specs.Weights.{resting, Weighed, FirstWeighs, WeighReady, WeighIs, Numbered, NumberIs, placeOf}
+use Rattle.b3d_pieces_records_tests.specs.Weights.{resting, Weighed, FirstWeighs, WeighReady, WeighIs, NumberIs, placeOf}
 
 pub state-depth : (s : PieceState) → judgeIn s .depth ≡ s .depth
 unfolding judgeIn

@@ -1,2 +1,2 @@
-pub mod Lens
+pub mod RowLengthLaws
 pub mod FaultLaws

@@ -26,7 +26,7 @@ const SET_SIZE: usize = b3d_spec::LARGEST_SET as usize;
 const KEY_FLAGS: usize = b3d_spec::HIGHEST_KEY_FLAGS as usize;
 
 // Returns 0 if `w` is at most `m`, else 6.
-pub fn up_to(m: usize, w: usize) -> u32
+fn up_to(m: usize, w: usize) -> u32
     ensures { λ r. ⌜ r ≡ faultOf (upTo m) w ⌝ }
 {
     if w <= m {
@@ -36,7 +36,7 @@ pub fn up_to(m: usize, w: usize) -> u32
 }
 
 // Returns 0 if the id `w` is below `n`, else 7.
-pub fn name(n: usize, w: usize) -> u32
+fn name(n: usize, w: usize) -> u32
     ensures { λ r. ⌜ r ≡ faultOf (names n) w ⌝ }
 {
     if w < n {
@@ -59,7 +59,7 @@ pub fn name_or_none(n: usize, w: usize) -> u32
 }
 
 // Returns the refusal of number `i`, which is `w`, of a row with one number that is at most `m`; else 0.
-pub fn head_fault(m: usize, i: usize, w: usize) -> u32
+fn head_fault(m: usize, i: usize, w: usize) -> u32
     ensures { λ r. ⌜ r ≡ faultIn (upTo m ∷ []) i w ⌝ }
 {
     if i == 0 {
@@ -69,7 +69,7 @@ pub fn head_fault(m: usize, i: usize, w: usize) -> u32
 }
 
 // Returns the refusal of number `i`, which is `w`, of a row with one brush id, where there are `n` brushes; else 0.
-pub fn brush_fault(n: usize, i: usize, w: usize) -> u32
+fn brush_fault(n: usize, i: usize, w: usize) -> u32
     ensures { λ r. ⌜ r ≡ faultIn (namesOrNone n ∷ []) i w ⌝ }
 {
     if i == 0 {
@@ -79,7 +79,7 @@ pub fn brush_fault(n: usize, i: usize, w: usize) -> u32
 }
 
 // Returns the refusal of number `i`, which is `w`, of the fixed data of a VRTS: flags, sets, set size; else 0.
-pub fn vertices_fault(i: usize, w: usize) -> u32
+fn vertices_fault(i: usize, w: usize) -> u32
     ensures { λ r. ⌜ r ≡ faultIn verticesHead i w ⌝ }
 {
     if i == 0 {
@@ -95,7 +95,7 @@ pub fn vertices_fault(i: usize, w: usize) -> u32
 }
 
 // Returns the refusal of number `i`, which is `w`, of the fixed data of a chunk of tag `tag`; else 0.
-pub fn fixed_fault(tag: Tag, g: Totals, i: usize, w: usize) -> u32
+fn fixed_fault(tag: Tag, g: Totals, i: usize, w: usize) -> u32
     ensures { λ r. ⌜ r ≡ fixedFault tag g i w ⌝ }
 {
     match tag {
@@ -123,7 +123,7 @@ pub fn colour(w: usize) -> u32
 
 // Returns the refusal of number `i`, which is `w`, of a brush: four colours, three other numbers, then `slots` texture ids, where there are `n` textures;
 // else 0.
-pub fn slot_fault(slots: usize, n: usize, i: usize, w: usize) -> u32
+fn slot_fault(slots: usize, n: usize, i: usize, w: usize) -> u32
     requires { ⌜ IsWord w ⌝ }
     ensures { λ r. ⌜ r ≡ slotFault slots n i w ⌝ }
 {
@@ -140,7 +140,7 @@ pub fn slot_fault(slots: usize, n: usize, i: usize, w: usize) -> u32
 }
 
 // Returns the refusal of number `i`, which is `w`, of a vertex with these `flags`: position and normal, four colours, the sets; else 0.
-pub fn vertex_fault(flags: usize, i: usize, w: usize) -> u32
+fn vertex_fault(flags: usize, i: usize, w: usize) -> u32
     requires { ⌜ IsWord w ⌝ }
     ensures { λ r. ⌜ VertexIs flags i w r ⌝ }
 {
@@ -155,7 +155,7 @@ pub fn vertex_fault(flags: usize, i: usize, w: usize) -> u32
 }
 
 // Returns the refusal of number `i`, which is `w`, of a row whose first `count` numbers are ids below `n`; else 0.
-pub fn ids_fault(count: usize, n: usize, i: usize, w: usize) -> u32
+fn ids_fault(count: usize, n: usize, i: usize, w: usize) -> u32
     ensures { λ r. ⌜ IdsAre count n i w r ⌝ }
 {
     if i < count {
@@ -176,7 +176,7 @@ pub fn bone_vertices(g: Totals) -> usize
 }
 
 // Returns the refusal of number `i`, which is `w`, of an item of a chunk of tag `tag` with the fixed data `k`, or of a header inside it; else 0.
-pub fn inner_fault(tag: Tag, k: Kept, g: Totals, i: usize, w: usize) -> u32
+fn inner_fault(tag: Tag, k: Kept, g: Totals, i: usize, w: usize) -> u32
     requires { ⌜ IsWord w ⌝ }
     ensures { λ r. ⌜ r ≡ innerFault tag k g i w ⌝ }
 {

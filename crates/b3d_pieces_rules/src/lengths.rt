@@ -27,7 +27,7 @@ pub fn fixed_len(tag: Tag, g: Totals) -> usize
 }
 
 // Returns how many numbers a vertex has, by the flags, sets and set size in `k`.
-pub fn vertex_len(k: Kept) -> usize
+fn vertex_len(k: Kept) -> usize
     requires { ⌜ Words k ⌝ }
     ensures { λ r. ⌜ r ≡ vertexWords (k .first) (k .second) (k .third) ⌝ }
 {

@@ -12,9 +12,9 @@ use Rattle.b3d_pieces_spec.specs.declared.Part.{Part}
 use Rattle.b3d_pieces_spec.specs.declared.Part.the-variants.{Text, Row, Skip}
 use Rattle.b3d_pieces_spec.specs.Machine.{State, live, over, counting, step, run}
 use Rattle.b3d_pieces_spec.specs.Close.{inside, Held, wholeByte, piece}
-use Rattle.b3d_pieces_spec.specs.Good.{Words, worth, Off, Fits, sum}
-use Rattle.b3d_pieces_spec.proofs.Runs.{run-fault}
-use Rattle.b3d_pieces_spec.proofs.Whole.{piece-append}
+use Rattle.b3d_pieces_spec.specs.Good.{Words, worth, Off, OpenChunksFit, sum}
+use Rattle.b3d_pieces_spec.proofs.RunLaws.{run-fault}
+use Rattle.b3d_pieces_spec.proofs.WholeFileLaws.{piece-append}
 use Rattle.b3d_pieces_item_steps.specs.declared.Now.{Now}
 use Rattle.b3d_pieces_item_steps.specs.declared.Now.the-variants.{Live, Push, Pop, Fault, Over}
 use Rattle.b3d_pieces_item_steps.specs.Nows.{stateWith, GoodNow}
@@ -28,7 +28,7 @@ use Rattle.b3d_pieces_judge_step.proofs.RunLaws.{Running}
 use Rattle.b3d_pieces_skip_numbers.specs.declared.RowPlace.{RowPlace}
 use Rattle.b3d_pieces_skip_numbers.specs.declared.RowRules.{RowRules}
 use Rattle.b3d_pieces_skip_numbers.specs.Places.{RulesAre, rowAt, Sound, Advanced}
-use Rattle.b3d_pieces_skip_lengths.specs.Ahead.{Before, UntilZero, RoomIs}
+use Rattle.b3d_pieces_skip_lengths.specs.Ahead.{BytesBefore, UntilZero, RoomIs}
 use Rattle.b3d_pieces_skip.specs.Passes.{movedTo, LiveFine, PassReady, PassFrom, PassIs}
 use Rattle.b3d_pieces_skip.proofs.PartLaws.{skip-run, text-run}
 
@@ -118,28 +118,28 @@ none-taken a n p st e = let z : a + n ≡ a = omega arith in ap (λ (m : ℕ). r
 -- n bytes are taken from `Live at m g f`
 module _ (t : Turn) (p : List ℕ) (n at : ℕ) (m : Part) (g : Totals) (f : Open) (h : PassFrom t p n at m g f) where
   pub moves : (k : ℕ) (y : ℕ) (m′ : Part) (f′ : Open) → k ≤ n → ((R : List Open) → run (live at m g f R) (slice (t .at) (t .at + k) p) ≡ live y m′ g f′ R)
-      → ((R : List Open) → Fits at g (f ∷ R) → Fits y g (f′ ∷ R)) → Off m′ y (t .judge .size + k) → (r : Turn) → r ≡ movedTo t (Live y m′ g f′) k → PassIs t p r
+      → ((R : List Open) → OpenChunksFit at g (f ∷ R) → OpenChunksFit y g (f′ ∷ R)) → Off m′ y (t .judge .size + k) → (r : Turn) → r ≡ movedTo t (Live y m′ g f′) k → PassIs t p r
   moves k y m′ f′ l e fits off r q =
       let e₁ = h .end in
       let e₂ = h .room in
       let e₃ = h .file in
       rw q (pass-moved t p k (Live y m′ g f′) e₁ (omega arith) (h .body) (omega arith) (ap pends (h .now)) refl
       (λ R. ap (λ (x : Now). run (stateWith R x) (slice (t .at) (t .at + k) p)) (h .now) ∙ e R)
-      (λ R d. let b : Fits at g (f ∷ R) × Off m at (t .judge .size) = subst (λ (x : Now). GoodNow (t .judge .size) R x) (h .now) d in (fits R (b .0), off)))
+      (λ R d. let b : OpenChunksFit at g (f ∷ R) × Off m at (t .judge .size) = subst (λ (x : Now). GoodNow (t .judge .size) R x) (h .now) d in (fits R (b .0), off)))
 
   pub from-part : (m′ : Part) → m ≡ m′ → PassFrom t p n at m′ g f
   from-part m′ e = subst (λ (x : Part). PassFrom t p n at x g f) e h
 
-fits-on : (at y : ℕ) (g : Totals) (R : List Open) → at ≤ y → Fits at g R → Fits y g R
+fits-on : (at y : ℕ) (g : Totals) (R : List Open) → at ≤ y → OpenChunksFit at g R → OpenChunksFit y g R
 fits-on at y g R l d = let s = d .1 in (d .0, omega arith)
 
 module _ (t : Turn) (p : List ℕ) (n at : ℕ) (g : Totals) (f : Open) (r : Turn) where
-  pub skip-moves : (until : ℕ) → PassFrom t p n at (Skip until) g f → (k : ℕ) → Before at until n k → r ≡ movedTo t (Live (at + k) (Skip until) g f) k → PassIs t p r
+  pub skip-moves : (until : ℕ) → PassFrom t p n at (Skip until) g f → (k : ℕ) → BytesBefore at until n k → r ≡ movedTo t (Live (at + k) (Skip until) g f) k → PassIs t p r
   skip-moves until h k b q =
       let e = h .off in
       moves t p n at (Skip until) g f h k (at + k) (Skip until) f (b .most) (runs k b) (λ R. fits-on at (at + k) g (f ∷ R) (omega arith)) (omega arith) r q
     where
-      runs : (k : ℕ) → Before at until n k → (R : List Open) → run (live at (Skip until) g f R) (slice (t .at) (t .at + k) p) ≡ live (at + k) (Skip until) g f R
+      runs : (k : ℕ) → BytesBefore at until n k → (R : List Open) → run (live at (Skip until) g f R) (slice (t .at) (t .at + k) p) ≡ live (at + k) (Skip until) g f R
       runs zero b R = none-taken (t .at) 0 p (live at (Skip until) g f R) refl ∙ ap (λ (y : ℕ). live y (Skip until) g f R) (let z : at ≡ at + 0 = omega arith in z)
       runs (suc k) b R =
           let e₁ = h .end in
@@ -149,7 +149,7 @@ module _ (t : Turn) (p : List ℕ) (n at : ℕ) (g : Totals) (f : Open) (r : Tur
           let l : length (slice (t .at) (t .at + suc k) p) ≡ suc k = length-slice (t .at) (t .at + suc k) p (omega arith) ∙ omega arith in
           skip-run g f R until at (slice (t .at) (t .at + suc k) p) (omega arith) ∙ ap (λ (y : ℕ). live (at + y) (Skip until) g f R) l
 
-  pub text-moves : (fixed : Bool) (start : ℕ) → PassFrom t p n at (Text fixed start) g f → (most : ℕ) → Before at (f .end) n most → (to : ℕ) → UntilZero p (t .at) (t .at + most) to
+  pub text-moves : (fixed : Bool) (start : ℕ) → PassFrom t p n at (Text fixed start) g f → (most : ℕ) → BytesBefore at (f .end) n most → (to : ℕ) → UntilZero p (t .at) (t .at + most) to
       → r ≡ movedTo t (Live (at + (to - t .at)) (Text fixed start) g f) (to - t .at) → PassIs t p r
   text-moves fixed start h most b to z q =
       let e = h .off in

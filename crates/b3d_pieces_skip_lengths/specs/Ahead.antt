@@ -6,7 +6,7 @@ use lib.ListN.{getD}
 use Rattle.b3d_pieces_spec.specs.Limits.{mostCounted}
 
 -- r of at most n bytes from `at` on
-pub record Before (at end n r : ℕ) : Type 0 where
+pub record BytesBefore (at end n r : ℕ) : Type 0 where
   -- r is at most n
   pub most : r ≤ n
   -- if r is not 0, the place after these bytes is before the end

@@ -2,7 +2,7 @@
 // zero.
 ghost use Prim.Native.Nat.{_≤_};
 ghost use lib.ListN.{length};
-ghost use Rattle.b3d_pieces_skip_lengths.specs.Ahead.{RoomIs, Before, UntilZero};
+ghost use Rattle.b3d_pieces_skip_lengths.specs.Ahead.{RoomIs, BytesBefore, UntilZero};
 use b3d_pieces_item_steps::between::less;
 use b3d_pieces_skip_numbers::numbers::lower;
 use b3d_pieces_spec::MOST_COUNTED;
@@ -22,7 +22,7 @@ pub fn room(size: usize, left: usize) -> usize
 
 // Returns how many of the `n` bytes from `at` on may be taken so that at least one byte before `end` is left; 0 if `end` is not past `at`.
 pub fn before(at: usize, end: usize, n: usize) -> usize
-    ensures { λ r. ⌜ Before at end n r ⌝ }
+    ensures { λ r. ⌜ BytesBefore at end n r ⌝ }
 {
     let left = less(end, at);
     if left == 0 {

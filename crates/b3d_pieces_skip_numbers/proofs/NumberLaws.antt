@@ -17,21 +17,21 @@ use Rattle.b3d_pieces_spec.specs.declared.Part.the-variants.{Row}
 use Rattle.b3d_pieces_spec.specs.Bodies.{noneKept, keep}
 use Rattle.b3d_pieces_spec.specs.Machine.{State, live, counting, wordDone, rowByte, byteIn, step, run}
 use Rattle.b3d_pieces_spec.specs.Good.{Words, worth}
-use Rattle.b3d_pieces_spec.proofs.Runs.{run-append}
-use Rattle.b3d_pieces_spec.proofs.Depth.{none-words}
+use Rattle.b3d_pieces_spec.proofs.RunLaws.{run-append}
+use Rattle.b3d_pieces_spec.proofs.DepthLaws.{none-words}
 use Rattle.b3d_pieces_item_steps.specs.declared.Now.the-variants.{Live}
-use Rattle.b3d_pieces_item_steps.proofs.Edges.{begin-row, edge-stays}
-use Rattle.b3d_pieces_byte_steps.specs.Bytes.{gathers, Adds}
+use Rattle.b3d_pieces_item_steps.proofs.EdgeLaws.{begin-row, edge-stays}
+use Rattle.b3d_pieces_byte_steps.specs.Bytes.{gathers, AddsByte}
 use Rattle.b3d_pieces_byte_steps.proofs.ByteLaws.{byte-goes}
 use Rattle.b3d_pieces_byte_steps.proofs.RowLaws.{done-item, from-end, from-on, word-on, keep-are-words}
 use Rattle.b3d_pieces_skip_numbers.specs.declared.RowPlace.{RowPlace}
-use Rattle.b3d_pieces_skip_numbers.specs.declared.Judged.{Judged}
+use Rattle.b3d_pieces_skip_numbers.specs.declared.JudgedNumbers.{JudgedNumbers}
 use Rattle.b3d_pieces_skip_numbers.specs.declared.RowRules.{RowRules}
 use Rattle.b3d_pieces_skip_numbers.specs.Places.{Plain, RulesAre, KeepsIs, rowAt, Sound, Advanced, NumberReady, NumberIs, stays, goes, Gathered}
 
 -- ---- a rule
 
-module _ (q : Judged) (i w : ℕ) (r : Bool) where
+module _ (q : JudgedNumbers) (i w : ℕ) (r : Bool) where
   pub keeps-below : i < q .first → r ≡ true → KeepsIs q i w r
   keeps-below h e = record { is = λ y l fixed t k g d. d .below i w h }
 
@@ -290,7 +290,7 @@ module _ (p : List ℕ) (last : ℕ) (x : RowPlace) (stop : ℕ) where
     pub gathering-most : acc < 16777216
     gathering-most = i .gathered .sound .most
 
-    pub gathering-next : from < stop → (v : ℕ) → Adds j acc (getD p from 0) v → Gathering p last x stop (from + 1) (j + 1) v
+    pub gathering-next : from < stop → (v : ℕ) → AddsByte j acc (getD p from 0) v → Gathering p last x stop (from + 1) (j + 1) v
     gathering-next h v a =
         let l = i .len in
         let w = i .within in

@@ -18,13 +18,13 @@ use Rattle.b3d_pieces_spec.specs.Good.{Words, worth}
 use Rattle.b3d_pieces_spec.specs.Limits.{mostCounted}
 use Rattle.b3d_pieces_rules.specs.Faults.{rowFault}
 use Rattle.b3d_pieces_skip_numbers.specs.declared.RowPlace.{RowPlace}
-use Rattle.b3d_pieces_skip_numbers.specs.declared.Judged.{Judged}
+use Rattle.b3d_pieces_skip_numbers.specs.declared.JudgedNumbers.{JudgedNumbers}
 use Rattle.b3d_pieces_skip_numbers.specs.declared.RowRules.{RowRules}
 
 -- ---- the row's rules
 
 -- q says which numbers w, by their index i, can break their rule in a row of a chunk of tag t with the fixed data k and the totals g
-pub record JudgedIs (q : Judged) (fixed : Bool) (t : Tag) (k : Kept) (g : Totals) : Type 0 where
+pub record JudgedIs (q : JudgedNumbers) (fixed : Bool) (t : Tag) (k : Kept) (g : Totals) : Type 0 where
   -- every number before index `first` keeps its rule
   pub below : (i w : ℕ) → i < q .first → 0 ≡ rowFault fixed t k g i w
   -- every number from index `past` on keeps its rule, as far as a file has room for them
@@ -55,7 +55,7 @@ pub record RulesAre (q : RowRules) (fixed : Bool) (g : Totals) (f : Open) : Type
   pub end : q .end ≡ f .end
 
 -- if r is true, number i of a row keeps its rule with w
-pub record KeepsIs (q : Judged) (i w : ℕ) (r : Bool) : Type 0 where
+pub record KeepsIs (q : JudgedNumbers) (i w : ℕ) (r : Bool) : Type 0 where
   -- in every row of which q is right
   pub is : r ≡ true → i ≤ mostCounted → (fixed : Bool) (t : Tag) (k : Kept) (g : Totals) → JudgedIs q fixed t k g → 0 ≡ rowFault fixed t k g i w
 

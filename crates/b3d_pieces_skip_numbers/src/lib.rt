@@ -18,7 +18,7 @@ pub struct RowPlace {
 }
 
 // Which numbers of a row are judged: those from index `first` up to, not including, `past`. They are colours if `colour` is set, else ids below `names`.
-pub struct Judged {
+pub struct JudgedNumbers {
     pub first: usize,
     pub past: usize,
     pub colour: bool,
@@ -29,7 +29,7 @@ pub struct Judged {
 // the chunk's end.
 pub struct RowRules {
     pub long: usize,
-    pub judged: Judged,
+    pub judged: JudgedNumbers,
     pub again: bool,
     pub end: usize,
 }

@@ -5,7 +5,7 @@ ghost use Prim.Native.Nat.{_+_, _-_, _<_, _≤_};
 ghost use lib.ListN.{length, getD};
 ghost use Rattle.wire.specs.Bytes.{IsWord};
 ghost use Rattle.b3d_pieces_skip_numbers.specs.Places.{KeepsIs, Sound, Advanced, NumberReady, NumberIs, Gathered};
-use crate::Judged;
+use crate::JudgedNumbers;
 use crate::RowPlace;
 use crate::RowRules;
 use b3d_pieces_byte_steps::bytes::gathered;
@@ -17,7 +17,7 @@ use wire::number_at;
 use wire::size;
 
 // Returns whether `w` as number `i` of a row keeps its rule. May return false where the rule is kept: then the machine judges it.
-fn keeps(q: Judged, i: usize, w: usize) -> bool
+fn keeps(q: JudgedNumbers, i: usize, w: usize) -> bool
     requires { ⌜ IsWord w ⌝ }
     ensures { λ r. ⌜ KeepsIs q i w r ⌝ }
 {

@@ -11,16 +11,16 @@ use lib.Dec.{eqb, ltb, ltb→lt, nltb→le}
 use borrow.Author.Tests.{le-ltb}
 use Rattle.wire.specs.Test.{if}
 use Rattle.wire.specs.Bytes.{word}
-use Rattle.layout.proofs.Outs.{if-yes, by-test}
+use Rattle.layout.proofs.ResultLaws.{if-yes, by-test}
 use Rattle.b3d_pieces_spec.specs.declared.Totals.{Totals}
 use Rattle.b3d_pieces_spec.specs.declared.Kept.{Kept}
 use Rattle.b3d_pieces_spec.specs.declared.Open.{Open}
 use Rattle.b3d_pieces_spec.specs.declared.Part.the-variants.{Row}
 use Rattle.b3d_pieces_spec.specs.Bodies.{ruleAt, noneKept, keep}
 use Rattle.b3d_pieces_spec.specs.Machine.{State, live, rules, counting, begin, rowFrom, rowDone, innerDone, wordDone, rowByte, byteIn, step, run}
-use Rattle.b3d_pieces_spec.proofs.Runs.{run-append, eqb-yes, row-on}
-use Rattle.b3d_pieces_spec.proofs.Items.{edge-on}
-use Rattle.b3d_pieces_spec.proofs.Depth.{none-words}
+use Rattle.b3d_pieces_spec.proofs.RunLaws.{run-append, eqb-yes, row-on}
+use Rattle.b3d_pieces_spec.proofs.ItemRunLaws.{edge-on}
+use Rattle.b3d_pieces_spec.proofs.DepthLaws.{none-words}
 use Rattle.b3d_pieces_rules.specs.Faults.{faultIn, rowFault}
 use Rattle.b3d_pieces_byte_steps.proofs.RowLaws.{fault-0}
 use Rattle.b3d_pieces_skip_numbers.specs.declared.RowPlace.{RowPlace}

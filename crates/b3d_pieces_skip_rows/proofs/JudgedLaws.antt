@@ -17,7 +17,7 @@ use Rattle.b3d_pieces_spec.specs.declared.Open.{Open}
 use Rattle.b3d_pieces_spec.specs.Bodies.{above, rulesOf, nests, textItems}
 use Rattle.b3d_pieces_rules.specs.Faults.{innerFault, rowFault}
 use Rattle.b3d_pieces_rules.proofs.FaultLaws.{name-yes, colour-yes, ids-valid, ids-past, vertex-low, vertex-colour, vertex-later, fixedFree, fixed-free, innerFree, inner-free, inner-vrts, inner-tris, inner-bone, row-fixed, row-inner}
-use Rattle.b3d_pieces_skip_numbers.specs.declared.Judged.{Judged}
+use Rattle.b3d_pieces_skip_numbers.specs.declared.JudgedNumbers.{JudgedNumbers}
 use Rattle.b3d_pieces_skip_numbers.specs.declared.RowRules.{RowRules}
 use Rattle.b3d_pieces_skip_numbers.specs.Places.{JudgedIs, RulesAre}
 use Rattle.b3d_pieces_skip_rows.specs.Items.{idsOf, AnyRow, FixedIs, AgainIs}
@@ -26,7 +26,7 @@ use Rattle.b3d_pieces_skip_rows.specs.Items.{idsOf, AnyRow, FixedIs, Aga
 differ : {B : Type 0} → true ≡ false → B
 differ e = let z : _≡_ {A = ℕ} 0 1 = cc in absurd (omega arith)
 
-pub every-row : (q : Judged) → q ≡ record { first = 0; past = 4294967295; colour = false; names = 0 } → AnyRow q
+pub every-row : (q : JudgedNumbers) → q ≡ record { first = 0; past = 4294967295; colour = false; names = 0 } → AnyRow q
 every-row q e = rw e (record {
   is = λ fixed t k g. record {
     below = λ i w h. absurd (omega arith);
@@ -37,10 +37,10 @@ every-row q e = rw e (record {
 })
 
 -- no number is judged
-free : (q : Judged) (fixed : Bool) (t : Tag) (k : Kept) (g : Totals) → q ≡ idsOf 0 0 → ((i w : ℕ) → 0 ≡ rowFault fixed t k g i w) → JudgedIs q fixed t k g
+free : (q : JudgedNumbers) (fixed : Bool) (t : Tag) (k : Kept) (g : Totals) → q ≡ idsOf 0 0 → ((i w : ℕ) → 0 ≡ rowFault fixed t k g i w) → JudgedIs q fixed t k g
 free q fixed t k g e h = rw e (record { below = λ i w l. h i w; above = λ i w l m. h i w; colours = λ c. differ (sym c); ids = λ c i w a b l. h i w })
 
-module _ (t : Tag) (q : Judged) where
+module _ (t : Tag) (q : JudgedNumbers) where
   fixed-none : (u : Tag) → OneOf fixedFree (tagOf the-type u) → t ≡ u → q ≡ idsOf 0 0 → FixedIs t q
   fixed-none u o et e = rw et (record { is = λ k g. free q true u k g e (λ i w. row-fixed k g i w 0 u true refl (fixed-free u o g i w 0 refl)) })
 
@@ -55,7 +55,7 @@ module _ (t : Tag) (q : Judged) where
 
 pub ruleset fixed-laws = (fixed-node, fixed-anim, fixed-every)
 
-module _ (t : Tag) (k : Kept) (g : Totals) (q : Judged) where
+module _ (t : Tag) (k : Kept) (g : Totals) (q : JudgedNumbers) where
   pub inner-none : OneOf innerFree (tagOf the-type t) → q ≡ idsOf 0 0 → JudgedIs q false t k g
   inner-none o e = free q false t k g e (λ i w. row-inner k g i w 0 t false refl (inner-free t o k g i w 0 refl))
 
@@ -109,7 +109,7 @@ pub ruleset again-laws = (again-not, again-rows)
 
 -- ---- both
 
-module _ (fixed : Bool) (t : Tag) (k : Kept) (g : Totals) (q : Judged) where
+module _ (fixed : Bool) (t : Tag) (k : Kept) (g : Totals) (q : JudgedNumbers) where
   pub judged-fixed : fixed ≡ true → FixedIs t q → JudgedIs q fixed t k g
   judged-fixed e h = rw e (h .is k g)
 
@@ -118,6 +118,6 @@ module _ (fixed : Bool) (t : Tag) (k : Kept) (g : Totals) (q : Judged) where
 
 pub ruleset judged-laws = (judged-fixed, judged-inner)
 
-pub rules-are : (fixed : Bool) (g : Totals) (f : Open) (n : ℕ) → n ≡ length (rulesOf fixed (f .tag) (f .kept) g) → (q : Judged) → JudgedIs q fixed (f .tag) (f .kept) g → (b : Bool) → AgainIs fixed (f .tag) b
+pub rules-are : (fixed : Bool) (g : Totals) (f : Open) (n : ℕ) → n ≡ length (rulesOf fixed (f .tag) (f .kept) g) → (q : JudgedNumbers) → JudgedIs q fixed (f .tag) (f .kept) g → (b : Bool) → AgainIs fixed (f .tag) b
     → (r : RowRules) → r ≡ record { long = n; judged = q; again = b; end = f .end } → RulesAre r fixed g f
 rules-are fixed g f n en q eq b eb r e = rw e (record { long = en; judged = eq; again = eb .is; end = refl })

@@ -8,21 +8,21 @@ use Rattle.b3d_spec.specs.declared.Tag.{Tag}
 use Rattle.b3d_pieces_spec.specs.declared.Totals.{Totals}
 use Rattle.b3d_pieces_spec.specs.declared.Kept.{Kept}
 use Rattle.b3d_pieces_skip_numbers.specs.declared.RowPlace.{RowPlace}
-use Rattle.b3d_pieces_skip_numbers.specs.declared.Judged.{Judged}
+use Rattle.b3d_pieces_skip_numbers.specs.declared.JudgedNumbers.{JudgedNumbers}
 use Rattle.b3d_pieces_skip_numbers.specs.declared.RowRules.{RowRules}
 use Rattle.b3d_pieces_skip_numbers.specs.Places.{JudgedIs, Plain, Sound, Advanced}
 
 -- the first `past` numbers of a row are ids below `names`, the others are not judged
-abbrev pub idsOf : ℕ → ℕ → Judged
+abbrev pub idsOf : ℕ → ℕ → JudgedNumbers
 idsOf past names = record { first = 0; past = past; colour = false; names = names }
 
 -- what q says of a row is right for every chunk
-pub record AnyRow (q : Judged) : Type 0 where
+pub record AnyRow (q : JudgedNumbers) : Type 0 where
   -- whatever its tag, its fixed data and the totals
   pub is : (fixed : Bool) (t : Tag) (k : Kept) (g : Totals) → JudgedIs q fixed t k g
 
 -- what q says is right for the fixed data of a chunk of tag t
-pub record FixedIs (t : Tag) (q : Judged) : Type 0 where
+pub record FixedIs (t : Tag) (q : JudgedNumbers) : Type 0 where
   -- whatever its numbers and the totals
   pub is : (k : Kept) (g : Totals) → JudgedIs q true t k g
 

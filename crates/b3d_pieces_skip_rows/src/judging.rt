@@ -6,7 +6,7 @@ ghost use Rattle.b3d_pieces_skip_rows.specs.Items.{AnyRow, idsOf, FixedI
 ghost use mathlib.Core.Bool.{false as inside};
 use b3d_pieces_rules::faults::bone_vertices;
 use b3d_pieces_rules::lengths::row_len;
-use b3d_pieces_skip_numbers::Judged;
+use b3d_pieces_skip_numbers::JudgedNumbers;
 use b3d_pieces_skip_numbers::RowRules;
 use b3d_pieces_spec::Kept;
 use b3d_pieces_spec::Open;
@@ -14,10 +14,10 @@ use b3d_pieces_spec::Totals;
 use b3d_spec::Tag;
 
 // Returns that the first `past` numbers of a row are ids below `names`, and the others are not judged.
-fn ids(past: usize, names: usize) -> Judged
+fn ids(past: usize, names: usize) -> JudgedNumbers
     ensures { λ r. ⌜ r ≡ idsOf past names ⌝ }
 {
-    Judged {
+    JudgedNumbers {
         first: 0,
         past: past,
         colour: false,
@@ -26,14 +26,14 @@ fn ids(past: usize, names: usize) -> Judged
 }
 
 // Returns that every number is judged and none is right: such rows are left to the machine's own turns.
-fn every() -> Judged
+fn every() -> JudgedNumbers
     ensures { λ r. ⌜ AnyRow r ⌝ }
 {
     ids(4294967295, 0)
 }
 
 // Returns which numbers of the fixed data of a chunk of tag `tag` are judged: none of NODE and ANIM; the others are left to the machine's own turns.
-fn fixed_judged(tag: Tag) -> Judged
+fn fixed_judged(tag: Tag) -> JudgedNumbers
     ensures { λ r. ⌜ FixedIs tag r ⌝ }
 {
     match tag {
@@ -44,14 +44,14 @@ fn fixed_judged(tag: Tag) -> Judged
 }
 
 // Returns which numbers of an item of a chunk of tag `tag` with the fixed data `k` are judged, or of a header inside it.
-fn inner_judged(tag: Tag, k: Kept, g: Totals) -> Judged
+fn inner_judged(tag: Tag, k: Kept, g: Totals) -> JudgedNumbers
     ensures { λ r. ⌜ JudgedIs r inside tag k g ⌝ }
 {
     match tag {
         Tag::BRUS => every(),
         Tag::VRTS => {
             let first = 3 + k.first / 1 % 2 * 3;
-            Judged {
+            JudgedNumbers {
                 first: first,
                 past: first + k.first / 2 % 2 * 4,
                 colour: true,
@@ -81,7 +81,7 @@ fn again(fixed: bool, tag: Tag) -> bool
 }
 
 // Returns which numbers of a row are judged: of fixed data if `fixed` is set, else of an item or a header.
-fn judged(fixed: bool, tag: Tag, k: Kept, g: Totals) -> Judged
+fn judged(fixed: bool, tag: Tag, k: Kept, g: Totals) -> JudgedNumbers
     ensures { λ r. ⌜ JudgedIs r fixed tag k g ⌝ }
 {
     if fixed {

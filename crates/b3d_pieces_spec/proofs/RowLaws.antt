@@ -1,5 +1,5 @@
 -- A chunk put on top of the stack in a row is the one found there, and those below stay.
-use mathlib.Core.Path.{_≡_, refl, ap₂, _∙_}
+use mathlib.Core.Path.{_≡_, refl, _∙_}
 use Prim.Native.Nat.{ℕ, zero, suc, _+_, _*_, _<_, _≤_}
 use native.Mathlib.Omega.{arith}
 use mathlib.Core.Bool.{Bool, true, false}
@@ -13,7 +13,7 @@ use Rattle.b3d_spec.specs.declared.Tag.{Tag}
 use Rattle.b3d_spec.specs.declared.Tag.the-variants.{BB3D, TEXS, BRUS, NODE, MESH, VRTS, TRIS, BONE, KEYS, ANIM}
 use Rattle.b3d_pieces_spec.specs.declared.Open.{Open}
 use Rattle.b3d_spec.specs.Tags.{tagNumber}
-use Rattle.b3d_pieces_spec.specs.Row.{tagBy, flag, openWords, openOf, openAt, putOpen, stackOf}
+use Rattle.b3d_pieces_spec.specs.Row.{tagBy, flag, openWords, openOf, openAt, putOpen}
 
 -- ---- a run of stores
 
@@ -68,14 +68,6 @@ open-below row i j f h =
     let w = openWords f in
     let x : (q : ℕ) → q < b → getD (sets row b w) q 0 ≡ getD row q 0 = λ q l. sets-below w row b q l in
     rw (x p (omega arith), x (p + 1) (omega arith), x (p + 2) (omega arith), x (p + 3) (omega arith), x (p + 4) (omega arith), x (p + 5) (omega arith), x (p + 6) (omega arith), x (p + 7) (omega arith), x (p + 8) (omega arith), x (p + 9) (omega arith), x (p + 10) (omega arith))
-
-stack-below : (row : List ℕ) (i n : ℕ) (f : Open) → n ≤ i → stackOf (putOpen row i f) n ≡ stackOf row n
-stack-below row i zero f h = refl
-stack-below row i (suc n) f h = ap₂ _∷_ (open-below row i n f h) (stack-below row i n f (omega arith))
-
--- the push of the code is the push of the list
-pub stack-put : (row : List ℕ) (n : ℕ) (f : Open) → n * 11 + 11 ≤ length row → stackOf (putOpen row n f) (suc n) ≡ f ∷ stackOf row n
-stack-put row n f h = ap₂ _∷_ (open-put row n f h) (stack-below row n n f (omega arith))
 
 pub put-length : (row : List ℕ) (n : ℕ) (f : Open) → length (putOpen row n f) ≡ length row
 unfolding putOpen

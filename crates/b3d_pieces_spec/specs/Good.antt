@@ -77,8 +77,8 @@ load [] = 0
 load (f ∷ R) = f .count + extra (f .tag) + load R
 
 -- the open chunks R are nested as a file's may be, and the rows counted with those they may still add are at most `at`
-abbrev pub Fits : ℕ → Totals → List Open → Type 0
-Fits at g R = Deep R × (sum g + load R ≤ at)
+abbrev pub OpenChunksFit : ℕ → Totals → List Open → Type 0
+OpenChunksFit at g R = Deep R × (sum g + load R ≤ at)
 
 -- the number that the value of j bytes of a number is below, j at most 3
 abbrev pub worth : ℕ → ℕ
@@ -93,10 +93,10 @@ Off (Text fixed start) at n = at ≡ n
 Off (Row fixed start i j acc k) at n = (at + j ≡ n) × (j ≤ 3) × (i ≤ at) × (acc < worth j) × Words k
 Off (Skip until) at n = at ≡ n
 
--- the machine's invariant after n bytes: inside chunks they and the totals fit (`Fits`), and the present part is right (`Off`); past BB3D no more rows were
+-- the machine's invariant after n bytes: inside chunks they and the totals fit (`OpenChunksFit`), and the present part is right (`Off`); past BB3D no more rows were
 -- counted than bytes came; of a refusal nothing is asked
 abbrev pub Good : ℕ → State → Type 0
-Good n (live at m g f R) = Fits at g (f ∷ R) × Off m at n
+Good n (live at m g f R) = OpenChunksFit at g (f ∷ R) × Off m at n
 Good n (fault m p) = Unit {0}
 Good n (over g) = sum g ≤ n
 

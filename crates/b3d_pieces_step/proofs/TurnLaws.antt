@@ -14,7 +14,7 @@ use Rattle.b3d_pieces_spec.specs.declared.Part.{Part}
 use Rattle.b3d_pieces_spec.specs.declared.Part.the-variants.{Text, Row, Skip}
 use Rattle.b3d_pieces_spec.specs.Machine.{edge, enter, byteIn, step}
 use Rattle.b3d_pieces_spec.specs.Good.{sum, Off}
-use Rattle.b3d_pieces_spec.proofs.Depth.{bound-most}
+use Rattle.b3d_pieces_spec.proofs.DepthLaws.{bound-most}
 use Rattle.b3d_pieces_item_steps.specs.declared.Now.{Now}
 use Rattle.b3d_pieces_item_steps.specs.declared.Now.the-variants.{Live, Push, Pop, Fault, Over}
 use Rattle.b3d_pieces_item_steps.specs.Nows.{stateWith, GoodNow, NothingToEnter, Ready, Gives, edgeHere, texted}

@@ -1,2 +1,2 @@
-pub mod LoadTests
-pub mod PartTests
+pub mod OpenChunkTestLaws
+pub mod PartTestLaws

@@ -27,7 +27,7 @@ pub fn words_valid(k: Kept) -> bool
 }
 
 // Returns whether `n` chunks around and `level` levels of nodes left are at most 16 together.
-pub fn node_bound(level: usize, n: usize) -> bool
+fn node_bound(level: usize, n: usize) -> bool
     ensures { λ r. ⌜ Tests r (n + level ≤ levels) ⌝ }
 {
     if LEVELS < n {
@@ -55,7 +55,7 @@ pub fn bound_valid(tag: Tag, level: usize, n: usize) -> bool
 }
 
 // Returns the rows allowed for an open chunk beside its items: 0 for BB3D, and for NODE, whose row is counted when it begins; else 1.
-pub fn extra(tag: Tag) -> usize
+fn extra(tag: Tag) -> usize
     ensures { λ r. ⌜ (r ≡ extraOf tag) × (r ≤ 1) ⌝ }
 {
     match tag {

@@ -11,7 +11,7 @@ use b3d_pieces_spec::Part;
 use b3d_pieces_spec::Totals;
 
 // Returns `x`, or 16,777,218 if it is larger than 16,777,217.
-pub fn cap(x: usize) -> usize
+fn cap(x: usize) -> usize
     ensures { λ r. ⌜ Small overCounted x r ⌝ }
 {
     if x <= MOST_COUNTED {

@@ -1,2 +1,2 @@
-pub mod Testing
-pub mod Fining
+pub mod RowTestLaws
+pub mod StateTestLaws

@@ -6,7 +6,7 @@ use mathlib.Core.List.{_∷_}
 use Rattle.b3d_pieces_spec.specs.declared.Totals.{Totals}
 use Rattle.b3d_pieces_spec.specs.declared.Open.{Open}
 use Rattle.b3d_pieces_spec.specs.declared.Part.{Part}
-use Rattle.b3d_pieces_spec.specs.Good.{Deep, load, Fits, Off}
+use Rattle.b3d_pieces_spec.specs.Good.{Deep, load, OpenChunksFit, Off}
 use Rattle.b3d_pieces_spec.specs.Calls.{records}
 use Rattle.b3d_pieces_item_steps.specs.declared.Now.{Now}
 use Rattle.b3d_pieces_item_steps.specs.Nows.{GoodNow}
@@ -21,7 +21,7 @@ RowFits rs n r = Weighs (Deep (stackBy rs n)) (load (stackBy rs n)) r
 
 -- the invariant after `size` bytes, inside the chunk f with the first n chunks of the row rs around it
 abbrev pub LiveFits : ℕ → Part → Totals → Open → ℕ → ℕ → (ℕ → Open) → Type 0
-LiveFits at m g f size n rs = Fits at g (f ∷ stackBy rs n) × Off m at size
+LiveFits at m g f size n rs = OpenChunksFit at g (f ∷ stackBy rs n) × Off m at size
 
 -- the invariant of `now` after `size` bytes, with the first n chunks of the row rs; no chunk waits to be entered or left
 abbrev pub NowFits : Now → ℕ → ℕ → (ℕ → Open) → Type 0

@@ -59,7 +59,7 @@ pub fn now_valid(held: Now, size: usize, n: usize, load: usize) -> bool
 }
 
 // Returns the number that the value of the present number of BB3D's header is below, after `size` bytes.
-pub fn head_low(size: usize) -> usize
+fn head_low(size: usize) -> usize
     requires { ⌜ size < 8 ⌝ }
     ensures { λ r. ⌜ r ≡ headLow size ⌝ }
 {

@@ -1,2 +1,2 @@
-pub mod Calling
-pub mod Judged
+pub mod CallLaws
+pub mod JudgedLaws

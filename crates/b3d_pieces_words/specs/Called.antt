@@ -19,7 +19,7 @@ use Rattle.b3d_pieces_step.specs.Turns.{pends}
 use Rattle.b3d_pieces_judge_step.specs.declared.Judge.{Judge}
 use Rattle.b3d_pieces_judge_step.specs.Takes.{heldOf, GoodJudge}
 use Rattle.b3d_pieces_judge_step.specs.Runs.{CanRun, RunIs}
-use Rattle.b3d_pieces_answers.specs.declared.Closing.the-variants.{Bad}
+use Rattle.b3d_pieces_answers.specs.declared.Closing.the-variants.{Reject}
 use Rattle.b3d_pieces_answers.specs.Closes.{closingOf, answerBy, wordAnswer}
 
 -- a way to hold state and row: S is the type of a state, R of a row
@@ -85,7 +85,7 @@ shutting j = record { size = j .size; worth = j .worth; letters = j .letters; le
 -- the close is refused with n at p
 pub record NotClosed {S : Type 0} (n p : ℕ) (st : S) (a : Answer) (next : S) : Type 0 where
   -- the answer a has only that number and place
-  pub answer : a ≡ answerBy (Bad n p)
+  pub answer : a ≡ answerBy (Reject n p)
   -- the state is as it was
   pub state : next ≡ st
 

@@ -4,8 +4,8 @@ ghost use mathlib.Core.Path.{_≡_};
 ghost use Rattle.b3d_pieces_words.specs.Called.{words, freshJudge, PieceIs, CloseIs};
 use crate::Closed;
 use crate::Fed;
-use b3d_pieces_answers::answer_of;
-use b3d_pieces_answers::joined;
+use b3d_pieces_answers::closing_answer;
+use b3d_pieces_answers::closing_of;
 use b3d_pieces_answers::refused;
 use b3d_pieces_item_steps::Now;
 use b3d_pieces_judge_step::Judge;
@@ -87,8 +87,8 @@ pub fn judge_close(state: Judge, row: &[usize]) -> Closed
         };
     }
     if judge_valid(state, row) {
-        let verdict = joined(state);
-        let said = answer_of(verdict);
+        let verdict = closing_of(state);
+        let said = closing_answer(verdict);
         let mut x = state;
         x.shut = true;
         return Closed {

@@ -10,8 +10,8 @@ use mir.Facts.{and-yes}
 use Rattle.wire.specs.Bytes.{AllBytes}
 use Rattle.layout.specs.Result.{Result, accept, reject}
 use Rattle.layout.specs.Lists.{All}
-use Rattle.layout.proofs.Lists.{all-zip}
-use Rattle.layout.proofs.Outs.{by-check}
+use Rattle.layout.proofs.AllLaws.{all-zip}
+use Rattle.layout.proofs.ResultLaws.{by-check}
 use Rattle.layout.specs.Rows.{eachOf, sizeFits, joined}
 use Rattle.b3d_spec.specs.declared.Answer.{Answer}
 use Rattle.b3d_spec.specs.declared.Mode.{Mode}
@@ -20,8 +20,8 @@ use Rattle.b3d_spec.specs.Answers.{judge, read, answer, readAnswer, readTable, 
 use Rattle.b3d_spec.specs.Parse.{parse}
 use Rattle.b3d_spec.specs.Scene.{Scene}
 use Rattle.b3d_spec.specs.Tables.{width, rows, table, tables, nodeTables, counts}
-use Rattle.b3d_spec.proofs.Refusals.{read-number}
-use Rattle.b3d_spec.proofs.Rows.Numbers.{table-each, ten-tables}
+use Rattle.b3d_spec.proofs.RefusalLaws.{read-number}
+use Rattle.b3d_spec.proofs.Rows.TableNumberLaws.{table-each, ten-tables}
 use Rattle.b3d_spec.proofs.AnswerLaws.{judge-got, judge-lenient, read-got}
 use Rattle.b3d_spec.proofs.Files.FileLaws.{parse-fine}
 use Rattle.b3d_spec.proofs.Rows.CountLaws.{table-length}

@@ -1,3 +1,3 @@
 -- Laws of the tables of weights and keys.
-pub mod Tables
-pub mod Lists
+pub mod TableLaws
+pub mod KeyListLaws

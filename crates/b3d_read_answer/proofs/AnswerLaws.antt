@@ -1,5 +1,5 @@
--- A law for each way through `judge` and `answer_for`.
-use Rattle.b3d_judge.proofs.Verdicts.{Good, was-bad, was-good}
+-- A law for each way through `judge_answer` and `answer_for`.
+use Rattle.b3d_judge.proofs.VerdictLaws.{Good, was-bad, was-good}
 use mathlib.Core.Path.{_≡_, refl, ap, sym, _∙_}
 use Prim.Native.Nat.{ℕ, _*_, _<_, _≤_}
 use native.Mathlib.Omega.{arith}
@@ -10,7 +10,7 @@ use lib.Dec.{leb, eqb, eqb→eq}
 use mir.Facts.{eqb-no}
 use borrow.Author.Tests.{eq-eqb, ne-eqb}
 use Rattle.wire.specs.Test.{if}
-use Rattle.layout.proofs.Outs.{by-test}
+use Rattle.layout.proofs.ResultLaws.{by-test}
 use Rattle.layout.specs.Result.{accept, reject, _>>=_}
 use Rattle.layout.specs.Lists.{All}
 use Rattle.b3d_spec.specs.declared.Answer.{Answer}
@@ -19,8 +19,8 @@ use Rattle.b3d_spec.specs.Answers.{judge, read, answer, readAnswer}
 use Rattle.b3d_spec.specs.Rules.{rowLimit}
 use Rattle.b3d_spec.specs.Scene.{Scene}
 use Rattle.b3d_spec.specs.Tables.{width, rows, tables, nodeTables, counts}
-use Rattle.b3d_spec.proofs.Refusals.{judge-place}
-use Rattle.b3d_spec.proofs.Rows.Numbers.{each-table}
+use Rattle.b3d_spec.proofs.RefusalLaws.{judge-place}
+use Rattle.b3d_spec.proofs.Rows.TableNumberLaws.{each-table}
 use Rattle.b3d_spec.proofs.AnswerLaws.{judge-got, judge-first}
 use Rattle.b3d_judge_tally.specs.Tally.{tallyOf}
 use Rattle.b3d_judge.specs.Answers.{verdictOf}
@@ -28,11 +28,11 @@ use Rattle.b3d_judge_file_body.specs.declared.Summary.{Summary}
 use Rattle.b3d_judge_file_body.specs.declared.Verdict.{Verdict}
 use Rattle.b3d_judge_file_body.specs.declared.Verdict.the-variants as verdict
 use Rattle.shared_room.specs.Rooms.{numberOf, firstShort}
-use Rattle.shared_room.proofs.Rooms.{each-short, each-room}
+use Rattle.shared_room.proofs.RoomLaws.{each-short, each-room}
 use Rattle.b3d_judge_limits.specs.Rooms.{countsIn}
 use Rattle.b3d_judge_limits.specs.Limits.{TallyLimited}
 use Rattle.b3d_read_answer_numbers.specs.Answers.{acceptedAs, roomAnswer}
-use Rattle.layout.proofs.Lists.{All}
+use Rattle.layout.proofs.AllLaws.{All}
 use Rattle.layout.specs.Rows.{eachOf}
 
 -- the counts of the tally are those of the scene
@@ -62,7 +62,7 @@ unfolding acceptedAs answer countsIn counts tables nodeTables
 accepted-is t = refl
 
 module _ (mode : Mode) (s : List ℕ) (v : Verdict) (ev : v ≡ verdictOf (judge mode s)) where
-  module _ (e p : ℕ) (w : v ≡ verdict.Bad e p) where
+  module _ (e p : ℕ) (w : v ≡ verdict.Reject e p) where
     bad-is : judge mode s ≡ reject e p
     bad-is = was-bad (judge mode s) e p (sym ev ∙ w)
 
@@ -76,7 +76,7 @@ module _ (mode : Mode) (s : List ℕ) (v : Verdict) (ev : v ≡ verdictOf (judge
     unfolding readAnswer
     answer-bad room y h = h ∙ ap answer (sym (judge-first mode s e p bad-is room))
 
-  module _ (x : Summary) (w : v ≡ verdict.Good x) where
+  module _ (x : Summary) (w : v ≡ verdict.Accept x) where
     good : Good (judge mode s) x
     good = was-good (judge mode s) x (sym ev ∙ w)
 

@@ -1,2 +1,2 @@
 -- The laws of their ways.
-pub mod RoomAnswers
+pub mod RoomAnswerLaws

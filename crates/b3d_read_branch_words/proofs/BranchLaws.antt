@@ -11,7 +11,7 @@ use lib.Dec.{leb, leb→le, nleb→lt}
 use borrow.Author.Tests.{lt-leb, le-leb}
 use Rattle.wire.specs.Test.{if}
 use Rattle.wire.specs.Bytes.{wordAt}
-use Rattle.layout.proofs.Outs.{by-test}
+use Rattle.layout.proofs.ResultLaws.{by-test}
 use Rattle.b3d_spec.specs.Tables.{nodeWidth}
 use Rattle.b3d_read_branch_words.specs.Marks.{Mark, MarkAt, MarksAt, marksBefore, rowsAfter, RowsAfter, Branchless, NameAt, Halfway, firstBranch, BranchIs, Branched}
 

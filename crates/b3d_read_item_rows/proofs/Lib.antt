@@ -1,5 +1,5 @@
 -- A law for each need of the functions.
-pub mod Items
-pub mod KeyRows
-pub mod Shapes
-pub mod Groups
+pub mod ItemLaws
+pub mod KeyRowLaws
+pub mod VertexRowLaws
+pub mod GroupLaws

@@ -1,2 +1,2 @@
 -- Laws of keys by runs.
-pub mod Keys
+pub mod KeyLaws

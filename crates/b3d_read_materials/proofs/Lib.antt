@@ -1,4 +1,4 @@
 -- Laws of a row, of the loop over texts, and of the two tables.
-pub mod Stores
-pub mod Filling
-pub mod Lists
+pub mod StoreLaws
+pub mod NamedRowLaws
+pub mod MaterialLaws

@@ -1,3 +1,3 @@
 -- A law for each need of the functions.
-pub mod Shapes
-pub mod Surveys
+pub mod VertexLaws
+pub mod MeshLaws

@@ -1,3 +1,3 @@
 -- Laws of the tables of meshes.
-pub mod Tables
-pub mod Meshes
+pub mod TableLaws
+pub mod MeshLaws

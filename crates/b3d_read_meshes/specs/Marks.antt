@@ -11,10 +11,10 @@ use Rattle.b3d_spec.specs.Tables.{meshWidth}
 use Rattle.b3d_spec_plain_rows.specs.Plain.{plainMesh}
 use Rattle.b3d_read_mesh_rows.specs.Meshes.{verticesIn, meshCells}
 use Rattle.b3d_read_triangle_rows.specs.Sets.{trianglesIn, setsIn, triangleCount}
-use Rattle.b3d_read_meshes.specs.declared.Marks.{Marks}
+use Rattle.b3d_read_meshes.specs.declared.MeshMarks.{MeshMarks}
 
 -- the marks m are no larger than `at` bytes of a file allow
-pub record MarksFit (at : ℕ) (m : Marks) : Type 0 where
+pub record MeshMarksFit (at : ℕ) (m : MeshMarks) : Type 0 where
   -- no more nodes came before than bytes
   pub nodes : m .nodes ≤ at
   -- no more meshes came before than bytes
@@ -31,7 +31,7 @@ pub record MarksFit (at : ℕ) (m : Marks) : Type 0 where
   pub words6 : m .to6 ≤ 4 * at
 
 -- tables of lengths l4 to l7, filled as far as m says, have room for the rows of the MESH at p with body b
-pub record MeshRoom (s : List ℕ) (p : ℕ) (b : Cursor) (m : Marks) (l4 l5 l6 l7 : ℕ) : Type 0 where
+pub record MeshRoom (s : List ℕ) (p : ℕ) (b : Cursor) (m : MeshMarks) (l4 l5 l6 l7 : ℕ) : Type 0 where
   -- its own row fits table 4
   pub room4 : m .to4 + 9 ≤ l4
   -- its vertices fit table 5
@@ -42,7 +42,7 @@ pub record MeshRoom (s : List ℕ) (p : ℕ) (b : Cursor) (m : Marks) (l4 l5 l6 
   pub room7 : m .to7 + length (joined (trianglesIn p (left b s))) ≤ l7
 
 -- what `put_one` promises: of tables t4 to t7 before it, u4 to u7 after it, the marks m before it, and its answer r
-pub record MeshStored (s : List ℕ) (p : ℕ) (b : Cursor) (m : Marks) (t4 t5 t6 t7 u4 u5 u6 u7 : List ℕ) (r : Marks) : Type 0 where
+pub record MeshStored (s : List ℕ) (p : ℕ) (b : Cursor) (m : MeshMarks) (t4 t5 t6 t7 u4 u5 u6 u7 : List ℕ) (r : MeshMarks) : Type 0 where
   -- the row of the mesh is stored in table 4, and no other cell is changed
   pub rows4 : u4 ≡ stored t4 (m .to4) (meshCells (m .nodes - 1) (m .vertices) (m .sets) (plainMesh p (left b s)))
   -- its vertices are stored in table 5
@@ -70,4 +70,4 @@ pub record MeshStored (s : List ℕ) (p : ℕ) (b : Cursor) (m : Marks) (t4 t5 t
   -- that of table 7 is behind the triangles
   pub next7 : r .to7 ≡ m .to7 + length (joined (trianglesIn p (left b s)))
   -- the marks are no larger than the bytes up to the body's end allow
-  pub fit : MarksFit (b .end) r
+  pub fit : MeshMarksFit (b .end) r

@@ -6,14 +6,14 @@ ghost use lib.Seq.{sets as stored};
 ghost use Rattle.layout.specs.Rows.{joined};
 ghost use Rattle.b3d_spec_plain_rows.specs.Rows.{fileRows};
 ghost use Rattle.b3d_chunk_walk.specs.Walks.{BodyAt};
-ghost use Rattle.b3d_read_meshes.specs.Marks.{MarksFit, MeshRoom, MeshStored};
+ghost use Rattle.b3d_read_meshes.specs.Marks.{MeshMarksFit, MeshRoom, MeshStored};
 use b3d_chunk_walk::Flat;
 use b3d_spec::MESH_WIDTH;
 use b3d_spec::Tag;
 use wire::Cursor;
 
 // How far tables 4 to 7 are filled: how many nodes, meshes, vertices, triangle sets and triangles came before, and the next free cell of each table.
-pub struct Marks {
+pub struct MeshMarks {
     pub nodes: usize,
     pub meshes: usize,
     pub vertices: usize,
@@ -30,13 +30,13 @@ fn put_one(
     file: &[u8],
     p: usize,
     body: Cursor,
-    m: Marks,
+    m: MeshMarks,
     t4: &mut [u32],
     t5: &mut [u32],
     t6: &mut [u32],
     t7: &mut [u32],
-) -> Marks
-    requires { ⌜ BodyAt (now file) p body × (length (now file) < 0x100000000) × MarksFit p m ⌝ }
+) -> MeshMarks
+    requires { ⌜ BodyAt (now file) p body × (length (now file) < 0x100000000) × MeshMarksFit p m ⌝ }
     requires { ⌜ MeshRoom (now file) p body m (length (now t4)) (length (now t5)) (length (now t6)) (length (now t7)) ⌝ }
     ensures { λ r. ⌜ MeshStored (now (file .entry)) p body m (now (t4 .entry)) (now (t5 .entry)) (now (t6 .entry)) (now (t7 .entry))
         (now (t4 .exit)) (now (t5 .exit)) (now (t6 .exit)) (now (t7 .exit)) r ⌝ }
@@ -50,7 +50,7 @@ fn put_one(
     let to5 = b3d_read_mesh_rows::store_vertices(file, p, body, m.to5, t5);
     let to7 = b3d_read_triangle_rows::store_triangles(file, p, body, m.to7, t7);
     let after = b3d_read_triangle_rows::put_sets(file, p, body, m.meshes, m.triangles, m.to6, t6);
-    Marks {
+    MeshMarks {
         nodes: m.nodes,
         meshes,
         vertices,
@@ -77,7 +77,7 @@ pub fn store_meshes(file: &[u8], t4: &mut [u32], t5: &mut [u32], t6: &mut [u32],
         return;
     }
     let mut at: usize = 12;
-    let mut m = Marks {
+    let mut m = MeshMarks {
         nodes: 0,
         meshes: 0,
         vertices: 0,

@@ -10,7 +10,7 @@ use mir.Syntax.{w32}
 use mir.Val.{Fits}
 use Rattle.wire.specs.Test.{if}
 use Rattle.wire.specs.declared.Cursor.{Cursor}
-use Rattle.layout.proofs.Outs.{if-yes, if-no, by-test}
+use Rattle.layout.proofs.ResultLaws.{if-yes, if-no, by-test}
 use Rattle.b3d_spec.specs.declared.Tag.{Tag}
 use Rattle.b3d_spec.specs.declared.Tag.the-variants.{NODE}
 use Rattle.b3d_spec.specs.Tags.{is}

@@ -1,3 +1,3 @@
 -- Laws of the walks over a node's own chunks, and of the eight cells together.
-pub mod Own
-pub mod Cells
+pub mod OwnChunkLaws
+pub mod CellLaws

@@ -1,2 +1,2 @@
 -- Laws of the way up.
-pub mod Climb
+pub mod ParentLaws

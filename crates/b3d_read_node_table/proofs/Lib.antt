@@ -1,3 +1,3 @@
 -- Laws of the walk and of what it leaves to the pass backward.
-pub mod RowsAhead
-pub mod Tree
+pub mod RowsAheadLaws
+pub mod NodeTableLaws

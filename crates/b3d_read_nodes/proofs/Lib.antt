@@ -1,3 +1,3 @@
 -- Laws of a node's row, and of the loop that fills table 3.
-pub mod Cells
-pub mod Tree
+pub mod CellLaws
+pub mod NodeRowLaws

@@ -1,2 +1,2 @@
 -- Tables without rows.
-pub mod Empty
+pub mod EmptyTableLaws

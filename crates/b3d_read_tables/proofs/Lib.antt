@@ -1,2 +1,2 @@
 -- The ten tables one by one.
-pub mod Each
+pub mod EachTableLaws

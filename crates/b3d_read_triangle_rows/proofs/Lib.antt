@@ -1,3 +1,3 @@
 -- A law for each need of the functions.
-pub mod Triangles
-pub mod Sets
+pub mod TriangleLaws
+pub mod SetLaws

@@ -1,3 +1,3 @@
 -- Laws of vertices by runs.
-pub mod Sets
-pub mod Vertices
+pub mod SetLaws
+pub mod VertexLaws

@@ -9,9 +9,9 @@ use lib.Dec.{eqb, leb, eqb→eq, leb→le, nleb→lt}
 use borrow.Author.Tests.{ne-eqb}
 use Rattle.wire.specs.Test.{if}
 use Rattle.wire.specs.Cursors.{left}
-use Rattle.wire.proofs.Left.{span, left-nil}
+use Rattle.wire.proofs.LeftLaws.{span, left-nil}
 use Rattle.layout.specs.Chunks.{done}
-use Rattle.layout.proofs.Outs.{by-test}
+use Rattle.layout.proofs.ResultLaws.{by-test}
 use Rattle.layout.proofs.ChunkLaws.{split-none}
 use Rattle.b3d_spec.specs.Mask.{ones, mask, keyHas, keyMask}
 use Rattle.b3d_spec.specs.Rules.{vertexWords}

@@ -11,7 +11,7 @@ use lib.Seq.{sets as stored}
 use Rattle.wire.specs.Test.{if}
 use Rattle.wire.specs.Cursors.{Inside, left}
 use Rattle.wire.specs.declared.Cursor.{Cursor}
-use Rattle.wire.proofs.Left.{left-most}
+use Rattle.wire.proofs.LeftLaws.{left-most}
 use Rattle.b3d_spec.specs.declared.Counts.{Counts}
 use Rattle.b3d_spec.specs.declared.Tag.the-variants.{MESH, KEYS}
 use Rattle.b3d_spec.specs.Tables.{width, withMeshes}
@@ -19,16 +19,16 @@ use Rattle.b3d_spec_plain_rows.specs.Flat.{flatAt}
 use Rattle.b3d_spec_plain_rows.specs.Plain.{plainMesh, plainKeys}
 use Rattle.b3d_spec_plain_rows.specs.Rows.{counted, addKeys, flatRows, listRow}
 use Rattle.b3d_chunk_walk.specs.Walks.{BodyAt}
-use Rattle.b3d_chunk_walk.proofs.Meshes.{mesh-inside}
-use Rattle.b3d_read_item_rows.proofs.Groups.{group-few}
+use Rattle.b3d_chunk_walk.proofs.MeshLaws.{mesh-inside}
+use Rattle.b3d_read_item_rows.proofs.GroupLaws.{group-few}
 use Rattle.b3d_read_mesh_rows.specs.Meshes.{meshCells, MeshPut}
 use Rattle.b3d_read_mesh_rows.specs.declared.Added.{Added}
 use Rattle.b3d_rows_positions.specs.FindChunk.{ChunkFound, ChunkFinds}
 use Rattle.b3d_rows_positions.specs.declared.FoundChunk.{FoundChunk}
 use Rattle.b3d_rows_positions.specs.declared.FoundChunk.the-variants as met
 use Rattle.b3d_rows_positions.proofs.FindChunkLaws.{chunk-none, chunk-at}
-use Rattle.b3d_read_meshes.proofs.Tables.{meshes}
-use Rattle.b3d_read_animation.proofs.Tables.{lists}
+use Rattle.b3d_read_meshes.proofs.TableLaws.{meshes}
+use Rattle.b3d_read_animation.proofs.TableLaws.{lists}
 use Rattle.b3d_rows_positions.specs.declared.Position.{Position}
 use Rattle.b3d_rows_positions.specs.declared.NextPosition.the-variants as more
 use Rattle.b3d_rows_positions.proofs.PositionLaws.{owns-only}

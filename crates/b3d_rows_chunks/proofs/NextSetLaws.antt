@@ -11,7 +11,7 @@ use lib.Seq.{sets as stored}
 use Rattle.wire.specs.Test.{if}
 use Rattle.wire.specs.Cursors.{Inside, left}
 use Rattle.wire.specs.declared.Cursor.{Cursor}
-use Rattle.wire.proofs.Left.{left-most}
+use Rattle.wire.proofs.LeftLaws.{left-most}
 use Rattle.b3d_spec.specs.declared.Tag.the-variants.{MESH, TRIS}
 use Rattle.b3d_spec.specs.Tables.{width, withMeshes, setRows, triangleRows}
 use Rattle.b3d_spec_plain_rows.specs.Flat.{flatAt}
@@ -20,12 +20,12 @@ use Rattle.b3d_spec_plain_rows.specs.Rows.{counted, flatRows}
 use Rattle.b3d_chunk_walk.specs.Seeks.{ahead, inner, Seeks}
 use Rattle.b3d_chunk_walk.specs.declared.Sought.{Sought}
 use Rattle.b3d_chunk_walk.specs.declared.Sought.the-variants as sought
-use Rattle.b3d_chunk_walk.proofs.Seeking.{sought-among, sought-body, sought-next}
-use Rattle.b3d_chunk_walk.proofs.Meshes.{no-set, one-set}
+use Rattle.b3d_chunk_walk.proofs.SeekLaws.{sought-among, sought-body, sought-next}
+use Rattle.b3d_chunk_walk.proofs.MeshLaws.{no-set, one-set}
 use Rattle.b3d_read_item_rows.specs.Items.{setRow}
-use Rattle.b3d_read_item_rows.proofs.Groups.{group-few}
+use Rattle.b3d_read_item_rows.proofs.GroupLaws.{group-few}
 use Rattle.b3d_read_triangle_rows.specs.Sets.{setsIn}
-use Rattle.b3d_read_meshes.proofs.Tables.{sets}
+use Rattle.b3d_read_meshes.proofs.TableLaws.{sets}
 use Rattle.b3d_rows_positions.specs.Positions.{leftOver, MeshPosition, MeshOpened, MeshMore, MeshOpens}
 use Rattle.b3d_rows_positions.specs.declared.Position.{Position}
 use Rattle.b3d_rows_positions.specs.declared.NextPosition.{NextPosition}

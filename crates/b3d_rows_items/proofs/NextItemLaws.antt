@@ -8,7 +8,7 @@ use mir.Val.{Fits}
 use lib.ListN.{length}
 use lib.Seq.{sets}
 use Rattle.wire.specs.Cursors.{Inside, left}
-use Rattle.wire.proofs.Left.{span}
+use Rattle.wire.proofs.LeftLaws.{span}
 use Rattle.layout.specs.Parts.{wordsOf}
 use Rattle.b3d_rows_open_items.specs.ItemsLeft.{ItemTable, itemRow, itemRows, Measured}
 use Rattle.b3d_rows_open_items.proofs.ItemsLeftLaws.{items-none, items-one, item-wide, onward, onward-measured}

@@ -7,7 +7,7 @@ use lib.ListN.{length, take, replicate, length-append, length-replicate}
 use lib.Seq.{sets, length-take-le}
 use Rattle.wire.specs.Cursors.{Inside, left}
 use Rattle.wire.specs.declared.Cursor.{Cursor}
-use Rattle.wire.proofs.Left.{left-length}
+use Rattle.wire.proofs.LeftLaws.{left-length}
 use Rattle.layout.specs.Parts.{Name, wordsOf}
 use Rattle.layout.specs.Rules.{any, NONE}
 use Rattle.layout.proofs.StepLaws.{length-words-of}
@@ -15,9 +15,9 @@ use Rattle.layout.specs.Rows.{nameCells}
 use Rattle.b3d_chunk_cursor.specs.Chunks.{namedAt, NamedIn}
 use Rattle.b3d_chunk_cursor.specs.declared.Named.{Named}
 use Rattle.b3d_chunk_cursor.specs.declared.Named.the-variants as named
-use Rattle.b3d_chunk_cursor.proofs.Names.{named-cut, named-any, named-among, row-inside as named-inside, row-room as named-room, after-inside}
+use Rattle.b3d_chunk_cursor.proofs.NamedLaws.{named-cut, named-any, named-among, row-inside as named-inside, row-room as named-room, after-inside}
 use Rattle.b3d_spec_plain_rows.specs.Plain.{nextItem, namedItems}
-use Rattle.b3d_spec_plain_rows.proofs.Items.{items-from}
+use Rattle.b3d_spec_plain_rows.proofs.NamedItemLaws.{items-from}
 use Rattle.b3d_read_materials.specs.Texts.{namedRow}
 use Rattle.b3d_rows_positions.specs.declared.Position.{Position}
 use Rattle.b3d_rows_positions.specs.declared.NextPosition.the-variants as more

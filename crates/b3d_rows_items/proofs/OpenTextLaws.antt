@@ -7,7 +7,7 @@ use lib.ListN.{length}
 use Rattle.wire.specs.Test.{if}
 use Rattle.wire.specs.Cursors.{Inside, left}
 use Rattle.wire.specs.declared.Cursor.{Cursor}
-use Rattle.wire.proofs.Left.{span, left-nil}
+use Rattle.wire.proofs.LeftLaws.{span, left-nil}
 use Rattle.b3d_spec.specs.declared.Tag.the-variants.{TEXS, BRUS}
 use Rattle.b3d_spec.specs.Tables.{width}
 use Rattle.b3d_spec_plain_rows.specs.Plain.{namedIn, namedItems}
@@ -16,9 +16,9 @@ use Rattle.b3d_chunk_walk.specs.Seeks.{FirstWord}
 use Rattle.b3d_chunk_walk.specs.declared.Headed.{Headed}
 use Rattle.b3d_chunk_walk.specs.declared.Sought.{Sought}
 use Rattle.b3d_chunk_walk.specs.declared.Sought.the-variants as sought
-use Rattle.b3d_chunk_walk.proofs.Heads.{word-inside}
+use Rattle.b3d_chunk_walk.proofs.FirstWordLaws.{word-inside}
 use Rattle.b3d_read_materials.specs.Texts.{FirstIs}
-use Rattle.b3d_read_materials.proofs.Lists.{file-one, file-two, first-none, no-brushes, rows-are, head-is, texts-are, textures-body, brushes-body, brushes-rest}
+use Rattle.b3d_read_materials.proofs.MaterialLaws.{file-one, file-two, first-none, no-brushes, rows-are, head-is, texts-are, textures-body, brushes-body, brushes-rest}
 use Rattle.b3d_rows_open_items.specs.declared.OpenItems.{OpenItems}
 use Rattle.b3d_rows_items.specs.NextText.{textRows, TextsOpen}
 

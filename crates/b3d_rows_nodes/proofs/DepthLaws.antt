@@ -11,7 +11,7 @@ use Rattle.wire.specs.Test.{if}
 use Rattle.layout.specs.Chunks.{done, chunk}
 use Rattle.layout.specs.Result.{Result, accept}
 use Rattle.layout.specs.Parts.{Name, Step, named}
-use Rattle.layout.proofs.Outs.{by-got, bad-got, by-test, if-no}
+use Rattle.layout.proofs.ResultLaws.{by-got, bad-got, by-test, if-no}
 use Rattle.b3d_spec.specs.declared.Mode.the-variants.{Lenient}
 use Rattle.b3d_spec.specs.declared.Tag.{Tag}
 use Rattle.b3d_spec.specs.declared.Tag.the-variants.{TEXS, BRUS, NODE, MESH, BONE, KEYS, ANIM}
@@ -22,12 +22,12 @@ use Rattle.b3d_spec.specs.Rules.{nodeRow, levels, boneLimit, boneLimitBelow}
 use Rattle.b3d_spec.specs.Scene.{Kind, Keys, Anim, noAnim, Data, Forest, noNodes, node, Scene}
 use Rattle.b3d_spec.specs.Tags.{Chunks, split, is}
 use Rattle.b3d_spec.proofs.AnswerLaws.{judge-got}
-use Rattle.b3d_spec_chunk_places.proofs.Nodes.{ByParts, parts-read}
+use Rattle.b3d_spec_chunk_places.proofs.NodeChunkLaws.{ByParts, parts-read}
 use Rattle.b3d_spec_plain_rows.specs.Flat.{rest, flatAt}
 use Rattle.b3d_spec_plain_rows.specs.Rows.{Open, opened}
-use Rattle.b3d_spec_plain_rows.proofs.Files.{Says, file-flat}
+use Rattle.b3d_spec_plain_rows.proofs.FileLaws.{Says, file-flat}
 use Rattle.b3d_spec_plain_rows.proofs.Laws.{end-done}
-use Rattle.b3d_spec_plain_rows.proofs.Run.{Here, Laid, run-same, run-past, run-into, inside-laid}
+use Rattle.b3d_spec_plain_rows.proofs.FlatRunLaws.{Here, Laid, run-same, run-past, run-into, inside-laid}
 use Rattle.b3d_rows_nodes.specs.NodeStack.{openAt}
 use Rattle.b3d_rows_nodes.proofs.NodeStackLaws.{open-closed, open-still}
 use Rattle.b3d_rows_nodes.specs.NextNode.{shallow, Shallow}

@@ -12,7 +12,7 @@ use lib.Dec.{T}
 use Rattle.wire.specs.Test.{if}
 use Rattle.wire.specs.Cursors.{Inside, left}
 use Rattle.wire.specs.declared.Cursor.{Cursor}
-use Rattle.layout.proofs.Outs.{if-yes, if-no}
+use Rattle.layout.proofs.ResultLaws.{if-yes, if-no}
 use Rattle.b3d_spec.specs.declared.Counts.{Counts}
 use Rattle.b3d_spec.specs.declared.Tag.{Tag}
 use Rattle.b3d_spec.specs.declared.Tag.the-variants.{NODE, MESH, BONE}
@@ -22,8 +22,8 @@ use Rattle.b3d_spec_plain_rows.specs.Rows.{Open, counted}
 use Rattle.b3d_chunk_walk.specs.Walks.{ChunkIs, Ends, FlatIs, Steps}
 use Rattle.b3d_chunk_walk.specs.declared.Flat.{Flat}
 use Rattle.b3d_chunk_walk.specs.declared.Flat.the-variants as run
-use Rattle.b3d_chunk_walk.proofs.Counting.{tag-same, counted-nodes, counted-meshes, counted-weights}
-use Rattle.b3d_read_node_cells.proofs.Own.{bone-count}
+use Rattle.b3d_chunk_walk.proofs.CountLaws.{tag-same, counted-nodes, counted-meshes, counted-weights}
+use Rattle.b3d_read_node_cells.proofs.OwnChunkLaws.{bone-count}
 use Rattle.b3d_rows_nodes.specs.NextNode.{shallowRows, NodeFinds}
 use Rattle.b3d_rows_nodes.specs.declared.FoundNode.the-variants as met
 use Rattle.b3d_rows_nodes.proofs.FlatNodeLaws.{no-rows}

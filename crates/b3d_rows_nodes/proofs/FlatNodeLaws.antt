@@ -11,7 +11,7 @@ use Rattle.wire.specs.Test.{if}
 use Rattle.layout.specs.Chunks.{done, stop, chunk}
 use Rattle.layout.specs.Result.{Result, accept, reject}
 use Rattle.layout.specs.Parts.{Name, Step, named}
-use Rattle.layout.proofs.Outs.{by-test, if-yes, if-no}
+use Rattle.layout.proofs.ResultLaws.{by-test, if-yes, if-no}
 use Rattle.b3d_spec.specs.declared.Counts.{Counts}
 use Rattle.b3d_spec.specs.declared.Tag.{Tag}
 use Rattle.b3d_spec.specs.declared.Tag.the-variants.{NODE, MESH, BONE}
@@ -20,10 +20,10 @@ use Rattle.b3d_spec.specs.Tags.{Chunks, is}
 use Rattle.b3d_spec_plain_rows.specs.Flat.{rest, flatAt}
 use Rattle.b3d_spec_plain_rows.specs.Plain.{plainWeights}
 use Rattle.b3d_spec_plain_rows.specs.Rows.{Open, addNode, parentAt, opened, rowOf, nodeRows, counted}
-use Rattle.b3d_spec_plain_rows.proofs.Ahead.{named-ahead}
-use Rattle.b3d_spec_plain_rows.proofs.Run.{Here, Laid, rest-laid, run-done, run-stop, run-past, run-into, run-none}
-use Rattle.b3d_chunk_walk.proofs.Counting.{counted-nodes, counted-meshes, counted-weights}
-use Rattle.b3d_read_nodes.proofs.Tree.{row-told}
+use Rattle.b3d_spec_plain_rows.proofs.TextEndLaws.{named-ahead}
+use Rattle.b3d_spec_plain_rows.proofs.FlatRunLaws.{Here, Laid, rest-laid, run-done, run-stop, run-past, run-into, run-none}
+use Rattle.b3d_chunk_walk.proofs.CountLaws.{counted-nodes, counted-meshes, counted-weights}
+use Rattle.b3d_read_nodes.proofs.NodeRowLaws.{row-told}
 use Rattle.b3d_read_node_cells.specs.Parts.{told}
 use Rattle.b3d_rows_nodes.specs.NodeStack.{openAt}
 use Rattle.b3d_rows_nodes.specs.NextNode.{shallow, shallowRows}

@@ -13,9 +13,9 @@ use borrow.Author.Tests.{le-leb, lt-leb}
 use Rattle.wire.specs.Test.{if}
 use Rattle.wire.specs.Cursors.{left}
 use Rattle.wire.specs.declared.Cursor.{Cursor}
-use Rattle.wire.proofs.Left.{left-length}
+use Rattle.wire.proofs.LeftLaws.{left-length}
 use Rattle.layout.specs.Parts.{named}
-use Rattle.layout.proofs.Outs.{if-yes, if-no}
+use Rattle.layout.proofs.ResultLaws.{if-yes, if-no}
 use Rattle.b3d_spec.specs.declared.Counts.{Counts}
 use Rattle.b3d_spec.specs.declared.Tag.the-variants.{NODE}
 use Rattle.b3d_spec.specs.Rules.{nodeRow}
@@ -24,8 +24,8 @@ use Rattle.b3d_spec_plain_rows.specs.Flat.{flatAt}
 use Rattle.b3d_spec_plain_rows.specs.Rows.{Open, addNode, parentAt, opened, rowOf, counted}
 use Rattle.b3d_chunk_walk.specs.Walks.{BodyAt}
 use Rattle.b3d_read_node_cells.specs.Parts.{told}
-use Rattle.b3d_read_nodes.proofs.Tree.{row-told, row-of}
-use Rattle.b3d_rows_nodes.specs.NodeStack.{openAt, stackOf, OpenNodesAt, Closed, Enters}
+use Rattle.b3d_read_nodes.proofs.NodeRowLaws.{row-told, row-of}
+use Rattle.b3d_rows_nodes.specs.NodeStack.{openAt, stackOf, OpenNodesAt, NodesOpenAt, Enters}
 use Rattle.b3d_rows_nodes.specs.declared.OpenNodes.{OpenNodes}
 use Rattle.b3d_rows_nodes.specs.declared.EnteredNode.{EnteredNode}
 use Rattle.b3d_rows_nodes.proofs.NodeStackLaws.{stack-long, path-deep}
@@ -33,7 +33,6 @@ use Rattle.b3d_rows_positions.specs.declared.Position.{Position}
 use Rattle.b3d_rows_nodes.specs.NextNode.{shallowRows, NodeFound, NoNode, NodeFoundIs, NodeFinds, nodesAhead, NodePosition, NodeNexts}
 use Rattle.b3d_rows_nodes.specs.declared.FoundNode.{FoundNode}
 use Rattle.b3d_rows_nodes.specs.declared.FoundNode.the-variants as met
-use Rattle.b3d_rows_nodes.specs.declared.RowCursor.{RowCursor}
 use Rattle.b3d_rows_nodes.specs.declared.NextCursor.{NextCursor}
 use Rattle.b3d_rows_nodes.proofs.FlatNodeLaws.{shallow-alike}
 
@@ -157,7 +156,7 @@ module _ (s : List ℕ) (x : Position) (path : OpenNodes) (v : NodePosition s x 
 
 -- ---- 16 of them
 
-module _ (path : OpenNodes) (p d : ℕ) (c : Closed (path .ends) (path .depth) p d) where
+module _ (path : OpenNodes) (p d : ℕ) (c : NodesOpenAt (path .ends) (path .depth) p d) where
   long-is : d ≡ length (openAt p (stackOf path))
   long-is = sym (stack-long (path .ends) (path .nodes) d) ∙ ap length (c .is (path .nodes))
 

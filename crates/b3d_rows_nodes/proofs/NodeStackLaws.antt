@@ -9,9 +9,9 @@ use lib.Seq.{getD-set-same, getD-set-other}
 use lib.Dec.{leb, le→leb, leb→le, nleb→lt}
 use borrow.Author.Tests.{lt-leb, le-leb}
 use Rattle.wire.specs.Test.{if}
-use Rattle.layout.proofs.Outs.{if-yes, by-test}
+use Rattle.layout.proofs.ResultLaws.{if-yes, by-test}
 use Rattle.b3d_spec_plain_rows.specs.Rows.{Open, parentAt}
-use Rattle.b3d_rows_nodes.specs.NodeStack.{openAt, stackTo, stackOf, topOf, OpenNodesAt, Closed, Enters}
+use Rattle.b3d_rows_nodes.specs.NodeStack.{openAt, stackTo, stackOf, topOf, OpenNodesAt, NodesOpenAt, Enters}
 use Rattle.b3d_rows_nodes.specs.declared.OpenNodes.{OpenNodes}
 use Rattle.b3d_rows_nodes.specs.declared.EnteredNode.{EnteredNode}
 
@@ -73,7 +73,7 @@ module _ (ends : List ℕ) (depth p : ℕ) where
   close-start h = record { low = omega arith; deep = h; is = λ nodes. refl }
 
   module _ (d : ℕ) (v : CloseLeft ends depth p d) where
-    pub close-none : d ≤ 0 → Closed ends depth p d
+    pub close-none : d ≤ 0 → NodesOpenAt ends depth p d
     close-none h = record { low = v .low; is = λ nodes. stack-none ends nodes p d (omega arith) ∙ v .is nodes }
 
     module _ (h : 0 < d) where
@@ -84,7 +84,7 @@ module _ (ends : List ℕ) (depth p : ℕ) where
       last nodes = let e : d ≡ suc (d - 1) = omega arith in ap (stackTo ends nodes) e ∙ stack-more ends nodes (d - 1)
 
       module _ (end : ℕ) (ee : end ≡ getD ends (d - 1) 0) where
-        pub close-found : p < end → Closed ends depth p d
+        pub close-found : p < end → NodesOpenAt ends depth p d
         close-found lt = record { low = v .low; is = λ nodes. sym (ap (openAt p) (last nodes) ∙ open-still p _ _ (omega (arith, ee)) ∙ sym (last nodes)) ∙ v .is nodes }
 
         pub close-on : end ≤ p → CloseLeft ends depth p (d - 1)
@@ -121,7 +121,7 @@ kept ends nodes i e n (suc d) h =
     (ap₂ (λ (a b : ℕ). record { end = a; index = b }) (getD-set-other ends i d e 0 (λ q. omega arith)) (getD-set-other nodes i d n 0 (λ q. omega arith)))
     (kept ends nodes i e n d (omega arith))
 
-module _ (x : OpenNodes) (p : ℕ) (v : OpenNodesAt x) (room : length (openAt p (stackOf x)) < 16) (d : ℕ) (c : Closed (x .ends) (x .depth) p d) where
+module _ (x : OpenNodes) (p : ℕ) (v : OpenNodesAt x) (room : length (openAt p (stackOf x)) < 16) (d : ℕ) (c : NodesOpenAt (x .ends) (x .depth) p d) where
   low : d < 16
   low = omega (arith, ap length (c .is (x .nodes)), stack-long (x .ends) (x .nodes) d)
 

@@ -38,7 +38,7 @@ pub record OpenNodesAt (x : OpenNodes) : Type 0 where
   pub nodes : length (x .nodes) ≡ levels
 
 -- of the first `depth` nodes r are open at p
-pub record Closed (ends : List ℕ) (depth p r : ℕ) : Type 0 where
+pub record NodesOpenAt (ends : List ℕ) (depth p r : ℕ) : Type 0 where
   -- no more than there were
   pub low : r ≤ depth
   -- those that are open at p, whatever their row numbers

@@ -5,7 +5,7 @@ ghost use lib.ListN.{length};
 ghost use Rattle.b3d_spec.specs.Tables.{vertexWidth};
 ghost use Rattle.b3d_spec.specs.Rules.{levels};
 ghost use lib.Dec.{leb};
-ghost use Rattle.b3d_rows_nodes.specs.NodeStack.{stackOf, openAt, topOf, OpenNodesAt, Closed, Enters};
+ghost use Rattle.b3d_rows_nodes.specs.NodeStack.{stackOf, openAt, topOf, OpenNodesAt, NodesOpenAt, Enters};
 ghost use Rattle.b3d_rows_nodes.specs.NextNode.{NodeFinds, NodePosition, NodeNexts};
 use b3d_chunk_walk::Flat;
 use b3d_rows_positions::Position;
@@ -23,7 +23,7 @@ pub struct OpenNodes {
 // Returns how many of the first `depth` nodes with these `ends` are open at the place `p`: those that ended there or before are taken off at the end.
 fn close(ends: [usize; LEVELS], depth: usize, p: usize) -> usize
     requires { ⌜ depth ≤ levels ⌝ }
-    ensures { λ r. ⌜ Closed ends depth p r ⌝ }
+    ensures { λ r. ⌜ NodesOpenAt ends depth p r ⌝ }
 {
     let mut d = depth;
     while 0 < d {
@@ -55,7 +55,7 @@ pub struct EnteredNode {
 
 // Enters a node with its header at `p`, its end at `end` and the row number `index`: returns its parent, NONE where no node is open at `p`, and the open nodes
 // with it.
-pub fn enter(path: OpenNodes, p: usize, end: usize, index: u32) -> EnteredNode
+fn enter(path: OpenNodes, p: usize, end: usize, index: u32) -> EnteredNode
     requires { ⌜ OpenNodesAt path × (length (openAt p (stackOf path)) < levels) ⌝ }
     ensures { λ r. ⌜ Enters path p end index r ⌝ }
 {

@@ -10,7 +10,7 @@ use lib.ListN.{length, drop, length-drop}
 use lib.Dec.{T, eqb, eqb→eq}
 use Rattle.wire.specs.Test.{if}
 use Rattle.wire.specs.Cursors.{Inside, left}
-use Rattle.wire.proofs.Left.{span, left-length, left-drop}
+use Rattle.wire.proofs.LeftLaws.{span, left-length, left-drop}
 use Rattle.layout.specs.Parts.{wordsOf}
 use Rattle.layout.proofs.StepLaws.{length-words-of}
 use Rattle.b3d_spec.specs.Mask.{mask, vertexHas, vertexMask, keyHas, keyMask}

@@ -10,7 +10,7 @@ use borrow.Author.Tests.{ne-eqb}
 use Rattle.wire.specs.Test.{if}
 use Rattle.wire.specs.Cursors.{Inside, left}
 use Rattle.wire.specs.declared.Cursor.{Cursor}
-use Rattle.wire.proofs.Left.{span, left-nil}
+use Rattle.wire.proofs.LeftLaws.{span, left-nil}
 use Rattle.layout.specs.Parts.{wordsOf, itemsOf}
 use Rattle.layout.specs.Rows.{joined}
 use Rattle.b3d_spec.specs.declared.Tag.the-variants.{VRTS}
@@ -24,15 +24,15 @@ use Rattle.b3d_chunk_walk.specs.declared.Headed.{Headed}
 use Rattle.b3d_chunk_walk.specs.declared.Three.{Three}
 use Rattle.b3d_chunk_walk.specs.declared.Sought.{Sought}
 use Rattle.b3d_chunk_walk.specs.declared.Sought.the-variants as sought
-use Rattle.b3d_chunk_walk.proofs.Seeking.{sought-none, sought-is, sought-body}
-use Rattle.b3d_chunk_walk.proofs.Meshes.{mesh-inside, mesh-inner}
-use Rattle.b3d_chunk_walk.proofs.Heads.{word-inside}
+use Rattle.b3d_chunk_walk.proofs.SeekLaws.{sought-none, sought-is, sought-body}
+use Rattle.b3d_chunk_walk.proofs.MeshLaws.{mesh-inside, mesh-inner}
+use Rattle.b3d_chunk_walk.proofs.FirstWordLaws.{word-inside}
 use Rattle.b3d_rule_widths.specs.Widths.{Clipped}
-use Rattle.b3d_rule_widths.proofs.Clips.{mask-clipped}
+use Rattle.b3d_rule_widths.proofs.ClipLaws.{mask-clipped}
 use Rattle.b3d_read_item_rows.specs.Items.{shapeRows, keyRowsOf}
 use Rattle.b3d_read_mesh_rows.specs.Meshes.{verticesIn}
-use Rattle.b3d_read_mesh_rows.proofs.Shapes.{shape-seek}
-use Rattle.b3d_rows_open_items.specs.ItemsLeft.{itemRow, itemRows, chunkItems, Measured, Opens}
+use Rattle.b3d_read_mesh_rows.proofs.VertexLaws.{shape-seek}
+use Rattle.b3d_rows_open_items.specs.ItemsLeft.{itemRow, itemRows, chunkItems, Measured, AllItemsLeft}
 use Rattle.b3d_rows_open_items.specs.declared.OpenItems.{OpenItems}
 
 -- ---- items that go into their rows as they are
@@ -56,7 +56,7 @@ module _ (s : List ℕ) (p : ℕ) (b : Cursor) (y : BodyAt s p b) (h : Headed) (
   unfolding verticesIn
   shape-is = ap (λ l. shapeRows (shapeOf l)) (sym (mesh-inner s p b y h u)) ∙ ap shapeRows (shape-seek (ahead s (h .rest)))
 
-  pub vertices-none : r ≡ sought.Nothing → (i : OpenItems) → i ≡ record { rest = span (b .end) (b .end); words = 3; flags = 0; sets = 0; size = 0 } → Opens 5 s p b i
+  pub vertices-none : r ≡ sought.Nothing → (i : OpenItems) → i ≡ record { rest = span (b .end) (b .end); words = 3; flags = 0; sets = 0; size = 0 } → AllItemsLeft 5 s p b i
   unfolding shapeOf shapeRows itemRows itemRow chunkItems whole if vertexWords
   vertices-none w i e =
       let z : verticesIn p (left b s) ≡ [] = shape-is ∙ ap (λ l. shapeRows (shapeOf l)) (sought-none s (h .rest) VRTS r x w) in
@@ -73,7 +73,7 @@ module _ (s : List ℕ) (p : ℕ) (b : Cursor) (y : BodyAt s p b) (h : Headed) (
     vertices-body = sought-body s (h .rest) VRTS r x q d n w (length s) (u .inside)
 
     module _ (t : Three) (v : ThreeWords s d t) (m k : ℕ) (cn : Clipped (t .second) 8 m) (cz : Clipped (t .third) 4 k) (l : ℕ) (ew : l ≡ vertexWords (t .first % 4) m k) (lo : 3 ≤ l) (hi : l ≤ 42) where
-      pub vertices-some : (i : OpenItems) → i ≡ record { rest = t .rest; words = l; flags = t .first % 4; sets = m; size = k } → Opens 5 s p b i
+      pub vertices-some : (i : OpenItems) → i ≡ record { rest = t .rest; words = l; flags = t .first % 4; sets = m; size = k } → AllItemsLeft 5 s p b i
       unfolding shapeOf shapeRows plainVertices itemRows itemRow chunkItems if
       vertices-some i e =
           let o : ones (vertexMask (t .first % 4) m k) ≡ vertexWords (t .first % 4) m k = vertex-words (t .first % 4) m k (omega arith) (cn .low) (cz .low) in
@@ -90,7 +90,7 @@ pub ruleset vertices-laws = (mesh-inside, word-inside, clip-most, vertices-none,
 -- ---- keys
 
 module _ (s : List ℕ) (p : ℕ) (b : Cursor) (y : BodyAt s p b) (h : Headed) (u : FirstWord s b h) where
-  pub keys-some : (l : ℕ) → l ≡ ones (keyMask (h .word)) → 1 ≤ l → l ≤ 11 → (i : OpenItems) → i ≡ record { rest = h .rest; words = l; flags = h .word; sets = 0; size = 0 } → Opens 10 s p b i
+  pub keys-some : (l : ℕ) → l ≡ ones (keyMask (h .word)) → 1 ≤ l → l ≤ 11 → (i : OpenItems) → i ≡ record { rest = h .rest; words = l; flags = h .word; sets = 0; size = 0 } → AllItemsLeft 10 s p b i
   unfolding keyRowsOf plainKeys itemRows itemRow chunkItems if
   keys-some l ew lo hi i e =
       rw e
@@ -102,7 +102,7 @@ module _ (s : List ℕ) (p : ℕ) (b : Cursor) (y : BodyAt s p b) (h : Headed) (
 
   -- ---- triangles
 
-  pub triangles-some : (k : ℕ) → (k ≡ 5 → ⊥) → (k ≡ 10 → ⊥) → k ≡ 7 → (i : OpenItems) → i ≡ record { rest = h .rest; words = 3; flags = 0; sets = 0; size = 0 } → Opens k s p b i
+  pub triangles-some : (k : ℕ) → (k ≡ 5 → ⊥) → (k ≡ 10 → ⊥) → k ≡ 7 → (i : OpenItems) → i ≡ record { rest = h .rest; words = 3; flags = 0; sets = 0; size = 0 } → AllItemsLeft k s p b i
   unfolding itemRows chunkItems if plainTriangles
   triangles-some k n5 n10 k7 i e =
       rw e
@@ -120,7 +120,7 @@ unfolding chunkItems if plainWeights
 weights-are k n5 n10 n7 p b = rw (ne-eqb k 5 n5, ne-eqb k 10 n10, ne-eqb k 7 n7)
 
 pub weights-some : (s : List ℕ) (p : ℕ) (b : Cursor) → BodyAt s p b → (k : ℕ) → (k ≡ 5 → ⊥) → (k ≡ 10 → ⊥) → (k ≡ 7 → ⊥)
-    → (i : OpenItems) → i ≡ record { rest = b; words = 2; flags = 0; sets = 0; size = 0 } → Opens k s p b i
+    → (i : OpenItems) → i ≡ record { rest = b; words = 2; flags = 0; sets = 0; size = 0 } → AllItemsLeft k s p b i
 unfolding itemRows
 weights-some s p b y k n5 n10 n7 i e =
     rw e
@@ -130,10 +130,10 @@ weights-some s p b y k n5 n10 n7 i e =
       measured = record { some = omega arith; most = omega arith; vertex = λ q. absurd (n5 q); key = λ q. absurd (n10 q); triangle = λ q. absurd (n7 q); weight = λ q. refl };
     })
 
-pub opens-five : (s : List ℕ) (p : ℕ) (b : Cursor) (k : ℕ) (i : OpenItems) → k ≡ 5 → Opens 5 s p b i → Opens k s p b i
+pub opens-five : (s : List ℕ) (p : ℕ) (b : Cursor) (k : ℕ) (i : OpenItems) → k ≡ 5 → AllItemsLeft 5 s p b i → AllItemsLeft k s p b i
 opens-five s p b k i e o = rw e o
 
-pub opens-ten : (s : List ℕ) (p : ℕ) (b : Cursor) (k : ℕ) (i : OpenItems) → k ≡ 10 → Opens 10 s p b i → Opens k s p b i
+pub opens-ten : (s : List ℕ) (p : ℕ) (b : Cursor) (k : ℕ) (i : OpenItems) → k ≡ 10 → AllItemsLeft 10 s p b i → AllItemsLeft k s p b i
 opens-ten s p b k i e o = rw e o
 
 pub ruleset open-laws = (mesh-inside, word-inside, keys-some, triangles-some, weights-some, opens-five, opens-ten)

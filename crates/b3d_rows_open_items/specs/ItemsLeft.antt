@@ -65,7 +65,7 @@ pub record Measured (k : ℕ) (i : OpenItems) : Type 0 where
   pub weight : k ≡ 8 → i .words ≡ 2
 
 -- all items of the chunk at p are to come
-pub record Opens (k : ℕ) (s : List ℕ) (p : ℕ) (b : Cursor) (i : OpenItems) : Type 0 where
+pub record AllItemsLeft (k : ℕ) (s : List ℕ) (p : ℕ) (b : Cursor) (i : OpenItems) : Type 0 where
   -- the items to come are all of the chunk's
   pub rows : itemRows k s i ≡ chunkItems k p (left b s)
   -- they lie in the file

@@ -8,7 +8,7 @@ ghost use Rattle.wire.specs.Cursors.{Inside, left};
 ghost use Rattle.layout.specs.Parts.{wordsOf};
 ghost use Rattle.b3d_spec.specs.Tables.{vertexWidth};
 ghost use Rattle.b3d_chunk_walk.specs.Walks.{BodyAt};
-ghost use Rattle.b3d_rows_open_items.specs.ItemsLeft.{itemRow, Measured, Opens};
+ghost use Rattle.b3d_rows_open_items.specs.ItemsLeft.{itemRow, Measured, AllItemsLeft};
 use b3d_chunk_walk::Sought;
 use b3d_spec::Tag;
 use wire::Cursor;
@@ -40,7 +40,7 @@ fn plain(rest: Cursor, words: usize) -> OpenItems
 // Returns the vertices of a MESH with its header at `p` and this `body`; none where it has no VRTS.
 fn open_vertices(file: &[u8], p: usize, body: Cursor) -> OpenItems
     requires { ⌜ BodyAt (now file) p body ⌝ }
-    ensures { λ r. ⌜ Opens 5 (now (file .entry)) p body r ⌝ }
+    ensures { λ r. ⌜ AllItemsLeft 5 (now (file .entry)) p body r ⌝ }
 {
     let head = b3d_chunk_walk::first_word(file, body);
     match b3d_chunk_walk::seek(file, head.rest, Tag::VRTS) {
@@ -75,7 +75,7 @@ fn open_vertices(file: &[u8], p: usize, body: Cursor) -> OpenItems
 // Returns the keys of a KEYS with its header at `p` and this `body`.
 fn open_keys(file: &[u8], p: usize, body: Cursor) -> OpenItems
     requires { ⌜ BodyAt (now file) p body ⌝ }
-    ensures { λ r. ⌜ Opens 10 (now (file .entry)) p body r ⌝ }
+    ensures { λ r. ⌜ AllItemsLeft 10 (now (file .entry)) p body r ⌝ }
 {
     let head = b3d_chunk_walk::first_word(file, body);
     let flags = head.word;
@@ -94,7 +94,7 @@ fn open_keys(file: &[u8], p: usize, body: Cursor) -> OpenItems
 // TRIS, for 10 the keys of a KEYS, for another `k` the weights of a BONE.
 pub fn open_items(file: &[u8], k: u32, p: usize, body: Cursor) -> OpenItems
     requires { ⌜ BodyAt (now file) p body ⌝ }
-    ensures { λ r. ⌜ Opens k (now (file .entry)) p body r ⌝ }
+    ensures { λ r. ⌜ AllItemsLeft k (now (file .entry)) p body r ⌝ }
 {
     if k == 5 {
         return open_vertices(file, p, body);

@@ -4,7 +4,7 @@ use Prim.Native.Nat.{ℕ, _+_}
 use mathlib.Core.List.{List, _++_}
 use lib.ListN.{length}
 use Rattle.wire.specs.Test.{if}
-use Rattle.layout.proofs.Outs.{by-test}
+use Rattle.layout.proofs.ResultLaws.{by-test}
 use Rattle.layout.specs.Chunks.{done, stop, chunk}
 use Rattle.b3d_spec.specs.declared.Counts.{Counts}
 use Rattle.b3d_spec.specs.declared.Tag.{Tag}
@@ -13,10 +13,10 @@ use Rattle.b3d_spec.specs.Tables.{triangleRows}
 use Rattle.b3d_spec.specs.Tags.{Chunks, is}
 use Rattle.b3d_spec_plain_rows.specs.Plain.{plainMesh, plainKeys}
 use Rattle.b3d_spec_plain_rows.specs.Rows.{counted, chunkRows, flatRows}
-use Rattle.b3d_chunk_walk.proofs.Table.{Owns}
-use Rattle.b3d_chunk_walk.proofs.Counting.{counted-nodes, counted-meshes, counted-vertices, counted-sets, counted-triangles, counted-keys}
-use Rattle.b3d_read_meshes.proofs.Tables.{meshes, sets}
-use Rattle.b3d_read_animation.proofs.Tables.{lists}
+use Rattle.b3d_chunk_walk.proofs.TableLaws.{Owns}
+use Rattle.b3d_chunk_walk.proofs.CountLaws.{counted-nodes, counted-meshes, counted-vertices, counted-sets, counted-triangles, counted-keys}
+use Rattle.b3d_read_meshes.proofs.TableLaws.{meshes, sets}
+use Rattle.b3d_read_animation.proofs.TableLaws.{lists}
 
 module _ {k : ℕ} {o : Tag} {f : ℕ → List ℕ → Counts → List (List ℕ)} (owns : Owns k o f) (R : Counts → Counts → Type 0)
     (same : (p : ℕ) (b : List ℕ) (n m : Counts) → R n m → f p b n ≡ f p b m)

@@ -10,7 +10,7 @@ use lib.ListN.{length}
 use lib.Dec.{T}
 use Rattle.wire.specs.Cursors.{left}
 use Rattle.wire.specs.declared.Cursor.{Cursor}
-use Rattle.layout.proofs.Outs.{if-yes, if-no}
+use Rattle.layout.proofs.ResultLaws.{if-yes, if-no}
 use Rattle.b3d_spec.specs.declared.Counts.{Counts}
 use Rattle.b3d_spec.specs.declared.Tag.{Tag}
 use Rattle.b3d_spec.specs.declared.Tag.the-variants.{NODE, MESH, KEYS}
@@ -20,15 +20,15 @@ use Rattle.b3d_spec_plain_rows.specs.Rows.{counted, chunkRows, flatRows}
 use Rattle.b3d_chunk_walk.specs.Walks.{ChunkIs, Ends, FlatIs, Steps}
 use Rattle.b3d_chunk_walk.specs.declared.Flat.{Flat}
 use Rattle.b3d_chunk_walk.specs.declared.Flat.the-variants as run
-use Rattle.b3d_chunk_walk.proofs.Counting.{tag-same, counted-nodes, counted-meshes, counted-vertices, counted-sets, counted-triangles, counted-keys}
-use Rattle.b3d_rows_positions.specs.FindChunk.{Only, Later, ChunkFound, NoChunk, ChunkFoundIs, ChunkFinds}
+use Rattle.b3d_chunk_walk.proofs.CountLaws.{tag-same, counted-nodes, counted-meshes, counted-vertices, counted-sets, counted-triangles, counted-keys}
+use Rattle.b3d_rows_positions.specs.FindChunk.{Only, LaterCounts, ChunkFound, NoChunk, ChunkFoundIs, ChunkFinds}
 use Rattle.b3d_rows_positions.specs.declared.FoundChunk.{FoundChunk}
 use Rattle.b3d_rows_positions.specs.declared.FoundChunk.the-variants as met
 
 -- table j's rows from one place on are those from a later one on, but for counts
 pub record Reached (s : List ℕ) (from : ℕ) (k : Tag) (at nodes j : ℕ) (n : Counts) : Type 0 where
   pub counts : Counts
-  pub later : Later k nodes n counts
+  pub later : LaterCounts k nodes n counts
   pub rows : flatRows j n (flatAt s from) ≡ flatRows j counts (flatAt s at)
 
 -- no chunk of tag k stands before `at`
@@ -49,8 +49,8 @@ yes-tag t k ok eo z = subst T (sym z ∙ eo) tt
 not-own : (t k o : Tag) → T (not (is t k)) → T (is o k) → T (not (is t o))
 not-own t k o h i = subst (λ (u : Tag). T (not (is t u))) (sym (tag-same o k i)) h
 
-module _ (t k : Tag) (p : ℕ) (b : List ℕ) (n m : Counts) (h : T (not (is t k))) (l : ℕ) (i : Later k l n m) where
-  passed : (j : ℕ) → counted t p b m .nodes ≡ j → Later k j n (counted t p b m)
+module _ (t k : Tag) (p : ℕ) (b : List ℕ) (n m : Counts) (h : T (not (is t k))) (l : ℕ) (i : LaterCounts k l n m) where
+  passed : (j : ℕ) → counted t p b m .nodes ≡ j → LaterCounts k j n (counted t p b m)
   passed j e = record {
     nodes-are = e;
     meshes = λ y. counted-meshes p b m t ∙ if-no (is t MESH) _ _ (not-own t k MESH h y) ∙ i .meshes y;

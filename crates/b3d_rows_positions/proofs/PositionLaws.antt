@@ -12,7 +12,7 @@ use borrow.Author.Tests.{eq-eqb, ne-eqb}
 use Rattle.wire.specs.Test.{if}
 use Rattle.wire.specs.Cursors.{Inside, left}
 use Rattle.wire.specs.declared.Cursor.{Cursor}
-use Rattle.layout.proofs.Outs.{by-test}
+use Rattle.layout.proofs.ResultLaws.{by-test}
 use Rattle.layout.specs.Chunks.{done, stop, chunk}
 use Rattle.b3d_spec.specs.declared.Counts.{Counts}
 use Rattle.b3d_spec.specs.declared.Tag.{Tag}
@@ -27,17 +27,17 @@ use Rattle.b3d_chunk_walk.specs.Seeks.{ahead, inner, Seeks, FirstWord}
 use Rattle.b3d_chunk_walk.specs.declared.Headed.{Headed}
 use Rattle.b3d_chunk_walk.specs.declared.Sought.{Sought}
 use Rattle.b3d_chunk_walk.specs.declared.Sought.the-variants as sought
-use Rattle.b3d_chunk_walk.proofs.Table.{Owns}
-use Rattle.b3d_chunk_walk.proofs.Seeking.{sought-among, sought-body, sought-next, sought-less}
-use Rattle.b3d_chunk_walk.proofs.Meshes.{mesh-inside, mesh-inner, no-set, one-set}
+use Rattle.b3d_chunk_walk.proofs.TableLaws.{Owns}
+use Rattle.b3d_chunk_walk.proofs.SeekLaws.{sought-among, sought-body, sought-next, sought-less}
+use Rattle.b3d_chunk_walk.proofs.MeshLaws.{mesh-inside, mesh-inner, no-set, one-set}
 use Rattle.b3d_rows_positions.specs.FindChunk.{Only, RowsFound, ChunkFound, ChunkFinds}
 use Rattle.b3d_rows_positions.specs.declared.FoundChunk.{FoundChunk}
 use Rattle.b3d_rows_positions.specs.declared.FoundChunk.the-variants as met
 use Rattle.b3d_rows_positions.proofs.FindChunkLaws.{chunk-none, chunk-at}
 use Rattle.b3d_read_triangle_rows.specs.Sets.{trianglesIn}
-use Rattle.b3d_read_meshes.proofs.Tables.{vertices, triangles}
-use Rattle.b3d_read_animation.proofs.Tables.{bones, keys}
-use Rattle.b3d_rows_open_items.specs.ItemsLeft.{ItemTable, itemRows, chunkItems, Opens}
+use Rattle.b3d_read_meshes.proofs.TableLaws.{vertices, triangles}
+use Rattle.b3d_read_animation.proofs.TableLaws.{bones, keys}
+use Rattle.b3d_rows_open_items.specs.ItemsLeft.{ItemTable, itemRows, chunkItems, AllItemsLeft}
 use Rattle.b3d_rows_open_items.specs.declared.OpenItems.{OpenItems}
 use Rattle.b3d_rows_open_items.proofs.ItemsLeftLaws.{by-table}
 use Rattle.b3d_rows_positions.specs.Positions.{innerRows, itemsLater, itemsAhead, MeshPosition, MeshOpens, ownerOf, ItemPosition, ItemsMore}
@@ -196,7 +196,7 @@ module _ (k : ℕ) (t : ItemTable k) (n7 : k ≡ 7 → ⊥) (s : List ℕ) (x : 
           rows-found .rows
           ∙ ap₂ _++_ (owns .own (ownerOf k) p (left b s) (rows-found .counts) (self (ownerOf k))) (free-rows owns (λ p b n m. refl) (flatAt s q) (counted (ownerOf k) p (left b s) (rows-found .counts)) start)
 
-      pub items-opened : (i : OpenItems) → Opens k s p b i → (y : Position) → y ≡ record { at = q; inner = x .inner; items = i; counts = x .counts } → ItemsMore k s x (more.At y)
+      pub items-opened : (i : OpenItems) → AllItemsLeft k s p b i → (y : Position) → y ≡ record { at = q; inner = x .inner; items = i; counts = x .counts } → ItemsMore k s x (more.At y)
       unfolding itemsLater itemsAhead
       items-opened i o y ey =
           subst (λ (z : Position). ItemsMore k s x (more.At z)) (sym ey)
@@ -266,7 +266,7 @@ module _ (s : List ℕ) (x : Position) (v : ItemPosition 7 s x) (r : Sought) (u 
         let i = sought-body s (x .inner) TRIS r u p b n w (length s) (v .walk .inside) in
         record { head = f .body; room = i .before; within = i .within }
 
-    pub set-opened : (i : OpenItems) → Opens 7 s p b i → (y : Position) → y ≡ record { at = x .at; inner = n; items = i; counts = x .counts } → ItemsMore 7 s x (more.At y)
+    pub set-opened : (i : OpenItems) → AllItemsLeft 7 s p b i → (y : Position) → y ≡ record { at = x .at; inner = n; items = i; counts = x .counts } → ItemsMore 7 s x (more.At y)
     unfolding itemsLater itemsAhead innerRows if chunkItems triangleRows
     set-opened i o y ey =
         subst (λ (z : Position). ItemsMore 7 s x (more.At z)) (sym ey)

@@ -23,7 +23,7 @@ pub record Only (j : ℕ) (k : Tag) : Type 0 where
   pub other : (t : Tag) (p : ℕ) (b : List ℕ) (n : Counts) → T (not (is t k)) → chunkRows j t p b n ≡ []
 
 -- m are the counts n behind chunks of other tags than k: m has `nodes` nodes, and the counts that chunks of tag k change are those of n
-pub record Later (k : Tag) (nodes : ℕ) (n m : Counts) : Type 0 where
+pub record LaterCounts (k : Tag) (nodes : ℕ) (n m : Counts) : Type 0 where
   -- how many nodes came before
   pub nodes-are : m .nodes ≡ nodes
   -- a MESH alone changes the counts of meshes, vertices, sets and triangles
@@ -39,7 +39,7 @@ pub record RowsFound (s : List ℕ) (from : ℕ) (k : Tag) (p : ℕ) (b : Cursor
   -- the counts before the chunk
   pub counts : Counts
   -- they are n, and the nodes in between
-  pub later : Later k nodes n counts
+  pub later : LaterCounts k nodes n counts
   -- the rows from `from` on
   pub rows : flatRows j n (flatAt s from) ≡ chunkRows j k p (left b s) counts ++ flatRows j (counted k p (left b s) counts) (flatAt s q)
 

@@ -1,12 +1,12 @@
 -- In an accepted file `start` and one `next` after the other give the rows of a table, in their order, and then none.
-use mathlib.Core.Path.{_≡_, refl, ap, sym, _∙_}
+use mathlib.Core.Path.{_≡_, sym, _∙_}
 use Prim.Native.Nat.{ℕ, _≤_}
 use native.Mathlib.Omega.{arith}
 use mathlib.Core.List.{List, [], _∷_}
 use lib.ListN.{length}
 use Rattle.layout.specs.Result.{accept}
 use Rattle.layout.specs.Rows.{sizeFits}
-use Rattle.layout.proofs.Outs.{by-check}
+use Rattle.layout.proofs.ResultLaws.{by-check}
 use Rattle.b3d_spec.specs.declared.Mode.the-variants.{Lenient}
 use Rattle.b3d_spec.specs.Answers.{judge}
 use Rattle.b3d_spec.specs.Parse.{parse}
@@ -14,7 +14,7 @@ use Rattle.b3d_spec.specs.Scene.{Scene}
 use Rattle.b3d_spec.specs.Tables.{rows}
 use Rattle.b3d_spec.proofs.AnswerLaws.{judge-got}
 use Rattle.b3d_spec.proofs.Files.FileLaws.{size-bound}
-use Rattle.b3d_spec_chunk_places.proofs.Files.{parse-low}
+use Rattle.b3d_spec_chunk_places.proofs.FileChunkLaws.{parse-low}
 use Rattle.b3d_spec_plain_rows.proofs.Laws.{rows-law}
 use Rattle.b3d_rows_nodes.proofs.DepthLaws.{accepted-shallow}
 use Rattle.b3d_rows_state.specs.declared.RowState.{RowState}

@@ -3,17 +3,17 @@ use mathlib.Core.Path.{_≡_, refl, ap, sym, subst, _∙_}
 use Prim.Native.Nat.{ℕ, _<_, _≤_}
 use native.Mathlib.Omega.{arith}
 use mathlib.Core.Bool.{Bool, true, false, not}
-use mathlib.Core.List.{List, []}
+use mathlib.Core.List.{List}
 use lib.ListN.{length}
 use lib.Dec.{T}
 use Rattle.b3d_rows_nodes.specs.declared.NextCursor.{NextCursor}
 use Rattle.b3d_rows_nodes.specs.declared.RowCursor.{RowCursor}
-use Rattle.b3d_rows.specs.NextRow.{RowCursorAt, Begins, RowNext, RowNextIs, RowNexts}
+use Rattle.b3d_rows.specs.NextRow.{RowCursorAt, Begins, RowNextIs, RowNexts}
 use Rattle.b3d_rows_valid_items.specs.Decides.{Decides}
 use Rattle.b3d_rows_valid_items.proofs.ItemTestLaws.{alike, told-yes, told-no}
 use Rattle.b3d_rows_state.specs.declared.RowState.{RowState}
 use Rattle.b3d_rows_state.specs.declared.RowGiven.{RowGiven}
-use Rattle.b3d_rows_state.specs.States.{cursorOf, stateOf, noState, CursorOf, stateRows, CanGoOn, Startable, StateStarts, GivenIs, Refused, StateNexts}
+use Rattle.b3d_rows_state.specs.States.{cursorOf, stateOf, noState, CursorOf, CanGoOn, Startable, StateStarts, GivenIs, StateNexts}
 
 -- ---- the start
 

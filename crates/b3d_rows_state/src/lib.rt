@@ -1,8 +1,6 @@
 // The rows of any table of a file one after the other, with a state of plain numbers that C can hold too: `start` gives the state before the first row, `next`
 // a row and the state behind it. They ask nothing of the caller: with any bytes, state and row they end, and a state that cannot be gone on with is refused.
 ghost use mathlib.Core.Path.{_≡_};
-ghost use Prim.Native.Nat.{_≤_};
-ghost use lib.ListN.{length};
 ghost use Rattle.b3d_rows_valid_items.specs.Decides.{Decides};
 ghost use Rattle.b3d_rows_state.specs.States.{stateOf, noState, CursorOf, CanGoOn, StateStarts, GivenIs, StateNexts};
 use b3d_rows_nodes::NextCursor;

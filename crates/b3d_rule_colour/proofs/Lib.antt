@@ -1,2 +1,2 @@
 -- The laws of colours.
-pub mod Unit
+pub mod UnitRangeLaws

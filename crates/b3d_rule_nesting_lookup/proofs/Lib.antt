@@ -1,2 +1,2 @@
 -- What stands at a tag's place.
-pub mod Picked
+pub mod LookupLaws

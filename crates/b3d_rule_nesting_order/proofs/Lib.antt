@@ -1,4 +1,4 @@
 -- The laws of the table.
-pub mod Rows
-pub mod MayStand
-pub mod Exact
+pub mod RowLaws
+pub mod PermitLaws
+pub mod ExactLaws

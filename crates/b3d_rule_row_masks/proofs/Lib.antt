@@ -1,2 +1,2 @@
 -- The masks are their runs.
-pub mod Masks
+pub mod MaskLaws

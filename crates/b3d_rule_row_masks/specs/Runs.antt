@@ -63,8 +63,8 @@ pub record OfVertex (g : RowRuns) : Type 0 where
   pub sets : g .sets * 4 + g .rest ≡ 32
 
 -- the lesser of n and m
-unfoldable pub atMost : ℕ → ℕ → ℕ
-atMost m n = if (ltb n m) n m
+unfoldable pub leastOf : ℕ → ℕ → ℕ
+leastOf m n = if (ltb n m) n m
 
 -- the groups of a vertex row: position, normal if flag 1, colour if flag 2, and eight sets
 unfoldable pub vertexRuns : ℕ → ℕ → ℕ → RowRuns
@@ -73,9 +73,9 @@ vertexRuns flags sets size = record {
   three = flags % 2 * 3;
   wide = 4;
   some = flags / 2 % 2 * 4;
-  sets = atMost 8 sets;
-  size = atMost 4 size;
-  rest = 4 * (8 - atMost 8 sets);
+  sets = leastOf 8 sets;
+  size = leastOf 4 size;
+  rest = 4 * (8 - leastOf 8 sets);
 }
 
 -- the groups of a key row: frame, position if flag 1, scale if flag 2, rotation if flag 4

@@ -1,7 +1,7 @@
 // Which cells of a vertex row and of a key row hold words of the file, as groups of cells. Rows are read, checked and written by these groups, with no test
 // for each word.
 ghost use mathlib.Core.Path.{_≡_};
-ghost use Rattle.b3d_rule_row_masks.specs.Runs.{atMost, vertexRuns, keyRuns};
+ghost use Rattle.b3d_rule_row_masks.specs.Runs.{leastOf, vertexRuns, keyRuns};
 
 // Which cells of a vertex or key row hold words of the file, by groups: all `head` cells; `three` of the next 3; `some` of the next `wide`; `size` of the 4
 // cells of each of `sets` sets; none of the last `rest`.
@@ -16,8 +16,8 @@ pub struct RowRuns {
 }
 
 // Returns the lesser of `n` and `m`.
-fn at_most(m: u32, n: u32) -> usize
-    ensures { λ r. ⌜ r ≡ atMost m n ⌝ }
+fn least(m: u32, n: u32) -> usize
+    ensures { λ r. ⌜ r ≡ leastOf m n ⌝ }
 {
     if n < m {
         return wire::size(n);
@@ -29,14 +29,14 @@ fn at_most(m: u32, n: u32) -> usize
 pub fn vertex_runs(flags: u32, sets: u32, size: u32) -> RowRuns
     ensures { λ r. ⌜ r ≡ vertexRuns flags sets size ⌝ }
 {
-    let n = at_most(8, sets);
+    let n = least(8, sets);
     RowRuns {
         head: 3,
         three: wire::size(flags % 2 * 3),
         wide: 4,
         some: wire::size(flags / 2 % 2 * 4),
         sets: n,
-        size: at_most(4, size),
+        size: least(4, size),
         rest: 4 * (8 - n),
     }
 }

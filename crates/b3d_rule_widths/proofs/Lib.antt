@@ -1,3 +1,3 @@
 -- Their laws.
-pub mod Widths
-pub mod Clips
+pub mod WidthLaws
+pub mod ClipLaws

@@ -10,13 +10,13 @@ use lib.Dec.{T, leb, ltb, leb→le, le→leb, ltb→lt, nltb→le}
 use borrow.Author.Tests.{lt-leb, le-leb, lt-ltb, le-ltb}
 use Rattle.wire.specs.Test.{if}
 use Rattle.layout.specs.Result.{Result, accept, reject, _>>=_}
-use Rattle.layout.proofs.Lists.{All, all-map}
-use Rattle.layout.proofs.Outs.{by-test, if-yes, if-no, by-check, by-got, bad-got, check-yes, got-inj, check-no, each-got, each-yes}
+use Rattle.layout.proofs.AllLaws.{All, all-map}
+use Rattle.layout.proofs.ResultLaws.{by-test, if-yes, if-no, by-check, by-got, bad-got, check-yes, got-inj, check-no, each-got, each-yes}
 use Rattle.layout.specs.Rows.{eachOf, mostBytes}
 use Rattle.b3d_spec.specs.declared.Mode.{Mode}
 use Rattle.b3d_spec.specs.declared.Mode.the-variants.{Lenient}
 use Rattle.b3d_spec.specs.declared.Written.{Written}
-use Rattle.b3d_spec.proofs.Modes.{mode-got}
+use Rattle.b3d_spec.proofs.TwoModeLaws.{mode-got}
 use Rattle.b3d_spec.specs.Answers.{firstNot, judge, read, roomFor, shortest, write, clear}
 use Rattle.b3d_spec.specs.Encode.{encode}
 use Rattle.b3d_spec.specs.Parse.{parse}

@@ -1,6 +1,6 @@
 -- The laws between files and scenes: what `encode` writes `parse` reads, what `parse` reads fits.
-pub mod TagCodes
-pub mod Entries
+pub mod TagCodeLaws
+pub mod EntryLaws
 pub mod NestingLaws
 pub mod LeafLaws
 pub mod NodeLaws
@@ -11,4 +11,4 @@ pub mod SizeLaws
 pub mod PlaceLaws
 pub mod TagLaws
 pub mod ModeLaws
-pub mod BodyRefusals
+pub mod BodyRefusalLaws

@@ -23,13 +23,13 @@ use Rattle.b3d_spec.specs.Parse.{parse}
 use Rattle.b3d_spec.specs.Encode.{encode}
 use Rattle.b3d_spec.specs.Names.{withoutPlaces, cleared}
 use Rattle.b3d_spec.specs.Sizes.{sizeOf}
-use Rattle.b3d_spec.proofs.Fitting.{WellFormed}
-use Rattle.b3d_spec.proofs.Modes.{Passes, mode-got, mode-yes, mode-no, mode-bad, passes-bare, rebuild-mode}
+use Rattle.b3d_spec.proofs.WellFormedLaws.{WellFormed}
+use Rattle.b3d_spec.proofs.TwoModeLaws.{Passes, mode-got, mode-yes, mode-no, mode-bad, passes-bare, rebuild-mode}
 use Rattle.b3d_spec.proofs.Files.FileLaws.{parse-back, parse-fine}
 use Rattle.b3d_spec.proofs.Files.NameLaws.{encode-bare, Copied, copy-back, same-copy, shortest}
 use Rattle.b3d_spec.proofs.Files.ByteLaws.{encode-bytes}
 use Rattle.b3d_spec.proofs.Files.SizeLaws.{encode-size}
-use Rattle.b3d_spec.proofs.Refusals.{parse-refusal}
+use Rattle.b3d_spec.proofs.RefusalLaws.{parse-refusal}
 use Rattle.b3d_spec.proofs.Files.PlaceLaws.{NamesIn, parse-names}
 
 -- a scene that fits, with colours that the mode takes, is what its file parses to, name places aside

@@ -1,11 +1,11 @@
 -- The laws between scenes and tables: what `rebuild` makes of a scene's rows, and the rows of what it rebuilds.
-pub mod Numbers
+pub mod TableNumberLaws
 pub mod MaskLaws
-pub mod WordCounts
-pub mod RowLists
-pub mod RowParts
-pub mod Nodes
-pub mod Trees
+pub mod WordCountLaws
+pub mod RowListLaws
+pub mod RowPartLaws
+pub mod NodeRowLaws
+pub mod TreeLaws
 pub mod RebuildLaws
 pub mod CountLaws
-pub mod Rename
+pub mod RenameLaws

@@ -1,8 +1,8 @@
 -- Laws of places inside a chunk, and of the chunks that were read inside a MESH, a NODE and a file.
-pub mod Heads
-pub mod TagTests
-pub mod Turns
-pub mod Cycles
-pub mod Meshes
-pub mod Nodes
-pub mod Files
+pub mod HeadLaws
+pub mod TagTestLaws
+pub mod NestingStateLaws
+pub mod CycleLaws
+pub mod MeshChunkLaws
+pub mod NodeChunkLaws
+pub mod FileChunkLaws

@@ -63,7 +63,7 @@ pub record WeightOf (xs : List (List ℕ)) (w : ℕ) : Type 0 where
   pub is : w ≡ firstOf xs by + number
 
 -- weight i of node r, in the tables R, names a vertex as E3 says
-pub record Bone (R : Rows) (r i : ℕ) : Type 0 where
+pub record WeightNearest (R : Rows) (r i : ℕ) : Type 0 where
   -- the node whose MESH it is measured against
   pub of : ℕ
   -- from r's parent up, that node is the nearest with an ANIM, or the root if no node above has one
@@ -77,6 +77,6 @@ pub record Bone (R : Rows) (r i : ℕ) : Type 0 where
 pub record BonesNearest (mode : Mode) (s : List ℕ) : Type 0 where
   -- each weight of each bone names a vertex of the MESH of the nearest node above with an ANIM, else of the root's
   pub bones : (t : Scene) → judge mode s ≡ accept t → (r : ℕ) → r < length (rows 3 t) → kindOf (rows 3 t) r ≡ 2 → (i : ℕ) → i < countOf (rows 3 t) r
-      → Bone (λ k. rows k t) r i
+      → WeightNearest (λ k. rows k t) r i
   -- each row of the weights is a weight of some bone
   pub each : (t : Scene) → judge mode s ≡ accept t → (w : ℕ) → w < length (rows 8 t) → WeightOf (rows 3 t) w

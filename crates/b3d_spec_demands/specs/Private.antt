@@ -19,13 +19,13 @@ use Rattle.b3d_spec_demands.specs.Demands.{Alike}
 use Rattle.b3d_spec_demands.specs.Calls.{OneCopy}
 
 -- a stretch of a file
-pub data Part : Type 0 where
+pub data FileStretch : Type 0 where
   -- what stands in a chunk of this tag
-  bodyOf : Tag → Part
+  bodyOf : Tag → FileStretch
   -- the chunks in a chunk of this tag, to its end
-  chunksIn : Tag → Part
+  chunksIn : Tag → FileStretch
   -- items of a text and this number of bytes, to the end
-  itemsOf : ℕ → Part
+  itemsOf : ℕ → FileStretch
 
 -- the bytes n of a text without its zero
 abbrev pub IsName : List ℕ → Type 0
@@ -40,9 +40,9 @@ abbrev pub passedOver : ℕ → List ℕ → List ℕ → List ℕ
 passedOver n b r = bytes n (bytes (length b) (b ++ r))
 
 -- `Without x s v`: v is the stretch s without some of what is private in it
-pub data Without : Part → List ℕ → List ℕ → Type 0 where
+pub data Without : FileStretch → List ℕ → List ℕ → Type 0 where
   -- nothing is taken out
-  same : {x : Part} {s : List ℕ} → Without x s s
+  same : {x : FileStretch} {s : List ℕ} → Without x s s
   -- ---- chunks: without something in the first, and in the others
   -- the first chunk, without some of what is private in its body, and the chunks behind it
   chunk : {k t : Tag} {b c r q : List ℕ} → Without (bodyOf t) b c → Without (chunksIn k) r q → Without (chunksIn k) (writeChunk t b r) (writeChunk t c q)

@@ -1,2 +1,2 @@
 -- The laws of its ways.
-pub mod SizeAnswers
+pub mod SizeAnswerLaws

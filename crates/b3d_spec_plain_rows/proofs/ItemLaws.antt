@@ -9,7 +9,7 @@ use lib.Dec.{ltb, ltb→lt, nltb→le}
 use Rattle.layout.specs.Result.{accept}
 use Rattle.layout.specs.Parts.{Step, wordsOf, itemsOf, row, itemsIn, items}
 use Rattle.layout.specs.Rules.{Rule}
-use Rattle.layout.proofs.Outs.{by-test, by-got, bad-got, got-inj}
+use Rattle.layout.proofs.ResultLaws.{by-test, by-got, bad-got, got-inj}
 use Rattle.layout.proofs.StepLaws.{row-enough, row-short, judged-got, words-add}
 use Rattle.layout.specs.Rows.{joined}
 

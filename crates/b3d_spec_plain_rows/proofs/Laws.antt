@@ -25,12 +25,12 @@ use Rattle.b3d_spec.specs.Tags.{Chunks, split, tagOf, is}
 use Rattle.b3d_spec.proofs.AnswerLaws.{judge-got}
 use Rattle.b3d_spec_plain_rows.specs.Flat.{rest, flatAt, flat}
 use Rattle.b3d_spec_plain_rows.specs.Rows.{Open, parentAt, kindOf, animOf, nodeRows, flatRows, fileRows}
-use Rattle.b3d_spec_plain_rows.proofs.Files.{Says, Has, file-flat}
-use Rattle.b3d_spec_plain_rows.proofs.Nodes.{past, node-flat}
-use Rattle.b3d_spec_plain_rows.proofs.Trees.{Clean, done-clean, node-flat as tree-flat}
-use Rattle.layout.proofs.Lists.{All}
-use Rattle.b3d_spec.proofs.Rows.Numbers.{ten-tables, table-each}
-use Rattle.b3d_spec_plain_rows.proofs.Run.{Here, run-done, run-past}
+use Rattle.b3d_spec_plain_rows.proofs.FileLaws.{Says, Has, file-flat}
+use Rattle.b3d_spec_plain_rows.proofs.NodeLaws.{past, node-flat}
+use Rattle.b3d_spec_plain_rows.proofs.TreeLaws.{Clean, done-clean, node-flat as tree-flat}
+use Rattle.layout.proofs.AllLaws.{All}
+use Rattle.b3d_spec.proofs.Rows.TableNumberLaws.{ten-tables, table-each}
+use Rattle.b3d_spec_plain_rows.proofs.FlatRunLaws.{Here, run-done, run-past}
 
 -- nothing stands at the end of a file
 pub end-done : (s : List ℕ) (at : ℕ) → rest s at ≡ rest s (length s) → flatAt s at ≡ done

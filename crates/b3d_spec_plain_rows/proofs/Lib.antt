@@ -1,13 +1,13 @@
 -- Laws of the flat run and of its rows.
-pub mod Ahead
-pub mod Run
+pub mod TextEndLaws
+pub mod FlatRunLaws
 pub mod ItemLaws
-pub mod Leaves
-pub mod Parts
-pub mod Nodes
-pub mod Lists
-pub mod Items
-pub mod Trees
-pub mod Files
+pub mod LeafLaws
+pub mod PartLaws
+pub mod NodeLaws
+pub mod MaterialLaws
+pub mod NamedItemLaws
+pub mod TreeLaws
+pub mod FileLaws
 pub mod Laws
-pub mod Case
+pub mod PlainRowCases

@@ -8,7 +8,7 @@ use lib.ListN.{length, take, getD, length-map}
 use lib.Seq.{length-take-le}
 use Rattle.wire.specs.Test.{if}
 use Rattle.layout.specs.Parts.{Name}
-use Rattle.layout.proofs.Lists.{All, all-left, all-right, all-from-map, all-zip, all-map}
+use Rattle.layout.proofs.AllLaws.{All, all-left, all-right, all-from-map, all-zip, all-map}
 use Rattle.layout.specs.Rows.{nameCells}
 use Rattle.b3d_spec.specs.declared.Counts.{Counts}
 use Rattle.b3d_spec.specs.declared.Mode.{Mode}
@@ -16,17 +16,17 @@ use Rattle.b3d_spec.specs.Rebuild.{Lent, Rows, lentRows, textureFrom, brushFrom
 use Rattle.b3d_spec.specs.Rules.{levels}
 use Rattle.b3d_spec.specs.Scene.{Texture, Brush, Scene}
 use Rattle.b3d_spec.specs.Tables.{width, textureRow, brushRow, rows, tables, nodeTables, nodeWidth}
-use Rattle.b3d_spec.proofs.Fitting.{FitNodes}
+use Rattle.b3d_spec.proofs.WellFormedLaws.{FitNodes}
 use Rattle.b3d_spec.proofs.Rows.RebuildLaws.{Holds, together-back}
-use Rattle.b3d_spec.proofs.Rows.RowLists.{cut-length}
-use Rattle.b3d_spec.proofs.Rows.RowParts.{Stands}
+use Rattle.b3d_spec.proofs.Rows.RowListLaws.{cut-length}
+use Rattle.b3d_spec.proofs.Rows.RowPartLaws.{Stands}
 use Rattle.b3d_check_table_lengths.specs.LentRooms.{partCounts, Rooms}
 use Rattle.b3d_check.specs.Lent.{lentOf}
 use Rattle.b3d_write_row_runs.specs.Lent.{rowsIn}
-use Rattle.b3d_write_row_runs.proofs.Cutting.{rows-lent}
+use Rattle.b3d_write_row_runs.proofs.CutRowLaws.{rows-lent}
 use Rattle.b3d_write_materials.specs.Named.{NamesThere}
 use Rattle.b3d_write_node.specs.Own.{tableRows}
-use Rattle.b3d_write_node.proofs.Trimmed.{trimmed-rows}
+use Rattle.b3d_write_node.proofs.TrimmedTableLaws.{trimmed-rows}
 use Rattle.b3d_write_nodes.proofs.TableLaws.{quotient}
 use Rattle.b3d_write_file.specs.Whole.{OfNodes, OfScene}
 use Rattle.b3d_write.proofs.SoundLaws.{fit, agree, sound-rooms, sound-slots, sound-rows}

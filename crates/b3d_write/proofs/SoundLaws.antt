@@ -7,14 +7,14 @@ use mathlib.Core.List.{List}
 use lib.ListN.{length, getD}
 use Rattle.wire.specs.Test.{if}
 use Rattle.layout.specs.Rules.{NONE}
-use Rattle.layout.proofs.Lists.{All}
+use Rattle.layout.proofs.AllLaws.{All}
 use Rattle.b3d_spec.specs.declared.Mode.{Mode}
 use Rattle.b3d_spec.specs.Encode.{encode}
 use Rattle.b3d_spec.specs.Rebuild.{Lent, cut, lentRows, rebuild}
 use Rattle.b3d_spec.specs.Rules.{levels}
 use Rattle.b3d_spec.specs.Scene.{Scene}
 use Rattle.b3d_spec.specs.Tables.{width, start, rows, tables, nodeTables}
-use Rattle.b3d_spec.proofs.Fitting.{WellFormed, slots-few}
+use Rattle.b3d_spec.proofs.WellFormedLaws.{WellFormed, slots-few}
 use Rattle.b3d_spec.proofs.Rows.RebuildLaws.{Agree, rebuild-fine, held-rows}
 use Rattle.b3d_check_table_lengths.specs.LentRooms.{partCounts, Rooms}
 use Rattle.b3d_check.specs.Lent.{lentOf}

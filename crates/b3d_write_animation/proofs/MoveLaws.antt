@@ -10,8 +10,8 @@ use borrow.Author.Tests.{ne-eqb, eq-eqb}
 use Rattle.wire.specs.Test.{if}
 use Rattle.layout.specs.Write.{Chunk, writeWords, writeChunks}
 use Rattle.layout.proofs.ListLaws.{cell-take}
-use Rattle.shared_output.proofs.Appends.{chunks-append}
-use Rattle.shared_output.proofs.Joining.{Both, Begins, both-begins, chunk-is}
+use Rattle.shared_output.proofs.AppendLaws.{chunks-append}
+use Rattle.shared_output.proofs.PartLaws.{Both, Begins, both-begins, chunk-is}
 use Rattle.b3d_spec.specs.Encode.{writeKeys, keyChunks, animChunks}
 use Rattle.b3d_spec.specs.Rebuild.{ownedBy, keysFrom, animFrom}
 use Rattle.b3d_spec.specs.Scene.{Keys}
@@ -19,14 +19,14 @@ use Rattle.b3d_spec.specs.Tags.{code}
 use Rattle.b3d_spec.specs.declared.Counts.{Counts}
 use Rattle.b3d_spec.specs.declared.Tag.{Tag}
 use Rattle.b3d_spec.specs.declared.Tag.the-variants.{KEYS, ANIM}
-use Rattle.b3d_spec.proofs.Rows.RowLists.{mine-take, mine-length}
+use Rattle.b3d_spec.proofs.Rows.RowListLaws.{mine-take, mine-length}
 use Rattle.b3d_check_spec.specs.CellCounts.{endOf}
 use Rattle.b3d_write_row_runs.specs.Lent.{rowsIn}
 use Rattle.b3d_write_items.specs.Chunks.{animBytes}
 use Rattle.b3d_write_item_lists.specs.Runs.{listsBytes}
-use Rattle.b3d_write_row_runs.proofs.Cutting.{rows-length, row-end}
+use Rattle.b3d_write_row_runs.proofs.CutRowLaws.{rows-length, row-end}
 use Rattle.b3d_write_animation.specs.Animation.{animPart, movesBytes, MovesThere}
-use Rattle.b3d_write_row_runs.proofs.Cells.{rows-cell}
+use Rattle.b3d_write_row_runs.proofs.CellLaws.{rows-cell}
 
 -- ---- how many key lists a node has
 

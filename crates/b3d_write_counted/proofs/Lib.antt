@@ -1,2 +1,2 @@
 -- The laws of counted rows.
-pub mod Sizes
+pub mod SizeLaws

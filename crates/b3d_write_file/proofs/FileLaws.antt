@@ -6,8 +6,8 @@ use mathlib.Core.List.{List, [], _∷_, _++_, append-assoc}
 use lib.ListN.{length, take, drop}
 use Rattle.wire.specs.Bytes.{bytes}
 use Rattle.shared_output.specs.Writing.{Wrote, Room, Put, head, chunk}
-use Rattle.shared_output.proofs.Appends.{chunks-append}
-use Rattle.shared_output.proofs.Joining.{Both, Begins, both-begins, chunk-fits, two-room, two-inside, two-room-2, two-long, two-small, two-done}
+use Rattle.shared_output.proofs.AppendLaws.{chunks-append}
+use Rattle.shared_output.proofs.PartLaws.{Both, Begins, both-begins, chunk-fits, two-room, two-inside, two-room-2, two-long, two-small, two-done}
 use Rattle.b3d_spec.specs.declared.Tag.the-variants.{BB3D}
 use Rattle.b3d_spec.specs.Encode.{nodeChunks, textureChunks, brushChunks, writeScene, encode}
 use Rattle.b3d_spec.specs.Rebuild.{Rows}

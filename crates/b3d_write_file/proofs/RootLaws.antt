@@ -9,16 +9,16 @@ use Rattle.wire.specs.Test.{if}
 use Rattle.layout.specs.Rules.{NONE}
 use Rattle.layout.specs.Write.{writeChunks as writeChunksOf}
 use Rattle.shared_output.specs.Writing.{Room, Put}
-use Rattle.shared_output.proofs.Joining.{none-put}
+use Rattle.shared_output.proofs.PartLaws.{none-put}
 use Rattle.b3d_spec.specs.declared.Counts.{Counts}
 use Rattle.b3d_spec.specs.Encode.{nodeChunks}
 use Rattle.b3d_spec.specs.Rebuild.{Rows}
 use Rattle.b3d_spec.specs.Scene.{Data, Forest, noNodes, node}
 use Rattle.b3d_spec.specs.Tables.{start, reached, ownRows, forestRows, nodeTables, nodeWidth, noRows}
-use Rattle.b3d_spec.proofs.Rows.RowLists.{cut-length}
-use Rattle.b3d_check_spec.proofs.Below.{here-scene, here-root}
+use Rattle.b3d_spec.proofs.Rows.RowListLaws.{cut-length}
+use Rattle.b3d_check_spec.proofs.BelowLaws.{here-scene, here-root}
 use Rattle.b3d_write_node.specs.Own.{tableRows}
-use Rattle.b3d_write_nodes.specs.Walk.{nodesBytes, nodeBytes, Sized, There, First, Placed, WritableFirst, WritesFirst}
+use Rattle.b3d_write_nodes.specs.Walk.{nodesBytes, nodeBytes, TablesSized, There, First, NodePlaced, WritableFirst, WritesFirst}
 use Rattle.b3d_write_nodes.proofs.TableLaws.{rows-3}
 use Rattle.b3d_write_file.specs.Whole.{OfNodes, Some, Each}
 
@@ -31,7 +31,7 @@ root-rows : (d : Data) (ch : Forest) → 0 < length (forestRows 3 (node d ch noN
 unfolding forestRows ownRows if
 root-rows d ch = omega arith
 
-module _ (ns : List ℕ) (a : Counts) (t₃ t₄ t₅ t₆ t₇ t₈ t₉ t₁₀ : List ℕ) (z : Sized a t₃ t₄ t₅ t₆ t₇ t₈ t₉ t₁₀) (b : ℕ) (out : List ℕ) where
+module _ (ns : List ℕ) (a : Counts) (t₃ t₄ t₅ t₆ t₇ t₈ t₉ t₁₀ : List ℕ) (z : TablesSized a t₃ t₄ t₅ t₆ t₇ t₈ t₉ t₁₀) (b : ℕ) (out : List ℕ) where
   abbrev R : Rows
   R = tableRows t₃ t₄ t₅ t₆ t₇ t₈ t₉ t₁₀
 
@@ -68,7 +68,7 @@ module _ (ns : List ℕ) (a : Counts) (t₃ t₄ t₅ t₆ t₇ t₈ t₉ t₁�
   a-root n (node d ch noNodes) h = record { own = d; children = ch; is = refl }
   a-root n (node d ch (node c g i)) h = absurd (h .root)
 
-  abbrev placed : (f : Forest) (x : Root f) → OfNodes ns R b f → Placed ns R 16 noRows
+  abbrev placed : (f : Forest) (x : Root f) → OfNodes ns R b f → NodePlaced ns R 16 noRows
   placed f x h = record {
     brushes = b;
     above = none;

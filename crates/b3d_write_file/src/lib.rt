@@ -2,7 +2,7 @@
 ghost use Rattle.b3d_spec.specs.Encode.{encode};
 ghost use Rattle.b3d_spec.specs.Tables.{textureWidth, brushWidth};
 ghost use Rattle.b3d_spec.specs.Rules.{mostSlots};
-ghost use Rattle.b3d_write_nodes.specs.Walk.{nodesBytes, Sized};
+ghost use Rattle.b3d_write_nodes.specs.Walk.{nodesBytes, TablesSized};
 ghost use Rattle.b3d_write_node.specs.Own.{tableRows};
 ghost use Rattle.b3d_write_file.specs.Whole.{OfNodes, OfScene, listsBytes, Some, Each};
 ghost use Rattle.shared_output.specs.Writing.{Room, Put};
@@ -42,7 +42,7 @@ fn put_root(
     brushes: usize,
     out: &mut [u8],
 ) -> usize
-    requires { ⌜ Sized all (now t3) (now t4) (now t5) (now t6) (now t7) (now t8) (now t9) (now t10) ⌝ }
+    requires { ⌜ TablesSized all (now t3) (now t4) (now t5) (now t6) (now t7) (now t8) (now t9) (now t10) ⌝ }
     requires { ⌜ Some (OfNodes (now names) (tableRows (now t3) (now t4) (now t5) (now t6) (now t7) (now t8) (now t9)
         (now t10)) brushes) nodesBytes (now out) ⌝ }
     ensures { λ r. ⌜ Each (OfNodes (now (names .entry))
@@ -90,7 +90,7 @@ pub fn write_file(
     all: Counts,
     out: &mut [u8],
 ) -> usize
-    requires { ⌜ Sized all (now t3) (now t4) (now t5) (now t6) (now t7) (now t8) (now t9) (now t10) ⌝ }
+    requires { ⌜ TablesSized all (now t3) (now t4) (now t5) (now t6) (now t7) (now t8) (now t9) (now t10) ⌝ }
     requires { ⌜ Some (OfScene (now names) (now t1) (now t2)
         (tableRows (now t3) (now t4) (now t5) (now t6) (now t7) (now t8) (now t9) (now t10)) version slots) encode (now out) ⌝ }
     ensures { λ r. ⌜ Each (OfScene (now (names .entry)) (now (t1 .entry)) (now (t2 .entry))

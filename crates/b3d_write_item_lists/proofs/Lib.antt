@@ -1,3 +1,3 @@
 -- The laws of runs that are written.
-pub mod RunByRun
+pub mod GroupByGroupLaws
 pub mod RunLaws

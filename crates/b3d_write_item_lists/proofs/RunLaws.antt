@@ -6,8 +6,8 @@ use mathlib.Core.List.{List, [], _∷_, _++_, map}
 use lib.ListN.{length, take, drop, getD}
 use Rattle.wire.specs.Bytes.{bytes}
 use Rattle.layout.specs.Write.{writeWords, writeItems, writeChunks}
-use Rattle.shared_output.proofs.Joining.{chunk-is}
-use Rattle.shared_output.proofs.Appends.{chunks-cons}
+use Rattle.shared_output.proofs.PartLaws.{chunk-is}
+use Rattle.shared_output.proofs.AppendLaws.{chunks-cons}
 use Rattle.b3d_spec.specs.Encode.{writeTriangles, setChunks, writeKeys, keyChunks}
 use Rattle.b3d_spec.specs.Mask.{presentWords, keyMask}
 use Rattle.b3d_spec.specs.Rebuild.{setsFrom, keysFrom}
@@ -16,7 +16,7 @@ use Rattle.b3d_spec.specs.declared.Tag.the-variants.{TRIS, KEYS}
 use Rattle.b3d_write_row_runs.specs.Lent.{rowsIn}
 use Rattle.b3d_write_items.specs.Chunks.{setBytes}
 use Rattle.b3d_write_item_lists.specs.Runs.{listBytes, setsBytes, listsBytes, runWidth, runBytes, runsBytes}
-use Rattle.b3d_write_item_lists.proofs.RunByRun.{eachRun}
+use Rattle.b3d_write_item_lists.proofs.GroupByGroupLaws.{eachRun}
 
 sets-runs : (xs ts : List (List ℕ)) → setsBytes xs ts ≡ eachRun setBytes xs ts
 unfolding setsFrom writeChunks eachRun writeTriangles

@@ -1,2 +1,2 @@
 -- The laws of keys that are written.
-pub mod Keys
+pub mod KeyLaws

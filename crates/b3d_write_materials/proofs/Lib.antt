@@ -1,3 +1,3 @@
 -- The laws of rows with names and of their chunks.
-pub mod Naming
-pub mod Listing
+pub mod NamedRowLaws
+pub mod MaterialLaws

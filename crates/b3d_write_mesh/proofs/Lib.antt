@@ -1,2 +1,2 @@
 -- The laws of a MESH that is written.
-pub mod Bodies
+pub mod BodyLaws

@@ -13,8 +13,8 @@ use Rattle.wire.specs.Bytes.{bytes}
 use Rattle.wire.specs.Test.{if}
 use Rattle.layout.specs.Write.{Chunk, writeWords, writeItems, writeChunks}
 use Rattle.shared_output.specs.Writing.{chunk}
-use Rattle.shared_output.proofs.Appends.{chunks-cons}
-use Rattle.shared_output.proofs.Joining.{chunk-is}
+use Rattle.shared_output.proofs.AppendLaws.{chunks-cons}
+use Rattle.shared_output.proofs.PartLaws.{chunk-is}
 use Rattle.b3d_spec.specs.Encode.{writeVertices, writeMesh, setChunks, kindChunks}
 use Rattle.b3d_spec.specs.Rebuild.{meshFrom, kindFrom}
 use Rattle.b3d_spec.specs.Scene.{Mesh, Kind, pivot, mesh, bone}
@@ -27,7 +27,7 @@ use Rattle.b3d_write_items.specs.Chunks.{boneBytes}
 use Rattle.b3d_write_item_lists.specs.Runs.{setsBytes}
 use Rattle.b3d_write_mesh.specs.Mesh.{verticesBody, verticesBytes, MeshThere, meshBody, meshBytes}
 use Rattle.b3d_write_node.specs.Own.{tableRows, kindBytes, KindThere}
-use Rattle.b3d_write_row_runs.proofs.Cells.{rows-cell, three-words}
+use Rattle.b3d_write_row_runs.proofs.CellLaws.{rows-cell, three-words}
 
 -- ---- a mesh
 

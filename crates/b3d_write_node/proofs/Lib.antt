@@ -1,4 +1,4 @@
 -- The laws of what a node has of its own.
 pub mod KindLaws
 pub mod PartLaws
-pub mod Trimmed
+pub mod TrimmedTableLaws

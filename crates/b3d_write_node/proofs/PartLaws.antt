@@ -10,9 +10,9 @@ use Rattle.wire.specs.Test.{if}
 use Rattle.layout.specs.Write.{Chunk, writeWords, writeText, writeChunks}
 use Rattle.layout.proofs.ListLaws.{cell-take}
 use Rattle.layout.proofs.PartLaws.{words-append}
-use Rattle.shared_output.proofs.Appends.{text-append, before-append, chunks-append}
+use Rattle.shared_output.proofs.AppendLaws.{text-append, before-append, chunks-append}
 use Rattle.shared_output.specs.Writing.{Room, Put}
-use Rattle.shared_output.proofs.Joining.{Both, both-begins, both-room, both-inside, both-room-2, both-done}
+use Rattle.shared_output.proofs.PartLaws.{Both, both-begins, both-room, both-inside, both-room-2, both-done}
 use Rattle.b3d_spec.specs.Encode.{writeKeys, kindChunks, keyChunks, animChunks, writeNode}
 use Rattle.b3d_spec.specs.Rebuild.{nameFrom, kindFrom, dataFrom}
 use Rattle.b3d_spec.specs.Scene.{Keys, Anim, noAnim, anim, Data}
@@ -23,10 +23,10 @@ use Rattle.b3d_spec.specs.declared.Tag.the-variants.{KEYS}
 use Rattle.b3d_spec.specs.Tables.{nodeWidth}
 use Rattle.b3d_write_row_runs.specs.Lent.{rowsIn}
 use Rattle.b3d_write_materials.specs.Named.{namedBytes}
-use Rattle.b3d_write_row_runs.proofs.Cutting.{part-take}
+use Rattle.b3d_write_row_runs.proofs.CutRowLaws.{part-take}
 use Rattle.b3d_write_animation.specs.Animation.{moveChunks, movesBytes}
 use Rattle.b3d_write_node.specs.Own.{tableRows, kindBytes, partsBytes, ownBytes}
-use Rattle.b3d_write_row_runs.proofs.Cells.{rows-row}
+use Rattle.b3d_write_row_runs.proofs.CellLaws.{rows-row}
 use Rattle.b3d_write_node.proofs.KindLaws.{kind-append}
 
 -- ---- the kind, and what moves

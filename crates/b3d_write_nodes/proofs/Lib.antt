@@ -1,6 +1,6 @@
 -- The laws of the walk that writes nodes.
-pub mod NodeBytes
-pub mod Standing
+pub mod NodeByteLaws
+pub mod StandingLaws
 pub mod TableLaws
 pub mod NodeLaws
 pub mod NodesLaws

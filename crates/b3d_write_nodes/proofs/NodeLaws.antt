@@ -9,7 +9,7 @@ use lib.ListN.{length, take, drop, getD}
 use Rattle.wire.specs.Test.{if}
 use Rattle.layout.specs.Rows.{nameCells}
 use Rattle.shared_output.specs.Writing.{Wrote, Room, Put, head, chunk}
-use Rattle.shared_output.proofs.Joining.{Both, both-begins, chunk-fits, two-room, two-inside, two-room-2, two-long, two-small, two-done}
+use Rattle.shared_output.proofs.PartLaws.{Both, both-begins, chunk-fits, two-room, two-inside, two-room-2, two-long, two-small, two-done}
 use Rattle.b3d_spec.specs.declared.Counts.{Counts}
 use Rattle.b3d_spec.specs.declared.Tag.the-variants.{NODE}
 use Rattle.b3d_spec.specs.Encode.{writeNode}
@@ -18,16 +18,16 @@ use Rattle.b3d_spec.specs.Rules.{boneLimitBelow, boneLimit}
 use Rattle.b3d_spec.specs.Scene.{Data}
 use Rattle.b3d_spec.specs.Tables.{nodeRow, withNode, withForest, nodeWidth, nodesIn}
 use Rattle.b3d_spec.specs.Tags.{code}
-use Rattle.b3d_spec.proofs.Rows.Nodes.{nodes-step}
+use Rattle.b3d_spec.proofs.Rows.NodeRowLaws.{nodes-step}
 use Rattle.b3d_check_spec.specs.CellCounts.{cellCounts}
-use Rattle.b3d_check_spec.proofs.Below.{here-more, here-data, here-counts}
+use Rattle.b3d_check_spec.proofs.BelowLaws.{here-more, here-data, here-counts}
 use Rattle.b3d_check_rows.specs.Rows.{rowAt}
 use Rattle.b3d_check_spec.specs.Rooms.{Limited}
 use Rattle.b3d_check_node_counts.specs.Parts.{partRows, Below}
 use Rattle.b3d_write_node.specs.Own.{tableRows, ownBytes, OwnThere}
-use Rattle.b3d_write_nodes.specs.Walk.{nodesBytes, bodyBytes, nodeBytes, Sized, Stand, Placed, Writable, Writes, WritableFirst, WritesFirst}
-use Rattle.b3d_write_nodes.proofs.NodeBytes.{body-both, node-chunk}
-use Rattle.b3d_write_nodes.proofs.Standing.{later, placed-levels, placed-below, placed-fits, placed-name, placed-there}
+use Rattle.b3d_write_nodes.specs.Walk.{nodesBytes, bodyBytes, nodeBytes, TablesSized, Stand, NodePlaced, Writable, WritesNodes, WritableFirst, WritesFirst}
+use Rattle.b3d_write_nodes.proofs.NodeByteLaws.{body-both, node-chunk}
+use Rattle.b3d_write_nodes.proofs.StandingLaws.{later, placed-levels, placed-below, placed-fits, placed-name, placed-there}
 use Rattle.b3d_write_nodes.proofs.TableLaws.{first-of, limited, below-all, counts-same, own-there}
 
 -- sizes of four bytes can be added
@@ -37,7 +37,7 @@ sum-fits o size h k = record { fits = omega arith }
 pub size-fits : (o size : ℕ) → o < 4294967296 → size < 4294967296 → Fits w64 (o + size + 8)
 size-fits o size h k = record { fits = omega arith }
 
-module _ (a : Counts) (t₃ t₄ t₅ t₆ t₇ t₈ t₉ t₁₀ : List ℕ) (z : Sized a t₃ t₄ t₅ t₆ t₇ t₈ t₉ t₁₀) where
+module _ (a : Counts) (t₃ t₄ t₅ t₆ t₇ t₈ t₉ t₁₀ : List ℕ) (z : TablesSized a t₃ t₄ t₅ t₆ t₇ t₈ t₉ t₁₀) where
   pub room-nodes : nodeWidth * a .nodes ≤ length t₃
   room-nodes = omega (arith, z .nodes)
 
@@ -53,7 +53,7 @@ module _ (a : Counts) (t₃ t₄ t₅ t₆ t₇ t₈ t₉ t₁₀ : List ℕ) (z
   pub node-limited : Limited a
   node-limited = limited a t₃ t₄ t₅ t₆ t₇ t₈ t₉ t₁₀ z
 
-module _ (ns : List ℕ) (a : Counts) (t₃ t₄ t₅ t₆ t₇ t₈ t₉ t₁₀ : List ℕ) (z : Sized a t₃ t₄ t₅ t₆ t₇ t₈ t₉ t₁₀) (l : ℕ) (n : Counts) where
+module _ (ns : List ℕ) (a : Counts) (t₃ t₄ t₅ t₆ t₇ t₈ t₉ t₁₀ : List ℕ) (z : TablesSized a t₃ t₄ t₅ t₆ t₇ t₈ t₉ t₁₀) (l : ℕ) (n : Counts) where
   abbrev R : Rows
   R = tableRows t₃ t₄ t₅ t₆ t₇ t₈ t₉ t₁₀
 
@@ -66,7 +66,7 @@ module _ (ns : List ℕ) (a : Counts) (t₃ t₄ t₅ t₆ t₇ t₈ t₉ t₁�
 
   -- ---- a node that stands after n rows
 
-  module _ (x : Placed ns R l n) where
+  module _ (x : NodePlaced ns R l n) where
     abbrev row : List ℕ
     row = nodeRow (x .own) (x .parent) (nodesIn (x .children)) n
 
@@ -149,7 +149,7 @@ module _ (ns : List ℕ) (a : Counts) (t₃ t₄ t₅ t₆ t₇ t₈ t₉ t₁�
 
       module _ (m : Counts) (em : m ≡ cellCounts (partRows a t₄ [] t₆ [] [] t₉ []) (rowAt nodeWidth (n .nodes) t₃) n) where
         -- the nodes below any that stands there
-        module _ (x : Placed ns R l n) where
+        module _ (x : NodePlaced ns R l n) where
           below-stand : Stand ns R (l - 1) (x .brushes) (boneLimitBelow (x .above) (x .own)) (x .children) (n .nodes) m (later ns R l n x)
           below-stand = rw (em ∙ counted x) (placed-below ns R l n x)
 
@@ -161,12 +161,12 @@ module _ (ns : List ℕ) (a : Counts) (t₃ t₄ t₅ t₆ t₇ t₈ t₉ t₁�
             let x = w .placed in
             record { brushes = x .brushes; above = boneLimitBelow (x .above) (x .own); forest = x .children; after = later ns R l n x; stand = below-stand x; room = below-room x (w .room) }
 
-        module _ (us : List ℕ) (k : ℕ) (c : Counts) (pb : Writes ns R (l - 1) (n .nodes) m (take (length mid - (o + 8)) (drop (o + 8) mid)) us k c) where
+        module _ (us : List ℕ) (k : ℕ) (c : Counts) (pb : WritesNodes ns R (l - 1) (n .nodes) m (take (length mid - (o + 8)) (drop (o + 8) mid)) us k c) where
           -- the output with the nodes below too
           abbrev last : List ℕ
           last = take (o + 8) mid ++ (us ++ drop (length mid - (o + 8)) (drop (o + 8) mid))
 
-          below-put : (x : Placed ns R l n) → Room (nodeBytes (x .own) (x .children)) out → Put (nodesBytes (x .children)) (take (length mid - (o + 8)) (drop (o + 8) mid)) us k
+          below-put : (x : NodePlaced ns R l n) → Room (nodeBytes (x .own) (x .children)) out → Put (nodesBytes (x .children)) (take (length mid - (o + 8)) (drop (o + 8) mid)) us k
           below-put x r = pb .bytes (x .brushes) (boneLimitBelow (x .above) (x .own)) (x .children) (later ns R l n x) (below-stand x) (below-room x r)
 
           pub node-asks : (8 ≤ length last) × (o + k < 4294967296)
@@ -176,7 +176,7 @@ module _ (ns : List ℕ) (a : Counts) (t₃ t₄ t₅ t₆ t₇ t₈ t₉ t₁�
               let p = below-put x (w .room) in
               (two-long (code NODE) [] (body x) out 8 r refl own ys o po (nodesBytes (x .children)) (both x) us k p, two-small (code NODE) [] (body x) out 8 r refl own ys o po (nodesBytes (x .children)) (both x) us k p 4294967296 refl)
 
-          node-put : (zs : List ℕ) → Wrote last (head 0x45444F4E (o + k) []) zs → (x : Placed ns R l n) → Room (nodeBytes (x .own) (x .children)) out → Put (nodeBytes (x .own) (x .children)) out zs (o + k + 8)
+          node-put : (zs : List ℕ) → Wrote last (head 0x45444F4E (o + k) []) zs → (x : NodePlaced ns R l n) → Room (nodeBytes (x .own) (x .children)) out → Put (nodeBytes (x .own) (x .children)) out zs (o + k + 8)
           node-put zs h x r =
               rw (node-chunk (x .own) (x .children))
               (two-done (code NODE) [] (body x) out 8 (as-chunk x out r) refl own ys o po (nodesBytes (x .children)) (both x) us k (below-put x r) zs h)

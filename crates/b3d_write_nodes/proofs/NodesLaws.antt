@@ -8,23 +8,23 @@ use mathlib.Core.List.{List, [], _++_}
 use lib.ListN.{length, take, drop, getD, length-drop}
 use Rattle.layout.specs.Rules.{NONE}
 use Rattle.shared_output.specs.Writing.{Room}
-use Rattle.shared_output.proofs.Pieces.{Pieces, pieces-none, piece-room, piece-next, pieces-done}
+use Rattle.shared_output.proofs.PieceLaws.{Pieces, pieces-none, piece-room, piece-next, pieces-done}
 use Rattle.b3d_spec.specs.declared.Counts.{Counts}
 use Rattle.b3d_spec.specs.Encode.{nodeChunks}
 use Rattle.b3d_spec.specs.Rebuild.{Rows, cut}
 use Rattle.b3d_spec.specs.Scene.{Data, Forest, noNodes, node}
 use Rattle.b3d_spec.specs.Tables.{withNode, withForest, nodeWidth}
 use Rattle.layout.specs.Write.{writeChunks as writeChunksOf}
-use Rattle.b3d_spec.proofs.Rows.Nodes.{nodes-step}
-use Rattle.b3d_spec.proofs.Rows.Trees.{nodes-rise}
-use Rattle.b3d_spec.proofs.Rows.RowLists.{cut-length}
-use Rattle.b3d_check_spec.proofs.Below.{here-more, here-end}
-use Rattle.b3d_check_spec.proofs.Places.{cut-cell}
+use Rattle.b3d_spec.proofs.Rows.NodeRowLaws.{nodes-step}
+use Rattle.b3d_spec.proofs.Rows.TreeLaws.{nodes-rise}
+use Rattle.b3d_spec.proofs.Rows.RowListLaws.{cut-length}
+use Rattle.b3d_check_spec.proofs.BelowLaws.{here-more, here-end}
+use Rattle.b3d_check_spec.proofs.PlaceLaws.{cut-cell}
 use Rattle.b3d_check_node_counts.specs.Parts.{Below}
 use Rattle.b3d_write_node.specs.Own.{tableRows}
-use Rattle.b3d_write_nodes.specs.Walk.{nodesBytes, nodeBytes, Sized, Stand, First, Placed, Writable, Writes, WritableFirst, WritesFirst}
-use Rattle.b3d_write_nodes.proofs.NodeBytes.{nodes-both}
-use Rattle.b3d_write_nodes.proofs.Standing.{stand-first, stand-others, first-placed, placed-there}
+use Rattle.b3d_write_nodes.specs.Walk.{nodesBytes, nodeBytes, TablesSized, Stand, First, NodePlaced, Writable, WritesNodes, WritableFirst, WritesFirst}
+use Rattle.b3d_write_nodes.proofs.NodeByteLaws.{nodes-both}
+use Rattle.b3d_write_nodes.proofs.StandingLaws.{stand-first, stand-others, first-placed, placed-there}
 use Rattle.b3d_write_nodes.proofs.TableLaws.{first-of, below-all, rows-3}
 
 no-nodes : nodesBytes noNodes ≡ []
@@ -43,7 +43,7 @@ pub record NodesLeft (ns : List ℕ) (R : Rows) (l p : ℕ) (n : Counts) (out₀
   pub first : Writable ns R l p n out₀
   pub each : (b : ℕ) (above : Option ℕ) (f : Forest) (S : Rows) → Stand ns R l b above f p n S → Room (nodesBytes f) out₀ → Left ns R l b above f p n S out₀ out at m
 
-module _ (ns : List ℕ) (a : Counts) (t₃ t₄ t₅ t₆ t₇ t₈ t₉ t₁₀ : List ℕ) (z : Sized a t₃ t₄ t₅ t₆ t₇ t₈ t₉ t₁₀) (l p : ℕ) (n : Counts) (out₀ : List ℕ) where
+module _ (ns : List ℕ) (a : Counts) (t₃ t₄ t₅ t₆ t₇ t₈ t₉ t₁₀ : List ℕ) (z : TablesSized a t₃ t₄ t₅ t₆ t₇ t₈ t₉ t₁₀) (l p : ℕ) (n : Counts) (out₀ : List ℕ) where
   abbrev R : Rows
   R = tableRows t₃ t₄ t₅ t₆ t₇ t₈ t₉ t₁₀
 
@@ -95,7 +95,7 @@ module _ (ns : List ℕ) (a : Counts) (t₃ t₄ t₅ t₆ t₇ t₈ t₉ t₁�
           | inr h ↦ h .1 (sym (parent-cell (h .0)) ∙ here-more R d ch sib p m S (s .here) .1)
         ])
 
-    whole : a .nodes ≤ m .nodes ⊎ ((m .nodes < a .nodes) × (getD t₃ (nodeWidth * m .nodes + 2) 0 ≢ p)) → Writes ns R l p n out₀ out at m
+    whole : a .nodes ≤ m .nodes ⊎ ((m .nodes < a .nodes) × (getD t₃ (nodeWidth * m .nodes + 2) 0 ≢ p)) → WritesNodes ns R l p n out₀ out at m
     unfolding withForest
     whole e = record {
       small = ours .pieces .below;
@@ -108,10 +108,10 @@ module _ (ns : List ℕ) (a : Counts) (t₃ t₄ t₅ t₆ t₇ t₈ t₉ t₁�
           sym (y .counts ∙ ap (λ (t : Forest). withForest t m) (ended e b above S (y .rest) (y .stand)));
     }
 
-    pub nodes-end : a .nodes ≤ m .nodes → Writes ns R l p n out₀ out at m
+    pub nodes-end : a .nodes ≤ m .nodes → WritesNodes ns R l p n out₀ out at m
     nodes-end h = whole (inl h)
 
-    pub nodes-other : m .nodes < a .nodes → (c : ℕ) → c ≡ getD t₃ (nodeWidth * m .nodes + 2) 0 → (c ≡ p → ⊥) → Writes ns R l p n out₀ out at m
+    pub nodes-other : m .nodes < a .nodes → (c : ℕ) → c ≡ getD t₃ (nodeWidth * m .nodes + 2) 0 → (c ≡ p → ⊥) → WritesNodes ns R l p n out₀ out at m
     nodes-other h c e d = whole (inr (h, (λ q. d (e ∙ q))))
 
     module _ (h : m .nodes < a .nodes) (c : ℕ) (ec : c ≡ getD t₃ (nodeWidth * m .nodes + 2) 0) (same : c ≡ p) where
@@ -135,7 +135,7 @@ module _ (ns : List ℕ) (a : Counts) (t₃ t₄ t₅ t₆ t₇ t₈ t₉ t₁�
       ours-next : Next (v .first .brushes) (v .first .above) (ours .rest) (v .first .after)
       ours-next = next (v .first .brushes) (v .first .above) (ours .rest) (v .first .after) (ours .stand)
 
-      abbrev placed : (b : ℕ) (above : Option ℕ) (t : Forest) (S : Rows) → Next b above t S → Placed ns R l m
+      abbrev placed : (b : ℕ) (above : Option ℕ) (t : Forest) (S : Rows) → Next b above t S → NodePlaced ns R l m
       placed b above t S x = record { brushes = b; above = above; own = x .own; children = x .children; siblings = x .others; parent = p; after = S; stand = x .stand }
 
       -- what is left is the first of them and the others
@@ -181,12 +181,12 @@ pub ruleset nodes-laws = (nodes-start, nodes-long, nodes-inside, nodes-index, no
 
 -- ---- the same laws by what the loop has at hand
 
-module _ {ns : List ℕ} {a : Counts} {t₃ t₄ t₅ t₆ t₇ t₈ t₉ t₁₀ : List ℕ} (z : Sized a t₃ t₄ t₅ t₆ t₇ t₈ t₉ t₁₀) {l p : ℕ} {n : Counts} {out₀ out : List ℕ} {at : ℕ} {m : Counts}
+module _ {ns : List ℕ} {a : Counts} {t₃ t₄ t₅ t₆ t₇ t₈ t₉ t₁₀ : List ℕ} (z : TablesSized a t₃ t₄ t₅ t₆ t₇ t₈ t₉ t₁₀) {l p : ℕ} {n : Counts} {out₀ out : List ℕ} {at : ℕ} {m : Counts}
     (v : NodesLeft ns (tableRows t₃ t₄ t₅ t₆ t₇ t₈ t₉ t₁₀) l p n out₀ out at m) where
-  pub at-other : m .nodes < a .nodes → {c : ℕ} → c ≡ getD t₃ (nodeWidth * m .nodes + 2) 0 → (c ≡ p → ⊥) → Writes ns (tableRows t₃ t₄ t₅ t₆ t₇ t₈ t₉ t₁₀) l p n out₀ out at m
+  pub at-other : m .nodes < a .nodes → {c : ℕ} → c ≡ getD t₃ (nodeWidth * m .nodes + 2) 0 → (c ≡ p → ⊥) → WritesNodes ns (tableRows t₃ t₄ t₅ t₆ t₇ t₈ t₉ t₁₀) l p n out₀ out at m
   at-other h {c} e d = nodes-other ns a t₃ t₄ t₅ t₆ t₇ t₈ t₉ t₁₀ z l p n out₀ out at m v h c e d
 
-  pub at-end : a .nodes ≤ m .nodes → Writes ns (tableRows t₃ t₄ t₅ t₆ t₇ t₈ t₉ t₁₀) l p n out₀ out at m
+  pub at-end : a .nodes ≤ m .nodes → WritesNodes ns (tableRows t₃ t₄ t₅ t₆ t₇ t₈ t₉ t₁₀) l p n out₀ out at m
   at-end h = nodes-end ns a t₃ t₄ t₅ t₆ t₇ t₈ t₉ t₁₀ z l p n out₀ out at m v h
 
   module _ (h : m .nodes < a .nodes) {c : ℕ} (e : c ≡ getD t₃ (nodeWidth * m .nodes + 2) 0) (d : c ≡ p) where

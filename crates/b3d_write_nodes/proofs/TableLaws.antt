@@ -12,9 +12,9 @@ use Rattle.wire.specs.Test.{if}
 use Rattle.b3d_spec.specs.declared.Counts.{Counts}
 use Rattle.b3d_spec.specs.Rebuild.{Rows, cut, ownedBy}
 use Rattle.b3d_spec.specs.Tables.{reached, nodeTables, nodeWidth}
-use Rattle.b3d_spec.proofs.Rows.RowLists.{cut-length}
+use Rattle.b3d_spec.proofs.Rows.RowListLaws.{cut-length}
 use Rattle.b3d_check_spec.specs.CellCounts.{endOf, meshCounts, weightCounts, kindCounts, nodeCounts, cellCounts}
-use Rattle.b3d_check_spec.proofs.Places.{cut-cell}
+use Rattle.b3d_check_spec.proofs.PlaceLaws.{cut-cell}
 use Rattle.b3d_check_rows.specs.Rows.{rowAt}
 use Rattle.b3d_check_spec.specs.Rooms.{Limited}
 use Rattle.b3d_check_node_counts.specs.Parts.{partRows, Below}
@@ -22,7 +22,7 @@ use Rattle.b3d_write_row_runs.specs.Lent.{rowsIn}
 use Rattle.b3d_write_mesh.specs.Mesh.{MeshThere}
 use Rattle.b3d_write_animation.specs.Animation.{MovesThere}
 use Rattle.b3d_write_node.specs.Own.{tableRows, KindThere, OwnThere}
-use Rattle.b3d_write_nodes.specs.Walk.{Sized, There}
+use Rattle.b3d_write_nodes.specs.Walk.{TablesSized, There}
 
 -- ---- rows
 
@@ -49,7 +49,7 @@ row-cell w i j ws h = getD-take w (drop (w * i) ws) j 0 h ∙ getD-drop (w * i) 
 pub first-of : (i : ℕ) (l : List (List ℕ)) → getD (drop i l) 0 [] ≡ getD l i []
 first-of i l = let e : i + 0 ≡ i = omega arith in rw (getD-drop i l 0 [], e)
 
-module _ (a : Counts) (t₃ t₄ t₅ t₆ t₇ t₈ t₉ t₁₀ : List ℕ) (z : Sized a t₃ t₄ t₅ t₆ t₇ t₈ t₉ t₁₀) where
+module _ (a : Counts) (t₃ t₄ t₅ t₆ t₇ t₈ t₉ t₁₀ : List ℕ) (z : TablesSized a t₃ t₄ t₅ t₆ t₇ t₈ t₉ t₁₀) where
   abbrev R : Rows
   R = tableRows t₃ t₄ t₅ t₆ t₇ t₈ t₉ t₁₀
 

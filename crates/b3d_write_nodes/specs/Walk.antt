@@ -29,7 +29,7 @@ bodyBytes d ch = writeNode d (nodeChunks ch)
 -- ---- tables
 
 -- tables of just the rows that a counts
-pub record Sized (a : Counts) (t₃ t₄ t₅ t₆ t₇ t₈ t₉ t₁₀ : List ℕ) : Type 0 where
+pub record TablesSized (a : Counts) (t₃ t₄ t₅ t₆ t₇ t₈ t₉ t₁₀ : List ℕ) : Type 0 where
   pub nodes : length t₃ ≡ nodeWidth * a .nodes
   pub meshes : length t₄ ≡ meshWidth * a .meshes
   pub vertices : length t₅ ≡ vertexWidth * a .vertices
@@ -91,7 +91,7 @@ pub record Writable (ns : List ℕ) (R : Rows) (levels p : ℕ) (n : Counts) (ou
   pub room : Room (nodesBytes forest) out
 
 -- what `write_nodes` promises of the output before it (out) and after it (put), the size, and the counts m
-pub record Writes (ns : List ℕ) (R : Rows) (levels p : ℕ) (n : Counts) (out put : List ℕ) (size : ℕ) (m : Counts) : Type 0 where
+pub record WritesNodes (ns : List ℕ) (R : Rows) (levels p : ℕ) (n : Counts) (out put : List ℕ) (size : ℕ) (m : Counts) : Type 0 where
   -- the size fits a word
   pub small : size < 4294967296
   -- whatever nodes stand there are written
@@ -100,7 +100,7 @@ pub record Writes (ns : List ℕ) (R : Rows) (levels p : ℕ) (n : Counts) (out 
   pub counts : (b : ℕ) (above : Option ℕ) (f : Forest) (S : Rows) → Stand ns R levels b above f p n S → Room (nodesBytes f) out → m ≡ withForest f n
 
 -- a node that stands in the rows R after the counts n, with all that it stands among
-pub record Placed (ns : List ℕ) (R : Rows) (levels : ℕ) (n : Counts) : Type 0 where
+pub record NodePlaced (ns : List ℕ) (R : Rows) (levels : ℕ) (n : Counts) : Type 0 where
   -- how many brushes there are
   pub brushes : ℕ
   -- the bone limit that it gets; `none` for the root
@@ -125,7 +125,7 @@ nodeBytes d ch = nodesBytes (node d ch noNodes)
 -- what `write_node` asks: a node stands there, and there is room for it
 pub record WritableFirst (ns : List ℕ) (R : Rows) (levels : ℕ) (n : Counts) (out : List ℕ) : Type 0 where
   -- the node
-  pub placed : Placed ns R levels n
+  pub placed : NodePlaced ns R levels n
   -- its bytes, with those of the nodes below it, have room in the output
   pub room : Room (nodeBytes (placed .own) (placed .children)) out
 
@@ -134,6 +134,6 @@ pub record WritesFirst (ns : List ℕ) (R : Rows) (levels : ℕ) (n : Counts) (o
   -- the size fits a word
   pub small : size < 4294967296
   -- whatever node stands there is written, with those below it
-  pub bytes : (x : Placed ns R levels n) → Room (nodeBytes (x .own) (x .children)) out → Put (nodeBytes (x .own) (x .children)) out put size
+  pub bytes : (x : NodePlaced ns R levels n) → Room (nodeBytes (x .own) (x .children)) out → Put (nodeBytes (x .own) (x .children)) out put size
   -- whatever node stands there is counted, with those below it
-  pub counts : (x : Placed ns R levels n) → Room (nodeBytes (x .own) (x .children)) out → m ≡ withForest (x .children) (withNode (x .own) n)
+  pub counts : (x : NodePlaced ns R levels n) → Room (nodeBytes (x .own) (x .children)) out → m ≡ withForest (x .children) (withNode (x .own) n)

@@ -1,13 +1,13 @@
 // The NODE chunks of lent tables, written into an output: a node's own part, those below it, those after it.
 ghost use Rattle.b3d_write_node.specs.Own.{tableRows};
-ghost use Rattle.b3d_write_nodes.specs.Walk.{Sized, Writable, Writes, WritableFirst, WritesFirst};
+ghost use Rattle.b3d_write_nodes.specs.Walk.{TablesSized, Writable, WritesNodes, WritableFirst, WritesFirst};
 use b3d_spec::Counts;
 use b3d_spec::NODE_WIDTH;
 use b3d_spec::columns;
 use b3d_spec::letters;
 
 // How many bytes were written, and the counts after the nodes that were written.
-pub struct Walked {
+pub struct NodesWritten {
     pub size: usize,
     pub counts: Counts,
 }
@@ -28,8 +28,8 @@ pub fn write_node(
     levels: u32,
     n: Counts,
     out: &mut [u8],
-) -> Walked
-    requires { ⌜ Sized all (now t3) (now t4) (now t5) (now t6) (now t7) (now t8) (now t9) (now t10) ⌝ }
+) -> NodesWritten
+    requires { ⌜ TablesSized all (now t3) (now t4) (now t5) (now t6) (now t7) (now t8) (now t9) (now t10) ⌝ }
     requires { ⌜ WritableFirst (now names) (tableRows (now t3) (now t4) (now t5) (now t6) (now t7) (now t8) (now t9) (now t10)) levels n (now out) ⌝ }
     ensures { λ r. ⌜ WritesFirst (now (names .entry))
         (tableRows (now (t3 .entry)) (now (t4 .entry)) (now (t5 .entry)) (now (t6 .entry)) (now (t7 .entry))
@@ -46,7 +46,7 @@ pub fn write_node(
     shared_output::put_header(out, letters::NODE, long);
     let size = long + 8;
     let counts = below.counts;
-    Walked { size, counts }
+    NodesWritten { size, counts }
 }
 
 // Writes the nodes after the counts `n` whose parent is `parent`, with `levels` levels left, up to the first that has another. Returns their size and the
@@ -66,10 +66,10 @@ pub fn write_nodes(
     levels: u32,
     n: Counts,
     out: &mut [u8],
-) -> Walked
-    requires { ⌜ Sized all (now t3) (now t4) (now t5) (now t6) (now t7) (now t8) (now t9) (now t10) ⌝ }
+) -> NodesWritten
+    requires { ⌜ TablesSized all (now t3) (now t4) (now t5) (now t6) (now t7) (now t8) (now t9) (now t10) ⌝ }
     requires { ⌜ Writable (now names) (tableRows (now t3) (now t4) (now t5) (now t6) (now t7) (now t8) (now t9) (now t10)) levels parent n (now out) ⌝ }
-    ensures { λ r. ⌜ Writes (now (names .entry))
+    ensures { λ r. ⌜ WritesNodes (now (names .entry))
         (tableRows (now (t3 .entry)) (now (t4 .entry)) (now (t5 .entry)) (now (t6 .entry)) (now (t7 .entry))
         (now (t8 .entry)) (now (t9 .entry)) (now (t10 .entry))) levels parent n (now (out .entry)) (now (out .exit)) (r .size) (r .counts) ⌝ }
 {
@@ -77,12 +77,12 @@ pub fn write_nodes(
     let mut m = n;
     while m.nodes < all.nodes {
         if b3d_write_items::number(t3, NODE_WIDTH * m.nodes + columns::NODE_PARENT) != parent {
-            return Walked { size, counts: m };
+            return NodesWritten { size, counts: m };
         }
         let rest = &mut out[size..];
         let r = write_node(names, t3, t4, t5, t6, t7, t8, t9, t10, all, levels, m, rest);
         size += r.size;
         m = r.counts;
     }
-    Walked { size, counts: m }
+    NodesWritten { size, counts: m }
 }

@@ -1,5 +1,5 @@
 -- The laws of rows that are written.
-pub mod Cutting
-pub mod Cells
-pub mod RowByRow
-pub mod Squeezing
+pub mod CutRowLaws
+pub mod CellLaws
+pub mod RowByRowLaws
+pub mod PresentWordLaws

@@ -12,13 +12,13 @@ use mir.Val.{Fits}
 use lib.Dec.{eqb}
 use borrow.Author.Tests.{eq-eqb, ne-eqb}
 use Rattle.wire.specs.Test.{if}
-use Rattle.layout.proofs.Lists.{All}
+use Rattle.layout.proofs.AllLaws.{All}
 use Rattle.layout.proofs.ListLaws.{cell-take}
 use Rattle.b3d_spec.specs.Rebuild.{cut}
-use Rattle.b3d_spec.proofs.Rows.RowLists.{cut-length}
+use Rattle.b3d_spec.proofs.Rows.RowListLaws.{cut-length}
 use Rattle.b3d_spec.specs.Rules.{vertexWords, keyWords, rowLimit}
 use Rattle.b3d_spec.specs.Tables.{nodeWidth}
-use Rattle.b3d_write_row_size.specs.RowSize.{rowMost, tableMost, sum, nodeBytes, meshBytes, listBytes, namedBytes, rowBytes, rowsBytes, Sizable, Wide, Adds, Sums}
+use Rattle.b3d_write_row_size.specs.RowSize.{rowMost, tableMost, sum, nodeBytes, meshBytes, listBytes, namedBytes, rowBytes, rowsBytes, Sizable, Wide, RowAdds, RowsAdd}
 
 -- ---- a row
 
@@ -33,7 +33,7 @@ module _ (n many words : ℕ) (e : n ≡ many) (h : Fits w32 many) (m : ℕ) (k 
   pub items-fit : (head : ℕ) → head ≤ 64 → Fits w64 (head + n * (4 * words))
   items-fit head small = let p = product-low in record { fits = omega arith }
 
-  pub adds-items : (head w : ℕ) → head ≤ 64 → words ≡ w → Adds (head + many * (4 * w)) (head + n * (4 * words))
+  pub adds-items : (head w : ℕ) → head ≤ 64 → words ≡ w → RowAdds (head + many * (4 * w)) (head + n * (4 * words))
   adds-items head w small q = let p = product-low in record { is = rw (← q, e); low = omega arith }
 
 pub ruleset items-laws = (product-fits, items-fit, adds-items)
@@ -59,21 +59,21 @@ module _ (name n kind anim x y : ℕ) (en : n ≡ name) (h : Fits w32 name) (ex 
     pub node-sum-low-2 : Fits w64 (n + 49 + x + y)
     node-sum-low-2 = record { fits = omega (arith, h .fits, if-low (eqb kind 2) 8, if-low (eqb anim 1) 20) }
 
-    pub node-adds : Adds (name + 49 + if (eqb kind 2) 8 0 + if (eqb anim 1) 20 0) (n + 49 + x + y)
+    pub node-adds : RowAdds (name + 49 + if (eqb kind 2) 8 0 + if (eqb anim 1) 20 0) (n + 49 + x + y)
     node-adds = record { is = rw (en, ex, ey); low = omega (arith, h .fits, if-low (eqb kind 2) 8, if-low (eqb anim 1) 20) }
 
 pub ruleset node-laws = (bytes-yes, bytes-no, node-sum-low, node-sum-low-2, node-adds)
 
 module _ (at : ℕ) (ws : List ℕ) where
-  pub node-cells : (r : ℕ) → Adds (getD ws (at + 1) 0 + 49 + if (eqb (getD ws (at + 13) 0) 2) 8 0 + if (eqb (getD ws (at + 16) 0) 1) 20 0) r → Adds (nodeBytes (take nodeWidth (drop at ws))) r
+  pub node-cells : (r : ℕ) → RowAdds (getD ws (at + 1) 0 + 49 + if (eqb (getD ws (at + 13) 0) 2) 8 0 + if (eqb (getD ws (at + 16) 0) 1) 20 0) r → RowAdds (nodeBytes (take nodeWidth (drop at ws))) r
   unfolding nodeBytes
   node-cells r a = rw (cell-take nodeWidth at 1 ws (omega arith), cell-take nodeWidth at 13 ws (omega arith), cell-take nodeWidth at 16 ws (omega arith)) a
 
-  pub mesh-cells : (r : ℕ) → Adds (32 + getD ws (at + 6) 0 * (4 * vertexWords (getD ws (at + 2) 0) (getD ws (at + 3) 0) (getD ws (at + 4) 0))) r → Adds (meshBytes (take 9 (drop at ws))) r
+  pub mesh-cells : (r : ℕ) → RowAdds (32 + getD ws (at + 6) 0 * (4 * vertexWords (getD ws (at + 2) 0) (getD ws (at + 3) 0) (getD ws (at + 4) 0))) r → RowAdds (meshBytes (take 9 (drop at ws))) r
   unfolding meshBytes
   mesh-cells r a = rw (cell-take 9 at 6 ws (omega arith), cell-take 9 at 2 ws (omega arith), cell-take 9 at 3 ws (omega arith), cell-take 9 at 4 ws (omega arith)) a
 
-  pub list-cells : (r : ℕ) → Adds (12 + getD ws (at + 3) 0 * (4 * keyWords (getD ws (at + 1) 0))) r → Adds (listBytes (take 4 (drop at ws))) r
+  pub list-cells : (r : ℕ) → RowAdds (12 + getD ws (at + 3) 0 * (4 * keyWords (getD ws (at + 1) 0))) r → RowAdds (listBytes (take 4 (drop at ws))) r
   unfolding listBytes
   list-cells r a = rw (cell-take 4 at 3 ws (omega arith), cell-take 4 at 1 ws (omega arith)) a
 
@@ -110,19 +110,19 @@ module _ (at : ℕ) (ws : List ℕ) (k w more : ℕ) (v : Wide k w) where
     pub sizable-list : k ≡ 9 → Sizable 9 (take 4 (drop at ws))
     sizable-list e = rw (e, v .lists e) at s
 
-  pub row-node : k ≡ 3 → (r : ℕ) → Adds (nodeBytes (take nodeWidth (drop at ws))) r → Adds (rowBytes k more (take w (drop at ws))) r
+  pub row-node : k ≡ 3 → (r : ℕ) → RowAdds (nodeBytes (take nodeWidth (drop at ws))) r → RowAdds (rowBytes k more (take w (drop at ws))) r
   unfolding rowBytes if
   row-node e r a = rw (e, v .nodes e) a
 
-  pub row-mesh : k ≡ 4 → (r : ℕ) → Adds (meshBytes (take 9 (drop at ws))) r → Adds (rowBytes k more (take w (drop at ws))) r
+  pub row-mesh : k ≡ 4 → (r : ℕ) → RowAdds (meshBytes (take 9 (drop at ws))) r → RowAdds (rowBytes k more (take w (drop at ws))) r
   unfolding rowBytes if
   row-mesh e r a = rw (e, v .meshes e) a
 
-  pub row-list : k ≡ 9 → (r : ℕ) → Adds (listBytes (take 4 (drop at ws))) r → Adds (rowBytes k more (take w (drop at ws))) r
+  pub row-list : k ≡ 9 → (r : ℕ) → RowAdds (listBytes (take 4 (drop at ws))) r → RowAdds (rowBytes k more (take w (drop at ws))) r
   unfolding rowBytes if
   row-list e r a = rw (e, v .lists e) a
 
-  pub row-named : (k ≡ 3 → ⊥) → (k ≡ 4 → ⊥) → (k ≡ 9 → ⊥) → 2 ≤ w → (r : ℕ) → Adds (getD ws (at + 1) 0 + more) r → Adds (rowBytes k more (take w (drop at ws))) r
+  pub row-named : (k ≡ 3 → ⊥) → (k ≡ 4 → ⊥) → (k ≡ 9 → ⊥) → 2 ≤ w → (r : ℕ) → RowAdds (getD ws (at + 1) 0 + more) r → RowAdds (rowBytes k more (take w (drop at ws))) r
   unfolding rowBytes namedBytes if
   row-named a b c h r x = rw (ne-eqb k 3 a, ne-eqb k 4 b, ne-eqb k 9 c, cell-take w at 1 ws (omega arith)) x
 
@@ -165,7 +165,7 @@ module _ (k more w c : ℕ) (ws : List ℕ) where
     sum-low : n ≤ tableMost
     sum-low = omega (arith, v .low, v .some, v .few)
 
-    pub sum-done : c ≤ i → Sums tableMost (rowsBytes k more (cut w c ws)) n
+    pub sum-done : c ≤ i → RowsAdd tableMost (rowsBytes k more (cut w c ws)) n
     sum-done le = record { is = all-added le; low = omega (arith, sum-low) }
 
     module _ (h : i < c) where
@@ -179,7 +179,7 @@ module _ (k more w c : ℕ) (ws : List ℕ) where
       pub sum-sizable : Sizable k (take w (drop (w * i) ws))
       sum-sizable = (rw next-row at (v .sizable)) .0
 
-      module _ (r : ℕ) (a : Adds (rowBytes k more (take w (drop (w * i) ws))) r) where
+      module _ (r : ℕ) (a : RowAdds (rowBytes k more (take w (drop (w * i) ws))) r) where
         pub sum-fits : Fits w64 (n + r)
         sum-fits = record { fits = omega (arith, sum-low, a .low) }
 

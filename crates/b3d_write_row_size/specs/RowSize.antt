@@ -58,7 +58,7 @@ abbrev pub tableMost : ℕ
 tableMost = rowLimit * rowMost
 
 -- what a function that sizes a row promises of its answer r, w being the bytes that the row adds
-pub record Adds (w r : ℕ) : Type 0 where
+pub record RowAdds (w r : ℕ) : Type 0 where
   -- it is the row's bytes
   pub is : r ≡ w
   -- it is not above the bound for a row
@@ -74,7 +74,7 @@ pub record Wide (k w : ℕ) : Type 0 where
   pub lists : k ≡ 9 → w ≡ keyListWidth
 
 -- what a function that sizes rows promises of its answer r, w being the bytes that they add
-pub record Sums (most w r : ℕ) : Type 0 where
+pub record RowsAdd (most w r : ℕ) : Type 0 where
   -- it is the rows' bytes
   pub is : r ≡ w
   -- it is at most `most`

@@ -8,7 +8,7 @@ ghost use Rattle.layout.specs.Lists.{All};
 ghost use Rattle.b3d_spec.specs.Rebuild.{cut};
 ghost use Rattle.b3d_spec.specs.Rules.{rowLimit, vertexWords, keyWords, highestVertexFlags, mostSets, largestSet, highestKeyFlags};
 ghost use Rattle.b3d_spec.specs.Tables.{nodeWidth, vertexWidth, meshWidth, keyListWidth};
-ghost use Rattle.b3d_write_row_size.specs.RowSize.{tableMost, Sums, nodeBytes, meshBytes, listBytes, rowBytes, rowsBytes, Sizable, Wide, Adds};
+ghost use Rattle.b3d_write_row_size.specs.RowSize.{tableMost, RowsAdd, nodeBytes, meshBytes, listBytes, rowBytes, rowsBytes, Sizable, Wide, RowAdds};
 use b3d_spec::columns;
 
 // Returns `bytes` if `cell` is `value`, else 0.
@@ -23,7 +23,7 @@ fn bytes_if(cell: u32, value: u32, bytes: usize) -> usize
 
 // Returns the bytes that a node row adds, by its cells: the length of its `name`, its `kind`, whether it has an ANIM (`anim`).
 fn node_bytes(name: u32, kind: u32, anim: u32) -> usize
-    ensures { λ r. ⌜ Adds (name + 49 + if (eqb kind 2) 8 0 + if (eqb anim 1) 20 0) r ⌝ }
+    ensures { λ r. ⌜ RowAdds (name + 49 + if (eqb kind 2) 8 0 + if (eqb anim 1) 20 0) r ⌝ }
 {
     wire::size(name) + 49 + bytes_if(kind, 2, 8) + bytes_if(anim, 1, 20)
 }
@@ -31,7 +31,7 @@ fn node_bytes(name: u32, kind: u32, anim: u32) -> usize
 // Returns the bytes that a mesh row adds, by its cells: `flags`, `sets` and set `size` of its vertices, and how many there are (`many`).
 fn mesh_bytes(flags: u32, sets: u32, size: u32, many: u32) -> usize
     requires { ⌜ (flags ≤ highestVertexFlags) × (sets ≤ mostSets) × (size ≤ largestSet) ⌝ }
-    ensures { λ r. ⌜ Adds (32 + many * (4 * vertexWords flags sets size)) r ⌝ }
+    ensures { λ r. ⌜ RowAdds (32 + many * (4 * vertexWords flags sets size)) r ⌝ }
 {
     let words = b3d_rule_widths::vertex_words(flags, sets, size);
     32 + wire::size(many) * (4 * words)
@@ -40,7 +40,7 @@ fn mesh_bytes(flags: u32, sets: u32, size: u32, many: u32) -> usize
 // Returns the bytes that a key list's row adds, by its cells: the `flags` of its keys, and how many there are (`many`).
 fn list_bytes(flags: u32, many: u32) -> usize
     requires { ⌜ flags ≤ highestKeyFlags ⌝ }
-    ensures { λ r. ⌜ Adds (12 + many * (4 * keyWords flags)) r ⌝ }
+    ensures { λ r. ⌜ RowAdds (12 + many * (4 * keyWords flags)) r ⌝ }
 {
     let words = b3d_rule_widths::key_words(flags);
     12 + wire::size(many) * (4 * words)
@@ -49,7 +49,7 @@ fn list_bytes(flags: u32, many: u32) -> usize
 // Returns the length `name` of a name and `more` bytes.
 fn name_bytes(name: u32, more: usize) -> usize
     requires { ⌜ more ≤ 64 ⌝ }
-    ensures { λ r. ⌜ Adds (name + more) r ⌝ }
+    ensures { λ r. ⌜ RowAdds (name + more) r ⌝ }
 {
     wire::size(name) + more
 }
@@ -57,7 +57,7 @@ fn name_bytes(name: u32, more: usize) -> usize
 // Returns the bytes that the node row from word `at` of `table` on adds.
 fn node_row(table: &[u32], at: usize) -> usize
     requires { ⌜ at + nodeWidth ≤ length (now table) ⌝ }
-    ensures { λ r. ⌜ Adds (nodeBytes (take nodeWidth (drop at (now (table .entry))))) r ⌝ }
+    ensures { λ r. ⌜ RowAdds (nodeBytes (take nodeWidth (drop at (now (table .entry))))) r ⌝ }
 {
     node_bytes(
         table[at + columns::NAME_LENGTH],
@@ -69,7 +69,7 @@ fn node_row(table: &[u32], at: usize) -> usize
 // Returns the bytes that the mesh row from word `at` of `table` on adds.
 fn mesh_row(table: &[u32], at: usize) -> usize
     requires { ⌜ (at + meshWidth ≤ length (now table)) × Sizable 4 (take meshWidth (drop at (now table))) ⌝ }
-    ensures { λ r. ⌜ Adds (meshBytes (take meshWidth (drop at (now (table .entry))))) r ⌝ }
+    ensures { λ r. ⌜ RowAdds (meshBytes (take meshWidth (drop at (now (table .entry))))) r ⌝ }
 {
     mesh_bytes(
         table[at + columns::MESH_FLAGS],
@@ -82,7 +82,7 @@ fn mesh_row(table: &[u32], at: usize) -> usize
 // Returns the bytes that the key list's row from word `at` of `table` on adds.
 fn list_row(table: &[u32], at: usize) -> usize
     requires { ⌜ (at + keyListWidth ≤ length (now table)) × Sizable 9 (take keyListWidth (drop at (now table))) ⌝ }
-    ensures { λ r. ⌜ Adds (listBytes (take keyListWidth (drop at (now (table .entry))))) r ⌝ }
+    ensures { λ r. ⌜ RowAdds (listBytes (take keyListWidth (drop at (now (table .entry))))) r ⌝ }
 {
     list_bytes(
         table[at + columns::KEY_LIST_FLAGS],
@@ -95,7 +95,7 @@ fn list_row(table: &[u32], at: usize) -> usize
 fn row_bytes(table: &[u32], at: usize, which: u32, width: usize, more: usize) -> usize
     requires { ⌜ (at + width ≤ length (now table)) × (2 ≤ width) × (more ≤ 64) × Wide which width ⌝ }
     requires { ⌜ Sizable which (take width (drop at (now table))) ⌝ }
-    ensures { λ r. ⌜ Adds (rowBytes which more (take width (drop at (now (table .entry))))) r ⌝ }
+    ensures { λ r. ⌜ RowAdds (rowBytes which more (take width (drop at (now (table .entry))))) r ⌝ }
 {
     if which == 3 {
         return node_row(table, at);
@@ -113,7 +113,7 @@ fn row_bytes(table: &[u32], at: usize, which: u32, width: usize, more: usize) ->
 pub fn rows_bytes(table: &[u32], which: u32, width: usize, count: usize, more: usize) -> usize
     requires { ⌜ (width * count ≤ length (now table)) × (count ≤ rowLimit) × (2 ≤ width) × (width ≤ vertexWidth) × (more ≤ 64) × Wide which width ⌝ }
     requires { ⌜ All (Sizable which) (cut width count (now table)) ⌝ }
-    ensures { λ r. ⌜ Sums tableMost (rowsBytes which more (cut width count (now (table .entry)))) r ⌝ }
+    ensures { λ r. ⌜ RowsAdd tableMost (rowsBytes which more (cut width count (now (table .entry)))) r ⌝ }
 {
     let mut n: usize = 0;
     let mut i: usize = 0;

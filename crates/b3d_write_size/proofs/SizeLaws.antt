@@ -10,7 +10,7 @@ use lib.Dec.{eqb, leb→le}
 use borrow.Author.Tests.{ne-eqb}
 use Rattle.wire.specs.Test.{if}
 use Rattle.layout.specs.Rules.{NONE}
-use Rattle.layout.proofs.Lists.{All, all-map, all-append}
+use Rattle.layout.proofs.AllLaws.{All, all-map, all-append}
 use Rattle.layout.specs.Rows.{nameCells}
 use Rattle.b3d_spec.specs.declared.Mode.{Mode}
 use Rattle.b3d_spec.specs.declared.Counts.{Counts}
@@ -20,11 +20,11 @@ use Rattle.b3d_spec.specs.Rules.{boneLimitBelow, boneLimit, levels}
 use Rattle.b3d_spec.specs.Scene.{Texture, Brush, TriangleSet, Kind, pivot, mesh, bone, Keys, Anim, noAnim, anim, Data, Forest, noNodes, node, Scene}
 use Rattle.b3d_spec.specs.Sizes.{textureSize, texsSize, brushSize, brusSize, setsSize, kindSize, keysSize, animSize, nodesSize, sizeOf}
 use Rattle.b3d_spec.specs.Tables.{start, textureRow, brushRow, kindCells, animCells, nodeRow, meshRow, triangleRows, listRows, meshesOf, weightsOf, meshRows, ownRows, withNode, withForest, forestRows, rows, tables, nodeTables, nodesIn}
-use Rattle.b3d_spec.proofs.Fitting.{FitKind, FitKeys, FitNodes, WellFormed}
+use Rattle.b3d_spec.proofs.WellFormedLaws.{FitKind, FitKeys, FitNodes, WellFormed}
 use Rattle.b3d_spec.proofs.Laws.{file-length}
 use Rattle.b3d_spec.proofs.Rows.RebuildLaws.{Holds, rebuild-fine, held-rows}
-use Rattle.b3d_spec.proofs.Rows.RowParts.{sets-length}
-use Rattle.b3d_spec.proofs.Rows.WordCounts.{any-words}
+use Rattle.b3d_spec.proofs.Rows.RowPartLaws.{sets-length}
+use Rattle.b3d_spec.proofs.Rows.WordCountLaws.{any-words}
 use Rattle.b3d_write_row_size.specs.RowSize.{sum, namedBytes, nodeBytes, meshBytes, listBytes, rowBytes, rowsBytes, Sizable}
 use Rattle.b3d_write_size.specs.LentSize.{around, listsBytes, nodesBytes, lentSize}
 

@@ -9,11 +9,11 @@ use mir.Val.{Fits}
 use lib.Dec.{eqb}
 use borrow.Author.Tests.{eq-eqb, ne-eqb}
 use Rattle.wire.specs.Test.{if}
-use Rattle.layout.proofs.Lists.{All, all-pure}
+use Rattle.layout.proofs.AllLaws.{All, all-pure}
 use Rattle.b3d_spec.specs.declared.Counts.{Counts}
 use Rattle.b3d_spec.specs.Rebuild.{cut}
 use Rattle.b3d_spec.specs.Tables.{nodeWidth}
-use Rattle.b3d_write_row_size.specs.RowSize.{tableMost, rowsBytes, Sizable, Wide, Sums}
+use Rattle.b3d_write_row_size.specs.RowSize.{tableMost, rowsBytes, Sizable, Wide, RowsAdd}
 use Rattle.b3d_write_size.specs.LentSize.{partMost, around, listsBytes, nodesBytes, fileBytes, NodesSizable}
 
 -- ---- a chunk around rows
@@ -75,26 +75,26 @@ pub more-low : (slots n : ℕ) → slots ≤ 8 → n ≡ slots → 29 + 4 * n �
 more-low slots n h e = omega arith
 
 module _ (slots c₁ c₂ : ℕ) (r₁ r₂ : List (List ℕ)) (n : ℕ) (en : n ≡ slots) (x texs y brus : ℕ)
-    (ex : x ≡ around c₁ 8) (et : Sums tableMost (rowsBytes 1 29 r₁) texs) (ey : y ≡ around c₂ 12) (eb : Sums tableMost (rowsBytes 2 (29 + 4 * n) r₂) brus) where
+    (ex : x ≡ around c₁ 8) (et : RowsAdd tableMost (rowsBytes 1 29 r₁) texs) (ey : y ≡ around c₂ 12) (eb : RowsAdd tableMost (rowsBytes 2 (29 + 4 * n) r₂) brus) where
   pub lists-fit : Fits w64 (x + texs + (y + brus))
   lists-fit = record { fits = omega (arith, around-low c₁ 8, around-low c₂ 12, et .low, eb .low) }
 
-  pub lists-sum : Sums partMost (listsBytes slots c₁ c₂ r₁ r₂) (x + texs + (y + brus))
+  pub lists-sum : RowsAdd partMost (listsBytes slots c₁ c₂ r₁ r₂) (x + texs + (y + brus))
   unfolding listsBytes
   lists-sum = record { is = rw (ex, et .is, ey, eb .is, en); low = omega (arith, around-low c₁ 8, around-low c₂ 12, et .low, eb .low) }
 
-pub first-fits : (c₁ x texs : ℕ) (w : ℕ) → x ≡ around c₁ 8 → Sums tableMost w texs → Fits w64 (x + texs)
+pub first-fits : (c₁ x texs : ℕ) (w : ℕ) → x ≡ around c₁ 8 → RowsAdd tableMost w texs → Fits w64 (x + texs)
 first-fits c₁ x texs w e s = record { fits = omega (arith, around-low c₁ 8, s .low) }
 
-pub second-fits : (c₂ y brus : ℕ) (w : ℕ) → y ≡ around c₂ 12 → Sums tableMost w brus → Fits w64 (y + brus)
+pub second-fits : (c₂ y brus : ℕ) (w : ℕ) → y ≡ around c₂ 12 → RowsAdd tableMost w brus → Fits w64 (y + brus)
 second-fits c₂ y brus w e s = record { fits = omega (arith, around-low c₂ 12, s .low) }
 
 pub ruleset lists-laws = (sizable-1, sizable-2, wide-1, wide-2, more-low, first-fits, second-fits, lists-fit, lists-sum)
 
 -- ---- NODE, MESH and KEYS
 
-pub nodes-sum : (r₃ r₄ r₉ : List (List ℕ)) (a b c : ℕ) → Sums tableMost (rowsBytes 3 0 r₃) a → Sums tableMost (rowsBytes 4 0 r₄) b → Sums tableMost (rowsBytes 9 0 r₉) c
-    → Sums partMost (nodesBytes r₃ r₄ r₉) (a + b + c)
+pub nodes-sum : (r₃ r₄ r₉ : List (List ℕ)) (a b c : ℕ) → RowsAdd tableMost (rowsBytes 3 0 r₃) a → RowsAdd tableMost (rowsBytes 4 0 r₄) b → RowsAdd tableMost (rowsBytes 9 0 r₉) c
+    → RowsAdd partMost (nodesBytes r₃ r₄ r₉) (a + b + c)
 unfolding nodesBytes
 nodes-sum r₃ r₄ r₉ a b c x y z = record { is = rw (x .is, y .is, z .is); low = omega (arith, x .low, y .low, z .low) }
 
@@ -112,7 +112,7 @@ module _ (n : Counts) (t₃ t₄ t₉ : List ℕ) (h : NodesSizable n t₃ t₄ 
   pub weights-fit : Fits w64 (8 * n .weights)
   weights-fit = record { fits = omega (arith, h .limited .weights) }
 
-  module _ (a b v w : ℕ) (ea : Sums partMost v a) (eb : Sums partMost w b) where
+  module _ (a b v w : ℕ) (ea : RowsAdd partMost v a) (eb : RowsAdd partMost w b) where
     pub sum-sets : Fits w64 (12 + a + b + 12 * n .sets)
     sum-sets = record { fits = omega (arith, ea .low, eb .low, h .limited .sets) }
 
@@ -123,7 +123,7 @@ module _ (n : Counts) (t₃ t₄ t₉ : List ℕ) (h : NodesSizable n t₃ t₄ 
     sum-weights = record { fits = omega (arith, ea .low, eb .low, h .limited .sets, h .limited .triangles, h .limited .weights) }
 
 pub file-sum : (slots c₁ c₂ : ℕ) (n : Counts) (t₁ t₂ t₃ t₄ t₉ : List ℕ) (a b : ℕ)
-    → Sums partMost (listsBytes slots c₁ c₂ (cut 9 c₁ t₁) (cut 17 c₂ t₂)) a → Sums partMost (nodesBytes (cut nodeWidth (n .nodes) t₃) (cut 9 (n .meshes) t₄) (cut 4 (n .lists) t₉)) b
+    → RowsAdd partMost (listsBytes slots c₁ c₂ (cut 9 c₁ t₁) (cut 17 c₂ t₂)) a → RowsAdd partMost (nodesBytes (cut nodeWidth (n .nodes) t₃) (cut 9 (n .meshes) t₄) (cut 4 (n .lists) t₉)) b
     → 12 + a + b + 12 * n .sets + 12 * n .triangles + 8 * n .weights ≡ fileBytes slots c₁ c₂ n t₁ t₂ t₃ t₄ t₉
 unfolding fileBytes
 file-sum slots c₁ c₂ n t₁ t₂ t₃ t₄ t₉ a b x y = rw (x .is, y .is)

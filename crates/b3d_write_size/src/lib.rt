@@ -5,7 +5,7 @@ ghost use lib.ListN.{length};
 ghost use Rattle.b3d_spec.specs.Rebuild.{cut};
 ghost use Rattle.b3d_spec.specs.Rules.{rowLimit, mostSlots};
 ghost use Rattle.b3d_spec.specs.Tables.{nodeWidth, textureWidth, brushWidth, meshWidth, keyListWidth};
-ghost use Rattle.b3d_write_row_size.specs.RowSize.{Sums};
+ghost use Rattle.b3d_write_row_size.specs.RowSize.{RowsAdd};
 ghost use Rattle.b3d_write_size.specs.LentSize.{partMost, around, listsBytes, nodesBytes, fileBytes, NodesSizable};
 use b3d_spec::BRUSH_WIDTH;
 use b3d_spec::Counts;
@@ -29,7 +29,7 @@ fn chunk_around(rows: usize, bytes: usize) -> usize
 fn lists_bytes(slots: u32, textures: usize, brushes: usize, t1: &[u32], t2: &[u32]) -> usize
     requires { ⌜ (slots ≤ mostSlots) × (textureWidth * textures ≤ length (now t1)) × (brushWidth * brushes ≤ length (now t2)) × (textures ≤ rowLimit)
         × (brushes ≤ rowLimit) ⌝ }
-    ensures { λ r. ⌜ Sums partMost (listsBytes slots textures brushes (cut textureWidth textures (now (t1 .entry)))
+    ensures { λ r. ⌜ RowsAdd partMost (listsBytes slots textures brushes (cut textureWidth textures (now (t1 .entry)))
         (cut brushWidth brushes (now (t2 .entry)))) r ⌝ }
 {
     let texs = rows_bytes(t1, 1, TEXTURE_WIDTH, textures, 29);
@@ -40,7 +40,7 @@ fn lists_bytes(slots: u32, textures: usize, brushes: usize, t1: &[u32], t2: &[u3
 // Returns the size of what the rows of nodes, meshes and key lists add; `all` counts them.
 fn nodes_bytes(all: Counts, t3: &[u32], t4: &[u32], t9: &[u32]) -> usize
     requires { ⌜ NodesSizable all (now t3) (now t4) (now t9) ⌝ }
-    ensures { λ r. ⌜ Sums partMost (nodesBytes (cut nodeWidth (all .nodes) (now (t3 .entry))) (cut meshWidth (all .meshes) (now (t4 .entry)))
+    ensures { λ r. ⌜ RowsAdd partMost (nodesBytes (cut nodeWidth (all .nodes) (now (t3 .entry))) (cut meshWidth (all .meshes) (now (t4 .entry)))
         (cut keyListWidth (all .lists) (now (t9 .entry)))) r ⌝ }
 {
     let nodes = rows_bytes(t3, 3, NODE_WIDTH, all.nodes, 0);

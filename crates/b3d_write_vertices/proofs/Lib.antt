@@ -1,2 +1,2 @@
 -- The laws of vertices that are written.
-pub mod Vertices
+pub mod VertexLaws

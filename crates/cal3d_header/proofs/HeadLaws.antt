@@ -10,15 +10,15 @@ use lib.Dec.{T, leb, eqb, leb→le, eqb→eq}
 use borrow.Author.Tests.{le-leb, lt-leb, eq-eqb, ne-eqb}
 use Rattle.wire.specs.Bytes.{wordAt}
 use Rattle.wire.specs.Cursors.{Inside, left}
-use Rattle.wire.proofs.Left.{span, left-length, left-drop}
+use Rattle.wire.proofs.LeftLaws.{span, left-length, left-drop}
 use Rattle.layout.specs.Result.{Result, accept, reject, check, _>>=_}
 use Rattle.layout.specs.Parts.{Step, wordsOf, judged, row, number}
 use Rattle.layout.specs.Rules.{any}
-use Rattle.layout.proofs.Outs.{bind-bind, bind-cong, by-got, by-check, got-inj}
+use Rattle.layout.proofs.ResultLaws.{bind-bind, bind-cong, by-got, by-check, got-inj}
 use Rattle.layout.proofs.StepLaws.{length-words-of, word-of, row-enough, row-short, row-any, judged-any}
 use Rattle.layout.specs.Rows.{sizeFits}
 use Rattle.layout.proofs.CountLaws.{row-got}
-use Rattle.shared_ids.proofs.Ids.{word-at}
+use Rattle.shared_ids.proofs.IdLaws.{word-at}
 use Rattle.cal3d_header.specs.Heads.{headNumbers, readHead, openedOf}
 use Rattle.cal3d_header.specs.declared.Opened.the-variants as opened
 
@@ -51,12 +51,12 @@ pub record HeadAt (s : List ℕ) (magic version more k : ℕ) : Type 0 where
   pub second : wordAt s 8 ≡ k
 
 module _ (magic version more : ℕ) (s : List ℕ) where
-  pub head-short : length s < 12 → opened.Not 1 0 ≡ openedOf (readHead magic version more s)
+  pub head-short : length s < 12 → opened.Reject 1 0 ≡ openedOf (readHead magic version more s)
   unfolding readHead check
   head-short h = rw (lt-leb 12 (length s) h)
 
   module _ (lo : 12 ≤ length s) where
-    pub head-long : 16777216 < length s → opened.Not 1 0 ≡ openedOf (readHead magic version more s)
+    pub head-long : 16777216 < length s → opened.Reject 1 0 ≡ openedOf (readHead magic version more s)
     unfolding readHead check
     head-long h = rw (le-leb 12 (length s) lo, lt-leb (length s) 16777216 h)
 
@@ -70,7 +70,7 @@ module _ (magic version more : ℕ) (s : List ℕ) where
       unfolding wordAt
       magic-is = word-of 1 0 s (omega arith) (omega arith) ∙ sym em
 
-      pub head-magic : (m ≡ magic → ⊥) → opened.Not 2 0 ≡ openedOf (readHead magic version more s)
+      pub head-magic : (m ≡ magic → ⊥) → opened.Reject 2 0 ≡ openedOf (readHead magic version more s)
       unfolding readHead check
       head-magic h = rw (le-leb 12 (length s) lo, le-leb (length s) 16777216 hi, first-word, magic-is, ne-eqb m magic h)
 
@@ -82,7 +82,7 @@ module _ (magic version more : ℕ) (s : List ℕ) where
         inside : Inside (span 4 (length s)) (length s)
         inside = record { before = omega arith; within = omega arith }
 
-        pub head-cut : length s < 12 + 4 * more → opened.Not 5 4 ≡ openedOf (readHead magic version more s)
+        pub head-cut : length s < 12 + 4 * more → opened.Reject 5 4 ≡ openedOf (readHead magic version more s)
         head-cut h =
             let l = head-length version more in
             rw (behind, row-short (headNumbers version more) 4 (left (span 4 (length s)) s) (omega (arith, left-length s (span 4 (length s)) inside)))
@@ -103,7 +103,7 @@ module _ (magic version more : ℕ) (s : List ℕ) where
               (behind ∙ rw l at (row-enough (headNumbers version more) 4 bytes (omega (arith, l)))
               ∙ head-judged version more (wordsOf n bytes) (record { value = wordsOf n bytes; place = 4 + 4 * n; left = drop (4 * n) bytes }) (length-words-of n bytes many))
 
-          pub head-version : (v ≡ version → ⊥) → opened.Not 6 4 ≡ openedOf (readHead magic version more s)
+          pub head-version : (v ≡ version → ⊥) → opened.Reject 6 4 ≡ openedOf (readHead magic version more s)
           unfolding check
           head-version h = let t : eqb (wordAt s 4) version ≡ false = rw (← ev) (ne-eqb v version h) in rw (numbers, t)
 
@@ -111,16 +111,16 @@ module _ (magic version more : ℕ) (s : List ℕ) where
             right : eqb (wordAt s 4) version ≡ true
             right = rw (← ev) (eq-eqb v version hv)
 
-            pub head-over : 2147483647 < k → opened.Not 6 8 ≡ openedOf (readHead magic version more s)
+            pub head-over : 2147483647 < k → opened.Reject 6 8 ≡ openedOf (readHead magic version more s)
             unfolding check
             head-over h = let t : leb (wordAt s 8) 2147483647 ≡ false = rw (← ek) (lt-leb k 2147483647 h) in rw (numbers, right, t)
 
-            pub head-done : k ≤ 2147483647 → opened.To k ≡ openedOf (readHead magic version more s)
+            pub head-done : k ≤ 2147483647 → opened.Accept k ≡ openedOf (readHead magic version more s)
             unfolding check
             head-done h =
                 let t : leb (wordAt s 8) 2147483647 ≡ true = rw (← ek) (le-leb k 2147483647 h) in
                 let w : k ≡ getD (headOf more s) 1 0 = ek ∙ sym (word-at s (span 4 (length s)) (2 + more) 1 inside (omega arith) (omega arith)) in
-                rw (numbers, right, t) (ap (λ (j : ℕ). opened.To j) w)
+                rw (numbers, right, t) (ap (λ (j : ℕ). opened.Accept j) w)
 
 pub ruleset head = (head-short, head-long, head-magic, head-cut, head-version, head-over, head-done)
 
@@ -172,15 +172,15 @@ module _ (magic version more : ℕ) (s : List ℕ) (h : Step (List ℕ)) (e : re
       let w : number m 0 ≡ wordAt s 0 = ap (λ (ws : List ℕ). getD ws 0 0) (v .0) ∙ magic-is magic version more s lo hi (wordAt s 0) refl in
       at-least lo hi (sym w ∙ eqb→eq (number m 0) magic t))))
 
-opened-got : (o : Result (Step (List ℕ))) (k : ℕ) → opened.To k ≡ openedOf o → (h : Step (List ℕ)) × (o ≡ accept h) × (number h 1 ≡ k)
+opened-got : (o : Result (Step (List ℕ))) (k : ℕ) → opened.Accept k ≡ openedOf o → (h : Step (List ℕ)) × (o ≡ accept h) × (number h 1 ≡ k)
 opened-got (accept h) k q = (h, refl, cc)
 opened-got (reject n p) k q = let z : _≡_ {A = ℕ} 0 1 = cc in absurd (omega arith)
 
-pub opened-bad : (o : Result (Step (List ℕ))) (e p : ℕ) → opened.Not e p ≡ openedOf o → o ≡ reject e p
+pub opened-bad : (o : Result (Step (List ℕ))) (e p : ℕ) → opened.Reject e p ≡ openedOf o → o ≡ reject e p
 opened-bad (accept h) e p q = let z : _≡_ {A = ℕ} 0 1 = cc in absurd (omega arith)
 opened-bad (reject n m) e p q = let a : n ≡ e = cc in let b : m ≡ p = cc in rw (a, b)
 
-pub opened-at : (magic version more : ℕ) (s : List ℕ) (k : ℕ) → opened.To k ≡ openedOf (readHead magic version more s) → HeadAt s magic version more k
+pub opened-at : (magic version more : ℕ) (s : List ℕ) (k : ℕ) → opened.Accept k ≡ openedOf (readHead magic version more s) → HeadAt s magic version more k
 opened-at magic version more s k q =
     let g = opened-got (readHead magic version more s) k q in
     rw (g .2) at (head-at magic version more s (g .0) (g .1))

@@ -25,5 +25,5 @@ readHead magic version more s = do
 
 -- what code answers for a header that was read: the number of entries, or the refusal
 abbrev pub openedOf : Result (Step (List ℕ)) → Opened
-openedOf (accept h) = opened.To (number h 1)
-openedOf (reject n p) = opened.Not n p
+openedOf (accept h) = opened.Accept (number h 1)
+openedOf (reject n p) = opened.Reject n p

@@ -8,8 +8,8 @@ use layout::refusals;
 
 // The number of entries that the header says, or a refusal and its place.
 pub enum Opened {
-    To(u32),
-    Not(u32, u32),
+    Accept(u32),
+    Reject(u32, u32),
 }
 
 // Checks size, `magic` and `version`, and returns the number of entries in the header, which has `more` numbers after it.
@@ -19,23 +19,23 @@ pub fn entry_count(file: &[u8], magic: u32, version: u32, more: usize) -> Opened
 {
     let n = file.len();
     if n < FEWEST_BYTES {
-        return Opened::Not(refusals::FILE_SIZE, 0);
+        return Opened::Reject(refusals::FILE_SIZE, 0);
     }
     if MOST_BYTES < n {
-        return Opened::Not(refusals::FILE_SIZE, 0);
+        return Opened::Reject(refusals::FILE_SIZE, 0);
     }
     if wire::number_at(file, 0) != magic {
-        return Opened::Not(refusals::FIRST_TAG, 0);
+        return Opened::Reject(refusals::FIRST_TAG, 0);
     }
     if n < 12 + 4 * more {
-        return Opened::Not(refusals::CUT_ITEM, 4);
+        return Opened::Reject(refusals::CUT_ITEM, 4);
     }
     if wire::number_at(file, 4) != version {
-        return Opened::Not(refusals::RANGE, 4);
+        return Opened::Reject(refusals::RANGE, 4);
     }
     let count = wire::number_at(file, 8);
     if 2147483647 < count {
-        return Opened::Not(refusals::RANGE, 8);
+        return Opened::Reject(refusals::RANGE, 8);
     }
-    Opened::To(count)
+    Opened::Accept(count)
 }

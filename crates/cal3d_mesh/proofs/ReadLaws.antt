@@ -8,20 +8,20 @@ use lib.Seq.{sets}
 use lib.Dec.{T, leb, leb→le}
 use Rattle.layout.specs.Result.{Result, accept, reject}
 use Rattle.layout.specs.Rows.{eachOf}
-use Rattle.layout.proofs.Lists.{All, all-zip}
-use Rattle.layout.proofs.Outs.{by-got, got-inj, each-got}
-use Rattle.shared_table_words.proofs.Joined.{over-all}
+use Rattle.layout.proofs.AllLaws.{All, all-zip}
+use Rattle.layout.proofs.ResultLaws.{by-got, got-inj, each-got}
+use Rattle.shared_table_words.proofs.JoinedLaws.{over-all}
 use Rattle.cal3d_spec.specs.Meshes.{Mesh, mesh}
 use Rattle.cal3d_spec.specs.Tables.{meshTables, meshFileWidth, meshRows}
 use Rattle.cal3d_spec.specs.Answers.{judgeMesh, readMesh, meshAnswer, meshTable}
 use Rattle.cal3d_spec.specs.declared.MeshAnswer.{MeshAnswer}
 use Rattle.cal3d_mesh_plain_spec.specs.Plain.{plainMesh}
-use Rattle.cal3d_mesh_plain_spec.proofs.Readings.{Plainly, mesh-plain}
-use Rattle.cal3d_mesh_plain_spec.proofs.Widths.{tables-wide}
+use Rattle.cal3d_mesh_plain_spec.proofs.MeshReadingLaws.{Plainly, mesh-plain}
+use Rattle.cal3d_mesh_plain_spec.proofs.WidthLaws.{tables-wide}
 use Rattle.cal3d_mesh_fill.specs.Fills.{fileWords, MeshFit, MeshFilled}
 use Rattle.shared_room.specs.Rooms.{numberOf}
 use Rattle.cal3d_mesh_answer_numbers.specs.Rooms.{WithRoom}
-use Rattle.cal3d_mesh_answer_numbers.proofs.Refusals.{read-number}
+use Rattle.cal3d_mesh_answer_numbers.proofs.RefusalLaws.{read-number}
 use Rattle.cal3d_mesh_answer_numbers.proofs.RoomLaws.{number-of, accepted}
 use Rattle.cal3d_mesh.specs.Meshes.{readInto, ReadsMesh}
 

@@ -1,2 +1,2 @@
-pub mod Refusals
+pub mod RefusalLaws
 pub mod RoomLaws

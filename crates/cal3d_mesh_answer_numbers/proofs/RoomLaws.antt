@@ -8,13 +8,13 @@ use lib.Dec.{ltb}
 use Rattle.wire.specs.Test.{if}
 use Rattle.layout.specs.Result.{Result, accept, reject}
 use Rattle.shared_room.specs.Rooms.{numberOf, firstShort}
-use Rattle.shared_room.proofs.Rooms.{short-at-most, each-short, each-room}
+use Rattle.shared_room.proofs.RoomLaws.{short-at-most, each-short, each-room}
 use Rattle.cal3d_spec.specs.Meshes.{Mesh}
 use Rattle.cal3d_spec.specs.Tables.{meshTables, meshFileWidth, meshRows}
 use Rattle.cal3d_spec.specs.Answers.{judgeMesh, readMesh, meshAnswer}
 use Rattle.cal3d_spec.specs.declared.MeshAnswer.{MeshAnswer}
 use Rattle.cal3d_mesh_answer_numbers.specs.Rooms.{WithRoom}
-use Rattle.cal3d_mesh_answer_numbers.proofs.Refusals.{judge-number}
+use Rattle.cal3d_mesh_answer_numbers.proofs.RefusalLaws.{judge-number}
 
 -- the six one after the other, from the last to the first
 module _ (counts : List ℕ) (l1 l2 l3 l4 l5 l6 n1 n2 n3 n4 n5 n6 r1 r2 r3 r4 r5 r6 : ℕ)

@@ -11,15 +11,15 @@ use Rattle.wire.specs.Test.{if}
 use Rattle.wire.specs.Bytes.{wordAt}
 use Rattle.layout.specs.Rows.{joined}
 use Rattle.layout.proofs.ListLaws.{joined-append}
-use Rattle.shared_table_words.proofs.Storing.{Part, part-start, part-done, part-room, part-next}
+use Rattle.shared_table_words.proofs.StoreLaws.{Part, part-start, part-done, part-room, part-next}
 use Rattle.cal3d_spec.specs.Meshes.{Vertex, Submesh}
 use Rattle.cal3d_spec.specs.Tables.{submeshRows, vertexRows, verticesOf, meshRows}
 use Rattle.cal3d_mesh_plain_spec.specs.declared.Shape.{Shape}
 use Rattle.cal3d_mesh_plain_spec.specs.Plain.{entriesAt, endAfter, wordRows, shapeAt, verticesAt, verticesEnd, submeshAt, submeshEnd, submeshesAt, submeshesEnd, plainMesh, meshEnd}
 use Rattle.cal3d_mesh_plain_spec.specs.Rows.{mapRows, influenceRows, springRows, faceRows}
-use Rattle.cal3d_mesh_plain_spec.proofs.Entries.{end-grows}
-use Rattle.cal3d_mesh_plain_spec.proofs.Widths.{wide-length, rows-length, rows-words, vertices-wide, maps-wide, influences-wide, vertex-rows-wide, vertex-rows-length}
-use Rattle.cal3d_mesh_vertex_rows.specs.declared.Marks.{Marks}
+use Rattle.cal3d_mesh_plain_spec.proofs.EntryLaws.{end-grows}
+use Rattle.cal3d_mesh_plain_spec.proofs.WidthLaws.{wide-length, rows-length, rows-words, vertices-wide, maps-wide, influences-wide, vertex-rows-wide, vertex-rows-length}
+use Rattle.cal3d_mesh_vertex_rows.specs.declared.VertexMarks.{VertexMarks}
 use Rattle.cal3d_mesh_vertex_rows.specs.Vertices.{VerticesFit, VerticesPut}
 use Rattle.cal3d_mesh_vertex_rows.proofs.VerticesLaws.{vertices-grow, vertices-many}
 use Rattle.cal3d_mesh_fill.specs.declared.Place.{Place}
@@ -269,7 +269,7 @@ module _ (s t1 t2 t3 t4 t5 t6 : List ℕ) where
         abbrev behind : ℕ
         behind = verticesEnd s x (x .vertices) (m .at + 24)
 
-        abbrev from : Marks
+        abbrev from : VertexMarks
         from = record { at = m .at + 24; maps = m .maps; influences = m .influences }
 
         upto : behind + 16 * x .springs + 12 * x .faces ≤ length s
@@ -320,7 +320,7 @@ module _ (s t1 t2 t3 t4 t5 t6 : List ℕ) where
               influences = omega (arith, long4);
             }
 
-        module _ (w2 w3 w4 : List ℕ) (k : Marks) (p : VerticesPut s x from (m .vertices) u2 u3 u4 w2 w3 w4 k) where
+        module _ (w2 w3 w4 : List ℕ) (k : VertexMarks) (p : VerticesPut s x from (m .vertices) u2 u3 u4 w2 w3 w4 k) where
           pub turn-springs-in : k .at + 4 * (4 * x .springs) ≤ length s
           turn-springs-in = omega (arith, upto, p .to)
 

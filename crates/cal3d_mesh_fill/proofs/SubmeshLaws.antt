@@ -8,7 +8,7 @@ use lib.Seq.{sets}
 use Rattle.wire.specs.Bytes.{wordAt}
 use Rattle.layout.specs.Rows.{joined}
 use Rattle.shared_table_words.specs.Words.{wordsAt}
-use Rattle.shared_table_words.proofs.Copying.{length-words}
+use Rattle.shared_table_words.proofs.CopyLaws.{length-words}
 use Rattle.cal3d_spec.specs.Meshes.{Vertex, Submesh}
 use Rattle.cal3d_spec.specs.Tables.{submeshRows, vertexRows, verticesOf}
 use Rattle.cal3d_mesh_plain_spec.specs.declared.Shape.{Shape}

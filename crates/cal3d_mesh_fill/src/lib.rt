@@ -10,7 +10,7 @@ ghost use Rattle.cal3d_spec.specs.Tables.{submeshRows};
 ghost use Rattle.cal3d_mesh_plain_spec.specs.Plain.{shapeAt, submeshAt};
 ghost use Rattle.cal3d_mesh_fill.specs.Fills.{PlaceFit, MeshFit, MeshFilled};
 use cal3d_mesh_plain_spec::Shape;
-use cal3d_mesh_vertex_rows::Marks;
+use cal3d_mesh_vertex_rows::VertexMarks;
 
 // A place in the file, and how many rows of tables 2 to 6 come before it.
 pub struct Place {
@@ -47,7 +47,7 @@ fn put_submesh(s: &[u8], m: Place, base: usize, out: &mut [u32])
 }
 
 // Returns the place after a submesh of the shape `x` at `m`, whose vertices end at `v`.
-fn pass_submesh(m: Place, x: Shape, v: Marks) -> Place
+fn pass_submesh(m: Place, x: Shape, v: VertexMarks) -> Place
     requires { ⌜ (v .at + 16 * x .springs + 12 * x .faces < 0x100000000) × (m .vertices + x .vertices ≤ v .at) × (m .springs ≤ v .at) × (m .faces ≤ v .at) ⌝ }
     ensures { λ r. ⌜ r ≡ record {
       at = v .at + 16 * x .springs + 12 * x .faces;
@@ -97,7 +97,7 @@ pub fn fill_mesh(
     while i < count {
         let x = shape_at(s, m.at);
         put_submesh(s, m, 9 * i, submeshes);
-        let from = Marks {
+        let from = VertexMarks {
             at: m.at + 24,
             maps: m.maps,
             influences: m.influences,

@@ -9,14 +9,14 @@ use borrow.Author.Tests.{lt-ltb, le-ltb}
 use Rattle.wire.specs.Test.{if}
 use Rattle.wire.specs.Cursors.{Inside, left}
 use Rattle.wire.specs.declared.Cursor.{Cursor}
-use Rattle.wire.proofs.Left.{span, left-length}
+use Rattle.wire.proofs.LeftLaws.{span, left-length}
 use Rattle.layout.specs.Result.{Result, accept, reject, _>>=_}
 use Rattle.layout.specs.Parts.{Step, number}
 use Rattle.layout.specs.Counted.{times}
 use Rattle.layout.specs.Rows.{eachOf}
 use Rattle.layout.proofs.StepLaws.{length-words-of}
 use Rattle.layout.proofs.CountLaws.{times-moves, times-length}
-use Rattle.shared_ids.proofs.Ids.{word-at}
+use Rattle.shared_ids.proofs.IdLaws.{word-at}
 use Rattle.cal3d_spec.specs.Rules.{meshMagic, namedBones}
 use Rattle.cal3d_spec.specs.Meshes.{Submesh, Mesh, readSubmesh, meshFrom, mesh}
 use Rattle.cal3d_spec.specs.Tables.{meshTables, meshRows, mostRows}
@@ -26,7 +26,7 @@ use Rattle.cal3d_header.specs.Heads.{readHead, openedOf}
 use Rattle.cal3d_header.specs.declared.Opened.{Opened}
 use Rattle.cal3d_header.specs.declared.Opened.the-variants as opened
 use Rattle.cal3d_header.proofs.HeadLaws.{headOf, HeadAt, head-then, opened-bad, opened-at}
-use Rattle.cal3d_header.proofs.FileEnd.{toEnd, ended-bad, ended-spare, ended-done, left-over}
+use Rattle.cal3d_header.proofs.FileEndLaws.{toEnd, ended-bad, ended-spare, ended-done, left-over}
 use Rattle.cal3d_mesh_submesh_lists.specs.Contents.{contentsIn, Contains}
 use Rattle.cal3d_mesh_submesh_lists.specs.declared.Contents.{Contents}
 use Rattle.cal3d_mesh_submesh_lists.specs.declared.Contained.{Contained}
@@ -83,11 +83,11 @@ answer-bad : (o : Result Mesh) (n p : ℕ) → o ≡ reject n p → (a : MeshAns
 answer-bad o n p e a q = q ∙ ap meshAnswer (sym e)
 
 module _ (bones : ℕ) (s : List ℕ) (r : Opened) (e : r ≡ openedOf (readHead 4607299 700 0 s)) where
-  pub judge-head : (n p : ℕ) → r ≡ opened.Not n p → (a : MeshAnswer) → a ≡ meshAnswer (reject n p) → a ≡ meshAnswer (judgeMesh bones s)
+  pub judge-head : (n p : ℕ) → r ≡ opened.Reject n p → (a : MeshAnswer) → a ≡ meshAnswer (reject n p) → a ≡ meshAnswer (judgeMesh bones s)
   unfolding judgeMesh
   judge-head n p w = answer-bad (judgeMesh bones s) n p (rw (mesh-head bones s, opened-bad (readHead 4607299 700 0 s) n p (sym w ∙ e)))
 
-  module _ (k : ℕ) (w : r ≡ opened.To k) where
+  module _ (k : ℕ) (w : r ≡ opened.Accept k) where
     head : HeadAt s 4607299 700 0 k
     head = opened-at 4607299 700 0 s k (sym w ∙ e)
 
@@ -116,15 +116,15 @@ module _ (bones : ℕ) (s : List ℕ) (r : Opened) (e : r ≡ openedOf (readHead
           let n : getD (headOf 0 s) 1 0 ≡ x = number-is ∙ sym ex in
           rw (mesh-head bones s, head .is, n, eb)
 
-      pub judge-place : (n p : ℕ) → y ≡ contained.Not n p → p < 4294967296
+      pub judge-place : (n p : ℕ) → y ≡ contained.Reject n p → p < 4294967296
       judge-place n p z = let h : p ≤ length s = rw z at (v .passes) in let m = judge-small in omega arith
 
-      pub judge-walk : (n p : ℕ) → y ≡ contained.Not n p → (a : MeshAnswer) → a ≡ meshAnswer (reject n p) → a ≡ meshAnswer (judgeMesh bones s)
+      pub judge-walk : (n p : ℕ) → y ≡ contained.Reject n p → (a : MeshAnswer) → a ≡ meshAnswer (reject n p) → a ≡ meshAnswer (judgeMesh bones s)
       judge-walk n p z =
           answer-bad (judgeMesh bones s) n p
           (walked ∙ ended-bad (made-of (headOf 0 s)) limits (times x (readSubmesh b) 12 (left (span 12 (length s)) s)) n p (contained-bad contentsIn (length s) (times x (readSubmesh b) 12 (left (span 12 (length s)) s)) n p (sym z ∙ v .is)))
 
-      module _ (t : Contents) (c : Cursor) (z : y ≡ contained.To t c) where
+      module _ (t : Contents) (c : Cursor) (z : y ≡ contained.Accept t c) where
         read : (l : Step (List Submesh)) × (times x (readSubmesh b) 12 (left (span 12 (length s)) s) ≡ accept l) × (t ≡ contentsIn (l .value)) × (c ≡ record { at = l .place; end = length s })
         read = contained-got contentsIn (length s) (times x (readSubmesh b) 12 (left (span 12 (length s)) s)) t c (sym z ∙ v .is)
 

@@ -10,14 +10,14 @@ use borrow.Author.Tests.{le-leb, lt-leb}
 use Rattle.wire.specs.Test.{if}
 use Rattle.layout.specs.Result.{Result, accept, reject, check, _>>=_}
 use Rattle.layout.specs.Rows.{eachOf}
-use Rattle.layout.proofs.Outs.{by-test}
+use Rattle.layout.proofs.ResultLaws.{by-test}
 use Rattle.cal3d_spec.specs.Meshes.{Submesh, Mesh}
 use Rattle.cal3d_spec.specs.Tables.{meshTables, submeshRows, verticesOf, meshRows, mostRows}
 use Rattle.cal3d_spec.specs.Answers.{meshAnswer}
 use Rattle.cal3d_spec.specs.declared.MeshAnswer.{MeshAnswer}
-use Rattle.cal3d_mesh_plain_spec.proofs.Widths.{vertex-rows-length}
+use Rattle.cal3d_mesh_plain_spec.proofs.WidthLaws.{vertex-rows-length}
 use Rattle.cal3d_mesh_vertices.specs.Vertices.{mapsIn, influencesIn}
-use Rattle.cal3d_mesh_submesh_lists.specs.Contents.{contentsIn, Within}
+use Rattle.cal3d_mesh_submesh_lists.specs.Contents.{contentsIn, CountsWithin}
 use Rattle.cal3d_mesh_submesh_lists.specs.declared.Contents.{Contents}
 use Rattle.cal3d_mesh_judge.specs.Limits.{rowCounts, firstOver, acceptedAs, overAs, limitedAs}
 
@@ -69,7 +69,7 @@ none-over k n l h e f =
     (λ t. let g = leb→le n 16383 t in f g (rw (le-leb n 16383 g) at e))
     (λ t. let g = rw (lt-leb n 16383 (nleb→lt n 16383 t)) at e in absurd (omega arith))
 
-few : (n : ℕ) (t : Contents) → firstOver 1 (rowCounts n t) ≡ 0 → Within t 16383
+few : (n : ℕ) (t : Contents) → firstOver 1 (rowCounts n t) ≡ 0 → CountsWithin t 16383
 few n t e =
     none-over 1 n _ (omega arith) e (λ _ e₁.
     none-over 2 (t .vertices) _ (omega arith) e₁ (λ v e₂.
@@ -90,7 +90,7 @@ module _ (n : ℕ) (t : Contents) (o : ℕ) (eo : o ≡ firstOver 1 (rowCounts n
   unfolding limitedAs
   limited-over h a q = rw (← eo) (q ∙ over-answer o n t h)
 
-  pub limited-few : o ≡ 0 → Within t 16383
+  pub limited-few : o ≡ 0 → CountsWithin t 16383
   limited-few h = few n t (sym eo ∙ h)
 
   pub limited-good : o ≡ 0 → (a : MeshAnswer) → a ≡ acceptedAs n t → a ≡ limitedAs n t

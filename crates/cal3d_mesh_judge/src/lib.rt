@@ -3,7 +3,7 @@ ghost use mathlib.Core.Path.{_≡_};
 ghost use Rattle.layout.specs.Result.{reject};
 ghost use Rattle.cal3d_spec.specs.Rules.{namedBones};
 ghost use Rattle.cal3d_spec.specs.Answers.{judgeMesh, meshAnswer};
-ghost use Rattle.cal3d_mesh_submesh_lists.specs.Contents.{Within};
+ghost use Rattle.cal3d_mesh_submesh_lists.specs.Contents.{CountsWithin};
 ghost use Rattle.cal3d_mesh_judge.specs.Limits.{rowCounts, firstOver, acceptedAs, limitedAs};
 use cal3d_header::Opened;
 use cal3d_mesh_submesh_lists::Contained;
@@ -26,7 +26,7 @@ pub fn refused(number: u32, place: u32) -> MeshAnswer
 
 // Returns the answer of an accepted file with this number of submeshes, whose other rows are `t`.
 fn accepted(submeshes: u32, t: Contents) -> MeshAnswer
-    requires { ⌜ Within t 16383 ⌝ }
+    requires { ⌜ CountsWithin t 16383 ⌝ }
     ensures { λ r. ⌜ r ≡ acceptedAs submeshes t ⌝ }
 {
     MeshAnswer {
@@ -95,8 +95,8 @@ pub fn judge(file: &[u8], bone_count: u32) -> MeshAnswer
     ensures { λ r. ⌜ r ≡ meshAnswer (judgeMesh «bone_count» (now (file .entry))) ⌝ }
 {
     match cal3d_header::entry_count(file, 0x00464D43, 700, 0) {
-        Opened::Not(e, p) => refused(e, p),
-        Opened::To(submeshes) => {
+        Opened::Reject(e, p) => refused(e, p),
+        Opened::Accept(submeshes) => {
             let n = file.len();
             match cal3d_mesh_submeshes::judge_submeshes(
                 file,
@@ -104,8 +104,8 @@ pub fn judge(file: &[u8], bone_count: u32) -> MeshAnswer
                 named_bones(bone_count),
                 wire::size(submeshes),
             ) {
-                Contained::Not(e, p) => refused(e, p as u32),
-                Contained::To(t, c) => {
+                Contained::Reject(e, p) => refused(e, p as u32),
+                Contained::Accept(t, c) => {
                     if n <= c.at {
                         return limited(submeshes, t);
                     }

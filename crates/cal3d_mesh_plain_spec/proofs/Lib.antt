@@ -1,4 +1,4 @@
-pub mod Finding
-pub mod Readings
-pub mod Entries
-pub mod Widths
+pub mod ReadingPlaceLaws
+pub mod MeshReadingLaws
+pub mod EntryLaws
+pub mod WidthLaws

@@ -17,8 +17,8 @@ use Rattle.shared_counted_lists.specs.declared.Ran.{Ran}
 use Rattle.shared_counted_lists.specs.declared.Ran.the-variants as ran
 use Rattle.shared_counted_lists.specs.declared.Summed.{Summed}
 use Rattle.shared_counted_lists.specs.declared.Summed.the-variants as summed
-use Rattle.shared_counted_lists.proofs.Runs.{Read, runs-bad, runs-place, runs-passed, runs-inside, runs-read}
-use Rattle.shared_counted_lists.proofs.Sums.{SumRead, summed-bad, summed-place, summed-passed, summed-read}
+use Rattle.shared_counted_lists.proofs.RunLaws.{Read, runs-bad, runs-place, runs-passed, runs-inside, runs-read}
+use Rattle.shared_counted_lists.proofs.SumLaws.{SumRead, summed-bad, summed-place, summed-passed, summed-read}
 use Rattle.cal3d_spec.specs.Rules.{springNumbers, faceNumbers}
 use Rattle.cal3d_spec.specs.Meshes.{readVertex}
 use Rattle.cal3d_mesh_vertices.specs.Vertices.{mapsIn, influencesIn}
@@ -35,7 +35,7 @@ same-contents v w m n i j g h f k a b c d e = rw (a, b, c, d, e)
 
 module _ (s : List ℕ) (c : Cursor) (bones vertices springs maps faces : ℕ) (inside : Inside c (length s)) (r : Summed)
     (v : Sums influencesIn (times vertices (readVertex bones vertices springs maps) (c .at) (left c s)) c (vertices * (36 + maps * 8)) r) where
-  pub lists-vertices : (e p : ℕ) → r ≡ summed.Not e p → Contains contentsOf (readLists bones vertices springs maps faces (c .at) (left c s)) c 0 (contained.Not e p)
+  pub lists-vertices : (e p : ℕ) → r ≡ summed.Reject e p → Contains contentsOf (readLists bones vertices springs maps faces (c .at) (left c s)) c 0 (contained.Reject e p)
   unfolding readLists
   lists-vertices e p w =
       record {
@@ -43,8 +43,8 @@ module _ (s : List ℕ) (c : Cursor) (bones vertices springs maps faces : ℕ) (
         passes = summed-place influencesIn (times vertices (readVertex bones vertices springs maps) (c .at) (left c s)) c (vertices * (36 + maps * 8)) r v e p w;
       }
 
-  module _ (j : ℕ) (n : Cursor) (w : r ≡ summed.To j n) where
-    went : SumPasses c (vertices * (36 + maps * 8)) (summed.To j n)
+  module _ (j : ℕ) (n : Cursor) (w : r ≡ summed.Accept j n) where
+    went : SumPasses c (vertices * (36 + maps * 8)) (summed.Accept j n)
     went = summed-passed influencesIn (times vertices (readVertex bones vertices springs maps)) (times-moves (readVertex bones vertices springs maps) (vertex-moves bones vertices springs maps) vertices) s c (vertices * (36 + maps * 8)) r v j n w
 
     first : SumRead influencesIn s (times vertices (readVertex bones vertices springs maps) (c .at) (left c s)) j n
@@ -57,15 +57,15 @@ module _ (s : List ℕ) (c : Cursor) (bones vertices springs maps faces : ℕ) (
     lists-first = let h = went in record { before = h .1; within = omega arith }
 
     module _ (x : Ran) (u : Runs (times springs (row (idRow 2 (4 - 2) vertices)) (n .at) (left n s)) n (springs * (4 * 4)) x) where
-      pub lists-springs : (e p : ℕ) → x ≡ ran.Not e p → Contains contentsOf (readLists bones vertices springs maps faces (c .at) (left c s)) c 0 (contained.Not e p)
+      pub lists-springs : (e p : ℕ) → x ≡ ran.Reject e p → Contains contentsOf (readLists bones vertices springs maps faces (c .at) (left c s)) c 0 (contained.Reject e p)
       unfolding readLists
       lists-springs e p z =
           let h = went in
           let k = runs-place (times springs (row (springNumbers vertices)) (n .at) (left n s)) n (springs * 16) x u e p z in
           record { is = rw (first .is, runs-bad (times springs (row (springNumbers vertices)) (n .at) (left n s)) n (springs * 16) x u e p z); passes = omega arith }
 
-      module _ (m : Cursor) (z : x ≡ ran.To m) where
-        went-on : Passes n (springs * 16) (ran.To m)
+      module _ (m : Cursor) (z : x ≡ ran.Accept m) where
+        went-on : Passes n (springs * 16) (ran.Accept m)
         went-on = runs-passed (times springs (row (springNumbers vertices)) (n .at) (left n s)) n (springs * 16) x u m z
 
         second : Read s (times springs (row (springNumbers vertices)) (n .at) (left n s)) n m
@@ -75,7 +75,7 @@ module _ (s : List ℕ) (c : Cursor) (bones vertices springs maps faces : ℕ) (
         lists-second = runs-inside (times springs (row (springNumbers vertices)) (n .at) (left n s)) n (springs * 16) x u m z (length s) lists-first
 
         module _ (y : Ran) (f : Runs (times faces (row (idRow 3 (3 - 3) vertices)) (m .at) (left m s)) m (faces * (4 * 3)) y) where
-          pub lists-faces : (e p : ℕ) → y ≡ ran.Not e p → Contains contentsOf (readLists bones vertices springs maps faces (c .at) (left c s)) c 0 (contained.Not e p)
+          pub lists-faces : (e p : ℕ) → y ≡ ran.Reject e p → Contains contentsOf (readLists bones vertices springs maps faces (c .at) (left c s)) c 0 (contained.Reject e p)
           unfolding readLists
           lists-faces e p g =
               let h = went in
@@ -83,8 +83,8 @@ module _ (s : List ℕ) (c : Cursor) (bones vertices springs maps faces : ℕ) (
               let l = runs-place (times faces (row (faceNumbers vertices)) (m .at) (left m s)) m (faces * 12) y f e p g in
               record { is = rw (first .is, second .is, runs-bad (times faces (row (faceNumbers vertices)) (m .at) (left m s)) m (faces * 12) y f e p g); passes = omega arith }
 
-          pub lists-done : (next : Cursor) → y ≡ ran.To next
-              → Contains contentsOf (readLists bones vertices springs maps faces (c .at) (left c s)) c 0 (contained.To (record { vertices = vertices; maps = vertices * maps; influences = j; springs = springs; faces = faces }) next)
+          pub lists-done : (next : Cursor) → y ≡ ran.Accept next
+              → Contains contentsOf (readLists bones vertices springs maps faces (c .at) (left c s)) c 0 (contained.Accept (record { vertices = vertices; maps = vertices * maps; influences = j; springs = springs; faces = faces }) next)
           unfolding readLists contentsOf
           lists-done next g =
               let h = went in
@@ -102,8 +102,8 @@ module _ (s : List ℕ) (c : Cursor) (bones vertices springs maps faces : ℕ) (
               let whole : readLists bones vertices springs maps faces (c .at) (left c s)
               ≡ accept (record { value = record { numbers = []; vertices = first .value; springs = second .value; faces = t .value }; place = next .at; left = left next s }) = rw (first .is, second .is, t .is) in
               record {
-                is = ap (λ (a : Contents). contained.To a next) same
-                    ∙ ap (λ (i : ℕ). contained.To (record { vertices = length (first .value); maps = mapsIn (first .value); influences = influencesIn (first .value); springs = length (second .value); faces = length (t .value) }) (record { at = next .at; end = i })) end
+                is = ap (λ (a : Contents). contained.Accept a next) same
+                    ∙ ap (λ (i : ℕ). contained.Accept (record { vertices = length (first .value); maps = mapsIn (first .value); influences = influencesIn (first .value); springs = length (second .value); faces = length (t .value) }) (record { at = next .at; end = i })) end
                     ∙ ap (containedOf contentsOf (c .end)) (sym whole);
                 passes = record { vertices = omega arith; maps = omega arith; influences = omega arith; springs = omega arith; faces = omega arith; before = l .1; same = end };
               }

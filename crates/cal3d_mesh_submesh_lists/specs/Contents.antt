@@ -50,7 +50,7 @@ both a b =
     }
 
 -- each count of t is at most `most`
-pub record Within (t : Contents) (most : ℕ) : Type 0 where
+pub record CountsWithin (t : Contents) (most : ℕ) : Type 0 where
   pub vertices : t .vertices ≤ most
   pub maps : t .maps ≤ most
   pub influences : t .influences ≤ most
@@ -67,8 +67,8 @@ readLists bones vertices springs maps faces p s = do
 
 -- what code answers for what was read: how many entries it holds and the cursor after it, up to the same end; or the refusal
 abbrev pub containedOf : {A : Type 0} → (A → Contents) → ℕ → Result (Step A) → Contained
-containedOf contents end (accept x) = contained.To (contents (x .value)) (record { at = x .place; end = end })
-containedOf contents end (reject n p) = contained.Not n p
+containedOf contents end (accept x) = contained.Accept (contents (x .value)) (record { at = x .place; end = end })
+containedOf contents end (reject n p) = contained.Reject n p
 
 -- from c to n there are at least k bytes, and one for each entry of any one kind
 pub record Takes (c : Cursor) (k : ℕ) (t : Contents) (n : Cursor) : Type 0 where
@@ -89,8 +89,8 @@ pub record Takes (c : Cursor) (k : ℕ) (t : Contents) (n : Cursor) : Type 0 whe
 
 -- at least k bytes after c were passed, and one for each entry of any one kind; a refusal's place is not past the end
 abbrev pub ContentPasses : Cursor → ℕ → Contained → Type 0
-ContentPasses c k (contained.To t n) = Takes c k t n
-ContentPasses c k (contained.Not e p) = p ≤ c .end
+ContentPasses c k (contained.Accept t n) = Takes c k t n
+ContentPasses c k (contained.Reject e p) = p ≤ c .end
 
 -- r is what code answers for o, which was read at c and has at least k bytes
 pub record Contains {A : Type 0} (contents : A → Contents) (o : Result (Step A)) (c : Cursor) (k : ℕ) (r : Contained) : Type 0 where

@@ -2,7 +2,7 @@
 ghost use lib.ListN.{length};
 ghost use Rattle.wire.specs.Cursors.{Inside, left};
 ghost use Rattle.cal3d_mesh_submesh_lists.specs.Contents.{Contains, contentsOf, readLists};
-use cal3d_mesh_vertices::Sizes;
+use cal3d_mesh_vertices::SubmeshSizes;
 use shared_counted_lists::Ran;
 use shared_counted_lists::Summed;
 use wire::Cursor;
@@ -18,23 +18,23 @@ pub struct Contents {
 
 // How many entries of each kind were read, and the cursor after them; or a refusal and its place.
 pub enum Contained {
-    To(Contents, Cursor),
-    Not(u32, usize),
+    Accept(Contents, Cursor),
+    Reject(u32, usize),
 }
 
 // Judges the lists of a submesh with the sizes `n` and `faces` faces, bone ids being below `bones`. Returns how many entries they hold and the cursor after
 // them, or a refusal.
-pub fn judge_lists(s: &[u8], c: Cursor, bones: usize, n: Sizes, faces: usize) -> Contained
+pub fn judge_lists(s: &[u8], c: Cursor, bones: usize, n: SubmeshSizes, faces: usize) -> Contained
     requires { ⌜ Inside c (length (now s)) ⌝ }
     ensures { λ r. ⌜ Contains contentsOf (readLists bones (n .vertices) (n .springs) (n .maps) faces (c .at) (left c (now (s .entry)))) c 0 r ⌝ }
 {
     match cal3d_mesh_vertices::judge_vertices(s, c, bones, n) {
-        Summed::Not(e, p) => Contained::Not(e, p),
-        Summed::To(influences, first) => {
+        Summed::Reject(e, p) => Contained::Reject(e, p),
+        Summed::Accept(influences, first) => {
             let maps = n.vertices * n.maps;
             match shared_counted_lists::id_rows(s, first, n.springs, 4, 2, n.vertices) {
-                Ran::Not(e, p) => Contained::Not(e, p),
-                Ran::To(second) => match shared_counted_lists::id_rows(
+                Ran::Reject(e, p) => Contained::Reject(e, p),
+                Ran::Accept(second) => match shared_counted_lists::id_rows(
                     s,
                     second,
                     faces,
@@ -42,8 +42,8 @@ pub fn judge_lists(s: &[u8], c: Cursor, bones: usize, n: Sizes, faces: usize) ->
                     3,
                     n.vertices,
                 ) {
-                    Ran::Not(e, p) => Contained::Not(e, p),
-                    Ran::To(next) => Contained::To(
+                    Ran::Reject(e, p) => Contained::Reject(e, p),
+                    Ran::Accept(next) => Contained::Accept(
                         Contents {
                             vertices: n.vertices,
                             maps,

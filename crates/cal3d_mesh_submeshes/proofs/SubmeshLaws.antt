@@ -13,13 +13,13 @@ use Rattle.wire.specs.declared.Cursor.{Cursor}
 use Rattle.layout.specs.Result.{Result, accept, reject, _>>=_}
 use Rattle.layout.specs.Parts.{Step, wordsOf, row, number}
 use Rattle.layout.specs.Counted.{times}
-use Rattle.layout.proofs.Outs.{by-got, got-inj}
+use Rattle.layout.proofs.ResultLaws.{by-got, got-inj}
 use Rattle.layout.proofs.CountLaws.{Advances, moved-as, moved-on, row-moves, row-got, times-moves}
 use Rattle.shared_counted_lists.specs.Runs.{Passes, Runs}
 use Rattle.shared_counted_lists.specs.declared.Ran.{Ran}
 use Rattle.shared_counted_lists.specs.declared.Ran.the-variants as ran
-use Rattle.shared_ids.proofs.Ids.{word-at}
-use Rattle.shared_counted_lists.proofs.Runs.{runs-bad, runs-place, runs-passed, runs-inside, runs-read}
+use Rattle.shared_ids.proofs.IdLaws.{word-at}
+use Rattle.shared_counted_lists.proofs.RunLaws.{runs-bad, runs-place, runs-passed, runs-inside, runs-read}
 use Rattle.cal3d_spec.specs.Rules.{submeshNumbers, springNumbers, faceNumbers}
 use Rattle.cal3d_spec.specs.Meshes.{Vertex, Submesh, readVertex, readSubmesh}
 use Rattle.cal3d_mesh_vertices.proofs.VertexLaws.{vertex-moves}
@@ -54,17 +54,17 @@ numbers-same end ws zs (accept v) t u = second (t v)
     second (reject n p) = refl
 
 -- more bytes passed on the way
-content-then : (c n : Cursor) (k : ℕ) (x : Contained) → Passes c k (ran.To n) → ContentPasses n 0 x → ContentPasses c k x
-content-then c n k (contained.To t m) h p =
+content-then : (c n : Cursor) (k : ℕ) (x : Contained) → Passes c k (ran.Accept n) → ContentPasses n 0 x → ContentPasses c k x
+content-then c n k (contained.Accept t m) h p =
     record { vertices = omega arith; maps = omega arith; influences = omega arith; springs = omega arith; faces = omega arith; before = p .before; same = p .same ∙ h .2 }
-content-then c n k (contained.Not e q) h p = omega arith
+content-then c n k (contained.Reject e q) h p = omega arith
 
 module _ (s : List ℕ) (c : Cursor) (bones : ℕ) (inside : Inside c (length s)) (r : Ran) (v : Runs (row submeshNumbers (c .at) (left c s)) c 24 r) where
-  pub submesh-counts : (e p : ℕ) → r ≡ ran.Not e p → Contains contentsOf (readSubmesh bones (c .at) (left c s)) c 24 (contained.Not e p)
+  pub submesh-counts : (e p : ℕ) → r ≡ ran.Reject e p → Contains contentsOf (readSubmesh bones (c .at) (left c s)) c 24 (contained.Reject e p)
   unfolding readSubmesh
   submesh-counts e p w = record { is = rw (runs-bad (row submeshNumbers (c .at) (left c s)) c 24 r v e p w); passes = runs-place (row submeshNumbers (c .at) (left c s)) c 24 r v e p w }
 
-  module _ (n : Cursor) (w : r ≡ ran.To n) where
+  module _ (n : Cursor) (w : r ≡ ran.Accept n) where
     pub submesh-room : (k : ℕ) → leb k 20 ≡ true → c .at + k + 4 ≤ length s
     submesh-room k l = let h = runs-passed (row submeshNumbers (c .at) (left c s)) c 24 r v n w in let m = leb-true k 20 l in omega arith
 

@@ -10,11 +10,11 @@ use Rattle.layout.specs.Result.{Result, accept, reject}
 use Rattle.layout.specs.Parts.{Step}
 use Rattle.layout.specs.Counted.{times}
 use Rattle.layout.specs.Rows.{joined}
-use Rattle.shared_counted_lists.proofs.Walks.{mapped, Walk, walk-start, walk-none, walk-refused, walk-on}
+use Rattle.shared_counted_lists.proofs.WalkLaws.{mapped, Walk, walk-start, walk-none, walk-refused, walk-on}
 use Rattle.cal3d_spec.specs.Meshes.{Vertex, Submesh, readSubmesh}
 use Rattle.cal3d_spec.specs.Tables.{verticesOf}
 use Rattle.cal3d_mesh_vertices.specs.Vertices.{mapsIn, influencesIn}
-use Rattle.cal3d_mesh_submesh_lists.specs.Contents.{contentsOf, contentsIn, both, Within, containedOf, Takes, ContentPasses, Contains}
+use Rattle.cal3d_mesh_submesh_lists.specs.Contents.{contentsOf, contentsIn, both, CountsWithin, containedOf, Takes, ContentPasses, Contains}
 use Rattle.cal3d_mesh_submesh_lists.specs.declared.Contents.{Contents}
 use Rattle.cal3d_mesh_submesh_lists.specs.declared.Contained.{Contained}
 use Rattle.cal3d_mesh_submesh_lists.specs.declared.Contained.the-variants as contained
@@ -23,11 +23,11 @@ use Rattle.cal3d_mesh_submeshes.proofs.SubmeshLaws.{submesh-moves}
 
 -- ---- answers
 
-pub contained-bad : {A : Type 0} (f : A → Contents) (end : ℕ) (o : Result (Step A)) (e p : ℕ) → contained.Not e p ≡ containedOf f end o → o ≡ reject e p
+pub contained-bad : {A : Type 0} (f : A → Contents) (end : ℕ) (o : Result (Step A)) (e p : ℕ) → contained.Reject e p ≡ containedOf f end o → o ≡ reject e p
 contained-bad f end (accept x) e p q = let z : _≡_ {A = ℕ} 0 1 = cc in absurd (omega arith)
 contained-bad f end (reject n m) e p q = let a : n ≡ e = cc in let b : m ≡ p = cc in rw (a, b)
 
-pub contained-got : {A : Type 0} (f : A → Contents) (end : ℕ) (o : Result (Step A)) (t : Contents) (n : Cursor) → contained.To t n ≡ containedOf f end o
+pub contained-got : {A : Type 0} (f : A → Contents) (end : ℕ) (o : Result (Step A)) (t : Contents) (n : Cursor) → contained.Accept t n ≡ containedOf f end o
     → (x : Step A) × (o ≡ accept x) × (t ≡ f (x .value)) × (n ≡ record { at = x .place; end = end })
 contained-got f end (accept x) t n q = (x, refl, cc, cc)
 contained-got f end (reject m p) t n q = let z : _≡_ {A = ℕ} 0 1 = cc in absurd (omega arith)
@@ -92,7 +92,7 @@ after-one : (t : Contents) (x : Submesh) (l : List Submesh) → after t (x ∷ l
 after-one t x l = ap (λ (d : Contents). both t d) (one-in x l) ∙ both-assoc t (contentsOf x) (contentsIn l)
 
 after-none : (end : ℕ) (o : Result (Step (List Submesh))) → containedOf contentsIn end o ≡ containedOf (λ t. t) end (mapped (after none) o)
-after-none end (accept x) = ap (λ (t : Contents). contained.To t (record { at = x .place; end = end })) (sym (none-both (contentsIn (x .value))))
+after-none end (accept x) = ap (λ (t : Contents). contained.Accept t (record { at = x .place; end = end })) (sym (none-both (contentsIn (x .value))))
 after-none end (reject n p) = refl
 
 -- submeshes have been passed up to c, with these contents; so many are left
@@ -109,7 +109,7 @@ module _ (s : List ℕ) (bones n : ℕ) (from : Cursor) where
       }
 
   module _ (c : Cursor) (more : ℕ) (all : Contents) (w : Totalling s bones n from c more all) where
-    pub total-done : more ≤ 0 → Contains contentsIn (times n (readSubmesh bones) (from .at) (left from s)) from 0 (contained.To all c)
+    pub total-done : more ≤ 0 → Contains contentsIn (times n (readSubmesh bones) (from .at) (left from s)) from 0 (contained.Accept all c)
     total-done h =
         let z : after all [] ≡ all = ap (λ (t : Contents). both all t) none-in ∙ both-none all in
         record {
@@ -118,7 +118,7 @@ module _ (s : List ℕ) (bones n : ℕ) (from : Cursor) where
         }
 
     module _ (h : 0 < more) (r : Contained) (b : Contains contentsOf (readSubmesh bones (c .at) (left c s)) c 24 r) where
-      pub total-bad : (e p : ℕ) → r ≡ contained.Not e p → Contains contentsIn (times n (readSubmesh bones) (from .at) (left from s)) from 0 (contained.Not e p)
+      pub total-bad : (e p : ℕ) → r ≡ contained.Reject e p → Contains contentsIn (times n (readSubmesh bones) (from .at) (left from s)) from 0 (contained.Reject e p)
       total-bad e p q =
           let o = contained-bad contentsOf (c .end) (readSubmesh bones (c .at) (left c s)) e p (sym q ∙ b .is) in
           let m : p ≤ c .end = rw q at (b .passes) in
@@ -128,11 +128,11 @@ module _ (s : List ℕ) (bones n : ℕ) (from : Cursor) where
             passes = omega arith;
           }
 
-      module _ (one : Contents) (m : Cursor) (q : r ≡ contained.To one m) where
-        went : ContentPasses c 24 (contained.To one m)
+      module _ (one : Contents) (m : Cursor) (q : r ≡ contained.Accept one m) where
+        went : ContentPasses c 24 (contained.Accept one m)
         went = rw q at (b .passes)
 
-        pub total-room : length s ≤ 18446744073709551615 → Within (both all one) 18446744073709551615
+        pub total-room : length s ≤ 18446744073709551615 → CountsWithin (both all one) 18446744073709551615
         total-room l =
             let p = went in
             let f = w .takes in

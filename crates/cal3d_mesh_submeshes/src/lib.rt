@@ -7,10 +7,10 @@ ghost use Rattle.layout.specs.Counted.{times};
 ghost use Rattle.shared_counted_lists.specs.Runs.{Runs};
 ghost use Rattle.cal3d_spec.specs.Rules.{submeshNumbers};
 ghost use Rattle.cal3d_spec.specs.Meshes.{readSubmesh};
-ghost use Rattle.cal3d_mesh_submesh_lists.specs.Contents.{Contains, Within, both, contentsOf, contentsIn};
+ghost use Rattle.cal3d_mesh_submesh_lists.specs.Contents.{Contains, CountsWithin, both, contentsOf, contentsIn};
 use cal3d_mesh_submesh_lists::Contained;
 use cal3d_mesh_submesh_lists::Contents;
-use cal3d_mesh_vertices::Sizes;
+use cal3d_mesh_vertices::SubmeshSizes;
 use layout::refusals;
 use shared_counted_lists::Ran;
 use wire::Cursor;
@@ -24,13 +24,13 @@ fn pass_counts(s: &[u8], c: Cursor) -> Ran
     let at = c.at;
     let end = c.end;
     if end - at < 24 {
-        return Ran::Not(refusals::CUT_ITEM, at);
+        return Ran::Reject(refusals::CUT_ITEM, at);
     }
     let good = shared_ids::first_invalid(s, Cursor { at: at + 4, end }, 5, 2147483648, false);
     if good < 5 {
-        return Ran::Not(refusals::RANGE, at + 4 + 4 * good);
+        return Ran::Reject(refusals::RANGE, at + 4 + 4 * good);
     }
-    Ran::To(Cursor { at: at + 24, end })
+    Ran::Accept(Cursor { at: at + 24, end })
 }
 
 // Judges one submesh, bone ids being below `bones`. Returns how many entries it holds and the cursor after it, or a refusal.
@@ -39,11 +39,11 @@ fn judge_submesh(s: &[u8], c: Cursor, bones: usize) -> Contained
     ensures { λ r. ⌜ Contains contentsOf (readSubmesh bones (c .at) (left c (now (s .entry)))) c 24 r ⌝ }
 {
     match pass_counts(s, c) {
-        Ran::Not(e, p) => Contained::Not(e, p),
-        Ran::To(lists) => {
+        Ran::Reject(e, p) => Contained::Reject(e, p),
+        Ran::Accept(lists) => {
             let at = c.at;
             let faces = wire::size(wire::number_at(s, at + 8));
-            let n = Sizes {
+            let n = SubmeshSizes {
                 vertices: wire::size(wire::number_at(s, at + 4)),
                 springs: wire::size(wire::number_at(s, at + 16)),
                 maps: wire::size(wire::number_at(s, at + 20)),
@@ -55,7 +55,7 @@ fn judge_submesh(s: &[u8], c: Cursor, bones: usize) -> Contained
 
 // Returns the sum of `a` and `b`, count by count.
 fn plus(a: Contents, b: Contents) -> Contents
-    requires { ⌜ Within (both a b) 18446744073709551615 ⌝ }
+    requires { ⌜ CountsWithin (both a b) 18446744073709551615 ⌝ }
     ensures { λ r. ⌜ r ≡ both a b ⌝ }
 {
     Contents {
@@ -84,15 +84,15 @@ pub fn judge_submeshes(s: &[u8], from: Cursor, bones: usize, submeshes: usize) -
     };
     while 0 < more {
         match judge_submesh(s, c, bones) {
-            Contained::Not(e, p) => {
-                return Contained::Not(e, p);
+            Contained::Reject(e, p) => {
+                return Contained::Reject(e, p);
             }
-            Contained::To(one, next) => {
+            Contained::Accept(one, next) => {
                 all = plus(all, one);
                 more -= 1;
                 c = next;
             }
         }
     }
-    Contained::To(all, c)
+    Contained::Accept(all, c)
 }

@@ -7,16 +7,16 @@ use lib.ListN.{length, length-append}
 use lib.Seq.{sets}
 use Rattle.wire.specs.Bytes.{wordAt}
 use Rattle.wire.specs.Cursors.{left}
-use Rattle.wire.proofs.Left.{span}
+use Rattle.wire.proofs.LeftLaws.{span}
 use Rattle.layout.specs.Parts.{wordsOf}
 use Rattle.layout.specs.Rows.{joined}
 use Rattle.shared_table_words.specs.Words.{wordsAt}
-use Rattle.shared_table_words.proofs.Copying.{words-at, length-words}
-use Rattle.shared_table_words.proofs.Storing.{sets-append}
+use Rattle.shared_table_words.proofs.CopyLaws.{words-at, length-words}
+use Rattle.shared_table_words.proofs.StoreLaws.{sets-append}
 use Rattle.cal3d_spec.specs.Tables.{vertexRows}
 use Rattle.cal3d_mesh_plain_spec.specs.Plain.{wordRows, influencesOf, clothAt, clothBytes, clothPlace, vertexAt}
-use Rattle.cal3d_mesh_vertex_rows.specs.declared.Marks.{Marks}
-use Rattle.cal3d_mesh_plain_spec.proofs.Widths.{rows-length, rows-joined}
+use Rattle.cal3d_mesh_vertex_rows.specs.declared.VertexMarks.{VertexMarks}
+use Rattle.cal3d_mesh_plain_spec.proofs.WidthLaws.{rows-length, rows-joined}
 
 -- ---- words and rows as they stand
 
@@ -80,5 +80,5 @@ module _ (s : List ℕ) (springs maps m i p base n k w : ℕ) (out one new : Lis
       cells-behind s p 8 base (n ∷ w ∷ m ∷ i ∷ []) out one new e f ∙ ap (λ (z : List ℕ). sets out base z) r
 
 -- the marks behind a vertex
-pub vertex-passed : (a b c e springs : ℕ) → e ≡ clothBytes springs → _≡_ {A = Marks} (record { at = a + e; maps = b; influences = c }) (record { at = a + clothBytes springs; maps = b; influences = c })
+pub vertex-passed : (a b c e springs : ℕ) → e ≡ clothBytes springs → _≡_ {A = VertexMarks} (record { at = a + e; maps = b; influences = c }) (record { at = a + clothBytes springs; maps = b; influences = c })
 vertex-passed a b c e springs h = rw h

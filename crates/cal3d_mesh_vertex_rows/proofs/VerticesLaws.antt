@@ -10,17 +10,17 @@ use lib.Seq.{sets}
 use Rattle.wire.specs.Bytes.{wordAt}
 use Rattle.layout.specs.Rows.{joined}
 use Rattle.layout.proofs.ListLaws.{joined-append}
-use Rattle.shared_table_words.proofs.Storing.{Part, part-start, part-long, part-done, part-room, part-next}
+use Rattle.shared_table_words.proofs.StoreLaws.{Part, part-start, part-long, part-done, part-room, part-next}
 use Rattle.cal3d_spec.specs.Meshes.{Vertex}
 use Rattle.cal3d_spec.specs.Tables.{vertexRows}
 use Rattle.cal3d_mesh_plain_spec.specs.declared.Shape.{Shape}
 use Rattle.cal3d_mesh_plain_spec.specs.Plain.{entriesAt, endAfter, wordRows, influencesOf, clothBytes, clothPlace, vertexAt, vertexEnd, verticesAt, verticesEnd}
 use Rattle.cal3d_mesh_plain_spec.specs.Rows.{mapRows, influenceRows}
-use Rattle.cal3d_mesh_plain_spec.proofs.Entries.{entries-length, end-grows}
-use Rattle.cal3d_mesh_plain_spec.proofs.Widths.{wide-length, rows-length, rows-words, vertices-wide, maps-wide, influences-wide, vertex-rows-wide, vertex-rows-length}
+use Rattle.cal3d_mesh_plain_spec.proofs.EntryLaws.{entries-length, end-grows}
+use Rattle.cal3d_mesh_plain_spec.proofs.WidthLaws.{wide-length, rows-length, rows-words, vertices-wide, maps-wide, influences-wide, vertex-rows-wide, vertex-rows-length}
 use Rattle.cal3d_mesh_vertex_rows.proofs.VertexLaws.{row-long}
-use Rattle.cal3d_mesh_vertex_rows.specs.declared.Marks.{Marks}
-use Rattle.cal3d_mesh_vertex_rows.specs.Vertices.{MarksFit, verticesFrom, VerticesFit, VerticesPut}
+use Rattle.cal3d_mesh_vertex_rows.specs.declared.VertexMarks.{VertexMarks}
+use Rattle.cal3d_mesh_vertex_rows.specs.Vertices.{VertexMarksFit, verticesFrom, VerticesFit, VerticesPut}
 
 -- ---- one vertex and those behind it
 
@@ -90,12 +90,12 @@ none-joined = refl
 -- ---- the loop
 
 -- of so many vertices the rows stand, up to the marks; so many are left
-pub record VerticesLeft (s : List ℕ) (x : Shape) (from : Marks) (first : ℕ) (vertices₀ maps₀ influences₀ vertices maps influences : List ℕ) (m : Marks) (done : ℕ) : Type 0 where
+pub record VerticesLeft (s : List ℕ) (x : Shape) (from : VertexMarks) (first : ℕ) (vertices₀ maps₀ influences₀ vertices maps influences : List ℕ) (m : VertexMarks) (done : ℕ) : Type 0 where
   pub left : ℕ
   pub all : done + left ≡ x .vertices
   pub end : verticesEnd s x left (m .at) ≡ verticesEnd s x (x .vertices) (from .at)
   pub within : verticesEnd s x (x .vertices) (from .at) ≤ length s
-  pub fit : MarksFit m
+  pub fit : VertexMarksFit m
   pub before : first + done ≤ m .at
   pub part2 : Part vertices₀ (12 * first) (joined (vertexRows (from .maps) (from .influences) (verticesFrom s x from))) vertices (12 * (first + done)) (joined (vertexRows (m .maps) (m .influences) (verticesAt s x left (m .at))))
   pub part3 : Part maps₀ (2 * from .maps) (joined (mapRows (verticesFrom s x from))) maps (2 * m .maps) (joined (mapRows (verticesAt s x left (m .at))))
@@ -103,8 +103,8 @@ pub record VerticesLeft (s : List ℕ) (x : Shape) (from : Marks) (first : ℕ) 
   pub maps-left : m .maps + length (mapRows (verticesAt s x left (m .at))) ≡ from .maps + length (mapRows (verticesFrom s x from))
   pub influences-left : m .influences + length (influenceRows (verticesAt s x left (m .at))) ≡ from .influences + length (influenceRows (verticesFrom s x from))
 
-module _ (s : List ℕ) (x : Shape) (from : Marks) (first : ℕ) (vertices₀ maps₀ influences₀ : List ℕ) where
-  abbrev Left : List ℕ → List ℕ → List ℕ → Marks → ℕ → Type 0
+module _ (s : List ℕ) (x : Shape) (from : VertexMarks) (first : ℕ) (vertices₀ maps₀ influences₀ : List ℕ) where
+  abbrev Left : List ℕ → List ℕ → List ℕ → VertexMarks → ℕ → Type 0
   Left vertices maps influences m done = VerticesLeft s x from first vertices₀ maps₀ influences₀ vertices maps influences m done
 
   pub vertices-start : VerticesFit s x from first (length vertices₀) (length maps₀) (length influences₀) → Left vertices₀ maps₀ influences₀ from 0
@@ -132,7 +132,7 @@ module _ (s : List ℕ) (x : Shape) (from : Marks) (first : ℕ) (vertices₀ ma
         influences-left = refl;
       }
 
-  module _ (vertices maps influences : List ℕ) (m : Marks) (done : ℕ) (v : Left vertices maps influences m done) where
+  module _ (vertices maps influences : List ℕ) (m : VertexMarks) (done : ℕ) (v : Left vertices maps influences m done) where
     pub vertices-done : x .vertices ≤ done → VerticesPut s x from first vertices₀ maps₀ influences₀ vertices maps influences m
     vertices-done h =
         let z : v .left ≡ 0 = omega (arith, v .all) in
@@ -263,7 +263,7 @@ module _ (s : List ℕ) (x : Shape) (from : Marks) (first : ℕ) (vertices₀ ma
         pub turn-end : length s < 0x100000000 → m .at + 32 + 8 * x .maps + 4 + 8 * n + clothBytes (x .springs) < 0x100000000
         turn-end small = omega (arith, turn-room)
 
-        pub turn-next : (vertices₁ maps₁ influences₁ : List ℕ) (r : Marks)
+        pub turn-next : (vertices₁ maps₁ influences₁ : List ℕ) (r : VertexMarks)
             → vertices₁ ≡ sets vertices (12 * (first + done)) (joined (vertexRows (m .maps) (m .influences) (here ∷ [])))
             → maps₁ ≡ sets maps (2 * m .maps) (joined (wordRows 2 s (x .maps) (m .at + 32)))
             → influences₁ ≡ sets influences (2 * m .influences) (joined (wordRows 2 s n (m .at + 32 + 8 * x .maps + 4)))
@@ -280,7 +280,7 @@ module _ (s : List ℕ) (x : Shape) (from : Marks) (first : ℕ) (vertices₀ ma
             let n4 = rows-length 2 s many (place + 4) in
             let w3 = rows-words 2 s (x .maps) (m .at + 32) in
             let w4 = rows-words 2 s many (place + 4) in
-            subst (λ (z : Marks). Left vertices₁ maps₁ influences₁ z (done + 1)) (sym fr)
+            subst (λ (z : VertexMarks). Left vertices₁ maps₁ influences₁ z (done + 1)) (sym fr)
             (record {
               left = later;
               all = omega (arith, v .all);

@@ -10,25 +10,25 @@ use Rattle.cal3d_spec.specs.Tables.{vertexRows}
 use Rattle.cal3d_mesh_plain_spec.specs.declared.Shape.{Shape}
 use Rattle.cal3d_mesh_plain_spec.specs.Plain.{verticesAt, verticesEnd}
 use Rattle.cal3d_mesh_plain_spec.specs.Rows.{mapRows, influenceRows}
-use Rattle.cal3d_mesh_vertex_rows.specs.declared.Marks.{Marks}
+use Rattle.cal3d_mesh_vertex_rows.specs.declared.VertexMarks.{VertexMarks}
 
 -- no more maps, and no more influences, come before a place than bytes do
-pub record MarksFit (m : Marks) : Type 0 where
+pub record VertexMarksFit (m : VertexMarks) : Type 0 where
   pub maps : m .maps ≤ m .at
   pub influences : m .influences ≤ m .at
 
 -- the vertices of a submesh of the shape x at the marks `from`
-abbrev pub verticesFrom : List ℕ → Shape → Marks → List Vertex
+abbrev pub verticesFrom : List ℕ → Shape → VertexMarks → List Vertex
 verticesFrom s x from = verticesAt s x (x .vertices) (from .at)
 
 -- the vertices stand in the file s, and tables of l2, l3 and l4 words have room for their rows
-pub record VerticesFit (s : List ℕ) (x : Shape) (from : Marks) (first l2 l3 l4 : ℕ) : Type 0 where
+pub record VerticesFit (s : List ℕ) (x : Shape) (from : VertexMarks) (first l2 l3 l4 : ℕ) : Type 0 where
   -- the file's length is a number of four bytes
   pub small : length s < 0x100000000
   -- the vertices end in the file
   pub within : verticesEnd s x (x .vertices) (from .at) ≤ length s
   -- the marks are right
-  pub fit : MarksFit from
+  pub fit : VertexMarksFit from
   -- no more vertices come before than bytes do
   pub before : first ≤ from .at
   -- room for the vertices
@@ -39,8 +39,8 @@ pub record VerticesFit (s : List ℕ) (x : Shape) (from : Marks) (first l2 l3 l4
   pub influences : 2 * from .influences + 2 * length (influenceRows (verticesFrom s x from)) ≤ l4
 
 -- each table has its rows, and the marks r are after the vertices
-pub record VerticesPut (s : List ℕ) (x : Shape) (from : Marks) (first : ℕ) (vertices₀ maps₀ influences₀ vertices maps influences : List ℕ)
-    (r : Marks) : Type 0 where
+pub record VerticesPut (s : List ℕ) (x : Shape) (from : VertexMarks) (first : ℕ) (vertices₀ maps₀ influences₀ vertices maps influences : List ℕ)
+    (r : VertexMarks) : Type 0 where
   -- the rows of vertices, from row `first` on
   pub rows2 : vertices ≡ stored vertices₀ (12 * first) (joined (vertexRows (from .maps) (from .influences) (verticesFrom s x from)))
   -- the rows of maps, after those that come before
@@ -54,6 +54,6 @@ pub record VerticesPut (s : List ℕ) (x : Shape) (from : Marks) (first : ℕ) (
   -- r counts the influences of these vertices too
   pub influences-to : r .influences ≡ from .influences + length (influenceRows (verticesFrom s x from))
   -- the marks r are right
-  pub fit : MarksFit r
+  pub fit : VertexMarksFit r
   -- no more vertices come before r than bytes do
   pub few : first + x .vertices ≤ r .at

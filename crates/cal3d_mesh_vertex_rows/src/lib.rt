@@ -14,7 +14,7 @@ use cal3d_mesh_plain_spec::Shape;
 use wire::Cursor;
 
 // A place in the file, and how many maps and influences come before it.
-pub struct Marks {
+pub struct VertexMarks {
     pub at: usize,
     pub maps: usize,
     pub influences: usize,
@@ -59,7 +59,15 @@ fn cloth_bytes(springs: usize) -> usize
 }
 
 // Stores the row of the vertex at the marks `m`, which has `n` influences, in `out` from word `base` on.
-fn put_vertex(s: &[u8], springs: usize, maps: usize, m: Marks, n: u32, base: usize, out: &mut [u32])
+fn put_vertex(
+    s: &[u8],
+    springs: usize,
+    maps: usize,
+    m: VertexMarks,
+    n: u32,
+    base: usize,
+    out: &mut [u32],
+)
     requires { ⌜ (clothPlace (now s) maps (m .at) + clothBytes springs ≤ length (now s)) × (length (now s) < 0x100000000) × (m .maps ≤ m .at)
         × (m .influences ≤ m .at) ⌝ }
     requires { ⌜ (n ≡ influencesOf (now s) maps (m .at)) × (base + 12 ≤ length (now out)) ⌝ }
@@ -74,11 +82,11 @@ fn put_vertex(s: &[u8], springs: usize, maps: usize, m: Marks, n: u32, base: usi
 }
 
 // Returns the marks after the vertex at the marks `m`, which has `n` influences.
-fn pass_vertex(springs: usize, maps: usize, m: Marks, n: usize) -> Marks
+fn pass_vertex(springs: usize, maps: usize, m: VertexMarks, n: usize) -> VertexMarks
     requires { ⌜ (m .at + 32 + 8 * maps + 4 + 8 * n + clothBytes springs < 0x100000000) × (m .maps ≤ m .at) × (m .influences ≤ m .at) ⌝ }
     ensures { λ r. ⌜ r ≡ record { at = m .at + 32 + 8 * maps + 4 + 8 * n + clothBytes springs; maps = m .maps + maps; influences = m .influences + n } ⌝ }
 {
-    Marks {
+    VertexMarks {
         at: m.at + 32 + 8 * maps + 4 + 8 * n + cloth_bytes(springs),
         maps: m.maps + maps,
         influences: m.influences + n,
@@ -90,12 +98,12 @@ fn pass_vertex(springs: usize, maps: usize, m: Marks, n: usize) -> Marks
 pub fn put_vertices(
     s: &[u8],
     x: Shape,
-    from: Marks,
+    from: VertexMarks,
     first: usize,
     vertices: &mut [u32],
     maps: &mut [u32],
     influences: &mut [u32],
-) -> Marks
+) -> VertexMarks
     requires { ⌜ VerticesFit (now s) x from first (length (now vertices)) (length (now maps)) (length (now influences)) ⌝ }
     ensures { λ r. ⌜ VerticesPut (now (s .entry)) x from first (now (vertices .entry)) (now (maps .entry)) (now (influences .entry)) (now (vertices .exit))
         (now (maps .exit)) (now (influences .exit)) r ⌝ }

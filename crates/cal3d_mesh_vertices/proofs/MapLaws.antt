@@ -9,7 +9,7 @@ use Rattle.layout.specs.Result.{accept}
 use Rattle.layout.specs.Parts.{Step, row}
 use Rattle.layout.specs.Counted.{before, times}
 use Rattle.layout.specs.Rows.{joined}
-use Rattle.layout.proofs.Outs.{by-got, got-inj}
+use Rattle.layout.proofs.ResultLaws.{by-got, got-inj}
 use Rattle.layout.proofs.CountLaws.{times-none, times-length, times-got}
 use Rattle.cal3d_spec.specs.Rules.{vertexNumbers, mapNumbers, influencesHead, influenceNumbers}
 use Rattle.cal3d_spec.specs.Meshes.{Vertex, readCloth, readVertex}

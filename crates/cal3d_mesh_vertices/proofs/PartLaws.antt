@@ -12,7 +12,7 @@ use Rattle.layout.specs.Result.{accept, _>>=_}
 use Rattle.layout.specs.Parts.{Step, row}
 use Rattle.layout.specs.Rules.{any, count}
 use Rattle.layout.specs.Counted.{times}
-use Rattle.layout.proofs.Outs.{by-got, got-inj}
+use Rattle.layout.proofs.ResultLaws.{by-got, got-inj}
 use Rattle.layout.proofs.CountLaws.{Moved, Advances, moved-as, moved-on, row-moves, times-moves, times-length}
 use Rattle.shared_ids.specs.Ids.{idRow}
 use Rattle.shared_counted_lists.specs.Runs.{ranOf, Runs}
@@ -20,8 +20,8 @@ use Rattle.shared_counted_lists.specs.Sums.{Sums}
 use Rattle.shared_counted_lists.specs.declared.Ran.{Ran}
 use Rattle.shared_counted_lists.specs.declared.Ran.the-variants as ran
 use Rattle.shared_counted_lists.specs.declared.Summed.the-variants as summed
-use Rattle.shared_counted_lists.proofs.Heads.{head-cut, head-numbered, head-over, head-within, head-got}
-use Rattle.shared_counted_lists.proofs.Runs.{runs-bad, runs-place, runs-passed, runs-inside, runs-read, passes-then, ran-as}
+use Rattle.shared_counted_lists.proofs.NumberLaws.{head-cut, head-numbered, head-over, head-within, head-got}
+use Rattle.shared_counted_lists.proofs.RunLaws.{runs-bad, runs-place, runs-passed, runs-inside, runs-read, passes-then, ran-as}
 use Rattle.cal3d_spec.specs.Rules.{vertexNumbers, mapNumbers, influencesHead, influenceNumbers, clothNumbers}
 use Rattle.cal3d_spec.specs.Meshes.{readCloth}
 use Rattle.cal3d_mesh_vertices.specs.Vertices.{readMapped, readInfluences, rowCount}
@@ -29,12 +29,12 @@ use Rattle.cal3d_mesh_vertices.specs.Vertices.{readMapped, readInfluence
 -- ---- numbers and maps
 
 module _ (s : List ℕ) (c : Cursor) (vertices maps : ℕ) (inside : Inside c (length s)) (x : Ran) (u : Runs (row (vertexNumbers vertices) (c .at) (left c s)) c 32 x) where
-  pub mapped-numbers : (e p : ℕ) → x ≡ ran.Not e p → Runs (readMapped vertices maps (c .at) (left c s)) c (32 + maps * 8) (ran.Not e p)
+  pub mapped-numbers : (e p : ℕ) → x ≡ ran.Reject e p → Runs (readMapped vertices maps (c .at) (left c s)) c (32 + maps * 8) (ran.Reject e p)
   unfolding readMapped
   mapped-numbers e p w =
       record { is = rw (runs-bad (row (vertexNumbers vertices) (c .at) (left c s)) c 32 x u e p w); passes = runs-place (row (vertexNumbers vertices) (c .at) (left c s)) c 32 x u e p w }
 
-  module _ (m : Cursor) (w : x ≡ ran.To m) where
+  module _ (m : Cursor) (w : x ≡ ran.Accept m) where
     pub mapped-inside : Inside m (length s)
     mapped-inside = runs-inside (row (vertexNumbers vertices) (c .at) (left c s)) c 32 x u m w (length s) inside
 
@@ -61,12 +61,12 @@ mapped-moves vertices maps p s x e =
 -- ---- influences
 
 module _ (s : List ℕ) (c : Cursor) (bones : ℕ) (inside : Inside c (length s)) (r : Number) (e : r ≡ numberAt s c) where
-  pub influences-cut : r ≡ number.Cut → Sums rowCount (readInfluences bones (c .at) (left c s)) c 4 (summed.Not 5 (c .at))
+  pub influences-cut : r ≡ number.Cut → Sums rowCount (readInfluences bones (c .at) (left c s)) c 4 (summed.Reject 5 (c .at))
   unfolding readInfluences
   influences-cut w = record { is = rw (head-cut s c inside r e count w); passes = inside .before }
 
   module _ (k : ℕ) (n : Cursor) (w : r ≡ number.Is k n) where
-    pub influences-over : 2147483647 < k → Sums rowCount (readInfluences bones (c .at) (left c s)) c 4 (summed.Not 6 (c .at))
+    pub influences-over : 2147483647 < k → Sums rowCount (readInfluences bones (c .at) (left c s)) c 4 (summed.Reject 6 (c .at))
     unfolding readInfluences
     influences-over h = record { is = rw (head-over s c inside r e k n w 2147483647 h); passes = inside .before }
 
@@ -78,13 +78,13 @@ module _ (s : List ℕ) (c : Cursor) (bones : ℕ) (inside : Inside c (length s)
       unfolding readInfluences
       all = rw (head-within s c inside r e k n w 2147483647 h, ← q)
 
-      pub influences-bad : (d p : ℕ) → x ≡ ran.Not d p → Sums rowCount (readInfluences bones (c .at) (left c s)) c 4 (summed.Not d p)
+      pub influences-bad : (d p : ℕ) → x ≡ ran.Reject d p → Sums rowCount (readInfluences bones (c .at) (left c s)) c 4 (summed.Reject d p)
       influences-bad d p z =
           let f = head-numbered s c inside r e k n w in
           let g = runs-place (times m (row (influenceNumbers bones)) (n .at) (left n s)) n (m * 8) x v d p z in
           record { is = rw (all, runs-bad (times m (row (influenceNumbers bones)) (n .at) (left n s)) n (m * 8) x v d p z); passes = omega (arith, f .same) }
 
-      pub influences-done : (next : Cursor) → x ≡ ran.To next → Sums rowCount (readInfluences bones (c .at) (left c s)) c 4 (summed.To m next)
+      pub influences-done : (next : Cursor) → x ≡ ran.Accept next → Sums rowCount (readInfluences bones (c .at) (left c s)) c 4 (summed.Accept m next)
       influences-done next z =
           let f = head-numbered s c inside r e k n w in
           let g = runs-passed (times m (row (influenceNumbers bones)) (n .at) (left n s)) n (m * 8) x v next z in
@@ -102,7 +102,7 @@ influences-moves bones p s x e =
 -- ---- the cloth weight
 
 module _ (s : List ℕ) (c : Cursor) (springs : ℕ) (inside : Inside c (length s)) where
-  pub cloth-none : springs ≤ 0 → Runs (readCloth springs (c .at) (left c s)) c 0 (ran.To c)
+  pub cloth-none : springs ≤ 0 → Runs (readCloth springs (c .at) (left c s)) c 0 (ran.Accept c)
   unfolding readCloth
   cloth-none h = let e : springs ≡ 0 = omega arith in record { is = rw e; passes = (omega arith, inside .before, refl) }
 
@@ -112,10 +112,10 @@ module _ (s : List ℕ) (c : Cursor) (springs : ℕ) (inside : Inside c (length 
     some zero q = absurd (omega arith)
     some (suc n) q = rw (← q)
 
-    pub cloth-cut : r ≡ number.Cut → Runs (readCloth springs (c .at) (left c s)) c 0 (ran.Not 5 (c .at))
+    pub cloth-cut : r ≡ number.Cut → Runs (readCloth springs (c .at) (left c s)) c 0 (ran.Reject 5 (c .at))
     cloth-cut w = record { is = rw (some springs refl, head-cut s c inside r e any w); passes = inside .before }
 
-    pub cloth-done : (k : ℕ) (n : Cursor) → r ≡ number.Is k n → Runs (readCloth springs (c .at) (left c s)) c 0 (ran.To n)
+    pub cloth-done : (k : ℕ) (n : Cursor) → r ≡ number.Is k n → Runs (readCloth springs (c .at) (left c s)) c 0 (ran.Accept n)
     cloth-done k n w =
         let f = head-numbered s c inside r e k n w in
         record { is = rw (some springs refl, head-got s c inside r e k n w any refl, ← f .same); passes = (omega (arith, f .to), omega (arith, f .to, f .same, f .room), f .same) }

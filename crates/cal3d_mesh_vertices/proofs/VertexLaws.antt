@@ -10,7 +10,7 @@ use Rattle.layout.specs.Result.{Result, accept, reject, _>>=_}
 use Rattle.layout.specs.Parts.{Step, row, number}
 use Rattle.layout.specs.Counted.{times}
 use Rattle.layout.specs.Rows.{joined}
-use Rattle.layout.proofs.Outs.{by-got, got-inj, bind-bind, bind-cong}
+use Rattle.layout.proofs.ResultLaws.{by-got, got-inj, bind-bind, bind-cong}
 use Rattle.layout.proofs.CountLaws.{Advances, moved-as, moved-on}
 use Rattle.shared_counted_lists.specs.Runs.{Passes, Runs}
 use Rattle.shared_counted_lists.specs.Sums.{summedOf, SumPasses, Sums}
@@ -18,8 +18,8 @@ use Rattle.shared_counted_lists.specs.declared.Ran.{Ran}
 use Rattle.shared_counted_lists.specs.declared.Ran.the-variants as ran
 use Rattle.shared_counted_lists.specs.declared.Summed.{Summed}
 use Rattle.shared_counted_lists.specs.declared.Summed.the-variants as summed
-use Rattle.shared_counted_lists.proofs.Runs.{Read, runs-bad, runs-place, runs-passed, runs-inside, runs-read}
-use Rattle.shared_counted_lists.proofs.Sums.{Adds, SumRead, summed-bad, summed-place, summed-passed, summed-read}
+use Rattle.shared_counted_lists.proofs.RunLaws.{Read, runs-bad, runs-place, runs-passed, runs-inside, runs-read}
+use Rattle.shared_counted_lists.proofs.SumLaws.{Adds, SumRead, summed-bad, summed-place, summed-passed, summed-read}
 use Rattle.cal3d_spec.specs.Rules.{vertexNumbers, mapNumbers, influencesHead, influenceNumbers}
 use Rattle.cal3d_spec.specs.Meshes.{Vertex, readCloth, readVertex}
 use Rattle.cal3d_mesh_vertices.specs.Vertices.{readMapped, readInfluences, rowCount, influenceCount, influencesIn}
@@ -69,29 +69,29 @@ module _ (s : List ℕ) (c : Cursor) (bones vertices springs maps : ℕ) (inside
       ≡ (readMapped vertices maps (c .at) (left c s) >>= λ y. readInfluences bones (y .place) (y .left) >>= λ i. readCloth springs (i .place) (i .left) >>= λ w. accept (made bones vertices springs maps (c .at) (left c s) (y .value) (i .value) w))
   parts = vertex-parts bones vertices springs maps (c .at) (left c s)
 
-  pub vertex-mapped : (e p : ℕ) → r ≡ ran.Not e p → Sums influenceCount (readVertex bones vertices springs maps (c .at) (left c s)) c (36 + maps * 8) (summed.Not e p)
+  pub vertex-mapped : (e p : ℕ) → r ≡ ran.Reject e p → Sums influenceCount (readVertex bones vertices springs maps (c .at) (left c s)) c (36 + maps * 8) (summed.Reject e p)
   vertex-mapped e p w =
       record { is = rw (parts, runs-bad (readMapped vertices maps (c .at) (left c s)) c (32 + maps * 8) r v e p w); passes = runs-place (readMapped vertices maps (c .at) (left c s)) c (32 + maps * 8) r v e p w }
 
-  module _ (n : Cursor) (w : r ≡ ran.To n) where
+  module _ (n : Cursor) (w : r ≡ ran.Accept n) where
     pub vertex-inside : Inside n (length s)
     vertex-inside = runs-inside (readMapped vertices maps (c .at) (left c s)) c (32 + maps * 8) r v n w (length s) inside
 
-    went : Passes c (32 + maps * 8) (ran.To n)
+    went : Passes c (32 + maps * 8) (ran.Accept n)
     went = runs-passed (readMapped vertices maps (c .at) (left c s)) c (32 + maps * 8) r v n w
 
     first : Read s (readMapped vertices maps (c .at) (left c s)) c n
     first = runs-read (readMapped vertices maps) (mapped-moves vertices maps) s c inside (32 + maps * 8) r v n w
 
     module _ (x : Summed) (u : Sums rowCount (readInfluences bones (n .at) (left n s)) n 4 x) where
-      pub vertex-influences : (e p : ℕ) → x ≡ summed.Not e p → Sums influenceCount (readVertex bones vertices springs maps (c .at) (left c s)) c (36 + maps * 8) (summed.Not e p)
+      pub vertex-influences : (e p : ℕ) → x ≡ summed.Reject e p → Sums influenceCount (readVertex bones vertices springs maps (c .at) (left c s)) c (36 + maps * 8) (summed.Reject e p)
       vertex-influences e p z =
           let h = went in
           let k = summed-place rowCount (readInfluences bones (n .at) (left n s)) n 4 x u e p z in
           record { is = rw (parts, first .is, summed-bad rowCount (n .end) (readInfluences bones (n .at) (left n s)) e p (sym z ∙ u .is)); passes = omega arith }
 
-      module _ (j : ℕ) (m : Cursor) (z : x ≡ summed.To j m) where
-        went-on : SumPasses n 4 (summed.To j m)
+      module _ (j : ℕ) (m : Cursor) (z : x ≡ summed.Accept j m) where
+        went-on : SumPasses n 4 (summed.Accept j m)
         went-on = summed-passed rowCount (readInfluences bones) (influences-moves bones) s n 4 x u j m z
 
         second : SumRead rowCount s (readInfluences bones (n .at) (left n s)) j m
@@ -101,14 +101,14 @@ module _ (s : List ℕ) (c : Cursor) (bones vertices springs maps : ℕ) (inside
         vertex-weighed = let i = vertex-inside in let h = went-on in record { before = h .1; within = omega arith }
 
         module _ (y : Ran) (f : Runs (readCloth springs (m .at) (left m s)) m 0 y) where
-          pub vertex-cloth : (e p : ℕ) → y ≡ ran.Not e p → Sums influenceCount (readVertex bones vertices springs maps (c .at) (left c s)) c (36 + maps * 8) (summed.Not e p)
+          pub vertex-cloth : (e p : ℕ) → y ≡ ran.Reject e p → Sums influenceCount (readVertex bones vertices springs maps (c .at) (left c s)) c (36 + maps * 8) (summed.Reject e p)
           vertex-cloth e p g =
               let h = went in
               let k = went-on in
               let l = runs-place (readCloth springs (m .at) (left m s)) m 0 y f e p g in
               record { is = rw (parts, first .is, second .is, runs-bad (readCloth springs (m .at) (left m s)) m 0 y f e p g); passes = omega arith }
 
-          pub vertex-done : (next : Cursor) → y ≡ ran.To next → Sums influenceCount (readVertex bones vertices springs maps (c .at) (left c s)) c (36 + maps * 8) (summed.To j next)
+          pub vertex-done : (next : Cursor) → y ≡ ran.Accept next → Sums influenceCount (readVertex bones vertices springs maps (c .at) (left c s)) c (36 + maps * 8) (summed.Accept j next)
           vertex-done next g =
               let h = went in
               let k = went-on in
@@ -117,8 +117,8 @@ module _ (s : List ℕ) (c : Cursor) (bones vertices springs maps : ℕ) (inside
               let end : next .end ≡ c .end = l .2 ∙ k .2 ∙ h .2 in
               let whole : readVertex bones vertices springs maps (c .at) (left c s) ≡ accept (made bones vertices springs maps (c .at) (left c s) (first .value) (second .value) (record { value = t .value; place = next .at; left = left next s })) = rw (parts, first .is, second .is, t .is) in
               record {
-                is = ap (λ (i : ℕ). summed.To i next) (second .many)
-                    ∙ ap (λ (i : ℕ). summed.To (length (second .value)) (record { at = next .at; end = i })) end
+                is = ap (λ (i : ℕ). summed.Accept i next) (second .many)
+                    ∙ ap (λ (i : ℕ). summed.Accept (length (second .value)) (record { at = next .at; end = i })) end
                     ∙ ap (summedOf influenceCount (c .end)) (sym whole);
                 passes = (omega arith, l .1, end);
               }

@@ -14,7 +14,7 @@ use wire::Cursor;
 use wire::Number;
 
 // How many vertices and springs a submesh has, and how many maps each vertex.
-pub struct Sizes {
+pub struct SubmeshSizes {
     pub vertices: usize,
     pub springs: usize,
     pub maps: usize,
@@ -26,8 +26,8 @@ fn pass_mapped(s: &[u8], c: Cursor, vertices: usize, maps: usize) -> Ran
     ensures { λ r. ⌜ Runs (readMapped vertices maps (c .at) (left c (now (s .entry)))) c (32 + maps * 8) r ⌝ }
 {
     match shared_counted_lists::link_row(s, c, 6, 0, vertices) {
-        Ran::Not(e, p) => Ran::Not(e, p),
-        Ran::To(rows) => shared_counted_lists::id_rows(s, rows, maps, 2, 0, 0),
+        Ran::Reject(e, p) => Ran::Reject(e, p),
+        Ran::Accept(rows) => shared_counted_lists::id_rows(s, rows, maps, 2, 0, 0),
     }
 }
 
@@ -37,15 +37,15 @@ fn judge_influences(s: &[u8], c: Cursor, bones: usize) -> Summed
     ensures { λ r. ⌜ Sums rowCount (readInfluences bones (c .at) (left c (now (s .entry)))) c 4 r ⌝ }
 {
     match c.number(s) {
-        Number::Cut => Summed::Not(refusals::CUT_ITEM, c.at),
+        Number::Cut => Summed::Reject(refusals::CUT_ITEM, c.at),
         Number::Is(stored, rows) => {
             if 2147483647 < stored {
-                return Summed::Not(refusals::RANGE, c.at);
+                return Summed::Reject(refusals::RANGE, c.at);
             }
             let count = wire::size(stored);
             match shared_counted_lists::id_rows(s, rows, count, 2, 1, bones) {
-                Ran::Not(e, p) => Summed::Not(e, p),
-                Ran::To(next) => Summed::To(count, next),
+                Ran::Reject(e, p) => Summed::Reject(e, p),
+                Ran::Accept(next) => Summed::Accept(count, next),
             }
         }
     }
@@ -59,28 +59,28 @@ fn pass_cloth(s: &[u8], c: Cursor, springs: usize) -> Ran
     if 0 < springs {
         match c.number(s) {
             Number::Cut => {
-                return Ran::Not(refusals::CUT_ITEM, c.at);
+                return Ran::Reject(refusals::CUT_ITEM, c.at);
             }
             Number::Is(_, next) => {
-                return Ran::To(next);
+                return Ran::Accept(next);
             }
         }
     }
-    Ran::To(c)
+    Ran::Accept(c)
 }
 
 // Judges one vertex of a submesh of the sizes `n`, bone ids being below `bones`. Returns how many influences it has and the cursor after it, or a refusal.
-fn judge_vertex(s: &[u8], c: Cursor, bones: usize, n: Sizes) -> Summed
+fn judge_vertex(s: &[u8], c: Cursor, bones: usize, n: SubmeshSizes) -> Summed
     requires { ⌜ Inside c (length (now s)) ⌝ }
     ensures { λ r. ⌜ Sums influenceCount (readVertex bones (n .vertices) (n .springs) (n .maps) (c .at) (left c (now (s .entry)))) c (36 + n .maps * 8) r ⌝ }
 {
     match pass_mapped(s, c, n.vertices, n.maps) {
-        Ran::Not(e, p) => Summed::Not(e, p),
-        Ran::To(number) => match judge_influences(s, number, bones) {
-            Summed::Not(e, p) => Summed::Not(e, p),
-            Summed::To(count, cloth) => match pass_cloth(s, cloth, n.springs) {
-                Ran::Not(e, p) => Summed::Not(e, p),
-                Ran::To(next) => Summed::To(count, next),
+        Ran::Reject(e, p) => Summed::Reject(e, p),
+        Ran::Accept(number) => match judge_influences(s, number, bones) {
+            Summed::Reject(e, p) => Summed::Reject(e, p),
+            Summed::Accept(count, cloth) => match pass_cloth(s, cloth, n.springs) {
+                Ran::Reject(e, p) => Summed::Reject(e, p),
+                Ran::Accept(next) => Summed::Accept(count, next),
             },
         },
     }
@@ -88,7 +88,7 @@ fn judge_vertex(s: &[u8], c: Cursor, bones: usize, n: Sizes) -> Summed
 
 // Judges the vertices of a submesh of the sizes `n`, bone ids being below `bones`. Returns how many influences they have and the cursor after them, or the
 // first refusal. Each takes 36 bytes or more, so that the walk ends with the bytes, whatever the number says.
-pub fn judge_vertices(s: &[u8], from: Cursor, bones: usize, n: Sizes) -> Summed
+pub fn judge_vertices(s: &[u8], from: Cursor, bones: usize, n: SubmeshSizes) -> Summed
     requires { ⌜ Inside from (length (now s)) ⌝ }
     ensures { λ r. ⌜ Sums influencesIn (times (n .vertices) (readVertex bones (n .vertices) (n .springs) (n .maps)) (from .at)
         (left from (now (s .entry)))) from (n .vertices * (36 + n .maps * 8)) r ⌝ }
@@ -98,15 +98,15 @@ pub fn judge_vertices(s: &[u8], from: Cursor, bones: usize, n: Sizes) -> Summed
     let mut influences: usize = 0;
     while 0 < more {
         match judge_vertex(s, c, bones, n) {
-            Summed::Not(e, p) => {
-                return Summed::Not(e, p);
+            Summed::Reject(e, p) => {
+                return Summed::Reject(e, p);
             }
-            Summed::To(count, next) => {
+            Summed::Accept(count, next) => {
                 influences += count;
                 more -= 1;
                 c = next;
             }
         }
     }
-    Summed::To(influences, c)
+    Summed::Accept(influences, c)
 }

@@ -17,12 +17,12 @@ use Rattle.cal3d_spec.specs.Answers.{judgeSkeleton, readSkeleton, skeletonRoom,
 use Rattle.cal3d_spec.specs.declared.SkeletonAnswer.{SkeletonAnswer}
 use Rattle.cal3d_skeleton_bones.specs.Bones.{childrenIn}
 use Rattle.cal3d_skeleton_limits.specs.Verdicts.{verdictOf}
-use Rattle.cal3d_skeleton_limits.specs.declared.Summary.{Summary}
-use Rattle.cal3d_skeleton_limits.specs.declared.Verdict.{Verdict}
-use Rattle.cal3d_skeleton_limits.specs.declared.Verdict.the-variants as verdict
+use Rattle.cal3d_skeleton_limits.specs.declared.SkeletonSummary.{SkeletonSummary}
+use Rattle.cal3d_skeleton_limits.specs.declared.SkeletonVerdict.{SkeletonVerdict}
+use Rattle.cal3d_skeleton_limits.specs.declared.SkeletonVerdict.the-variants as verdict
 use Rattle.cal3d_skeleton_limits.proofs.FileLaws.{bone-rows}
 use Rattle.cal3d_skeleton_limits.proofs.GoodLaws.{BonesStand}
-use Rattle.cal3d_skeleton_tree_file.specs.Links.{Good, bonesAt}
+use Rattle.cal3d_skeleton_tree_file.specs.Links.{GoodBones, bonesAt}
 use Rattle.cal3d_skeleton.specs.Skeletons.{acceptedAs, ReadsSkeleton}
 use Rattle.cal3d_skeleton.proofs.JudgeLaws.{bones-good, bones-are, judged-limited, refused-bad, accepted-good, accepted-answer}
 
@@ -53,12 +53,12 @@ both-rooms t true true = refl
 both-rooms t true false = refl
 both-rooms t false q = refl
 
-module _ (s b k : List ℕ) (v : Verdict) (e : v ≡ verdictOf (judgeSkeleton s)) where
-  pub read-refused : (n p : ℕ) → v ≡ verdict.Bad n p → (r : SkeletonAnswer) → r ≡ skeletonAnswer (reject n p) → ReadsSkeleton s b k b k r
+module _ (s b k : List ℕ) (v : SkeletonVerdict) (e : v ≡ verdictOf (judgeSkeleton s)) where
+  pub read-refused : (n p : ℕ) → v ≡ verdict.Reject n p → (r : SkeletonAnswer) → r ≡ skeletonAnswer (reject n p) → ReadsSkeleton s b k b k r
   unfolding readSkeleton
   read-refused n p w r q = refused-as s b k n p r (rw (refused-bad s v e n p w)) q
 
-  module _ (x : Summary) (w : v ≡ verdict.Good x) where
+  module _ (x : SkeletonSummary) (w : v ≡ verdict.Accept x) where
     t : Skeleton
     t = accepted-good s v e x w .0
 
@@ -71,11 +71,11 @@ module _ (s b k : List ℕ) (v : Verdict) (e : v ≡ verdictOf (judgeSkeleton s)
 
     many : x .bones ≡ getD (t .head) 1 0
     unfolding t
-    many = ap (λ (y : Summary). y .bones) (accepted-good s v e x w .2)
+    many = ap (λ (y : SkeletonSummary). y .bones) (accepted-good s v e x w .2)
 
     kids : x .children ≡ childrenIn (t .bones)
     unfolding t
-    kids = ap (λ (y : Summary). y .children) (accepted-good s v e x w .2)
+    kids = ap (λ (y : SkeletonSummary). y .children) (accepted-good s v e x w .2)
 
     told : (r : SkeletonAnswer) → r ≡ acceptedAs x → r ≡ skeletonAnswer (accept t)
     unfolding t
@@ -112,7 +112,7 @@ module _ (s b k : List ℕ) (v : Verdict) (e : v ≡ verdictOf (judgeSkeleton s)
         pub read-room : 23 * count ≤ length b
         read-room = omega arith
 
-        pub read-good : Good s (record { at = 24; end = length s }) count
+        pub read-good : GoodBones s (record { at = 24; end = length s }) count
         read-good = rw same (bones-good s t limited)
 
         bones : bonesAt s (record { at = 24; end = length s }) count ≡ t .bones

@@ -5,10 +5,10 @@ use mathlib.Core.List.{List, [], _∷_}
 use lib.ListN.{length}
 use Rattle.cal3d_spec.specs.Answers.{readSkeleton, skeletonRoom, skeletonAnswer, skeletonTable}
 use Rattle.cal3d_spec.specs.declared.SkeletonAnswer.{SkeletonAnswer}
-use Rattle.cal3d_skeleton_limits.specs.declared.Summary.{Summary}
+use Rattle.cal3d_skeleton_limits.specs.declared.SkeletonSummary.{SkeletonSummary}
 
 -- the answer of an accepted file with the summary x
-abbrev pub acceptedAs : Summary → SkeletonAnswer
+abbrev pub acceptedAs : SkeletonSummary → SkeletonAnswer
 acceptedAs x = record { number = 0; place = 0; head = 1300 ∷ x .bones ∷ x .red ∷ x .green ∷ x .blue ∷ []; counts = x .bones ∷ x .children ∷ [] }
 
 -- the promise of the skeleton reader for a file s and two tables: `bones` and `children` are the tables after it, r is the answer

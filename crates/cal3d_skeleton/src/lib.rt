@@ -5,8 +5,8 @@ ghost use Rattle.layout.specs.Result.{reject};
 ghost use Rattle.cal3d_spec.specs.Answers.{judgeSkeleton, skeletonAnswer};
 ghost use Rattle.cal3d_skeleton_limits.specs.Verdicts.{verdictOf};
 ghost use Rattle.cal3d_skeleton.specs.Skeletons.{acceptedAs, ReadsSkeleton};
-use cal3d_skeleton_limits::Summary;
-use cal3d_skeleton_limits::Verdict;
+use cal3d_skeleton_limits::SkeletonSummary;
+use cal3d_skeleton_limits::SkeletonVerdict;
 use cal3d_skeleton_tree_file::Told;
 use cal3d_spec::SkeletonAnswer;
 use layout::refusals;
@@ -25,7 +25,7 @@ fn refused(number: u32, place: u32) -> SkeletonAnswer
 }
 
 // Returns the answer of an accepted file with the summary `x`.
-fn accepted(x: Summary) -> SkeletonAnswer
+fn accepted(x: SkeletonSummary) -> SkeletonAnswer
     requires { ⌜ x .children ≤ 16383 ⌝ }
     ensures { λ r. ⌜ r ≡ acceptedAs x ⌝ }
 {
@@ -38,17 +38,17 @@ fn accepted(x: Summary) -> SkeletonAnswer
 }
 
 // Judges `file`: returns its summary, or the first of its refusals 1 to 10, then 16.
-fn judged(file: &[u8]) -> Verdict
+fn judged(file: &[u8]) -> SkeletonVerdict
     ensures { λ r. ⌜ r ≡ verdictOf (judgeSkeleton (now (file .entry))) ⌝ }
 {
     match cal3d_skeleton_limits::limited(file) {
-        Verdict::Bad(number, place) => Verdict::Bad(number, place),
-        Verdict::Good(x) => {
+        SkeletonVerdict::Reject(number, place) => SkeletonVerdict::Reject(number, place),
+        SkeletonVerdict::Accept(x) => {
             let bones = wire::size(x.bones);
             let end = file.len();
             match cal3d_skeleton_tree_file::same_trees(file, Cursor { at: 24, end }, bones) {
-                Told::Not(number, place) => Verdict::Bad(number, place),
-                Told::Same => Verdict::Good(x),
+                Told::Reject(number, place) => SkeletonVerdict::Reject(number, place),
+                Told::Accept => SkeletonVerdict::Accept(x),
             }
         }
     }
@@ -59,8 +59,8 @@ pub fn judge(file: &[u8]) -> SkeletonAnswer
     ensures { λ r. ⌜ r ≡ skeletonAnswer (judgeSkeleton (now (file .entry))) ⌝ }
 {
     match judged(file) {
-        Verdict::Bad(number, place) => refused(number, place),
-        Verdict::Good(x) => accepted(x),
+        SkeletonVerdict::Reject(number, place) => refused(number, place),
+        SkeletonVerdict::Accept(x) => accepted(x),
     }
 }
 
@@ -70,8 +70,8 @@ pub fn read_skeleton(file: &[u8], bones: &mut [u32], children: &mut [u32]) -> Sk
     ensures { λ r. ⌜ ReadsSkeleton (now (file .entry)) (now (bones .entry)) (now (children .entry)) (now (bones .exit)) (now (children .exit)) r ⌝ }
 {
     match judged(file) {
-        Verdict::Bad(number, place) => refused(number, place),
-        Verdict::Good(x) => {
+        SkeletonVerdict::Reject(number, place) => refused(number, place),
+        SkeletonVerdict::Accept(x) => {
             let count = wire::size(x.bones);
             if bones.len() / 23 < count {
                 return refused(refusals::TOO_SHORT, 1);

@@ -9,12 +9,12 @@ use Rattle.wire.specs.declared.Cursor.{Cursor}
 use Rattle.layout.specs.Result.{Result, accept, reject, _>>=_}
 use Rattle.layout.specs.Parts.{Name, Step, row, number}
 use Rattle.layout.specs.Counted.{sized, times}
-use Rattle.layout.proofs.Outs.{by-got, got-inj}
+use Rattle.layout.proofs.ResultLaws.{by-got, got-inj}
 use Rattle.layout.proofs.CountLaws.{Advances, moved-as, moved-on, row-moves, sized-moves, times-moves}
 use Rattle.shared_counted_lists.specs.Runs.{Runs}
 use Rattle.shared_counted_lists.specs.declared.Ran.{Ran}
 use Rattle.shared_counted_lists.specs.declared.Ran.the-variants as ran
-use Rattle.shared_counted_lists.proofs.Runs.{runs-bad, runs-place, runs-passed, runs-inside, runs-read}
+use Rattle.shared_counted_lists.proofs.RunLaws.{runs-bad, runs-place, runs-passed, runs-inside, runs-read}
 use Rattle.cal3d_spec.specs.Rules.{boneNumbers, childrenAt, childNumbers}
 use Rattle.cal3d_spec.specs.Skeletons.{readBone}
 use Rattle.shared_counted_lists.specs.Sums.{summedOf, SumPasses, Sums}
@@ -37,15 +37,15 @@ links-same end p n (accept x) t = go (t x)
 
 -- more bytes passed on the way
 passes-on : (c n : Cursor) (k : ℕ) (x : Summed) → c .at + k ≤ n .at → n .end ≡ c .end → SumPasses n 80 x → SumPasses c (k + 80) x
-passes-on c n k (summed.To j m) h e p = (omega arith, p .1, p .2 ∙ e)
-passes-on c n k (summed.Not m q) h e p = omega arith
+passes-on c n k (summed.Accept j m) h e p = (omega arith, p .1, p .2 ∙ e)
+passes-on c n k (summed.Reject m q) h e p = omega arith
 
 module _ (s : List ℕ) (c : Cursor) (bones : ℕ) (inside : Inside c (length s)) (r : Ran) (v : Runs (sized (c .at) (left c s)) c 4 r) where
-  pub bone-bad : (e p : ℕ) → r ≡ ran.Not e p → Sums childCount (readBone bones (c .at) (left c s)) c 84 (summed.Not e p)
+  pub bone-bad : (e p : ℕ) → r ≡ ran.Reject e p → Sums childCount (readBone bones (c .at) (left c s)) c 84 (summed.Reject e p)
   unfolding readBone
   bone-bad e p w = record { is = rw (runs-bad (sized (c .at) (left c s)) c 4 r v e p w); passes = runs-place (sized (c .at) (left c s)) c 4 r v e p w }
 
-  module _ (n : Cursor) (w : r ≡ ran.To n) where
+  module _ (n : Cursor) (w : r ≡ ran.Accept n) where
     pub numbers-inside : Inside n (length s)
     numbers-inside = runs-inside (sized (c .at) (left c s)) c 4 r v n w (length s) inside
 

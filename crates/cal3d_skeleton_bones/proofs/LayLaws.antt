@@ -8,27 +8,27 @@ use lib.Dec.{ltb, ltb→lt}
 use Rattle.wire.specs.Bytes.{word}
 use Rattle.wire.specs.Cursors.{Inside, left}
 use Rattle.wire.specs.declared.Cursor.{Cursor}
-use Rattle.wire.proofs.Left.{left-length, left-drop}
+use Rattle.wire.proofs.LeftLaws.{left-length, left-drop}
 use Rattle.layout.specs.Result.{Result, accept, reject, _>>=_}
 use Rattle.layout.specs.Parts.{Name, Step, wordsOf, words, judged, row, number}
 use Rattle.layout.specs.Counted.{sized, before, times}
 use Rattle.layout.specs.Rows.{nameCells, joined}
 use Rattle.layout.specs.Rules.{names}
-use Rattle.layout.proofs.Lists.{All}
-use Rattle.layout.proofs.Outs.{by-got, by-check, bad-got, got-inj}
+use Rattle.layout.proofs.AllLaws.{All}
+use Rattle.layout.proofs.ResultLaws.{by-got, by-check, bad-got, got-inj}
 use Rattle.layout.proofs.CountLaws.{moved-on, row-moves, row-got, times-moves, times-length, times-got, sized-moves, sized-got}
 use Rattle.shared_counted_lists.specs.Runs.{Runs}
 use Rattle.shared_counted_lists.specs.declared.Ran.{Ran}
 use Rattle.shared_counted_lists.specs.declared.Ran.the-variants as ran
-use Rattle.shared_ids.proofs.Ids.{word-at}
-use Rattle.shared_counted_lists.proofs.Runs.{runs-bad, runs-passed, runs-inside, runs-read}
+use Rattle.shared_ids.proofs.IdLaws.{word-at}
+use Rattle.shared_counted_lists.proofs.RunLaws.{runs-bad, runs-passed, runs-inside, runs-read}
 use Rattle.cal3d_spec.specs.Rules.{boneNumbers, childrenAt, childNumbers}
 use Rattle.cal3d_spec.specs.Skeletons.{parentOf, listOf, readBone}
 use Rattle.shared_counted_lists.specs.Sums.{Sums}
 use Rattle.cal3d_skeleton_bones.specs.Bones.{readLinks, linkCount, LaidAt, NoBone}
 use Rattle.shared_counted_lists.specs.declared.Summed.{Summed}
 use Rattle.shared_counted_lists.specs.declared.Summed.the-variants as summed
-use Rattle.shared_counted_lists.proofs.Sums.{summed-bad, summed-got}
+use Rattle.shared_counted_lists.proofs.SumLaws.{summed-bad, summed-got}
 
 -- one id, and then others
 id-read : (limit n p : ℕ) (s : List ℕ) (x : Step (List (List ℕ))) (y : Step (List ℕ)) (l : Step (List (List ℕ))) → row (names limit ∷ []) p s ≡ accept y → before (y .value) l ≡ x
@@ -65,10 +65,10 @@ record Linked (s : List ℕ) (n : Cursor) (bones j : ℕ) (m : Cursor) : Type 0 
   left-over : children .left ≡ left m s
 
 module _ (s : List ℕ) (n : Cursor) (bones : ℕ) (x : Summed) (b : Sums linkCount (readLinks bones (n .at) (left n s)) n 80 x) where
-  no-links : (e p : ℕ) → x ≡ summed.Not e p → readLinks bones (n .at) (left n s) ≡ reject e p
+  no-links : (e p : ℕ) → x ≡ summed.Reject e p → readLinks bones (n .at) (left n s) ≡ reject e p
   no-links e p q = summed-bad linkCount (n .end) (readLinks bones (n .at) (left n s)) e p (sym q ∙ b .is)
 
-  linked : (j : ℕ) (m : Cursor) → x ≡ summed.To j m → Linked s n bones j m
+  linked : (j : ℕ) (m : Cursor) → x ≡ summed.Accept j m → Linked s n bones j m
   unfolding readLinks
   linked j m q =
       let g = summed-got linkCount (n .end) (readLinks bones (n .at) (left n s)) j m (sym q ∙ b .is) in
@@ -91,12 +91,12 @@ module _ (s : List ℕ) (n : Cursor) (bones : ℕ) (x : Summed) (b : Sums linkCo
       }))
 
 module _ (s : List ℕ) (c : Cursor) (bones : ℕ) (inside : Inside c (length s)) (r : Ran) (v : Runs (sized (c .at) (left c s)) c 4 r) where
-  pub lay-no-name : (e p : ℕ) → r ≡ ran.Not e p → NoBone (readBone bones (c .at) (left c s))
+  pub lay-no-name : (e p : ℕ) → r ≡ ran.Reject e p → NoBone (readBone bones (c .at) (left c s))
   unfolding readBone
   lay-no-name e p w = let z : readBone bones (c .at) (left c s) ≡ reject e p = rw (runs-bad (sized (c .at) (left c s)) c 4 r v e p w) in record { none = λ x q. bad-got (sym z ∙ q) }
 
-  module _ (n : Cursor) (w : r ≡ ran.To n) (x : Summed) (b : Sums linkCount (readLinks bones (n .at) (left n s)) n 80 x) where
-    pub lay-no-links : (e p : ℕ) → x ≡ summed.Not e p → NoBone (readBone bones (c .at) (left c s))
+  module _ (n : Cursor) (w : r ≡ ran.Accept n) (x : Summed) (b : Sums linkCount (readLinks bones (n .at) (left n s)) n 80 x) where
+    pub lay-no-links : (e p : ℕ) → x ≡ summed.Reject e p → NoBone (readBone bones (c .at) (left c s))
     unfolding readBone readLinks
     lay-no-links e p q =
         record {
@@ -111,7 +111,7 @@ module _ (s : List ℕ) (c : Cursor) (bones : ℕ) (inside : Inside c (length s)
               bad-got (sym g ∙ all))));
         }
 
-    pub lay-at : (j : ℕ) (m : Cursor) → x ≡ summed.To j m → LaidAt s bones (readBone bones (c .at) (left c s)) c (n .at) j m
+    pub lay-at : (j : ℕ) (m : Cursor) → x ≡ summed.Accept j m → LaidAt s bones (readBone bones (c .at) (left c s)) c (n .at) j m
     unfolding nameCells readBone parentOf listOf
     lay-at j m q =
         let h = runs-passed (sized (c .at) (left c s)) c 4 r v n w in

@@ -2,4 +2,4 @@ pub mod BoneLaws
 pub mod LinkLaws
 pub mod WalkLaws
 pub mod LayLaws
-pub mod Walked
+pub mod BoneWalkLaws

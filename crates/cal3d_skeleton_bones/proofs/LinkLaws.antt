@@ -10,21 +10,21 @@ use lib.Dec.{T, eqb, ltb, eqb→eq, ltb→lt}
 use Rattle.wire.specs.Bytes.{wordAt}
 use Rattle.wire.specs.Cursors.{Inside, left}
 use Rattle.wire.specs.declared.Cursor.{Cursor}
-use Rattle.wire.proofs.Left.{left-length}
+use Rattle.wire.proofs.LeftLaws.{left-length}
 use Rattle.layout.specs.Result.{Result, accept, _>>=_}
 use Rattle.layout.specs.Parts.{Step, wordsOf, row}
 use Rattle.layout.specs.Rules.{namesOrNone, holds, NONE}
 use Rattle.layout.specs.Counted.{times}
-use Rattle.layout.proofs.Outs.{by-check}
+use Rattle.layout.proofs.ResultLaws.{by-check}
 use Rattle.layout.proofs.StepLaws.{length-words-of, row-enough}
 use Rattle.layout.proofs.CountLaws.{row-moves, row-got, times-moves, times-length}
 use Rattle.shared_ids.specs.Ids.{idRow}
 use Rattle.shared_counted_lists.specs.Runs.{Passes, Runs}
 use Rattle.shared_counted_lists.specs.declared.Ran.{Ran}
 use Rattle.shared_counted_lists.specs.declared.Ran.the-variants as ran
-use Rattle.shared_ids.proofs.Ids.{word-at}
-use Rattle.shared_counted_lists.proofs.Links.{link-judged}
-use Rattle.shared_counted_lists.proofs.Runs.{Read, runs-bad, runs-place, runs-passed, runs-inside, runs-read}
+use Rattle.shared_ids.proofs.IdLaws.{word-at}
+use Rattle.shared_counted_lists.proofs.LinkLaws.{link-judged}
+use Rattle.shared_counted_lists.proofs.RunLaws.{Read, runs-bad, runs-place, runs-passed, runs-inside, runs-read}
 use Rattle.cal3d_spec.specs.Rules.{boneNumbers, childNumbers}
 use Rattle.shared_counted_lists.specs.Sums.{Sums}
 use Rattle.cal3d_skeleton_bones.specs.Bones.{readLinks, linkCount}
@@ -44,11 +44,11 @@ numbers-parent bones p s x e =
     rw (g .0) (elim (or-split (eqb w NONE) (ltb w bones) t) [ inl u ↦ inl (eqb→eq w NONE u) | inr u ↦ inr (ltb→lt w bones u) ]))
 
 module _ (s : List ℕ) (c : Cursor) (bones : ℕ) (inside : Inside c (length s)) (x : Ran) (u : Runs (row (boneNumbers bones) (c .at) (left c s)) c 80 x) where
-  pub links-numbers : (e p : ℕ) → x ≡ ran.Not e p → Sums linkCount (readLinks bones (c .at) (left c s)) c 80 (summed.Not e p)
+  pub links-numbers : (e p : ℕ) → x ≡ ran.Reject e p → Sums linkCount (readLinks bones (c .at) (left c s)) c 80 (summed.Reject e p)
   unfolding readLinks
   links-numbers e p w = record { is = rw (runs-bad (row (boneNumbers bones) (c .at) (left c s)) c 80 x u e p w); passes = runs-place (row (boneNumbers bones) (c .at) (left c s)) c 80 x u e p w }
 
-  module _ (m : Cursor) (w : x ≡ ran.To m) where
+  module _ (m : Cursor) (w : x ≡ ran.Accept m) where
     pub links-room : c .at + 76 + 4 ≤ length s
     links-room = let h = runs-passed (row (boneNumbers bones) (c .at) (left c s)) c 80 x u m w in omega arith
 
@@ -71,17 +71,17 @@ module _ (s : List ℕ) (c : Cursor) (bones : ℕ) (inside : Inside c (length s)
         numbers : Read s (row (boneNumbers bones) (c .at) (left c s)) c m
         numbers = runs-read (row (boneNumbers bones)) (row-moves (boneNumbers bones)) s c inside 80 x u m w
 
-        went : Passes c 80 (ran.To m)
+        went : Passes c 80 (ran.Accept m)
         went = runs-passed (row (boneNumbers bones) (c .at) (left c s)) c 80 x u m w
 
-        pub links-bad : (e p : ℕ) → r ≡ ran.Not e p → Sums linkCount (readLinks bones (c .at) (left c s)) c 80 (summed.Not e p)
+        pub links-bad : (e p : ℕ) → r ≡ ran.Reject e p → Sums linkCount (readLinks bones (c .at) (left c s)) c 80 (summed.Reject e p)
         unfolding kids
         links-bad e p f =
             let h = went in
             let k = runs-place (times n (row (childNumbers bones)) (m .at) (left m s)) m (n * 4) r v e p f in
             record { is = rw (all numbers, runs-bad (times n (row (childNumbers bones)) (m .at) (left m s)) m (n * 4) r v e p f); passes = omega arith }
 
-        pub links-done : (next : Cursor) → r ≡ ran.To next → Sums linkCount (readLinks bones (c .at) (left c s)) c 80 (summed.To n next)
+        pub links-done : (next : Cursor) → r ≡ ran.Accept next → Sums linkCount (readLinks bones (c .at) (left c s)) c 80 (summed.Accept n next)
         unfolding kids
         links-done next f =
             let h = went in

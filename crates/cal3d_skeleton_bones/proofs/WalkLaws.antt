@@ -4,7 +4,7 @@ use mathlib.Core.Path.{_≡_, refl}
 use mathlib.Core.List.{List, [], _∷_, map}
 use lib.ListN.{length, length-append}
 use Rattle.layout.specs.Rows.{joined}
-use Rattle.shared_counted_lists.proofs.Sums.{Adds}
+use Rattle.shared_counted_lists.proofs.SumLaws.{Adds}
 use Rattle.cal3d_spec.specs.Skeletons.{Bone, readBone}
 use Rattle.cal3d_spec.specs.Tables.{childRows}
 use Rattle.cal3d_skeleton_bones.specs.Bones.{childCount, childrenIn}

@@ -76,7 +76,7 @@ Lays s bones o c (laid.At numbers count next) = LaidAt s bones o c numbers count
 Lays s bones o c laid.Gone = NoBone o
 
 -- bones were read without a refusal
-pub record Whole (o : Result (Step (List Bone))) : Type 0 where
+pub record BonesRead (o : Result (Step (List Bone))) : Type 0 where
   -- what was read
   pub read : Step (List Bone)
   -- o gives it

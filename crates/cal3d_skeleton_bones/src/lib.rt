@@ -16,12 +16,12 @@ fn judge_links(s: &[u8], c: Cursor, bones: usize) -> Summed
     ensures { λ r. ⌜ Sums linkCount (readLinks bones (c .at) (left c (now (s .entry)))) c 80 r ⌝ }
 {
     match shared_counted_lists::link_row(s, c, 14, 4, bones) {
-        Ran::Not(e, p) => Summed::Not(e, p),
-        Ran::To(children) => {
+        Ran::Reject(e, p) => Summed::Reject(e, p),
+        Ran::Accept(children) => {
             let count = wire::size(wire::number_at(s, c.at + 76));
             match shared_counted_lists::id_rows(s, children, count, 1, 1, bones) {
-                Ran::Not(e, p) => Summed::Not(e, p),
-                Ran::To(next) => Summed::To(count, next),
+                Ran::Reject(e, p) => Summed::Reject(e, p),
+                Ran::Accept(next) => Summed::Accept(count, next),
             }
         }
     }
@@ -33,8 +33,8 @@ fn judge_bone(s: &[u8], c: Cursor, bones: usize) -> Summed
     ensures { λ r. ⌜ Sums childCount (readBone bones (c .at) (left c (now (s .entry)))) c 84 r ⌝ }
 {
     match shared_counted_lists::pass_name(s, c) {
-        Ran::Not(e, p) => Summed::Not(e, p),
-        Ran::To(numbers) => judge_links(s, numbers, bones),
+        Ran::Reject(e, p) => Summed::Reject(e, p),
+        Ran::Accept(numbers) => judge_links(s, numbers, bones),
     }
 }
 
@@ -49,17 +49,17 @@ pub fn judge_bones(s: &[u8], from: Cursor, bones: usize) -> Summed
     let mut children: usize = 0;
     while 0 < more {
         match judge_bone(s, c, bones) {
-            Summed::Not(e, p) => {
-                return Summed::Not(e, p);
+            Summed::Reject(e, p) => {
+                return Summed::Reject(e, p);
             }
-            Summed::To(n, next) => {
+            Summed::Accept(n, next) => {
                 children += n;
                 more -= 1;
                 c = next;
             }
         }
     }
-    Summed::To(children, c)
+    Summed::Accept(children, c)
 }
 
 // The place of a bone's numbers, how many children follow them, and the cursor after those; or that no bone stands there.
@@ -74,10 +74,10 @@ pub fn lay_bone(s: &[u8], c: Cursor, bones: usize) -> Laid
     ensures { λ r. ⌜ Lays (now (s .entry)) bones (readBone bones (c .at) (left c (now (s .entry)))) c r ⌝ }
 {
     match shared_counted_lists::pass_name(s, c) {
-        Ran::Not(_, _) => Laid::Gone,
-        Ran::To(numbers) => match judge_links(s, numbers, bones) {
-            Summed::Not(_, _) => Laid::Gone,
-            Summed::To(count, next) => Laid::At(numbers.at, count, next),
+        Ran::Reject(_, _) => Laid::Gone,
+        Ran::Accept(numbers) => match judge_links(s, numbers, bones) {
+            Summed::Reject(_, _) => Laid::Gone,
+            Summed::Accept(count, next) => Laid::At(numbers.at, count, next),
         },
     }
 }

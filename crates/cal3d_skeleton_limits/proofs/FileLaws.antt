@@ -15,9 +15,9 @@ use Rattle.layout.specs.Parts.{Step, number}
 use Rattle.layout.specs.Counted.{times, atEnd}
 use Rattle.layout.specs.Rows.{eachOf}
 use Rattle.layout.proofs.CountLaws.{times-moves, times-length}
-use Rattle.shared_ids.proofs.Ids.{word-at}
+use Rattle.shared_ids.proofs.IdLaws.{word-at}
 use Rattle.cal3d_spec.specs.Rules.{skeletonMagic}
-use Rattle.layout.proofs.Outs.{bind-bind}
+use Rattle.layout.proofs.ResultLaws.{bind-bind}
 use Rattle.cal3d_spec.specs.Skeletons.{Bone, Skeleton, readBone, skeletonFrom, skeleton}
 use Rattle.cal3d_spec.specs.Tables.{boneRows, childRows, skeletonRows, mostRows}
 use Rattle.cal3d_spec.specs.Answers.{limitedSkeleton}
@@ -26,14 +26,14 @@ use Rattle.cal3d_skeleton_bones.specs.Bones.{childrenIn}
 use Rattle.shared_counted_lists.specs.declared.Summed.{Summed}
 use Rattle.shared_counted_lists.specs.declared.Summed.the-variants as summed
 use Rattle.cal3d_skeleton_limits.specs.Verdicts.{verdictOf}
-use Rattle.cal3d_skeleton_limits.specs.declared.Verdict.the-variants as verdict
+use Rattle.cal3d_skeleton_limits.specs.declared.SkeletonVerdict.the-variants as verdict
 use Rattle.cal3d_skeleton_bones.proofs.BoneLaws.{bone-moves}
 use Rattle.cal3d_header.specs.Heads.{readHead, openedOf}
 use Rattle.cal3d_header.specs.declared.Opened.{Opened}
 use Rattle.cal3d_header.specs.declared.Opened.the-variants as opened
 use Rattle.cal3d_header.proofs.HeadLaws.{headOf, HeadAt, head-then, opened-bad, opened-at}
-use Rattle.cal3d_header.proofs.FileEnd.{toEnd, ended-bad, ended-spare, ended-done, left-over}
-use Rattle.shared_counted_lists.proofs.Sums.{summed-bad, summed-got, summed-place}
+use Rattle.cal3d_header.proofs.FileEndLaws.{toEnd, ended-bad, ended-spare, ended-done, left-over}
+use Rattle.shared_counted_lists.proofs.SumLaws.{summed-bad, summed-got, summed-place}
 
 -- a row for each bone
 pub bone-rows : (n : ℕ) (l : List Bone) → length (boneRows n l) ≡ length l
@@ -71,12 +71,12 @@ abbrev pub ended : List ℕ → Result (Step (List Bone)) → Result Skeleton
 ended ws o = toEnd (made-of ws) o >>= limits
 
 -- a refusal, as the judge answers it
-refused : (o : Result Skeleton) (e p : ℕ) → o ≡ reject e p → verdict.Bad e p ≡ verdictOf o
+refused : (o : Result Skeleton) (e p : ℕ) → o ≡ reject e p → verdict.Reject e p ≡ verdictOf o
 unfolding verdictOf
 refused o e p q = rw q
 
 accepted : (o : Result Skeleton) (t : Skeleton) (b x y z j : ℕ) → o ≡ accept t → b ≡ getD (t .head) 1 0 → x ≡ getD (t .head) 2 0 → y ≡ getD (t .head) 3 0 → z ≡ getD (t .head) 4 0
-    → j ≡ childrenIn (t .bones) → verdict.Good (record { bones = b; red = x; green = y; blue = z; children = j }) ≡ verdictOf o
+    → j ≡ childrenIn (t .bones) → verdict.Accept (record { bones = b; red = x; green = y; blue = z; children = j }) ≡ verdictOf o
 unfolding verdictOf
 accepted o t b x y z j q eb ex ey ez ej = rw (q, eb, ex, ey, ez, ej)
 
@@ -88,10 +88,10 @@ skeleton-head s =
     ap (λ (o : Result Skeleton). o >>= limits) (head-then skeletonMagic 1300 3 s rest) ∙ bind-bind (readHead skeletonMagic 1300 3 s) rest limits
 
 module _ (s : List ℕ) (x : Opened) (ex : x ≡ openedOf (readHead 4608835 1300 3 s)) where
-  pub file-head : (e p : ℕ) → x ≡ opened.Not e p → verdict.Bad e p ≡ verdictOf (limitedSkeleton s)
+  pub file-head : (e p : ℕ) → x ≡ opened.Reject e p → verdict.Reject e p ≡ verdictOf (limitedSkeleton s)
   file-head e p w = refused (limitedSkeleton s) e p (rw (skeleton-head s, opened-bad (readHead 4608835 1300 3 s) e p (sym w ∙ ex)))
 
-  module _ (bones : ℕ) (w : x ≡ opened.To bones) where
+  module _ (bones : ℕ) (w : x ≡ opened.Accept bones) where
     head : HeadAt s 4608835 1300 3 bones
     head = opened-at 4608835 1300 3 s bones (sym w ∙ ex)
 
@@ -124,15 +124,15 @@ module _ (s : List ℕ) (x : Opened) (ex : x ≡ openedOf (readHead 4608835 1300
           rw (skeleton-head s, head .is, n)
 
       module _ (r : Summed) (b : Sums childrenIn (times k (readBone k) 24 (left (record { at = 24; end = length s }) s)) (record { at = 24; end = length s }) (k * 84) r) where
-        pub walk-place : (e p : ℕ) → r ≡ summed.Not e p → p < 4294967296
+        pub walk-place : (e p : ℕ) → r ≡ summed.Reject e p → p < 4294967296
         walk-place e p q = let h = summed-place childrenIn (times k (readBone k) 24 (left (from s 24) s)) (from s 24) (k * 84) r b e p q in let m = file-small in omega arith
 
-        pub walk-refused : (e p : ℕ) → r ≡ summed.Not e p → verdict.Bad e p ≡ verdictOf (limitedSkeleton s)
+        pub walk-refused : (e p : ℕ) → r ≡ summed.Reject e p → verdict.Reject e p ≡ verdictOf (limitedSkeleton s)
         walk-refused e p q =
             refused (limitedSkeleton s) e p
             (walked ∙ ended-bad (made-of (headOf 3 s)) limits (times k (readBone k) 24 (left (from s 24) s)) e p (summed-bad childrenIn (length s) (times k (readBone k) 24 (left (from s 24) s)) e p (sym q ∙ b .is)))
 
-        module _ (j : ℕ) (n : Cursor) (u : r ≡ summed.To j n) where
+        module _ (j : ℕ) (n : Cursor) (u : r ≡ summed.Accept j n) where
           read : (x : Step (List Bone)) × (times k (readBone k) 24 (left (from s 24) s) ≡ accept x) × (j ≡ childrenIn (x .value)) × (n ≡ record { at = x .place; end = length s })
           read = summed-got childrenIn (length s) (times k (readBone k) 24 (left (from s 24) s)) j n (sym u ∙ b .is)
 
@@ -145,7 +145,7 @@ module _ (s : List ℕ) (x : Opened) (ex : x ≡ openedOf (readHead 4608835 1300
           pub walk-end : n .at < 4294967296
           walk-end = let h = rw u at (b .passes) in let m = file-small in let p = h .1 in let q = h .2 in omega arith
 
-          pub file-spare : n .at < length s → verdict.Bad 5 (n .at) ≡ verdictOf (limitedSkeleton s)
+          pub file-spare : n .at < length s → verdict.Reject 5 (n .at) ≡ verdictOf (limitedSkeleton s)
           file-spare h =
               refused (limitedSkeleton s) 5 (n .at)
               (walked ∙ ended-spare (made-of (headOf 3 s)) limits (times k (readBone k) 24 (left (from s 24) s)) (read .0) (read .1) (omega (arith, over)) ∙ ap (λ (p : ℕ). reject 5 p) (sym place))
@@ -166,17 +166,17 @@ module _ (s : List ℕ) (x : Opened) (ex : x ≡ openedOf (readHead 4608835 1300
             unfolding made
             child-count = read .2
 
-            pub many-bones : 16383 < bones → verdict.Bad 10 1 ≡ verdictOf (limitedSkeleton s)
+            pub many-bones : 16383 < bones → verdict.Reject 10 1 ≡ verdictOf (limitedSkeleton s)
             unfolding mostRows
             many-bones q = refused (limitedSkeleton s) 10 1 (whole-file ∙ first-limit made (omega (arith, bone-count)))
 
             module _ (few : bones ≤ 16383) where
-              pub many-children : 16383 < j → verdict.Bad 10 2 ≡ verdictOf (limitedSkeleton s)
+              pub many-children : 16383 < j → verdict.Reject 10 2 ≡ verdictOf (limitedSkeleton s)
               unfolding mostRows
               many-children q = refused (limitedSkeleton s) 10 2 (whole-file ∙ second-limit made (omega (arith, bone-count)) (omega (arith, child-count)))
 
               pub file-good : j ≤ 16383 → (x₂ x₃ x₄ : ℕ) → x₂ ≡ wordAt s 12 → x₃ ≡ wordAt s 16 → x₄ ≡ wordAt s 20
-                  → verdict.Good (record { bones = bones; red = x₂; green = x₃; blue = x₄; children = j }) ≡ verdictOf (limitedSkeleton s)
+                  → verdict.Accept (record { bones = bones; red = x₂; green = x₃; blue = x₄; children = j }) ≡ verdictOf (limitedSkeleton s)
               unfolding mostRows made
               file-good q x₂ x₃ x₄ e₂ e₃ e₄ =
                   accepted (limitedSkeleton s) made bones x₂ x₃ x₄ j

@@ -7,15 +7,15 @@ use lib.ListN.{length, getD}
 use lib.Dec.{leb, leb→le}
 use Rattle.wire.specs.Test.{if}
 use Rattle.wire.specs.Cursors.{Inside, left}
-use Rattle.wire.proofs.Left.{span, left-length}
-use Rattle.shared_ids.proofs.Ids.{word-at}
+use Rattle.wire.proofs.LeftLaws.{span, left-length}
+use Rattle.shared_ids.proofs.IdLaws.{word-at}
 use Rattle.cal3d_header.specs.Heads.{readHead}
 use Rattle.cal3d_header.proofs.HeadLaws.{headOf, HeadAt, head-at}
 use Rattle.layout.specs.Result.{accept, check, _>>=_}
 use Rattle.layout.specs.Parts.{Step, number}
 use Rattle.layout.specs.Counted.{times, atEnd}
 use Rattle.layout.specs.Rows.{eachOf}
-use Rattle.layout.proofs.Outs.{by-got, by-check, got-inj}
+use Rattle.layout.proofs.ResultLaws.{by-got, by-check, got-inj}
 use Rattle.layout.proofs.StepLaws.{length-words-of}
 use Rattle.layout.proofs.CountLaws.{times-length}
 use Rattle.cal3d_spec.specs.Rules.{skeletonMagic}

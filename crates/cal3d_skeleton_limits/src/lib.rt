@@ -9,7 +9,7 @@ use shared_counted_lists::Summed;
 use wire::Cursor;
 
 // The header's numbers after the version, and how many children the bones have.
-pub struct Summary {
+pub struct SkeletonSummary {
     pub bones: u32,
     pub red: u32,
     pub green: u32,
@@ -18,36 +18,36 @@ pub struct Summary {
 }
 
 // What a skeleton file comes to: the summary, or a refusal and its place.
-pub enum Verdict {
-    Good(Summary),
-    Bad(u32, u32),
+pub enum SkeletonVerdict {
+    Accept(SkeletonSummary),
+    Reject(u32, u32),
 }
 
 // Judges `file` up to the row limits: returns its summary, or the first of its refusals 1 to 10.
-pub fn limited(file: &[u8]) -> Verdict
+pub fn limited(file: &[u8]) -> SkeletonVerdict
     ensures { λ r. ⌜ r ≡ verdictOf (limitedSkeleton (now (file .entry))) ⌝ }
 {
     match cal3d_header::entry_count(file, 0x00465343, 1300, 3) {
-        Opened::Not(number, place) => Verdict::Bad(number, place),
-        Opened::To(bones) => {
+        Opened::Reject(number, place) => SkeletonVerdict::Reject(number, place),
+        Opened::Accept(bones) => {
             let n = file.len();
             match cal3d_skeleton_bones::judge_bones(
                 file,
                 Cursor { at: 24, end: n },
                 wire::size(bones),
             ) {
-                Summed::Not(e, p) => Verdict::Bad(e, p as u32),
-                Summed::To(children, c) => {
+                Summed::Reject(e, p) => SkeletonVerdict::Reject(e, p as u32),
+                Summed::Accept(children, c) => {
                     if c.at < n {
-                        return Verdict::Bad(refusals::CUT_ITEM, c.at as u32);
+                        return SkeletonVerdict::Reject(refusals::CUT_ITEM, c.at as u32);
                     }
                     if 16383 < bones {
-                        return Verdict::Bad(refusals::TOO_MANY_ROWS, 1);
+                        return SkeletonVerdict::Reject(refusals::TOO_MANY_ROWS, 1);
                     }
                     if 16383 < children {
-                        return Verdict::Bad(refusals::TOO_MANY_ROWS, 2);
+                        return SkeletonVerdict::Reject(refusals::TOO_MANY_ROWS, 2);
                     }
-                    Verdict::Good(Summary {
+                    SkeletonVerdict::Accept(SkeletonSummary {
                         bones,
                         red: wire::number_at(file, 12),
                         green: wire::number_at(file, 16),

@@ -8,21 +8,21 @@ use lib.Seq.{sets}
 use Rattle.wire.specs.Bytes.{over}
 use Rattle.wire.specs.Cursors.{Inside, left}
 use Rattle.wire.specs.declared.Cursor.{Cursor}
-use Rattle.wire.proofs.Left.{left-length}
+use Rattle.wire.proofs.LeftLaws.{left-length}
 use Rattle.layout.specs.Parts.{Step, wordsOf}
 use Rattle.layout.specs.Rows.{nameCells, joined}
 use Rattle.layout.proofs.StepLaws.{length-words-of}
 use Rattle.layout.proofs.ListLaws.{joined-append}
-use Rattle.shared_table_words.proofs.Storing.{Storing, store-none, store-run, store-done, sets-append}
-use Rattle.shared_table_words.proofs.Joined.{over-all}
+use Rattle.shared_table_words.proofs.StoreLaws.{Storing, store-none, store-run, store-done, sets-append}
+use Rattle.shared_table_words.proofs.JoinedLaws.{over-all}
 use Rattle.cal3d_spec.specs.Skeletons.{Bone, listOf, readBone}
 use Rattle.cal3d_spec.specs.Tables.{boneRows, childRows}
 use Rattle.cal3d_skeleton_bones.specs.Bones.{LaidAt, NoBone, Lays, childrenIn}
 use Rattle.cal3d_skeleton_bones.specs.declared.Laid.{Laid}
 use Rattle.cal3d_skeleton_bones.specs.declared.Laid.the-variants as laid
 use Rattle.cal3d_skeleton_bones.proofs.WalkLaws.{none-in, one-in}
-use Rattle.cal3d_skeleton_bones.proofs.Walked.{Walked, walked-start, walked-none, walked-gone, walked-next}
-use Rattle.cal3d_skeleton_tree_file.specs.Links.{Good, bonesAt}
+use Rattle.cal3d_skeleton_bones.proofs.BoneWalkLaws.{Walked, walked-start, walked-none, walked-gone, walked-next}
+use Rattle.cal3d_skeleton_tree_file.specs.Links.{GoodBones, bonesAt}
 use Rattle.cal3d_skeleton_rows.specs.Cells.{boneCells}
 
 -- ---- one row
@@ -69,7 +69,7 @@ pub record Filling (s : List ℕ) (count : ℕ) (all : List Bone) (bones₀ chil
   pub long-second : before + length (joined (childRows (rest .value))) ≡ length (joined (childRows all))
 
 module _ (s : List ℕ) (count : ℕ) (bones₀ children₀ : List ℕ) where
-  pub fill-start : (from : Cursor) → Good s from count → Filling s count (bonesAt s from count) bones₀ children₀ from 0 0 bones₀ children₀
+  pub fill-start : (from : Cursor) → GoodBones s from count → Filling s count (bonesAt s from count) bones₀ children₀ from 0 0 bones₀ children₀
   fill-start from g =
       let w = walked-start s count from (g .inside) (g .whole) in
       let z : 0 + 0 ≡ 23 * 0 = omega arith in

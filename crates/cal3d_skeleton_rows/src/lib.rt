@@ -9,7 +9,7 @@ ghost use Rattle.layout.specs.Parts.{wordsOf};
 ghost use Rattle.layout.specs.Rows.{joined, mostBytes};
 ghost use Rattle.cal3d_spec.specs.Tables.{boneRows, childRows};
 ghost use Rattle.cal3d_skeleton_bones.specs.Bones.{childrenIn};
-ghost use Rattle.cal3d_skeleton_tree_file.specs.Links.{Good, bonesAt};
+ghost use Rattle.cal3d_skeleton_tree_file.specs.Links.{GoodBones, bonesAt};
 ghost use Rattle.cal3d_skeleton_rows.specs.Cells.{boneCells};
 use cal3d_skeleton_bones::Laid;
 use wire::Cursor;
@@ -32,7 +32,7 @@ fn put_bone(s: &[u8], name: usize, numbers: Cursor, before: usize, base: usize, 
 
 // Stores the rows of the `count` bones from `from` on, and of their children, in the lent tables; words past the last row stay as found.
 pub fn fill(s: &[u8], from: Cursor, count: usize, bones: &mut [u32], children: &mut [u32])
-    requires { ⌜ Good (now s) from count × (23 * count ≤ length (now bones)) ⌝ }
+    requires { ⌜ GoodBones (now s) from count × (23 * count ≤ length (now bones)) ⌝ }
     requires { ⌜ (childrenIn (bonesAt (now s) from count) ≤ length (now children)) × (childrenIn (bonesAt (now s) from count) ≤ 16383) ⌝ }
     ensures { λ _. ⌜ now (bones .exit) ≡ over (joined (boneRows 0 (bonesAt (now (s .entry)) from count))) (now (bones .entry)) ⌝ }
     ensures { λ _. ⌜ now (children .exit) ≡ over (joined (childRows (bonesAt (now (s .entry)) from count))) (now (children .entry)) ⌝ }

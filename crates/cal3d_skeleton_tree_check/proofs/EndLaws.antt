@@ -12,7 +12,7 @@ use borrow.Author.Tests.{eq-eqb, ne-eqb}
 use Rattle.wire.specs.Test.{if}
 use Rattle.layout.specs.Rules.{NONE}
 use Rattle.cal3d_spec.specs.Trees.{ends}
-use Rattle.cal3d_skeleton_tree_check.specs.Scores.{Named}
+use Rattle.cal3d_skeleton_tree_check.specs.Scores.{ParentsValid}
 
 -- both cases of an equation between numbers
 pub by-eq {ℓ} : {P : Type ℓ} (a b : ℕ) → (a ≡ b → P) → ((a ≡ b → ⊥) → P) → P
@@ -112,7 +112,7 @@ module _ (ps : List ℕ) where
   new : (m : List ℕ) (b : ℕ) → Enough m → b < length ps → (getD m b 0 ≡ 1 → ⊥) → ends ps (suc (ones m)) b ≡ true → To b
   new m b g h n e = let l = g .long in record { marks = set m b 1; enough = enough-one m b g h n e; here = getD-set-same m b 1 0 (omega arith) }
 
-  to : Named ps → (k b : ℕ) (m : List ℕ) → b < length ps → ends ps k b ≡ true → Enough m → To b
+  to : ParentsValid ps → (k b : ℕ) (m : List ℕ) → b < length ps → ends ps k b ≡ true → Enough m → To b
   to v zero b m h e g = no-true (sym (ends-none ps b) ∙ e)
   to v (suc k) b m h e g =
       by-eq (getD m b 0) 1
@@ -128,7 +128,7 @@ module _ (ps : List ℕ) where
       ]))
 
   -- parents that end do so after no more steps than there are bones
-  pub ends-all : Named ps → (k b : ℕ) → b < length ps → ends ps k b ≡ true → ends ps (length ps) b ≡ true
+  pub ends-all : ParentsValid ps → (k b : ℕ) → b < length ps → ends ps k b ≡ true → ends ps (length ps) b ≡ true
   ends-all v k b h e =
       let t = to v k b (replicate (length ps) 0) h e enough-none in
       let f = ones-few (t .marks) in

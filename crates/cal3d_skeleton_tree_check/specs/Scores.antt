@@ -37,11 +37,11 @@ lowest ok zero b = b
 lowest ok (suc n) b = let later = lowest ok n (b + 1) in if (ok b) later b
 
 -- each parent is NONE, or one of the bones
-pub record Named (ps : List ℕ) : Type 0 where
+pub record ParentsValid (ps : List ℕ) : Type 0 where
   pub named : (i : ℕ) → i < length ps → (getD ps i 0 ≡ NONE) ⊎ (getD ps i 0 < length ps)
 
 -- the parents of bone b end
-pub record Kept (ps : List ℕ) (b : ℕ) : Type 0 where
+pub record ParentsEnd (ps : List ℕ) (b : ℕ) : Type 0 where
   pub kept : ends ps (length ps) b ≡ true
 
 -- there is a mark for each bone, and the parents of a marked bone end
@@ -49,7 +49,7 @@ pub record Marked (ps marks : List ℕ) : Type 0 where
   -- there is a mark for each bone
   pub long : length marks ≡ length ps
   -- the parents of a marked bone end
-  pub marked : (i : ℕ) → i < length ps → getD marks i 0 ≡ 1 → Kept ps i
+  pub marked : (i : ℕ) → i < length ps → getD marks i 0 ≡ 1 → ParentsEnd ps i
 
 -- all marks are 0
 pub record Zeros (marks : List ℕ) : Type 0 where
@@ -65,7 +65,7 @@ pub record Low (entries : ℕ) (scores : List ℕ) : Type 0 where
   pub low : (i : ℕ) → getD scores i 0 ≤ 2 * entries
 
 -- the `count` words at a place of the file s are each the id of one of the bones
-pub record Listed (s : List ℕ) (at count bones : ℕ) : Type 0 where
+pub record ChildIds (s : List ℕ) (at count bones : ℕ) : Type 0 where
   pub bone : (i : ℕ) → i < count → wordAt s (at + 4 * i) < bones
 
 -- the scores from the lists ls of the first bones, and from the first part l of the next bone's

@@ -4,7 +4,7 @@ ghost use mathlib.Core.Path.{_≡_};
 ghost use Prim.Native.Nat.{_<_, _≤_};
 ghost use lib.ListN.{length};
 ghost use Rattle.cal3d_spec.specs.Trees.{ends};
-ghost use Rattle.cal3d_skeleton_tree_check.specs.Scores.{wanted, sound, lowest, Named, Marked, Kept, Zeros};
+ghost use Rattle.cal3d_skeleton_tree_check.specs.Scores.{wanted, sound, lowest, ParentsValid, Marked, ParentsEnd, Zeros};
 
 // Returns the score that a bone with this `parent` has if it is right: 1, or 0 without a parent.
 fn wanted(parent: u32) -> u32
@@ -18,7 +18,7 @@ fn wanted(parent: u32) -> u32
 
 // Returns whether the parents of bone `b` end. Goes up to a marked bone or to one without parent, no further than there are bones.
 fn climbs(parents: &[u32], marks: &[u32], b: usize) -> bool
-    requires { ⌜ (b < length (now parents)) × Named (now parents) × Marked (now parents) (now marks) ⌝ }
+    requires { ⌜ (b < length (now parents)) × ParentsValid (now parents) × Marked (now parents) (now marks) ⌝ }
     ensures { λ r. ⌜ r ≡ ends (now (parents .entry)) (length (now (parents .entry))) b ⌝ }
 {
     let mut x = b;
@@ -39,8 +39,8 @@ fn climbs(parents: &[u32], marks: &[u32], b: usize) -> bool
 
 // Marks bone `b`, whose parents end, and its parents, up to one that is marked.
 fn mark(parents: &[u32], marks: &mut [u32], b: usize)
-    requires { ⌜ (b < length (now parents)) × Named (now parents) × Marked (now parents) (now marks) ⌝ }
-    requires { ⌜ Kept (now parents) b ⌝ }
+    requires { ⌜ (b < length (now parents)) × ParentsValid (now parents) × Marked (now parents) (now marks) ⌝ }
+    requires { ⌜ ParentsEnd (now parents) b ⌝ }
     ensures { λ _. ⌜ Marked (now (parents .entry)) (now (marks .exit)) ⌝ }
 {
     let mut x = b;
@@ -60,8 +60,8 @@ fn mark(parents: &[u32], marks: &mut [u32], b: usize)
 }
 
 // Returns the lowest bone that is not right by its score and its parents; the number of bones if all are. `marks` has a mark for each bone and is changed.
-pub fn first_stray(parents: &[u32], scores: &[u32], marks: &mut [u32]) -> usize
-    requires { ⌜ (length (now scores) ≡ length (now parents)) × Named (now parents) × Marked (now parents) (now marks) ⌝ }
+fn first_stray(parents: &[u32], scores: &[u32], marks: &mut [u32]) -> usize
+    requires { ⌜ (length (now scores) ≡ length (now parents)) × ParentsValid (now parents) × Marked (now parents) (now marks) ⌝ }
     ensures { λ r. ⌜ r ≡ lowest (sound (now (parents .entry)) (now (scores .entry))) (length (now (parents .entry))) 0 ⌝ }
 {
     let mut b: usize = 0;
@@ -87,7 +87,7 @@ pub fn zeros() -> [u32; 16383]
 
 // Returns the lowest bone that is not right by its score and its parents; the number of bones if all are.
 pub fn stray(parents: &[u32], scores: &[u32]) -> usize
-    requires { ⌜ (length (now scores) ≡ length (now parents)) × Named (now parents) × (length (now parents) ≤ 16383) ⌝ }
+    requires { ⌜ (length (now scores) ≡ length (now parents)) × ParentsValid (now parents) × (length (now parents) ≤ 16383) ⌝ }
     ensures { λ r. ⌜ r ≡ lowest (sound (now (parents .entry)) (now (scores .entry))) (length (now (parents .entry))) 0 ⌝ }
 {
     let mut marks = zeros();

@@ -1,4 +1,4 @@
-pub mod Gathers
-pub mod Tells
-pub mod Places
-pub mod Answers
+pub mod GatherLaws
+pub mod TellLaws
+pub mod PlaceLaws
+pub mod AnswerLaws

@@ -7,20 +7,20 @@ ghost use lib.ListN.{length};
 ghost use Rattle.cal3d_spec.specs.Skeletons.{parentOf, listOf};
 ghost use Rattle.cal3d_spec.specs.Trees.{trees};
 ghost use Rattle.cal3d_skeleton_tree_check.specs.Scores.{Zeros, Scored, placeAt};
-ghost use Rattle.cal3d_skeleton_tree_file.specs.Links.{Good, bonesAt, toldOf};
+ghost use Rattle.cal3d_skeleton_tree_file.specs.Links.{GoodBones, bonesAt, toldOf};
 use cal3d_skeleton_bones::Laid;
 use layout::refusals;
 use wire::Cursor;
 
 // Lists and parents tell the same trees; or a refusal and its place.
 pub enum Told {
-    Same,
-    Not(u32, u32),
+    Accept,
+    Reject(u32, u32),
 }
 
 // Stores the parents of the `bones` bones from `from` on in `out`.
 fn gather(s: &[u8], from: Cursor, bones: usize, out: &mut [u32])
-    requires { ⌜ Good (now s) from bones × (length (now out) ≡ bones) ⌝ }
+    requires { ⌜ GoodBones (now s) from bones × (length (now out) ≡ bones) ⌝ }
     ensures { λ _. ⌜ now (out .exit) ≡ map parentOf (bonesAt (now (s .entry)) from bones) ⌝ }
 {
     let mut c = from;
@@ -37,7 +37,7 @@ fn gather(s: &[u8], from: Cursor, bones: usize, out: &mut [u32])
 
 // Adds to `scores` what the lists of the `bones` bones from `from` on give.
 fn tell(s: &[u8], from: Cursor, bones: usize, parents: &[u32], scores: &mut [u32])
-    requires { ⌜ Good (now s) from bones × (length (now parents) ≡ bones) × (length (now scores) ≡ bones) × Zeros (now scores) ⌝ }
+    requires { ⌜ GoodBones (now s) from bones × (length (now parents) ≡ bones) × (length (now scores) ≡ bones) × Zeros (now scores) ⌝ }
     ensures { λ _. ⌜ Scored (now (parents .entry)) (map listOf (bonesAt (now (s .entry)) from bones)) [] (now (scores .exit)) ⌝ }
 {
     let mut c = from;
@@ -64,7 +64,7 @@ fn tell(s: &[u8], from: Cursor, bones: usize, parents: &[u32], scores: &mut [u32
 
 // Returns the place of the first byte of bone `which` of the `bones` bones from `from` on.
 fn bone_at(s: &[u8], from: Cursor, bones: usize, which: usize) -> usize
-    requires { ⌜ Good (now s) from bones × (which < bones) ⌝ }
+    requires { ⌜ GoodBones (now s) from bones × (which < bones) ⌝ }
     ensures { λ r. ⌜ (r ≡ placeAt (bonesAt (now (s .entry)) from bones) which) × (r ≤ length (now (s .entry))) ⌝ }
 {
     let mut c = from;
@@ -88,21 +88,21 @@ fn same_trees_by(
     parents: &mut [u32],
     scores: &mut [u32],
 ) -> Told
-    requires { ⌜ Good (now s) from bones × (length (now parents) ≡ bones) × (length (now scores) ≡ bones) × Zeros (now scores) ⌝ }
+    requires { ⌜ GoodBones (now s) from bones × (length (now parents) ≡ bones) × (length (now scores) ≡ bones) × Zeros (now scores) ⌝ }
     ensures { λ r. ⌜ r ≡ toldOf (trees (bonesAt (now (s .entry)) from bones)) ⌝ }
 {
     gather(s, from, bones, parents);
     tell(s, from, bones, parents, scores);
     let lowest = cal3d_skeleton_tree_check::stray(parents, scores);
     if lowest < bones {
-        return Told::Not(refusals::NO_TREE, bone_at(s, from, bones, lowest) as u32);
+        return Told::Reject(refusals::NO_TREE, bone_at(s, from, bones, lowest) as u32);
     }
-    Told::Same
+    Told::Accept
 }
 
 // Checks that lists and parents of the `bones` bones from `from` on tell the same trees. Returns 16 at the first byte of the lowest bone that is not right.
 pub fn same_trees(s: &[u8], from: Cursor, bones: usize) -> Told
-    requires { ⌜ Good (now s) from bones ⌝ }
+    requires { ⌜ GoodBones (now s) from bones ⌝ }
     ensures { λ r. ⌜ r ≡ toldOf (trees (bonesAt (now (s .entry)) from bones)) ⌝ }
 {
     let mut parents = cal3d_skeleton_tree_check::zeros();

@@ -1,3 +1,3 @@
 -- Scores and lists.
 pub mod ScoreLaws
-pub mod Noting
+pub mod NoteLaws

@@ -13,12 +13,12 @@ use borrow.Author.Tests.{eq-eqb, ne-eqb, lt-ltb, le-ltb, ltb-true, ltb-false}
 use Rattle.wire.specs.Test.{if}
 use Rattle.layout.specs.Result.{check}
 use Rattle.layout.specs.Rules.{NONE}
-use Rattle.layout.proofs.Testing.{and-false, and-true}
+use Rattle.layout.proofs.TestLaws.{and-false, and-true}
 use Rattle.cal3d_spec.specs.Skeletons.{Bone, parentOf, listOf}
 use Rattle.cal3d_spec.specs.Trees.{occurs, listed, stands, standing, trees}
-use Rattle.cal3d_skeleton_tree_check.specs.Scores.{weight, score, wanted, sound, lowest, Named, strayAt, Scored}
+use Rattle.cal3d_skeleton_tree_check.specs.Scores.{weight, score, wanted, sound, lowest, ParentsValid, strayAt, Scored}
 use Rattle.cal3d_skeleton_tree_check.proofs.EndLaws.{by-eq}
-use Rattle.cal3d_skeleton_tree_check.proofs.Straying.{lowest-here, lowest-next, lowest-none}
+use Rattle.cal3d_skeleton_tree_check.proofs.StrayLaws.{lowest-here, lowest-next, lowest-none}
 
 -- ---- tests of sums
 
@@ -91,7 +91,7 @@ module _ (b p : ℕ) where
       rw (n, m, x) (other-one (occurs b l) (score b p (q + 1) ls)))
 
 -- a bone stands right by its score just where the definition says so
-pub sound-stands : (ps scores : List ℕ) (ls : List (List ℕ)) (b : ℕ) → Named ps → length ls ≡ length ps → length ps ≤ NONE → b < length ps
+pub sound-stands : (ps scores : List ℕ) (ls : List (List ℕ)) (b : ℕ) → ParentsValid ps → length ls ≡ length ps → length ps ≤ NONE → b < length ps
     → getD scores b 0 ≡ score b (getD ps b 0) 0 ls → sound ps scores b ≡ stands ps ls b
 unfolding sound stands wanted if
 sound-stands ps scores ls b v l few h e =
@@ -147,7 +147,7 @@ module _ (ps : List ℕ) (ls : List (List ℕ)) (ok : ℕ → Bool) where
       rw (s, q, z))
 
 -- 16 where `first_stray` finds a bone, at that bone's first byte
-pub trees-stray : (bs : List Bone) (scores : List ℕ) → Named (map parentOf bs) → length bs ≤ NONE
+pub trees-stray : (bs : List Bone) (scores : List ℕ) → ParentsValid (map parentOf bs) → length bs ≤ NONE
     → ((b : ℕ) → b < length bs → getD scores b 0 ≡ score b (getD (map parentOf bs) b 0) 0 (map listOf bs))
     → trees bs ≡ strayAt (lowest (sound (map parentOf bs) scores) (length (map parentOf bs)) 0) bs
 unfolding trees

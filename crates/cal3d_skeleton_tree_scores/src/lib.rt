@@ -3,10 +3,10 @@ ghost use mathlib.Core.Path.{_≡_};
 ghost use Prim.Native.Nat.{_+_, _*_, _<_, _≤_};
 ghost use lib.ListN.{length, drop, getD, set};
 ghost use Rattle.layout.specs.Parts.{wordsOf};
-ghost use Rattle.cal3d_skeleton_tree_check.specs.Scores.{weight, noted, Low, Listed};
+ghost use Rattle.cal3d_skeleton_tree_check.specs.Scores.{weight, noted, Low, ChildIds};
 
 // Adds to the score of bone `c` that bone `q` lists it: 1 if `q` is its parent, else 2. A bone that its parent alone lists, and once, has 1 in the end.
-pub fn note(parents: &[u32], scores: &mut [u32], q: u32, c: usize)
+fn note(parents: &[u32], scores: &mut [u32], q: u32, c: usize)
     requires { ⌜ (c < length (now parents)) × (c < length (now scores)) × (getD (now scores) c 0 < 4294967294) ⌝ }
     ensures { λ _. ⌜ now (scores .exit) ≡ set (now (scores .entry)) c (getD (now (scores .entry)) c 0 + weight q (getD (now (parents .entry)) c 0)) ⌝ }
 {
@@ -28,7 +28,7 @@ pub fn note_list(
     scores: &mut [u32],
 )
     requires { ⌜ (at + 4 * count ≤ length (now s)) × (entries + count ≤ 1000000000) ⌝ }
-    requires { ⌜ (length (now scores) ≡ length (now parents)) × Low entries (now scores) × Listed (now s) at count (length (now parents)) ⌝ }
+    requires { ⌜ (length (now scores) ≡ length (now parents)) × Low entries (now scores) × ChildIds (now s) at count (length (now parents)) ⌝ }
     ensures { λ _. ⌜ (now (scores .exit) ≡ noted (now (parents .entry)) q (now (scores .entry)) (wordsOf count (drop at (now (s .entry)))))
         × Low (entries + count) (now (scores .exit)) ⌝ }
 {

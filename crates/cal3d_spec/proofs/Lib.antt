@@ -1,3 +1,3 @@
 pub mod Computing
 pub mod Cases
-pub mod Order
+pub mod RefusalOrderLaws

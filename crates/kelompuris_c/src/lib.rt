@@ -19,7 +19,7 @@ pub extern "C" fn kelompuris_b3d_judge(mode: u32, file: &[u8]) -> Answer
     ensures { λ r. ⌜ r ≡ answer (judge (modeOf mode) (now (file .entry))) ⌝ }
 {
     let m = kelompuris_c_mode::mode_of(mode);
-    b3d_read_answer::judge(m, file)
+    b3d_read_answer::judge_answer(m, file)
 }
 
 // Reads `file` in the mode with the number `mode` into ten lent tables. Words past a table's last row stay as found; on a refusal all tables do.

@@ -5,8 +5,8 @@ use Rattle.b3d_pieces_state.specs.declared.PieceState.{PieceState}
 use Rattle.b3d_pieces_state.specs.States.{judgeIn, stateOf}
 use Rattle.b3d_pieces_state.proofs.StateLaws.{state-back}
 use Rattle.b3d_pieces_words.specs.Called.{freshJudge, Fresh, JudgedInCalls}
-use Rattle.b3d_pieces_words.proofs.Calling.{fresh-judge}
-use Rattle.b3d_pieces_words.proofs.Judged.{judged-in-calls}
+use Rattle.b3d_pieces_words.proofs.CallLaws.{fresh-judge}
+use Rattle.b3d_pieces_words.proofs.JudgedLaws.{judged-in-calls}
 use Rattle.b3d_pieces_records_loop.specs.Rounds.{numbers}
 
 -- a file in calls from C is answered as the reader answers all bytes that were taken

@@ -11,7 +11,7 @@ use Rattle.layout.specs.Result.{Result, accept, reject, check, _>>=_}
 use Rattle.layout.specs.Rules.{Rule, any, count, holds, refusal}
 use Rattle.layout.specs.Parts.{Name, Step, wordsOf, words, judged, row, number}
 use Rattle.layout.specs.Counted.{run, nameOf, sized, before, times, atEnd}
-use Rattle.layout.proofs.Outs.{by-test, by-got, by-check, bad-got, got-inj}
+use Rattle.layout.proofs.ResultLaws.{by-test, by-got, by-check, bad-got, got-inj}
 use Rattle.layout.proofs.StepLaws.{judged-got, row-enough, row-short}
 
 -- ---- where a reading leaves off

@@ -14,10 +14,10 @@ use Rattle.layout.specs.Result.{Result, accept, reject, check, _>>=_}
 use Rattle.layout.specs.Rules.{Rule, any, upTo, exactly, names, namesOrNone, unit, holds}
 use Rattle.layout.specs.Parts.{Name, Step, text, words, judged, row, named, itemsIn, items}
 use Rattle.layout.specs.WellFormed.{all}
-use Rattle.layout.proofs.Outs.{by-got, bad-got, got-inj}
+use Rattle.layout.proofs.ResultLaws.{by-got, bad-got, got-inj}
 use Rattle.layout.proofs.PlaceLaws.{At, at-four, text-at}
 use Rattle.layout.proofs.StepLaws.{judged-got}
-use Rattle.layout.proofs.Testing.{and-assoc}
+use Rattle.layout.proofs.TestLaws.{and-assoc}
 
 -- ---- rules
 

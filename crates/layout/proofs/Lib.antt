@@ -1,8 +1,8 @@
-pub mod Outs
-pub mod Lists
+pub mod ResultLaws
+pub mod AllLaws
 pub mod ListLaws
-pub mod Testing
-pub mod Fitting
+pub mod TestLaws
+pub mod WellFormedLaws
 pub mod PartLaws
 pub mod StepLaws
 pub mod CountLaws

@@ -36,11 +36,11 @@ fn case(name: &[u8], file: &[u8]) {
     io::write_all(1, name);
     io::write_all(1, b":");
     match b3d_judge::judge(Mode::Strict, file) {
-        Verdict::Bad(number, place) => {
+        Verdict::Reject(number, place) => {
             print(wire::size(number));
             print(place);
         }
-        Verdict::Good(x) => {
+        Verdict::Accept(x) => {
             io::write_all(1, b" 0 0,");
             print(wire::size(x.version));
             print(wire::size(x.n_texs));

@@ -12,14 +12,14 @@ use wire::Number;
 
 // The cursor after what was read, or a refusal and its place.
 pub enum Ran {
-    To(Cursor),
-    Not(u32, usize),
+    Accept(Cursor),
+    Reject(u32, usize),
 }
 
 // How many entries of one kind were read, and the cursor after them; or a refusal and its place.
 pub enum Summed {
-    To(usize, Cursor),
-    Not(u32, usize),
+    Accept(usize, Cursor),
+    Reject(u32, usize),
 }
 
 // Reads `count` rows of `words` words, the first `ids` words of each being ids below `limit`. Returns the cursor after them, 5 at the first row that is cut,
@@ -34,16 +34,16 @@ pub fn id_rows(s: &[u8], from: Cursor, count: usize, words: usize, ids: usize, l
     let mut more = count;
     while 0 < more {
         if end - at < size {
-            return Ran::Not(refusals::CUT_ITEM, at);
+            return Ran::Reject(refusals::CUT_ITEM, at);
         }
         let good = shared_ids::first_invalid(s, Cursor { at, end }, ids, limit, false);
         if good < ids {
-            return Ran::Not(refusals::NO_SUCH_ID, at + 4 * good);
+            return Ran::Reject(refusals::NO_SUCH_ID, at + 4 * good);
         }
         at += size;
         more -= 1;
     }
-    Ran::To(Cursor { at, end })
+    Ran::Accept(Cursor { at, end })
 }
 
 // Reads a row of `front` words, an id below `limit` or NONE, `between` words and a count. Returns the cursor after it; 5 at the row if it is cut, 7 at an id
@@ -56,17 +56,17 @@ pub fn link_row(s: &[u8], c: Cursor, front: usize, between: usize, limit: usize)
     let end = c.end;
     let size = 4 * (front + between + 2);
     if end - at < size {
-        return Ran::Not(refusals::CUT_ITEM, at);
+        return Ran::Reject(refusals::CUT_ITEM, at);
     }
     let id = at + 4 * front;
     if !shared_ids::id_valid(wire::number_at(s, id), limit, true) {
-        return Ran::Not(refusals::NO_SUCH_ID, id);
+        return Ran::Reject(refusals::NO_SUCH_ID, id);
     }
     let last = id + 4 + 4 * between;
     if 2147483647 < wire::number_at(s, last) {
-        return Ran::Not(refusals::RANGE, last);
+        return Ran::Reject(refusals::RANGE, last);
     }
-    Ran::To(Cursor { at: at + size, end })
+    Ran::Accept(Cursor { at: at + size, end })
 }
 
 // Reads a name after its length: the length is an item, the name's bytes are the next. Returns the cursor after it; 5 at the one that is cut, or 6 at a
@@ -76,18 +76,18 @@ pub fn pass_name(s: &[u8], c: Cursor) -> Ran
     ensures { λ r. ⌜ Runs (sized (c .at) (left c (now (s .entry)))) c 4 r ⌝ }
 {
     match c.number(s) {
-        Number::Cut => Ran::Not(refusals::CUT_ITEM, c.at),
+        Number::Cut => Ran::Reject(refusals::CUT_ITEM, c.at),
         Number::Is(stored, name) => {
             if 2147483647 < stored {
-                return Ran::Not(refusals::RANGE, c.at);
+                return Ran::Reject(refusals::RANGE, c.at);
             }
             let n = wire::size(stored);
             let at = name.at;
             let end = name.end;
             if end - at < n {
-                return Ran::Not(refusals::CUT_ITEM, at);
+                return Ran::Reject(refusals::CUT_ITEM, at);
             }
-            Ran::To(Cursor { at: at + n, end })
+            Ran::Accept(Cursor { at: at + n, end })
         }
     }
 }

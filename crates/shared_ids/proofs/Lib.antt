@@ -1,2 +1,2 @@
 -- Laws of words that are looked at one after the other.
-pub mod Ids
+pub mod IdLaws

@@ -1,6 +1,6 @@
 -- The laws of writing into a lent output.
-pub mod Writes
-pub mod Pieces
-pub mod Appends
-pub mod Putting
-pub mod Joining
+pub mod WroteLaws
+pub mod PieceLaws
+pub mod AppendLaws
+pub mod OutputLaws
+pub mod PartLaws

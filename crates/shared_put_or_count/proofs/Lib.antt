@@ -1,2 +1,2 @@
 -- The laws of what is put.
-pub mod Putting
+pub mod PutLaws

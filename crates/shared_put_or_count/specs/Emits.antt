@@ -17,7 +17,7 @@ roomOf true xs = length xs
 roomOf false xs = 4294967295
 
 -- w has room from a place on
-pub record Fits (wet : Bool) (w : List ℕ) (at : ℕ) (xs : List ℕ) : Type 0 where
+pub record RoomFrom (wet : Bool) (w : List ℕ) (at : ℕ) (xs : List ℕ) : Type 0 where
   -- it ends where the walk may go, or before
   pub room : at + length w ≤ roomOf wet xs
   -- and at a place of four bytes

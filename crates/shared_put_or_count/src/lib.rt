@@ -5,7 +5,7 @@ ghost use mathlib.Core.List.{[]};
 ghost use lib.ListN.{length, take, drop};
 ghost use Rattle.wire.specs.Bytes.{bytes};
 ghost use Rattle.shared_seven_bit_groups.specs.Groups.{groups};
-ghost use Rattle.shared_put_or_count.specs.Emits.{Emits, Fits};
+ghost use Rattle.shared_put_or_count.specs.Emits.{Emits, RoomFrom};
 
 // Puts or counts `count` bytes of the file from `from` on, and gives the place after them; none for a count of 0.
 pub fn put_copy(
@@ -17,7 +17,7 @@ pub fn put_copy(
     at: usize,
 ) -> usize
     requires { ⌜ from + count ≤ length (now file) ⌝ }
-    requires { ⌜ Fits wet (take count (drop from (now file))) at (now out) ⌝ }
+    requires { ⌜ RoomFrom wet (take count (drop from (now file))) at (now out) ⌝ }
     ensures { λ r. ⌜ Emits wet (take count (drop from (now (file .entry)))) (now (out .entry)) at (now (out .exit)) r ⌝ }
 {
     if wet {
@@ -29,7 +29,7 @@ pub fn put_copy(
 
 // Puts or counts the four bytes of a number, and gives the place after them.
 pub fn put_word(value: u32, wet: bool, out: &mut [u8], at: usize) -> usize
-    requires { ⌜ Fits wet (bytes value []) at (now out) ⌝ }
+    requires { ⌜ RoomFrom wet (bytes value []) at (now out) ⌝ }
     ensures { λ r. ⌜ Emits wet (bytes value []) (now (out .entry)) at (now (out .exit)) r ⌝ }
 {
     if wet {
@@ -41,7 +41,7 @@ pub fn put_word(value: u32, wet: bool, out: &mut [u8], at: usize) -> usize
 
 // Puts or counts the one to five groups of a number, and gives the place after them.
 pub fn put_grouped(n: u32, wet: bool, out: &mut [u8], at: usize) -> usize
-    requires { ⌜ Fits wet (groups n []) at (now out) ⌝ }
+    requires { ⌜ RoomFrom wet (groups n []) at (now out) ⌝ }
     ensures { λ r. ⌜ Emits wet (groups n []) (now (out .entry)) at (now (out .exit)) r ⌝ }
 {
     if wet {

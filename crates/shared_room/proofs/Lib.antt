@@ -1,2 +1,2 @@
 -- Its laws.
-pub mod Rooms
+pub mod RoomLaws

@@ -11,9 +11,9 @@ use Rattle.wire.specs.Test.{if}
 use Rattle.wire.specs.Bytes.{AllBytes}
 use Rattle.layout.specs.Result.{Result, accept, reject, check, _>>=_}
 use Rattle.layout.specs.Parts.{Step}
-use Rattle.layout.proofs.Outs.{by-if, by-check, by-got, bad-got}
+use Rattle.layout.proofs.ResultLaws.{by-if, by-check, by-got, bad-got}
 use Rattle.shared_seven_bit_groups.specs.Groups.{AtMost, front, groups, groupsOf, writeNumbers, goesOn, last, readIn, readNumber, readNumbers}
-use Rattle.shared_seven_bit_groups.proofs.Fronts.{front-none, front-more, frontOf, count-none, count-more, count-is, groups-up}
+use Rattle.shared_seven_bit_groups.proofs.GroupLaws.{front-none, front-more, frontOf, count-none, count-more, count-is, groups-up}
 
 -- ---- one group
 

@@ -1,7 +1,7 @@
 -- The laws of numbers in groups.
-pub mod Fronts
+pub mod GroupLaws
 pub mod Laws
-pub mod Places
-pub mod SoFar
-pub mod Coding
+pub mod PlaceLaws
+pub mod SoFarLaws
+pub mod NumberLaws
 pub mod Cases

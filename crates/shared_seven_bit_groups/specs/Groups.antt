@@ -82,5 +82,5 @@ readNumbers (m ∷ ms) p s = do
 
 -- what code answers for a number that was read
 abbrev pub grouped : Result (Step ℕ) → Grouped
-grouped (accept x) = number.Is (x .value) (x .place)
-grouped (reject n p) = number.Not n p
+grouped (accept x) = number.Accept (x .value) (x .place)
+grouped (reject n p) = number.Reject n p

@@ -10,8 +10,8 @@ use layout::refusals;
 
 // A number and the place after its groups, or the refusal 13 with its place.
 pub enum Grouped {
-    Is(u32, usize),
-    Not(u32, usize),
+    Accept(u32, usize),
+    Reject(u32, usize),
 }
 
 // Returns how many groups `n` takes: 1 to 5.
@@ -60,7 +60,7 @@ pub fn read_number(s: &[u8], at: usize, most: u32) -> Grouped
     let mut p = at;
     while 0 < left {
         if s.len() <= p {
-            return Grouped::Not(refusals::NO_SLIP, p);
+            return Grouped::Reject(refusals::NO_SLIP, p);
         }
         let b = s[p] as u32;
         left -= 1;
@@ -68,17 +68,17 @@ pub fn read_number(s: &[u8], at: usize, most: u32) -> Grouped
         if b < 128 {
             let n = v * 128 + b;
             if most < n {
-                return Grouped::Not(refusals::NO_SLIP, at);
+                return Grouped::Reject(refusals::NO_SLIP, at);
             }
-            return Grouped::Is(n, p);
+            return Grouped::Accept(n, p);
         }
         v = v * 128 + (b - 128);
         if v == 0 {
-            return Grouped::Not(refusals::NO_SLIP, at);
+            return Grouped::Reject(refusals::NO_SLIP, at);
         }
         if most / 128 < v {
-            return Grouped::Not(refusals::NO_SLIP, at);
+            return Grouped::Reject(refusals::NO_SLIP, at);
         }
     }
-    Grouped::Not(refusals::NO_SLIP, at)
+    Grouped::Reject(refusals::NO_SLIP, at)
 }

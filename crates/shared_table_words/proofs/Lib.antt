@@ -1,3 +1,3 @@
-pub mod Storing
-pub mod Copying
-pub mod Joined
+pub mod StoreLaws
+pub mod CopyLaws
+pub mod JoinedLaws

@@ -1,5 +1,5 @@
 -- The laws of slips.
-pub mod Coding
+pub mod SlipWriteLaws
 pub mod WriteLaws
 pub mod ReadLaws
 pub mod SlipLaws

@@ -13,11 +13,11 @@ use Rattle.layout.specs.Parts.{Step}
 use Rattle.shared_seven_bit_groups.specs.Groups.{groupsOf, readNumber, readNumbers, grouped}
 use Rattle.shared_seven_bit_groups.specs.declared.Grouped.{Grouped}
 use Rattle.shared_seven_bit_groups.specs.declared.Grouped.the-variants as number
-use Rattle.shared_seven_bit_groups.proofs.Coding.{word-groups}
-use Rattle.shared_seven_bit_groups.proofs.Places.{Moved, Placed, number-placed}
+use Rattle.shared_seven_bit_groups.proofs.NumberLaws.{word-groups}
+use Rattle.shared_seven_bit_groups.proofs.PlaceLaws.{Moved, Placed, number-placed}
 use Rattle.slip.specs.Slips.{limits, limitAt, readSlip, slipOf, readSlipAnswer, readWithin}
 use Rattle.slip.specs.declared.Slip.{Slip}
-use Rattle.slip.proofs.Coding.{limit-word, limits-next, limits-end}
+use Rattle.slip.proofs.SlipWriteLaws.{limit-word, limits-next, limits-end}
 
 -- numbers that were read before others
 abbrev ahead : List ℕ → Result (Step (List ℕ)) → Result (Step (List ℕ))
@@ -50,11 +50,11 @@ record Was (o : Result (Step ℕ)) (n q : ℕ) : Type 0 where
   value : step .value ≡ n
   place : step .place ≡ q
 
-was-number : (o : Result (Step ℕ)) (n q : ℕ) → grouped o ≡ number.Is n q → Was o n q
+was-number : (o : Result (Step ℕ)) (n q : ℕ) → grouped o ≡ number.Accept n q → Was o n q
 was-number (accept x) n q e = record { step = x; is = refl; value = cc; place = cc }
 was-number (reject k p) n q e = let z : _≡_ {A = ℕ} 0 1 = cc in absurd (omega arith)
 
-was-refused : (o : Result (Step ℕ)) (k p : ℕ) → grouped o ≡ number.Not k p → o ≡ reject k p
+was-refused : (o : Result (Step ℕ)) (k p : ℕ) → grouped o ≡ number.Reject k p → o ≡ reject k p
 was-refused (accept x) k p e = let z : _≡_ {A = ℕ} 0 1 = cc in absurd (omega arith)
 was-refused (reject n q) k p e = cc
 
@@ -91,7 +91,7 @@ module _ (s : List ℕ) where
       groups-few = word-groups m (omega (arith, e, limit-word i))
 
       -- refused
-      module _ (k p : ℕ) (z : r ≡ number.Not k p) where
+      module _ (k p : ℕ) (z : r ≡ number.Reject k p) where
         refused : readNumber m at (drop at s) ≡ reject k p
         refused = was-refused (readNumber m at (drop at s)) k p (sym f ∙ z)
 
@@ -107,7 +107,7 @@ module _ (s : List ℕ) where
             answers (reject 13 p) (read-bad 13 p (here ∙ first-invalid m (drop (i + 1) limits) at (drop at s) (take i numbers) 13 p (rw n at refused))) a j
 
       -- a number
-      module _ (n q : ℕ) (z : r ≡ number.Is n q) where
+      module _ (n q : ℕ) (z : r ≡ number.Accept n q) where
         was : Was (readNumber m at (drop at s)) n q
         was = was-number (readNumber m at (drop at s)) n q (sym f ∙ z)
 

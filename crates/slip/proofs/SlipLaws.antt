@@ -12,12 +12,12 @@ use Rattle.wire.specs.Test.{if}
 use Rattle.layout.specs.Result.{Result, accept, reject, check, _>>=_}
 use Rattle.layout.specs.Parts.{Step}
 use Rattle.layout.specs.Rules.{upTo}
-use Rattle.layout.proofs.Outs.{by-test, by-check, by-got, bad-got, got-inj, if-yes, if-no}
+use Rattle.layout.proofs.ResultLaws.{by-test, by-check, by-got, bad-got, got-inj, if-yes, if-no}
 use Rattle.shared_seven_bit_groups.specs.Groups.{AtMost, frontIn, front, groups, groupsOf, writeNumbers, readNumbers}
-use Rattle.shared_seven_bit_groups.proofs.Fronts.{count-is, groups-up, groups-length, numbers-bytes}
+use Rattle.shared_seven_bit_groups.proofs.GroupLaws.{count-is, groups-up, groups-length, numbers-bytes}
 use Rattle.shared_seven_bit_groups.proofs.Laws.{numbers-back, numbers-one}
-use Rattle.shared_seven_bit_groups.proofs.Places.{numbers-to}
-use Rattle.shared_seven_bit_groups.proofs.SoFar.{SoFar, numbers-so-far}
+use Rattle.shared_seven_bit_groups.proofs.PlaceLaws.{numbers-to}
+use Rattle.shared_seven_bit_groups.proofs.SoFarLaws.{SoFar, numbers-so-far}
 use Rattle.b3d_spec.specs.Rules.{version, slots, rowLimit}
 use Rattle.b3d_spec.specs.Answers.{roomFor}
 use Rattle.slip.specs.Slips.{limitsWithin, limits, firstOver, slipWithin, writeWithin, readWithin}
@@ -113,10 +113,6 @@ longest-is rows = omega (arith, first-two, same-longest 10 rows)
 pub longest-today : 2 + 10 * groupsOf rowLimit ≡ 32
 unfolding groupsOf groups front frontIn
 longest-today = refl
-
-pub longest-before : 2 + 10 * groupsOf 16383 ≡ 22
-unfolding groupsOf groups front frontIn
-longest-before = refl
 
 -- where a table has so many rows at most
 module _ (rows : ℕ) where

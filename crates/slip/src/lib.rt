@@ -126,8 +126,8 @@ pub fn read_slip(slip: &[u8]) -> Slip
     let mut i: usize = 0;
     while i < 12 {
         match shared_seven_bit_groups::read_number(slip, at, most(i)) {
-            Grouped::Not(_, p) => return refused(p),
-            Grouped::Is(n, next) => {
+            Grouped::Reject(_, p) => return refused(p),
+            Grouped::Accept(n, next) => {
                 numbers[i] = n;
                 at = next;
             }

@@ -7,7 +7,7 @@ use lib.ListN.{length, replicate}
 use lib.Dec.{leb, leb→le}
 use Rattle.wire.specs.Bytes.{AllBytes}
 use Rattle.layout.specs.Result.{Result, accept, reject}
-use Rattle.layout.proofs.Outs.{by-check}
+use Rattle.layout.proofs.ResultLaws.{by-check}
 use Rattle.shared_seven_bit_groups.specs.Groups.{AtMost, writeNumbers}
 use Rattle.b3d_spec.specs.declared.Mode.{Mode}
 use Rattle.b3d_spec.specs.declared.Mode.the-variants.{Lenient}
@@ -17,8 +17,8 @@ use Rattle.b3d_spec.specs.Scene.{Scene}
 use Rattle.b3d_spec.specs.Tables.{nodeTables, tables, counts}
 use Rattle.b3d_spec.proofs.AnswerLaws.{Small, judge-got, judge-lenient, read-got}
 use Rattle.b3d_spec.proofs.Files.FileLaws.{parse-fine}
-use Rattle.b3d_spec.proofs.Refusals.{read-number}
-use Rattle.b3d_spec.proofs.Fitting.{slots-few}
+use Rattle.b3d_spec.proofs.RefusalLaws.{read-number}
+use Rattle.b3d_spec.proofs.WellFormedLaws.{slots-few}
 use Rattle.slip.specs.Slips.{limits, slipFor, readSlip, limitsWithin}
 use Rattle.slip.proofs.SlipLaws.{written, one-slip}
 use Rattle.slip_of_b3d.specs.FileSlips.{sceneNumbers, fileSlip}

@@ -1,4 +1,4 @@
 -- The laws of the slip of a file.
-pub mod SlipOf
+pub mod SlipOfLaws
 pub mod FileLaws
 pub mod Cases

@@ -33,7 +33,7 @@ pub fn slip_of(file: &[u8], out: &mut [u8]) -> Written
     ensures { λ r. ⌜ r ≡ fileSlipAnswer (now (file .entry)) (now (out .entry)) ⌝ }
     ensures { λ _. ⌜ now (out .exit) ≡ fileSlipOutput (now (file .entry)) (now (out .entry)) ⌝ }
 {
-    let a = b3d_read_answer::judge(Mode::Lenient, file);
+    let a = b3d_read_answer::judge_answer(Mode::Lenient, file);
     if a.number != 0 {
         return Written {
             number: a.number,

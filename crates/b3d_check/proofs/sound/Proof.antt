@@ -9,9 +9,9 @@ use Rattle.b3d_check_table_lengths.specs.LentRooms.{Rooms}
 use Rattle.b3d_check_table_lengths.proofs.RoomLaws.{rooms-true}
 use Rattle.b3d_check.specs.Lent.{lentOf, Says}
 use Rattle.b3d_check.proofs.CheckLaws.{slots-eight, no-rooms, no-version, no-slots, no-textures, no-brushes, no-tree, by-colours}
-use Rattle.b3d_check.proofs.Verdict.{all-words, lent-typed, verdict}
+use Rattle.b3d_check.proofs.VerdictLaws.{all-words, lent-typed, verdict}
 use borrow.Author.Needs.{needs}
-use Rattle.wire.proofs.Words.{all-bytes}
+use Rattle.wire.proofs.WordLaws.{all-bytes}
 use Rattle.b3d_check.proofs.sound.Statement.{statement}
 use Rattle.b3d_check.proofs.sound.Tie as tie
 

@@ -2,7 +2,7 @@
 use Prim.Native.Nat.{_+_, _-_}
 use lib.ListN.{length}
 use Rattle.b3d_check_absent_words.specs.Zeros.{zerosAt}
-use Rattle.b3d_check_absent_words.proofs.Cleaning.{EveryLeft, every-laws}
+use Rattle.b3d_check_absent_words.proofs.CleanRowLaws.{EveryLeft, every-laws}
 use borrow.Author.Needs.{needs}
 use Rattle.b3d_check_absent_words.proofs.sets_clean.Statement.{statement}
 use Rattle.b3d_check_absent_words.proofs.sets_clean.Tie as tie

@@ -1,5 +1,5 @@
 -- `vertex_clean` looks at the runs that are left out.
-use Rattle.b3d_check_absent_words.proofs.Cleaning.{place-laws}
+use Rattle.b3d_check_absent_words.proofs.CleanRowLaws.{place-laws}
 use borrow.Author.Needs.{needs}
 use Rattle.b3d_check_absent_words.proofs.vertex_clean.Statement.{statement}
 use Rattle.b3d_check_absent_words.proofs.vertex_clean.Tie as tie

@@ -1,6 +1,6 @@
 -- `vertices_valid` looks at rows by the runs of a vertex.
-use Rattle.b3d_rule_row_masks.proofs.Masks.{known-runs}
-use Rattle.b3d_check_absent_words.proofs.Cleaning.{clean-known}
+use Rattle.b3d_rule_row_masks.proofs.MaskLaws.{known-runs}
+use Rattle.b3d_check_absent_words.proofs.CleanRowLaws.{clean-known}
 use borrow.Author.Needs.{needs}
 use Rattle.b3d_check_absent_words.proofs.vertices_valid.Statement.{statement}
 use Rattle.b3d_check_absent_words.proofs.vertices_valid.Tie as tie

@@ -1,7 +1,7 @@
 -- `zeros` looks at every word. The loop has `left` words to look at, which is its measure.
 use lib.ListN.{length, getD}
 use lib.Dec.{eqb}
-use Rattle.b3d_check_absent_words.proofs.Cleaning.{EveryLeft, every-laws}
+use Rattle.b3d_check_absent_words.proofs.CleanRowLaws.{EveryLeft, every-laws}
 use borrow.Author.Needs.{needs}
 use Rattle.b3d_check_absent_words.proofs.zeros.Statement.{statement}
 use Rattle.b3d_check_absent_words.proofs.zeros.Tie as tie

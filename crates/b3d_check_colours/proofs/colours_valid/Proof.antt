@@ -1,5 +1,5 @@
 -- `colours_valid` answers what the mode asks of brushes and vertices.
-use Rattle.b3d_check_colours.proofs.ColourModes.{colours-laws}
+use Rattle.b3d_check_colours.proofs.ColourModeLaws.{colours-laws}
 use borrow.Author.Needs.{needs}
 use Rattle.b3d_check_colours.proofs.colours_valid.Statement.{statement}
 use Rattle.b3d_check_colours.proofs.colours_valid.Tie as tie

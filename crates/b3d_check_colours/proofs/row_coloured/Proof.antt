@@ -1,5 +1,5 @@
 -- `row_coloured` answers `coloured` of the row by its cells.
-use Rattle.b3d_check_colours.proofs.ColourRows.{coloured-row}
+use Rattle.b3d_check_colours.proofs.ColourRowLaws.{coloured-row}
 use borrow.Author.Needs.{needs}
 use Rattle.b3d_check_colours.proofs.row_coloured.Statement.{statement}
 use Rattle.b3d_check_colours.proofs.row_coloured.Tie as tie

@@ -1,8 +1,8 @@
 -- `rows_coloured` looks at each row. The loop has passed those before i; its measure is how many are left.
 use Prim.Native.Nat.{_-_}
 use Rattle.b3d_spec.specs.Colours.{coloured}
-use Rattle.b3d_check_rows.proofs.Loops.{AllFrom, all-laws}
-use Rattle.b3d_check_colours.proofs.ColourRows.{row-among}
+use Rattle.b3d_check_rows.proofs.LoopLaws.{AllFrom, all-laws}
+use Rattle.b3d_check_colours.proofs.ColourRowLaws.{row-among}
 use borrow.Author.Needs.{needs}
 use Rattle.b3d_check_colours.proofs.rows_coloured.Statement.{statement}
 use Rattle.b3d_check_colours.proofs.rows_coloured.Tie as tie

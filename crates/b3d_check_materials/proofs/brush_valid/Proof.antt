@@ -1,5 +1,5 @@
 -- `brush_valid` answers `brushValid` of the row by its parts.
-use Rattle.b3d_check_rows.proofs.Ands.{ands}
+use Rattle.b3d_check_rows.proofs.AndLaws.{ands}
 use Rattle.b3d_check_materials.proofs.BrushLaws.{brush-parts}
 use borrow.Author.Needs.{needs}
 use Rattle.b3d_check_materials.proofs.brush_valid.Statement.{statement}

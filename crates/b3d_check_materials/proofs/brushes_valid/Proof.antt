@@ -1,7 +1,7 @@
 -- `brushes_valid` looks at each row. The loop has passed those before i; its measure is how many are left.
 use Prim.Native.Nat.{_-_}
 use Rattle.b3d_check_spec.specs.Check.{brushValid}
-use Rattle.b3d_check_rows.proofs.Loops.{AllFrom, all-laws}
+use Rattle.b3d_check_rows.proofs.LoopLaws.{AllFrom, all-laws}
 use borrow.Author.Needs.{needs}
 use Rattle.b3d_check_materials.proofs.brushes_valid.Statement.{statement}
 use Rattle.b3d_check_materials.proofs.brushes_valid.Tie as tie

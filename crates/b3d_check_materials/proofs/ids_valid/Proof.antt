@@ -3,7 +3,7 @@ use Prim.Native.Nat.{_-_}
 use Rattle.layout.specs.Rules.{holds}
 use Rattle.b3d_spec.specs.Rules.{textureId}
 use Rattle.b3d_check_rows.specs.Cells.{ofCell}
-use Rattle.b3d_check_rows.proofs.Loops.{AllFrom}
+use Rattle.b3d_check_rows.proofs.LoopLaws.{AllFrom}
 use Rattle.b3d_check_rows.proofs.CellLaws.{cell-laws}
 use borrow.Author.Needs.{needs}
 use Rattle.b3d_check_materials.proofs.ids_valid.Statement.{statement}

@@ -1,5 +1,5 @@
 -- `mesh_valid` answers `meshValid` by its parts.
-use Rattle.b3d_check_rows.proofs.Ands.{ands}
+use Rattle.b3d_check_rows.proofs.AndLaws.{ands}
 use Rattle.b3d_check_mesh.proofs.MeshLaws.{mesh-parts}
 use borrow.Author.Needs.{needs}
 use Rattle.b3d_check_mesh.proofs.mesh_valid.Statement.{statement}

@@ -1,5 +1,5 @@
 -- `node_valid` answers `nodeValid` by its parts.
-use Rattle.b3d_check_rows.proofs.Ands.{ands}
+use Rattle.b3d_check_rows.proofs.AndLaws.{ands}
 use Rattle.b3d_check_node.proofs.NodeLaws.{node-parts}
 use borrow.Author.Needs.{needs}
 use Rattle.b3d_check_node.proofs.node_valid.Statement.{statement}

@@ -1,7 +1,7 @@
 -- `groups_valid` looks at each row with its items. The loop has passed those before i; its measure is how many are left.
 use Prim.Native.Nat.{_-_}
 use Rattle.b3d_check_row_runs.specs.Items.{runWidth, runTest}
-use Rattle.b3d_check_row_runs.proofs.Runs.{RunsFrom, runs-next, runs-laws}
+use Rattle.b3d_check_row_runs.proofs.GroupLaws.{RunsFrom, runs-next, runs-laws}
 use borrow.Author.Needs.{needs}
 use Rattle.b3d_check_row_runs.proofs.groups_valid.Statement.{statement}
 use Rattle.b3d_check_row_runs.proofs.groups_valid.Tie as tie

@@ -1,5 +1,5 @@
 -- `key_list_valid` answers `keyListValid` of the row by its parts.
-use Rattle.b3d_check_rows.proofs.Ands.{ands}
+use Rattle.b3d_check_rows.proofs.AndLaws.{ands}
 use Rattle.b3d_check_row_runs.proofs.ItemLaws.{list-parts}
 use borrow.Author.Needs.{needs}
 use Rattle.b3d_check_row_runs.proofs.key_list_valid.Statement.{statement}

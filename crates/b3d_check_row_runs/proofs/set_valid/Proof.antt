@@ -1,5 +1,5 @@
 -- `set_valid` answers `setValid` of the row by its parts.
-use Rattle.b3d_check_rows.proofs.Ands.{ands}
+use Rattle.b3d_check_rows.proofs.AndLaws.{ands}
 use Rattle.b3d_check_row_runs.proofs.ItemLaws.{set-parts}
 use borrow.Author.Needs.{needs}
 use Rattle.b3d_check_row_runs.proofs.set_valid.Statement.{statement}

@@ -2,9 +2,9 @@
 use Prim.Native.Nat.{_-_}
 use Rattle.b3d_check_spec.specs.Check.{keeps}
 use Rattle.b3d_check_rows.specs.IdRows.{idWidth, idRow}
-use Rattle.b3d_check_rows.proofs.Rows.{row-room}
+use Rattle.b3d_check_rows.proofs.RowCellLaws.{row-room}
 use Rattle.b3d_check_rows.proofs.RowLaws.{id-fits, id-next}
-use Rattle.b3d_check_rows.proofs.Loops.{AllFrom, all-laws}
+use Rattle.b3d_check_rows.proofs.LoopLaws.{AllFrom, all-laws}
 use borrow.Author.Needs.{needs}
 use Rattle.b3d_check_rows.proofs.id_rows_valid.Statement.{statement}
 use Rattle.b3d_check_rows.proofs.id_rows_valid.Tie as tie

@@ -2,7 +2,7 @@
 use Prim.Native.Nat.{_-_}
 use lib.Dec.{ltb}
 use Rattle.b3d_check_rows.specs.Cells.{ofCell}
-use Rattle.b3d_check_rows.proofs.Loops.{AllFrom}
+use Rattle.b3d_check_rows.proofs.LoopLaws.{AllFrom}
 use Rattle.b3d_check_rows.proofs.CellLaws.{cell-laws}
 use borrow.Author.Needs.{needs}
 use Rattle.b3d_check_rows.proofs.text_valid.Statement.{statement}

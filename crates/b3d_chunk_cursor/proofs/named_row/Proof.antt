@@ -1,5 +1,5 @@
 -- `named_row` answers what `namedAt` finds.
-use Rattle.b3d_chunk_cursor.proofs.Names.{naming}
+use Rattle.b3d_chunk_cursor.proofs.NamedLaws.{naming}
 use borrow.Author.Needs.{needs}
 use Rattle.b3d_chunk_cursor.proofs.named_row.Statement.{statement}
 use Rattle.b3d_chunk_cursor.proofs.named_row.Tie as tie

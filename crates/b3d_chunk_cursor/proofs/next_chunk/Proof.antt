@@ -2,8 +2,8 @@
 use Prim.Native.Nat.{_-_}
 use mathlib.Core.Path.{sym, _∙_}
 use borrow.Author.Needs.{needs}
-use Rattle.wire.proofs.Found.{framed}
-use Rattle.b3d_chunk_cursor.proofs.Passing.{Passed, passing}
+use Rattle.wire.proofs.AnswerLaws.{framed}
+use Rattle.b3d_chunk_cursor.proofs.PassLaws.{Passed, passing}
 use Rattle.b3d_chunk_cursor.proofs.next_chunk.Statement.{statement}
 use Rattle.b3d_chunk_cursor.proofs.next_chunk.Tie as tie
 

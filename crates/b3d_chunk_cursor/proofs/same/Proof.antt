@@ -1,5 +1,5 @@
 -- `same` compares letters.
-use Rattle.b3d_chunk_cursor.proofs.Tagging.{same-letters}
+use Rattle.b3d_chunk_cursor.proofs.TagLaws.{same-letters}
 use borrow.Author.Needs.{needs}
 use Rattle.b3d_chunk_cursor.proofs.same.Statement.{statement}
 use Rattle.b3d_chunk_cursor.proofs.same.Tie as tie

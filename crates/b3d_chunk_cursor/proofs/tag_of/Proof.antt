@@ -1,5 +1,5 @@
 -- `tag_of` answers what `tagOf` gives.
-use Rattle.b3d_chunk_cursor.proofs.Tagging.{tagging}
+use Rattle.b3d_chunk_cursor.proofs.TagLaws.{tagging}
 use borrow.Author.Needs.{needs}
 use Rattle.b3d_chunk_cursor.proofs.tag_of.Statement.{statement}
 use Rattle.b3d_chunk_cursor.proofs.tag_of.Tie as tie

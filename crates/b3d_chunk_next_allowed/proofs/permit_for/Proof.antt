@@ -1,6 +1,6 @@
 -- `permit_for` says what the rule permits of what was found.
 use borrow.Author.Needs.{needs}
-use Rattle.b3d_chunk_next_allowed.proofs.Steps.{permits}
+use Rattle.b3d_chunk_next_allowed.proofs.PermitLaws.{permits}
 use Rattle.b3d_chunk_next_allowed.proofs.permit_for.Statement.{statement}
 use Rattle.b3d_chunk_next_allowed.proofs.permit_for.Tie as tie
 

@@ -1,6 +1,6 @@
 -- `enter` goes into a NODE.
 use borrow.Author.Needs.{needs}
-use Rattle.b3d_chunk_walk.proofs.Stepping.{node-laws}
+use Rattle.b3d_chunk_walk.proofs.FlatLaws.{node-laws}
 use Rattle.b3d_chunk_walk.proofs.enter.Statement.{statement}
 use Rattle.b3d_chunk_walk.proofs.enter.Tie as tie
 

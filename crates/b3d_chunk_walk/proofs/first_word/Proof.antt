@@ -1,5 +1,5 @@
 -- `first_word` reads the number that a body begins with.
-use Rattle.b3d_chunk_walk.proofs.Heads.{head-laws}
+use Rattle.b3d_chunk_walk.proofs.FirstWordLaws.{head-laws}
 use borrow.Author.Needs.{needs}
 use Rattle.b3d_chunk_walk.proofs.first_word.Statement.{statement}
 use Rattle.b3d_chunk_walk.proofs.first_word.Tie as tie

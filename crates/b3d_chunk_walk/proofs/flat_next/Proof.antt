@@ -1,6 +1,6 @@
 -- `flat_next` finds the next chunk of the flat run.
 use borrow.Author.Needs.{needs}
-use Rattle.b3d_chunk_walk.proofs.Stepping.{next-laws}
+use Rattle.b3d_chunk_walk.proofs.FlatLaws.{next-laws}
 use Rattle.b3d_chunk_walk.proofs.flat_next.Statement.{statement}
 use Rattle.b3d_chunk_walk.proofs.flat_next.Tie as tie
 

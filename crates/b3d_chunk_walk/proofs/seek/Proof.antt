@@ -1,6 +1,6 @@
 -- `seek` passes chunks until it finds one of the tag. Its measure is what is left.
 use Prim.Native.Nat.{_-_}
-use Rattle.b3d_chunk_walk.proofs.Seeking.{SeekLeft, seek-laws}
+use Rattle.b3d_chunk_walk.proofs.SeekLaws.{SeekLeft, seek-laws}
 use borrow.Author.Needs.{needs}
 use Rattle.b3d_chunk_walk.proofs.seek.Statement.{statement}
 use Rattle.b3d_chunk_walk.proofs.seek.Tie as tie

@@ -1,6 +1,6 @@
 -- `three_words` reads one number after the other.
 use borrow.Author.Needs.{needs}
-use Rattle.b3d_chunk_walk.proofs.Heads.{three-laws}
+use Rattle.b3d_chunk_walk.proofs.FirstWordLaws.{three-laws}
 use Rattle.b3d_chunk_walk.proofs.three_words.Statement.{statement}
 use Rattle.b3d_chunk_walk.proofs.three_words.Tie as tie
 

@@ -1,7 +1,7 @@
 -- `clear_each` goes from chunk to chunk. Its measure is what is left.
 use Prim.Native.Nat.{_-_}
 use Rattle.b3d_clear_spec.specs.Copies.{partCopy}
-use Rattle.b3d_clear_copied_chunks.proofs.Each.{EachLeft, each-laws}
+use Rattle.b3d_clear_copied_chunks.proofs.EachChunkLaws.{EachLeft, each-laws}
 use borrow.Author.Needs.{needs}
 use Rattle.b3d_clear_chunks.proofs.clear_each.Statement.{statement}
 use Rattle.b3d_clear_chunks.proofs.clear_each.Tie as tie

@@ -1,5 +1,5 @@
 -- `copy_chunk` copies the body behind its header.
-use Rattle.b3d_clear_copied_chunks.proofs.Chunking.{copy-laws}
+use Rattle.b3d_clear_copied_chunks.proofs.ChunkLaws.{copy-laws}
 use borrow.Author.Needs.{needs}
 use Rattle.b3d_clear_copied_chunks.proofs.copy_chunk.Statement.{statement}
 use Rattle.b3d_clear_copied_chunks.proofs.copy_chunk.Tie as tie

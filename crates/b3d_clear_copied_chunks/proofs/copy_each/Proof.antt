@@ -1,7 +1,7 @@
 -- `copy_each` goes from chunk to chunk. Its measure is what is left.
 use Prim.Native.Nat.{_-_}
 use Rattle.b3d_clear_spec.specs.Copies.{asIs}
-use Rattle.b3d_clear_copied_chunks.proofs.Each.{EachLeft, each-laws}
+use Rattle.b3d_clear_copied_chunks.proofs.EachChunkLaws.{EachLeft, each-laws}
 use borrow.Author.Needs.{needs}
 use Rattle.b3d_clear_copied_chunks.proofs.copy_each.Statement.{statement}
 use Rattle.b3d_clear_copied_chunks.proofs.copy_each.Tie as tie

@@ -1,5 +1,5 @@
 -- `copy_two` writes two parts, one after the other. Facts that lie far back are named.
-use Rattle.b3d_clear_copied_chunks.proofs.Chunking.{join-laws}
+use Rattle.b3d_clear_copied_chunks.proofs.ChunkLaws.{join-laws}
 use borrow.Author.Needs.{needs}
 use Rattle.b3d_clear_copied_chunks.proofs.copy_two.Statement.{statement}
 use Rattle.b3d_clear_copied_chunks.proofs.copy_two.Tie as tie

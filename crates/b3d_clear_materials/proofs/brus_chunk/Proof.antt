@@ -1,5 +1,5 @@
 -- `brus_chunk` writes the items behind the header and the slots.
-use Rattle.b3d_clear_copied_chunks.proofs.Chunking.{open-laws}
+use Rattle.b3d_clear_copied_chunks.proofs.ChunkLaws.{open-laws}
 use borrow.Author.Needs.{needs}
 use Rattle.b3d_clear_materials.proofs.brus_chunk.Statement.{statement}
 use Rattle.b3d_clear_materials.proofs.brus_chunk.Tie as tie

@@ -1,5 +1,5 @@
 -- `texs_chunk` writes the items behind the header.
-use Rattle.b3d_clear_copied_chunks.proofs.Chunking.{chunk-laws}
+use Rattle.b3d_clear_copied_chunks.proofs.ChunkLaws.{chunk-laws}
 use borrow.Author.Needs.{needs}
 use Rattle.b3d_clear_materials.proofs.texs_chunk.Statement.{statement}
 use Rattle.b3d_clear_materials.proofs.texs_chunk.Tie as tie

@@ -19,10 +19,10 @@ use Rattle.b3d_clear_nodes.proofs.+clear_node+clear_nodes+node_chunk.Ti
 use Rattle.b3d_spec.specs.declared.Tag.the-variants.{NODE}
 use Rattle.b3d_spec.specs.Tags.{code}
 use Rattle.b3d_clear_spec.specs.Copies.{nodeCopy}
-use Rattle.b3d_clear_copied_chunks.proofs.Chunking.{pair-laws, pair-sum-2, pair-sum-3, pair-asks, pair-done}
-use Rattle.b3d_clear_copied_chunks.proofs.Each.{EachLeft, each-laws}
+use Rattle.b3d_clear_copied_chunks.proofs.ChunkLaws.{pair-laws, pair-sum-2, pair-sum-3, pair-asks, pair-done}
+use Rattle.b3d_clear_copied_chunks.proofs.EachChunkLaws.{EachLeft, each-laws}
 use Rattle.b3d_clear_nodes.proofs.NodeLaws.{node-laws}
-use Rattle.b3d_spec_chunk_places.proofs.Cycles.{askedAt, askedBelow}
+use Rattle.b3d_spec_chunk_places.proofs.CycleLaws.{askedAt, askedBelow}
 use borrow.Author.Needs.{needs}
 
 abbrev μ-clear-node : Measures 2 clear-node-kinds.ps ℕ

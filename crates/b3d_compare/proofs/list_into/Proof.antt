@@ -1,6 +1,6 @@
 -- `list_into` counts the list, and puts it where there is room.
 use borrow.Author.Needs.{needs}
-use Rattle.b3d_compare.proofs.Comparing.{into-laws}
+use Rattle.b3d_compare.proofs.CompareLaws.{into-laws}
 use Rattle.b3d_compare.proofs.list_into.Statement.{statement}
 use Rattle.b3d_compare.proofs.list_into.Tie as tie
 

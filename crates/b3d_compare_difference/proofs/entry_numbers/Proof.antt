@@ -1,6 +1,6 @@
 -- `entry_numbers` by the cases of a difference.
 use borrow.Author.Needs.{needs}
-use Rattle.b3d_compare_difference.proofs.Values.{entry-laws}
+use Rattle.b3d_compare_difference.proofs.ValueLaws.{entry-laws}
 use Rattle.b3d_compare_difference.proofs.entry_numbers.Statement.{statement}
 use Rattle.b3d_compare_difference.proofs.entry_numbers.Tie as tie
 

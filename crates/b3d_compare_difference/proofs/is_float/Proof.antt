@@ -1,6 +1,6 @@
 -- `is_float` answers table by table.
 use borrow.Author.Needs.{needs}
-use Rattle.b3d_compare_difference.proofs.FloatWords.{float-laws}
+use Rattle.b3d_compare_difference.proofs.FloatWordLaws.{float-laws}
 use Rattle.b3d_compare_difference.proofs.is_float.Statement.{statement}
 use Rattle.b3d_compare_difference.proofs.is_float.Tie as tie
 

@@ -1,6 +1,6 @@
 -- `numbers` by its ways.
 use borrow.Author.Needs.{needs}
-use Rattle.b3d_compare_difference.proofs.Values.{number-laws}
+use Rattle.b3d_compare_difference.proofs.ValueLaws.{number-laws}
 use Rattle.b3d_compare_difference.proofs.numbers.Statement.{statement}
 use Rattle.b3d_compare_difference.proofs.numbers.Tie as tie
 

@@ -1,7 +1,7 @@
 -- `same_bytes` compares one byte a turn: those from i on are left.
 use Prim.Native.Nat.{_-_}
 use borrow.Author.Needs.{needs}
-use Rattle.b3d_compare_difference.proofs.Values.{BytesLeft, bytes-laws}
+use Rattle.b3d_compare_difference.proofs.ValueLaws.{BytesLeft, bytes-laws}
 use Rattle.b3d_compare_difference.proofs.same_bytes.Statement.{statement}
 use Rattle.b3d_compare_difference.proofs.same_bytes.Tie as tie
 

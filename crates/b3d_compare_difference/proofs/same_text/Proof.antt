@@ -1,6 +1,6 @@
 -- `same_text` by its ways.
 use borrow.Author.Needs.{needs}
-use Rattle.b3d_compare_difference.proofs.Values.{text-laws}
+use Rattle.b3d_compare_difference.proofs.ValueLaws.{text-laws}
 use Rattle.b3d_compare_difference.proofs.same_text.Statement.{statement}
 use Rattle.b3d_compare_difference.proofs.same_text.Tie as tie
 

@@ -1,6 +1,6 @@
 -- `span_of` by its ways.
 use borrow.Author.Needs.{needs}
-use Rattle.b3d_compare_difference.proofs.Values.{span-laws}
+use Rattle.b3d_compare_difference.proofs.ValueLaws.{span-laws}
 use Rattle.b3d_compare_difference.proofs.span_of.Statement.{statement}
 use Rattle.b3d_compare_difference.proofs.span_of.Tie as tie
 

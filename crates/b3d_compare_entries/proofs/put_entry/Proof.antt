@@ -1,6 +1,6 @@
 -- `put_entry` puts the numbers, then the texts.
 use borrow.Author.Needs.{needs}
-use Rattle.b3d_compare_entries.proofs.Entering.{entry-laws}
+use Rattle.b3d_compare_entries.proofs.EntryLaws.{entry-laws}
 use Rattle.b3d_compare_entries.proofs.put_entry.Statement.{statement}
 use Rattle.b3d_compare_entries.proofs.put_entry.Tie as tie
 

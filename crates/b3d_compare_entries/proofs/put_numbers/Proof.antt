@@ -1,7 +1,7 @@
 -- `put_numbers` puts one number a turn: those from i on are left.
 use Prim.Native.Nat.{_-_}
 use borrow.Author.Needs.{needs}
-use Rattle.b3d_compare_entries.proofs.Entering.{NumbersLeft, numbers-laws}
+use Rattle.b3d_compare_entries.proofs.EntryLaws.{NumbersLeft, numbers-laws}
 use Rattle.b3d_compare_entries.proofs.put_numbers.Statement.{statement}
 use Rattle.b3d_compare_entries.proofs.put_numbers.Tie as tie
 

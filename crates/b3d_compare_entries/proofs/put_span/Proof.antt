@@ -1,6 +1,6 @@
 -- `put_span` puts or counts the span's bytes.
 use borrow.Author.Needs.{needs}
-use Rattle.b3d_compare_entries.proofs.Entering.{span-laws}
+use Rattle.b3d_compare_entries.proofs.EntryLaws.{span-laws}
 use Rattle.b3d_compare_entries.proofs.put_span.Statement.{statement}
 use Rattle.b3d_compare_entries.proofs.put_span.Tie as tie
 

@@ -1,6 +1,6 @@
 -- `put_texts` by the cases of a difference.
 use borrow.Author.Needs.{needs}
-use Rattle.b3d_compare_entries.proofs.Entering.{texts-laws}
+use Rattle.b3d_compare_entries.proofs.EntryLaws.{texts-laws}
 use Rattle.b3d_compare_entries.proofs.put_texts.Statement.{statement}
 use Rattle.b3d_compare_entries.proofs.put_texts.Tie as tie
 

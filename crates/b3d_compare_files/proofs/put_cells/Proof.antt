@@ -1,7 +1,7 @@
 -- `put_cells` puts or counts the entries of one table a turn: those from k on are left.
 use Prim.Native.Nat.{_-_}
 use native.Mathlib.Omega.{arith}
-use Rattle.b3d_compare_files.proofs.Filing.{TablesLeft, tables-start, index-low, tables-first, tables-second, tables-few, tables-fit, tables-next, tables-same, tables-done}
+use Rattle.b3d_compare_files.proofs.FileLaws.{TablesLeft, tables-start, index-low, tables-first, tables-second, tables-few, tables-fit, tables-next, tables-same, tables-done}
 use borrow.Author.Needs.{needs}
 use Rattle.b3d_compare_files.proofs.put_cells.Statement.{statement}
 use Rattle.b3d_compare_files.proofs.put_cells.Tie as tie

@@ -1,5 +1,5 @@
 -- `put_list` puts or counts the entries of the twelve numbers, and where there are none those of the tables.
-use Rattle.b3d_compare_files.proofs.Filing.{list-laws}
+use Rattle.b3d_compare_files.proofs.FileLaws.{list-laws}
 use borrow.Author.Needs.{needs}
 use Rattle.b3d_compare_files.proofs.put_list.Statement.{statement}
 use Rattle.b3d_compare_files.proofs.put_list.Tie as tie

@@ -1,6 +1,6 @@
 -- `columns` stores the words that are there: those from w on are left.
 use Prim.Native.Nat.{_-_}
-use Rattle.b3d_compare_item_words.proofs.Columning.{ColumnsLeft, columns-laws}
+use Rattle.b3d_compare_item_words.proofs.ColumnLaws.{ColumnsLeft, columns-laws}
 use Rattle.b3d_compare_item_words.specs.ItemWords.{itemHas}
 use borrow.Author.Needs.{needs}
 use Rattle.b3d_compare_item_words.proofs.columns.Statement.{statement}

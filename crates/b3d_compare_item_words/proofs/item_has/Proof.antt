@@ -1,5 +1,5 @@
 -- `item_has` by its ways.
-use Rattle.b3d_compare_item_words.proofs.Columning.{has-laws}
+use Rattle.b3d_compare_item_words.proofs.ColumnLaws.{has-laws}
 use borrow.Author.Needs.{needs}
 use Rattle.b3d_compare_item_words.proofs.item_has.Statement.{statement}
 use Rattle.b3d_compare_item_words.proofs.item_has.Tie as tie

@@ -1,5 +1,5 @@
 -- `key_has` by its ways.
-use Rattle.b3d_compare_item_words.proofs.Columning.{key-laws}
+use Rattle.b3d_compare_item_words.proofs.ColumnLaws.{key-laws}
 use borrow.Author.Needs.{needs}
 use Rattle.b3d_compare_item_words.proofs.key_has.Statement.{statement}
 use Rattle.b3d_compare_item_words.proofs.key_has.Tie as tie

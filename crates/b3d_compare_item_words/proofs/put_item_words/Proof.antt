@@ -1,6 +1,6 @@
 -- `put_item_words` puts one word a turn: those from i on are left.
 use Prim.Native.Nat.{_-_}
-use Rattle.b3d_compare_item_words.proofs.WordPutting.{WordsLeft, words-laws}
+use Rattle.b3d_compare_item_words.proofs.WordEntryLaws.{WordsLeft, words-laws}
 use borrow.Author.Needs.{needs}
 use Rattle.b3d_compare_item_words.proofs.put_item_words.Statement.{statement}
 use Rattle.b3d_compare_item_words.proofs.put_item_words.Tie as tie

@@ -1,5 +1,5 @@
 -- `put_word` by its ways.
-use Rattle.b3d_compare_item_words.proofs.WordPutting.{word-laws}
+use Rattle.b3d_compare_item_words.proofs.WordEntryLaws.{word-laws}
 use borrow.Author.Needs.{needs}
 use Rattle.b3d_compare_item_words.proofs.put_word.Statement.{statement}
 use Rattle.b3d_compare_item_words.proofs.put_word.Tie as tie

@@ -1,5 +1,5 @@
 -- `vertex_has` by its ways.
-use Rattle.b3d_compare_item_words.proofs.Columning.{vertex-laws}
+use Rattle.b3d_compare_item_words.proofs.ColumnLaws.{vertex-laws}
 use borrow.Author.Needs.{needs}
 use Rattle.b3d_compare_item_words.proofs.vertex_has.Statement.{statement}
 use Rattle.b3d_compare_item_words.proofs.vertex_has.Tie as tie

@@ -1,6 +1,6 @@
 -- `put_pairs` puts the entries of one pair a turn: the items from p and q on are left.
 use Prim.Native.Nat.{_-_}
-use Rattle.b3d_compare_items.proofs.Pairing.{PairsLeft, step-small, pairs-start, pairs-done, pairs-stop, pairs-first, pairs-second, pairs-wide, pairs-most, pairs-fit, pairs-next, pairs-less}
+use Rattle.b3d_compare_items.proofs.PairLaws.{PairsLeft, step-small, pairs-start, pairs-done, pairs-stop, pairs-first, pairs-second, pairs-wide, pairs-most, pairs-fit, pairs-next, pairs-less}
 use borrow.Author.Needs.{needs}
 use Rattle.b3d_compare_items.proofs.put_pairs.Statement.{statement}
 use Rattle.b3d_compare_items.proofs.put_pairs.Tie as tie

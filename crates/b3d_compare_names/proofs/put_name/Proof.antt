@@ -1,6 +1,6 @@
 -- `put_name` by its ways.
 use borrow.Author.Needs.{needs}
-use Rattle.b3d_compare_names.proofs.Naming.{name-laws}
+use Rattle.b3d_compare_names.proofs.NameLaws.{name-laws}
 use Rattle.b3d_compare_names.proofs.put_name.Statement.{statement}
 use Rattle.b3d_compare_names.proofs.put_name.Tie as tie
 

@@ -1,6 +1,6 @@
 -- `row_names` by its ways.
 use borrow.Author.Needs.{needs}
-use Rattle.b3d_compare_names.proofs.Naming.{names-laws}
+use Rattle.b3d_compare_names.proofs.NameLaws.{names-laws}
 use Rattle.b3d_compare_names.proofs.row_names.Statement.{statement}
 use Rattle.b3d_compare_names.proofs.row_names.Tie as tie
 

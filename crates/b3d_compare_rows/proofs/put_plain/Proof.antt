@@ -1,7 +1,7 @@
 -- `put_plain` puts one word a turn: those from w on are left.
 use Prim.Native.Nat.{_-_}
 use borrow.Author.Needs.{needs}
-use Rattle.b3d_compare_rows.proofs.Putting.{WordsLeft, plain-laws}
+use Rattle.b3d_compare_rows.proofs.PutLaws.{WordsLeft, plain-laws}
 use Rattle.b3d_compare_rows.proofs.put_plain.Statement.{statement}
 use Rattle.b3d_compare_rows.proofs.put_plain.Tie as tie
 

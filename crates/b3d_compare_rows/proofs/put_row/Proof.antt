@@ -1,6 +1,6 @@
 -- `put_row` by its ways.
 use borrow.Author.Needs.{needs}
-use Rattle.b3d_compare_rows.proofs.Putting.{row-laws}
+use Rattle.b3d_compare_rows.proofs.PutLaws.{row-laws}
 use Rattle.b3d_compare_rows.proofs.put_row.Statement.{statement}
 use Rattle.b3d_compare_rows.proofs.put_row.Tie as tie
 

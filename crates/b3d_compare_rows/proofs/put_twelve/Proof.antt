@@ -1,6 +1,6 @@
 -- `put_twelve` lends both rows.
 use borrow.Author.Needs.{needs}
-use Rattle.b3d_compare_rows.proofs.Putting.{twelve-long}
+use Rattle.b3d_compare_rows.proofs.PutLaws.{twelve-long}
 use Rattle.b3d_compare_rows.proofs.put_twelve.Statement.{statement}
 use Rattle.b3d_compare_rows.proofs.put_twelve.Tie as tie
 

@@ -1,6 +1,6 @@
 -- `put_word` by its ways.
 use borrow.Author.Needs.{needs}
-use Rattle.b3d_compare_rows.proofs.Putting.{word-laws}
+use Rattle.b3d_compare_rows.proofs.PutLaws.{word-laws}
 use Rattle.b3d_compare_rows.proofs.put_word.Statement.{statement}
 use Rattle.b3d_compare_rows.proofs.put_word.Tie as tie
 

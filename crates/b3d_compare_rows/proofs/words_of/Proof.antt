@@ -1,6 +1,6 @@
 -- `words_of` reads the length from a constant.
 use borrow.Author.Needs.{needs}
-use Rattle.b3d_compare_rows.proofs.Rowing.{words-laws}
+use Rattle.b3d_compare_rows.proofs.RowLaws.{words-laws}
 use Rattle.b3d_compare_rows.proofs.words_of.Statement.{statement}
 use Rattle.b3d_compare_rows.proofs.words_of.Tie as tie
 

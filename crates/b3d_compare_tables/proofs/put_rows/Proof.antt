@@ -1,6 +1,6 @@
 -- `put_rows` puts the entries of the items of two open chunks, or those of a row of each file.
-use Rattle.b3d_compare_tables.proofs.Places.{pairs-are, pairs-fit}
-use Rattle.b3d_compare_tables.proofs.Turning.{run-turn}
+use Rattle.b3d_compare_tables.proofs.PlaceLaws.{pairs-are, pairs-fit}
+use Rattle.b3d_compare_tables.proofs.RowStepLaws.{run-turn}
 use borrow.Author.Needs.{needs}
 use Rattle.b3d_compare_tables.proofs.put_rows.Statement.{statement}
 use Rattle.b3d_compare_tables.proofs.put_rows.Tie as tie

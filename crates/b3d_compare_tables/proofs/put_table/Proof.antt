@@ -1,7 +1,7 @@
 -- `put_table` puts the entries of some rows a turn: those from r on are left.
 use Prim.Native.Nat.{_-_}
-use Rattle.b3d_compare_tables.proofs.Places.{file-laws, row-long, row-long-2, row-most, row-some, row-some-2, rows-sum, rows-less}
-use Rattle.b3d_compare_tables.proofs.Turning.{PutLeft, left-laws, left-turns}
+use Rattle.b3d_compare_tables.proofs.PlaceLaws.{file-laws, row-long, row-long-2, row-most, row-some, row-some-2, rows-sum, rows-less}
+use Rattle.b3d_compare_tables.proofs.RowStepLaws.{PutLeft, left-laws, left-turns}
 use borrow.Author.Needs.{needs}
 use Rattle.b3d_compare_tables.proofs.put_table.Statement.{statement}
 use Rattle.b3d_compare_tables.proofs.put_table.Tie as tie

@@ -2,7 +2,7 @@
 use native.Mathlib.Omega.{arith}
 use Rattle.b3d_judge.proofs.JudgeLaws.{no-bytes}
 use borrow.Author.Needs.{needs}
-use Rattle.wire.proofs.Words.{all-bytes}
+use Rattle.wire.proofs.WordLaws.{all-bytes}
 use Rattle.b3d_judge.proofs.are_bytes.Statement.{statement}
 use Rattle.b3d_judge.proofs.are_bytes.Tie as tie
 

@@ -1,6 +1,6 @@
 -- `judge_animation` judges KEYS and ANIM. The loop is at a cursor, with how far the chunks have come and the tally of the keys before; its measure is what is left.
 use Prim.Native.Nat.{_-_}
-use Rattle.b3d_judge_animation.proofs.Moving.{Moving, moving-laws}
+use Rattle.b3d_judge_animation.proofs.AnimationLaws.{Moving, moving-laws}
 use borrow.Author.Needs.{needs}
 use Rattle.b3d_judge_animation.proofs.judge_animation.Statement.{statement}
 use Rattle.b3d_judge_animation.proofs.judge_animation.Tie as tie

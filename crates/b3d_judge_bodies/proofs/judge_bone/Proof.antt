@@ -1,7 +1,7 @@
 -- `judge_bone` answers what `readBone` reads.
 use borrow.Author.Needs.{needs}
 use Rattle.b3d_judge_bodies.proofs.IdLaws.{bone-laws}
-use Rattle.b3d_judge_bodies.proofs.Judging.{counted-few}
+use Rattle.b3d_judge_bodies.proofs.AnswerLaws.{counted-few}
 use Rattle.b3d_judge_bodies.proofs.judge_bone.Statement.{statement}
 use Rattle.b3d_judge_bodies.proofs.judge_bone.Tie as tie
 

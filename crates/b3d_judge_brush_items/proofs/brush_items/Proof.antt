@@ -2,8 +2,8 @@
 -- measure is what is left.
 use Prim.Native.Nat.{_-_}
 use borrow.Author.Needs.{needs}
-use Rattle.b3d_chunk_cursor.proofs.Names.{named-rows}
-use Rattle.b3d_judge_brush_items.proofs.Brushes.{Brushes, brushes, brushes-done, brushes-room, ids-room, ids-inside, ids-fit, id-fits, id-before, brushes-bad, brushes-one}
+use Rattle.b3d_chunk_cursor.proofs.NamedLaws.{named-rows}
+use Rattle.b3d_judge_brush_items.proofs.BrushLaws.{Brushes, brushes, brushes-done, brushes-room, ids-room, ids-inside, ids-fit, id-fits, id-before, brushes-bad, brushes-one}
 use Rattle.b3d_judge_brush_items.proofs.brush_items.Statement.{statement}
 use Rattle.b3d_judge_brush_items.proofs.brush_items.Tie as tie
 

@@ -2,7 +2,7 @@
 -- what is left.
 use Prim.Native.Nat.{_-_, _+_}
 use Rattle.wire.specs.Cursors.{left}
-use Rattle.wire.proofs.Left.{span}
+use Rattle.wire.proofs.LeftLaws.{span}
 use Rattle.layout.specs.Rules.{unit}
 use Rattle.b3d_judge_items.specs.Items.{colourItems, counted}
 use borrow.Author.Needs.{needs}

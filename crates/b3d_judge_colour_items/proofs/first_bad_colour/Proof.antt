@@ -3,7 +3,7 @@ use Prim.Native.Nat.{_-_, _≤_}
 use native.Mathlib.Nat.{le-of-lt}
 use borrow.Author.Needs.{needs}
 use Rattle.layout.specs.Rules.{unit}
-use Rattle.shared_ids.proofs.Ids.{Before, firsts}
+use Rattle.shared_ids.proofs.IdLaws.{Before, firsts}
 use Rattle.b3d_judge_colour_items.proofs.first_bad_colour.Statement.{statement}
 use Rattle.b3d_judge_colour_items.proofs.first_bad_colour.Tie as tie
 

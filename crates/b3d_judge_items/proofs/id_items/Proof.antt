@@ -1,7 +1,7 @@
 -- `id_items` answers the items that `idItems` finds, counted. The loop has passed whole items with good ids; its measure is what is left.
 use Prim.Native.Nat.{_-_}
 use Rattle.wire.specs.Cursors.{left}
-use Rattle.wire.proofs.Left.{span}
+use Rattle.wire.proofs.LeftLaws.{span}
 use Rattle.layout.specs.Rules.{names}
 use Rattle.b3d_judge_items.specs.Items.{idItems, counted}
 use borrow.Author.Needs.{needs}

@@ -1,7 +1,7 @@
 -- `whole_items` answers what `dividedAt` finds.
 use native.Mathlib.Omega.{arith}
 use borrow.Author.Needs.{needs}
-use Rattle.b3d_judge_items.proofs.Divided.{divided-room, dividing}
+use Rattle.b3d_judge_items.proofs.DividedLaws.{divided-room, dividing}
 use Rattle.b3d_judge_items.proofs.whole_items.Statement.{statement}
 use Rattle.b3d_judge_items.proofs.whole_items.Tie as tie
 

@@ -1,5 +1,5 @@
 -- `long_table_or` compares with the row limit.
-use Rattle.b3d_judge_limits.proofs.Limits.{over-yes, over-no}
+use Rattle.b3d_judge_limits.proofs.LimitLaws.{over-yes, over-no}
 use borrow.Author.Needs.{needs}
 use Rattle.b3d_judge_limits.proofs.long_table_or.Statement.{statement}
 use Rattle.b3d_judge_limits.proofs.long_table_or.Tie as tie

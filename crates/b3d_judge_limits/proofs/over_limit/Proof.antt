@@ -1,6 +1,6 @@
 -- `over_limit` finds the first table over the limit.
 use borrow.Author.Needs.{needs}
-use Rattle.b3d_judge_limits.proofs.Limits.{over-ten}
+use Rattle.b3d_judge_limits.proofs.LimitLaws.{over-ten}
 use Rattle.b3d_judge_limits.proofs.over_limit.Statement.{statement}
 use Rattle.b3d_judge_limits.proofs.over_limit.Tie as tie
 

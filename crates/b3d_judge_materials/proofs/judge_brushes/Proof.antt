@@ -1,7 +1,7 @@
 -- `judge_brushes` answers `readBrushes`, its slots and its tally.
 use borrow.Author.Needs.{needs}
-use Rattle.wire.proofs.Found.{numbers}
-use Rattle.b3d_judge_materials.proofs.Slots.{brus}
+use Rattle.wire.proofs.AnswerLaws.{numbers}
+use Rattle.b3d_judge_materials.proofs.SlotLaws.{brus}
 use Rattle.b3d_judge_materials.proofs.judge_brushes.Statement.{statement}
 use Rattle.b3d_judge_materials.proofs.judge_brushes.Tie as tie
 

@@ -1,8 +1,8 @@
 -- `judge_textures` answers `readTextures`. The loop has passed whole textures; its measure is what is left.
 use Prim.Native.Nat.{_-_}
 use borrow.Author.Needs.{needs}
-use Rattle.b3d_chunk_cursor.proofs.Names.{named-rows}
-use Rattle.b3d_judge_materials.proofs.Textures.{Textures, textures}
+use Rattle.b3d_chunk_cursor.proofs.NamedLaws.{named-rows}
+use Rattle.b3d_judge_materials.proofs.TextureLaws.{Textures, textures}
 use Rattle.b3d_judge_materials.proofs.judge_textures.Statement.{statement}
 use Rattle.b3d_judge_materials.proofs.judge_textures.Tie as tie
 

@@ -17,7 +17,7 @@ use Rattle.b3d_judge_nodes.proofs.+judge_node+judge_nodes.Tie.{close}
 use Rattle.b3d_spec.specs.Parse.{readNode}
 use Rattle.b3d_judge_node.specs.Answers.{aboveOf}
 use Rattle.b3d_judge_nodes.proofs.NodeLaws.{node-laws, Noding, noding}
-use Rattle.b3d_spec_chunk_places.proofs.Cycles.{askedAt, askedBelow}
+use Rattle.b3d_spec_chunk_places.proofs.CycleLaws.{askedAt, askedBelow}
 use borrow.Author.Needs.{needs}
 
 abbrev μ-judge-node : Measures 1 judge-node-kinds.ps ℕ

@@ -1,5 +1,5 @@
 -- `file_label` answers the label of a BB3D.
-use Rattle.b3d_label.proofs.Roots.{file-laws}
+use Rattle.b3d_label.proofs.RootLaws.{file-laws}
 use borrow.Author.Needs.{needs}
 use Rattle.b3d_label.proofs.file_label.Statement.{statement}
 use Rattle.b3d_label.proofs.file_label.Tie as tie

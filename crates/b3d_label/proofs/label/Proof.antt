@@ -1,5 +1,5 @@
 -- `label` answers the label of a file.
-use Rattle.b3d_label.proofs.Files.{label-laws}
+use Rattle.b3d_label.proofs.FileLaws.{label-laws}
 use borrow.Author.Needs.{needs}
 use Rattle.b3d_label.proofs.label.Statement.{statement}
 use Rattle.b3d_label.proofs.label.Tie as tie

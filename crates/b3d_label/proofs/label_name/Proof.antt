@@ -1,5 +1,5 @@
 -- `label_name` gives the part of the file that the label names.
-use Rattle.b3d_label.proofs.Files.{label-laws}
+use Rattle.b3d_label.proofs.FileLaws.{label-laws}
 use borrow.Author.Needs.{needs}
 use Rattle.b3d_label.proofs.label_name.Statement.{statement}
 use Rattle.b3d_label.proofs.label_name.Tie as tie

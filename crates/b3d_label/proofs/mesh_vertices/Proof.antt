@@ -1,5 +1,5 @@
 -- `mesh_vertices` counts the vertices of a MESH.
-use Rattle.b3d_label.proofs.Vertices.{mesh-laws}
+use Rattle.b3d_label.proofs.VertexLaws.{mesh-laws}
 use borrow.Author.Needs.{needs}
 use Rattle.b3d_label.proofs.mesh_vertices.Statement.{statement}
 use Rattle.b3d_label.proofs.mesh_vertices.Tie as tie

@@ -1,5 +1,5 @@
 -- `root_label` answers the label of a root.
-use Rattle.b3d_label.proofs.Roots.{root-label-laws}
+use Rattle.b3d_label.proofs.RootLaws.{root-label-laws}
 use borrow.Author.Needs.{needs}
 use Rattle.b3d_label.proofs.root_label.Statement.{statement}
 use Rattle.b3d_label.proofs.root_label.Tie as tie

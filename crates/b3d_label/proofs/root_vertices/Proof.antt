@@ -1,5 +1,5 @@
 -- `root_vertices` looks at the first known chunk of a root.
-use Rattle.b3d_label.proofs.Vertices.{root-laws}
+use Rattle.b3d_label.proofs.VertexLaws.{root-laws}
 use borrow.Author.Needs.{needs}
 use Rattle.b3d_label.proofs.root_vertices.Statement.{statement}
 use Rattle.b3d_label.proofs.root_vertices.Tie as tie

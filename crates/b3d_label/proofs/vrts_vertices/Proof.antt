@@ -1,5 +1,5 @@
 -- `vrts_vertices` counts the vertices of a VRTS.
-use Rattle.b3d_label.proofs.Vertices.{vrts-cut, vrts-flags, vrts-sets, vrts-size, vrts-bad, vrts-all}
+use Rattle.b3d_label.proofs.VertexLaws.{vrts-cut, vrts-flags, vrts-sets, vrts-size, vrts-bad, vrts-all}
 use borrow.Author.Needs.{needs}
 use Rattle.b3d_label.proofs.vrts_vertices.Statement.{statement}
 use Rattle.b3d_label.proofs.vrts_vertices.Tie as tie

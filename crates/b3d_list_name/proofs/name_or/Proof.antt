@@ -1,6 +1,6 @@
 -- `name_or` gives what `nameOr` names.
 use borrow.Author.Needs.{needs}
-use Rattle.b3d_list_name.proofs.Names.{naming}
+use Rattle.b3d_list_name.proofs.NameLaws.{naming}
 use Rattle.b3d_list_name.proofs.name_or.Statement.{statement}
 use Rattle.b3d_list_name.proofs.name_or.Tie as tie
 

@@ -1,5 +1,5 @@
 -- `list` has room for every listing.
-use Rattle.b3d_list_spec.proofs.Lengths.{list-whole}
+use Rattle.b3d_list_spec.proofs.LengthLaws.{list-whole}
 use borrow.Author.Needs.{needs}
 use Rattle.b3d_list_output.proofs.list.Statement.{statement}
 use Rattle.b3d_list_output.proofs.list.Tie as tie

@@ -1,5 +1,5 @@
 -- `put` stores the byte where there is room.
-use Rattle.b3d_list_text.proofs.Putting.{put-laws}
+use Rattle.b3d_list_text.proofs.PutLaws.{put-laws}
 use borrow.Author.Needs.{needs}
 use Rattle.b3d_list_text.proofs.put.Statement.{statement}
 use Rattle.b3d_list_text.proofs.put.Tie as tie

@@ -1,11 +1,11 @@
 -- `kept_items` counts the items that `laxItems` leaves. The loop has passed whole items; its measure is what is left.
 use Prim.Native.Nat.{_-_}
 use Rattle.wire.specs.Cursors.{left}
-use Rattle.wire.proofs.Left.{span}
+use Rattle.wire.proofs.LeftLaws.{span}
 use Rattle.shared_ids.specs.Ids.{idRow}
 use Rattle.b3d_judge_items.specs.Items.{counted}
 use Rattle.b3d_mend_judge_items.specs.Lax.{laxItems}
-use Rattle.b3d_mend_judge_items.proofs.Keeping.{Keeping, keeping}
+use Rattle.b3d_mend_judge_items.proofs.KeepLaws.{Keeping, keeping}
 use borrow.Author.Needs.{needs}
 use Rattle.b3d_mend_judge_items.proofs.kept_items.Statement.{statement}
 use Rattle.b3d_mend_judge_items.proofs.kept_items.Tie as tie

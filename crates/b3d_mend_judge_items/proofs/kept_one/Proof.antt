@@ -1,5 +1,5 @@
 -- `kept_one` says whether an item stays.
-use Rattle.b3d_mend_judge_items.proofs.Keeping.{one-laws}
+use Rattle.b3d_mend_judge_items.proofs.KeepLaws.{one-laws}
 use borrow.Author.Needs.{needs}
 use Rattle.b3d_mend_judge_items.proofs.kept_one.Statement.{statement}
 use Rattle.b3d_mend_judge_items.proofs.kept_one.Tie as tie

@@ -1,5 +1,5 @@
 -- `lax_bone` answers what `laxBone` reads.
-use Rattle.b3d_judge_bodies.proofs.Judging.{counted-few}
+use Rattle.b3d_judge_bodies.proofs.AnswerLaws.{counted-few}
 use Rattle.b3d_mend_judge_items.proofs.KeptLaws.{bone-laws}
 use borrow.Author.Needs.{needs}
 use Rattle.b3d_mend_judge_items.proofs.lax_bone.Statement.{statement}

@@ -1,6 +1,6 @@
 -- `lax_triangles` answers what `laxTriangles` reads.
-use Rattle.b3d_spec_chunk_places.proofs.Heads.{heads}
-use Rattle.b3d_judge_bodies.proofs.Judging.{counted-few}
+use Rattle.b3d_spec_chunk_places.proofs.HeadLaws.{heads}
+use Rattle.b3d_judge_bodies.proofs.AnswerLaws.{counted-few}
 use Rattle.b3d_mend_judge_items.proofs.KeptLaws.{set-laws}
 use borrow.Author.Needs.{needs}
 use Rattle.b3d_mend_judge_items.proofs.lax_triangles.Statement.{statement}

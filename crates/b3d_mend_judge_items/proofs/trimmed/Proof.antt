@@ -1,7 +1,7 @@
 -- `trimmed` leaves spare bytes out. The loop has passed whole chunks; its measure is what is left.
 use Prim.Native.Nat.{_-_}
-use Rattle.wire.proofs.Found.{headers}
-use Rattle.b3d_mend_judge_items.proofs.Trimming.{Passing, trimming}
+use Rattle.wire.proofs.AnswerLaws.{headers}
+use Rattle.b3d_mend_judge_items.proofs.TrimLaws.{Passing, trimming}
 use borrow.Author.Needs.{needs}
 use Rattle.b3d_mend_judge_items.proofs.trimmed.Statement.{statement}
 use Rattle.b3d_mend_judge_items.proofs.trimmed.Tie as tie

@@ -17,7 +17,7 @@ use Rattle.b3d_mend_judge_tree.proofs.+lax_node+lax_nodes.Tie.{close}
 use Rattle.b3d_mend_judge_items.specs.Lax.{laxNode}
 use Rattle.b3d_judge_node.specs.Answers.{aboveOf}
 use Rattle.b3d_mend_judge_tree.proofs.NodeLaws.{node-laws, Noding, noding}
-use Rattle.b3d_spec_chunk_places.proofs.Cycles.{askedAt, askedBelow}
+use Rattle.b3d_spec_chunk_places.proofs.CycleLaws.{askedAt, askedBelow}
 use borrow.Author.Needs.{needs}
 
 abbrev μ-lax-node : Measures 1 lax-node-kinds.ps ℕ

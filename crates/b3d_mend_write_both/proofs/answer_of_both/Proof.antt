@@ -1,5 +1,5 @@
 -- `answer_of_both` looks whether the mended file and the report have room.
-use Rattle.b3d_mend_write_both.proofs.BothAnswers.{both-answers}
+use Rattle.b3d_mend_write_both.proofs.BothAnswerLaws.{both-answers}
 use borrow.Author.Needs.{needs}
 use Rattle.b3d_mend_write_both.proofs.answer_of_both.Statement.{statement}
 use Rattle.b3d_mend_write_both.proofs.answer_of_both.Tie as tie

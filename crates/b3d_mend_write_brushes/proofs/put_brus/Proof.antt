@@ -1,5 +1,5 @@
 -- `put_brus` puts or counts a BRUS.
-use Rattle.b3d_mend_write_brushes.proofs.BrusPuts.{brus-laws, brus-four, brus-inside, brus-small, brus-first, brus-second, brus-done, brus-cut, brus-over}
+use Rattle.b3d_mend_write_brushes.proofs.BrusPutLaws.{brus-laws, brus-four, brus-inside, brus-small, brus-first, brus-second, brus-done, brus-cut, brus-over}
 use borrow.Author.Needs.{needs}
 use Rattle.b3d_mend_write_brushes.proofs.put_brus.Statement.{statement}
 use Rattle.b3d_mend_write_brushes.proofs.put_brus.Tie as tie

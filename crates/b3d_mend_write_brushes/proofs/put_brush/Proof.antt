@@ -1,6 +1,6 @@
 -- `put_brush` puts or counts a brush.
 use borrow.Author.Needs.{needs}
-use Rattle.b3d_mend_write_brushes.proofs.BrushPuts.{brush-laws, brush-front, brush-ids, brush-first, brush-second, brush-done}
+use Rattle.b3d_mend_write_brushes.proofs.BrushPutLaws.{brush-laws, brush-front, brush-ids, brush-first, brush-second, brush-done}
 use Rattle.b3d_mend_write_brushes.proofs.put_brush.Statement.{statement}
 use Rattle.b3d_mend_write_brushes.proofs.put_brush.Tie as tie
 

@@ -1,6 +1,6 @@
 -- `put_brushes` puts or counts brushes to the end. The loop has put those before a cursor; its measure is what is left.
 use Prim.Native.Nat.{_-_}
-use Rattle.b3d_mend_write_brushes.proofs.ListPuts.{Brushes, brushes-laws, brush-at, brush-fits, brush-less, brushes-next}
+use Rattle.b3d_mend_write_brushes.proofs.ListPutLaws.{Brushes, brushes-laws, brush-at, brush-fits, brush-less, brushes-next}
 use borrow.Author.Needs.{needs}
 use Rattle.b3d_mend_write_brushes.proofs.put_brushes.Statement.{statement}
 use Rattle.b3d_mend_write_brushes.proofs.put_brushes.Tie as tie

@@ -1,7 +1,7 @@
 -- `put_ids` puts or counts ids. The loop has put those before the i-th; its measure is how many are left.
 use Prim.Native.Nat.{_-_}
 use borrow.Author.Needs.{needs}
-use Rattle.b3d_mend_write_brushes.proofs.IdPuts.{Ids, ids-laws}
+use Rattle.b3d_mend_write_brushes.proofs.IdPutLaws.{Ids, ids-laws}
 use Rattle.b3d_mend_write_brushes.proofs.put_ids.Statement.{statement}
 use Rattle.b3d_mend_write_brushes.proofs.put_ids.Tie as tie
 

@@ -22,7 +22,7 @@ use Rattle.b3d_mend_write_leaves.proofs.walk_leaf.Reads as walk-leaf-reads
 use Rattle.wire.proofs.Cursor.header.Reads as header-reads
 use Rattle.b3d_mend_write_chunks.proofs.+walk_body+walk_inside.{statement}
 use Rattle.b3d_mend_write_chunks.proofs.+walk_body+walk_inside.Tie.{close}
-use Rattle.b3d_spec_chunk_places.proofs.Cycles.{askedAt, askedBelow}
+use Rattle.b3d_spec_chunk_places.proofs.CycleLaws.{askedAt, askedBelow}
 use Rattle.b3d_mend_write_chunks.proofs.BodyLaws.{body-inside, flat-fits, flat-done, nothing-done, node-levels, node-order, node-room, node-first, mesh-levels, mesh-room, mesh-first, node-less, node-inside, node-second, node-done, mesh-less, mesh-inside, mesh-second, mesh-done}
 use Rattle.b3d_mend_write_chunks.proofs.InsideLaws.{Going, going-start, going-inside, going-end, cut-fits, cut-done, whole-order, whole-room, other-fits, other-next, known-small, whole-less, whole-body, known-body, known-head, known-next, walked-order}
 use borrow.Author.Needs.{needs}

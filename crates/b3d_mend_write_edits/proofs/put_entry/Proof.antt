@@ -1,5 +1,5 @@
 -- `put_entry` puts or counts its numbers.
-use Rattle.b3d_mend_write_edits.proofs.Showing.{entry-laws}
+use Rattle.b3d_mend_write_edits.proofs.EditLaws.{entry-laws}
 use borrow.Author.Needs.{needs}
 use Rattle.b3d_mend_write_edits.proofs.put_entry.Statement.{statement}
 use Rattle.b3d_mend_write_edits.proofs.put_entry.Tie as tie

@@ -1,5 +1,5 @@
 -- `put_kept` puts or counts what its edit shows.
-use Rattle.b3d_mend_write_edits.proofs.Showing.{kept-laws}
+use Rattle.b3d_mend_write_edits.proofs.EditLaws.{kept-laws}
 use borrow.Author.Needs.{needs}
 use Rattle.b3d_mend_write_edits.proofs.put_kept.Statement.{statement}
 use Rattle.b3d_mend_write_edits.proofs.put_kept.Tie as tie

@@ -1,5 +1,5 @@
 -- `put_pair` puts or counts its parts.
-use Rattle.b3d_mend_write_edits.proofs.Showing.{pair-laws}
+use Rattle.b3d_mend_write_edits.proofs.EditLaws.{pair-laws}
 use borrow.Author.Needs.{needs}
 use Rattle.b3d_mend_write_edits.proofs.put_pair.Statement.{statement}
 use Rattle.b3d_mend_write_edits.proofs.put_pair.Tie as tie

@@ -1,5 +1,5 @@
 -- `put_set` puts or counts its parts.
-use Rattle.b3d_mend_write_edits.proofs.Showing.{set-laws}
+use Rattle.b3d_mend_write_edits.proofs.EditLaws.{set-laws}
 use borrow.Author.Needs.{needs}
 use Rattle.b3d_mend_write_edits.proofs.put_set.Statement.{statement}
 use Rattle.b3d_mend_write_edits.proofs.put_set.Tie as tie

@@ -1,5 +1,5 @@
 -- `put_taken` puts or counts what its edit shows.
-use Rattle.b3d_mend_write_edits.proofs.Showing.{taken-laws}
+use Rattle.b3d_mend_write_edits.proofs.EditLaws.{taken-laws}
 use borrow.Author.Needs.{needs}
 use Rattle.b3d_mend_write_edits.proofs.put_taken.Statement.{statement}
 use Rattle.b3d_mend_write_edits.proofs.put_taken.Tie as tie

@@ -1,5 +1,5 @@
 -- `put_two` puts or counts its numbers.
-use Rattle.b3d_mend_write_edits.proofs.Showing.{two-laws}
+use Rattle.b3d_mend_write_edits.proofs.EditLaws.{two-laws}
 use borrow.Author.Needs.{needs}
 use Rattle.b3d_mend_write_edits.proofs.put_two.Statement.{statement}
 use Rattle.b3d_mend_write_edits.proofs.put_two.Tie as tie

@@ -1,8 +1,8 @@
 -- `kept_bytes` counts the bytes of the items that stay. The loop has passed some of them; its measure is what is left.
 use Prim.Native.Nat.{_-_}
-use Rattle.wire.proofs.Left.{span}
+use Rattle.wire.proofs.LeftLaws.{span}
 use Rattle.b3d_mend_write_items.specs.Runs.{Stay}
-use Rattle.b3d_mend_write_items.proofs.ItemPuts.{stay-laws}
+use Rattle.b3d_mend_write_items.proofs.ItemPutLaws.{stay-laws}
 use borrow.Author.Needs.{needs}
 use Rattle.b3d_mend_write_items.proofs.kept_bytes.Statement.{statement}
 use Rattle.b3d_mend_write_items.proofs.kept_bytes.Tie as tie

@@ -1,5 +1,5 @@
 -- `put_bone` puts or counts the weights of a BONE.
-use Rattle.b3d_mend_write_items.proofs.SetPuts.{bone-laws, bone-fits}
+use Rattle.b3d_mend_write_items.proofs.SetPutLaws.{bone-laws, bone-fits}
 use borrow.Author.Needs.{needs}
 use Rattle.b3d_mend_write_items.proofs.put_bone.Statement.{statement}
 use Rattle.b3d_mend_write_items.proofs.put_bone.Tie as tie

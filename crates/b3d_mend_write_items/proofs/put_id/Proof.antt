@@ -1,5 +1,5 @@
 -- `put_id` puts or counts an id.
-use Rattle.b3d_mend_write_items.proofs.ItemPuts.{id-laws}
+use Rattle.b3d_mend_write_items.proofs.ItemPutLaws.{id-laws}
 use borrow.Author.Needs.{needs}
 use Rattle.b3d_mend_write_items.proofs.put_id.Statement.{statement}
 use Rattle.b3d_mend_write_items.proofs.put_id.Tie as tie

@@ -1,7 +1,7 @@
 -- `put_items` puts or counts items to the end. The loop has put those before a place; its measure is what is left.
 use Prim.Native.Nat.{_-_}
-use Rattle.wire.proofs.Left.{span}
-use Rattle.b3d_mend_write_items.proofs.ItemPuts.{Items, items-laws, out-fits, out-next}
+use Rattle.wire.proofs.LeftLaws.{span}
+use Rattle.b3d_mend_write_items.proofs.ItemPutLaws.{Items, items-laws, out-fits, out-next}
 use borrow.Author.Needs.{needs}
 use Rattle.b3d_mend_write_items.proofs.put_items.Statement.{statement}
 use Rattle.b3d_mend_write_items.proofs.put_items.Tie as tie

@@ -1,5 +1,5 @@
 -- `put_tris` puts or counts a TRIS.
-use Rattle.b3d_mend_write_items.proofs.SetPuts.{tris-laws, tris-inside, tris-second}
+use Rattle.b3d_mend_write_items.proofs.SetPutLaws.{tris-laws, tris-inside, tris-second}
 use borrow.Author.Needs.{needs}
 use Rattle.b3d_mend_write_items.proofs.put_tris.Statement.{statement}
 use Rattle.b3d_mend_write_items.proofs.put_tris.Tie as tie

@@ -1,5 +1,5 @@
 -- `body_at` gives what the definition says.
-use Rattle.b3d_mend_write_scopes.proofs.Scopes.{scope-laws}
+use Rattle.b3d_mend_write_scopes.proofs.ScopeLaws.{scope-laws}
 use borrow.Author.Needs.{needs}
 use Rattle.b3d_mend_write_scopes.proofs.body_at.Statement.{statement}
 use Rattle.b3d_mend_write_scopes.proofs.body_at.Tie as tie

@@ -1,5 +1,5 @@
 -- `enter` comes to the machine's state, whatever chunks stand around.
-use Rattle.b3d_pieces_body_steps.proofs.Entering.{enter-laws}
+use Rattle.b3d_pieces_body_steps.proofs.EnterLaws.{enter-laws}
 use borrow.Author.Needs.{needs}
 use Rattle.b3d_pieces_body_steps.proofs.enter.Statement.{statement}
 use Rattle.b3d_pieces_body_steps.proofs.enter.Tie as tie

@@ -1,5 +1,5 @@
 -- `fixed_done` comes to the machine's state, whatever chunks stand around.
-use Rattle.b3d_pieces_body_steps.proofs.Entering.{done-laws}
+use Rattle.b3d_pieces_body_steps.proofs.EnterLaws.{done-laws}
 use borrow.Author.Needs.{needs}
 use Rattle.b3d_pieces_body_steps.proofs.fixed_done.Statement.{statement}
 use Rattle.b3d_pieces_body_steps.proofs.fixed_done.Tie as tie

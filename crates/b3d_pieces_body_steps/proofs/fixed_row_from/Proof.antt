@@ -1,5 +1,5 @@
 -- `fixed_row_from` comes to the machine's state, whatever chunks stand around.
-use Rattle.b3d_pieces_body_steps.proofs.Entering.{row-laws}
+use Rattle.b3d_pieces_body_steps.proofs.EnterLaws.{row-laws}
 use borrow.Author.Needs.{needs}
 use Rattle.b3d_pieces_body_steps.proofs.fixed_row_from.Statement.{statement}
 use Rattle.b3d_pieces_body_steps.proofs.fixed_row_from.Tie as tie

@@ -1,5 +1,5 @@
 -- `skip_from` comes to the machine's state, whatever chunks stand around.
-use Rattle.b3d_pieces_body_steps.proofs.Entering.{skip-laws}
+use Rattle.b3d_pieces_body_steps.proofs.EnterLaws.{skip-laws}
 use borrow.Author.Needs.{needs}
 use Rattle.b3d_pieces_body_steps.proofs.skip_from.Statement.{statement}
 use Rattle.b3d_pieces_body_steps.proofs.skip_from.Tie as tie

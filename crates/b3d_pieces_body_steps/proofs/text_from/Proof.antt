@@ -1,5 +1,5 @@
 -- `text_from` comes to the machine's state, whatever chunks stand around.
-use Rattle.b3d_pieces_body_steps.proofs.Entering.{text-laws}
+use Rattle.b3d_pieces_body_steps.proofs.EnterLaws.{text-laws}
 use borrow.Author.Needs.{needs}
 use Rattle.b3d_pieces_body_steps.proofs.text_from.Statement.{statement}
 use Rattle.b3d_pieces_body_steps.proofs.text_from.Tie as tie

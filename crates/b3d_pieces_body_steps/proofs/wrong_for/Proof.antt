@@ -1,5 +1,5 @@
 -- `wrong_for` is the definition's test.
-use Rattle.b3d_pieces_body_steps.proofs.Entering.{wrong-laws}
+use Rattle.b3d_pieces_body_steps.proofs.EnterLaws.{wrong-laws}
 use borrow.Author.Needs.{needs}
 use Rattle.b3d_pieces_body_steps.proofs.wrong_for.Statement.{statement}
 use Rattle.b3d_pieces_body_steps.proofs.wrong_for.Tie as tie

@@ -1,7 +1,7 @@
 -- `run` takes the piece's bytes.
 use borrow.Author.Needs.{needs}
 use Rattle.b3d_pieces_judge_step.specs.Loops.{leftOf}
-use Rattle.b3d_pieces_words_loop.proofs.Running.{Inv, run-laws}
+use Rattle.b3d_pieces_words_loop.proofs.LoopLaws.{Inv, run-laws}
 use Rattle.b3d_pieces_words_loop.proofs.run.Statement.{statement}
 use Rattle.b3d_pieces_words_loop.proofs.run.Tie as tie
 

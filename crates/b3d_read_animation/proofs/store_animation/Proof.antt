@@ -1,9 +1,9 @@
 -- `store_animation` goes once over the flat run. Its measure is what is left of the file.
 use Prim.Native.Nat.{_-_}
 use lib.ListN.{length}
-use Rattle.b3d_chunk_walk.proofs.Table.{TableLeft, Any, any-counts, table-start, table-small, table-inside, table-long, table-done, table-less, table-body, table-room, plain-own, plain-other}
-use Rattle.b3d_read_animation.proofs.Tables.{bones, lists, keys}
-use Rattle.b3d_read_animation.proofs.Lists.{AnimationLeft, bones-keys, bones-node, lists-laws}
+use Rattle.b3d_chunk_walk.proofs.TableLaws.{TableLeft, Any, any-counts, table-start, table-small, table-inside, table-long, table-done, table-less, table-body, table-room, plain-own, plain-other}
+use Rattle.b3d_read_animation.proofs.TableLaws.{bones, lists, keys}
+use Rattle.b3d_read_animation.proofs.KeyListLaws.{AnimationLeft, bones-keys, bones-node, lists-laws}
 use borrow.Author.Needs.{needs}
 use Rattle.b3d_read_animation.proofs.store_animation.Statement.{statement}
 use Rattle.b3d_read_animation.proofs.store_animation.Tie as tie

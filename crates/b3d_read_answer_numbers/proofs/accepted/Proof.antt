@@ -1,7 +1,7 @@
 -- `accepted` answers what the judge found.
 use Rattle.b3d_judge_limits.specs.Rooms.{countsIn}
 use Rattle.b3d_read_answer_numbers.specs.Answers.{acceptedAs}
-use Rattle.b3d_read_answer_numbers.proofs.RoomAnswers.{cell-fits}
+use Rattle.b3d_read_answer_numbers.proofs.RoomAnswerLaws.{cell-fits}
 use borrow.Author.Needs.{needs}
 use Rattle.b3d_read_answer_numbers.proofs.accepted.Statement.{statement}
 use Rattle.b3d_read_answer_numbers.proofs.accepted.Tie as tie

@@ -1,5 +1,5 @@
 -- `with_room` looks for the first table that is too short.
-use Rattle.b3d_read_answer_numbers.proofs.RoomAnswers.{room-laws}
+use Rattle.b3d_read_answer_numbers.proofs.RoomAnswerLaws.{room-laws}
 use borrow.Author.Needs.{needs}
 use Rattle.b3d_read_answer_numbers.proofs.with_room.Statement.{statement}
 use Rattle.b3d_read_answer_numbers.proofs.with_room.Tie as tie

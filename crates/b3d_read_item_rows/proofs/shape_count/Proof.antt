@@ -1,6 +1,6 @@
 -- `shape_count` divides.
 use borrow.Author.Needs.{needs}
-use Rattle.b3d_read_item_rows.proofs.Shapes.{count-laws}
+use Rattle.b3d_read_item_rows.proofs.VertexRowLaws.{count-laws}
 use Rattle.b3d_read_item_rows.proofs.shape_count.Statement.{statement}
 use Rattle.b3d_read_item_rows.proofs.shape_count.Tie as tie
 

@@ -1,5 +1,5 @@
 -- `store_group` stores the row of a TRIS or a KEYS.
-use Rattle.b3d_read_item_rows.proofs.Groups.{group-laws}
+use Rattle.b3d_read_item_rows.proofs.GroupLaws.{group-laws}
 use borrow.Author.Needs.{needs}
 use Rattle.b3d_read_item_rows.proofs.store_group.Statement.{statement}
 use Rattle.b3d_read_item_rows.proofs.store_group.Tie as tie

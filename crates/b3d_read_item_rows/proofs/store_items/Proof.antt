@@ -1,5 +1,5 @@
 -- `store_items` copies the words of the items.
-use Rattle.b3d_read_item_rows.proofs.Items.{items-laws}
+use Rattle.b3d_read_item_rows.proofs.ItemLaws.{items-laws}
 use borrow.Author.Needs.{needs}
 use Rattle.b3d_read_item_rows.proofs.store_items.Statement.{statement}
 use Rattle.b3d_read_item_rows.proofs.store_items.Tie as tie

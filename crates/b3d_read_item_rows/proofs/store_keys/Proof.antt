@@ -1,5 +1,5 @@
 -- `store_keys` stores the rows of a KEYS.
-use Rattle.b3d_read_item_rows.proofs.KeyRows.{key-laws}
+use Rattle.b3d_read_item_rows.proofs.KeyRowLaws.{key-laws}
 use borrow.Author.Needs.{needs}
 use Rattle.b3d_read_item_rows.proofs.store_keys.Statement.{statement}
 use Rattle.b3d_read_item_rows.proofs.store_keys.Tie as tie

@@ -1,6 +1,6 @@
 -- `store_vertex_rows` stores the rows of a VRTS.
 use borrow.Author.Needs.{needs}
-use Rattle.b3d_read_item_rows.proofs.Shapes.{shape-laws}
+use Rattle.b3d_read_item_rows.proofs.VertexRowLaws.{shape-laws}
 use Rattle.b3d_read_item_rows.proofs.store_vertex_rows.Statement.{statement}
 use Rattle.b3d_read_item_rows.proofs.store_vertex_rows.Tie as tie
 

@@ -1,8 +1,8 @@
 -- `fill_keys` stores rows by the mask of a key, in runs. The loop has stored those before the last `left`.
 use native.Mathlib.Omega.{arith}
 use Rattle.b3d_read_key_rows.specs.Keys.{keyAt}
-use Rattle.b3d_read_row_runs.proofs.Runs.{RowsLeft, rows-none, rows-done, rows-take, rows-room, rows-on, rows-laws}
-use Rattle.b3d_read_key_rows.proofs.Keys.{keys-words, keys-wide, keys-laws}
+use Rattle.b3d_read_row_runs.proofs.RunLaws.{RowsLeft, rows-none, rows-done, rows-take, rows-room, rows-on, rows-laws}
+use Rattle.b3d_read_key_rows.proofs.KeyLaws.{keys-words, keys-wide, keys-laws}
 use borrow.Author.Needs.{needs}
 use Rattle.b3d_read_key_rows.proofs.fill_keys.Statement.{statement}
 use Rattle.b3d_read_key_rows.proofs.fill_keys.Tie as tie

@@ -1,5 +1,5 @@
 -- `store_key` stores the parts of a key one after the other.
-use Rattle.b3d_read_row_runs.proofs.Runs.{room-1, room-2, room-3, row-put, part-1, part-2, part-3, part-4}
+use Rattle.b3d_read_row_runs.proofs.RunLaws.{room-1, room-2, room-3, row-put, part-1, part-2, part-3, part-4}
 use borrow.Author.Needs.{needs}
 use Rattle.b3d_read_key_rows.proofs.store_key.Statement.{statement}
 use Rattle.b3d_read_key_rows.proofs.store_key.Tie as tie

@@ -1,5 +1,5 @@
 -- `fill_brushes` stores the brushes of the first BRUS.
-use Rattle.b3d_read_materials.proofs.Lists.{brushes-laws}
+use Rattle.b3d_read_materials.proofs.MaterialLaws.{brushes-laws}
 use borrow.Author.Needs.{needs}
 use Rattle.b3d_read_materials.proofs.fill_brushes.Statement.{statement}
 use Rattle.b3d_read_materials.proofs.fill_brushes.Tie as tie

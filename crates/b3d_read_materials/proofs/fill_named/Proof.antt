@@ -1,7 +1,7 @@
 -- `fill_named` stores a row for each text with its words. The loop has stored those before c; its measure is what is left.
 use Prim.Native.Nat.{_-_}
-use Rattle.b3d_chunk_cursor.proofs.Names.{row-inside, row-room, after-less}
-use Rattle.b3d_read_materials.proofs.Filling.{TextsLeft, texts-laws}
+use Rattle.b3d_chunk_cursor.proofs.NamedLaws.{row-inside, row-room, after-less}
+use Rattle.b3d_read_materials.proofs.NamedRowLaws.{TextsLeft, texts-laws}
 use borrow.Author.Needs.{needs}
 use Rattle.b3d_read_materials.proofs.fill_named.Statement.{statement}
 use Rattle.b3d_read_materials.proofs.fill_named.Tie as tie

@@ -1,5 +1,5 @@
 -- `fill_textures` stores the textures of the first TEXS.
-use Rattle.b3d_read_materials.proofs.Lists.{textures-laws}
+use Rattle.b3d_read_materials.proofs.MaterialLaws.{textures-laws}
 use borrow.Author.Needs.{needs}
 use Rattle.b3d_read_materials.proofs.fill_textures.Statement.{statement}
 use Rattle.b3d_read_materials.proofs.fill_textures.Tie as tie

@@ -1,5 +1,5 @@
 -- `first_chunk` seeks where there is a head.
-use Rattle.b3d_read_materials.proofs.Lists.{chunk-laws}
+use Rattle.b3d_read_materials.proofs.MaterialLaws.{chunk-laws}
 use borrow.Author.Needs.{needs}
 use Rattle.b3d_read_materials.proofs.first_chunk.Statement.{statement}
 use Rattle.b3d_read_materials.proofs.first_chunk.Tie as tie

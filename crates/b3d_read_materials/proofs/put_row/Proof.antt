@@ -1,5 +1,5 @@
 -- `put_row` stores a row: the cells of a name, words of the file, cells that name nothing.
-use Rattle.b3d_read_materials.proofs.Stores.{row-put}
+use Rattle.b3d_read_materials.proofs.StoreLaws.{row-put}
 use borrow.Author.Needs.{needs}
 use Rattle.b3d_read_materials.proofs.put_row.Statement.{statement}
 use Rattle.b3d_read_materials.proofs.put_row.Tie as tie

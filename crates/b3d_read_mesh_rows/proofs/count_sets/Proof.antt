@@ -1,6 +1,6 @@
 -- `count_sets` goes from TRIS to TRIS. Its measure is what is left.
 use Prim.Native.Nat.{_-_}
-use Rattle.b3d_read_mesh_rows.proofs.Surveys.{CountLeft, count-laws}
+use Rattle.b3d_read_mesh_rows.proofs.MeshLaws.{CountLeft, count-laws}
 use borrow.Author.Needs.{needs}
 use Rattle.b3d_read_mesh_rows.proofs.count_sets.Statement.{statement}
 use Rattle.b3d_read_mesh_rows.proofs.count_sets.Tie as tie

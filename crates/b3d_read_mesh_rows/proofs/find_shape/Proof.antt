@@ -1,5 +1,5 @@
 -- `find_shape` reads the first VRTS.
-use Rattle.b3d_read_mesh_rows.proofs.Surveys.{shape-laws}
+use Rattle.b3d_read_mesh_rows.proofs.MeshLaws.{shape-laws}
 use borrow.Author.Needs.{needs}
 use Rattle.b3d_read_mesh_rows.proofs.find_shape.Statement.{statement}
 use Rattle.b3d_read_mesh_rows.proofs.find_shape.Tie as tie

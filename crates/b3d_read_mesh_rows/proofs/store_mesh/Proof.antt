@@ -1,6 +1,6 @@
 -- `store_mesh` stores the row of a MESH.
 use borrow.Author.Needs.{needs}
-use Rattle.b3d_read_mesh_rows.proofs.Surveys.{row-laws}
+use Rattle.b3d_read_mesh_rows.proofs.MeshLaws.{row-laws}
 use Rattle.b3d_read_mesh_rows.proofs.store_mesh.Statement.{statement}
 use Rattle.b3d_read_mesh_rows.proofs.store_mesh.Tie as tie
 

@@ -1,5 +1,5 @@
 -- `store_vertices` stores the rows of the first VRTS of a MESH.
-use Rattle.b3d_read_mesh_rows.proofs.Shapes.{mesh-laws}
+use Rattle.b3d_read_mesh_rows.proofs.VertexLaws.{mesh-laws}
 use borrow.Author.Needs.{needs}
 use Rattle.b3d_read_mesh_rows.proofs.store_vertices.Statement.{statement}
 use Rattle.b3d_read_mesh_rows.proofs.store_vertices.Tie as tie

@@ -1,5 +1,5 @@
 -- `put_one` stores the rows of a MESH in each table. Facts that lie far back are named.
-use Rattle.b3d_read_meshes.proofs.Meshes.{one-laws}
+use Rattle.b3d_read_meshes.proofs.MeshLaws.{one-laws}
 use borrow.Author.Needs.{needs}
 use Rattle.b3d_read_meshes.proofs.put_one.Statement.{statement}
 use Rattle.b3d_read_meshes.proofs.put_one.Tie as tie

@@ -1,9 +1,9 @@
 -- `store_meshes` goes once over the flat run. Its measure is what is left of the file.
 use Prim.Native.Nat.{_-_}
 use lib.ListN.{length}
-use Rattle.b3d_chunk_walk.proofs.Table.{table-small}
-use Rattle.b3d_read_meshes.proofs.Tables.{meshes, vertices, sets, triangles}
-use Rattle.b3d_read_meshes.proofs.Meshes.{MeshesLeft, meshes-body, meshes-fit, meshes-room, meshes-laws}
+use Rattle.b3d_chunk_walk.proofs.TableLaws.{table-small}
+use Rattle.b3d_read_meshes.proofs.TableLaws.{meshes, vertices, sets, triangles}
+use Rattle.b3d_read_meshes.proofs.MeshLaws.{MeshesLeft, meshes-body, meshes-fit, meshes-room, meshes-laws}
 use borrow.Author.Needs.{needs}
 use Rattle.b3d_read_meshes.proofs.store_meshes.Statement.{statement}
 use Rattle.b3d_read_meshes.proofs.store_meshes.Tie as tie

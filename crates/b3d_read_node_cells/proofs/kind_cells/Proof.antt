@@ -2,7 +2,7 @@
 use Prim.Native.Nat.{_-_}
 use lib.ListN.{length}
 use Rattle.b3d_spec_plain_rows.specs.Rows.{kindOf}
-use Rattle.b3d_read_node_cells.proofs.Own.{OwnLeft, kind-laws}
+use Rattle.b3d_read_node_cells.proofs.OwnChunkLaws.{OwnLeft, kind-laws}
 use borrow.Author.Needs.{needs}
 use Rattle.b3d_read_node_cells.proofs.kind_cells.Statement.{statement}
 use Rattle.b3d_read_node_cells.proofs.kind_cells.Tie as tie

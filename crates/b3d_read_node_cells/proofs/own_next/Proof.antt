@@ -1,5 +1,5 @@
 -- `own_next` finds the next chunk that is no NODE.
-use Rattle.b3d_read_node_cells.proofs.Own.{own-laws}
+use Rattle.b3d_read_node_cells.proofs.OwnChunkLaws.{own-laws}
 use borrow.Author.Needs.{needs}
 use Rattle.b3d_read_node_cells.proofs.own_next.Statement.{statement}
 use Rattle.b3d_read_node_cells.proofs.own_next.Tie as tie

@@ -1,5 +1,5 @@
 -- `part_cells` puts the cells of kind and ANIM together, and how many nodes are below.
-use Rattle.b3d_read_node_cells.proofs.Cells.{parts-are}
+use Rattle.b3d_read_node_cells.proofs.CellLaws.{parts-are}
 use borrow.Author.Needs.{needs}
 use Rattle.b3d_read_node_cells.proofs.part_cells.Statement.{statement}
 use Rattle.b3d_read_node_cells.proofs.part_cells.Tie as tie

@@ -1,5 +1,5 @@
 -- `parent_at` goes up from the last row to one that is open. Its measure is how many rows are left.
-use Rattle.b3d_read_node_parents.proofs.Climb.{ClimbLeft, climb-less, climb-fits, climb-up, climb-laws}
+use Rattle.b3d_read_node_parents.proofs.ParentLaws.{ClimbLeft, climb-less, climb-fits, climb-up, climb-laws}
 use borrow.Author.Needs.{needs}
 use Rattle.b3d_read_node_parents.proofs.parent_at.Statement.{statement}
 use Rattle.b3d_read_node_parents.proofs.parent_at.Tie as tie

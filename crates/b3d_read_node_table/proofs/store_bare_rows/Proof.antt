@@ -1,7 +1,7 @@
 -- `store_bare_rows` goes once over the flat run. Its measure is what is left of the file.
 use Prim.Native.Nat.{_-_}
 use lib.ListN.{length}
-use Rattle.b3d_read_node_table.proofs.Tree.{TreeLeft, more-nodes, tree-laws}
+use Rattle.b3d_read_node_table.proofs.NodeTableLaws.{TreeLeft, more-nodes, tree-laws}
 use borrow.Author.Needs.{needs}
 use Rattle.b3d_read_node_table.proofs.store_bare_rows.Statement.{statement}
 use Rattle.b3d_read_node_table.proofs.store_bare_rows.Tie as tie

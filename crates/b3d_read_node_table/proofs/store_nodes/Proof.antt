@@ -1,5 +1,5 @@
 -- `store_nodes` stores the rows and then their branch words.
-use Rattle.b3d_read_node_table.proofs.RowsAhead.{bare-laws}
+use Rattle.b3d_read_node_table.proofs.RowsAheadLaws.{bare-laws}
 use borrow.Author.Needs.{needs}
 use Rattle.b3d_read_node_table.proofs.store_nodes.Statement.{statement}
 use Rattle.b3d_read_node_table.proofs.store_nodes.Tie as tie

@@ -1,5 +1,5 @@
 -- `store_node` counts the nodes below and stores the row.
-use Rattle.b3d_read_nodes.proofs.Cells.{node-laws}
+use Rattle.b3d_read_nodes.proofs.CellLaws.{node-laws}
 use borrow.Author.Needs.{needs}
 use Rattle.b3d_read_nodes.proofs.store_node.Statement.{statement}
 use Rattle.b3d_read_nodes.proofs.store_node.Tie as tie

@@ -1,5 +1,5 @@
 -- `store_row` stores the cells of a row, part by part.
-use Rattle.b3d_read_nodes.proofs.Cells.{row-laws}
+use Rattle.b3d_read_nodes.proofs.CellLaws.{row-laws}
 use borrow.Author.Needs.{needs}
 use Rattle.b3d_read_nodes.proofs.store_row.Statement.{statement}
 use Rattle.b3d_read_nodes.proofs.store_row.Tie as tie

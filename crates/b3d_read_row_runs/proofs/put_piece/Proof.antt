@@ -1,6 +1,6 @@
 -- `put_piece` stores words, then zeros.
 use borrow.Author.Needs.{needs}
-use Rattle.b3d_read_row_runs.proofs.Runs.{piece-laws}
+use Rattle.b3d_read_row_runs.proofs.RunLaws.{piece-laws}
 use Rattle.b3d_read_row_runs.proofs.put_piece.Statement.{statement}
 use Rattle.b3d_read_row_runs.proofs.put_piece.Tie as tie
 

@@ -1,5 +1,5 @@
 -- `meshes` walks the file where there are meshes.
-use Rattle.b3d_read_table_groups.proofs.Empty.{empty-laws}
+use Rattle.b3d_read_table_groups.proofs.EmptyTableLaws.{empty-laws}
 use borrow.Author.Needs.{needs}
 use Rattle.b3d_read_table_groups.proofs.meshes.Statement.{statement}
 use Rattle.b3d_read_table_groups.proofs.meshes.Tie as tie

@@ -1,5 +1,5 @@
 -- `moves` walks the file where there are weights or key lists.
-use Rattle.b3d_read_table_groups.proofs.Empty.{empty-laws}
+use Rattle.b3d_read_table_groups.proofs.EmptyTableLaws.{empty-laws}
 use borrow.Author.Needs.{needs}
 use Rattle.b3d_read_table_groups.proofs.moves.Statement.{statement}
 use Rattle.b3d_read_table_groups.proofs.moves.Tie as tie

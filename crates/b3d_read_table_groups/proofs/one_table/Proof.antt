@@ -1,5 +1,5 @@
 -- `one_table` walks the file where there are rows.
-use Rattle.b3d_read_table_groups.proofs.Empty.{table-laws}
+use Rattle.b3d_read_table_groups.proofs.EmptyTableLaws.{table-laws}
 use borrow.Author.Needs.{needs}
 use Rattle.b3d_read_table_groups.proofs.one_table.Statement.{statement}
 use Rattle.b3d_read_table_groups.proofs.one_table.Tie as tie

@@ -1,5 +1,5 @@
 -- `store_tables` fills one table after the other.
-use Rattle.b3d_read_tables.proofs.Each.{all-filled}
+use Rattle.b3d_read_tables.proofs.EachTableLaws.{all-filled}
 use native.Mathlib.Omega.{arith}
 use borrow.Author.Needs.{needs}
 use Rattle.b3d_read_tables.proofs.store_tables.Statement.{statement}

@@ -1,6 +1,6 @@
 -- `put_sets` goes from TRIS to TRIS inside a MESH. Its measure is what is left of it.
 use Prim.Native.Nat.{_-_}
-use Rattle.b3d_read_triangle_rows.proofs.Sets.{SetsLeft, sets-laws}
+use Rattle.b3d_read_triangle_rows.proofs.SetLaws.{SetsLeft, sets-laws}
 use borrow.Author.Needs.{needs}
 use Rattle.b3d_read_triangle_rows.proofs.put_sets.Statement.{statement}
 use Rattle.b3d_read_triangle_rows.proofs.put_sets.Tie as tie

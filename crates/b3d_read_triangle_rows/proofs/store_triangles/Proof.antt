@@ -1,6 +1,6 @@
 -- `store_triangles` goes from TRIS to TRIS inside a MESH. Its measure is what is left of it.
 use Prim.Native.Nat.{_-_}
-use Rattle.b3d_read_triangle_rows.proofs.Triangles.{TrianglesLeft, triangles-laws}
+use Rattle.b3d_read_triangle_rows.proofs.TriangleLaws.{TrianglesLeft, triangles-laws}
 use borrow.Author.Needs.{needs}
 use Rattle.b3d_read_triangle_rows.proofs.store_triangles.Statement.{statement}
 use Rattle.b3d_read_triangle_rows.proofs.store_triangles.Tie as tie

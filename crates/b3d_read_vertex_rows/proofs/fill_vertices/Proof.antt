@@ -1,8 +1,8 @@
 -- `fill_vertices` stores rows by the mask of a vertex, in runs. The loop has stored those before the last `left`.
 use native.Mathlib.Omega.{arith}
 use Rattle.b3d_read_vertex_rows.specs.Vertices.{vertexAt}
-use Rattle.b3d_read_row_runs.proofs.Runs.{RowsLeft, rows-none, rows-done, rows-take, rows-room, rows-on, rows-laws}
-use Rattle.b3d_read_vertex_rows.proofs.Vertices.{fill-words, fill-wide, fill-laws}
+use Rattle.b3d_read_row_runs.proofs.RunLaws.{RowsLeft, rows-none, rows-done, rows-take, rows-room, rows-on, rows-laws}
+use Rattle.b3d_read_vertex_rows.proofs.VertexLaws.{fill-words, fill-wide, fill-laws}
 use borrow.Author.Needs.{needs}
 use Rattle.b3d_read_vertex_rows.proofs.fill_vertices.Statement.{statement}
 use Rattle.b3d_read_vertex_rows.proofs.fill_vertices.Tie as tie

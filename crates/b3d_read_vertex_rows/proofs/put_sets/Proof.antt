@@ -1,7 +1,7 @@
 -- `put_sets` stores the sets of a vertex that are there, then zeros for the others.
 use Prim.Native.Nat.{_-_}
 use borrow.Author.Needs.{needs}
-use Rattle.b3d_read_vertex_rows.proofs.Sets.{SetsLeft, sets-laws}
+use Rattle.b3d_read_vertex_rows.proofs.SetLaws.{SetsLeft, sets-laws}
 use Rattle.b3d_read_vertex_rows.proofs.put_sets.Statement.{statement}
 use Rattle.b3d_read_vertex_rows.proofs.put_sets.Tie as tie
 

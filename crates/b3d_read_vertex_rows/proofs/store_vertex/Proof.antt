@@ -1,6 +1,6 @@
 -- `store_vertex` stores the parts of a vertex one after the other.
 use borrow.Author.Needs.{needs}
-use Rattle.b3d_read_row_runs.proofs.Runs.{room-1, room-2, room-3, row-put, part-1, part-2, part-3, part-4}
+use Rattle.b3d_read_row_runs.proofs.RunLaws.{room-1, room-2, room-3, row-put, part-1, part-2, part-3, part-4}
 use Rattle.b3d_read_vertex_rows.proofs.store_vertex.Statement.{statement}
 use Rattle.b3d_read_vertex_rows.proofs.store_vertex.Tie as tie
 

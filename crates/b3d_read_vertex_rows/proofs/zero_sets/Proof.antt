@@ -1,6 +1,6 @@
 -- `zero_sets` stores zeros by their number.
 use borrow.Author.Needs.{needs}
-use Rattle.b3d_read_vertex_rows.proofs.Sets.{by-zeros}
+use Rattle.b3d_read_vertex_rows.proofs.SetLaws.{by-zeros}
 use Rattle.b3d_read_vertex_rows.proofs.zero_sets.Statement.{statement}
 use Rattle.b3d_read_vertex_rows.proofs.zero_sets.Tie as tie
 

@@ -1,5 +1,5 @@
 -- `colour_ok` answers the rule of a colour.
-use Rattle.b3d_rule_colour.proofs.Unit.{no-nan, law, law-nan}
+use Rattle.b3d_rule_colour.proofs.UnitRangeLaws.{no-nan, law, law-nan}
 use Rattle.b3d_rule_colour.proofs.colour_ok.Statement.{statement}
 use Rattle.b3d_rule_colour.proofs.colour_ok.Tie as tie
 

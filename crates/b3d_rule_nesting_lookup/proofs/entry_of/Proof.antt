@@ -1,7 +1,7 @@
 -- `entry_of` picks the entry in the row.
 use borrow.Author.Needs.{needs}
 use Rattle.b3d_spec.specs.declared.Tag.the-variants.{BB3D, TEXS, BRUS, NODE, MESH, VRTS, TRIS, BONE, KEYS, ANIM}
-use Rattle.b3d_rule_nesting_lookup.proofs.Picked.{entry-picked}
+use Rattle.b3d_rule_nesting_lookup.proofs.LookupLaws.{entry-picked}
 use Rattle.b3d_rule_nesting_lookup.proofs.entry_of.Statement.{statement}
 use Rattle.b3d_rule_nesting_lookup.proofs.entry_of.Tie as tie
 

@@ -1,7 +1,7 @@
 -- `row_of` picks the row of the table, which is the definition's.
 use borrow.Author.Needs.{needs}
 use Rattle.b3d_spec.specs.declared.Tag.the-variants.{BB3D, TEXS, BRUS, NODE, MESH, VRTS, TRIS, BONE, KEYS, ANIM}
-use Rattle.b3d_rule_nesting_lookup.proofs.Picked.{row-picked}
+use Rattle.b3d_rule_nesting_lookup.proofs.LookupLaws.{row-picked}
 use Rattle.b3d_rule_nesting_lookup.proofs.row_of.Statement.{statement}
 use Rattle.b3d_rule_nesting_lookup.proofs.row_of.Tie as tie
 

@@ -1,6 +1,6 @@
 -- `is_between` tests an entry.
 use borrow.Author.Needs.{needs}
-use Rattle.b3d_rule_nesting_order.proofs.MayStand.{between-laws}
+use Rattle.b3d_rule_nesting_order.proofs.PermitLaws.{between-laws}
 use Rattle.b3d_rule_nesting_order.proofs.is_between.Statement.{statement}
 use Rattle.b3d_rule_nesting_order.proofs.is_between.Tie as tie
 

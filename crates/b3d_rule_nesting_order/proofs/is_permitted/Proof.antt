@@ -1,6 +1,6 @@
 -- `is_permitted` answers what the rule says of the tag: by its entry in the table.
 use borrow.Author.Needs.{needs}
-use Rattle.b3d_rule_nesting_order.proofs.MayStand.{may-stand-laws}
+use Rattle.b3d_rule_nesting_order.proofs.PermitLaws.{may-stand-laws}
 use Rattle.b3d_rule_nesting_order.proofs.is_permitted.Statement.{statement}
 use Rattle.b3d_rule_nesting_order.proofs.is_permitted.Tie as tie
 

@@ -1,7 +1,7 @@
 -- `required_between` looks through a row of the table. Its measure is the columns left.
 use Prim.Native.Nat.{_-_}
 use borrow.Author.Needs.{needs}
-use Rattle.b3d_rule_nesting_order.proofs.Rows.{Looking, looking}
+use Rattle.b3d_rule_nesting_order.proofs.RowLaws.{Looking, looking}
 use Rattle.b3d_rule_nesting_order.proofs.required_between.Statement.{statement}
 use Rattle.b3d_rule_nesting_order.proofs.required_between.Tie as tie
 

@@ -1,5 +1,5 @@
 -- `vertex_runs` is made field by field.
-use Rattle.b3d_rule_row_masks.proofs.Masks.{made-laws}
+use Rattle.b3d_rule_row_masks.proofs.MaskLaws.{made-laws}
 use borrow.Author.Needs.{needs}
 use Rattle.b3d_rule_row_masks.proofs.vertex_runs.Statement.{statement}
 use Rattle.b3d_rule_row_masks.proofs.vertex_runs.Tie as tie

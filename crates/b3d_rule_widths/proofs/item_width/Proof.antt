@@ -1,5 +1,5 @@
 -- `item_width` takes the width of a key, or 3.
-use Rattle.b3d_rule_widths.proofs.Widths.{width-laws}
+use Rattle.b3d_rule_widths.proofs.WidthLaws.{width-laws}
 use borrow.Author.Needs.{needs}
 use Rattle.b3d_rule_widths.proofs.item_width.Statement.{statement}
 use Rattle.b3d_rule_widths.proofs.item_width.Tie as tie

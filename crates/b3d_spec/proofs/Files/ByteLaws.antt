@@ -6,14 +6,14 @@ use mathlib.Core.List.{List, [], _∷_, _++_}
 use lib.ListN.{length}
 use Rattle.wire.specs.Bytes.{AllBytes, bytes}
 use Rattle.layout.specs.Write.{writeWords, writeText, writeItems, writeChunks as writeChunksOf}
-use Rattle.layout.proofs.Fitting.{FitText}
-use Rattle.layout.proofs.Lists.{All}
+use Rattle.layout.proofs.WellFormedLaws.{FitText}
+use Rattle.layout.proofs.AllLaws.{All}
 use Rattle.b3d_spec.specs.Encode.{writeTexture, writeBrush, writeVertices, writeTriangles, setChunks, writeMesh, writeKeys, kindChunks, keyChunks, animChunks, writeNode, nodeChunks, textureChunks, brushChunks, writeScene, encode}
 use Rattle.b3d_spec.specs.Rules.{boneLimitBelow, levels}
 use Rattle.b3d_spec.specs.Scene.{Texture, Brush, TriangleSet, Mesh, Kind, pivot, mesh, bone, Keys, Anim, noAnim, anim, Data, Forest, noNodes, node, Scene}
 use Rattle.b3d_spec.specs.declared.Tag.the-variants.{BB3D}
 use Rattle.b3d_spec.specs.Tags.{code, Chunk, writeChunks}
-use Rattle.b3d_spec.proofs.Fitting.{FitTexture, FitBrush, FitNodes, WellFormed}
+use Rattle.b3d_spec.proofs.WellFormedLaws.{FitTexture, FitBrush, FitNodes, WellFormed}
 
 -- the same as `AllBytes`, under a name that does not compute
 record Good (b : List ℕ) : Type 0 where

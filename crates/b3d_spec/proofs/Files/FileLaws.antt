@@ -15,9 +15,9 @@ use Rattle.layout.specs.Result.{Result, accept}
 use Rattle.layout.specs.Parts.{row}
 use Rattle.layout.specs.Write.{writeWords, writeItems, writeChunks as writeChunksOf}
 use Rattle.layout.proofs.ChunkLaws.{length-chunk, lay, Of, ended-fine}
-use Rattle.layout.proofs.Fitting.{Fits}
-use Rattle.layout.proofs.Lists.{All}
-use Rattle.layout.proofs.Outs.{check-yes, by-check, if-no, by-if, by-got, bad-got, got-inj}
+use Rattle.layout.proofs.WellFormedLaws.{Fits}
+use Rattle.layout.proofs.AllLaws.{All}
+use Rattle.layout.proofs.ResultLaws.{check-yes, by-check, if-no, by-if, by-got, bad-got, got-inj}
 use Rattle.layout.proofs.PartLaws.{length-words, length-fits, row-back, row-fine}
 use Rattle.layout.specs.Rows.{sizeFits}
 use Rattle.b3d_spec.specs.declared.Mode.the-variants.{Lenient}
@@ -30,11 +30,11 @@ use Rattle.b3d_spec.specs.Scene.{Texture, Brush, Data, Forest, noNodes, 
 use Rattle.b3d_spec.specs.declared.Tag.{Tag}
 use Rattle.b3d_spec.specs.declared.Tag.the-variants.{BB3D, TEXS, BRUS, NODE}
 use Rattle.b3d_spec.specs.Tags.{code, is, Chunks, Found, Chunk, writeChunks}
-use Rattle.b3d_spec.proofs.Fitting.{FitTexture, FitBrush, FitNodes, OneRoot, FitSlots, WellFormed}
+use Rattle.b3d_spec.proofs.WellFormedLaws.{FitTexture, FitBrush, FitNodes, OneRoot, FitSlots, WellFormed}
 use Rattle.b3d_spec.proofs.Files.LeafLaws.{head-one, textures-back, textures-fine, brushes-back, BrushesOK, brushes-fine}
 use Rattle.b3d_spec.proofs.Files.NestingLaws.{file-keeps, inside-back, inside-fine}
 use Rattle.b3d_spec.proofs.Files.NodeLaws.{node-back, nodes-back, BackNode, NodeOK, node-fine, FineS, below-short}
-use Rattle.b3d_spec.proofs.Files.TagCodes.{code-word}
+use Rattle.b3d_spec.proofs.Files.TagCodeLaws.{code-word}
 use mir.Facts.{and-yes}
 
 -- ---- back

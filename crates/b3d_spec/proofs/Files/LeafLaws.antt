@@ -16,9 +16,9 @@ use Rattle.layout.specs.Parts.{Step, row, named, items, wordsOf}
 use Rattle.layout.specs.Rules.{Rule, any}
 use Rattle.layout.specs.Write.{writeWords, writeItems, writeChunks as writeChunksOf}
 use Rattle.layout.proofs.ChunkLaws.{length-chunk, lay, Of, split-fine}
-use Rattle.layout.proofs.Fitting.{Fits}
-use Rattle.layout.proofs.Lists.{All}
-use Rattle.layout.proofs.Outs.{by-got, bad-got, got-inj, by-test}
+use Rattle.layout.proofs.WellFormedLaws.{Fits}
+use Rattle.layout.proofs.AllLaws.{All}
+use Rattle.layout.proofs.ResultLaws.{by-got, bad-got, got-inj, by-test}
 use Rattle.layout.proofs.PartLaws.{Back, Fine, Item, length-words, length-fits, row-back, row-fine, row-item, length-text, named-back, named-fine, items-back, items-fine}
 use Rattle.layout.proofs.ListLaws.{map-id}
 use Rattle.layout.proofs.StepLaws.{row-any, any-short}
@@ -32,9 +32,9 @@ use Rattle.b3d_spec.specs.Scene.{Texture, Brush, TriangleSet, Mesh, Keys
 use Rattle.b3d_spec.specs.declared.Tag.{Tag}
 use Rattle.b3d_spec.specs.declared.Tag.the-variants.{MESH, VRTS, TRIS}
 use Rattle.b3d_spec.specs.Tags.{tagOf, Chunks, split, Found, Chunk, writeChunk, writeChunks, code}
-use Rattle.b3d_spec.proofs.Fitting.{FitTexture, FitBrush, FitTriangles, FitMesh, FitKeys}
+use Rattle.b3d_spec.proofs.WellFormedLaws.{FitTexture, FitBrush, FitTriangles, FitMesh, FitKeys}
 use Rattle.b3d_spec.proofs.Files.NestingLaws.{mesh-keeps, inside-back, order-of}
-use Rattle.b3d_spec.proofs.Files.TagCodes.{by-tag}
+use Rattle.b3d_spec.proofs.Files.TagCodeLaws.{by-tag}
 
 -- ---- rows of one rule list
 

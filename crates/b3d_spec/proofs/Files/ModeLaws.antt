@@ -16,9 +16,9 @@ use Rattle.layout.specs.Result.{Result, accept, check, _>>=_}
 use Rattle.layout.specs.Parts.{Name, Step, row, number, named, items}
 use Rattle.layout.specs.Rules.{Rule, any, unit, holds}
 use Rattle.layout.proofs.HeldLaws.{Held, same-held, held-as, first-held, bind-held, then-held, map-held, loose, passes as passesRules, passes-any, passes-unit, Says, row-held, named-held, items-held}
-use Rattle.layout.proofs.Outs.{by-got, got-inj}
+use Rattle.layout.proofs.ResultLaws.{by-got, got-inj}
 use Rattle.layout.proofs.PlaceLaws.{At, Stands, row-at, named-at}
-use Rattle.layout.proofs.Testing.{and-assoc, and-true}
+use Rattle.layout.proofs.TestLaws.{and-assoc, and-true}
 use Rattle.layout.specs.Rows.{sizeFits, nameCells}
 use Rattle.b3d_spec.specs.Colours.{coloured, passes}
 use Rattle.b3d_spec.specs.declared.Mode.the-variants.{Strict, Lenient}

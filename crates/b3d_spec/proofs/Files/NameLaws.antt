@@ -10,8 +10,8 @@ use Rattle.layout.specs.Result.{accept}
 use Rattle.layout.specs.Parts.{Name}
 use Rattle.layout.specs.Write.{writeWords, writeItems, writeChunks as writeChunksOf}
 use Rattle.layout.proofs.ChunkLaws.{length-chunk}
-use Rattle.layout.proofs.Lists.{All}
-use Rattle.layout.proofs.Outs.{got-inj}
+use Rattle.layout.proofs.AllLaws.{All}
+use Rattle.layout.proofs.ResultLaws.{got-inj}
 use Rattle.layout.proofs.PartLaws.{length-words, length-text}
 use Rattle.b3d_spec.specs.declared.Mode.the-variants.{Lenient}
 use Rattle.b3d_spec.specs.Encode.{writeTexture, writeBrush, writeMesh, writeKeys, kindChunks, keyChunks, animChunks, writeNode, nodeChunks, textureChunks, brushChunks, writeScene, encode}
@@ -22,7 +22,7 @@ use Rattle.b3d_spec.specs.Scene.{Texture, Brush, Kind, pivot, mesh, bone
 use Rattle.b3d_spec.specs.declared.Tag.the-variants.{TEXS, BRUS, NODE, MESH, BONE, KEYS, ANIM}
 use Rattle.b3d_spec.specs.Tags.{Chunk, writeChunks, code}
 use Rattle.b3d_spec.proofs.Files.FileLaws.{parse-back, parse-fine, parse-size}
-use Rattle.b3d_spec.proofs.Fitting.{FitTexture, FitBrush, FitData, FitNodes, OneRoot, FitSlots, WellFormed}
+use Rattle.b3d_spec.proofs.WellFormedLaws.{FitTexture, FitBrush, FitData, FitNodes, OneRoot, FitSlots, WellFormed}
 
 -- ---- one change of names after another
 

@@ -16,8 +16,8 @@ use Rattle.b3d_spec.specs.Scene.{Texture, Brush, TriangleSet, Kind, pivo
 use Rattle.b3d_spec.specs.declared.Tag.{Tag}
 use Rattle.b3d_spec.specs.declared.Tag.the-variants.{BB3D, TEXS, BRUS, NODE, MESH, VRTS, TRIS, BONE, KEYS, ANIM}
 use Rattle.b3d_spec.specs.Tags.{Chunks, split, Chunk, writeChunks, code, tagOf}
-use Rattle.b3d_spec.proofs.Fitting.{OneRoot}
-use Rattle.b3d_spec.proofs.Files.TagCodes.{tag-code, code-word}
+use Rattle.b3d_spec.proofs.WellFormedLaws.{OneRoot}
+use Rattle.b3d_spec.proofs.Files.TagCodeLaws.{tag-code, code-word}
 
 -- ---- back
 

@@ -14,8 +14,8 @@ use Rattle.layout.specs.Result.{Result, accept}
 use Rattle.layout.specs.Parts.{Name, named}
 use Rattle.layout.specs.Write.{writeWords, writeItems, writeChunks as writeChunksOf}
 use Rattle.layout.proofs.ChunkLaws.{length-chunk, lay, Of}
-use Rattle.layout.proofs.Lists.{All}
-use Rattle.layout.proofs.Outs.{if-no, by-if, by-got, bad-got, got-inj}
+use Rattle.layout.proofs.AllLaws.{All}
+use Rattle.layout.proofs.ResultLaws.{if-no, by-if, by-got, bad-got, got-inj}
 use Rattle.layout.proofs.PartLaws.{length-words, length-text, named-back, named-fine}
 use Rattle.b3d_spec.specs.declared.Mode.the-variants.{Lenient}
 use Rattle.b3d_spec.specs.Encode.{writeMesh, writeKeys, kindChunks, keyChunks, animChunks, writeNode, nodeChunks}
@@ -26,7 +26,7 @@ use Rattle.b3d_spec.specs.Rules.{nodeRow, boneLimit, boneLimitBelow}
 use Rattle.b3d_spec.specs.Scene.{Kind, pivot, mesh, bone, Keys, Anim, noAnim, anim, Data, Forest, noNodes, node}
 use Rattle.b3d_spec.specs.declared.Tag.the-variants.{NODE, MESH, BONE, KEYS, ANIM}
 use Rattle.b3d_spec.specs.Tags.{is, Chunks, Found, Chunk, writeChunks, code}
-use Rattle.b3d_spec.proofs.Fitting.{FitKind, FitKeys, FitAnim, FitData, FitNodes, no-nodes}
+use Rattle.b3d_spec.proofs.WellFormedLaws.{FitKind, FitKeys, FitAnim, FitData, FitNodes, no-nodes}
 use Rattle.b3d_spec.proofs.Files.LeafLaws.{keys-back, keys-fine, bone-back, bone-fine, anim-back, anim-fine, mesh-back, mesh-fine}
 use Rattle.b3d_spec.proofs.Files.NestingLaws.{node-keeps, inside-back, inside-fine}
 

@@ -11,8 +11,8 @@ use Rattle.layout.specs.Chunks.{done, stop, chunk}
 use Rattle.layout.specs.Result.{Result, accept}
 use Rattle.layout.specs.Parts.{Step, words, row, number, named, items}
 use Rattle.layout.proofs.ChunkLaws.{ended-fine}
-use Rattle.layout.proofs.Lists.{All}
-use Rattle.layout.proofs.Outs.{by-check, by-if, by-got, bad-got, got-inj}
+use Rattle.layout.proofs.AllLaws.{All}
+use Rattle.layout.proofs.ResultLaws.{by-check, by-if, by-got, bad-got, got-inj}
 use Rattle.b3d_spec.specs.declared.Mode.the-variants.{Lenient}
 use Rattle.b3d_spec.specs.Nesting.{nesting, Reached, start, requiredBetween, end, next, onward, order, inside}
 use Rattle.b3d_spec.specs.Parse.{readTexture, readTextures, readBrush, readBrushes, readMesh, readBone, readKeys, readAnim, aMesh, aBone, readKind, Animation, withKeys, readAnimation, Inner, readNodes, readBelow, readNode, readRoot, readOne, readBody, parse}

@@ -9,8 +9,8 @@ use lib.ListN.{length, length-replicate}
 use Rattle.layout.specs.Rules.{Rule, any}
 use Rattle.layout.specs.Write.{writeWords, writeItems, writeChunks as writeChunksOf}
 use Rattle.layout.proofs.ChunkLaws.{length-chunk}
-use Rattle.layout.proofs.Fitting.{Fits}
-use Rattle.layout.proofs.Lists.{All}
+use Rattle.layout.proofs.WellFormedLaws.{Fits}
+use Rattle.layout.proofs.AllLaws.{All}
 use Rattle.layout.proofs.PartLaws.{length-words, length-fits, length-text}
 use Rattle.b3d_spec.specs.declared.Mode.the-variants.{Lenient}
 use Rattle.b3d_spec.specs.Encode.{writeTexture, writeBrush, writeVertices, writeTriangles, setChunks, writeMesh, writeKeys, kindChunks, keyChunks, animChunks, writeNode, nodeChunks, textureChunks, brushChunks, writeScene, encode}
@@ -20,7 +20,7 @@ use Rattle.b3d_spec.specs.Sizes.{textureSize, texsSize, brushSize, brusS
 use Rattle.b3d_spec.specs.declared.Tag.the-variants.{TEXS, BRUS, NODE, MESH, VRTS, TRIS, BONE, KEYS, ANIM}
 use Rattle.b3d_spec.specs.Tags.{Chunk, writeChunks, code}
 use Rattle.b3d_spec.proofs.Files.FileLaws.{length-encode}
-use Rattle.b3d_spec.proofs.Fitting.{FitTexture, FitBrush, FitTriangles, FitMesh, FitKeys, FitKind, FitAnim, FitData, FitNodes, WellFormed}
+use Rattle.b3d_spec.proofs.WellFormedLaws.{FitTexture, FitBrush, FitTriangles, FitMesh, FitKeys, FitKind, FitAnim, FitData, FitNodes, WellFormed}
 
 rows-size : (rs : List Rule) (l : List (List ℕ)) → All (Fits rs) l → length (writeItems writeWords l) ≡ length l * (4 * length rs)
 rows-size rs [] h = sym (zero-mul (4 * length rs))

@@ -7,7 +7,7 @@ use mathlib.Core.List.{List}
 use Rattle.wire.specs.Test.{if}
 use Rattle.layout.specs.Chunks.{done, stop, chunk}
 use Rattle.layout.specs.Result.{Result, accept, _>>=_}
-use Rattle.layout.proofs.Outs.{by-got, bad-got, got-inj}
+use Rattle.layout.proofs.ResultLaws.{by-got, bad-got, got-inj}
 use Rattle.b3d_spec.specs.declared.Mode.{Mode}
 use Rattle.b3d_spec.specs.Nesting.{start, next, onward, order, inside, reachedAt}
 use Rattle.b3d_spec.specs.Parse.{readOne, Vertices, readVertices, noVertices, readMesh, readBone, readKeys, readAnim, aMesh, aBone, readKind, Animation, withKeys, readAnimation}
@@ -15,8 +15,8 @@ use Rattle.b3d_spec.specs.Scene.{Kind, Anim, anim}
 use Rattle.b3d_spec.specs.declared.Tag.{Tag}
 use Rattle.b3d_spec.specs.declared.Tag.the-variants.{BB3D, TEXS, BRUS, NODE, MESH, VRTS, TRIS, BONE, KEYS, ANIM}
 use Rattle.b3d_spec.specs.Tags.{is, Chunks, split, Found}
-use Rattle.b3d_spec.proofs.Files.TagCodes.{by-tag}
-use Rattle.b3d_spec.proofs.Files.Entries.{Either}
+use Rattle.b3d_spec.proofs.Files.TagCodeLaws.{by-tag}
+use Rattle.b3d_spec.proofs.Files.EntryLaws.{Either}
 
 -- ---- which tags come
 

@@ -7,15 +7,15 @@ use mathlib.Core.List.{[], _∷_, _++_}
 use lib.ListN.{length, length-append, length-map}
 use Rattle.wire.specs.Test.{if}
 use Rattle.layout.specs.Rules.{NONE}
-use Rattle.layout.proofs.Lists.{All, all-pure, all-map, all-zip}
+use Rattle.layout.proofs.AllLaws.{All, all-pure, all-map, all-zip}
 use Rattle.b3d_spec.specs.Scene.{Forest, noNodes, node, Scene}
 use Rattle.b3d_spec.specs.Tables.{width, start, reached, nodeTables, ownRows, textureRow, brushRow, withNode, withForest, forestRows, rows, table, tables, counts, nodesIn}
 use Rattle.b3d_spec.specs.declared.Counts.{Counts}
-use Rattle.b3d_spec.proofs.Fitting.{WellFormed}
-use Rattle.b3d_spec.proofs.Rows.Nodes.{Step, steps}
+use Rattle.b3d_spec.proofs.WellFormedLaws.{WellFormed}
+use Rattle.b3d_spec.proofs.Rows.NodeRowLaws.{Step, steps}
 use Rattle.b3d_spec.proofs.Rows.RebuildLaws.{rows-wide}
-use Rattle.b3d_spec.proofs.Rows.RowLists.{words-length}
-use Rattle.b3d_spec.proofs.Rows.RowParts.{Wide}
+use Rattle.b3d_spec.proofs.Rows.RowListLaws.{words-length}
+use Rattle.b3d_spec.proofs.Rows.RowPartLaws.{Wide}
 
 -- table k's count after a forest
 abbrev pub Rise : Forest → ℕ → Counts → ℕ → Type 0

@@ -10,7 +10,7 @@ use lib.ListN.{length}
 use lib.Dec.{T, eqb, eqb→eq}
 use mir.Facts.{and-yes, eqb-no}
 use Rattle.wire.specs.Test.{if}
-use Rattle.layout.proofs.Outs.{by-test}
+use Rattle.layout.proofs.ResultLaws.{by-test}
 use Rattle.b3d_spec.specs.Rules.{vertexWords, keyWords}
 use Rattle.b3d_spec.specs.Mask.{mask, ones, padded, presentWords, vertexHas, vertexMask, keyHas, keyMask}
 

@@ -9,9 +9,9 @@ use Rattle.wire.specs.Test.{if}
 use Rattle.layout.specs.WellFormed.{all}
 use Rattle.layout.specs.Parts.{Name}
 use Rattle.layout.specs.Rules.{NONE}
-use Rattle.layout.proofs.Lists.{All, all-pure, all-map, all-zip, all-append, all-left, all-right, all-of-map, all-from-map, map-back}
-use Rattle.layout.proofs.Outs.{if-yes, if-no, by-test}
-use Rattle.layout.proofs.Testing.{Tests, both, le-is, all-is}
+use Rattle.layout.proofs.AllLaws.{All, all-pure, all-map, all-zip, all-append, all-left, all-right, all-of-map, all-from-map, map-back}
+use Rattle.layout.proofs.ResultLaws.{if-yes, if-no, by-test}
+use Rattle.layout.proofs.TestLaws.{Tests, both, le-is, all-is}
 use Rattle.b3d_spec.specs.declared.Mode.{Mode}
 use Rattle.b3d_spec.specs.Colours.{passes}
 use Rattle.b3d_spec.specs.Rebuild.{Lent, cut, lentRows, hasCountedRows, textureFrom, brushFrom, Rows, Placed, walk, tree, assembled, nodeNames, names, stands, sound, rebuild}
@@ -20,11 +20,11 @@ use Rattle.b3d_spec.specs.Scene.{Texture, Brush, Forest, noNodes, node, 
 use Rattle.layout.specs.Rows.{joined}
 use Rattle.b3d_spec.specs.Tables.{width, start, reached, textureRow, brushRow, ownRows, withNode, withForest, forestRows, rows, table, nodeTables, tables, nodesIn}
 use Rattle.b3d_spec.specs.declared.Counts.{Counts}
-use Rattle.b3d_spec.proofs.Fitting.{FitTexture, FitBrush, FitSlots, FitNodes, OneRoot, WellFormed, fits-is}
-use Rattle.b3d_spec.proofs.Rows.Nodes.{OwnWide, own-wide, From}
-use Rattle.b3d_spec.proofs.Rows.RowLists.{same-is, same-rows-is, cut-length, words-cut, cut-words}
-use Rattle.b3d_spec.proofs.Rows.RowParts.{Wide, Stands, texture-wide, texture-back, brush-wide, brush-back}
-use Rattle.b3d_spec.proofs.Rows.Trees.{flat, flatRows, flat-rows, tree-flat, Known, walk-back}
+use Rattle.b3d_spec.proofs.WellFormedLaws.{FitTexture, FitBrush, FitSlots, FitNodes, OneRoot, WellFormed, fits-is}
+use Rattle.b3d_spec.proofs.Rows.NodeRowLaws.{OwnWide, own-wide, From}
+use Rattle.b3d_spec.proofs.Rows.RowListLaws.{same-is, same-rows-is, cut-length, words-cut, cut-words}
+use Rattle.b3d_spec.proofs.Rows.RowPartLaws.{Wide, Stands, texture-wide, texture-back, brush-wide, brush-back}
+use Rattle.b3d_spec.proofs.Rows.TreeLaws.{flat, flatRows, flat-rows, tree-flat, Known, walk-back}
 use lib.Dec.{T as True, leb→le}
 use mir.Facts.{and-yes, yes-and}
 use mathlib.Core.Bool.{_&&_}

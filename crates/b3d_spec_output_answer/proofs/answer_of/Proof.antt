@@ -1,5 +1,5 @@
 -- `answer_of` looks whether the bytes have room.
-use Rattle.b3d_spec_output_answer.proofs.SizeAnswers.{answer-laws}
+use Rattle.b3d_spec_output_answer.proofs.SizeAnswerLaws.{answer-laws}
 use borrow.Author.Needs.{needs}
 use Rattle.b3d_spec_output_answer.proofs.answer_of.Statement.{statement}
 use Rattle.b3d_spec_output_answer.proofs.answer_of.Tie as tie

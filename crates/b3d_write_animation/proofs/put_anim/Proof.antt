@@ -1,5 +1,5 @@
 -- `put_anim` writes an ANIM where there is one.
-use Rattle.shared_output.proofs.Joining.{same-laws}
+use Rattle.shared_output.proofs.PartLaws.{same-laws}
 use Rattle.b3d_write_animation.proofs.MoveLaws.{anim-laws}
 use borrow.Author.Needs.{needs}
 use Rattle.b3d_write_animation.proofs.put_anim.Statement.{statement}

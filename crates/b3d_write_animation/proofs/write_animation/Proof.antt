@@ -1,5 +1,5 @@
 -- `write_animation` writes the key lists and then the ANIM.
-use Rattle.shared_output.proofs.Joining.{both-laws}
+use Rattle.shared_output.proofs.PartLaws.{both-laws}
 use Rattle.b3d_write_animation.proofs.MoveLaws.{moves-laws}
 use Rattle.b3d_write_item_lists.specs.Runs.{runWidth, runsBytes}
 use borrow.Author.Needs.{needs}

@@ -1,7 +1,7 @@
 -- `write_counted` cuts each table and writes the file of what is left.
 use mathlib.Core.Path.{sym}
 use lib.Seq.{length-take-le}
-use Rattle.b3d_write_counted.proofs.Sizes.{are-sized}
+use Rattle.b3d_write_counted.proofs.SizeLaws.{are-sized}
 use borrow.Author.Needs.{needs}
 use Rattle.b3d_write_counted.proofs.write_counted.Statement.{statement}
 use Rattle.b3d_write_counted.proofs.write_counted.Tie as tie

@@ -1,5 +1,5 @@
 -- `put_lists` writes the textures, then the brushes.
-use Rattle.shared_output.proofs.Joining.{both-laws}
+use Rattle.shared_output.proofs.PartLaws.{both-laws}
 use Rattle.b3d_write_file.proofs.FileLaws.{lists-laws}
 use borrow.Author.Needs.{needs}
 use Rattle.b3d_write_file.proofs.put_lists.Statement.{statement}

@@ -1,5 +1,5 @@
 -- `put_list` writes keys and then the head of their chunk.
-use Rattle.shared_output.proofs.Joining.{chunk-laws}
+use Rattle.shared_output.proofs.PartLaws.{chunk-laws}
 use borrow.Author.Needs.{needs}
 use Rattle.b3d_write_item_lists.proofs.put_list.Statement.{statement}
 use Rattle.b3d_write_item_lists.proofs.put_list.Tie as tie

@@ -1,5 +1,5 @@
 -- `put_run` writes a run of its kind.
-use Rattle.shared_output.proofs.Joining.{same-laws}
+use Rattle.shared_output.proofs.PartLaws.{same-laws}
 use Rattle.b3d_write_item_lists.proofs.RunLaws.{run-laws}
 use borrow.Author.Needs.{needs}
 use Rattle.b3d_write_item_lists.proofs.put_run.Statement.{statement}

@@ -3,7 +3,7 @@ use Prim.Native.Nat.{_-_}
 use lib.ListN.{take, drop}
 use Rattle.b3d_write_row_runs.specs.Lent.{rowsIn}
 use Rattle.b3d_write_item_lists.specs.Runs.{runWidth, runBytes, runsBytes}
-use Rattle.b3d_write_item_lists.proofs.RunByRun.{RunsLeft, runs-laws}
+use Rattle.b3d_write_item_lists.proofs.GroupByGroupLaws.{RunsLeft, runs-laws}
 use Rattle.b3d_write_item_lists.proofs.RunLaws.{runs-are}
 use borrow.Author.Needs.{needs}
 use Rattle.b3d_write_item_lists.proofs.put_runs.Statement.{statement}

@@ -1,5 +1,5 @@
 -- `put_values` writes three words and then the head of their chunk.
-use Rattle.shared_output.proofs.Joining.{chunk-laws}
+use Rattle.shared_output.proofs.PartLaws.{chunk-laws}
 use borrow.Author.Needs.{needs}
 use Rattle.b3d_write_items.proofs.put_values.Statement.{statement}
 use Rattle.b3d_write_items.proofs.put_values.Tie as tie

@@ -1,7 +1,7 @@
 -- `key_back` writes one run after the other.
-use Rattle.shared_output.proofs.Joining.{both-laws}
-use Rattle.b3d_write_row_runs.proofs.Squeezing.{part-laws}
-use Rattle.b3d_write_keys.proofs.Keys.{back-laws}
+use Rattle.shared_output.proofs.PartLaws.{both-laws}
+use Rattle.b3d_write_row_runs.proofs.PresentWordLaws.{part-laws}
+use Rattle.b3d_write_keys.proofs.KeyLaws.{back-laws}
 use borrow.Author.Needs.{needs}
 use Rattle.b3d_write_keys.proofs.key_back.Statement.{statement}
 use Rattle.b3d_write_keys.proofs.key_back.Tie as tie

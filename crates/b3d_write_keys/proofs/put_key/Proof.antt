@@ -1,6 +1,6 @@
 -- `put_key` writes the first two runs, then the others.
-use Rattle.shared_output.proofs.Joining.{both-laws}
-use Rattle.b3d_write_row_runs.proofs.Squeezing.{part-laws}
+use Rattle.shared_output.proofs.PartLaws.{both-laws}
+use Rattle.b3d_write_row_runs.proofs.PresentWordLaws.{part-laws}
 use borrow.Author.Needs.{needs}
 use Rattle.b3d_write_keys.proofs.put_key.Statement.{statement}
 use Rattle.b3d_write_keys.proofs.put_key.Tie as tie

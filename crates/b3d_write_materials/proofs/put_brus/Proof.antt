@@ -1,5 +1,5 @@
 -- `put_brus` writes rows and then the head of their chunk.
-use Rattle.shared_output.proofs.Joining.{chunk-laws}
+use Rattle.shared_output.proofs.PartLaws.{chunk-laws}
 use borrow.Author.Needs.{needs}
 use Rattle.b3d_write_materials.proofs.put_brus.Statement.{statement}
 use Rattle.b3d_write_materials.proofs.put_brus.Tie as tie

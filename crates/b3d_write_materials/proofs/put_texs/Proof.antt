@@ -1,5 +1,5 @@
 -- `put_texs` writes rows and then the head of their chunk.
-use Rattle.shared_output.proofs.Joining.{chunk-laws}
+use Rattle.shared_output.proofs.PartLaws.{chunk-laws}
 use borrow.Author.Needs.{needs}
 use Rattle.b3d_write_materials.proofs.put_texs.Statement.{statement}
 use Rattle.b3d_write_materials.proofs.put_texs.Tie as tie

@@ -1,7 +1,7 @@
 -- `write_mesh` writes the vertices and the triangle sets, and then the head of their chunk.
 use mathlib.Core.Path.{refl}
-use Rattle.shared_output.proofs.Joining.{chunk-fits, two-room, two-inside, two-room-2, two-long, two-small, two-done}
-use Rattle.b3d_write_mesh.proofs.Bodies.{mesh-begin, mesh-both, mesh-end}
+use Rattle.shared_output.proofs.PartLaws.{chunk-fits, two-room, two-inside, two-room-2, two-long, two-small, two-done}
+use Rattle.b3d_write_mesh.proofs.BodyLaws.{mesh-begin, mesh-both, mesh-end}
 use Rattle.b3d_write_item_lists.specs.Runs.{runWidth, runsBytes}
 use borrow.Author.Needs.{needs}
 use Rattle.b3d_write_mesh.proofs.write_mesh.Statement.{statement}

@@ -1,7 +1,7 @@
 -- `write_vertices` writes three words and the vertices, and then the head of their chunk.
 use mathlib.Core.Path.{refl}
-use Rattle.shared_output.proofs.Joining.{chunk-fits, two-room, two-inside, two-room-2, two-long, two-small, two-done}
-use Rattle.b3d_write_mesh.proofs.Bodies.{vertices-begin, vertices-both}
+use Rattle.shared_output.proofs.PartLaws.{chunk-fits, two-room, two-inside, two-room-2, two-long, two-small, two-done}
+use Rattle.b3d_write_mesh.proofs.BodyLaws.{vertices-begin, vertices-both}
 use borrow.Author.Needs.{needs}
 use Rattle.b3d_write_mesh.proofs.write_vertices.Statement.{statement}
 use Rattle.b3d_write_mesh.proofs.write_vertices.Tie as tie

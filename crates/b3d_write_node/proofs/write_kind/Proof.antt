@@ -1,5 +1,5 @@
 -- `write_kind` writes the chunk of a kind, if it has one.
-use Rattle.shared_output.proofs.Joining.{same-laws}
+use Rattle.shared_output.proofs.PartLaws.{same-laws}
 use Rattle.b3d_write_node.proofs.KindLaws.{kind-laws}
 use borrow.Author.Needs.{needs}
 use Rattle.b3d_write_node.proofs.write_kind.Statement.{statement}

@@ -1,6 +1,6 @@
 -- `put_front` writes one run after the other.
-use Rattle.shared_output.proofs.Joining.{both-laws}
-use Rattle.b3d_write_row_runs.proofs.Squeezing.{part-laws}
+use Rattle.shared_output.proofs.PartLaws.{both-laws}
+use Rattle.b3d_write_row_runs.proofs.PresentWordLaws.{part-laws}
 use borrow.Author.Needs.{needs}
 use Rattle.b3d_write_row_runs.proofs.put_front.Statement.{statement}
 use Rattle.b3d_write_row_runs.proofs.put_front.Tie as tie

@@ -1,6 +1,6 @@
 -- `put_full` writes so many words, by their number.
-use Rattle.shared_output.proofs.Joining.{same-laws}
-use Rattle.b3d_write_row_runs.proofs.Squeezing.{few-laws}
+use Rattle.shared_output.proofs.PartLaws.{same-laws}
+use Rattle.b3d_write_row_runs.proofs.PresentWordLaws.{few-laws}
 use borrow.Author.Needs.{needs}
 use Rattle.b3d_write_row_runs.proofs.put_full.Statement.{statement}
 use Rattle.b3d_write_row_runs.proofs.put_full.Tie as tie

@@ -1,7 +1,7 @@
 -- `put_few` writes so many words, by their number.
-use Rattle.shared_output.proofs.Joining.{same-laws}
-use Rattle.b3d_write_row_runs.proofs.Squeezing.{few-laws}
-use Rattle.b3d_write_vertices.proofs.Vertices.{four-laws}
+use Rattle.shared_output.proofs.PartLaws.{same-laws}
+use Rattle.b3d_write_row_runs.proofs.PresentWordLaws.{few-laws}
+use Rattle.b3d_write_vertices.proofs.VertexLaws.{four-laws}
 use borrow.Author.Needs.{needs}
 use Rattle.b3d_write_vertices.proofs.put_few.Statement.{statement}
 use Rattle.b3d_write_vertices.proofs.put_few.Tie as tie

@@ -3,8 +3,8 @@ use mathlib.Core.List.{[]}
 use lib.ListN.{take}
 use Rattle.layout.specs.Write.{writeWords}
 use Rattle.b3d_write_row_runs.specs.RowBytes.{setsBytes}
-use Rattle.b3d_write_row_runs.proofs.RowByRow.{RowsLeft, rows-laws}
-use Rattle.b3d_write_vertices.proofs.Vertices.{sets-laws}
+use Rattle.b3d_write_row_runs.proofs.RowByRowLaws.{RowsLeft, rows-laws}
+use Rattle.b3d_write_vertices.proofs.VertexLaws.{sets-laws}
 use borrow.Author.Needs.{needs}
 use Rattle.b3d_write_vertices.proofs.put_sets.Statement.{statement}
 use Rattle.b3d_write_vertices.proofs.put_sets.Tie as tie

@@ -1,7 +1,7 @@
 -- `put_vertex` writes the first two runs, then the others.
-use Rattle.shared_output.proofs.Joining.{both-laws}
-use Rattle.b3d_write_row_runs.proofs.Squeezing.{part-laws}
-use Rattle.b3d_write_vertices.proofs.Vertices.{back-laws}
+use Rattle.shared_output.proofs.PartLaws.{both-laws}
+use Rattle.b3d_write_row_runs.proofs.PresentWordLaws.{part-laws}
+use Rattle.b3d_write_vertices.proofs.VertexLaws.{back-laws}
 use borrow.Author.Needs.{needs}
 use Rattle.b3d_write_vertices.proofs.put_vertex.Statement.{statement}
 use Rattle.b3d_write_vertices.proofs.put_vertex.Tie as tie

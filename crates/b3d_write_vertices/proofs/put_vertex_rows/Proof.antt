@@ -1,7 +1,7 @@
 -- `put_vertex_rows` writes rows by the runs of a vertex. The loop has `left` rows to write, which is its measure.
-use Rattle.b3d_rule_row_masks.proofs.Masks.{known-runs}
-use Rattle.b3d_write_row_runs.proofs.RowByRow.{rows-done, rows-laws}
-use Rattle.b3d_write_row_runs.proofs.Squeezing.{Left, row-laws, known-there, known-start, known-put}
+use Rattle.b3d_rule_row_masks.proofs.MaskLaws.{known-runs}
+use Rattle.b3d_write_row_runs.proofs.RowByRowLaws.{rows-done, rows-laws}
+use Rattle.b3d_write_row_runs.proofs.PresentWordLaws.{Left, row-laws, known-there, known-start, known-put}
 use borrow.Author.Needs.{needs}
 use Rattle.b3d_write_vertices.proofs.put_vertex_rows.Statement.{statement}
 use Rattle.b3d_write_vertices.proofs.put_vertex_rows.Tie as tie

@@ -1,7 +1,7 @@
 -- `fill_mesh` goes from submesh to submesh. Facts that lie far back are named.
 use Prim.Native.Nat.{_-_}
 use borrow.Author.Needs.{needs}
-use Rattle.shared_table_words.proofs.Storing.{part-long}
+use Rattle.shared_table_words.proofs.StoreLaws.{part-long}
 use Rattle.cal3d_mesh_fill.proofs.FillLaws.{MeshLeft, turn-less, start-head, mesh-start, mesh-done, turn-head, turn-fit, turn-submesh, fits-row, fits-next, fits-head, turn-vertices, turn-springs-in, turn-springs, turn-faces-in, turn-faces, turn-few, springs-before, faces-before, fits-springs, fits-faces, turn-end, turn-next}
 use Rattle.cal3d_mesh_fill.proofs.fill_mesh.Statement.{statement}
 use Rattle.cal3d_mesh_fill.proofs.fill_mesh.Tie as tie

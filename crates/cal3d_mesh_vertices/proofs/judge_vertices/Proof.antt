@@ -2,7 +2,7 @@
 use Prim.Native.Nat.{_+_, _-_, _*_}
 use native.Mathlib.Omega.{arith}
 use borrow.Author.Needs.{needs}
-use Rattle.shared_counted_lists.proofs.Sums.{Summing, sums, sums-room}
+use Rattle.shared_counted_lists.proofs.SumLaws.{Summing, sums, sums-room}
 use Rattle.cal3d_spec.specs.Meshes.{readVertex}
 use Rattle.cal3d_mesh_vertices.specs.Vertices.{influencesIn}
 use Rattle.cal3d_mesh_vertices.proofs.VertexLaws.{no-influences, vertex-adds, vertex-bytes}

@@ -2,7 +2,7 @@
 use Prim.Native.Nat.{_-_}
 use native.Mathlib.Omega.{arith}
 use borrow.Author.Needs.{needs}
-use Rattle.shared_counted_lists.proofs.Sums.{Summing, sums, sums-room}
+use Rattle.shared_counted_lists.proofs.SumLaws.{Summing, sums, sums-room}
 use Rattle.cal3d_spec.specs.Skeletons.{readBone}
 use Rattle.cal3d_skeleton_bones.specs.Bones.{childrenIn}
 use Rattle.cal3d_skeleton_bones.proofs.WalkLaws.{none-in, bone-adds}

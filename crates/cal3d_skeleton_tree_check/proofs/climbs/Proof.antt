@@ -1,6 +1,6 @@
 -- `climbs` answers whether a bone's parents end. The loop has passed parents; its measure is how many steps are left.
 use borrow.Author.Needs.{needs}
-use Rattle.cal3d_skeleton_tree_check.proofs.Climbing.{Climbing, climbing}
+use Rattle.cal3d_skeleton_tree_check.proofs.ClimbLaws.{Climbing, climbing}
 use Rattle.cal3d_skeleton_tree_check.proofs.climbs.Statement.{statement}
 use Rattle.cal3d_skeleton_tree_check.proofs.climbs.Tie as tie
 

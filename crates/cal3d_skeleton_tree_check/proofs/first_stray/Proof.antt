@@ -3,7 +3,7 @@ use Prim.Native.Nat.{_-_}
 use mathlib.Core.Path.{_≡_}
 use lib.ListN.{length}
 use borrow.Author.Needs.{needs}
-use Rattle.cal3d_skeleton_tree_check.proofs.Straying.{Straying, straying, stray-score, stray-ends, stray-kept, stray-next}
+use Rattle.cal3d_skeleton_tree_check.proofs.StrayLaws.{Straying, straying, stray-score, stray-ends, stray-kept, stray-next}
 use Rattle.cal3d_skeleton_tree_check.proofs.first_stray.Statement.{statement}
 use Rattle.cal3d_skeleton_tree_check.proofs.first_stray.Tie as tie
 

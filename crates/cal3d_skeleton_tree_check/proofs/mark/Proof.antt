@@ -2,7 +2,7 @@
 use mathlib.Core.Path.{_≡_}
 use lib.ListN.{length}
 use borrow.Author.Needs.{needs}
-use Rattle.cal3d_skeleton_tree_check.proofs.Climbing.{Marking, marking}
+use Rattle.cal3d_skeleton_tree_check.proofs.ClimbLaws.{Marking, marking}
 use Rattle.cal3d_skeleton_tree_check.proofs.mark.Statement.{statement}
 use Rattle.cal3d_skeleton_tree_check.proofs.mark.Tie as tie
 

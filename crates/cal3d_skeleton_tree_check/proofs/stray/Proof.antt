@@ -4,7 +4,7 @@ use mathlib.Core.Path.{sym}
 use lib.ListN.{length}
 use lib.Seq.{length-take-le}
 use borrow.Author.Needs.{needs}
-use Rattle.cal3d_skeleton_tree_check.proofs.Climbing.{fresh}
+use Rattle.cal3d_skeleton_tree_check.proofs.ClimbLaws.{fresh}
 use Rattle.cal3d_skeleton_tree_check.proofs.stray.Statement.{statement}
 use Rattle.cal3d_skeleton_tree_check.proofs.stray.Tie as tie
 

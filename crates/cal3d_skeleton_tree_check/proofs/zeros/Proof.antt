@@ -1,7 +1,7 @@
 -- `zeros` answers as many zeros.
 use Prim.Native.Nat.{ℕ}
 use lib.ListN.{length-replicate}
-use Rattle.cal3d_skeleton_tree_check.proofs.Climbing.{zeros-none}
+use Rattle.cal3d_skeleton_tree_check.proofs.ClimbLaws.{zeros-none}
 use Rattle.cal3d_skeleton_tree_check.proofs.zeros.Statement.{statement}
 use Rattle.cal3d_skeleton_tree_check.proofs.zeros.Tie as tie
 

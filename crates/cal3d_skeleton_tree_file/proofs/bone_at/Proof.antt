@@ -2,7 +2,7 @@
 use Prim.Native.Nat.{_-_, _≤_}
 use borrow.Author.Needs.{needs}
 use Rattle.cal3d_skeleton_tree_file.specs.Links.{bonesAt}
-use Rattle.cal3d_skeleton_tree_file.proofs.Places.{Placing, places}
+use Rattle.cal3d_skeleton_tree_file.proofs.PlaceLaws.{Placing, places}
 use Rattle.cal3d_skeleton_tree_file.proofs.bone_at.Statement.{statement}
 use Rattle.cal3d_skeleton_tree_file.proofs.bone_at.Tie as tie
 

@@ -4,7 +4,7 @@ use mathlib.Core.Path.{_≡_, refl}
 use lib.ListN.{length}
 use borrow.Author.Needs.{needs}
 use Rattle.cal3d_skeleton_tree_file.specs.Links.{bonesAt}
-use Rattle.cal3d_skeleton_tree_file.proofs.Gathers.{Gathering, gathers, gather-room}
+use Rattle.cal3d_skeleton_tree_file.proofs.GatherLaws.{Gathering, gathers, gather-room}
 use Rattle.cal3d_skeleton_tree_file.proofs.gather.Statement.{statement}
 use Rattle.cal3d_skeleton_tree_file.proofs.gather.Tie as tie
 

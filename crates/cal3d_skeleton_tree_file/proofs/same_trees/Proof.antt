@@ -2,7 +2,7 @@
 use mathlib.Core.Path.{sym}
 use lib.Seq.{length-take-le}
 use borrow.Author.Needs.{needs}
-use Rattle.cal3d_skeleton_tree_file.proofs.Answers.{zeros-front}
+use Rattle.cal3d_skeleton_tree_file.proofs.AnswerLaws.{zeros-front}
 use Rattle.cal3d_skeleton_tree_file.proofs.same_trees.Statement.{statement}
 use Rattle.cal3d_skeleton_tree_file.proofs.same_trees.Tie as tie
 

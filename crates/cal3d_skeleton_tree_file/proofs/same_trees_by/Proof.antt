@@ -1,6 +1,6 @@
 -- `same_trees_by` answers `trees`, by the scores.
 use borrow.Author.Needs.{needs}
-use Rattle.cal3d_skeleton_tree_file.proofs.Answers.{answers}
+use Rattle.cal3d_skeleton_tree_file.proofs.AnswerLaws.{answers}
 use Rattle.cal3d_skeleton_tree_file.proofs.same_trees_by.Statement.{statement}
 use Rattle.cal3d_skeleton_tree_file.proofs.same_trees_by.Tie as tie
 

@@ -5,7 +5,7 @@ use lib.ListN.{length}
 use native.Mathlib.Omega.{arith}
 use borrow.Author.Needs.{needs}
 use Rattle.cal3d_skeleton_tree_file.specs.Links.{bonesAt}
-use Rattle.cal3d_skeleton_tree_file.proofs.Tells.{Telling, tells, tell-room, tell-entries, tell-listed, tell-next}
+use Rattle.cal3d_skeleton_tree_file.proofs.TellLaws.{Telling, tells, tell-room, tell-entries, tell-listed, tell-next}
 use Rattle.cal3d_skeleton_tree_file.proofs.tell.Statement.{statement}
 use Rattle.cal3d_skeleton_tree_file.proofs.tell.Tie as tie
 

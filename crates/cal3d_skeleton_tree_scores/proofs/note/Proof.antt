@@ -1,6 +1,6 @@
 -- `note` adds to a bone's score.
 use borrow.Author.Needs.{needs}
-use Rattle.cal3d_skeleton_tree_check.proofs.Straying.{notes}
+use Rattle.cal3d_skeleton_tree_check.proofs.StrayLaws.{notes}
 use Rattle.cal3d_skeleton_tree_scores.proofs.note.Statement.{statement}
 use Rattle.cal3d_skeleton_tree_scores.proofs.note.Tie as tie
 

@@ -2,7 +2,7 @@
 use Prim.Native.Nat.{_-_}
 use native.Mathlib.Omega.{arith}
 use borrow.Author.Needs.{needs}
-use Rattle.cal3d_skeleton_tree_scores.proofs.Noting.{Noting, noting, noting-low, noting-bone}
+use Rattle.cal3d_skeleton_tree_scores.proofs.NoteLaws.{Noting, noting, noting-low, noting-bone}
 use Rattle.cal3d_skeleton_tree_scores.proofs.note_list.Statement.{statement}
 use Rattle.cal3d_skeleton_tree_scores.proofs.note_list.Tie as tie
 

@@ -1,4 +1,4 @@
--- `kelompuris_b3d_judge` answers what `b3d_read_answer::judge` does.
+-- `kelompuris_b3d_judge` answers what `b3d_read_answer::judge_answer` does.
 use borrow.Author.Needs.{needs}
 use Rattle.kelompuris_c.proofs.Laws.{mode-judge}
 use Rattle.kelompuris_c.proofs.kelompuris_b3d_judge.Statement.{statement}

@@ -1,4 +1,4 @@
--- `kelompuris_b3d_pieces_close` meets its contract: the walk of its code (`CloseWalk.antt`) at its own types and functions. All that the walk knows of what it calls is that each meets its contract, and of the weights what `WeighRounds` says.
+-- `kelompuris_b3d_pieces_close` meets its contract: the walk of its code (`CloseWalkLaws.antt`) at its own types and functions. All that the walk knows of what it calls is that each meets its contract, and of the weights what `WeighRounds` says.
 -- Assumes nothing.
 use mathlib.Core.Path.{refl}
 use Prim.Native.Nat.{ℕ}
@@ -51,17 +51,17 @@ use Rattle.b3d_pieces_records_tests.proofs.weigh_next.Symbol.{name as #weigh-ne
 use Rattle.b3d_pieces_records_tests.proofs.weigh_next.Met as weigh-next-thm
 use Rattle.b3d_pieces_records_loop.specs.declared.PieceClosed.{PieceClosed}
 use Rattle.b3d_pieces_records_loop.specs.Rounds.{blank, numbers, CloseReady, ClosedIs}
-use Rattle.b3d_pieces_records_loop.proofs.WeighRounds.{Weighing, weighsLeft, weigh-first, weigh-get, weigh-room, weigh-ready, weigh-next, weigh-less, close-ready}
-use Rattle.b3d_pieces_records_loop.proofs.CloseRounds.{close-last}
+use Rattle.b3d_pieces_records_loop.proofs.WeighRoundLaws.{Weighing, weighsLeft, weigh-first, weigh-get, weigh-room, weigh-ready, weigh-next, weigh-less, close-ready}
+use Rattle.b3d_pieces_records_loop.proofs.CloseRoundLaws.{close-last}
 use Rattle.b3d_pieces_records_loop.proofs.PieceClosed as F
 use Rattle.b3d_pieces_records_loop.proofs.PieceClosed.Laws as F′
 use Rattle.b3d_pieces_records_loop.proofs.closing.closed as closed
 use Rattle.b3d_pieces_records_loop.proofs.closing.closed.Symbol as closed-def
 use Rattle.b3d_pieces_records_loop.proofs.closing.closed.Symbol.{name as #closed}
 use Rattle.b3d_pieces_records_loop.proofs.closing.closed.Met as closed-thm
-use Rattle.kelompuris_c_pieces.proofs.WalkParts.{Gives, calls, gives}
-use Rattle.kelompuris_c_pieces.proofs.Walks.{IsWeight, IsState, weight-written, scaled, within, records, weights, WeighFirst, WeighNext, first-gives, next-gives}
-use Rattle.kelompuris_c_pieces.proofs.CloseWalk as CloseWalk
+use Rattle.kelompuris_c_pieces.proofs.WalkPartLaws.{Gives, calls, gives}
+use Rattle.kelompuris_c_pieces.proofs.WalkLaws.{IsWeight, IsState, weight-written, scaled, within, records, weights, WeighFirst, WeighNext, first-gives, next-gives}
+use Rattle.kelompuris_c_pieces.proofs.CloseWalkLaws as CloseWalk
 use Rattle.kelompuris_c_pieces.proofs.kelompuris_b3d_pieces_close.Key.{name as #close}
 use Rattle.kelompuris_c_pieces.proofs.kelompuris_b3d_pieces_close as close
 use Rattle.kelompuris_c_pieces.proofs.kelompuris_b3d_pieces_close.Statement as stated

@@ -1,4 +1,4 @@
--- `kelompuris_b3d_pieces_piece` meets its contract: the walk of its code (`PieceWalk.antt`) at its own types and functions. All that the walk knows of what it calls is that each meets its contract, and of the rounds what `PieceRounds` says.
+-- `kelompuris_b3d_pieces_piece` meets its contract: the walk of its code (`PieceWalkLaws.antt`) at its own types and functions. All that the walk knows of what it calls is that each meets its contract, and of the rounds what `PieceRounds` says.
 -- Assumes nothing.
 use mathlib.Core.Path.{_≡_, refl, sym, ap, subst}
 use Prim.Native.Nat.{ℕ}
@@ -64,9 +64,9 @@ use Rattle.b3d_pieces_at_once.proofs.at_once.Symbol as at-once-def
 use Rattle.b3d_pieces_at_once.proofs.at_once.Symbol.{name as #at-once}
 use Rattle.b3d_pieces_at_once.proofs.at_once.Met as at-once-thm
 use Rattle.b3d_pieces_records_loop.specs.declared.Round.{Round}
-use Rattle.b3d_pieces_records_loop.specs.Rounds.{blank, numbers, FirstIs, TurnReady, TurnedIs, LastIs}
-use Rattle.b3d_pieces_records_loop.proofs.WeighRounds.{Weighing, weighsLeft, weigh-first, weigh-get, weigh-room, weigh-ready, weigh-next, weigh-less, once-ready}
-use Rattle.b3d_pieces_records_loop.proofs.PieceRounds.{Inv, roundsOf, once-done, inv-first, inv-get, inv-room, inv-ready, inv-put, inv-less, inv-next, inv-last}
+use Rattle.b3d_pieces_records_loop.specs.Rounds.{blank, numbers, FirstRoundIs, TurnReady, TurnedIs, LastIs}
+use Rattle.b3d_pieces_records_loop.proofs.WeighRoundLaws.{Weighing, weighsLeft, weigh-first, weigh-get, weigh-room, weigh-ready, weigh-next, weigh-less, once-ready}
+use Rattle.b3d_pieces_records_loop.proofs.PieceRoundLaws.{Inv, roundsOf, once-done, inv-first, inv-get, inv-room, inv-ready, inv-put, inv-less, inv-next, inv-last}
 use Rattle.b3d_pieces_records_loop.proofs.Round as T
 use Rattle.b3d_pieces_records_loop.proofs.Round.Laws as T′
 use Rattle.b3d_pieces_records_loop.proofs.rounds.first as first
@@ -81,9 +81,9 @@ use Rattle.b3d_pieces_records_loop.proofs.rounds.last as last
 use Rattle.b3d_pieces_records_loop.proofs.rounds.last.Symbol as last-def
 use Rattle.b3d_pieces_records_loop.proofs.rounds.last.Symbol.{name as #last}
 use Rattle.b3d_pieces_records_loop.proofs.rounds.last.Met as last-thm
-use Rattle.kelompuris_c_pieces.proofs.WalkParts.{Gives, calls, gives}
-use Rattle.kelompuris_c_pieces.proofs.Walks.{IsRound, IsWeight, IsOnce, IsFed, IsState, round-written, weight-written, once-written, scaled, within, records, weights, onces, rounds, WeighFirst, WeighNext, first-gives, next-gives}
-use Rattle.kelompuris_c_pieces.proofs.PieceWalk as PieceWalk
+use Rattle.kelompuris_c_pieces.proofs.WalkPartLaws.{Gives, calls, gives}
+use Rattle.kelompuris_c_pieces.proofs.WalkLaws.{IsRound, IsWeight, IsOnce, IsFed, IsState, round-written, weight-written, once-written, scaled, within, records, weights, onces, rounds, WeighFirst, WeighNext, first-gives, next-gives}
+use Rattle.kelompuris_c_pieces.proofs.PieceWalkLaws as PieceWalk
 use Rattle.kelompuris_c_pieces.proofs.kelompuris_b3d_pieces_piece.Key.{name as #piece}
 use Rattle.kelompuris_c_pieces.proofs.kelompuris_b3d_pieces_piece as feed
 use Rattle.kelompuris_c_pieces.proofs.kelompuris_b3d_pieces_piece.Statement as stated
@@ -171,14 +171,14 @@ module _ {M : Type 1} (𝓤 : URA M) (H : Heap 𝓤) (A : Atoms 𝓤) (W : Given
         qed W (‵ ftrue ∷ []) ∵ nothing ! $ owned ! usize (Is usize) (uint-makes 𝓤 H A W w64) m _ (refl, room₂ .0) $ fjoin ! $
         owned ! X.the-row (Is X.the-row) (LL.makes X.the-type X′.the-plain 𝓤 H A) z _ z-is $ fjoin ! $ move ! (1 ∷ 0 ∷ []) $ join ! $ frame ! $ done !
 
-    first-is : (r : Round) → ent 𝓤 (ensured 𝓤 H A first.ended (first.clauses 𝓤 H A mem run) tt (z, (m, tt)) tt r) (fact 𝓤 (FirstIs z m r))
-    first-is r = exE 𝓤 _ (λ ws. snd∗ 𝓤 (sem 𝓤 H A (lasts first.ended tt (z, (m, tt)) ws)) (fact 𝓤 (FirstIs z m r)))
+    first-is : (r : Round) → ent 𝓤 (ensured 𝓤 H A first.ended (first.clauses 𝓤 H A mem run) tt (z, (m, tt)) tt r) (fact 𝓤 (FirstRoundIs z m r))
+    first-is r = exE 𝓤 _ (λ ws. snd∗ 𝓤 (sem 𝓤 H A (lasts first.ended tt (z, (m, tt)) ws)) (fact 𝓤 (FirstRoundIs z m r)))
 
     abbrev Begun : Val → SProp 𝓤
-    Begun v = mean 𝓤 H A (Gives 𝓤 H A Round (λ r v. IsRound r v × FirstIs z m r) (‵ ftrue) v)
+    Begun v = mean 𝓤 H A (Gives 𝓤 H A Round (λ r v. IsRound r v × FirstRoundIs z m r) (‵ ftrue) v)
 
     begun-gives : ent 𝓤 (emp 𝓤) (𝓣 .C #first (X′.lowered z ∷ vint w64 m ∷ []) Begun)
-    begun-gives = calls 𝓤 H A W 𝓣 (First 𝓤 H A mem run) #first known-first to-first (emp 𝓤) goes-first Begun (gives 𝓤 H A W 𝓣 T.the-row (‵ ftrue) (FirstIs z m) (ensured 𝓤 H A first.ended (first.clauses 𝓤 H A mem run) tt (z, (m, tt)) tt) first-is)
+    begun-gives = calls 𝓤 H A W 𝓣 (First 𝓤 H A mem run) #first known-first to-first (emp 𝓤) goes-first Begun (gives 𝓤 H A W 𝓣 T.the-row (‵ ftrue) (FirstRoundIs z m) (ensured 𝓤 H A first.ended (first.clauses 𝓤 H A mem run) tt (z, (m, tt)) tt) first-is)
 
   module _ (t : Round) (t-is : IsRound t (T′.lowered t)) where
     module _ (top : OpenRecord) (top-is : Is O.the-row top (O′.lowered top ∷ [])) (ready : TurnReady t top ps) where
@@ -264,7 +264,7 @@ module _ {M : Type 1} (𝓤 : URA M) (H : Heap 𝓤) (A : Atoms 𝓤) (W : Given
     Inv = Before;
     left = roundsOf;
     long = λ t rs i. i .inv .long;
-    First = λ z r. FirstIs z m r;
+    First = λ z r. FirstRoundIs z m r;
     first = λ z v is. begun-gives z (once-written z v is);
     starts = λ w i over z e d r v is f. record { is = round-written r v is; inv = inv-first s xs ps w (i .inv) over z e d r f };
     Next = λ t rs r. TurnedIs t (getD rs (t .get) blank) ps r;

@@ -1,5 +1,5 @@
 -- `main` writes the bytes that `list` says.
-use Rattle.b3d_list_spec.proofs.Lengths.{list-counts}
+use Rattle.b3d_list_spec.proofs.LengthLaws.{list-counts}
 use borrow.Author.Needs.{needs}
 use Rattle.program_b3d_list.proofs.main.Statement.{statement}
 use Rattle.program_b3d_list.proofs.main.Tie as tie

@@ -2,7 +2,7 @@
 use Prim.Native.Nat.{_-_}
 use native.Mathlib.Omega.{arith}
 use borrow.Author.Needs.{needs}
-use Rattle.program_b3d_stream.proofs.Streaming.{Inv, stream-laws}
+use Rattle.program_b3d_stream.proofs.StreamLaws.{Inv, stream-laws}
 use Rattle.program_b3d_stream.proofs.stream.Statement.{statement}
 use Rattle.program_b3d_stream.proofs.stream.Tie as tie
 

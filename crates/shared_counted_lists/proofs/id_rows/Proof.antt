@@ -1,8 +1,8 @@
 -- `id_rows` answers where the rows end. The loop has passed whole rows with good ids; its measure is the bytes that are left.
 use Prim.Native.Nat.{_-_}
-use Rattle.wire.proofs.Left.{span}
+use Rattle.wire.proofs.LeftLaws.{span}
 use borrow.Author.Needs.{needs}
-use Rattle.shared_counted_lists.proofs.Rows.{Passing, rows}
+use Rattle.shared_counted_lists.proofs.RowLaws.{Passing, rows}
 use Rattle.shared_counted_lists.proofs.id_rows.Statement.{statement}
 use Rattle.shared_counted_lists.proofs.id_rows.Tie as tie
 

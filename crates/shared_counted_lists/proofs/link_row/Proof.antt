@@ -1,6 +1,6 @@
 -- `link_row` answers where a row with an id or NONE and a count ends.
 use borrow.Author.Needs.{needs}
-use Rattle.shared_counted_lists.proofs.Links.{links}
+use Rattle.shared_counted_lists.proofs.LinkLaws.{links}
 use Rattle.shared_counted_lists.proofs.link_row.Statement.{statement}
 use Rattle.shared_counted_lists.proofs.link_row.Tie as tie
 

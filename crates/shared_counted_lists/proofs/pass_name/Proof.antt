@@ -1,6 +1,6 @@
 -- `pass_name` answers where `sized` ends.
 use borrow.Author.Needs.{needs}
-use Rattle.shared_counted_lists.proofs.Names.{names}
+use Rattle.shared_counted_lists.proofs.NameLaws.{names}
 use Rattle.shared_counted_lists.proofs.pass_name.Statement.{statement}
 use Rattle.shared_counted_lists.proofs.pass_name.Tie as tie
 

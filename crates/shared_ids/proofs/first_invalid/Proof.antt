@@ -3,7 +3,7 @@ use Prim.Native.Nat.{_-_, _≤_}
 use native.Mathlib.Nat.{le-of-lt}
 use borrow.Author.Needs.{needs}
 use Rattle.shared_ids.specs.Ids.{idRule}
-use Rattle.shared_ids.proofs.Ids.{Before, firsts}
+use Rattle.shared_ids.proofs.IdLaws.{Before, firsts}
 use Rattle.shared_ids.proofs.first_invalid.Statement.{statement}
 use Rattle.shared_ids.proofs.first_invalid.Tie as tie
 

@@ -1,6 +1,6 @@
 -- `id_valid` answers whether an id keeps its rule.
 use borrow.Author.Needs.{needs}
-use Rattle.shared_ids.proofs.Ids.{id-laws}
+use Rattle.shared_ids.proofs.IdLaws.{id-laws}
 use Rattle.shared_ids.proofs.id_valid.Statement.{statement}
 use Rattle.shared_ids.proofs.id_valid.Tie as tie
 

@@ -1,6 +1,6 @@
 -- `copy_bytes` writes byte by byte. The loop has written i of them; its measure is how many are left.
 use Prim.Native.Nat.{_-_}
-use Rattle.shared_output.proofs.Putting.{Copied, copy-laws}
+use Rattle.shared_output.proofs.OutputLaws.{Copied, copy-laws}
 use borrow.Author.Needs.{needs}
 use Rattle.shared_output.proofs.copy_bytes.Statement.{statement}
 use Rattle.shared_output.proofs.copy_bytes.Tie as tie

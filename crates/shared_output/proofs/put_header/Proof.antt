@@ -1,5 +1,5 @@
 -- `put_header` writes two numbers.
-use Rattle.shared_output.proofs.Putting.{header-laws}
+use Rattle.shared_output.proofs.OutputLaws.{header-laws}
 use borrow.Author.Needs.{needs}
 use Rattle.shared_output.proofs.put_header.Statement.{statement}
 use Rattle.shared_output.proofs.put_header.Tie as tie

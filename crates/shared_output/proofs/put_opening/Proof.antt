@@ -1,5 +1,5 @@
 -- `put_opening` writes a header and a number.
-use Rattle.shared_output.proofs.Putting.{header-laws}
+use Rattle.shared_output.proofs.OutputLaws.{header-laws}
 use borrow.Author.Needs.{needs}
 use Rattle.shared_output.proofs.put_opening.Statement.{statement}
 use Rattle.shared_output.proofs.put_opening.Tie as tie

@@ -1,5 +1,5 @@
 -- `put_text` copies a text and ends it with a zero.
-use Rattle.shared_output.proofs.Putting.{text-laws}
+use Rattle.shared_output.proofs.OutputLaws.{text-laws}
 use borrow.Author.Needs.{needs}
 use Rattle.shared_output.proofs.put_text.Statement.{statement}
 use Rattle.shared_output.proofs.put_text.Tie as tie

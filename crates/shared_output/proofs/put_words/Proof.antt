@@ -1,6 +1,6 @@
 -- `put_words` writes word by word. The loop has written i of them; its measure is how many are left.
 use Prim.Native.Nat.{_-_}
-use Rattle.shared_output.proofs.Putting.{WordsLeft, words-laws}
+use Rattle.shared_output.proofs.OutputLaws.{WordsLeft, words-laws}
 use borrow.Author.Needs.{needs}
 use Rattle.shared_output.proofs.put_words.Statement.{statement}
 use Rattle.shared_output.proofs.put_words.Tie as tie

@@ -1,5 +1,5 @@
 -- `put_copy` puts or counts.
-use Rattle.shared_put_or_count.proofs.Putting.{copy-laws}
+use Rattle.shared_put_or_count.proofs.PutLaws.{copy-laws}
 use borrow.Author.Needs.{needs}
 use Rattle.shared_put_or_count.proofs.put_copy.Statement.{statement}
 use Rattle.shared_put_or_count.proofs.put_copy.Tie as tie

@@ -1,5 +1,5 @@
 -- `put_grouped` puts or counts.
-use Rattle.shared_put_or_count.proofs.Putting.{group-laws}
+use Rattle.shared_put_or_count.proofs.PutLaws.{group-laws}
 use borrow.Author.Needs.{needs}
 use Rattle.shared_put_or_count.proofs.put_grouped.Statement.{statement}
 use Rattle.shared_put_or_count.proofs.put_grouped.Tie as tie

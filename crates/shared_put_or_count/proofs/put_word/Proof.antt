@@ -1,5 +1,5 @@
 -- `put_word` puts or counts.
-use Rattle.shared_put_or_count.proofs.Putting.{word-laws}
+use Rattle.shared_put_or_count.proofs.PutLaws.{word-laws}
 use borrow.Author.Needs.{needs}
 use Rattle.shared_put_or_count.proofs.put_word.Statement.{statement}
 use Rattle.shared_put_or_count.proofs.put_word.Tie as tie

@@ -1,5 +1,5 @@
 -- `short_table_or` compares the rows with those that have room.
-use Rattle.shared_room.proofs.Rooms.{short-laws}
+use Rattle.shared_room.proofs.RoomLaws.{short-laws}
 use borrow.Author.Needs.{needs}
 use Rattle.shared_room.proofs.short_table_or.Statement.{statement}
 use Rattle.shared_room.proofs.short_table_or.Tie as tie

@@ -4,7 +4,7 @@ use native.Mathlib.Omega.{arith}
 use borrow.Fn.Kinds.{In}
 use borrow.Fn.PlainCycle.{Measures, is, falls, and}
 use borrow.Author.Needs.{needs}
-use Rattle.shared_seven_bit_groups.proofs.Coding.{front-laws, front-slot}
+use Rattle.shared_seven_bit_groups.proofs.NumberLaws.{front-laws, front-slot}
 use Rattle.shared_seven_bit_groups.proofs.put_front.Reads as put-front
 use Rattle.shared_seven_bit_groups.proofs.put_front.Kinds as put-front-kinds
 use Rattle.shared_seven_bit_groups.proofs.+put_front.Lts-put_front as put-front-lts

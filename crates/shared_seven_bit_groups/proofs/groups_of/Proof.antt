@@ -1,6 +1,6 @@
 -- `groups_of` counts one group a turn: the number above falls.
 use borrow.Author.Needs.{needs}
-use Rattle.shared_seven_bit_groups.proofs.Coding.{Counting, counting-laws}
+use Rattle.shared_seven_bit_groups.proofs.NumberLaws.{Counting, counting-laws}
 use Rattle.shared_seven_bit_groups.proofs.groups_of.Statement.{statement}
 use Rattle.shared_seven_bit_groups.proofs.groups_of.Tie as tie
 

@@ -1,7 +1,7 @@
 -- `put_groups` puts the groups before the last, then the last.
 use native.Mathlib.Omega.{arith}
 use borrow.Author.Needs.{needs}
-use Rattle.shared_seven_bit_groups.proofs.Coding.{groups-laws, groups-slot}
+use Rattle.shared_seven_bit_groups.proofs.NumberLaws.{groups-laws, groups-slot}
 use Rattle.shared_seven_bit_groups.proofs.put_groups.Statement.{statement}
 use Rattle.shared_seven_bit_groups.proofs.put_groups.Tie as tie
 

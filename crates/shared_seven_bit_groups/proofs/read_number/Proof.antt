@@ -1,7 +1,7 @@
 -- `read_number` reads a group a turn: the groups that the number may still take fall.
 use native.Mathlib.Omega.{arith}
 use borrow.Author.Needs.{needs}
-use Rattle.shared_seven_bit_groups.proofs.Coding.{GroupsLeft, reading-laws}
+use Rattle.shared_seven_bit_groups.proofs.NumberLaws.{GroupsLeft, reading-laws}
 use Rattle.shared_seven_bit_groups.proofs.read_number.Statement.{statement}
 use Rattle.shared_seven_bit_groups.proofs.read_number.Tie as tie
 

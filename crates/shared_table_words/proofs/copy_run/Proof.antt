@@ -1,7 +1,7 @@
 -- `copy_run` stores words of the file. The loop has stored those before i; its measure is how many are left.
 use Prim.Native.Nat.{_-_}
 use borrow.Author.Needs.{needs}
-use Rattle.shared_table_words.proofs.Copying.{Copying, copying}
+use Rattle.shared_table_words.proofs.CopyLaws.{Copying, copying}
 use Rattle.shared_table_words.proofs.copy_run.Statement.{statement}
 use Rattle.shared_table_words.proofs.copy_run.Tie as tie
 

@@ -1,6 +1,6 @@
 -- `copy_words` stores the words that the cursor has left.
 use borrow.Author.Needs.{needs}
-use Rattle.shared_table_words.proofs.Copying.{words-left}
+use Rattle.shared_table_words.proofs.CopyLaws.{words-left}
 use Rattle.shared_table_words.proofs.copy_words.Statement.{statement}
 use Rattle.shared_table_words.proofs.copy_words.Tie as tie
 

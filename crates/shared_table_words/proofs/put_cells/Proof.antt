@@ -2,7 +2,7 @@
 use Prim.Native.Nat.{_+_, _-_, _≤_}
 use lib.ListN.{length, drop}
 use borrow.Author.Needs.{needs}
-use Rattle.shared_table_words.proofs.Storing.{Storing, storing}
+use Rattle.shared_table_words.proofs.StoreLaws.{Storing, storing}
 use Rattle.shared_table_words.proofs.put_cells.Statement.{statement}
 use Rattle.shared_table_words.proofs.put_cells.Tie as tie
 

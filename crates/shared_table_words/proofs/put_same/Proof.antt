@@ -1,6 +1,6 @@
 -- `put_same` stores one value again and again. The loop has stored those before i; its measure is how many are left.
 use Prim.Native.Nat.{_-_}
-use Rattle.shared_table_words.proofs.Copying.{Repeating, repeating}
+use Rattle.shared_table_words.proofs.CopyLaws.{Repeating, repeating}
 use borrow.Author.Needs.{needs}
 use Rattle.shared_table_words.proofs.put_same.Statement.{statement}
 use Rattle.shared_table_words.proofs.put_same.Tie as tie

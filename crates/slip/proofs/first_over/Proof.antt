@@ -1,7 +1,7 @@
 -- `first_over` looks at one number a turn: the first from i on is the first of all.
 use Prim.Native.Nat.{_-_}
 use borrow.Author.Needs.{needs}
-use Rattle.slip.proofs.Coding.{Looking, looking-laws}
+use Rattle.slip.proofs.SlipWriteLaws.{Looking, looking-laws}
 use Rattle.slip.proofs.first_over.Statement.{statement}
 use Rattle.slip.proofs.first_over.Tie as tie
 

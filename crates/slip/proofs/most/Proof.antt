@@ -1,6 +1,6 @@
 -- `most` gives the limit of a number.
 use borrow.Author.Needs.{needs}
-use Rattle.slip.proofs.Coding.{limit-laws}
+use Rattle.slip.proofs.SlipWriteLaws.{limit-laws}
 use Rattle.slip.proofs.most.Statement.{statement}
 use Rattle.slip.proofs.most.Tie as tie
 

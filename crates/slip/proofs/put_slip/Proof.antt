@@ -1,7 +1,7 @@
 -- `put_slip` puts one number a turn: those from i on are left.
 use Prim.Native.Nat.{_-_}
 use borrow.Author.Needs.{needs}
-use Rattle.slip.proofs.Coding.{NumbersLeft, putting-laws}
+use Rattle.slip.proofs.SlipWriteLaws.{NumbersLeft, putting-laws}
 use Rattle.slip.proofs.put_slip.Statement.{statement}
 use Rattle.slip.proofs.put_slip.Tie as tie
 

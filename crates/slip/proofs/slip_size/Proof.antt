@@ -1,7 +1,7 @@
 -- `slip_size` adds up the groups of one number a turn: those from i on are left.
 use Prim.Native.Nat.{_-_}
 use borrow.Author.Needs.{needs}
-use Rattle.slip.proofs.Coding.{Adding, adding-laws}
+use Rattle.slip.proofs.SlipWriteLaws.{Adding, adding-laws}
 use Rattle.slip.proofs.slip_size.Statement.{statement}
 use Rattle.slip.proofs.slip_size.Tie as tie
 

@@ -1,6 +1,6 @@
 -- `numbers_of` puts the twelve numbers in a row.
 use borrow.Author.Needs.{needs}
-use Rattle.slip_of_b3d.proofs.SlipOf.{numbers-are}
+use Rattle.slip_of_b3d.proofs.SlipOfLaws.{numbers-are}
 use Rattle.slip_of_b3d.proofs.numbers_of.Statement.{statement}
 use Rattle.slip_of_b3d.proofs.numbers_of.Tie as tie
 

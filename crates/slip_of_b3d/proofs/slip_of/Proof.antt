@@ -1,6 +1,6 @@
 -- `slip_of` judges the file and writes the slip of its numbers.
 use borrow.Author.Needs.{needs}
-use Rattle.slip_of_b3d.proofs.SlipOf.{slip-of-laws}
+use Rattle.slip_of_b3d.proofs.SlipOfLaws.{slip-of-laws}
 use Rattle.slip_of_b3d.proofs.slip_of.Statement.{statement}
 use Rattle.slip_of_b3d.proofs.slip_of.Tie as tie
 

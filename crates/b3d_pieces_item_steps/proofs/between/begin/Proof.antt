@@ -1,5 +1,5 @@
 -- `begin` comes to the machine's state, whatever chunks stand around.
-use Rattle.b3d_pieces_item_steps.proofs.Edges.{begin-laws}
+use Rattle.b3d_pieces_item_steps.proofs.EdgeLaws.{begin-laws}
 use borrow.Author.Needs.{needs}
 use Rattle.b3d_pieces_item_steps.proofs.between.begin.Statement.{statement}
 use Rattle.b3d_pieces_item_steps.proofs.between.begin.Tie as tie

@@ -1,5 +1,5 @@
 -- `edge` comes to the machine's state, whatever chunks stand around.
-use Rattle.b3d_pieces_item_steps.proofs.Edges.{edge-laws}
+use Rattle.b3d_pieces_item_steps.proofs.EdgeLaws.{edge-laws}
 use borrow.Author.Needs.{needs}
 use Rattle.b3d_pieces_item_steps.proofs.between.edge.Statement.{statement}
 use Rattle.b3d_pieces_item_steps.proofs.between.edge.Tie as tie

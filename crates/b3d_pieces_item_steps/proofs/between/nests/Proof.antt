@@ -1,5 +1,5 @@
 -- `nests` is the definition's test.
-use Rattle.b3d_pieces_item_steps.proofs.Edges.{nests-are}
+use Rattle.b3d_pieces_item_steps.proofs.EdgeLaws.{nests-are}
 use borrow.Author.Needs.{needs}
 use Rattle.b3d_pieces_item_steps.proofs.between.nests.Statement.{statement}
 use Rattle.b3d_pieces_item_steps.proofs.between.nests.Tie as tie

@@ -1,5 +1,5 @@
 -- `text_items` is the definition's test.
-use Rattle.b3d_pieces_item_steps.proofs.Edges.{text-items-are}
+use Rattle.b3d_pieces_item_steps.proofs.EdgeLaws.{text-items-are}
 use borrow.Author.Needs.{needs}
 use Rattle.b3d_pieces_item_steps.proofs.between.text_items.Statement.{statement}
 use Rattle.b3d_pieces_item_steps.proofs.between.text_items.Tie as tie

@@ -1,5 +1,5 @@
 -- `fixed_len` is how many numbers the row has.
-use Rattle.b3d_pieces_rules.proofs.Lens.{fixed-len-laws}
+use Rattle.b3d_pieces_rules.proofs.RowLengthLaws.{fixed-len-laws}
 use borrow.Author.Needs.{needs}
 use Rattle.b3d_pieces_rules.proofs.lengths.fixed_len.Statement.{statement}
 use Rattle.b3d_pieces_rules.proofs.lengths.fixed_len.Tie as tie

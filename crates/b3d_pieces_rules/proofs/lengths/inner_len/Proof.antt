@@ -1,5 +1,5 @@
 -- `inner_len` is how many numbers the row has.
-use Rattle.b3d_pieces_rules.proofs.Lens.{len-laws}
+use Rattle.b3d_pieces_rules.proofs.RowLengthLaws.{len-laws}
 use borrow.Author.Needs.{needs}
 use Rattle.b3d_pieces_rules.proofs.lengths.inner_len.Statement.{statement}
 use Rattle.b3d_pieces_rules.proofs.lengths.inner_len.Tie as tie

@@ -1,5 +1,5 @@
 -- `row_len` is how many numbers the row has.
-use Rattle.b3d_pieces_rules.proofs.Lens.{row-len-laws}
+use Rattle.b3d_pieces_rules.proofs.RowLengthLaws.{row-len-laws}
 use borrow.Author.Needs.{needs}
 use Rattle.b3d_pieces_rules.proofs.lengths.row_len.Statement.{statement}
 use Rattle.b3d_pieces_rules.proofs.lengths.row_len.Tie as tie

@@ -1,6 +1,6 @@
 -- `vertex_len` is how many numbers the row has.
 use Rattle.b3d_spec.specs.Rules.{vertexWords}
-use Rattle.b3d_pieces_rules.proofs.Lens.{vertex-fits}
+use Rattle.b3d_pieces_rules.proofs.RowLengthLaws.{vertex-fits}
 use borrow.Author.Needs.{needs}
 use Rattle.b3d_pieces_rules.proofs.lengths.vertex_len.Statement.{statement}
 use Rattle.b3d_pieces_rules.proofs.lengths.vertex_len.Tie as tie

@@ -1,5 +1,5 @@
 -- `bound_valid` holds just where the statement does.
-use Rattle.b3d_pieces_valid_record.proofs.LoadTests.{bound-laws}
+use Rattle.b3d_pieces_valid_record.proofs.OpenChunkTestLaws.{bound-laws}
 use borrow.Author.Needs.{needs}
 use Rattle.b3d_pieces_valid_record.proofs.loads.bound_valid.Statement.{statement}
 use Rattle.b3d_pieces_valid_record.proofs.loads.bound_valid.Tie as tie

@@ -1,5 +1,5 @@
 -- `rows_to_add` holds just where the statement does.
-use Rattle.b3d_pieces_valid_record.proofs.LoadTests.{load-laws}
+use Rattle.b3d_pieces_valid_record.proofs.OpenChunkTestLaws.{load-laws}
 use borrow.Author.Needs.{needs}
 use Rattle.b3d_pieces_valid_record.proofs.loads.rows_to_add.Statement.{statement}
 use Rattle.b3d_pieces_valid_record.proofs.loads.rows_to_add.Tie as tie

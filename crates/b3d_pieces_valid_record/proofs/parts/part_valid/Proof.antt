@@ -1,5 +1,5 @@
 -- `part_valid` holds just where the statement does.
-use Rattle.b3d_pieces_valid_record.proofs.PartTests.{mode-laws}
+use Rattle.b3d_pieces_valid_record.proofs.PartTestLaws.{mode-laws}
 use borrow.Author.Needs.{needs}
 use Rattle.b3d_pieces_valid_record.proofs.parts.part_valid.Statement.{statement}
 use Rattle.b3d_pieces_valid_record.proofs.parts.part_valid.Tie as tie

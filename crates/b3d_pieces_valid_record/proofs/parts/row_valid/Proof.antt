@@ -1,5 +1,5 @@
 -- `row_valid` holds just where the statement does.
-use Rattle.b3d_pieces_valid_record.proofs.PartTests.{row-laws}
+use Rattle.b3d_pieces_valid_record.proofs.PartTestLaws.{row-laws}
 use borrow.Author.Needs.{needs}
 use Rattle.b3d_pieces_valid_record.proofs.parts.row_valid.Statement.{statement}
 use Rattle.b3d_pieces_valid_record.proofs.parts.row_valid.Tie as tie

@@ -1,5 +1,5 @@
 -- `sum_of` holds just where the statement does.
-use Rattle.b3d_pieces_valid_record.proofs.PartTests.{sum-is}
+use Rattle.b3d_pieces_valid_record.proofs.PartTestLaws.{sum-is}
 use borrow.Author.Needs.{needs}
 use Rattle.b3d_pieces_valid_record.proofs.parts.sum_of.Statement.{statement}
 use Rattle.b3d_pieces_valid_record.proofs.parts.sum_of.Tie as tie

@@ -1,5 +1,5 @@
 -- `worth` holds just where the statement does.
-use Rattle.b3d_pieces_valid_record.proofs.PartTests.{worth-laws}
+use Rattle.b3d_pieces_valid_record.proofs.PartTestLaws.{worth-laws}
 use borrow.Author.Needs.{needs}
 use Rattle.b3d_pieces_valid_record.proofs.parts.worth.Statement.{statement}
 use Rattle.b3d_pieces_valid_record.proofs.parts.worth.Tie as tie

@@ -2,7 +2,7 @@
 use Prim.Native.Nat.{_-_}
 use borrow.Author.Needs.{needs}
 use Rattle.b3d_pieces_spec.specs.Row.{openAt}
-use Rattle.b3d_pieces_valid_state.proofs.Testing.{Loaded, loaded-laws}
+use Rattle.b3d_pieces_valid_state.proofs.RowTestLaws.{Loaded, loaded-laws}
 use Rattle.b3d_pieces_valid_state.proofs.loads.stack_rows_to_add.Statement.{statement}
 use Rattle.b3d_pieces_valid_state.proofs.loads.stack_rows_to_add.Tie as tie
 

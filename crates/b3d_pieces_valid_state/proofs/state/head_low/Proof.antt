@@ -1,5 +1,5 @@
 -- `head_low` holds just where the statement does.
-use Rattle.b3d_pieces_valid_state.proofs.Fining.{low-laws}
+use Rattle.b3d_pieces_valid_state.proofs.StateTestLaws.{low-laws}
 use borrow.Author.Needs.{needs}
 use Rattle.b3d_pieces_valid_state.proofs.state.head_low.Statement.{statement}
 use Rattle.b3d_pieces_valid_state.proofs.state.head_low.Tie as tie

@@ -1,5 +1,5 @@
 -- `judge_valid` holds just where the statement does.
-use Rattle.b3d_pieces_valid_state.proofs.Fining.{row-state-laws}
+use Rattle.b3d_pieces_valid_state.proofs.StateTestLaws.{row-state-laws}
 use borrow.Author.Needs.{needs}
 use Rattle.b3d_pieces_valid_state.proofs.state.judge_valid.Statement.{statement}
 use Rattle.b3d_pieces_valid_state.proofs.state.judge_valid.Tie as tie

@@ -1,5 +1,5 @@
 -- `live_valid` holds just where the statement does.
-use Rattle.b3d_pieces_valid_state.proofs.Fining.{live-laws}
+use Rattle.b3d_pieces_valid_state.proofs.StateTestLaws.{live-laws}
 use borrow.Author.Needs.{needs}
 use Rattle.b3d_pieces_valid_state.proofs.state.live_valid.Statement.{statement}
 use Rattle.b3d_pieces_valid_state.proofs.state.live_valid.Tie as tie

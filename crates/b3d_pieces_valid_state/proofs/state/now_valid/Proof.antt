@@ -1,5 +1,5 @@
 -- `now_valid` holds just where the statement does.
-use Rattle.b3d_pieces_valid_state.proofs.Fining.{now-laws}
+use Rattle.b3d_pieces_valid_state.proofs.StateTestLaws.{now-laws}
 use borrow.Author.Needs.{needs}
 use Rattle.b3d_pieces_valid_state.proofs.state.now_valid.Statement.{statement}
 use Rattle.b3d_pieces_valid_state.proofs.state.now_valid.Tie as tie

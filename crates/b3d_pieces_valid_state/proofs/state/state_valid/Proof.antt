@@ -1,5 +1,5 @@
 -- `state_valid` holds just where the statement does.
-use Rattle.b3d_pieces_valid_state.proofs.Fining.{fine-laws}
+use Rattle.b3d_pieces_valid_state.proofs.StateTestLaws.{fine-laws}
 use borrow.Author.Needs.{needs}
 use Rattle.b3d_pieces_valid_state.proofs.state.state_valid.Statement.{statement}
 use Rattle.b3d_pieces_valid_state.proofs.state.state_valid.Tie as tie

@@ -1,5 +1,5 @@
 -- `judge_close` answers and leaves what its promise says, on every input.
-use Rattle.b3d_pieces_words.proofs.Calling.{close-laws}
+use Rattle.b3d_pieces_words.proofs.CallLaws.{close-laws}
 use borrow.Author.Needs.{needs}
 use Rattle.b3d_pieces_words.proofs.calls.judge_close.Statement.{statement}
 use Rattle.b3d_pieces_words.proofs.calls.judge_close.Tie as tie

@@ -1,5 +1,5 @@
 -- `judge_piece` answers and leaves what its promise says, on every input.
-use Rattle.b3d_pieces_words.proofs.Calling.{piece-laws}
+use Rattle.b3d_pieces_words.proofs.CallLaws.{piece-laws}
 use borrow.Author.Needs.{needs}
 use Rattle.b3d_pieces_words.proofs.calls.judge_piece.Statement.{statement}
 use Rattle.b3d_pieces_words.proofs.calls.judge_piece.Tie as tie

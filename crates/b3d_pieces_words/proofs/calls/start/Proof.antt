@@ -1,5 +1,5 @@
 -- `start` answers and leaves what its promise says, on every input.
-use Rattle.b3d_pieces_words.proofs.Calling.{fresh-is}
+use Rattle.b3d_pieces_words.proofs.CallLaws.{fresh-is}
 use borrow.Author.Needs.{needs}
 use Rattle.b3d_pieces_words.proofs.calls.start.Statement.{statement}
 use Rattle.b3d_pieces_words.proofs.calls.start.Tie as tie

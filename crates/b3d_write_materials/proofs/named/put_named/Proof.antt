@@ -1,6 +1,6 @@
 -- `put_named` writes a name and words.
-use Rattle.shared_output.proofs.Joining.{both-laws}
-use Rattle.b3d_write_materials.proofs.Naming.{named-parts}
+use Rattle.shared_output.proofs.PartLaws.{both-laws}
+use Rattle.b3d_write_materials.proofs.NamedRowLaws.{named-parts}
 use borrow.Author.Needs.{needs}
 use Rattle.b3d_write_materials.proofs.named.put_named.Statement.{statement}
 use Rattle.b3d_write_materials.proofs.named.put_named.Tie as tie

@@ -2,7 +2,7 @@
 use Rattle.b3d_spec.specs.Rebuild.{cut}
 use Rattle.b3d_write_row_runs.specs.Lent.{eachRow}
 use Rattle.b3d_write_materials.specs.Named.{rowBytes}
-use Rattle.b3d_write_materials.proofs.Naming.{NamedLeft, named-laws}
+use Rattle.b3d_write_materials.proofs.NamedRowLaws.{NamedLeft, named-laws}
 use borrow.Author.Needs.{needs}
 use Rattle.b3d_write_materials.proofs.named.put_rows.Statement.{statement}
 use Rattle.b3d_write_materials.proofs.named.put_rows.Tie as tie
