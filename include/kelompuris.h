@@ -8,7 +8,7 @@
  *   - no two lent arrays overlap, and nothing else writes them while the function runs. So a file is not cleared into itself:
  *     lend another output and copy back.
  *
- * Threads may call the functions at the same time, each with arrays of its own; files may be shared. Of other libraries they need memset only.
+ * Threads may call the functions at the same time, each with arrays of its own; files may be shared. Of other libraries they need memcpy and memset only.
  * Measured on a file of 16 levels, judge, read, clear and label take 8 kB of stack, the pieces 9 kB, write 17 kB.
  */
 #ifndef KELOMPURIS_H
