@@ -10,7 +10,7 @@ use b3d_compare_spec::Difference;
 use b3d_compare_spec::Span;
 
 // Returns whether word `w` of table `k` is a float.
-fn is_float(k: usize, w: usize) -> bool
+pub fn is_float(k: usize, w: usize) -> bool
     requires { ⌜ w < wordsOf k ⌝ }
     ensures { λ r. ⌜ r ≡ isFloat (kindAt k w) ⌝ }
 {
@@ -44,12 +44,10 @@ fn is_float(k: usize, w: usize) -> bool
     false
 }
 
-// Returns the difference of the numbers `x` and `y`, word `w` of table `k` in both files.
-pub fn numbers(k: usize, w: usize, x: u32, y: u32) -> Difference
-    requires { ⌜ w < wordsOf k ⌝ }
-    ensures { λ r. ⌜ r ≡ numbersOf (isFloat (kindAt k w)) x y ⌝ }
+// Returns the difference of the numbers `x` and `y`: of floats where `float` says so and neither is a NaN, else of whole numbers.
+pub fn numbers(float: bool, x: u32, y: u32) -> Difference
+    ensures { λ r. ⌜ r ≡ numbersOf float x y ⌝ }
 {
-    let float = is_float(k, w);
     if !float {
         return Difference::Wholes(x, y);
     }

@@ -10,7 +10,7 @@ use b3d_compare_spec::Difference;
 use b3d_compare_spec::Span;
 
 // Puts or counts the five numbers `ns` in their groups. Returns the place after them.
-pub fn put_numbers(ns: [u32; 5], wet: bool, out: &mut [u8], at: usize) -> usize
+fn put_numbers(ns: [u32; 5], wet: bool, out: &mut [u8], at: usize) -> usize
     requires { ⌜ RoomFrom wet (writeNumbers ns []) at (now out) ⌝ }
     ensures { λ r. ⌜ Emits wet (writeNumbers ns []) (now (out .entry)) at (now (out .exit)) r ⌝ }
 {

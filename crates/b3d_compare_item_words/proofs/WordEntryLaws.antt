@@ -1,42 +1,42 @@
 -- Entries of two items: a law for each way through the functions.
-use mathlib.Core.Path.{_≡_, ap, _∙_}
+use mathlib.Core.Path.{_≡_}
 use Prim.Native.Nat.{ℕ, suc, _+_, _-_, _*_, _<_, _≤_}
 use native.Mathlib.Omega.{arith}
-use mathlib.Core.Bool.{Bool}
+use mathlib.Core.Bool.{Bool, true, false}
 use mathlib.Core.List.{List, [], _∷_}
 use lib.ListN.{length, getD, drop}
+use lib.Dec.{eqb, leb}
+use borrow.Author.Tests.{ne-eqb}
+use Rattle.wire.specs.Test.{if}
 use Rattle.wire.specs.Bytes.{wordAt}
 use Rattle.shared_table_words.specs.Words.{wordsAt}
 use Rattle.shared_table_words.proofs.StoreLaws.{drop-next}
-use Rattle.shared_seven_bit_groups.specs.Groups.{writeNumbers}
 use Rattle.shared_output.proofs.PartLaws.{Both}
 use Rattle.shared_put_or_count.specs.Emits.{RoomFrom, Emits}
-use Rattle.shared_put_or_count.proofs.PutLaws.{emits-none, fits-same, emits-same, Left, left-none, left-done, left-fits, left-next}
-use Rattle.b3d_compare_spec.specs.List.{leadBytes, textBytes, changeBytes, listBytes}
+use Rattle.shared_put_or_count.proofs.PutLaws.{Left, left-none, left-done, left-fits, left-next}
+use Rattle.b3d_compare_spec.specs.List.{listBytes}
 use Rattle.b3d_compare_spec.proofs.SizeLaws.{list-append}
 use Rattle.b3d_compare_rows.specs.Rows.{wordEntry}
 use Rattle.b3d_compare_entries.proofs.EntryLaws.{no-bytes}
-use Rattle.b3d_compare_rows.proofs.RowLaws.{entry-none, entry-some}
-use Rattle.b3d_compare_item_words.specs.ItemWords.{itemEntries}
+use Rattle.b3d_compare_item_words.specs.ItemWords.{itemFloat, itemEntries}
 
--- ---- `put_word`
+-- ---- `item_float`
 
-module _ (k r w p q : ℕ) (wet : Bool) (xs : List ℕ) (at : ℕ) where
-  pub word-same : p ≡ q → Emits wet (listBytes (wordEntry k r w p q)) xs at xs at
-  word-same e = emits-none wet (listBytes (wordEntry k r w p q)) xs at (ap listBytes (entry-none k r w p q e) ∙ no-bytes)
+module _ (k w : ℕ) where
+  pub float-vertex : k ≡ 5 → true ≡ itemFloat k w
+  unfolding itemFloat if
+  float-vertex e = rw e
 
-  module _ (h : p ≡ q → ⊥) where
-    word-bytes : listBytes (wordEntry k r w p q) ≡ writeNumbers (k ∷ r ∷ w ∷ p ∷ q ∷ []) []
-    unfolding listBytes changeBytes leadBytes textBytes writeNumbers
-    word-bytes = ap listBytes (entry-some k r w p q h)
+  module _ (h : k ≡ 5 → ⊥) where
+    pub float-triangle : k ≡ 7 → false ≡ itemFloat k w
+    unfolding itemFloat if
+    float-triangle e = rw e
 
-    pub word-fits : RoomFrom wet (listBytes (wordEntry k r w p q)) at xs → RoomFrom wet (writeNumbers (k ∷ r ∷ w ∷ p ∷ q ∷ []) []) at xs
-    word-fits g = fits-same word-bytes wet xs at g
+    pub float-other : (k ≡ 7 → ⊥) → leb 1 w ≡ itemFloat k w
+    unfolding itemFloat if
+    float-other g = rw (ne-eqb k 5 h, ne-eqb k 7 g)
 
-    pub word-put : (ys : List ℕ) (n : ℕ) → Emits wet (writeNumbers (k ∷ r ∷ w ∷ p ∷ q ∷ []) []) xs at ys n → Emits wet (listBytes (wordEntry k r w p q)) xs at ys n
-    word-put ys n g = emits-same word-bytes wet xs at ys n g
-
-pub ruleset word-laws = (word-same, word-fits, word-put)
+pub ruleset item-float-laws = (float-vertex, float-triangle, float-other)
 
 -- ---- `put_item_words`: the words from i on are left
 

@@ -4,7 +4,7 @@ use Prim.Native.Nat.{ℕ, _+_}
 use mathlib.Core.Bool.{Bool, true, false}
 use mathlib.Core.List.{List, [], _∷_, _++_}
 use lib.ListN.{length}
-use lib.Dec.{eqb}
+use lib.Dec.{eqb, leb}
 use Rattle.wire.specs.Test.{if}
 use Rattle.b3d_spec.specs.Mask.{mask, vertexHas, keyHas}
 use Rattle.b3d_compare_spec.specs.Changes.{Change}
@@ -13,6 +13,10 @@ use Rattle.b3d_compare_rows.specs.Rows.{wordEntry}
 -- word w of an item's row of table k is there
 unfoldable pub itemHas : ℕ → ℕ → ℕ → ℕ → ℕ → Bool
 itemHas k flags sets size w = if (eqb k 5) (vertexHas flags sets size w) (if (eqb k 10) (keyHas flags w) true)
+
+-- word w of an item's row of table k, which is 5, 7, 8 or 10, is a float: each of a vertex, none of a triangle, all but the first of a weight and of a key
+unfoldable pub itemFloat : ℕ → ℕ → Bool
+itemFloat k w = if (eqb k 5) true (if (eqb k 7) false (leb 1 w))
 
 -- the words from w on that are there by a mask
 unfoldable pub columns : ℕ → List Bool → List ℕ

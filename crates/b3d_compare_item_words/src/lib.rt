@@ -7,8 +7,7 @@ ghost use Rattle.shared_table_words.specs.Words.{wordsAt};
 ghost use Rattle.shared_put_or_count.specs.Emits.{RoomFrom, Emits};
 ghost use Rattle.b3d_spec.specs.Mask.{vertexHas, keyHas};
 ghost use Rattle.b3d_compare_spec.specs.List.{listBytes};
-ghost use Rattle.b3d_compare_rows.specs.Rows.{wordEntry};
-ghost use Rattle.b3d_compare_item_words.specs.ItemWords.{itemHas, ItemColumns, itemEntries};
+ghost use Rattle.b3d_compare_item_words.specs.ItemWords.{itemHas, ItemColumns, itemFloat, itemEntries};
 
 // Returns whether word `w` of a vertex row is there, for a VRTS of these `flags`, `sets` and set `size`.
 fn vertex_has(flags: u32, sets: u32, size: u32, w: u32) -> bool
@@ -78,16 +77,17 @@ pub fn columns(k: u32, flags: u32, sets: u32, size: u32) -> [u32; 42]
     out
 }
 
-// Puts or counts the entry of word `w` of row `r` of table `k`, a number `p` in the first file and `q` in the second, none where they are the same. Returns
-// the place after it.
-fn put_word(k: u32, r: u32, w: u32, p: u32, q: u32, wet: bool, out: &mut [u8], at: usize) -> usize
-    requires { ⌜ RoomFrom wet (listBytes (wordEntry k r w p q)) at (now out) ⌝ }
-    ensures { λ n. ⌜ Emits wet (listBytes (wordEntry k r w p q)) (now (out .entry)) at (now (out .exit)) n ⌝ }
+// Returns whether word `w` of an item's row of table `k`, which is 5, 7, 8 or 10, is a float.
+fn item_float(k: u32, w: u32) -> bool
+    ensures { λ r. ⌜ r ≡ itemFloat k w ⌝ }
 {
-    if p == q {
-        return at;
+    if k == 5 {
+        return true;
     }
-    b3d_compare_entries::put_numbers([k, r, w, p, q], wet, out, at)
+    if k == 7 {
+        return false;
+    }
+    1 <= w
 }
 
 // Puts or counts the entries of two items of `n` words, of `a` from byte `p` on and of `b` from byte `q` on, which are row `r` of table `k`; their words stand
@@ -115,7 +115,9 @@ pub fn put_item_words(
     while i < n {
         let x = wire::number_at(a, p + 4 * i);
         let y = wire::number_at(b, q + 4 * i);
-        next = put_word(k, r, cols[i], x, y, wet, out, next);
+        let w = cols[i];
+        let float = item_float(k, w);
+        next = b3d_compare_rows::put_pair(a, b, k, r, w, float, x, y, wet, out, next);
         i += 1;
     }
     next

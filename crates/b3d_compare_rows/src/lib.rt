@@ -44,6 +44,31 @@ fn words_of(k: usize) -> usize
     WORDS[k]
 }
 
+// Puts or counts the entry of word `w` of row `r` of table `k`, a number `p` in the file `a` and `q` in `b`, floats where `float` says so; none where they are
+// the same. Returns the place after it.
+pub fn put_pair(
+    a: &[u8],
+    b: &[u8],
+    k: u32,
+    r: u32,
+    w: u32,
+    float: bool,
+    p: u32,
+    q: u32,
+    wet: bool,
+    out: &mut [u8],
+    at: usize,
+) -> usize
+    requires { ⌜ RoomFrom wet (listBytes (wordEntry k r w p q)) at (now out) ⌝ }
+    ensures { λ n. ⌜ Emits wet (listBytes (wordEntry k r w p q)) (now (out .entry)) at (now (out .exit)) n ⌝ }
+{
+    if p == q {
+        return at;
+    }
+    let d = b3d_compare_difference::numbers(float, p, q);
+    b3d_compare_entries::put_entry(a, b, k, r, w, d, wet, out, at)
+}
+
 // Puts or counts the entry of word `w` of row `r` of table `k`, a number `p` in the file `a` and `q` in `b`, none where they are the same. Returns the place
 // after it.
 fn put_word(
@@ -63,11 +88,8 @@ fn put_word(
     requires { ⌜ RoomFrom wet (listBytes (wordEntry k r w p q)) at (now out) ⌝ }
     ensures { λ n. ⌜ Emits wet (listBytes (wordEntry k r w p q)) (now (out .entry)) at (now (out .exit)) n ⌝ }
 {
-    if p == q {
-        return at;
-    }
-    let d = b3d_compare_difference::numbers(k, w, p, q);
-    b3d_compare_entries::put_entry(a, b, k as u32, r, w as u32, d, wet, out, at)
+    let float = b3d_compare_difference::is_float(k, w);
+    put_pair(a, b, k as u32, r, w as u32, float, p, q, wet, out, at)
 }
 
 // Puts or counts the entries of the words from `from` on, all of them numbers, of the row `x` of `a` and the row `y` of `b`, row `r` of table `k`. Returns the

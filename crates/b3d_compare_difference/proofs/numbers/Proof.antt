@@ -8,7 +8,6 @@ pub numbers-spec : {M : Type 1} → statement M
 numbers-spec =
     tie.close
     (tie.spec
-    (λ c κs. search needs)
     (λ c. search (number-laws, needs))
     (λ c. search (number-laws, needs))
     (λ c. search (number-laws, needs))

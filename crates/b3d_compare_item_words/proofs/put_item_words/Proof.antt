@@ -31,4 +31,5 @@ put-item-words-spec =
     (λ c. search (words-laws, needs))
     (λ c. search (words-laws, needs))
     (λ c. search (words-laws, needs))
+    (λ c. search (words-laws, needs))
     (λ c. search (words-laws, needs)))
