@@ -44,6 +44,28 @@ fn words_of(k: usize) -> usize
     WORDS[k]
 }
 
+// Puts or counts the entry of word `w` of row `r` of table `k`, a number `p` in the file `a` and `q` in `b`, which are not the same, floats where `float`
+// says so. Returns the place after it.
+fn put_unequal(
+    a: &[u8],
+    b: &[u8],
+    k: u32,
+    r: u32,
+    w: u32,
+    float: bool,
+    p: u32,
+    q: u32,
+    wet: bool,
+    out: &mut [u8],
+    at: usize,
+) -> usize
+    requires { ⌜ (p ≡ q → ⊥) × RoomFrom wet (listBytes (wordEntry k r w p q)) at (now out) ⌝ }
+    ensures { λ n. ⌜ Emits wet (listBytes (wordEntry k r w p q)) (now (out .entry)) at (now (out .exit)) n ⌝ }
+{
+    let d = b3d_compare_difference::numbers(float, p, q);
+    b3d_compare_entries::put_entry(a, b, k, r, w, d, wet, out, at)
+}
+
 // Puts or counts the entry of word `w` of row `r` of table `k`, a number `p` in the file `a` and `q` in `b`, floats where `float` says so; none where they are
 // the same. Returns the place after it.
 pub fn put_pair(
@@ -65,8 +87,7 @@ pub fn put_pair(
     if p == q {
         return at;
     }
-    let d = b3d_compare_difference::numbers(float, p, q);
-    b3d_compare_entries::put_entry(a, b, k, r, w, d, wet, out, at)
+    put_unequal(a, b, k, r, w, float, p, q, wet, out, at)
 }
 
 // Puts or counts the entry of word `w` of row `r` of table `k`, a number `p` in the file `a` and `q` in `b`, none where they are the same. Returns the place

@@ -11,5 +11,4 @@ put-pair-spec =
     (λ c. search (word-laws, needs))
     (λ c κs. search (word-laws, needs))
     (λ c. search (word-laws, needs))
-    (λ c. search (word-laws, needs))
     (λ c. search (word-laws, needs)))
