@@ -45,16 +45,10 @@ fn killed_while_it_writes_it_leaves_nothing() {
     ];
     for args in commands {
         // A run that ends before it is seen to write is tried again.
-        let killed = (0..6).any(|_| {
+        let killed = (0..50).any(|_| {
             let mut child = start(&folder, args);
             while child.try_wait().unwrap().is_none() && !writes_unnamed(child.id(), &folder) {}
-            let kill = format!("kill -9 {}", child.id());
-            let sent = Command::new("sh")
-                .args(["-c", &kill])
-                .status()
-                .unwrap()
-                .success();
-            let killed = sent && child.wait().unwrap().signal() == Some(9);
+            let killed = child.kill().is_ok() && child.wait().unwrap().signal() == Some(9);
             if !killed {
                 drop(fs::remove_dir_all(folder.join("new")));
                 drop(fs::remove_file(folder.join("new")));
