@@ -1,5 +1,7 @@
 // Whether the cells of lent vertices and keys that flags, sets and set size leave out are 0. A row is looked at by groups of cells, each in a loop of a
 // constant count that no cell ends early. Keys and vertices have each their own functions down to the group, so that the compiler knows every count.
+#![tactic(auto)]
+
 ghost use Rattle.std.specs.Prelude.{◌≡◌, ◌+◌, ◌*◌, ◌≤◌, length};
 ghost use Rattle.layout.specs.WellFormed.{all};
 ghost use Rattle.b3d_spec.specs.Mask.{vertex_mask, key_mask};

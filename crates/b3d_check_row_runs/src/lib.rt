@@ -1,5 +1,7 @@
 // Whether rows that own groups of items, key lists and triangle sets, are sound in lent tables, and where their items end. Each function is a test of
 // b3d_check_spec's specs/Check, or a count of rows, on rows that are given by their number.
+#![tactic(auto)]
+
 ghost use Rattle.std.specs.Prelude.{◌≡◌, ◌+◌, ◌-◌, ◌*◌, ◌≤◌, length};
 ghost use Rattle.b3d_spec.specs.Tables.{triangle_set_width, triangle_width, key_list_width, key_width};
 ghost use Rattle.b3d_check_spec.specs.CellCounts.{end_of};
@@ -13,7 +15,7 @@ use b3d_spec::{HIGHEST_KEY_FLAGS, KEY_LIST_WIDTH, TRIANGLE_SET_WIDTH, columns};
 
 // Which rows own groups of items: key lists, whose items are keys; or the triangle sets of a mesh, given by the number of brushes, the mesh's vertices and
 // its number.
-#[derive(Drop)]
+#[derive(Clone, Copy)]
 pub enum Run {
     Keys,
     Triangles(u32, u32, usize),

@@ -1,5 +1,7 @@
 // Whether names, triangles and weights of lent tables keep their rules. Each function is a test of b3d_check_spec's specs/Check on rows that are given by their
 // number.
+#![tactic(auto)]
+
 ghost use Rattle.std.specs.Prelude.{◌≡◌, [], ◌∷◌, ◌+◌, ◌*◌, ◌<◌, ◌≤◌, length, get_or, take, drop, ltb};
 ghost use Rattle.layout.specs.WellFormed.{all};
 ghost use Rattle.b3d_spec.specs.Rules.{triangle_row, weight_row};
@@ -52,7 +54,7 @@ pub fn name_valid(names: &[u8], place: u32, count: u32) -> bool
 // ---- ids
 
 // Which rows name vertices.
-#[derive(Drop)]
+#[derive(Clone, Copy)]
 pub enum Ids {
     Triangles,
     Weights,

@@ -1,4 +1,6 @@
 // Steps that every walk over a B3D file takes: a tag and its letters, the next known chunk, a text with its row.
+#![tactic(auto)]
+
 ghost use Rattle.std.specs.Prelude.{◌≡◌, ◌≤◌, length};
 ghost use Rattle.wire.specs.Cursors.{Inside};
 ghost use Rattle.b3d_spec.specs.Tags.{code, is, tag_of};
@@ -8,7 +10,7 @@ use b3d_spec::{Tag, letters};
 use wire::{Cursor, Header, Text};
 
 // A known tag, or another: `Other`.
-#[derive(Drop)]
+#[derive(Clone, Copy)]
 pub enum Tagged {
     Known(Tag),
     Other,
@@ -59,7 +61,7 @@ pub fn same(a: Tag, b: Tag) -> bool
 }
 
 // The next known chunk: its tag, the place of its header, its body, the cursor after it; or `Cut`, the place of a cut header; or `Done`, no chunk is left.
-#[derive(Drop)]
+#[derive(Clone, Copy)]
 pub enum Next {
     Chunk {
         tag: Tag,
@@ -103,7 +105,7 @@ pub fn next_chunk(s: &[u8], from: Cursor) -> Next
 }
 
 // A text's length without its zero, a cursor at the words that follow it, and the cursor after those; or `Cut`: not all of it is there.
-#[derive(Drop)]
+#[derive(Clone, Copy)]
 pub enum Named {
     Is {
         length: usize,

@@ -1,4 +1,6 @@
 // The next known chunk inside a chunk, by cursor. Of a file at hand refusals 4 and 8 are given here, by `by_permit`, and nowhere else.
+#![tactic(auto)]
+
 ghost use Rattle.std.specs.Prelude.{◌≡◌, ◌≤◌, length};
 ghost use Rattle.wire.specs.Cursors.{Inside};
 ghost use Rattle.b3d_chunk_cursor.specs.Chunks.{NextIs};
@@ -13,7 +15,7 @@ use wire::Cursor;
 
 // The next known chunk inside one that encloses it: its tag, the place of its header, its body, the cursor after it, how far the chunks
 // have come with it; or a refusal and its place; or the end, with nothing owed.
-#[derive(Drop)]
+#[derive(Clone, Copy)]
 pub enum Enclosed {
     Chunk {
         tag: Tag,

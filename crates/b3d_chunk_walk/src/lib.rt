@@ -1,5 +1,7 @@
 // The walk over a file's chunks in one flat run, into each NODE and past every other chunk; and the search for the first chunk of a tag. Nothing is judged
 // here.
+#![tactic(auto)]
+
 ghost use Rattle.std.specs.Prelude.{◌≡◌, ◌-◌, ◌≤◌, length};
 ghost use Rattle.wire.specs.Cursors.{Inside};
 ghost use Rattle.b3d_chunk_walk.specs.Walks.{NodeAt, Steps};
@@ -11,7 +13,7 @@ use wire::Cursor;
 
 // What `flat_next` finds: the next chunk of the flat run, with its tag, the place of its header, its body and the place where the run goes on; or the run's
 // end.
-#[derive(Drop)]
+#[derive(Clone, Copy)]
 pub enum Flat {
     Chunk(Tag, usize, Cursor, usize),
     End,
@@ -53,7 +55,7 @@ pub fn flat_next(file: &[u8], at: usize) -> Flat
 }
 
 // What `seek` finds: the first chunk of a tag, with the place of its header, its body and the cursor after it; or that there is none.
-#[derive(Drop)]
+#[derive(Clone, Copy)]
 pub enum Sought {
     Found {
         at: usize,
@@ -94,7 +96,7 @@ pub fn seek(file: &[u8], from: Cursor, tag: Tag) -> Sought
 }
 
 // The first number of a body, 0 where it is not there, and a cursor behind it.
-#[derive(Drop)]
+#[derive(Clone, Copy)]
 pub struct Headed {
     pub word: u32,
     pub rest: Cursor,
@@ -120,7 +122,7 @@ pub fn first_word(file: &[u8], body: Cursor) -> Headed
 }
 
 // The first three numbers of a body, 0 where one is not there, and a cursor behind them.
-#[derive(Drop)]
+#[derive(Clone, Copy)]
 pub struct Three {
     pub first: u32,
     pub second: u32,

@@ -1,4 +1,6 @@
 // A difference by value: two words that are numbers, or two names by their spans.
+#![tactic(auto)]
+
 ghost use Rattle.std.specs.Prelude.{◌≡◌, ◌+◌, ◌<◌, ◌≤◌, length, take, drop};
 ghost use Rattle.b3d_spec.specs.Rebuild.{same};
 ghost use Rattle.b3d_compare_spec.specs.Words.{words_of, kind_at};

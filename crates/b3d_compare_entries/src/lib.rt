@@ -1,4 +1,6 @@
 // An entry of the list of differences, put into a lent output from a place on, or only counted.
+#![tactic(auto)]
+
 ghost use Rattle.std.specs.Prelude.{[]};
 ghost use Rattle.shared_seven_bit_groups.specs.Groups.{write_numbers};
 ghost use Rattle.shared_put_or_count.specs.Emits.{RoomFrom, Emits};

@@ -11,7 +11,7 @@ ghost use Rattle.b3d_compare_items.specs.Items.{ItemPairs, PutItems};
 use b3d_rows_open_items::OpenItems;
 
 // How many pairs of items were passed, how many bytes they take in each file, and the place in the output behind their entries.
-#[derive(Drop)]
+#[derive(Clone, Copy)]
 pub struct ItemsPut {
     pub rows: u32,
     pub bytes: usize,

@@ -1,5 +1,7 @@
 // What differs between the names of two rows, as an entry that is put into a lent output from a place on, or only counted. Textures, brushes and nodes have a
 // name: the first two words of their rows, its place and its length.
+#![tactic(auto)]
+
 ghost use Rattle.std.specs.Prelude.{◌<◌, ◌≤◌, length};
 ghost use Rattle.shared_put_or_count.specs.Emits.{RoomFrom, Emits};
 ghost use Rattle.b3d_compare_spec.specs.Words.{words_of};
@@ -10,7 +12,7 @@ ghost use Rattle.b3d_compare_names.specs.NameEntries.{NamesAre};
 use b3d_compare_spec::Difference;
 
 // The names of two rows: the same text, or two.
-#[derive(Drop)]
+#[derive(Clone, Copy)]
 pub enum Names {
     Same,
     Differ(Difference),

@@ -8,7 +8,7 @@ ghost use Rattle.b3d_compare_next_rows.specs.NextRows.{bytes_from, PutTurn};
 use b3d_rows_nodes::RowCursor;
 
 // Where a turn ends: the places behind some rows of both files, how many these are, and the place in the output behind their entries.
-#[derive(Drop)]
+#[derive(Clone, Copy)]
 pub struct Turn {
     pub first: RowCursor,
     pub second: RowCursor,

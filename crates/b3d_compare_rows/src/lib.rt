@@ -1,5 +1,7 @@
 // What differs between two rows of one table, one of each file, as entries that are put into a lent output from a place on, or only counted. The twelve
 // numbers are the one row of table 0.
+#![tactic(auto)]
+
 ghost use Rattle.std.specs.Prelude.{◌≡◌, ◌-◌, ◌<◌, ◌≤◌, [], length};
 ghost use Rattle.shared_put_or_count.specs.Emits.{RoomFrom, Emits};
 ghost use Rattle.b3d_spec.specs.Tables.{vertex_width};

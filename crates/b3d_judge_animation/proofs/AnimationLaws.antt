@@ -109,13 +109,12 @@ node-turn false y t =
     by-tag (λ t. nextTurn (nesting NODE) (nesting NODE) (reached_at 2 false) t ≡ some y → T (not (is t KEYS || is t ANIM)) → (t ≡ NODE) × (y ≡ reached_at 3 false))
     (never, never, never, (λ e n. (refl, some_inj e)), never, never, never, never, (λ e n. absurd n), (λ e n. absurd n)) t
 
--- none of those numbered ks is KEYS or ANIM
-unfoldable pub unmoved : List ℕ → Bool
-unmoved ks = ten (λ t. not (has_key ks (tag_of the_type t)) || not (is t KEYS || is t ANIM))
-
-pub not-moves : T (unmoved (0 ∷ 1 ∷ 2 ∷ 3 ∷ 4 ∷ 5 ∷ 6 ∷ 7 ∷ []))
-unfolding unmoved
-not-moves = tt
+-- a tag other than KEYS and ANIM
+no_move : (t : Tag) → (t ≡ KEYS → ⊥) → (t ≡ ANIM → ⊥) → T (not (is t KEYS || is t ANIM))
+no_move t =
+    by-tag
+    (λ t. (t ≡ KEYS → ⊥) → (t ≡ ANIM → ⊥) → T (not (is t KEYS || is t ANIM)))
+    ((λ k a. tt), (λ k a. tt), (λ k a. tt), (λ k a. tt), (λ k a. tt), (λ k a. tt), (λ k a. tt), (λ k a. tt), (λ k a. absurd (k refl)), (λ k a. absurd (a refl))) t
 
 -- ---- the ways on
 
@@ -167,10 +166,10 @@ module _ (s : List ℕ) (at : ℕ) (from : Cursor) where
         pub moving_room : b.at ≤ b.end
         moving_room = among.room
 
-        pub moving_node : (ks : List ℕ) → OneOf ks (tag_of the_type t) → T (unmoved ks) → (u : Tally) → u ≡ plus m (anim_tally (anim_of q.spent)) → Right s at from (motion.Accept q.spent u c)
-        unfolding unmoved read_animation nextTurn onward if
-        moving_node ks o h u e =
-            let (k, y) = node-turn q.spent (reached_of z) t goes (one_of (λ t. not (is t KEYS || is t ANIM)) ks h t o) in
+        pub moving_node : (t ≡ KEYS → ⊥) → (t ≡ ANIM → ⊥) → (u : Tally) → u ≡ plus m (anim_tally (anim_of q.spent)) → Right s at from (motion.Accept q.spent u c)
+        unfolding read_animation nextTurn onward if
+        moving_node nk na u e =
+            let (k, y) = node-turn q.spent (reached_of z) t goes (no_move t nk na) in
             finish u e (rw (rest-step s NODE at q c r x t p b n z w, rest-chunk s c (next.Chunk t p b n) (step-next s NODE at q c r x t p b n z w) NODE at (reached_at 3 false) t p b n refl, k, y))
 
         -- KEYS
@@ -233,4 +232,4 @@ module _ (s : List ℕ) (at : ℕ) (from : Cursor) where
                     ∙ ap (λ (d : Bool). moved_from m (read_animation (anim_of d) (rest_in s NODE at (reached_of z) n))) (sym spent);
               }
 
-pub ruleset moving_laws = (not-moves, moving_start, moving_small, moving_stop, moving_end, moving_room, moving_node, moving_keys-bad, moving_keys, moving_anim-short, moving_anim, going)
+pub ruleset moving_laws = (moving_start, moving_small, moving_stop, moving_end, moving_room, moving_node, moving_keys-bad, moving_keys, moving_anim-short, moving_anim, going)

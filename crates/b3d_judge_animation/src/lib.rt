@@ -1,4 +1,6 @@
 // Judges the KEYS and the ANIM of a node.
+#![tactic(auto)]
+
 ghost use Rattle.std.specs.Prelude.{◌≡◌, false, length};
 ghost use Rattle.layout.specs.Rows.{most_bytes};
 ghost use Rattle.b3d_spec.specs.declared.Tag.TheVariants.{NODE};
@@ -17,7 +19,7 @@ use layout::refusals;
 use wire::Cursor;
 
 // Whether a node has an ANIM, the tally of its KEYS and ANIM, and the cursor after them; or a refusal and its place.
-#[derive(Drop)]
+#[derive(Clone, Copy)]
 pub enum Motion {
     Accept(bool, Tally, Cursor),
     Reject(u32, usize),

@@ -1,5 +1,7 @@
 // Judges the bodies of chunks that hold items only: VRTS, TRIS, BONE and KEYS. An answer is a refusal with its place, or what the body adds to the row counts
 // and to the size of the cleared copy.
+#![tactic(auto)]
+
 ghost use Rattle.std.specs.Prelude.{◌≤◌, ◌<◌, ◌+◌, ◌-◌, ◌≡◌, length};
 ghost use Rattle.wire.specs.Cursors.{Inside, left};
 ghost use Rattle.layout.specs.Parts.{items};
@@ -19,7 +21,7 @@ use layout::refusals;
 use wire::{Cursor, Number};
 
 // How many vertices there are and how many words each has, or a refusal and its place.
-#[derive(Drop)]
+#[derive(Clone, Copy)]
 pub enum VerticesSummary {
     Accept(usize, usize),
     Reject(u32, usize),

@@ -1,4 +1,6 @@
 // Counts the items of a BRUS, and looks at the colours and the texture ids of each brush.
+#![tactic(auto)]
+
 ghost use Rattle.std.specs.Prelude.{◌≤◌, ◌≡◌, length};
 ghost use Rattle.wire.specs.Cursors.{Inside, left};
 ghost use Rattle.layout.specs.Parts.{items};

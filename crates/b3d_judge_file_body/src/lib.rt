@@ -16,7 +16,7 @@ use layout::refusals;
 use wire::{Cursor, Number};
 
 // What a file says without its tables: version, n_texs, and the tally of its rows with the size of its cleared copy.
-#[derive(Drop)]
+#[derive(Clone, Copy)]
 pub struct Summary {
     pub version: u32,
     pub n_texs: u32,
@@ -24,7 +24,7 @@ pub struct Summary {
 }
 
 // What a file says, or its refusal and the place.
-#[derive(Drop)]
+#[derive(Clone, Copy)]
 pub enum Verdict {
     Accept(Summary),
     Reject(u32, usize),

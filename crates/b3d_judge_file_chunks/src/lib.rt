@@ -18,14 +18,14 @@ use b3d_spec::{ALL_LEVELS, Mode, Tag};
 use wire::Cursor;
 
 // The tally of chunks that were judged, and the cursor after them; or a refusal and its place.
-#[derive(Drop)]
+#[derive(Clone, Copy)]
 pub enum Phase {
     Accept(Tally, Cursor),
     Reject(u32, usize),
 }
 
 // n_texs, 0 without a brush, the tally of the brushes, and the cursor after them; or a refusal and its place.
-#[derive(Drop)]
+#[derive(Clone, Copy)]
 pub enum BrusSummary {
     Accept(u32, Tally, Cursor),
     Reject(u32, usize),

@@ -1,4 +1,6 @@
 // Counts the items of a chunk: by one division where no word is looked at, one after the other where ids are.
+#![tactic(auto)]
+
 ghost use Rattle.std.specs.Prelude.{◌≡◌, ◌-◌, ◌<◌, ◌≤◌, length};
 ghost use Rattle.wire.specs.Cursors.{Inside, left};
 ghost use Rattle.b3d_judge_items.specs.Items.{divided_at, CountedIn, id_items, counted};
@@ -7,7 +9,7 @@ use layout::refusals;
 use wire::Cursor;
 
 // How many items there are, or a refusal and its place.
-#[derive(Drop)]
+#[derive(Clone, Copy)]
 pub enum Counted {
     Accept(usize),
     Reject(u32, usize),

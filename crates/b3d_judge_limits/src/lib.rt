@@ -1,4 +1,6 @@
 // Tests on row counts alone: the first table with more rows than the limit, and the first lent table that is too short for its rows.
+#![tactic(auto)]
+
 ghost use Rattle.std.specs.Prelude.{◌≡◌, ltb, [], ◌∷◌};
 ghost use Rattle.wire.specs.Test.{if};
 ghost use Rattle.b3d_spec.specs.Rules.{row_limit};

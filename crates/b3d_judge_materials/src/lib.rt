@@ -1,4 +1,6 @@
 // Judges the two lists of a file, TEXS and BRUS, whose items begin with a name.
+#![tactic(auto)]
+
 ghost use Rattle.std.specs.Prelude.{length};
 ghost use Rattle.wire.specs.Cursors.{left};
 ghost use Rattle.b3d_spec.specs.Parse.{read_textures, read_brushes};
@@ -15,7 +17,7 @@ use layout::refusals;
 use wire::{Cursor, Number};
 
 // n_texs, 0 without a brush, and a tally; or a refusal and its place.
-#[derive(Drop)]
+#[derive(Clone, Copy)]
 pub enum BrushesSummary {
     Accept(u32, Tally),
     Reject(u32, usize),

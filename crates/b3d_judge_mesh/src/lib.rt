@@ -1,4 +1,6 @@
 // Judges a MESH: its brush id, its VRTS and its TRIS.
+#![tactic(auto)]
+
 ghost use Rattle.std.specs.Prelude.{◌≤◌, ◌+◌, ◌≡◌, true, length};
 ghost use Rattle.wire.specs.Cursors.{left};
 ghost use Rattle.layout.specs.Rows.{most_bytes};
@@ -20,7 +22,7 @@ use layout::refusals;
 use wire::{Cursor, Number};
 
 // How many vertices a mesh has, and its tally; or a refusal and its place.
-#[derive(Drop)]
+#[derive(Clone, Copy)]
 pub enum MeshSummary {
     Accept(usize, Tally),
     Reject(u32, usize),

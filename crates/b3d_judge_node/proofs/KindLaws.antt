@@ -6,7 +6,9 @@ use mathlib.Core.Bool.{Bool, true, false, not, ◌||◌}
 use mathlib.Core.List.{List, [], ◌∷◌}
 use lib.ListN.{length}
 use lib.Dec.{T}
-use types.Run.{OneOf}
+use mir.Val.{has_key}
+use types.Run.{OneOf, hit}
+use Rattle.b3d_spec.proofs.Files.TagCodeLaws.{by-tag}
 use denote.Enum.Declared.{tag_of}
 use Rattle.wire.specs.Test.{if}
 use Rattle.wire.specs.Cursors.{left}
@@ -142,5 +144,14 @@ module _ (mode : Mode) (s : List ℕ) (at : ℕ) (from : Cursor) (g : Among at f
 pub kind-follows : T (plain NODE takes start (reached_at 2 false) (0 ∷ 1 ∷ 2 ∷ 3 ∷ 5 ∷ 6 ∷ 8 ∷ 9 ∷ []))
 unfolding plain is_none same_turn bool_same nextTurn if
 kind-follows = tt
+
+-- a tag other than MESH and BONE is one of the eight others
+pub kind_rest : (t : Tag) → (t ≡ MESH → ⊥) → (t ≡ BONE → ⊥) → OneOf (0 ∷ 1 ∷ 2 ∷ 3 ∷ 5 ∷ 6 ∷ 8 ∷ 9 ∷ []) (tag_of the_type t)
+kind_rest t =
+    let other = λ (n : ℕ) (h : T (has_key (0 ∷ 1 ∷ 2 ∷ 3 ∷ 5 ∷ 6 ∷ 8 ∷ 9 ∷ []) n)). hit (0 ∷ 1 ∷ 2 ∷ 3 ∷ 5 ∷ 6 ∷ 8 ∷ 9 ∷ []) n h in
+    by-tag
+    (λ t. (t ≡ MESH → ⊥) → (t ≡ BONE → ⊥) → OneOf (0 ∷ 1 ∷ 2 ∷ 3 ∷ 5 ∷ 6 ∷ 8 ∷ 9 ∷ []) (tag_of the_type t))
+    ((λ m b. other 0 tt), (λ m b. other 1 tt), (λ m b. other 2 tt), (λ m b. other 3 tt), (λ m b. absurd (m refl)),
+    (λ m b. other 5 tt), (λ m b. other 6 tt), (λ m b. absurd (b refl)), (λ m b. other 8 tt), (λ m b. other 9 tt)) t
 
 pub ruleset kind_laws = (kind-follows, among-inside, among-head, kind-body, kind-end, kind-stop, kind-plain, kind-mesh-bad, kind-mesh, kind-bone-bad, kind-bone)

@@ -1,4 +1,6 @@
 // Judges a NODE without the nodes below it: its name and floats, its kind (a MESH, a BONE or neither), its KEYS and ANIM.
+#![tactic(auto)]
+
 ghost use Rattle.std.specs.Prelude.{◌≤◌, ◌+◌, ◌≡◌, false, length};
 ghost use Rattle.wire.specs.Cursors.{left};
 ghost use Rattle.layout.specs.Rows.{most_bytes};
@@ -20,21 +22,21 @@ use layout::refusals;
 use wire::Cursor;
 
 // How many vertices a node's own mesh has, the tally of its kind, and the cursor after it; or a refusal and its place.
-#[derive(Drop)]
+#[derive(Clone, Copy)]
 pub enum KindSummary {
     Accept(usize, Tally, Cursor),
     Reject(u32, usize),
 }
 
 // How many vertices a bone of a node may name (E3), by the nodes above it; `Root`, above which there is none: no vertex.
-#[derive(Drop)]
+#[derive(Clone, Copy)]
 pub enum Above {
     Root,
     Of(usize),
 }
 
 // How many vertices a bone below a node may name, the node's own tally, and the cursor at its children; or a refusal and its place.
-#[derive(Drop)]
+#[derive(Clone, Copy)]
 pub enum NodeSummary {
     Accept(Above, Tally, Cursor),
     Reject(u32, usize),

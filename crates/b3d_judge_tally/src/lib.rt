@@ -1,5 +1,7 @@
 // Tallies: what a chunk adds to the ten row counts and to the size of the cleared copy, and an answer that holds a tally or a refusal. The sum over a scene
 // is the rows of its tables and the size of its copy (proofs/TotalLaws).
+#![tactic(auto)]
+
 ghost use Rattle.std.specs.Prelude.{◌≤◌, ◌≡◌};
 ghost use Rattle.layout.specs.Rows.{most_bytes};
 ghost use Rattle.b3d_spec.specs.Tables.{vertex_width, key_width};
@@ -7,7 +9,7 @@ ghost use Rattle.b3d_spec.specs.Rules.{most_slots};
 ghost use Rattle.b3d_judge_tally.specs.Tally.{no_tally, bytes_tally, head_tally, vertices_tally, triangles_tally, weights_tally, keys_tally, plus, Within, texs_of, brus_of};
 
 // Rows of the ten tables, and bytes of the cleared copy.
-#[derive(Drop)]
+#[derive(Clone, Copy)]
 pub struct Tally {
     pub textures: usize,
     pub brushes: usize,
@@ -23,7 +25,7 @@ pub struct Tally {
 }
 
 // What a part of a file adds, or a refusal with its place.
-#[derive(Drop)]
+#[derive(Clone, Copy)]
 pub enum Judged {
     Accept(Tally),
     Reject(u32, usize),

@@ -15,7 +15,7 @@ use layout::refusals;
 use wire::{Cursor, Header, Number};
 
 // How many vertices there are, or that the walk is refused.
-#[derive(Drop)]
+#[derive(Clone, Copy)]
 pub enum Many {
     Accept(usize),
     Reject,

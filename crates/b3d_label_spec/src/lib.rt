@@ -3,7 +3,7 @@
 
 // The label: 0 and 0 with the name's place and length in the file and the vertices of the root's mesh; or 14 and zeros.
 #[repr(C)]
-#[derive(Drop)]
+#[derive(Clone, Copy)]
 pub struct TrayLabel {
     pub number: u32,
     pub place: u32,

@@ -1,4 +1,6 @@
 // The name of a row as a part of the file, or of a lent fallback word: no copy is kept.
+#![tactic(auto)]
+
 ghost use Rattle.std.specs.Prelude.{◌≡◌};
 ghost use Rattle.b3d_list_name.specs.Name.{name_or};
 

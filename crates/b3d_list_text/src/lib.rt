@@ -1,5 +1,7 @@
 // Text put into a lent slice of bytes: bytes, decimal numbers, names. What has no room is left out, so no output is too short to be written to; `Puts` says
 // what is there afterwards, and where the next text goes.
+#![tactic(auto)]
+
 ghost use Rattle.std.specs.Prelude.{◌≡◌, [], ◌∷◌, map, ◌+◌, ◌≤◌, ◌<◌, length, drop};
 ghost use Rattle.b3d_list_text.specs.Puts.{Puts};
 ghost use Rattle.b3d_list_text.specs.Text.{shown as shownAs, decimal, after as afterIn, number_at, number_line, text_line};

@@ -1,5 +1,7 @@
 // What the mender's judge leaves out: items with an id that names nothing, and spare bytes after the last chunk. `specs/Lax` is the mending read as far
 // as rows are counted, with the laws that it has the refusals and the rows of the mending read.
+#![tactic(auto)]
+
 ghost use Rattle.std.specs.Prelude.{length, ◌≡◌, ◌+◌, ◌-◌, ◌*◌, ◌<◌, ◌≤◌};
 ghost use Rattle.wire.specs.Cursors.{Inside, left};
 ghost use Rattle.b3d_mend_judge_items.specs.Trimmed.{Trimmed};

@@ -3,7 +3,7 @@
 
 // What the mender answers: refusal number and place, or 0 and 0 with the sizes of the mended file and of the report.
 #[repr(C)]
-#[derive(Drop)]
+#[derive(Clone, Copy)]
 pub struct WrittenBoth {
     pub number: u32,
     pub place: u32,

@@ -45,7 +45,7 @@ pub fn answer_of_both(
 }
 
 // The sizes of a mended file and of its report.
-#[derive(Drop)]
+#[derive(Clone, Copy)]
 pub struct MendedSizes {
     pub file: usize,
     pub report: usize,

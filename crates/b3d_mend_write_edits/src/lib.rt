@@ -1,4 +1,6 @@
 // One edit of the file, put into the output or only counted: in the mended file what it becomes, in the report its entry.
+#![tactic(auto)]
+
 ghost use Rattle.std.specs.Prelude.{◌+◌, ◌≤◌, ◌<◌, [], ◌∷◌, ◌++◌, length, take, drop};
 ghost use Rattle.wire.specs.Bytes.{bytes};
 ghost use Rattle.shared_seven_bit_groups.specs.Groups.{write_numbers};

@@ -1,5 +1,7 @@
 // Ids, items and the bodies of TRIS and BONE as they are mended, put into the output or only counted: an id that names nothing is set to -1, an item
 // with one is taken out.
+#![tactic(auto)]
+
 ghost use Rattle.std.specs.Prelude.{◌+◌, ◌-◌, ◌*◌, ◌≤◌, ◌<◌, [], ◌∷◌, length};
 ghost use Rattle.wire.specs.Bytes.{word_at, AllBytes};
 ghost use Rattle.wire.specs.Cursors.{Inside, left};

@@ -55,7 +55,7 @@ fn vertices_in(file: &[u8], p: usize, body: Cursor) -> usize
 }
 
 // The place after what was put, and the textures, brushes or vertices that were counted.
-#[derive(Drop)]
+#[derive(Clone, Copy)]
 pub struct Walk {
     pub at: usize,
     pub count: usize,

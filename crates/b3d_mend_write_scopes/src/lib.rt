@@ -17,7 +17,7 @@ use b3d_spec::Tag;
 use wire::{Cursor, Number};
 
 // What a chunk needs to know of those before it and of those around it.
-#[derive(Drop)]
+#[derive(Clone, Copy)]
 pub struct Scope {
     // Textures and brushes of the file.
     pub textures: usize,
@@ -125,7 +125,7 @@ pub fn put_head(tag: Tag, size: usize, report: bool, wet: bool, out: &mut [u8], 
 }
 
 // How a chunk is walked: as one that holds no chunks (`Flat`), not at all (`Nothing`), or as a NODE or a MESH whose chunks begin at the cursor.
-#[derive(Drop)]
+#[derive(Clone, Copy)]
 pub enum Opening {
     Flat,
     Nothing,

@@ -16,7 +16,7 @@ use layout::{FEWEST_BYTES, MOST_BYTES, refusals};
 const OPENING: usize = letters::BB3D as usize;
 
 // What all bytes joined come to: the totals, or a refusal and its place.
-#[derive(Drop)]
+#[derive(Clone, Copy)]
 pub enum Closing {
     Accept(Totals),
     Reject(u32, usize),

@@ -19,7 +19,7 @@ use b3d_pieces_state::{PieceFed, PieceState};
 
 // What a call did at once: `done`, whether nothing is left to do; `at`, how many bytes were taken; `fed`, the answer if `done` is set, else with the state
 // after these bytes.
-#[derive(Drop)]
+#[derive(Clone, Copy)]
 pub struct AtOnce {
     pub done: bool,
     pub at: usize,

@@ -1,4 +1,6 @@
 // A step of the piece judge where a chunk's body begins, its fixed data ends, or a chunk is passed over. By value, as in b3d_pieces_item_steps.
+#![tactic(auto)]
+
 ghost use Rattle.std.specs.Prelude.{◌≡◌, ◌*◌, ◌≤◌};
 ghost use Rattle.b3d_pieces_spec.specs.Bodies.{wrong_for};
 ghost use Rattle.b3d_pieces_spec.specs.Machine.{text_from, fixed_done, fixed_row_from, enter as enterOf, skip_from};

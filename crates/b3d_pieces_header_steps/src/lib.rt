@@ -1,4 +1,6 @@
 // A step of the piece judge where a header was read: the nesting rule decides, and the chunk is entered or passed over. By value, as in b3d_pieces_item_steps.
+#![tactic(auto)]
+
 ghost use Rattle.std.specs.Prelude.{◌≡◌};
 ghost use Rattle.wire.specs.Bytes.{IsWord};
 ghost use Rattle.b3d_pieces_spec.specs.Machine.{fresh as fresh_of, header_done};

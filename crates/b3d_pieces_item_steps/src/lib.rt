@@ -1,12 +1,14 @@
 // A step of the piece judge between two parts of a chunk: the next item or header begins, or the chunk ends; and the nesting table asked of a record. Each
 // function takes what is held by value, without the chunks around the innermost, and promises the machine's own step whatever they are.
+#![tactic(auto)]
+
 pub mod between;
 pub mod nesting;
 
 use b3d_pieces_spec::{Open, Part, Totals};
 
 // What is held between two turns, without the chunks of the row.
-#[derive(Drop)]
+#[derive(Clone, Copy)]
 pub enum Now {
     // Inside chunks: the present place, what stands there, the totals, the innermost chunk.
     Live(usize, Part, Totals, Open),

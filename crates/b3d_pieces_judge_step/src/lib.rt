@@ -8,7 +8,7 @@ use b3d_pieces_spec::Open;
 
 // What is held between two pieces: `size`, how many bytes came; of BB3D's header `worth`, the value so far of the number being read, `letters`, its tag, and
 // `length`; `shut`, whether the file was closed; `depth`, how many chunks the row holds; `now`, the innermost chunk and what stands there.
-#[derive(Drop)]
+#[derive(Clone, Copy)]
 pub struct Judge {
     pub size: usize,
     pub worth: usize,
@@ -20,7 +20,7 @@ pub struct Judge {
 }
 
 // What is held after a turn, and the record `rec` to write at `put`.
-#[derive(Drop)]
+#[derive(Clone, Copy)]
 pub struct Taken {
     pub judge: Judge,
     pub put: usize,
@@ -29,7 +29,7 @@ pub struct Taken {
 
 // A turn of the loop over a piece: what is held; `at`, the next byte to take, or the last taken while chunks are entered or left; `end`, the end of the
 // piece; `get`, the place of the record to read; `rec` and `put`, the record to write and its place.
-#[derive(Drop)]
+#[derive(Clone, Copy)]
 pub struct Turn {
     pub judge: Judge,
     pub at: usize,

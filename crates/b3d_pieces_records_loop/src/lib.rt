@@ -9,7 +9,7 @@ use b3d_spec::Answer;
 
 // A round: `go`, whether another follows; `get`, the place of the record to read; `put` and `rec`, the record to write and its place; `turn`, the turn over
 // the piece's bytes.
-#[derive(Drop)]
+#[derive(Clone, Copy)]
 pub struct Round {
     pub go: bool,
     pub get: usize,
@@ -20,7 +20,7 @@ pub struct Round {
 
 // The close's answer, and the state for the next call.
 #[repr(C)]
-#[derive(Drop)]
+#[derive(Clone, Copy)]
 pub struct PieceClosed {
     pub answer: Answer,
     pub state: PieceState,

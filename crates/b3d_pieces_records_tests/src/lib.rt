@@ -14,7 +14,7 @@ use layout::refusals;
 
 // The weight of a row's first records: `go`, whether the record at `get` is to be weighed next; `depth`, how many are in use; `records`, how many the row has;
 // `load`, the rows that those before `get` may still add, or 16,777,218 if these are too many or a file cannot have these chunks open.
-#[derive(Drop)]
+#[derive(Clone, Copy)]
 pub struct RowWeight {
     pub go: bool,
     pub get: usize,

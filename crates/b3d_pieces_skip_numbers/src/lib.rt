@@ -6,7 +6,7 @@ use b3d_pieces_spec::Kept;
 
 // A place in a row: `from`, the next byte of the piece; `at`, the place where the present number begins, and `start`, where the row began; `i`, which number
 // it is, `j`, how many of its bytes came, `acc`, what they are worth; `kept`, the first three numbers of the row; `count`, how many items the chunk had.
-#[derive(Drop)]
+#[derive(Clone, Copy)]
 pub struct RowPlace {
     pub from: usize,
     pub at: usize,
@@ -19,7 +19,7 @@ pub struct RowPlace {
 }
 
 // Which numbers of a row are judged: those from index `first` up to, not including, `past`. They are colours if `colour` is set, else ids below `names`.
-#[derive(Drop)]
+#[derive(Clone, Copy)]
 pub struct JudgedNumbers {
     pub first: usize,
     pub past: usize,
@@ -29,7 +29,7 @@ pub struct JudgedNumbers {
 
 // What the rules of a row ask: `long`, how many numbers it has; `judged`, which of them are judged; `again`, whether another such row may follow it; `end`,
 // the chunk's end.
-#[derive(Drop)]
+#[derive(Clone, Copy)]
 pub struct RowRules {
     pub long: usize,
     pub judged: JudgedNumbers,

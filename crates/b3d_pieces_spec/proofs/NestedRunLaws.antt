@@ -84,7 +84,10 @@ module _ (f : Open) (R : List Open) (H : Holds f.tag) (one : Tag → Totals → 
   -- the end of the chunk
   end-run : (p : ℕ) (g : Totals) (r : Reached) → p ≡ f.end → edge p g (reaching f r ∷ R) ≡ rest g r done
   unfolding edge order
-  end-run p g r e = rw e (if_yes (eqb f.end f.end) _ _ (eqb_yes f.end f.end refl) ∙ owing (required_between (nesting f.tag) r.turn end) g)
+  end-run p g r e =
+      ap (λ (z : ℕ). edge z g (reaching f r ∷ R)) e
+      ∙ if_yes (eqb f.end f.end) _ _ (eqb_yes f.end f.end refl)
+      ∙ owing (required_between (nesting f.tag) r.turn end) g
 
   stopped : (p : ℕ) (g : Totals) (r : Reached) → fault 3 p ≡ rest g r (stop 3 p)
   unfolding order chunks_out

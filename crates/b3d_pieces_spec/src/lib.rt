@@ -32,7 +32,7 @@ pub const LENT_WORDS: usize = 209;
 // vertices of its mesh; `told`, its bone limit, which is how many vertices the nodes above it let its BONE name; `below`, the bone limit that it hands to the
 // nodes below it.
 #[repr(C)]
-#[derive(Drop)]
+#[derive(Clone, Copy)]
 pub struct Totals {
     pub version: usize,
     pub slots: usize,
@@ -46,7 +46,7 @@ pub struct Totals {
 
 // The first three numbers of a row; 0 for each that was not read.
 #[repr(C)]
-#[derive(Drop)]
+#[derive(Clone, Copy)]
 pub struct Kept {
     pub first: usize,
     pub second: usize,
@@ -63,7 +63,7 @@ pub const NONE_KEPT: Kept = Kept {
 // An open chunk: `tag`; `head`, the place of its header; `end`, the place after its last byte; `turn` and `spent`, how far the nesting rule has come inside
 // it; `level`, how many levels of nodes are left below it; `kept`, the first three numbers of its fixed data; `count`, how many items it had; `told`, for a
 // NODE its bone limit, else 0.
-#[derive(Drop)]
+#[derive(Clone, Copy)]
 pub struct Open {
     pub tag: Tag,
     pub head: usize,
@@ -77,7 +77,7 @@ pub struct Open {
 }
 
 // What stands at the present place of the innermost chunk. The flag of a text or a row says that it is fixed data, not an item or a header.
-#[derive(Drop)]
+#[derive(Clone, Copy)]
 pub enum Part {
     // A text, by the place where it began.
     Text(bool, usize),

@@ -7,7 +7,7 @@ use b3d_pieces_spec::{Kept, Totals};
 
 // An open chunk as numbers (`b3d_pieces_spec::Open`): its tag by its number, `spent` as 0 or 1, its fixed data as `first`, `second` and `third`.
 #[repr(C)]
-#[derive(Drop)]
+#[derive(Clone, Copy)]
 pub struct OpenRecord {
     pub tag: usize,
     pub head: usize,
@@ -26,7 +26,7 @@ pub struct OpenRecord {
 // began at `start`, 1 a row that began at `start`, 2 a chunk that is passed over up to `start`, 3 a refusal by its number, every other number that all
 // was read. `inner` is the innermost chunk; the row holds those around it. C has the numbers of `kept` and `totals` one after the other.
 #[repr(C)]
-#[derive(Drop)]
+#[derive(Clone, Copy)]
 pub struct PieceState {
     pub kind: u32,
     pub number: u32,
@@ -49,7 +49,7 @@ pub struct PieceState {
 
 // What a piece answers: 0 and 0 where it was taken, else the refusal and its place; and the state for the next call.
 #[repr(C)]
-#[derive(Drop)]
+#[derive(Clone, Copy)]
 pub struct PieceFed {
     pub number: u32,
     pub place: u32,

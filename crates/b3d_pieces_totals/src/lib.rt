@@ -1,5 +1,7 @@
 // What a chunk changes in the totals of the piece judge: BB3D's fixed data, a node that begins, a chunk that is left. The definitions are those of
 // b3d_pieces_spec.
+#![tactic(auto)]
+
 ghost use Rattle.std.specs.Prelude.{◌≡◌, ◌+◌, ◌≤◌};
 ghost use Rattle.b3d_spec.specs.Rules.{bone_limit, bone_limit_from};
 ghost use Rattle.b3d_pieces_spec.specs.Bodies.{above, saying, rows_with, file_with, headed as headedOf, entered, slots_for, rows_after, bone_limit_restored, closed};

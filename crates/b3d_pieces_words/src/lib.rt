@@ -6,7 +6,7 @@ use b3d_pieces_judge_step::Judge;
 use b3d_spec::Answer;
 
 // A piece's answer, 0 and 0 where it was taken, else the refusal and its place; and the state for the next call.
-#[derive(Drop)]
+#[derive(Clone, Copy)]
 pub struct Fed {
     pub number: u32,
     pub place: u32,
@@ -14,7 +14,7 @@ pub struct Fed {
 }
 
 // The close's answer, and the state for the next call.
-#[derive(Drop)]
+#[derive(Clone, Copy)]
 pub struct Closed {
     pub answer: Answer,
     pub judge: Judge,

@@ -1,4 +1,6 @@
 // The reader's answers as numbers: for a refusal, for an accepted file, and 11 where one of ten lent tables has no room for its rows.
+#![tactic(auto)]
+
 ghost use Rattle.std.specs.Prelude.{◌≡◌, [], ◌∷◌, ◌<◌};
 ghost use Rattle.layout.specs.Result.{reject};
 ghost use Rattle.b3d_spec.specs.Answers.{answer};

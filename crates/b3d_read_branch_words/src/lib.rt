@@ -1,4 +1,6 @@
 // The branch words of table 3, the numbers of nodes below each node, stored in one pass backward over the rows, which are whole but for these words.
+#![tactic(auto)]
+
 ghost use Rattle.std.specs.Prelude.{◌≡◌, ◌+◌, ◌-◌};
 ghost use Rattle.wire.specs.Bytes.{word_at};
 ghost use Rattle.b3d_read_branch_words.specs.Marks.{NameAt, Halfway, BranchIs, Branchless, Branched};

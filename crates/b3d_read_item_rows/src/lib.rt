@@ -1,4 +1,6 @@
 // Rows of the items of one chunk, from its body: items copied as they are, vertices and keys; and the row that a TRIS or KEYS has itself.
+#![tactic(auto)]
+
 ghost use Rattle.std.specs.Prelude.{◌≡◌, ◌+◌, ◌-◌, ◌*◌, ◌/◌, ◌<◌, ◌≤◌, length};
 ghost use Rattle.std.proofs.lemmas.List.Edits.{sets as stored};
 ghost use Rattle.wire.specs.Cursors.{Inside, left};

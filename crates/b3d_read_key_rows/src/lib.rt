@@ -1,4 +1,6 @@
 // Rows of table 10 from the words of a file: frame, position, scale and rotation of each key, absent parts as zeros.
+#![tactic(auto)]
+
 ghost use Rattle.std.specs.Prelude.{◌≡◌, ◌+◌, ◌*◌, ◌≤◌, length, map};
 ghost use Rattle.std.proofs.lemmas.List.Edits.{sets as stored};
 ghost use Rattle.wire.specs.Cursors.{Inside, left};

@@ -1,4 +1,6 @@
 // Tables 1 and 2, textures and brushes, filled from the first TEXS and the first BRUS of a file: a row for each item.
+#![tactic(auto)]
+
 ghost use Rattle.std.specs.Prelude.{◌≡◌, ◌+◌, ◌*◌, ◌<◌, ◌≤◌, ◌∷◌, ◌++◌, map, length, replicate};
 ghost use Rattle.std.proofs.lemmas.List.Edits.{sets as stored};
 ghost use Rattle.wire.specs.Cursors.{Inside, left};

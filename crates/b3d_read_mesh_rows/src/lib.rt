@@ -1,4 +1,6 @@
 // Rows of tables 5 and 4 for one MESH, from its body: its vertices, and its own row.
+#![tactic(auto)]
+
 ghost use Rattle.std.specs.Prelude.{◌≡◌, ◌+◌, ◌-◌, ◌<◌, ◌≤◌, length};
 ghost use Rattle.std.proofs.lemmas.List.Edits.{sets as stored};
 ghost use Rattle.wire.specs.Cursors.{Inside, left};
@@ -43,7 +45,7 @@ fn count_sets(file: &[u8], from: Cursor) -> usize
 }
 
 // Flags, sets and set size of the first VRTS, 0 where there is none, and how many vertices it has.
-#[derive(Drop)]
+#[derive(Clone, Copy)]
 pub struct Vertices {
     pub flags: u32,
     pub sets: u32,
@@ -77,7 +79,7 @@ fn find_shape(file: &[u8], from: Cursor) -> Vertices
 }
 
 // How many vertices and triangle sets a MESH adds.
-#[derive(Drop)]
+#[derive(Clone, Copy)]
 pub struct Added {
     pub vertices: usize,
     pub sets: usize,

@@ -1,4 +1,6 @@
 // Tables 4 to 7, the meshes with their vertices, triangle sets and triangles, filled by one loop over the flat run.
+#![tactic(auto)]
+
 ghost use Rattle.std.specs.Prelude.{◌≡◌, ◌+◌, ◌-◌, ◌<◌, ◌≤◌, length};
 ghost use Rattle.std.proofs.lemmas.List.Edits.{sets as stored};
 ghost use Rattle.layout.specs.Rows.{joined};
@@ -11,7 +13,7 @@ use b3d_spec::{MESH_WIDTH, Tag};
 use wire::Cursor;
 
 // How far tables 4 to 7 are filled: how many nodes, meshes, vertices, triangle sets and triangles came before, and the next free cell of each table.
-#[derive(Drop)]
+#[derive(Clone, Copy)]
 pub struct MeshMarks {
     pub nodes: usize,
     pub meshes: usize,

@@ -1,4 +1,6 @@
 // How many nodes are below a node at all depths, counted along the flat run of a file's chunks: the branch word of 02's E4.
+#![tactic(auto)]
+
 ghost use Rattle.std.specs.Prelude.{◌≡◌, ◌<◌, ◌≤◌, length};
 ghost use Rattle.b3d_spec_plain_rows.specs.Flat.{flat_at};
 ghost use Rattle.b3d_spec_plain_rows.specs.Rows.{nodes_before};

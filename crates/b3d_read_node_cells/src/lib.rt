@@ -1,4 +1,6 @@
 // The last eight cells of a node's row, from the chunks behind its numbers: its kind, first, count, its ANIM; and the branch word, which is given.
+#![tactic(auto)]
+
 ghost use Rattle.std.specs.Prelude.{◌≡◌, ◌<◌, ◌≤◌, length};
 ghost use Rattle.b3d_spec.specs.Tables.{kind_cells, anim_cells};
 ghost use Rattle.b3d_spec_plain_rows.specs.Flat.{flat_at};

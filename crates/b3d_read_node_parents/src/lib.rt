@@ -1,4 +1,6 @@
 // A node's parent, found in the rows of the nodes before it: from the last of them up, the first that has not ended.
+#![tactic(auto)]
+
 ghost use Rattle.b3d_read_node_parents.specs.Links.{Climbable, ParentIs};
 
 use b3d_spec::{NODE_WIDTH, columns};

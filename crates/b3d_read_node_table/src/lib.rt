@@ -1,5 +1,7 @@
 // Table 3, the nodes, filled by one walk over the flat run and one pass backward for the branch words. A node's parent is found in the rows that are filled
 // already.
+#![tactic(auto)]
+
 ghost use Rattle.std.specs.Prelude.{◌≡◌, ◌<◌, ◌≤◌, length};
 ghost use Rattle.std.proofs.lemmas.List.Edits.{sets as stored};
 ghost use Rattle.layout.specs.Rows.{joined};

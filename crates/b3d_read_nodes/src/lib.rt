@@ -1,4 +1,6 @@
 // The row of one node in table 3: with a branch word that is given, or with the number of nodes below it, counted ahead.
+#![tactic(auto)]
+
 ghost use Rattle.std.specs.Prelude.{◌≡◌, ◌+◌, ◌<◌, ◌≤◌, length};
 ghost use Rattle.std.proofs.lemmas.List.Edits.{sets as stored};
 ghost use Rattle.wire.specs.Cursors.{left};

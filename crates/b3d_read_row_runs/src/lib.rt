@@ -1,4 +1,6 @@
 // Stores the groups of cells that rows of vertices and keys are made of: some words of the file, then zeros, each with a constant count.
+#![tactic(auto)]
+
 ghost use Rattle.std.specs.Prelude.{◌≡◌, ◌+◌, ◌-◌, ◌*◌, ◌≤◌, length};
 ghost use Rattle.std.proofs.lemmas.List.Edits.{sets as stored};
 ghost use Rattle.b3d_read_row_runs.specs.Pieces.{piece_at};

@@ -1,4 +1,6 @@
 // Rows of tables 6 and 7 for one MESH, from its body: its triangle sets and their triangles.
+#![tactic(auto)]
+
 ghost use Rattle.std.specs.Prelude.{◌≡◌, ◌+◌, ◌*◌, ◌<◌, ◌≤◌, length};
 ghost use Rattle.std.proofs.lemmas.List.Edits.{sets as stored};
 ghost use Rattle.wire.specs.Cursors.{left};
@@ -30,7 +32,7 @@ pub fn store_triangles(file: &[u8], p: usize, body: Cursor, base: usize, out: &m
 }
 
 // The cell of table 6 and the number of the triangle that come next.
-#[derive(Drop)]
+#[derive(Clone, Copy)]
 pub struct After {
     pub base: usize,
     pub first: usize,

@@ -1,4 +1,6 @@
 // The next row of tables that have a row for a chunk: 4, the meshes, 9, the key lists, and 6, the triangle sets of each MESH.
+#![tactic(auto)]
+
 ghost use Rattle.std.specs.Prelude.{◌≤◌, length};
 ghost use Rattle.b3d_spec.specs.Tables.{vertex_width};
 ghost use Rattle.b3d_rows_chunks.specs.NextChunk.{ChunkPosition, ChunkNexts, SetPosition, SetFinds, SetNexts};
@@ -81,14 +83,14 @@ pub fn next_list(file: &[u8], x: Position, row: &mut [u32]) -> NextPosition
 }
 
 // The next TRIS: its `body`, and the position behind it.
-#[derive(Drop)]
+#[derive(Clone, Copy)]
 pub struct FoundSet {
     pub body: Cursor,
     pub position: Position,
 }
 
 // The next TRIS, or `End` where none is to come.
-#[derive(Drop)]
+#[derive(Clone, Copy)]
 pub enum NextSet {
     At(FoundSet),
     End,

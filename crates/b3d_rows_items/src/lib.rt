@@ -1,5 +1,7 @@
 // The next row of a table of items: 5, 7, 8 and 10 (vertices, triangles, weights, keys) by `next_item`, 1 and 2 (textures, brushes, which begin with a text) by
 // `next_text`.
+#![tactic(auto)]
+
 ghost use Rattle.std.specs.Prelude.{◌≡◌, ◌≤◌, length};
 ghost use Rattle.b3d_spec.specs.Tables.{vertex_width};
 ghost use Rattle.b3d_rows_open_items.specs.ItemsLeft.{ItemTable};

@@ -11,7 +11,7 @@ use b3d_spec::{LEVELS, Tag};
 use wire::Cursor;
 
 // The nodes that are open at a place: `depth` of them, the root first, with their ends and their row numbers. The cells from `depth` on say nothing.
-#[derive(Drop)]
+#[derive(Clone, Copy)]
 pub struct OpenNodes {
     pub depth: usize,
     pub ends: [usize; LEVELS],
@@ -46,7 +46,7 @@ fn top(nodes: [u32; LEVELS], d: usize) -> u32
 }
 
 // An entered node's `parent`, and the open nodes with it.
-#[derive(Drop)]
+#[derive(Clone, Copy)]
 pub struct EnteredNode {
     pub parent: u32,
     pub path: OpenNodes,
@@ -88,7 +88,7 @@ fn is_full(path: OpenNodes, p: usize) -> bool
 }
 
 // The next NODE: its header is at `at`, its own chunks begin at `next`, and `meshes` meshes and `weights` weights came before it. `End` where there is none.
-#[derive(Drop)]
+#[derive(Clone, Copy)]
 pub enum FoundNode {
     Node {
         at: usize,
@@ -131,14 +131,14 @@ fn find_node(file: &[u8], from: usize, meshes: usize, weights: usize) -> FoundNo
 }
 
 // A cursor over the rows of a table: the position, and for table 3 the nodes that are open there, which the other tables do not look at.
-#[derive(Drop)]
+#[derive(Clone, Copy)]
 pub struct RowCursor {
     pub position: Position,
     pub path: OpenNodes,
 }
 
 // The `cursor` behind a row, which is `given`; where no row is to come, `given` is false, and `cursor` is the one before.
-#[derive(Drop)]
+#[derive(Clone, Copy)]
 pub struct NextCursor {
     pub given: bool,
     pub cursor: RowCursor,

@@ -1,5 +1,7 @@
 // The items of the open chunk that are still to come, by value: tables 5, 7, 8 and 10 have a row for each. `open_items` begins a chunk, `put_item` makes the
 // row of the first item.
+#![tactic(auto)]
+
 ghost use Rattle.std.specs.Prelude.{◌≡◌, ◌+◌, ◌*◌, ◌≤◌, length};
 ghost use Rattle.std.proofs.lemmas.List.Edits.{sets as stored};
 ghost use Rattle.wire.specs.Cursors.{Inside, left};
@@ -15,7 +17,7 @@ use wire::Cursor;
 // The items of one chunk that are still to come: `rest` is where they stand, an item has `words` words. For vertices `flags`, `sets` and `size` are the
 // numbers of their VRTS, for keys `flags` is that of their KEYS; the others are 0. Textures and brushes have a text before the words, and `size` is the number
 // of cells at the end of a row that name no texture.
-#[derive(Drop)]
+#[derive(Clone, Copy)]
 pub struct OpenItems {
     pub rest: Cursor,
     pub words: usize,

@@ -1,5 +1,7 @@
 // A position in a table of a file, by value, with no table lent: where its rows go on, and how it moves to the next chunk. `find_chunk` finds the next chunk
 // of a tag in the flat run of a file's chunks; `open_mesh`, `more_chunks` and `more_sets` move a position into it. Nothing is judged here.
+#![tactic(auto)]
+
 ghost use Rattle.std.specs.Prelude.{◌≡◌, ◌≤◌, length};
 ghost use Rattle.b3d_rows_open_items.specs.ItemsLeft.{ItemTable};
 ghost use Rattle.b3d_rows_positions.specs.FindChunk.{ChunkFinds};
@@ -11,7 +13,7 @@ use b3d_spec::{Counts, Tag};
 use wire::Cursor;
 
 // The next chunk of a tag: its header is at `at`, the run goes on at `next`, and `nodes` NODE chunks came before it. `End` where there is none.
-#[derive(Drop)]
+#[derive(Clone, Copy)]
 pub enum FoundChunk {
     Chunk {
         at: usize,
@@ -50,7 +52,7 @@ pub fn find_chunk(file: &[u8], from: usize, tag: Tag, before: usize) -> FoundChu
 
 // A position in a table: the flat run of chunks goes on at `at`; `inner` has the chunks of the open MESH that are still to come, `items` the items of the open
 // chunk; `counts` has the rows that came before, of those tables that the rows to come tell of.
-#[derive(Drop)]
+#[derive(Clone, Copy)]
 pub struct Position {
     pub at: usize,
     pub inner: Cursor,
@@ -59,7 +61,7 @@ pub struct Position {
 }
 
 // A later position, or `End` where the flat run has no further chunk of the tag.
-#[derive(Drop)]
+#[derive(Clone, Copy)]
 pub enum NextPosition {
     At(Position),
     End,

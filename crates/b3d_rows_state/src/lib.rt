@@ -15,7 +15,7 @@ use wire::Cursor;
 // are the chunks of the open MESH that are to come, from `items_at` to `items_end` the items of the open chunk, of `item_words` words each by the three numbers
 // before; `nodes` to `keys` are rows that came before; `depth` nodes are open, with their ends and their row numbers.
 #[repr(C)]
-#[derive(Drop)]
+#[derive(Clone, Copy)]
 pub struct RowState {
     pub table: u32,
     pub item_flags: u32,
@@ -43,7 +43,7 @@ pub struct RowState {
 // What `next` answers: 0 at place 0, and `rows`, which is 1 where a row was written and 0 where none is left; or a refusal with its place; and the state for
 // the next call.
 #[repr(C)]
-#[derive(Drop)]
+#[derive(Clone, Copy)]
 pub struct RowGiven {
     pub number: u32,
     pub place: u32,

@@ -1,4 +1,6 @@
 // The rule of a colour in code: red, green, blue or alpha, by its bits. One function serves the judge of files and the check of lent tables.
+#![tactic(auto)]
+
 ghost use Rattle.std.specs.Prelude.{◌≡◌};
 ghost use Rattle.layout.specs.Rules.{unit, holds};
 

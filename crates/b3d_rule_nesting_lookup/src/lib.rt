@@ -1,4 +1,6 @@
 // The nesting table read by tags: the row for the tag that encloses, and the entry in it.
+#![tactic(auto)]
+
 ghost use Rattle.std.specs.Prelude.{◌≡◌};
 ghost use Rattle.b3d_spec.specs.Tags.{tag_number};
 ghost use Rattle.b3d_rule_nesting_lookup.specs.Entries.{row_at, entry_of};

@@ -1,5 +1,7 @@
 // What the nesting table says of the chunks inside a chunk, one after the other. Refusal 4 is given where `is_permitted` says no, 8 where `owes` says yes: of a
 // file at hand by `b3d_chunk_next_allowed`; the judge of pieces asks the same two.
+#![tactic(auto)]
+
 ghost use Rattle.std.specs.Prelude.{◌≡◌};
 ghost use Rattle.b3d_spec.specs.Nesting.{nesting, required_between, end, next};
 ghost use Rattle.b3d_rule_nesting_order.specs.Turns.{between, reached_of, permit_of};
@@ -36,14 +38,14 @@ fn required_between(enclosing: Tag, lo: u8, hi: u8) -> bool
 }
 
 // How far the chunks inside a chunk have come: the turn of the last, and whether one stood there that may not stand again.
-#[derive(Drop)]
+#[derive(Clone, Copy)]
 pub struct Reached {
     pub turn: u8,
     pub spent: bool,
 }
 
 // Whether a chunk may stand where it does, or the chunks may end there; if so, how far they have come with it.
-#[derive(Drop)]
+#[derive(Clone, Copy)]
 pub enum Permit {
     No,
     Yes(Reached),

@@ -1,10 +1,12 @@
 // The nesting rule as one constant table: what may stand inside what, in which order and how often. docs/NESTING.md shows it in words.
+#![tactic(auto)]
+
 ghost use Rattle.std.specs.Prelude.{◌≡◌};
 ghost use Rattle.b3d_rule_nesting_table.specs.Table.{nesting_table};
 
 // A tag inside a chunk. Permission: `allowed`. Order: `turn`, chunks stand in the order of their turns. Number: `must`, one or more stand
 // there; `again`, more than one may. Tags of one turn mix freely, but only one chunk of a turn has a tag that may not stand again.
-#[derive(Drop)]
+#[derive(Clone, Copy)]
 pub struct Entry {
     pub allowed: bool,
     pub turn: u8,

@@ -1,11 +1,13 @@
 // Which cells of a vertex row and of a key row hold words of the file, as groups of cells. Rows are read, checked and written by these groups, with no test
 // for each word.
+#![tactic(auto)]
+
 ghost use Rattle.std.specs.Prelude.{◌≡◌};
 ghost use Rattle.b3d_rule_row_masks.specs.Runs.{least_of, vertex_runs, key_runs};
 
 // Which cells of a vertex or key row hold words of the file, by groups: all `head` cells; `three` of the next 3; `some` of the next `wide`; `size` of the 4
 // cells of each of `sets` sets; none of the last `rest`.
-#[derive(Drop)]
+#[derive(Clone, Copy)]
 pub struct RowRuns {
     pub head: usize,
     pub three: usize,

@@ -1,4 +1,6 @@
 // How many words a vertex, a key or a triangle has in the file, and a number cut down to the most that it may be.
+#![tactic(auto)]
+
 ghost use Rattle.std.specs.Prelude.{◌≡◌, ◌≤◌};
 ghost use Rattle.b3d_spec.specs.Mask.{ones, key_mask};
 ghost use Rattle.b3d_spec.specs.Rules.{vertex_words, key_words, highest_vertex_flags, most_sets, largest_set};

@@ -12,7 +12,7 @@ use Rattle.wire.specs.Test.{if}
 use Rattle.wire.specs.Bytes.{word}
 use Rattle.layout.specs.Chunks.{done, stop, chunk, keep, split_in, split as splitOf, ended}
 use Rattle.layout.specs.Result.{Result, accept, reject, check, ◌>>=◌}
-use Rattle.layout.specs.Parts.{Step, words, row, number, named, items}
+use Rattle.layout.specs.Parts.{Step, row, number, named}
 use Rattle.layout.specs.Rules.{Rule, refusal}
 use Rattle.layout.proofs.AllLaws.{All}
 use Rattle.layout.proofs.RefusalLaws.{OneToNine, refusal-range}

@@ -1,5 +1,6 @@
 // The meaning of B3D files: what a file says and its tables hold, and what reader, writer and clearer answer. `parse` reads a file, `table` gives its tables,
 // `encode` writes the shortest file, `rebuild` goes back from tables to the scene. Definitions in specs/, their laws in proofs/; no function.
+#![tactic(auto)]
 
 pub mod columns;
 pub mod letters;
@@ -32,7 +33,7 @@ pub const LEVELS: usize = 16;
 pub const ALL_LEVELS: u32 = LEVELS as u32;
 
 // The ten known tags, in the order of 01.
-#[derive(Drop)]
+#[derive(Clone, Copy)]
 pub enum Tag {
     BB3D,
     TEXS,
@@ -47,7 +48,7 @@ pub enum Tag {
 }
 
 // Whether colours are held to the range 0 to 1: `Strict` refuses others, `Lenient` looks at no colour (E8).
-#[derive(Drop)]
+#[derive(Clone, Copy)]
 pub enum Mode {
     Strict,
     Lenient,
@@ -85,7 +86,7 @@ pub const KEY_WIDTH: usize = 11;
 
 // How many rows of each of the tables 3 to 10 came before.
 #[repr(C)]
-#[derive(Drop)]
+#[derive(Clone, Copy)]
 pub struct Counts {
     pub nodes: usize,
     pub meshes: usize,
@@ -111,7 +112,7 @@ pub const START: Counts = Counts {
 
 // What the reader answers: refusal number and place, or 0 and 0 with the version, the texture slots of a brush and the ten row counts.
 #[repr(C)]
-#[derive(Drop)]
+#[derive(Clone, Copy)]
 pub struct Answer {
     // Refusal number, 0 if accepted.
     pub number: u32,
@@ -127,7 +128,7 @@ pub struct Answer {
 
 // What writer and clearer answer: refusal number and place, or 0 and 0 with the size written.
 #[repr(C)]
-#[derive(Drop)]
+#[derive(Clone, Copy)]
 pub struct Written {
     // Refusal number, 0 if written.
     pub number: u32,

@@ -31,7 +31,7 @@ of-ten f h t =
     let (i, h₇) = and_yes (f TRIS) _ h₆ in
     let (j, h₈) = and_yes (f BONE) _ h₇ in
     let (k, l) = and_yes (f KEYS) _ h₈ in
-    elim t [ BB3D ↦ a | TEXS ↦ b | BRUS ↦ c | NODE ↦ d | MESH ↦ e | VRTS ↦ g | TRIS ↦ i | BONE ↦ j | KEYS ↦ k | ANIM ↦ l ]
+    elim t as (λ u. T (f u)) [ BB3D ↦ a | TEXS ↦ b | BRUS ↦ c | NODE ↦ d | MESH ↦ e | VRTS ↦ g | TRIS ↦ i | BONE ↦ j | KEYS ↦ k | ANIM ↦ l ]
 
 -- a tag that is one of those numbered ks has what all of them have
 pub one_of : (f : Tag → Bool) (ks : List ℕ) → T (ten (λ t. not (has_key ks (tag_of the_type t)) || f t)) → (t : Tag) → OneOf ks (tag_of the_type t) → T (f t)

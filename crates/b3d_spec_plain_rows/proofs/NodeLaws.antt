@@ -19,7 +19,7 @@ use Rattle.b3d_spec.specs.Scene.{Mesh, Kind, pivot, mesh, bone, Keys, Anim, no_a
 use Rattle.b3d_spec.specs.Tables.{nodes_in, own_rows, with_node, with_forest, forest_rows}
 use Rattle.b3d_spec.specs.Tags.{Chunks, split}
 use Rattle.b3d_spec_chunk_places.proofs.NodeChunkLaws.{ByParts, parts-read}
-use Rattle.b3d_spec_plain_rows.specs.Flat.{rest, flat_at}
+use Rattle.b3d_spec_plain_rows.specs.Flat.{flat_at}
 use Rattle.b3d_spec_plain_rows.specs.Rows.{add_node, add_keys, current, key_list_rows, counted, chunk_rows, flat_rows}
 use Rattle.b3d_spec_plain_rows.proofs.LeafLaws.{keys-plain, bone-plain, mesh_plain}
 use Rattle.b3d_spec_plain_rows.proofs.PartLaws.{kind_rows, move_rows, with_kind, with_lists, own-parts, node-counted, current-node, kind-node, kind-keys}

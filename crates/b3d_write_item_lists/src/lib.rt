@@ -1,4 +1,6 @@
 // The KEYS and the TRIS of the writer: a chunk for each key list or triangle set, its items the next rows of the table of keys or triangles.
+#![tactic(auto)]
+
 ghost use Rattle.std.specs.Prelude.{◌+◌, ◌*◌, ◌/◌, ◌<◌, ◌≤◌, length, drop};
 ghost use Rattle.shared_output.specs.Writing.{Room, Put};
 ghost use Rattle.b3d_spec.specs.Tables.{key_width};

@@ -1,6 +1,8 @@
 // Chunks of the writer whose items are words of a lent table as they are: TRIS, BONE and ANIM; and such a word as a size. Each function is lent the output
 // from where its chunks are to stand, returns how many bytes it wrote, and leaves all that comes after as it was; a chunk's header is set when its body is
 // written.
+#![tactic(auto)]
+
 ghost use Rattle.std.specs.Prelude.{◌≡◌, ◌+◌, ◌*◌, ◌/◌, ◌<◌, ◌≤◌, length, take, drop, get_or};
 ghost use Rattle.shared_output.specs.Writing.{Room, Put};
 ghost use Rattle.b3d_spec.specs.Tables.{triangle_width, weight_width};

@@ -5,7 +5,7 @@ ghost use Rattle.b3d_write_nodes.specs.Walk.{TablesSized, Writable, WritesNodes,
 use b3d_spec::{Counts, NODE_WIDTH, columns, letters};
 
 // How many bytes were written, and the counts after the nodes that were written.
-#[derive(Drop)]
+#[derive(Clone, Copy)]
 pub struct NodesWritten {
     pub size: usize,
     pub counts: Counts,

@@ -1,5 +1,7 @@
 // What vertices and keys share when their rows are written into an output: of each group of cells the words that are there, in a loop of a constant count.
 // Vertices and keys have each their own functions down to the group, so that the compiler knows every count.
+#![tactic(auto)]
+
 ghost use Rattle.std.specs.Prelude.{[], ◌+◌, ◌≤◌, length, take, drop};
 ghost use Rattle.layout.specs.Write.{write_words};
 ghost use Rattle.shared_output.specs.Writing.{Room, Put};

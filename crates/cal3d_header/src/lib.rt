@@ -5,7 +5,7 @@ ghost use Rattle.cal3d_header.specs.Heads.{read_head, opened_of};
 use layout::{FEWEST_BYTES, MOST_BYTES, refusals};
 
 // The number of entries that the header says, or a refusal and its place.
-#[derive(Drop)]
+#[derive(Clone, Copy)]
 pub enum Opened {
     Accept(u32),
     Reject(u32, u32),

@@ -11,7 +11,7 @@ use cal3d_mesh_plain_spec::Shape;
 use cal3d_mesh_vertex_rows::VertexMarks;
 
 // A place in the file, and how many rows of tables 2 to 6 come before it.
-#[derive(Drop)]
+#[derive(Clone, Copy)]
 pub struct Place {
     pub at: usize,
     pub vertices: usize,

@@ -2,7 +2,7 @@
 // width. Definitions in specs/, laws in proofs/; the crate has no function.
 
 // The counts of a submesh that say which entries follow its numbers.
-#[derive(Drop)]
+#[derive(Clone, Copy)]
 pub struct Shape {
     pub vertices: usize,
     pub faces: usize,

@@ -8,7 +8,7 @@ use shared_counted_lists::{Ran, Summed};
 use wire::Cursor;
 
 // How many vertices, maps, influences, springs and faces there are.
-#[derive(Drop)]
+#[derive(Clone, Copy)]
 pub struct Contents {
     pub vertices: usize,
     pub maps: usize,
@@ -18,7 +18,7 @@ pub struct Contents {
 }
 
 // How many entries of each kind were read, and the cursor after them; or a refusal and its place.
-#[derive(Drop)]
+#[derive(Clone, Copy)]
 pub enum Contained {
     Accept(Contents, Cursor),
     Reject(u32, usize),

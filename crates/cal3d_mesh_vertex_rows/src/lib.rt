@@ -12,7 +12,7 @@ use cal3d_mesh_plain_spec::Shape;
 use wire::Cursor;
 
 // A place in the file, and how many maps and influences come before it.
-#[derive(Drop)]
+#[derive(Clone, Copy)]
 pub struct VertexMarks {
     pub at: usize,
     pub maps: usize,

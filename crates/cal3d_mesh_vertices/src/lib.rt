@@ -12,7 +12,7 @@ use shared_counted_lists::{Ran, Summed};
 use wire::{Cursor, Number};
 
 // How many vertices and springs a submesh has, and how many maps each vertex.
-#[derive(Drop)]
+#[derive(Clone, Copy)]
 pub struct SubmeshSizes {
     pub vertices: usize,
     pub springs: usize,

@@ -62,7 +62,7 @@ pub fn judge_bones(s: &[u8], from: Cursor, bones: usize) -> Summed
 }
 
 // The place of a bone's numbers, how many children follow them, and the cursor after those; or that no bone stands there.
-#[derive(Drop)]
+#[derive(Clone, Copy)]
 pub enum Laid {
     At(usize, usize, Cursor),
     Gone,

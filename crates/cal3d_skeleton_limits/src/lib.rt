@@ -10,7 +10,7 @@ use shared_counted_lists::Summed;
 use wire::Cursor;
 
 // The header's numbers after the version, and how many children the bones have.
-#[derive(Drop)]
+#[derive(Clone, Copy)]
 pub struct SkeletonSummary {
     pub bones: u32,
     pub red: u32,
@@ -20,7 +20,7 @@ pub struct SkeletonSummary {
 }
 
 // What a skeleton file comes to: the summary, or a refusal and its place.
-#[derive(Drop)]
+#[derive(Clone, Copy)]
 pub enum SkeletonVerdict {
     Accept(SkeletonSummary),
     Reject(u32, u32),

@@ -11,7 +11,7 @@ use layout::refusals;
 use wire::Cursor;
 
 // Lists and parents tell the same trees; or a refusal and its place.
-#[derive(Drop)]
+#[derive(Clone, Copy)]
 pub enum Told {
     Accept,
     Reject(u32, u32),

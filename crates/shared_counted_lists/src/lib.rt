@@ -1,4 +1,6 @@
 // Lists after a count and names after a length, read by cursor in any format: where they end, or the first refusal.
+#![tactic(auto)]
+
 ghost use Rattle.std.specs.Prelude.{◌+◌, ◌-◌, ◌*◌, ◌<◌, ◌≤◌, length};
 ghost use Rattle.wire.specs.Cursors.{Inside, left};
 ghost use Rattle.layout.specs.Parts.{row};
@@ -10,14 +12,14 @@ use layout::refusals;
 use wire::{Cursor, Number};
 
 // The cursor after what was read, or a refusal and its place.
-#[derive(Drop)]
+#[derive(Clone, Copy)]
 pub enum Ran {
     Accept(Cursor),
     Reject(u32, usize),
 }
 
 // How many entries of one kind were read, and the cursor after them; or a refusal and its place.
-#[derive(Drop)]
+#[derive(Clone, Copy)]
 pub enum Summed {
     Accept(usize, Cursor),
     Reject(u32, usize),

@@ -1,5 +1,7 @@
 // Writing into a lent output: words, bytes, texts, the header of a chunk. Each function is lent the output from the place where it writes, and leaves all
 // that comes after as it was. No file format is known here; the laws in proofs/ put such writes together.
+#![tactic(auto)]
+
 ghost use Rattle.std.specs.Prelude.{◌+◌, ◌<◌, ◌≤◌, [], length, take, drop};
 ghost use Rattle.wire.specs.Bytes.{bytes};
 ghost use Rattle.layout.specs.Write.{write_words, write_text};

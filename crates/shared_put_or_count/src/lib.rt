@@ -1,5 +1,7 @@
 // Bytes put into a lent output from a place on, or only counted: bytes of a file, a number of four bytes, a number in groups. A walk that is wet puts; one
 // that is dry counts, and leaves the output as it is. So one walk measures what it would write, and then writes it.
+#![tactic(auto)]
+
 ghost use Rattle.std.specs.Prelude.{◌+◌, ◌≤◌, [], length, take, drop};
 ghost use Rattle.wire.specs.Bytes.{bytes};
 ghost use Rattle.shared_seven_bit_groups.specs.Groups.{groups};

@@ -1,4 +1,6 @@
 // Finds the first lent table that is too short for its rows (refusal 11).
+#![tactic(auto)]
+
 ghost use Rattle.std.specs.Prelude.{◌≡◌, ◌*◌, ◌<◌, ltb};
 ghost use Rattle.wire.specs.Test.{if};
 

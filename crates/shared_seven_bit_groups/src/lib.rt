@@ -1,5 +1,7 @@
 // Numbers in groups of seven bits (E1): the highest group first, the top bit set on all but the last byte, in the shortest form. How many groups a number
 // takes, writing them into a lent output, and reading a number with a given upper bound. No file format is known here.
+#![tactic(auto)]
+
 ghost use Rattle.std.specs.Prelude.{◌≡◌, ◌+◌, ◌≤◌, [], length, drop};
 ghost use Rattle.shared_seven_bit_groups.specs.Groups.{front, groups, groups_of, read_number, grouped};
 ghost use Rattle.shared_seven_bit_groups.specs.Puts.{PutAt};
@@ -7,7 +9,7 @@ ghost use Rattle.shared_seven_bit_groups.specs.Puts.{PutAt};
 use layout::refusals;
 
 // A number and the place after its groups, or the refusal 13 with its place.
-#[derive(Drop)]
+#[derive(Clone, Copy)]
 pub enum Grouped {
     Accept(u32, usize),
     Reject(u32, usize),

@@ -1,5 +1,7 @@
 // Storing words in a lent table, for any format: given cells, one value again and again, words of the file as they stand. The other words of the table stay
 // as found.
+#![tactic(auto)]
+
 ghost use Rattle.std.specs.Prelude.{◌≡◌, ◌+◌, ◌*◌, ◌<◌, ◌≤◌, length, replicate};
 ghost use Rattle.std.proofs.lemmas.List.Edits.{sets as stored};
 ghost use Rattle.wire.specs.Cursors.{Inside, left};

@@ -12,7 +12,7 @@ use shared_seven_bit_groups::Grouped;
 
 // The answer of the slip reader: refusal number and place, or 0 and 0 with the twelve numbers.
 #[repr(C)]
-#[derive(Drop)]
+#[derive(Clone, Copy)]
 pub struct Slip {
     pub number: u32,
     pub place: u32,

@@ -9,7 +9,7 @@ use lib.Dec.{eqb}
 use Rattle.wire.specs.Test.{if}
 use Rattle.layout.specs.Chunks.{done, stop, chunk}
 use Rattle.layout.specs.Result.{Result, accept}
-use Rattle.layout.specs.Parts.{Step, words, row, number, named, items}
+use Rattle.layout.specs.Parts.{Step, row, number, named, items}
 use Rattle.layout.proofs.ChunkLaws.{ended-fine}
 use Rattle.layout.proofs.AllLaws.{All}
 use Rattle.layout.proofs.ResultLaws.{by-check, by-if, by_got, bad_got, got_inj}

@@ -1,0 +1,13 @@
+-- `header_done` comes to the machine's state, whatever chunks stand around.
+use Rattle.b3d_pieces_header_steps.proofs.HeadLaws.{header_laws}
+use borrow.Author.Rules.{rules}
+use Rattle.b3d_pieces_header_steps.proofs.header_done.Goals as goal
+
+pub returns-then-left-n : goal.returns-then-left-n
+returns-then-left-n c = search (header_laws, rules)
+
+pub returns-in-Other : goal.returns-in-Other
+returns-in-Other c = search (header_laws, rules)
+
+pub returns-in-Known : goal.returns-in-Known
+returns-in-Known c = search (header_laws, rules)

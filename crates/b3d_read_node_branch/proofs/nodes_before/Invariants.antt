@@ -1,0 +1,11 @@
+-- `nodes_before` counts NODEs until one begins at the end or behind it. Its measure is what is left of the file.
+use Prim.Native.Nat.{◌-◌}
+use lib.ListN.{length}
+use Rattle.b3d_read_node_branch.proofs.Laws.{BeforeLeft}
+use Rattle.b3d_read_node_branch.proofs.nodes_before.Given as goal
+
+abbrev pub invariant-loop-tag : goal.invariant-loop-tag
+invariant-loop-tag l = BeforeLeft l.file l.end l.initial.at l.at l.count
+
+abbrev pub decreases-loop-tag : goal.decreases-loop-tag
+decreases-loop-tag l = length l.file - l.at

@@ -1,0 +1,28 @@
+-- `put_list` writes keys and then the head of their chunk.
+use Rattle.shared_output.proofs.PartLaws.{chunk_laws}
+use borrow.Author.Rules.{rules}
+use Rattle.b3d_write_item_lists.proofs.put_list.Goals as goal
+
+pub slice_bounds-put_key_rows-count : goal.slice_bounds-put_key_rows-count
+slice_bounds-put_key_rows-count c = search (chunk_laws, rules)
+
+pub slice_bounds-put_key_rows-start : goal.slice_bounds-put_key_rows-start
+slice_bounds-put_key_rows-start c = search (chunk_laws, rules)
+
+pub slice_bounds-put_key_rows-end : goal.slice_bounds-put_key_rows-end
+slice_bounds-put_key_rows-end c = search (chunk_laws, rules)
+
+pub put_key_rows-n-requires : goal.put_key_rows-n-requires
+put_key_rows-n-requires c = search (chunk_laws, rules)
+
+pub put_opening-requires : goal.put_opening-requires
+put_opening-requires c = search (chunk_laws, rules)
+
+pub overflow_add-result : goal.overflow_add-result
+overflow_add-result c = search (chunk_laws, rules)
+
+pub shape_of-out : goal.shape_of-out
+shape_of-out c = search (chunk_laws, rules)
+
+pub returns : goal.returns
+returns c = search (chunk_laws, rules)

@@ -1,0 +1,32 @@
+-- `put_front` writes one run after the other.
+use Rattle.shared_output.proofs.PartLaws.{both_laws}
+use Rattle.b3d_write_row_runs.proofs.PresentWordLaws.{part_laws}
+use borrow.Author.Rules.{rules}
+use Rattle.b3d_write_row_runs.proofs.put_front.Goals as goal
+
+pub put_words-n-requires : goal.put_words-n-requires
+put_words-n-requires c = search (both_laws, part_laws, rules)
+
+pub overflow_add-base : goal.overflow_add-base
+overflow_add-base c = search (both_laws, part_laws, rules)
+
+pub slice_bounds-put_full-count : goal.slice_bounds-put_full-count
+slice_bounds-put_full-count c = search (both_laws, part_laws, rules)
+
+pub slice_bounds-put_full-start : goal.slice_bounds-put_full-start
+slice_bounds-put_full-start c = search (both_laws, part_laws, rules)
+
+pub slice_bounds-put_full-end : goal.slice_bounds-put_full-end
+slice_bounds-put_full-end c = search (both_laws, part_laws, rules)
+
+pub put_full-m-requires : goal.put_full-m-requires
+put_full-m-requires c = search (both_laws, part_laws, rules)
+
+pub overflow_add-result : goal.overflow_add-result
+overflow_add-result c = search (both_laws, part_laws, rules)
+
+pub shape_of-out : goal.shape_of-out
+shape_of-out c = search (both_laws, part_laws, rules)
+
+pub returns : goal.returns
+returns c = search (both_laws, part_laws, rules)
