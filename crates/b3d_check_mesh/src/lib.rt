@@ -1,5 +1,7 @@
 // Whether meshes with their triangle sets, and weights, are sound in lent tables. Each function is a test of b3d_check_spec's specs/Check on rows that are given
 // by their number.
+#![tactic(auto)]
+
 ghost use Rattle.std.specs.Prelude.{◌≡◌, ◌+◌, ◌-◌, ◌*◌, ◌<◌, ◌≤◌, length};
 ghost use Rattle.b3d_spec.specs.Mask.{vertex_mask};
 ghost use Rattle.b3d_spec.specs.Rules.{weight_row};

@@ -1,4 +1,6 @@
 // The running counts of the check's walk over the nodes of lent tables: the counts after a node, and whether they leave no row over.
+#![tactic(auto)]
+
 ghost use Rattle.std.specs.Prelude.{◌≡◌, [], ◌∷◌, ◌+◌, ◌-◌, ◌*◌, ◌<◌, ◌≤◌, length};
 ghost use Rattle.b3d_spec.specs.Tables.{node_width, mesh_width, triangle_set_width, key_list_width};
 ghost use Rattle.b3d_check_spec.specs.CellCounts.{mesh_counts, kind_counts, cell_counts};

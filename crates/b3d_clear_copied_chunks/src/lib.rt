@@ -1,5 +1,7 @@
 // Chunks that stay as they are in the copy without names, written into a lent output. Each function is lent the output from where it is to write, and returns
 // how many bytes it wrote; a chunk's header is written last, when the length of its body is known.
+#![tactic(auto)]
+
 ghost use Rattle.std.specs.Prelude.{◌≤◌, ◌++◌, length};
 ghost use Rattle.wire.specs.Cursors.{Inside, left};
 ghost use Rattle.layout.specs.Rows.{most_bytes};

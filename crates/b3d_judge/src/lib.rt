@@ -1,5 +1,7 @@
 // The judge: one walk over a file, which answers its refusal, 1 to 10, or what it says without its tables. That is version, n_texs, the ten row counts and
 // the size of the cleared copy. Nothing is written; reader, clearer and lister start from it.
+#![tactic(auto)]
+
 ghost use Rattle.std.specs.Prelude.{◌≡◌};
 ghost use Rattle.b3d_judge.specs.Answers.{verdict_of};
 ghost use Rattle.wire.specs.Bytes.{AllBytes};

@@ -1,4 +1,6 @@
 // Judges all that follows the header of a file, its version and its chunks, and counts their rows.
+#![tactic(auto)]
+
 ghost use Rattle.std.specs.Prelude.{◌≤◌, ◌≡◌, length, drop};
 ghost use Rattle.b3d_spec.specs.declared.Tag.TheVariants.{BB3D};
 ghost use Rattle.b3d_spec.specs.Nesting.{start};

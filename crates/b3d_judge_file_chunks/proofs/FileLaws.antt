@@ -7,7 +7,8 @@ use mathlib.Core.Option.{none, some}
 use mathlib.Core.List.{List, [], ◌∷◌}
 use lib.ListN.{length}
 use lib.Dec.{T}
-use types.Run.{OneOf}
+use mir.Val.{has_key}
+use types.Run.{OneOf, hit}
 use denote.Enum.Declared.{tag_of}
 use Rattle.wire.specs.Test.{if}
 use Rattle.wire.specs.Cursors.{left}
@@ -152,6 +153,14 @@ pub texs_follows : T (plain BB3D (λ u. is u TEXS) start (reached_at 1 true) (0 
 unfolding plain is_none same_turn bool_same nextTurn if
 texs_follows = tt
 
+-- a tag other than TEXS is one of the nine others
+pub texs_rest : (t : Tag) → (t ≡ TEXS → ⊥) → OneOf (0 ∷ 2 ∷ 3 ∷ 4 ∷ 5 ∷ 6 ∷ 7 ∷ 8 ∷ 9 ∷ []) (tag_of the_type t)
+texs_rest t =
+    let other = λ (n : ℕ) (h : T (has_key (0 ∷ 2 ∷ 3 ∷ 4 ∷ 5 ∷ 6 ∷ 7 ∷ 8 ∷ 9 ∷ []) n)). hit (0 ∷ 2 ∷ 3 ∷ 4 ∷ 5 ∷ 6 ∷ 7 ∷ 8 ∷ 9 ∷ []) n h in
+    by-tag
+    (λ t. (t ≡ TEXS → ⊥) → OneOf (0 ∷ 2 ∷ 3 ∷ 4 ∷ 5 ∷ 6 ∷ 7 ∷ 8 ∷ 9 ∷ []) (tag_of the_type t))
+    ((λ a. other 0 tt), (λ a. absurd (a refl)), (λ a. other 2 tt), (λ a. other 3 tt), (λ a. other 4 tt), (λ a. other 5 tt), (λ a. other 6 tt), (λ a. other 7 tt), (λ a. other 8 tt), (λ a. other 9 tt)) t
+
 pub ruleset texs_laws = (texs_follows, among-inside, among-head, file-body, texs_end, texs_stop, texs_plain, texs_bad, texs_good)
 
 -- ---- the root
@@ -270,5 +279,13 @@ module _ (mode : Mode) (s : List ℕ) (from : Cursor) (g : Among 0 from (length 
                 ∙ ap (λ (o : Result (ℕ × List Brush)). brushes (o >>= λ y. accept (record { value = y; rest = rest_in s BB3D 0 (reached_at 2 true) n }))) (sym u.is) ∙ ap brushes (sym brus_read);
             within = beyond s from g (record { turn = 1; spent = true }) r x t p b n v w m (subst (SlottedIn p b.end) y hj.within);
           }
+
+-- a tag other than BRUS is one of the nine others
+pub brus_rest : (t : Tag) → (t ≡ BRUS → ⊥) → OneOf (0 ∷ 1 ∷ 3 ∷ 4 ∷ 5 ∷ 6 ∷ 7 ∷ 8 ∷ 9 ∷ []) (tag_of the_type t)
+brus_rest t =
+    let other = λ (n : ℕ) (h : T (has_key (0 ∷ 1 ∷ 3 ∷ 4 ∷ 5 ∷ 6 ∷ 7 ∷ 8 ∷ 9 ∷ []) n)). hit (0 ∷ 1 ∷ 3 ∷ 4 ∷ 5 ∷ 6 ∷ 7 ∷ 8 ∷ 9 ∷ []) n h in
+    by-tag
+    (λ t. (t ≡ BRUS → ⊥) → OneOf (0 ∷ 1 ∷ 3 ∷ 4 ∷ 5 ∷ 6 ∷ 7 ∷ 8 ∷ 9 ∷ []) (tag_of the_type t))
+    ((λ a. other 0 tt), (λ a. other 1 tt), (λ a. absurd (a refl)), (λ a. other 3 tt), (λ a. other 4 tt), (λ a. other 5 tt), (λ a. other 6 tt), (λ a. other 7 tt), (λ a. other 8 tt), (λ a. other 9 tt)) t
 
 pub ruleset brus_laws = (brus_follows, among-inside, among-head, file-body, brus_end, brus_stop, brus_plain, brus_bad, brus_good)

@@ -1,4 +1,6 @@
 // Judges the chunks of a file: at most one each of TEXS, BRUS and NODE, in that order.
+#![tactic(auto)]
+
 ghost use Rattle.std.specs.Prelude.{true, [], length};
 ghost use Rattle.b3d_spec.specs.declared.Tag.TheVariants.{BB3D, TEXS, BRUS, NODE};
 ghost use Rattle.b3d_spec.specs.Scene.{no_nodes};

@@ -1,4 +1,6 @@
 // Judges a MESH as it is mended: its VRTS, its TRIS without the triangles that are taken out, no spare bytes.
+#![tactic(auto)]
+
 ghost use Rattle.std.specs.Prelude.{◌≤◌, ◌+◌, ◌≡◌, true, length};
 ghost use Rattle.wire.specs.Cursors.{left};
 ghost use Rattle.b3d_spec.specs.declared.Mode.TheVariants.{Lenient};

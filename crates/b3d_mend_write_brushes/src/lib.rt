@@ -1,4 +1,6 @@
 // The brushes of a BRUS as they are mended, put into the output or only counted: texture ids that name nothing are set to -1.
+#![tactic(auto)]
+
 ghost use Rattle.std.specs.Prelude.{◌+◌, ◌*◌, ◌≤◌, ◌<◌, length};
 ghost use Rattle.wire.specs.Bytes.{AllBytes};
 ghost use Rattle.shared_put_or_count.specs.Emits.{Emits, RoomFrom};

@@ -21,7 +21,7 @@ use Rattle.layout.proofs.StepLaws.{words-enough, row_any, judged_got}
 use Rattle.b3d_spec.specs.declared.Mode.TheVariants.{Lenient}
 use Rattle.b3d_spec.specs.declared.Tag.{Tag}
 use Rattle.b3d_spec.specs.declared.Tag.TheVariants.{BB3D, TEXS, BRUS, NODE}
-use Rattle.b3d_spec.specs.Nesting.{start, order}
+use Rattle.b3d_spec.specs.Nesting.{start}
 use Rattle.b3d_spec.specs.Parse.{read_textures, read_brushes, read_root}
 use Rattle.b3d_spec.specs.Rules.{levels, header, file_head}
 use Rattle.b3d_spec.specs.Scene.{Texture, Brush, Forest, no_nodes, Scene}

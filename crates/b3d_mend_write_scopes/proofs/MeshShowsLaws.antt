@@ -18,7 +18,7 @@ use Rattle.b3d_spec.specs.Nesting.{start, next, onward, order, reached_at}
 use Rattle.b3d_spec.specs.Parse.{Vertices, no_vertices, read_vertices}
 use Rattle.b3d_spec.specs.Rules.{mesh_head}
 use Rattle.b3d_spec.specs.Scene.{TriangleSet, Mesh}
-use Rattle.b3d_spec.specs.Tags.{is, Chunks}
+use Rattle.b3d_spec.specs.Tags.{Chunks}
 use Rattle.b3d_spec.proofs.Files.TagCodeLaws.{by-tag}
 use Rattle.b3d_spec.proofs.Files.TagLaws.{Only}
 use Rattle.b3d_mend_spec.specs.Edits.{Edit, keep, before}

@@ -2,13 +2,9 @@
 use mathlib.Core.Path.{◌≡◌, refl, sym, ap, ap₂, subst, ◌∙◌}
 use Prim.Native.Nat.{ℕ, zero, suc, ◌+◌, ◌-◌, ◌*◌, ◌<◌, ◌≤◌}
 use native.Mathlib.Omega.{arith}
-use mathlib.Core.Bool.{Bool, not, ◌&&◌, ◌||◌}
+use mathlib.Core.Bool.{Bool}
 use mathlib.Core.List.{List, [], ◌∷◌, ◌++◌, append_assoc}
 use lib.ListN.{length, take, drop, length-append, length-replicate}
-use lib.Dec.{T}
-use mir.Val.{has_key}
-use types.Run.{OneOf}
-use denote.Enum.Declared.{tag_of}
 use Rattle.wire.specs.Bytes.{word_at, AllBytes}
 use Rattle.wire.specs.Cursors.{Inside, left, number_at}
 use Rattle.wire.specs.declared.Cursor.{Cursor}
@@ -26,11 +22,8 @@ use Rattle.b3d_chunk_cursor.specs.declared.Named.{Named}
 use Rattle.b3d_chunk_cursor.specs.declared.Named.TheVariants as row
 use Rattle.b3d_chunk_cursor.proofs.NamedLaws.{named-cut, named-any, named-among}
 use Rattle.b3d_spec.specs.Rules.{node_row, mesh_head}
-use Rattle.b3d_spec.specs.Tags.{is}
 use Rattle.b3d_spec.specs.declared.Tag.{Tag}
-use Rattle.b3d_spec.specs.declared.Tag.TheVariants.{BB3D, TEXS, BRUS, NODE, MESH, VRTS, TRIS, BONE, KEYS, ANIM}
-use Rattle.b3d_spec.specs.contracts.Tag.{the_type}
-use Rattle.b3d_spec_chunk_places.proofs.TagTestLaws.{ten, one_of}
+use Rattle.b3d_spec.specs.declared.Tag.TheVariants.{NODE, MESH}
 use Rattle.b3d_mend_spec.specs.Edits.{keep}
 use Rattle.b3d_mend_spec.specs.Pieces.{Pieces, chunks_of}
 use Rattle.b3d_mend_spec.specs.Walks.{word_edit, word_edits}
@@ -45,41 +38,10 @@ use Rattle.b3d_mend_write_scopes.specs.declared.Scope.{Scope}
 use Rattle.b3d_mend_write_scopes.specs.Opens.{node_front, mesh_front, walk_from, OpeningIs}
 use Rattle.b3d_mend_write_scopes.specs.declared.Opening.TheVariants as opening
 
--- ---- chunks that hold no chunks
-
-abbrev no_nodes : Tag → Bool
-no_nodes t = not (is t NODE) && not (is t MESH)
-
-flat : (report : Bool) (l : ℕ) (k : Scope) (t : Tag) → T (no_nodes t) → (p : ℕ) (b : List ℕ) → walk_chunk report l k t p b ≡ walk_leaf report k t p b
-unfolding walk_chunk
-flat report zero k t h p b = refl
-flat report (suc l) k BB3D h p b = refl
-flat report (suc l) k TEXS h p b = refl
-flat report (suc l) k BRUS h p b = refl
-flat report (suc l) k NODE h p b = absurd h
-flat report (suc l) k MESH h p b = absurd h
-flat report (suc l) k VRTS h p b = refl
-flat report (suc l) k TRIS h p b = refl
-flat report (suc l) k BONE h p b = refl
-flat report (suc l) k KEYS h p b = refl
-flat report (suc l) k ANIM h p b = refl
-
--- those numbered ks hold no chunks
-pub leaves : List ℕ → Bool
-leaves ks = ten (λ t. not (has_key ks (tag_of the_type t)) || no_nodes t)
-
-pub eight : T (leaves (0 ∷ 1 ∷ 2 ∷ 5 ∷ 6 ∷ 7 ∷ 8 ∷ 9 ∷ []))
-unfolding leaves
-eight = tt
-
 module _ (s : List ℕ) (l : ℕ) (t : Tag) (b : Cursor) where
   pub open_last : l ≡ 0 → OpeningIs s l t b opening.Flat
   unfolding walk_chunk
   open_last e = record { is = (λ report k p h. rw e) }
-
-  pub open_leaf : (ks : List ℕ) → OneOf ks (tag_of the_type t) → T (leaves ks) → OpeningIs s l t b opening.Flat
-  unfolding leaves
-  open_leaf ks o h = record { is = (λ report k p e. flat report l k t (one_of no_nodes ks h t o) p (left b s)) }
 
 pos : (m : ℕ) → (m ≡ 0 → ⊥) → 0 < m
 pos zero u = absurd (u refl)
@@ -213,4 +175,4 @@ module _ (s : List ℕ) (l : ℕ) (t : Tag) (b : Cursor) (e : t ≡ MESH) (d : l
           };
         }
 
-pub ruleset open_laws = (open_last, open_leaf, eight, open_cut, open_node, open_short, open-mesh)
+pub ruleset open_laws = (open_last, open_cut, open_node, open_short, open-mesh)

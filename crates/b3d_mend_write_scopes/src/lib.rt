@@ -1,6 +1,8 @@
 // What a chunk needs to know of those before it and around it, where the chunks inside it begin, and its header, which is put behind its body.
 // `specs/Shown` is what the writing walk shows of a file, chunk by chunk, from the bytes alone and without refusals; a law says that for a file that can
 // be mended this is its mended file and its report.
+#![tactic(auto)]
+
 ghost use Rattle.std.specs.Prelude.{◌≡◌, ◌+◌, ◌-◌, ◌<◌, [], length};
 ghost use Rattle.b3d_mend_write_scopes.specs.Shown.{next_scope, node_scope, mesh_scope};
 ghost use Rattle.b3d_mend_write_scopes.specs.Heads.{body_at};

@@ -1,5 +1,7 @@
 // What the piece judge holds between two pieces, and a turn of its loop: a byte of BB3D's header, or a turn of the machine. By value, one record of the row
 // read and one written, as in b3d_pieces_step.
+#![tactic(auto)]
+
 pub mod steps;
 pub mod taking;
 

@@ -1,5 +1,7 @@
 // How many of a piece's next bytes the piece judge may take at once, by numbers alone: within the longest file, before a chunk's last byte, before a text's
 // zero.
+#![tactic(auto)]
+
 ghost use Rattle.std.specs.Prelude.{◌≤◌, length};
 ghost use Rattle.b3d_pieces_skip_lengths.specs.Ahead.{RoomIs, BytesBefore, UntilZero};
 

@@ -1,5 +1,7 @@
 // Numbers of a row that the piece judge takes at once, as long as the row goes on or another item of the same chunk begins. What stands afterwards is what
 // the machine comes to over these bytes, taken one by one. What the row's rules ask is a few numbers, found once.
+#![tactic(auto)]
+
 pub mod numbers;
 
 use b3d_pieces_spec::Kept;

@@ -1,5 +1,7 @@
 // What a caller of the piece judge keeps between two calls, as numbers only, so that C can hold it too: the state, and a record of the lent row. Here are
 // these types, and the way to what the judge holds and back.
+#![tactic(auto)]
+
 pub mod records;
 pub mod states;
 

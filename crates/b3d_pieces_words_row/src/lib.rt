@@ -1,4 +1,6 @@
 // The row of open-chunk records as plain words, eleven to a record: reading and writing a record.
+#![tactic(auto)]
+
 ghost use Rattle.std.specs.Prelude.{◌≡◌, ◌+◌, ◌*◌, ◌≤◌, length};
 ghost use Rattle.b3d_pieces_spec.specs.Row.{open_at, put_open, record_words};
 

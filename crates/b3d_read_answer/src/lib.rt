@@ -1,4 +1,6 @@
 // The reader's answers, with no table touched: for a file alone (`judge_answer`), and for a file and tables of given lengths.
+#![tactic(auto)]
+
 ghost use Rattle.std.specs.Prelude.{◌≡◌, [], ◌∷◌};
 ghost use Rattle.b3d_spec.specs.Answers.{judge, answer, read_answer};
 ghost use Rattle.shared_room.specs.Rooms.{number_of};

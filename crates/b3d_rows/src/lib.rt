@@ -1,5 +1,7 @@
 // The rows of any table of a file one after the other, by value, with no table lent: `begin` and `next_or_end` on any bytes, `start` and `next_row` where it is
 // known that nodes nest no deeper than 16 and that a row is to come.
+#![tactic(auto)]
+
 ghost use Rattle.std.specs.Prelude.{◌≡◌, ◌<◌, ◌≤◌, [], length};
 ghost use Rattle.b3d_spec.specs.Tables.{vertex_width};
 ghost use Rattle.b3d_spec_plain_rows.specs.Flat.{flat_at};

@@ -1,4 +1,6 @@
 // The next row of table 3, the nodes, and the nodes that are open at a place of a file, by value: at most 16. A node that is entered finds its parent there.
+#![tactic(auto)]
+
 ghost use Rattle.std.specs.Prelude.{◌≡◌, ◌<◌, ◌≤◌, length, leb};
 ghost use Rattle.b3d_spec.specs.Tables.{vertex_width};
 ghost use Rattle.b3d_spec.specs.Rules.{levels};

@@ -1,4 +1,6 @@
 // The KEYS and the ANIM of a node, written from rows of lent tables: t3 the nodes, t9 the key lists, t10 the keys.
+#![tactic(auto)]
+
 ghost use Rattle.std.specs.Prelude.{◌≡◌, ◌+◌, ◌*◌, ◌/◌, ◌<◌, ◌≤◌, length, drop};
 ghost use Rattle.shared_output.specs.Writing.{Room, Put};
 ghost use Rattle.b3d_spec.specs.Rebuild.{owned_by};

@@ -1,4 +1,6 @@
 // The TEXS and the BRUS of a file, written from all rows of their tables; nothing where a table has no row.
+#![tactic(auto)]
+
 pub mod named;
 
 ghost use Rattle.std.specs.Prelude.{◌+◌, ◌*◌, ◌/◌, ◌≤◌, length};

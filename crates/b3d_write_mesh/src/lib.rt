@@ -1,4 +1,6 @@
 // A MESH written from rows of lent tables: its brush, its VRTS and its TRIS.
+#![tactic(auto)]
+
 ghost use Rattle.std.specs.Prelude.{◌+◌, ◌/◌, ◌≤◌, length};
 ghost use Rattle.shared_output.specs.Writing.{Room, Put};
 ghost use Rattle.b3d_spec.specs.Tables.{vertex_width};

@@ -1,4 +1,6 @@
 // Rows of vertices written as the vertices of a VRTS, group by group, into a lent output.
+#![tactic(auto)]
+
 ghost use Rattle.std.specs.Prelude.{◌≡◌, [], map, ◌+◌, ◌*◌, ◌/◌, ◌<◌, ◌≤◌, length, take, drop};
 ghost use Rattle.layout.specs.Write.{write_words, write_items};
 ghost use Rattle.shared_output.specs.Writing.{Room, Put};

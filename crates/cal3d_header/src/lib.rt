@@ -1,4 +1,6 @@
 // The header of a cal3d file, skeleton or mesh: its size, its magic, its version and the number of its entries.
+#![tactic(auto)]
+
 ghost use Rattle.std.specs.Prelude.{◌≡◌, ◌≤◌};
 ghost use Rattle.cal3d_header.specs.Heads.{read_head, opened_of};
 

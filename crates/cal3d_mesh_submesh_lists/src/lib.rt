@@ -1,4 +1,6 @@
 // The lists of a submesh by cursor, judged by the rules: its vertices, its springs, its faces; and how many entries they hold.
+#![tactic(auto)]
+
 ghost use Rattle.std.specs.Prelude.{length};
 ghost use Rattle.wire.specs.Cursors.{Inside, left};
 ghost use Rattle.cal3d_mesh_submesh_lists.specs.Contents.{Contains, contents_of, read_lists};

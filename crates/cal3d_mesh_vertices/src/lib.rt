@@ -1,4 +1,6 @@
 // The vertices of a submesh by cursor, judged one after the other, and how many influences they have.
+#![tactic(auto)]
+
 ghost use Rattle.std.specs.Prelude.{◌+◌, ◌*◌, length};
 ghost use Rattle.wire.specs.Cursors.{Inside, left};
 ghost use Rattle.layout.specs.Counted.{times};

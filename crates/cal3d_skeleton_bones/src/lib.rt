@@ -1,4 +1,6 @@
 // The bones of a skeleton file by cursor: judged one after the other, or the parts of one bone for a walk that knows that they are good.
+#![tactic(auto)]
+
 ghost use Rattle.std.specs.Prelude.{◌*◌, length};
 ghost use Rattle.wire.specs.Cursors.{Inside, left};
 ghost use Rattle.layout.specs.Counted.{times};

@@ -1,5 +1,7 @@
 // Finds the first bone where child lists and parents do not tell the same trees, by the scores that the lists give. One pass over the bones, with a lent row
 // of marks, so that no walk is made twice over bones that are known to be right.
+#![tactic(auto)]
+
 ghost use Rattle.std.specs.Prelude.{◌≡◌, ◌<◌, ◌≤◌, length};
 ghost use Rattle.cal3d_spec.specs.Trees.{ends};
 ghost use Rattle.cal3d_skeleton_tree_check.specs.Scores.{wanted, sound, lowest, ParentsValid, Marked, ParentsEnd, Zeros};

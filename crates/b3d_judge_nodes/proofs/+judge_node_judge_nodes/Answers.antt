@@ -4,114 +4,86 @@ use Rattle.b3d_judge_nodes.proofs.NodeLaws.{node_laws, noding}
 use borrow.Author.Rules.{rules}
 use Rattle.b3d_judge_nodes.proofs.+judge_node_judge_nodes.Goals as goal
 
--- judge_node
-pub returns-then-levels-eq0 : goal.returns-then-levels-eq0
-returns-then-levels-eq0 t c = search (node_laws, rules)
+pub judge_node-returns-then-levels-eq0 : goal.judge_node-returns-then-levels-eq0
+judge_node-returns-then-levels-eq0 t c = search (node_laws, rules)
 
--- judge_node
-pub judge_own-requires : goal.judge_own-requires
-judge_own-requires t c = search (node_laws, rules)
+pub judge_node-judge_own-requires : goal.judge_node-judge_own-requires
+judge_node-judge_own-requires t c = search (node_laws, rules)
 
--- judge_node
-pub enum_known-e : goal.enum_known-e
-enum_known-e t c = search (node_laws, rules)
+pub judge_node-enum_known-e : goal.judge_node-enum_known-e
+judge_node-enum_known-e t c = search (node_laws, rules)
 
--- judge_node
-pub enum_known-below : goal.enum_known-below
-enum_known-below t c = search (node_laws, rules)
+pub judge_node-enum_known-below : goal.judge_node-enum_known-below
+judge_node-enum_known-below t c = search (node_laws, rules)
 
--- judge_node
-pub overflow_sub-levels : goal.overflow_sub-levels
-overflow_sub-levels t c = search (node_laws, rules)
+pub judge_node-overflow_sub-levels : goal.judge_node-overflow_sub-levels
+judge_node-overflow_sub-levels t c = search (node_laws, rules)
 
--- judge_node
-pub judge_nodes-requires : goal.judge_nodes-requires
-judge_nodes-requires t c = search (node_laws, rules)
+pub judge_node-judge_nodes-requires : goal.judge_node-judge_nodes-requires
+judge_node-judge_nodes-requires t c = search (node_laws, rules)
 
--- judge_node
-pub enum_known-e-in-Reject-judge_nodes : goal.enum_known-e-in-Reject-judge_nodes
-enum_known-e-in-Reject-judge_nodes t c = search (node_laws, rules)
+pub judge_node-enum_known-e-in-Reject-judge_nodes : goal.judge_node-enum_known-e-in-Reject-judge_nodes
+judge_node-enum_known-e-in-Reject-judge_nodes t c = search (node_laws, rules)
 
--- judge_node
-pub enum_known-f : goal.enum_known-f
-enum_known-f t c = search (node_laws, rules)
+pub judge_node-enum_known-f : goal.judge_node-enum_known-f
+judge_node-enum_known-f t c = search (node_laws, rules)
 
--- judge_node
-pub plus-requires : goal.plus-requires
-plus-requires t c = search (node_laws, rules)
+pub judge_node-plus-requires : goal.judge_node-plus-requires
+judge_node-plus-requires t c = search (node_laws, rules)
 
--- judge_node
-pub returns-in-Reject : goal.returns-in-Reject
-returns-in-Reject t c = search (node_laws, rules)
+pub judge_node-returns-in-Reject : goal.judge_node-returns-in-Reject
+judge_node-returns-in-Reject t c = search (node_laws, rules)
 
--- judge_node
-pub returns-in-Reject-judge_nodes : goal.returns-in-Reject-judge_nodes
-returns-in-Reject-judge_nodes t c = search (node_laws, rules)
+pub judge_node-returns-in-Reject-judge_nodes : goal.judge_node-returns-in-Reject-judge_nodes
+judge_node-returns-in-Reject-judge_nodes t c = search (node_laws, rules)
 
--- judge_node
-pub returns-in-Accept-judge_nodes : goal.returns-in-Accept-judge_nodes
-returns-in-Accept-judge_nodes t c = search (node_laws, rules)
+pub judge_node-returns-in-Accept-judge_nodes : goal.judge_node-returns-in-Accept-judge_nodes
+judge_node-returns-in-Accept-judge_nodes t c = search (node_laws, rules)
 
--- judge_nodes
-pub none-m-requires : goal.none-m-requires
-none-m-requires t c = search (noding, rules)
+pub judge_nodes-none-m-requires : goal.judge_nodes-none-m-requires
+judge_nodes-none-m-requires t c = search (noding, rules)
 
--- judge_nodes
-pub loop-e-init : goal.loop-e-init
-loop-e-init t c = search (noding, rules)
+pub judge_nodes-loop-e-init : goal.judge_nodes-loop-e-init
+judge_nodes-loop-e-init t c = search (noding, rules)
 
--- judge_nodes
-pub next_chunk-found-requires : goal.next_chunk-found-requires
-next_chunk-found-requires t c = search (noding, rules)
+pub judge_nodes-next_chunk-found-requires : goal.judge_nodes-next_chunk-found-requires
+judge_nodes-next_chunk-found-requires t c = search (noding, rules)
 
--- judge_nodes
-pub next_inside-requires : goal.next_inside-requires
-next_inside-requires t c = search (noding, rules)
+pub judge_nodes-next_inside-requires : goal.judge_nodes-next_inside-requires
+judge_nodes-next_inside-requires t c = search (noding, rules)
 
--- judge_nodes
-pub enum_told-1 : goal.enum_told-1
-enum_told-1 t c = search (noding, rules)
+pub judge_nodes-enum_told-1 : goal.judge_nodes-enum_told-1
+judge_nodes-enum_told-1 t c = search (noding, rules)
 
--- judge_nodes
-pub returns-in-End : goal.returns-in-End
-returns-in-End t c = search (noding, rules)
+pub judge_nodes-returns-in-End : goal.judge_nodes-returns-in-End
+judge_nodes-returns-in-End t c = search (noding, rules)
 
--- judge_nodes
-pub enum_known-e : goal.enum_known-e
-enum_known-e t c = search (noding, rules)
+pub judge_nodes-enum_known-e : goal.judge_nodes-enum_known-e
+judge_nodes-enum_known-e t c = search (noding, rules)
 
--- judge_nodes
-pub returns-in-Reject : goal.returns-in-Reject
-returns-in-Reject t c = search (noding, rules)
+pub judge_nodes-returns-in-Reject : goal.judge_nodes-returns-in-Reject
+judge_nodes-returns-in-Reject t c = search (noding, rules)
 
--- judge_nodes
-pub enum_known-p : goal.enum_known-p
-enum_known-p t c = search (noding, rules)
+pub judge_nodes-enum_known-p : goal.judge_nodes-enum_known-p
+judge_nodes-enum_known-p t c = search (noding, rules)
 
--- judge_nodes
-pub judge_node-requires : goal.judge_node-requires
-judge_node-requires t c = search (noding, rules)
+pub judge_nodes-judge_node-requires : goal.judge_nodes-judge_node-requires
+judge_nodes-judge_node-requires t c = search (noding, rules)
 
--- judge_nodes
-pub enum_known-e-in-Reject-judge_node : goal.enum_known-e-in-Reject-judge_node
-enum_known-e-in-Reject-judge_node t c = search (noding, rules)
+pub judge_nodes-enum_known-e-in-Reject-judge_node : goal.judge_nodes-enum_known-e-in-Reject-judge_node
+judge_nodes-enum_known-e-in-Reject-judge_node t c = search (noding, rules)
 
--- judge_nodes
-pub returns-in-Reject-judge_node : goal.returns-in-Reject-judge_node
-returns-in-Reject-judge_node t c = search (noding, rules)
+pub judge_nodes-returns-in-Reject-judge_node : goal.judge_nodes-returns-in-Reject-judge_node
+judge_nodes-returns-in-Reject-judge_node t c = search (noding, rules)
 
--- judge_nodes
-pub enum_known-t : goal.enum_known-t
-enum_known-t t c = search (noding, rules)
+pub judge_nodes-enum_known-t : goal.judge_nodes-enum_known-t
+judge_nodes-enum_known-t t c = search (noding, rules)
 
--- judge_nodes
-pub plus-m-requires : goal.plus-m-requires
-plus-m-requires t c = search (noding, rules)
+pub judge_nodes-plus-m-requires : goal.judge_nodes-plus-m-requires
+judge_nodes-plus-m-requires t c = search (noding, rules)
 
--- judge_nodes
-pub loop-e-smaller : goal.loop-e-smaller
-loop-e-smaller t c = search (noding, rules)
+pub judge_nodes-loop-e-smaller : goal.judge_nodes-loop-e-smaller
+judge_nodes-loop-e-smaller t c = search (noding, rules)
 
--- judge_nodes
-pub loop-e-preserved : goal.loop-e-preserved
-loop-e-preserved t c = search (noding, rules)
+pub judge_nodes-loop-e-preserved : goal.judge_nodes-loop-e-preserved
+judge_nodes-loop-e-preserved t c = search (noding, rules)

@@ -1,0 +1,28 @@
+-- `put_texs` writes rows and then the head of their chunk.
+use Rattle.shared_output.proofs.PartLaws.{chunk_laws}
+use borrow.Author.Rules.{rules}
+use Rattle.b3d_write_materials.proofs.put_texs.Goals as goal
+
+pub slice_bounds-put_rows-count : goal.slice_bounds-put_rows-count
+slice_bounds-put_rows-count c = search (chunk_laws, rules)
+
+pub slice_bounds-put_rows-start : goal.slice_bounds-put_rows-start
+slice_bounds-put_rows-start c = search (chunk_laws, rules)
+
+pub slice_bounds-put_rows-end : goal.slice_bounds-put_rows-end
+slice_bounds-put_rows-end c = search (chunk_laws, rules)
+
+pub put_rows-n-requires : goal.put_rows-n-requires
+put_rows-n-requires c = search (chunk_laws, rules)
+
+pub put_header-requires : goal.put_header-requires
+put_header-requires c = search (chunk_laws, rules)
+
+pub overflow_add-result : goal.overflow_add-result
+overflow_add-result c = search (chunk_laws, rules)
+
+pub shape_of-out : goal.shape_of-out
+shape_of-out c = search (chunk_laws, rules)
+
+pub returns : goal.returns
+returns c = search (chunk_laws, rules)

@@ -1,9 +1,0 @@
--- `zeros` answers as many zeros.
-use Prim.Native.Nat.{ℕ}
-use lib.ListN.{length-replicate}
-use Rattle.cal3d_skeleton_tree_check.proofs.ClimbLaws.{zeros_none}
-use Rattle.cal3d_skeleton_tree_check.proofs.zeros.Statement.{statement}
-use Rattle.cal3d_skeleton_tree_check.proofs.zeros.Tie as tie
-
-pub zeros_spec : {M : Type 1} → statement M
-zeros_spec = tie.close (tie.spec (λ c. (length-replicate {A = ℕ} 16383 0, zeros_none 16383)))
