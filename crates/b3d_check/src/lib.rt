@@ -1,4 +1,6 @@
 // The writer's check of lent tables, row by row: whether some accepted file has them.
+#![tactic(auto)]
+
 ghost use Rattle.b3d_check.specs.Lent.{lent_of, Says};
 
 use b3d_spec::{HIGHEST_VERSION, Mode};

@@ -1,4 +1,6 @@
 // Whether the colours of lent brushes and vertices are from 0 to 1, as far as a mode looks at them.
+#![tactic(auto)]
+
 ghost use Rattle.std.specs.Prelude.{◌≡◌, ◌+◌, ◌*◌, ◌≤◌, length};
 ghost use Rattle.layout.specs.WellFormed.{all};
 ghost use Rattle.b3d_spec.specs.Colours.{coloured};

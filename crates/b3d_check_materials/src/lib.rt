@@ -1,4 +1,6 @@
 // Whether the textures and brushes of lent tables keep their rules, and whether n_texs does.
+#![tactic(auto)]
+
 ghost use Rattle.std.specs.Prelude.{◌≡◌, ◌+◌, ◌*◌, ◌<◌, ◌≤◌, length, take, drop};
 ghost use Rattle.layout.specs.WellFormed.{all};
 ghost use Rattle.layout.specs.Rules.{holds};

@@ -1,4 +1,6 @@
 // Whether one node of lent tables is sound, with all rows that are its own.
+#![tactic(auto)]
+
 ghost use Rattle.std.specs.Prelude.{◌≡◌, [], ◌+◌, ◌-◌, ◌*◌, ◌<◌, ◌≤◌, length, take, drop};
 ghost use Rattle.b3d_spec.specs.Rebuild.{owned_by};
 ghost use Rattle.b3d_spec.specs.Tables.{node_width, key_list_width, key_width};

@@ -1,4 +1,6 @@
 // Whether the nodes of lent tables below the root are sound: their own rows, parents, branch words and bone limits; and that no row is left over.
+#![tactic(auto)]
+
 ghost use Rattle.std.specs.Prelude.{◌≡◌, [], ◌∷◌, ◌-◌, ◌*◌, ◌≤◌, length};
 ghost use Rattle.b3d_spec.specs.Tables.{node_width};
 ghost use Rattle.b3d_check_spec.specs.Check.{nodes_valid};

@@ -1,5 +1,7 @@
 // The path from a node of lent tables up to the root: its parent on it, where its nodes end, and the bone limit that a node hands down. The bone limit is how
 // many vertices a weight below the node may name.
+#![tactic(auto)]
+
 ghost use Rattle.std.specs.Prelude.{◌≡◌, ◌+◌, ◌-◌, ◌*◌, ◌<◌, ◌≤◌, length, get_or, eqb};
 ghost use Rattle.wire.specs.Test.{if};
 ghost use Rattle.b3d_spec.specs.Tables.{node_width};

@@ -1,4 +1,6 @@
 // Whether the counted rows of each lent table are there, and no more than the row limit.
+#![tactic(auto)]
+
 ghost use Rattle.std.specs.Prelude.{◌≡◌, ◌*◌, ◌≤◌, length};
 ghost use Rattle.b3d_spec.specs.Tables.{vertex_width};
 ghost use Rattle.b3d_check_table_lengths.specs.LentRooms.{part_counts, fits_in, rooms};

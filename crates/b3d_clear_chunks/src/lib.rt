@@ -1,4 +1,6 @@
 // A MESH in the copy without names, and a chunk by its tag: made anew where it holds names or unknown chunks, else as it is.
+#![tactic(auto)]
+
 ghost use Rattle.std.specs.Prelude.{◌≤◌, length};
 ghost use Rattle.wire.specs.Bytes.{bytes, AllBytes};
 ghost use Rattle.wire.specs.Cursors.{Inside, left};

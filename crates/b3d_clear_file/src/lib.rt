@@ -1,4 +1,6 @@
 // The copy without names of a whole file, written into an output with room for it: BB3D's header, the version, then the chunks.
+#![tactic(auto)]
+
 ghost use Rattle.std.specs.Prelude.{◌++◌, ◌≤◌, length};
 ghost use Rattle.wire.specs.Bytes.{AllBytes};
 ghost use Rattle.wire.specs.Cursors.{Inside};

@@ -1,4 +1,6 @@
 // TEXS and BRUS in the copy without names: items of a text and words, with the text left empty.
+#![tactic(auto)]
+
 ghost use Rattle.std.specs.Prelude.{◌+◌, ◌*◌, ◌≤◌, length};
 ghost use Rattle.wire.specs.Bytes.{bytes, AllBytes};
 ghost use Rattle.wire.specs.Cursors.{Inside, left};

@@ -1,4 +1,6 @@
 // The list of two accepted files, put into a lent output from its start on, or only counted: version, n_texs and counts first, then table by table.
+#![tactic(auto)]
+
 ghost use Rattle.shared_put_or_count.specs.Emits.{RoomFrom, Emits};
 ghost use Rattle.b3d_spec.specs.Tables.{tables};
 ghost use Rattle.b3d_compare_files.specs.Files.{AcceptedFile, tables_bytes, files_bytes};

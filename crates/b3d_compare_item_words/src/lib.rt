@@ -1,5 +1,7 @@
 // What differs between two items, word by word of both files with no row made, as entries that are put into a lent output from a place on, or only counted.
 // Vertices, triangles, weights and keys are items; `columns` tells at which words of their rows the words of an item stand.
+#![tactic(auto)]
+
 ghost use Rattle.std.specs.Prelude.{◌≡◌, ◌+◌, ◌*◌, ◌≤◌, length};
 ghost use Rattle.shared_table_words.specs.Words.{words_at};
 ghost use Rattle.shared_put_or_count.specs.Emits.{RoomFrom, Emits};

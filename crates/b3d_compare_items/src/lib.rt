@@ -1,5 +1,7 @@
 // What differs between the items of two open chunks, all pairs of them in one loop with no row made, as entries that are put into a lent output from a place
 // on, or only counted. Vertices, triangles, weights and keys are items; pairs that are the same have no entry.
+#![tactic(auto)]
+
 ghost use Rattle.std.specs.Prelude.{◌+◌};
 ghost use Rattle.shared_put_or_count.specs.Emits.{RoomFrom};
 ghost use Rattle.b3d_rows_open_items.specs.ItemsLeft.{item_rows};

@@ -1,4 +1,6 @@
 // What differs between the next row of a table in two files, with no table lent, as entries that are put into a lent output from a place on, or only counted.
+#![tactic(auto)]
+
 ghost use Rattle.std.specs.Prelude.{◌<◌, ◌≤◌, length};
 ghost use Rattle.shared_put_or_count.specs.Emits.{RoomFrom};
 ghost use Rattle.b3d_spec.specs.Tables.{vertex_width};

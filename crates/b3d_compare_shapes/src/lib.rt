@@ -1,4 +1,6 @@
 // Whether the items of two open chunks can be compared word by word: items of one table whose words mean the same.
+#![tactic(auto)]
+
 ghost use Rattle.b3d_compare_shapes.specs.Shapes.{IsItems, HasItem, IsSameShape};
 
 use b3d_rows_open_items::OpenItems;

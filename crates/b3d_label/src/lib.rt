@@ -1,5 +1,7 @@
 // The tray label (E7): the name of a file's root and the vertices of its mesh, by a walk over headers that judges nothing else. Its cost is that of the
 // headers stepped over and of the name.
+#![tactic(auto)]
+
 ghost use Rattle.std.specs.Prelude.{◌≡◌, ◌+◌, ◌≤◌, length};
 ghost use Rattle.wire.specs.Cursors.{Inside, left};
 ghost use Rattle.b3d_spec.specs.Tags.{split};

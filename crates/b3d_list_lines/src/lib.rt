@@ -1,4 +1,6 @@
 // Lines of the lister's text, put into an output: numbers, and the names of nodes from the rows of their table.
+#![tactic(auto)]
+
 ghost use Rattle.std.specs.Prelude.{[], ◌∷◌, ◌+◌, ◌*◌, ◌≤◌, length, drop};
 ghost use Rattle.b3d_spec.specs.Tables.{node_width};
 ghost use Rattle.b3d_list_text.specs.Puts.{Puts};

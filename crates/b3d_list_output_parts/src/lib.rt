@@ -1,4 +1,6 @@
 // Parts of what the lister prints for an accepted file: the first three lines, and the names of its nodes.
+#![tactic(auto)]
+
 ghost use Rattle.std.specs.Prelude.{◌≡◌, ◌≤◌, length};
 ghost use Rattle.b3d_spec.specs.Answers.{judge};
 ghost use Rattle.b3d_spec.specs.declared.Mode.TheVariants.{Strict};

@@ -1,5 +1,7 @@
 // The judge of the mender: one walk over a file, which answers the first fault of a kind that is not mended, or version, n_texs and the row counts of
 // the mended file. Nothing is written.
+#![tactic(auto)]
+
 ghost use Rattle.std.specs.Prelude.{◌≤◌, ◌≡◌, length, drop};
 ghost use Rattle.b3d_spec.specs.declared.Tag.TheVariants.{BB3D};
 ghost use Rattle.b3d_spec.specs.Nesting.{start};

@@ -1,4 +1,6 @@
 // Judges the chunks of a file after its textures as they are mended: at most one BRUS, at most one NODE.
+#![tactic(auto)]
+
 ghost use Rattle.std.specs.Prelude.{true, length};
 ghost use Rattle.b3d_spec.specs.declared.Tag.TheVariants.{BB3D, NODE};
 ghost use Rattle.b3d_spec.specs.Scene.{no_nodes};

@@ -1,4 +1,6 @@
 // Judges a NODE as it is mended, without the nodes below it: its name and place, its kind (a MESH, a BONE or neither), its KEYS and ANIM.
+#![tactic(auto)]
+
 ghost use Rattle.std.specs.Prelude.{◌≤◌, ◌+◌, false, length};
 ghost use Rattle.wire.specs.Cursors.{left};
 ghost use Rattle.b3d_spec.specs.declared.Tag.TheVariants.{NODE};

@@ -1,4 +1,6 @@
 // Judges a NODE as it is mended, with the nodes below it, a node and its list of children calling each other: at most 16 levels.
+#![tactic(auto)]
+
 ghost use Rattle.std.specs.Prelude.{false, length};
 ghost use Rattle.wire.specs.Cursors.{left};
 ghost use Rattle.b3d_spec.specs.declared.Tag.TheVariants.{NODE};

@@ -1,4 +1,6 @@
 // The mended file and the report of a file that can be mended: how long both are, whether both have room, and both written.
+#![tactic(auto)]
+
 ghost use Rattle.std.specs.Prelude.{◌≡◌, ◌<◌};
 ghost use Rattle.b3d_mend_spec.specs.Answers.{mend_answer, mend_output, mend_report};
 ghost use Rattle.b3d_mend_write_both.specs.BothSizes.{OfSizes};

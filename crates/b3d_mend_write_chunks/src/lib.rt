@@ -1,4 +1,6 @@
 // The chunks of a file as they are mended, put into the output or only counted: a chunk, its body, the chunks inside it.
+#![tactic(auto)]
+
 ghost use Rattle.std.specs.Prelude.{◌≤◌, length};
 ghost use Rattle.wire.specs.Bytes.{AllBytes};
 ghost use Rattle.wire.specs.Cursors.{Inside, left};

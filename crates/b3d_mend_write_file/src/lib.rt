@@ -1,4 +1,6 @@
 // A file as it is mended, or the report of it, put into a lent output or only counted.
+#![tactic(auto)]
+
 ghost use Rattle.std.specs.Prelude.{[], ◌+◌, ◌≤◌, ◌<◌, length};
 ghost use Rattle.layout.specs.Rows.{most_bytes};
 ghost use Rattle.wire.specs.Bytes.{bytes, AllBytes};

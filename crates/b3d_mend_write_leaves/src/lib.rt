@@ -1,4 +1,6 @@
 // A chunk that holds no chunks as it is mended, put into the output or only counted; how many textures, brushes or vertices it has.
+#![tactic(auto)]
+
 ghost use Rattle.std.specs.Prelude.{◌≡◌, length};
 ghost use Rattle.wire.specs.Cursors.{left};
 ghost use Rattle.b3d_spec_chunk_places.specs.Places.{Body};

@@ -1,4 +1,6 @@
 // The answer of the piece judge at the close: checks 1 and 2 over all bytes joined, then what the machine found, then 10.
+#![tactic(auto)]
+
 ghost use Rattle.std.specs.Prelude.{◌≡◌, false};
 ghost use Rattle.b3d_judge_limits.specs.Limits.{tallied};
 ghost use Rattle.b3d_pieces_step.specs.Turns.{pends};

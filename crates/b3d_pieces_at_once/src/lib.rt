@@ -1,5 +1,7 @@
 // The bytes of a piece that can be taken at once from a caller's state, by its numbers alone. Of the state only the numbers that these bytes change are
 // written anew; what the judge holds is made for the test of the state only. A call that ends here is cheap.
+#![tactic(auto)]
+
 ghost use Rattle.std.specs.Prelude.{◌≡◌, ◌+◌, ◌≤◌, eqb, length};
 ghost use Rattle.b3d_pieces_spec.specs.Limits.{most_counted};
 ghost use Rattle.b3d_pieces_spec.specs.declared.Part.TheVariants.{Text as aText, Row as aRow, Skip as aSkip};

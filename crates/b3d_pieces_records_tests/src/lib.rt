@@ -1,5 +1,7 @@
 // The test of the state and the row that a caller hands to the piece judge. The row is not at hand: its records in use are weighed one after the other, and of
 // them only a few numbers are carried; then the state is tested with their weight.
+#![tactic(auto)]
+
 ghost use Rattle.std.specs.Prelude.{◌≤◌, ◌≡◌};
 ghost use Rattle.b3d_pieces_spec.specs.Limits.{over_counted};
 ghost use Rattle.b3d_pieces_records_tests.specs.Weights.{resting as restingOf, FirstWeighs, WeighReady, WeighIs, NumberIs, place_of};

@@ -64,16 +64,16 @@ module _ {S R : Type 0} (h : Holding S R) where
   short-is lent s q l = rw (allowed-short lent q l)
 
   -- what is held after calls is what the definition says
-  calls_are : (l : List (ℕ × List ℕ)) {st st' : S} {row row' : R} → Called h st row l st' row' → CanRun (h.judge st) (h.count row) (h.at row) → (h.judge st).shut ≡ false
+  calls_are : {st st' : S} {row row' : R} {l : List (ℕ × List ℕ)} → Called h st row l st' row' → CanRun (h.judge st) (h.count row) (h.at row) → (h.judge st).shut ≡ false
       → (pieces_of h st' row' ≡ calls (pieces_of h st row) l) × CanRun (h.judge st') (h.count row') (h.at row') × ((h.judge st').shut ≡ false)
-  calls_are [] done c o = (refl, c, o)
-  calls_are (x ∷ l) {st} {st'} {row} {row'} (call s said at next after p k) c o =
+  calls_are done c o = (refl, c, o)
+  calls_are {st = st} {st' = st'} {row = row} {row' = row'} (call {l = l} s said at next after p k) c o =
       let t = run_is st row s said at next after p c o in
-      let n = calls_are l k t.next (t.shut ∙ o) in
+      let n = calls_are {st = next} {st' = st'} {row = after} {row' = row'} k t.next (t.shut ∙ o) in
       (n.0 ∙ ap (λ (y : Pieces). calls y l) (call-is st row s said at next after p c o), n.1, n.2)
-  calls_are (x ∷ l) {st} {st'} {row} {row'} (short few s said at next after u p k) c o =
+  calls_are {st = st} {st' = st'} {row = row} {row' = row'} (short {l = l} few s said at next after u p k) c o =
       let e = (p.short u).state in
-      let n = calls_are l k (subst (λ (y : S). CanRun (h.judge y) (h.count row) (h.at row)) (sym e) c) (ap (λ (y : S). (h.judge y).shut) e ∙ o) in
+      let n = calls_are {st = next} {st' = st'} {row = row} {row' = row'} k (subst (λ (y : S). CanRun (h.judge y) (h.count row) (h.at row)) (sym e) c) (ap (λ (y : S). (h.judge y).shut) e ∙ o) in
       (n.0 ∙ ap (λ (y : S). calls (pieces_of h y row) l) e ∙ ap (λ (y : Pieces). calls y l) (sym (short-is (h.count few) s (pieces_of h st row) u)), n.1, n.2)
 
 -- ---- numbers of 32 bits
@@ -133,7 +133,7 @@ judged_in_calls {S} {R} h = record { says = said }
     said : (st st' : S) (row row' : R) (l : List (ℕ × List ℕ)) (a : Answer) (next : S) → Fresh (h.judge st) → 19 ≤ h.count row → Called h st row l st' row' → CloseIs h st' row' a next
         → AllBytes (taken l) → (room : ℕ → ℕ) → Ample room → a ≡ read_answer Strict room (taken l)
     said st st' row row' l a next f long k c all room ample =
-        let n = calls_are h l k (record { room = long; calm = f.calm; good = f.good (h.at row) }) f.shut in
+        let n = calls_are h k (record { room = long; calm = f.calm; good = f.good (h.at row) }) f.shut in
         let begun : pieces_of h st row ≡ fresh_pieces = rw (f.is (h.at row), f.shut) in
         let m = n.1.room in
         let e : pieces_of h st' row' ≡ calls fresh_pieces l = n.0 ∙ ap (λ (y : Pieces). calls y l) begun in

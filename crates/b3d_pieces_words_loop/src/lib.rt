@@ -1,5 +1,7 @@
 // The loop over the bytes of a piece, with a row of plain words. It makes a turn for each byte that is not taken at once with others, and for each chunk that
 // is entered or left.
+#![tactic(auto)]
+
 ghost use Rattle.std.specs.Prelude.{◌/◌, length};
 ghost use Rattle.b3d_pieces_spec.specs.Row.{open_at, record_words};
 ghost use Rattle.b3d_pieces_judge_step.specs.Runs.{CanRun, RunIs};

@@ -1,4 +1,6 @@
 // Tables 1, 2 and 3, tables 4 to 7 and tables 8 to 10, each filled by its walk. The row counts are known: where tables have no rows, the file is not walked.
+#![tactic(auto)]
+
 ghost use Rattle.std.specs.Prelude.{◌≡◌, ◌<◌, ◌≤◌, length};
 ghost use Rattle.std.proofs.lemmas.List.Edits.{sets as stored};
 ghost use Rattle.layout.specs.Rows.{joined};

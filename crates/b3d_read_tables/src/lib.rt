@@ -1,4 +1,6 @@
 // The ten tables of a file filled, their row counts being known.
+#![tactic(auto)]
+
 ghost use Rattle.std.specs.Prelude.{[], ◌∷◌, length};
 ghost use Rattle.b3d_read_tables.specs.Fills.{Fillable, Filled};
 

@@ -1,4 +1,6 @@
 // A place in a table's rows moved on over items of the open chunk that were dealt with otherwise.
+#![tactic(auto)]
+
 ghost use Rattle.std.specs.Prelude.{◌≡◌, ◌+◌, ◌≤◌};
 ghost use Rattle.b3d_rows_past.specs.Past.{cursor_past};
 

@@ -1,4 +1,6 @@
 // The test of a cursor that a caller hands over: whether it is one over the rows of table `k` of a file, by its numbers alone. The file's bytes are not read.
+#![tactic(auto)]
+
 ghost use Rattle.std.specs.Prelude.{◌≡◌, ◌<◌, ◌≤◌, length};
 ghost use Rattle.b3d_spec.specs.Tables.{width, brush_width};
 ghost use Rattle.b3d_rows_items.specs.NextText.{TextPosition};

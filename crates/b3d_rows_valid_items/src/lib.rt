@@ -1,4 +1,6 @@
 // The test of a position in a table of items that a caller hands over: whether it is one of table `k`, by its numbers alone. The file's bytes are not read.
+#![tactic(auto)]
+
 ghost use Rattle.b3d_rows_open_items.specs.ItemsLeft.{ItemTable, OfVertex, Measured};
 ghost use Rattle.b3d_rows_positions.specs.Positions.{MeshPosition, ItemPosition};
 ghost use Rattle.b3d_rows_valid_items.specs.Decides.{Decides};

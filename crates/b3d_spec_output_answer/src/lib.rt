@@ -1,4 +1,6 @@
 // The answer for bytes that go into a lent output, by their size alone: 11 and the size needed, or 0 and the size written.
+#![tactic(auto)]
+
 ghost use Rattle.std.specs.Prelude.{◌<◌};
 ghost use Rattle.b3d_spec_output_answer.specs.Sizes.{OfSize};
 

@@ -1,4 +1,6 @@
 // The file of the counted rows of lent tables: each table is cut to its counted rows, and the whole file is written into an output.
+#![tactic(auto)]
+
 ghost use Rattle.std.specs.Prelude.{length};
 ghost use Rattle.b3d_spec.specs.Encode.{encode};
 ghost use Rattle.b3d_check_table_lengths.specs.LentRooms.{Rooms};

@@ -1,4 +1,6 @@
 // The whole file of lent tables, written into an output: BB3D's header and version, TEXS, BRUS and NODE.
+#![tactic(auto)]
+
 ghost use Rattle.b3d_spec.specs.Encode.{encode};
 ghost use Rattle.b3d_spec.specs.Tables.{texture_width, brush_width};
 ghost use Rattle.b3d_spec.specs.Rules.{most_slots};

@@ -11,7 +11,7 @@ use Rattle.shared_output.specs.Writing.{Room}
 use Rattle.shared_output.proofs.PieceLaws.{Pieces, pieces_none, piece-room, piece-next, pieces-done}
 use Rattle.b3d_spec.specs.declared.Counts.{Counts}
 use Rattle.b3d_spec.specs.Encode.{node_chunks}
-use Rattle.b3d_spec.specs.Rebuild.{Rows, cut}
+use Rattle.b3d_spec.specs.Rebuild.{Rows}
 use Rattle.b3d_spec.specs.Scene.{Data, Forest, no_nodes, node}
 use Rattle.b3d_spec.specs.Tables.{with_node, with_forest, node_width}
 use Rattle.layout.specs.Write.{write_chunks as writeChunksOf}

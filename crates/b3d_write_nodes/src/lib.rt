@@ -1,4 +1,6 @@
 // The NODE chunks of lent tables, written into an output: a node's own part, those below it, those after it.
+#![tactic(auto)]
+
 ghost use Rattle.b3d_write_node.specs.Own.{table_rows};
 ghost use Rattle.b3d_write_nodes.specs.Walk.{TablesSized, Writable, WritesNodes, WritableFirst, WritesFirst};
 

@@ -1,4 +1,6 @@
 // How many bytes the rows of lent tables add to the shortest file that has them.
+#![tactic(auto)]
+
 ghost use Rattle.std.specs.Prelude.{◌≡◌, ◌+◌, ◌*◌, ◌<◌, ◌≤◌, length, take, drop, eqb};
 ghost use Rattle.wire.specs.Test.{if};
 ghost use Rattle.layout.specs.Lists.{All};

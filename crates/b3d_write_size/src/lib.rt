@@ -1,4 +1,6 @@
 // The size of the shortest file that has lent tables: what their rows add, and the chunks around them.
+#![tactic(auto)]
+
 ghost use Rattle.std.specs.Prelude.{◌≡◌, ◌+◌, ◌*◌, ◌≤◌, length};
 ghost use Rattle.b3d_spec.specs.Rebuild.{cut};
 ghost use Rattle.b3d_spec.specs.Rules.{row_limit, most_slots};

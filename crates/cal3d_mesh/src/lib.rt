@@ -1,4 +1,6 @@
 // The reader of mesh files: six tables into lent slices, with 02's answer to every file, number of bones and tables of every length.
+#![tactic(auto)]
+
 ghost use Rattle.cal3d_mesh.specs.Meshes.{ReadsMesh};
 
 use cal3d_spec::MeshAnswer;

@@ -1,4 +1,6 @@
 // Finds which of a mesh's six lent tables is too short (refusal 11): from the judge's answer to the reader's, by numbers alone.
+#![tactic(auto)]
+
 ghost use Rattle.std.specs.Prelude.{◌≡◌, [], ◌∷◌, ◌≤◌};
 ghost use Rattle.shared_room.specs.Rooms.{number_of, first_short};
 ghost use Rattle.cal3d_spec.specs.Tables.{mesh_tables, mesh_file_width};

@@ -1,5 +1,7 @@
 // Fills the six tables of a mesh in one walk over the bytes of a file that was judged. Where entries stand is told by the numbers in the file; no rule is
 // looked at.
+#![tactic(auto)]
+
 ghost use Rattle.std.specs.Prelude.{◌≡◌, [], ◌∷◌, ◌+◌, ◌*◌, ◌<◌, ◌≤◌, length};
 ghost use Rattle.std.proofs.lemmas.List.Edits.{sets as stored};
 ghost use Rattle.layout.specs.Rows.{joined};

@@ -1,4 +1,6 @@
 // The judge of mesh files: 02's answer to every file, without any table.
+#![tactic(auto)]
+
 ghost use Rattle.std.specs.Prelude.{◌≡◌};
 ghost use Rattle.layout.specs.Result.{reject};
 ghost use Rattle.cal3d_spec.specs.Rules.{named_bones};

@@ -1,4 +1,6 @@
 // The submeshes of a mesh file by cursor, judged one after the other, and how many entries they hold in all.
+#![tactic(auto)]
+
 ghost use Rattle.std.specs.Prelude.{◌≡◌, length};
 ghost use Rattle.wire.specs.Cursors.{Inside, left};
 ghost use Rattle.layout.specs.Parts.{row};

@@ -1,5 +1,7 @@
 // Stores the rows of a mesh's vertices, with their maps and influences, in lent tables from the bytes of a file that was judged. Where entries stand is told
 // by the numbers in the file; no rule is looked at.
+#![tactic(auto)]
+
 ghost use Rattle.std.specs.Prelude.{◌≡◌, [], ◌∷◌, ◌+◌, ◌*◌, ◌<◌, ◌≤◌, length};
 ghost use Rattle.std.proofs.lemmas.List.Edits.{sets as stored};
 ghost use Rattle.shared_table_words.specs.Words.{words_at};

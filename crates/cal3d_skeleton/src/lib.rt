@@ -1,4 +1,6 @@
 // The reader of skeleton files: bones and children into lent tables, with 02's answer to every file and to tables of every length.
+#![tactic(auto)]
+
 ghost use Rattle.std.specs.Prelude.{◌≡◌, ◌≤◌};
 ghost use Rattle.layout.specs.Result.{reject};
 ghost use Rattle.cal3d_spec.specs.Answers.{judge_skeleton, skeleton_answer};

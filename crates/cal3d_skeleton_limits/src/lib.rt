@@ -1,5 +1,7 @@
 // Judges a skeleton file up to the row limits, in one walk and without any table: refusals 1 to 10. Whether its lists and parents tell the same trees is not
 // asked here.
+#![tactic(auto)]
+
 ghost use Rattle.std.specs.Prelude.{◌≡◌};
 ghost use Rattle.cal3d_spec.specs.Answers.{limited_skeleton};
 ghost use Rattle.cal3d_skeleton_limits.specs.Verdicts.{verdict_of};

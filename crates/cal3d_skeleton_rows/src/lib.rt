@@ -1,4 +1,6 @@
 // Fills the two tables of a skeleton, bones and children, from the bytes of a file that was judged.
+#![tactic(auto)]
+
 ghost use Rattle.std.specs.Prelude.{◌≡◌, ◌+◌, ◌-◌, ◌*◌, ◌≤◌, length};
 ghost use Rattle.std.proofs.lemmas.List.Edits.{sets as stored};
 ghost use Rattle.wire.specs.Bytes.{over};

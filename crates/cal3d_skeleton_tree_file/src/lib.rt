@@ -1,5 +1,7 @@
 // Checks that the child lists and the parents of a skeleton file tell the same trees (refusal 16). It walks over the file with local rows of numbers, in time
 // that grows with the file.
+#![tactic(auto)]
+
 ghost use Rattle.std.specs.Prelude.{◌≡◌, [], map, ◌<◌, ◌≤◌, length};
 ghost use Rattle.cal3d_spec.specs.Skeletons.{parent_of, list_of};
 ghost use Rattle.cal3d_spec.specs.Trees.{trees};

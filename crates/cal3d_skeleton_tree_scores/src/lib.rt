@@ -1,4 +1,6 @@
 // How often each bone is listed, and by whom, as a score: one for an entry of its parent, two for any other.
+#![tactic(auto)]
+
 ghost use Rattle.std.specs.Prelude.{◌≡◌, ◌+◌, ◌*◌, ◌<◌, ◌≤◌, length, drop, get_or, set};
 ghost use Rattle.layout.specs.Parts.{words_of};
 ghost use Rattle.cal3d_skeleton_tree_check.specs.Scores.{weight, noted, Low, ChildIds};

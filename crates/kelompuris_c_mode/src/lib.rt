@@ -1,4 +1,6 @@
 // The mode that a C caller names by a number: strict or lenient (E8).
+#![tactic(auto)]
+
 ghost use Rattle.std.specs.Prelude.{◌≡◌};
 ghost use Rattle.kelompuris_c_mode.specs.Modes.{mode_of};
 

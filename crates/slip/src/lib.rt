@@ -1,4 +1,6 @@
 // Slips (E1): version, n_texs and the ten row counts of a scene as twelve numbers in groups. A writer from numbers to a lent output, and a reader.
+#![tactic(auto)]
+
 ghost use Rattle.std.specs.Prelude.{◌≡◌, [], ◌≤◌, length};
 ghost use Rattle.wire.specs.Bytes.{over};
 ghost use Rattle.layout.specs.Result.{reject};

@@ -1,4 +1,6 @@
 // The slip of a file (E1): its version, n_texs and ten row counts, as the reader has them, in a lent output. No table is needed.
+#![tactic(auto)]
+
 ghost use Rattle.std.specs.Prelude.{◌≡◌, ◌∷◌};
 ghost use Rattle.slip_of_b3d.specs.FileSlips.{file_slip_answer, file_slip_output};
 

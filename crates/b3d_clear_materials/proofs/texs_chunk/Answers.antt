@@ -1,0 +1,28 @@
+-- `texs_chunk` writes the items behind the header.
+use Rattle.b3d_clear_copied_chunks.proofs.ChunkLaws.{chunk_laws}
+use borrow.Author.Rules.{rules}
+use Rattle.b3d_clear_materials.proofs.texs_chunk.Goals as goal
+
+pub slice_bounds-clear_items-count : goal.slice_bounds-clear_items-count
+slice_bounds-clear_items-count c = search (chunk_laws, rules)
+
+pub slice_bounds-clear_items-start : goal.slice_bounds-clear_items-start
+slice_bounds-clear_items-start c = search (chunk_laws, rules)
+
+pub slice_bounds-clear_items-end : goal.slice_bounds-clear_items-end
+slice_bounds-clear_items-end c = search (chunk_laws, rules)
+
+pub clear_items-n-requires : goal.clear_items-n-requires
+clear_items-n-requires c = search (chunk_laws, rules)
+
+pub put_header-requires : goal.put_header-requires
+put_header-requires c = search (chunk_laws, rules)
+
+pub overflow_add-result : goal.overflow_add-result
+overflow_add-result c = search (chunk_laws, rules)
+
+pub shape_of-out : goal.shape_of-out
+shape_of-out c = search (chunk_laws, rules)
+
+pub returns : goal.returns
+returns c = search (chunk_laws, rules)

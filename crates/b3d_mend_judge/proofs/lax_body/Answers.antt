@@ -1,0 +1,28 @@
+-- `lax_body` judges what follows a file's header, as it is mended.
+use Rattle.b3d_mend_judge.proofs.BodyLaws.{body_laws}
+use borrow.Author.Rules.{rules}
+use Rattle.b3d_mend_judge.proofs.lax_body.Goals as goal
+
+pub number-requires : goal.number-requires
+number-requires c = search (body_laws, rules)
+
+pub enum_told-1 : goal.enum_told-1
+enum_told-1 c = search (body_laws, rules)
+
+pub enum_known-version : goal.enum_known-version
+enum_known-version c = search (body_laws, rules)
+
+pub returns-then-version-gt-HIGHEST_VERSION : goal.returns-then-version-gt-HIGHEST_VERSION
+returns-then-version-gt-HIGHEST_VERSION c = search (body_laws, rules)
+
+pub trimmed-d-requires : goal.trimmed-d-requires
+trimmed-d-requires c = search (body_laws, rules)
+
+pub lax_chunks-requires : goal.lax_chunks-requires
+lax_chunks-requires c = search (body_laws, rules)
+
+pub returns-in-Cut : goal.returns-in-Cut
+returns-in-Cut c = search (body_laws, rules)
+
+pub returns-else-version-gt-HIGHEST_VERSION : goal.returns-else-version-gt-HIGHEST_VERSION
+returns-else-version-gt-HIGHEST_VERSION c = search (body_laws, rules)
