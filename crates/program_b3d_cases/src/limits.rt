@@ -1,39 +1,44 @@
 // The cases of 01's "Worked files" without a star: n_texs and depth. The cases of rows are run by the Rust comparison, which builds their files.
 use crate::case;
+use std::io;
 
 // Prints a line for each file at a limit of n_texs or depth, and for each one beyond it.
-pub fn cases() {
+pub fn cases(rt: &impl Print) -> io::Result<()> {
     // BRUS without a brush: its n_texs stands behind the header of BB3D, the version and its own header, at 12 + 8. Without a brush n_texs counts
     // as 0, and the copy has no BRUS: 12 bytes.
     case(
+        rt,
         b"n_texs 8, no brush",
         b"BB3D\x10\0\0\0\x01\0\0\0\
           BRUS\x04\0\0\0\x08\0\0\0",
-    );
+    )?;
     case(
+        rt,
         b"n_texs 9, no brush",
         b"BB3D\x10\0\0\0\x01\0\0\0\
           BRUS\x04\0\0\0\x09\0\0\0",
-    );
+    )?;
 
     // One texture, and one brush with as many slots as n_texs says. TEXS has 8 + 29 bytes, so BRUS stands at 49 and its n_texs at 57; the brush has
     // 29 + 4 n_texs bytes from 61 on.
     case(
+        rt,
         b"n_texs 8, one brush",
         b"BB3D\x72\0\0\0\x01\0\0\0\
           TEXS\x1d\0\0\0\0\0\0\0\0\0\0\0\0\0\0\0\0\0\0\0\0\0\0\0\0\0\0\0\0\0\0\0\0\
           BRUS\x41\0\0\0\x08\0\0\0\
           \0\0\0\0\0\0\0\0\0\0\0\0\0\0\0\0\0\0\0\0\0\0\0\0\0\0\0\0\0\
           \0\0\0\0\0\0\0\0\0\0\0\0\0\0\0\0\0\0\0\0\0\0\0\0\0\0\0\0\0\0\0\0",
-    );
+    )?;
     case(
+        rt,
         b"n_texs 9, one brush",
         b"BB3D\x76\0\0\0\x01\0\0\0\
           TEXS\x1d\0\0\0\0\0\0\0\0\0\0\0\0\0\0\0\0\0\0\0\0\0\0\0\0\0\0\0\0\0\0\0\0\
           BRUS\x45\0\0\0\x09\0\0\0\
           \0\0\0\0\0\0\0\0\0\0\0\0\0\0\0\0\0\0\0\0\0\0\0\0\0\0\0\0\0\
           \0\0\0\0\0\0\0\0\0\0\0\0\0\0\0\0\0\0\0\0\0\0\0\0\0\0\0\0\0\0\0\0\0\0\0\0",
-    );
+    )?;
 
     // Nodes, each the only child of the one before; they end together. The node at level k stands at 12 + 49 (k - 1), that at 17 at 796. The last twelve
     // bytes of the first node, three of its words, are the head of a file too: that from 49 on, which has the 16 nodes below it.
@@ -56,6 +61,7 @@ pub fn cases() {
         NODE\x8b\0\0\0\0\0\0\0\0\0\0\0\0\0\0\0\0\0\0\0\0\0\0\0\0\0\0\0\0\0\0\0\0\0\0\0\0\0\0\0\0\0\0\0\0\
         NODE\x5a\0\0\0\0\0\0\0\0\0\0\0\0\0\0\0\0\0\0\0\0\0\0\0\0\0\0\0\0\0\0\0\0\0\0\0\0\0\0\0\0\0\0\0\0\
         NODE\x29\0\0\0\0\0\0\0\0\0\0\0\0\0\0\0\0\0\0\0\0\0\0\0\0\0\0\0\0\0\0\0\0\0\0\0\0\0\0\0\0\0\0\0\0";
-    case(b"depth 16", &file[49..]);
-    case(b"depth 17", file);
+    case(rt, b"depth 16", &file[49..])?;
+    case(rt, b"depth 17", file)?;
+    Ok(())
 }

@@ -1,5 +1,7 @@
 // The piece judge as a program: it reads standard input 200 bytes at a time and never holds it whole. It prints number and place; where the file is accepted,
 // version and n_texs, then the ten counts, as the lister does before the names. `b3d_pieces_words` has the promise; here are only input and output.
+#![tactic(auto)]
+
 ghost use Rattle.std.specs.Prelude.{◌≡◌, length};
 ghost use Rattle.b3d_pieces_spec.specs.Limits.{lent_words};
 
@@ -7,22 +9,22 @@ use b3d_pieces_judge_step::Judge;
 use b3d_pieces_spec::LENT_WORDS;
 use b3d_pieces_words::calls::{judge_close, judge_piece, start};
 use b3d_spec::Answer;
+use std::io;
+use std::io::Read;
 
 // Prints the bytes `before`, then `n` in decimal.
-fn print(before: &[u8], n: u32) {
-    io::write_all(1, before);
-    io::print_decimal(1, n as u64);
+fn print(rt: &impl Print, before: &[u8], n: u32) -> io::Result<()> {
+    rt.write_all(before)?;
+    print!(rt; "{n}")
 }
 
 // Prints the ten counts on a line.
-fn print_counts(c: [u32; 10]) {
-    print(b"", c[0]);
-    let mut i: usize = 1;
-    while i < 10 {
-        print(b" ", c[i]);
-        i += 1;
+fn print_counts(rt: &impl Print, c: [u32; 10]) -> io::Result<()> {
+    print(rt, b"", c[0])?;
+    for i in 1..10 {
+        print(rt, b" ", c[i])?;
     }
-    io::write_all(1, b"\n");
+    rt.write_all(b"\n")
 }
 
 // More pieces of 200 bytes than the longest file has: past that many the answer is 1 at 0, whatever comes.
@@ -42,43 +44,40 @@ fn room() -> [u8; 200]
     [0; 200]
 }
 
-// Hands standard input to the judge, piece by piece, to its end or up to `PIECES` pieces. Returns the state after the last.
-fn stream(row: &mut [usize], piece: &mut [u8]) -> Judge {
+// Hands what `reader` gives to the judge, piece by piece, to its end or up to `PIECES` pieces. Returns the state after the last, or the error of a read that
+// failed.
+fn stream<R: Read>(reader: &mut R, row: &mut [usize], piece: &mut [u8]) -> io::Result<Judge> {
     let mut state = start();
-    let mut i: usize = 0;
-    while i < PIECES {
-        let n = io::read_full(0, piece);
+    for _ in 0..PIECES {
+        let n = program_input::read_full(reader, piece)?;
         if n == 0 {
-            return state;
+            return Ok(state);
         }
         let fed = judge_piece(state, row, &piece[..n]);
-        let next = fed.judge;
-        state = next;
-        i += 1;
+        state = fed.judge;
     }
-    state
+    Ok(state)
 }
 
 // Prints the answer: number and place and, if the file is accepted, version and n_texs, then the counts.
-fn say(a: Answer) {
-    print(b"", a.number);
-    print(b" ", a.place);
-    io::write_all(1, b"\n");
+fn say(rt: &impl Print, a: Answer) -> io::Result<()> {
+    print(rt, b"", a.number)?;
+    print(rt, b" ", a.place)?;
+    rt.write_all(b"\n")?;
     if a.number == 0 {
-        print(b"", a.version);
-        print(b" ", a.n_texs);
-        io::write_all(1, b"\n");
-        let counts = a.counts;
-        print_counts(counts);
+        print(rt, b"", a.version)?;
+        print(rt, b" ", a.n_texs)?;
+        rt.write_all(b"\n")?;
+        print_counts(rt, a.counts)?;
     }
+    Ok(())
 }
 
-// Judges standard input and prints the answer.
-fn main() {
+// Judges standard input and prints the answer. A read or a write that fails ends it with that error.
+fn main(rt: HostRuntime) -> io::Result<()> {
     let mut row = records();
     let mut piece = room();
-    let state = stream(&mut row, &mut piece);
+    let state = stream(&mut rt.reader(), &mut row, &mut piece)?;
     let closed = judge_close(state, &row);
-    let a = closed.answer;
-    say(a);
+    say(&rt, closed.answer)
 }
