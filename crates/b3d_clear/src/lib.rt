@@ -1,4 +1,6 @@
 // The clearer: writes the copy of a lent file without names to a lent output, with no tables.
+#![tactic(auto)]
+
 ghost use Rattle.std.specs.Prelude.{◌≡◌};
 ghost use Rattle.b3d_spec.specs.Answers.{clear_answer, clear_output};
 

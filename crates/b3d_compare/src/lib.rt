@@ -1,4 +1,6 @@
 // What differs between two files, as a list in a lent output. No table is needed. One walk counts the bytes of the list, and then puts them.
+#![tactic(auto)]
+
 ghost use Rattle.std.specs.Prelude.{◌≡◌, length};
 ghost use Rattle.b3d_compare_spec.specs.Compare.{compare_answer, compare_output, room_for, compared, output_after};
 ghost use Rattle.b3d_compare_files.specs.Files.{AcceptedFile, files_bytes};

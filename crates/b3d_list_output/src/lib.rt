@@ -1,4 +1,6 @@
 // The lister's text: what it prints for a file, as bytes in a lent slice.
+#![tactic(auto)]
+
 ghost use Rattle.b3d_list_text.specs.Puts.{Puts};
 ghost use Rattle.b3d_list_spec.specs.Listing.{listing, Lists};
 

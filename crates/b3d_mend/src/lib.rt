@@ -1,4 +1,6 @@
 // The mender: from a lent file to the mended file and a report of what was mended, in two lent outputs.
+#![tactic(auto)]
+
 ghost use Rattle.std.specs.Prelude.{◌≡◌};
 ghost use Rattle.b3d_mend_spec.specs.Answers.{mend_answer, mend_output, mend_report};
 ghost use Rattle.b3d_mend.specs.Accepted.{Accepted};

@@ -1,5 +1,7 @@
 // The piece judge as rounds, by value, so that a caller can hold the row in any form. Whoever holds the row reads the record at `get` before a round, and
 // writes `rec` at `put` after it. Before the rounds state and row were tested, and bytes that can be taken at once were taken (`b3d_pieces_at_once`).
+#![tactic(auto)]
+
 pub mod closing;
 pub mod rounds;
 

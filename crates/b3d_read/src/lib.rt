@@ -1,4 +1,6 @@
 // The reader: stores a file's ten tables in lent slices, and gives the answer of paper 01 for every file and tables of every length.
+#![tactic(auto)]
+
 ghost use Rattle.std.specs.Prelude.{[], ◌∷◌};
 ghost use Rattle.b3d_read.specs.Reads.{Reads};
 

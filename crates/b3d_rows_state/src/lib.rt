@@ -1,5 +1,7 @@
 // The rows of any table of a file one after the other, with a state of plain numbers that C can hold too: `start` gives the state before the first row, `next`
 // a row and the state behind it. They ask nothing of the caller: with any bytes, state and row they end, and a state that cannot be gone on with is refused.
+#![tactic(auto)]
+
 ghost use Rattle.std.specs.Prelude.{◌≡◌};
 ghost use Rattle.b3d_rows_valid_items.specs.Decides.{Decides};
 ghost use Rattle.b3d_rows_state.specs.States.{state_of, no_state, CursorOf, CanGoOn, StateStarts, GivenIs, StateNexts};

@@ -1,4 +1,6 @@
 // The writer: writes the shortest file that has the lent tables and names, and gives the answer of paper 01 for all tables.
+#![tactic(auto)]
+
 ghost use Rattle.b3d_check.specs.Lent.{lent_of};
 ghost use Rattle.b3d_write.specs.Writes.{Writes};
 

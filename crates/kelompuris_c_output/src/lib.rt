@@ -1,6 +1,7 @@
 // The C functions that write into a lent output, which terminals call: write a B3D file, its copy without names, a slip. `rust/build-lib` puts them beside
 // those of kelompuris_c into the one archive, include/kelompuris.h declares them. Each promises what the function that it calls does, for every input. The
 // output past the size written stays as found; on a refusal all of it does.
+#![tactic(auto)]
 ghost use Rattle.std.specs.Prelude.{◌≡◌};
 ghost use Rattle.b3d_spec.specs.Answers.{clear_answer, clear_output};
 ghost use Rattle.b3d_check.specs.Lent.{lent_of};

@@ -1,7 +1,8 @@
 // The piece judge (E6) as C functions, which terminals call to hand a file over in pieces, with a lent row of records. `rust/build-lib` puts them into the
-// one archive, include/kelompuris.h declares them. `kelompuris_b3d_pieces_piece` and `_close` are proved by walks of their code by hand; all that they call
-// is covered (`b3d_pieces_records_tests`, `b3d_pieces_at_once`, `b3d_pieces_records_loop`). They ask nothing of the caller: with any state and any row they
-// end.
+// one archive, include/kelompuris.h declares them. What they call stands in `b3d_pieces_records_tests`, `b3d_pieces_at_once` and `b3d_pieces_records_loop`. They
+// ask nothing of the caller: with any state and any row they end.
+#![tactic(auto)]
+
 ghost use Rattle.std.specs.Prelude.{◌≡◌};
 ghost use Rattle.b3d_pieces_words.specs.Called.{fresh_judge, PieceIs, CloseIs};
 ghost use Rattle.b3d_pieces_records_loop.specs.Rounds.{numbers};
