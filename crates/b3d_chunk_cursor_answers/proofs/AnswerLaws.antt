@@ -16,7 +16,7 @@ use Rattle.wire.specs.declared.Header.{Header}
 use Rattle.wire.specs.declared.Header.TheVariants as header
 use Rattle.wire.proofs.AnswerLaws.{numbered, number_cut, text-cut, left-length, left-drop}
 use Rattle.layout.specs.Chunks.{keep}
-use Rattle.layout.specs.Parts.{words_of, row, text as readText, named as readNamed}
+use Rattle.layout.specs.Parts.{words_of, row, text as read_text, named as read_named}
 use Rattle.layout.specs.Rules.{any}
 use Rattle.layout.proofs.StepLaws.{row_any, any-short, word-left, text_none}
 use Rattle.b3d_spec.specs.declared.Tag.{Tag}
@@ -40,10 +40,10 @@ module _ (s : List ℕ) (c : Cursor) (i : Inside c (length s)) where
           let k : n ∷ [] ≡ words_of 1 (left c s) = ap (λ (x : ℕ). x ∷ []) f.is ∙ sym w in
           rw (k, left-drop s c 4 d f.to f.same, f.to) (row_any 1 c.at (left c s) (omega (arith, left-length s c i)))
 
-  text-told : readText c.at c.at (left c s) ≡ text_says s c (text_at s c)
+  text-told : read_text c.at c.at (left c s) ≡ text_says s c (text_at s c)
   text-told = go (text_at s c) refl
     where
-      go : (r : Text) → text_at s c ≡ r → readText c.at c.at (left c s) ≡ text_says s c r
+      go : (r : Text) → text_at s c ≡ r → read_text c.at c.at (left c s) ≡ text_says s c r
       go text.Cut e = text_none c.at c.at (left c s) (text-cut s c e)
       go (text.Is n d) e = text-is s c n d e
 
@@ -60,10 +60,10 @@ module _ (s : List ℕ) (c : Cursor) (i : Inside c (length s)) where
       go header.Cut e = (next-cut s c c (pass_none s c i) (header_at s c) refl e).says
       go (header.Whole t b n) e = known t b n e (tag_of t) refl
 
-  named-told : (words : ℕ) → readNamed (replicate words any) c.at (left c s) ≡ named_says s c words (named_at s c words)
+  named-told : (words : ℕ) → read_named (replicate words any) c.at (left c s) ≡ named_says s c words (named_at s c words)
   named-told words = go (named_at s c words) refl
     where
-      go : (r : Named) → named_at s c words ≡ r → readNamed (replicate words any) c.at (left c s) ≡ named_says s c words r
+      go : (r : Named) → named_at s c words ≡ r → read_named (replicate words any) c.at (left c s) ≡ named_says s c words r
       go named.Cut e = named-cut s c words i (replicate words any) (length-replicate words any) (named_at s c words) refl e
       go (named.Is n w d) e = named-any s c words i (named_at s c words) refl n w d e
 

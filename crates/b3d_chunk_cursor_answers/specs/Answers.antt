@@ -10,7 +10,7 @@ use Rattle.wire.specs.declared.Header.{Header}
 use Rattle.wire.specs.declared.Header.TheVariants as header
 use Rattle.layout.specs.Chunks.{done, stop, keep}
 use Rattle.layout.specs.Result.{Result, accept, reject}
-use Rattle.layout.specs.Parts.{Name, Step, words_of, row, text as readText, named as readNamed}
+use Rattle.layout.specs.Parts.{Name, Step, words_of, row, text as read_text, named as read_named}
 use Rattle.layout.specs.Rules.{any}
 use Rattle.layout.specs.Refusals as refusals
 use Rattle.b3d_spec.specs.Tags.{Chunks, tag_of, split}
@@ -46,8 +46,8 @@ pub record Answered (s : List ℕ) (c : Cursor) : Type 0 where
   -- a number is read as `number_at` has it
   pub number : row (any ∷ []) c.at (left c s) ≡ number_says s c (number_at s c)
   -- a text is read as `text_at` has it
-  pub text : readText c.at c.at (left c s) ≡ text_says s c (text_at s c)
+  pub text : read_text c.at c.at (left c s) ≡ text_says s c (text_at s c)
   -- the chunks are read as `header_at` has the first
   pub header : split c.at (left c s) ≡ header_says s c (header_at s c)
   -- a name and its words are read as `named_at` has them
-  pub named : (words : ℕ) → readNamed (replicate words any) c.at (left c s) ≡ named_says s c words (named_at s c words)
+  pub named : (words : ℕ) → read_named (replicate words any) c.at (left c s) ≡ named_says s c words (named_at s c words)

@@ -8,7 +8,7 @@ use Rattle.wire.specs.Cursors.{Inside, left}
 use Rattle.wire.specs.declared.Cursor.{Cursor}
 use Rattle.layout.specs.Chunks.{done, stop, chunk}
 use Rattle.b3d_spec.specs.declared.Tag.{Tag}
-use Rattle.b3d_spec.specs.Nesting.{nesting, Reached, next as nextTurn, onward, order}
+use Rattle.b3d_spec.specs.Nesting.{nesting, Reached, next as next_turn, onward, order}
 use Rattle.b3d_chunk_cursor.specs.Chunks.{NextIs}
 use Rattle.b3d_chunk_cursor.specs.declared.Next.{Next}
 use Rattle.b3d_chunk_cursor.specs.declared.Next.TheVariants as next
@@ -24,7 +24,7 @@ use Rattle.b3d_chunk_next_allowed.proofs.InsideLaws.{stepped, step-among, stoppe
 module _ (s : List ℕ) (c : Cursor) (r : Next) (x : NextIs s c r) (k : Tag) (head : ℕ) (q : Reached) where
   -- a known chunk: 4 at its header if it may not stand there, else its reading and then the chunks after it
   pub rest-chunk : (t : Tag) (p : ℕ) (b n : Cursor) → r ≡ next.Chunk t p b n
-      → rest_in s k head q c ≡ onward (nextTurn (nesting k) (nesting k) q t) p (λ z. chunk t p (left b s) (rest_in s k head z n))
+      → rest_in s k head q c ≡ onward (next_turn (nesting k) (nesting k) q t) p (λ z. chunk t p (left b s) (rest_in s k head z n))
   unfolding rest_in order
   rest-chunk t p b n w = ap (order k head q) (chunk-is s c r x t p b n w)
 

@@ -14,7 +14,7 @@ use Rattle.wire.proofs.WordLaws.{drop-bytes}
 use Rattle.layout.specs.Chunks.{done, chunk}
 use Rattle.layout.specs.Result.{accept}
 use Rattle.layout.specs.Parts.{words_of}
-use Rattle.layout.specs.Write.{write_chunks as writeChunksOf}
+use Rattle.layout.specs.Write.{write_chunks as write_chunks_of}
 use Rattle.layout.proofs.ChunkLaws.{Of, split-fine}
 use Rattle.layout.proofs.ResultLaws.{by_got, got_inj}
 use Rattle.b3d_spec.specs.declared.Mode.TheVariants.{Lenient}
@@ -40,7 +40,7 @@ record Has (cs : Chunks) (ts : List Texture) (slots : ℕ) (bs : List Brush) (f 
   nodes : each NODE (node_copy levels) cs ≡ nodes_bytes f
 
 leaf-none : nodes_bytes no_nodes ≡ []
-unfolding nodes_bytes node_chunks writeChunksOf
+unfolding nodes_bytes node_chunks write_chunks_of
 leaf-none = refl
 
 nothing : Has done [] 0 [] no_nodes

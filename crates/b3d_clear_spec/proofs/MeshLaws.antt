@@ -9,7 +9,7 @@ use Rattle.layout.specs.Chunks.{done, chunk}
 use Rattle.layout.specs.Result.{accept}
 use Rattle.layout.specs.Parts.{Step, words, row, number}
 use Rattle.layout.specs.Rules.{Rule, any}
-use Rattle.layout.specs.Write.{write_chunks as writeChunksOf}
+use Rattle.layout.specs.Write.{write_chunks as write_chunks_of}
 use Rattle.layout.proofs.ChunkLaws.{Of, split-fine}
 use Rattle.layout.proofs.ResultLaws.{by_got, got_inj}
 use Rattle.layout.proofs.PartLaws.{row_fine}
@@ -74,7 +74,7 @@ copied : (brushes : ℕ) → ByShape Lenient brushes Copied MeshShape
 copied brushes = record { none = none_copied; sets = set_before brushes; shape = shape_before }
 
 pub mesh_copied : (brushes p : ℕ) (b : List ℕ) (m : Mesh) → AllBytes b → read_mesh Lenient brushes p b ≡ accept m → mesh_copy p b ≡ chunk_of (code MESH) (write_mesh m)
-unfolding read_mesh inside mesh_copy mesh_of write_mesh write_vertices writeChunksOf
+unfolding read_mesh inside mesh_copy mesh_of write_mesh write_vertices write_chunks_of
 mesh_copied brushes p b m all e =
     by_got (row (mesh_head brushes) (p + 8) b) _ e (λ h eh e₁.
     by_got (read_one VRTS no_vertices (read_vertices Lenient) (inside MESH p h.place h.left)) _ e₁ (λ v ev e₂.

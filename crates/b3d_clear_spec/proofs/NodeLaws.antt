@@ -9,7 +9,7 @@ use Rattle.wire.specs.Bytes.{AllBytes}
 use Rattle.layout.specs.Chunks.{done, chunk}
 use Rattle.layout.specs.Result.{Result, accept}
 use Rattle.layout.specs.Parts.{named}
-use Rattle.layout.specs.Write.{write_words, write_chunks as writeChunksOf}
+use Rattle.layout.specs.Write.{write_words, write_chunks as write_chunks_of}
 use Rattle.layout.proofs.ChunkLaws.{Of, split-fine}
 use Rattle.layout.proofs.ResultLaws.{by_got, bad_got, got_inj}
 use Rattle.layout.proofs.PartLaws.{named-fine, words_append}
@@ -41,7 +41,7 @@ module _ (one : ℕ → List ℕ → List ℕ) where
   Copied cs k ks a f = (n : ℕ) → Of n cs → Has one cs k ks a f
 
   none_copied : Copied done pivot [] no_anim no_nodes
-  unfolding each mesh_bytes bone_bytes keys_bytes anim_bytes nodes_bytes node_chunks writeChunksOf
+  unfolding each mesh_bytes bone_bytes keys_bytes anim_bytes nodes_bytes node_chunks write_chunks_of
   none_copied n h = record { meshes = refl; bones = refl; keys = refl; anims = refl; nodes = refl }
 
   node_before : (p : ℕ) (b : List ℕ) (r : Chunks) (x : Inner) (f : Forest) → (AllBytes b → one p b ≡ node_bytes x.self x.below) → Copied r pivot [] no_anim f

@@ -28,7 +28,7 @@ use Rattle.b3d_spec.proofs.Files.FileLaws.{parse-size}
 use Rattle.b3d_spec.proofs.Laws.{fine, file-length}
 use Rattle.b3d_spec.proofs.Rows.CountLaws.{rises}
 use Rattle.b3d_compare_spec.specs.declared.WordKind.{WordKind}
-use Rattle.b3d_compare_spec.specs.declared.WordKind.TheVariants.{Whole, Float, Name as ofName, Length}
+use Rattle.b3d_compare_spec.specs.declared.WordKind.TheVariants.{Whole, Float, Name as of_name, Length}
 use Rattle.b3d_compare_spec.specs.Words.{word_kinds, words_of, kind_at}
 use Rattle.b3d_compare_spec.specs.Changes.{Cell, number, text, told, same_cell, cell_of, cell_at, Change, word_changes, row_changes, table_changes, twelve, first_or, changes_in, changes}
 use Rattle.b3d_compare_spec.specs.List.{list_bytes}
@@ -187,7 +187,7 @@ kind-short : (d : WordKind) (s x : List ℕ) (w : ℕ) → Words x → Short (ce
 unfolding cell_of name_from
 kind-short Whole s x w h = word-at x w h
 kind-short Float s x w h = word-at x w h
-kind-short ofName s x w h = omega (arith, take-most (get_or x 1 0) (drop (get_or x 0 0) s), word-at x 1 h)
+kind-short of_name s x w h = omega (arith, take-most (get_or x 1 0) (drop (get_or x 0 0) s), word-at x 1 h)
 kind-short Length s x w h = tt
 
 cell_short : (k : ℕ) (s x : List ℕ) (w : ℕ) → Words x → Short (cell_at k s x w)

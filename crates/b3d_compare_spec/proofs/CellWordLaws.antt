@@ -22,7 +22,7 @@ use Rattle.b3d_spec.specs.declared.Mode.TheVariants.{Lenient}
 use Rattle.b3d_spec.specs.Answers.{judge}
 use Rattle.b3d_spec.specs.Fitting.{FitTexture, FitBrush, FitTriangles, FitKeys, FitKind, FitAnim, FitData, FitNodes}
 use Rattle.b3d_spec.specs.Mask.{padded, vertex_mask, key_mask}
-use Rattle.b3d_spec.specs.Rules.{texture_row as textureRule, brush_row as brushRule, brush_ids, node_row as nodeRule, vertex_row as vertexRule, triangle_row as triangleRule, weight_row as weightRule, key_row as keyRule, anim_row as animRule, bone_limit, bone_limit_below, levels}
+use Rattle.b3d_spec.specs.Rules.{texture_row as texture_rule, brush_row as brush_rule, brush_ids, node_row as node_rule, vertex_row as vertex_rule, triangle_row as triangle_rule, weight_row as weight_rule, key_row as key_rule, anim_row as anim_rule, bone_limit, bone_limit_below, levels}
 use Rattle.b3d_spec.specs.Scene.{Texture, Brush, TriangleSet, Mesh, Kind, pivot, mesh, bone, Keys, Anim, no_anim, anim, Data, Forest, no_nodes, node, Scene}
 use Rattle.b3d_spec.specs.Tables.{start, reached, meshes_of, weights_of, texture_row, brush_row, kind_cells, anim_cells, node_row, mesh_row, vertex_rows, set_rows, triangle_rows, list_rows, key_rows, nodes_in, mesh_rows, own_rows, with_meshes, with_node, with_forest, forest_rows, rows, tables, node_tables}
 use Rattle.b3d_spec.proofs.AnswerLaws.{Small, judge_got}
@@ -148,13 +148,13 @@ kind-words (bone ws) n l w = (omega arith, (l.weights, (omega arith, tt)))
 anim-words : (a : Anim) → FitAnim a → Words (anim_cells a)
 unfolding anim_cells
 anim-words no_anim h = (omega arith, (omega arith, (omega arith, (omega arith, tt))))
-anim-words (anim ws) h = (omega arith, fits-words animRule ws h)
+anim-words (anim ws) h = (omega arith, fits-words anim_rule ws h)
 
 weight-rows : (brushes n : ℕ) (k : Kind) → FitKind brushes n k → All Words (weights_of k)
 unfolding weights_of
 weight-rows brushes n pivot h = tt
 weight-rows brushes n (mesh m) h = tt
-weight-rows brushes n (bone ws) h = rows-of (weightRule n) ws h
+weight-rows brushes n (bone ws) h = rows-of (weight_rule n) ws h
 
 list-rows : (l : List Keys) (i k : ℕ) → IsWord i → All FitKeys l → k + length (key_rows l) < 4294967296 → All Words (list_rows i k l)
 unfolding list_rows key_rows
@@ -167,7 +167,7 @@ list-rows (x ∷ l) i k hi h b =
 key-rows : (l : List Keys) → All FitKeys l → All Words (key_rows l)
 unfolding key_rows
 key-rows [] h = tt
-key-rows (x ∷ l) h = all_append Words (map (padded (key_mask x.flags)) x.items) (key_rows l) (spread_rows (key_mask x.flags) (keyRule x.flags) x.items h.0.1) (key-rows l h.1)
+key-rows (x ∷ l) h = all_append Words (map (padded (key_mask x.flags)) x.items) (key_rows l) (spread_rows (key_mask x.flags) (key_rule x.flags) x.items h.0.1) (key-rows l h.1)
 
 set-rows : (brushes n : ℕ) (l : List TriangleSet) (i r : ℕ) → IsWord i → All (FitTriangles brushes n) l → r + length (triangle_rows l) < 4294967296 → All Words (set_rows i r l)
 unfolding set_rows triangle_rows
@@ -179,7 +179,7 @@ set-rows brushes n (x ∷ l) i r hi h b =
 triangle-rows : (brushes n : ℕ) (l : List TriangleSet) → All (FitTriangles brushes n) l → All Words (triangle_rows l)
 unfolding triangle_rows
 triangle-rows brushes n [] h = tt
-triangle-rows brushes n (x ∷ l) h = all_append Words x.triangles (triangle_rows l) (rows-of (triangleRule n) x.triangles h.0.1) (triangle-rows brushes n l h.1)
+triangle-rows brushes n (x ∷ l) h = all_append Words x.triangles (triangle_rows l) (rows-of (triangle_rule n) x.triangles h.0.1) (triangle-rows brushes n l h.1)
 
 mesh-rows : (k brushes v : ℕ) (x : Kind) (n : Counts) → FitKind brushes v x → Low n → Low (with_meshes (meshes_of x) n) → All Words (mesh_rows k (meshes_of x) n)
 unfolding mesh_rows meshes_of with_meshes mesh_row vertex_rows
@@ -188,7 +188,7 @@ mesh-rows k brushes v (bone ws) n h l m = tt
 mesh-rows k brushes v (mesh x) n h l m =
     if_case (All Words) (eqb k 4) _ _
     (λ _. ((l.nodes, (h.brush.0, (h.head.0, (h.head.2.0, (h.head.2.2.0, (l.vertices, (omega (arith, m.vertices), (l.sets, (omega (arith, m.sets), tt))))))))), tt))
-    (λ _. if_case (All Words) (eqb k 5) _ _ (λ _. spread_rows (vertex_mask x.flags x.sets x.size) (vertexRule Lenient x.flags x.sets x.size) x.vertices h.vertices)
+    (λ _. if_case (All Words) (eqb k 5) _ _ (λ _. spread_rows (vertex_mask x.flags x.sets x.size) (vertex_rule Lenient x.flags x.sets x.size) x.vertices h.vertices)
     (λ _. if_case (All Words) (eqb k 6) _ _ (λ _. set-rows brushes (length x.vertices) x.triangle_sets n.meshes n.triangles l.meshes h.triangles m.triangles)
     (λ _. if_case (All Words) (eqb k 7) _ _ (λ _. triangle-rows brushes (length x.vertices) x.triangle_sets h.triangles) (λ _. tt))))
 
@@ -206,7 +206,7 @@ module _ (s : List ℕ) (small : length s < 4294967296) where
       (λ _. (
         all_append IsWord (name_cells d.name) _ (name-words d.name i) (
           hp,
-          all_append IsWord d.words _ (fits-words nodeRule d.words f.words)
+          all_append IsWord d.words _ (fits-words node_rule d.words f.words)
               (all_append IsWord (kind_cells d.kind n) _ (kind-words d.kind n l (omega (arith, h.weights, mesh-weights (meshes_of d.kind) n)))
               (all_append IsWord (anim_cells d.anim) _ (anim-words d.anim f.anim) (hb, tt))),
         ),
@@ -233,13 +233,13 @@ module _ (s : List ℕ) (small : length s < 4294967296) where
 
   texture_words : (x : Texture) → FitTexture x → NameIn s x.name → Words (texture_row x)
   unfolding texture_row
-  texture_words x h i = all_append IsWord (name_cells x.name) _ (name-words x.name i) (fits-words textureRule x.words h.1)
+  texture_words x h i = all_append IsWord (name_cells x.name) _ (name-words x.name i) (fits-words texture_rule x.words h.1)
 
   brush-words : (slots textures : ℕ) (x : Brush) → FitBrush slots textures x → NameIn s x.name → Words (brush_row x)
   unfolding brush_row
   brush-words slots textures x h i =
       all_append IsWord (name_cells x.name) _ (name-words x.name i)
-      (all_append IsWord x.words _ (fits-words (brushRule Lenient) x.words h.1)
+      (all_append IsWord x.words _ (fits-words (brush_rule Lenient) x.words h.1)
       (all_append IsWord x.ids _ (fits-words (brush_ids slots textures) x.ids h.2) (none-words (8 - length x.ids))))
 
 -- the counts at the end

@@ -22,7 +22,7 @@ use Rattle.b3d_spec.specs.declared.Tag.TheVariants.{NODE, KEYS, ANIM}
 use Rattle.b3d_spec.specs.Tags.{Chunks, Found, is}
 use Rattle.b3d_spec.specs.Scene.{Keys, no_anim, anim}
 use Rattle.b3d_spec.specs.Rules.{animated}
-use Rattle.b3d_spec.specs.Nesting.{nesting, Reached, next as nextTurn, onward, order, reached_at}
+use Rattle.b3d_spec.specs.Nesting.{nesting, Reached, next as next_turn, onward, order, reached_at}
 use Rattle.b3d_spec.specs.Parse.{Animation, read_keys, read_anim, read_animation, with_keys}
 use Rattle.b3d_spec.specs.contracts.Tag.{the_type}
 use Rattle.b3d_spec.proofs.Files.TagCodeLaws.{by-tag}
@@ -89,24 +89,24 @@ twenty m i n h le = record { rows = omega arith; copy = omega arith }
 
 -- ---- how far a chunk brings the moves
 
-keys-turn : (b : Bool) (z : State) → nextTurn (nesting NODE) (nesting NODE) (reached_at 2 b) KEYS ≡ some (reached_of z) → (z.turn ≡ 2) × (z.spent ≡ b)
-unfolding nextTurn if
+keys-turn : (b : Bool) (z : State) → next_turn (nesting NODE) (nesting NODE) (reached_at 2 b) KEYS ≡ some (reached_of z) → (z.turn ≡ 2) × (z.spent ≡ b)
+unfolding next_turn if
 keys-turn true z h = let e = some_inj h in (ap (λ (y : Reached). y.turn) e, ap (λ (y : Reached). y.spent) e)
 keys-turn false z h = let e = some_inj h in (ap (λ (y : Reached). y.turn) e, ap (λ (y : Reached). y.spent) e)
 
-anim-turn : (b : Bool) (z : State) → nextTurn (nesting NODE) (nesting NODE) (reached_at 2 b) ANIM ≡ some (reached_of z) → (b ≡ false) × (z.turn ≡ 2) × (z.spent ≡ true)
-unfolding nextTurn if
+anim-turn : (b : Bool) (z : State) → next_turn (nesting NODE) (nesting NODE) (reached_at 2 b) ANIM ≡ some (reached_of z) → (b ≡ false) × (z.turn ≡ 2) × (z.spent ≡ true)
+unfolding next_turn if
 anim-turn true z h = never h
 anim-turn false z h = let e = some_inj h in (refl, ap (λ (y : Reached). y.turn) e, ap (λ (y : Reached). y.spent) e)
 
 -- a chunk that may stand there and is neither KEYS nor ANIM is a NODE
-node-turn : (b : Bool) (y : Reached) (t : Tag) → nextTurn (nesting NODE) (nesting NODE) (reached_at 2 b) t ≡ some y → T (not (is t KEYS || is t ANIM)) → (t ≡ NODE) × (y ≡ reached_at 3 false)
-unfolding nextTurn if
+node-turn : (b : Bool) (y : Reached) (t : Tag) → next_turn (nesting NODE) (nesting NODE) (reached_at 2 b) t ≡ some y → T (not (is t KEYS || is t ANIM)) → (t ≡ NODE) × (y ≡ reached_at 3 false)
+unfolding next_turn if
 node-turn true y t =
-    by-tag (λ t. nextTurn (nesting NODE) (nesting NODE) (reached_at 2 true) t ≡ some y → T (not (is t KEYS || is t ANIM)) → (t ≡ NODE) × (y ≡ reached_at 3 false))
+    by-tag (λ t. next_turn (nesting NODE) (nesting NODE) (reached_at 2 true) t ≡ some y → T (not (is t KEYS || is t ANIM)) → (t ≡ NODE) × (y ≡ reached_at 3 false))
     (never, never, never, (λ e n. (refl, some_inj e)), never, never, never, never, (λ e n. absurd n), (λ e n. absurd n)) t
 node-turn false y t =
-    by-tag (λ t. nextTurn (nesting NODE) (nesting NODE) (reached_at 2 false) t ≡ some y → T (not (is t KEYS || is t ANIM)) → (t ≡ NODE) × (y ≡ reached_at 3 false))
+    by-tag (λ t. next_turn (nesting NODE) (nesting NODE) (reached_at 2 false) t ≡ some y → T (not (is t KEYS || is t ANIM)) → (t ≡ NODE) × (y ≡ reached_at 3 false))
     (never, never, never, (λ e n. (refl, some_inj e)), never, never, never, never, (λ e n. absurd n), (λ e n. absurd n)) t
 
 -- a tag other than KEYS and ANIM
@@ -157,8 +157,8 @@ module _ (s : List ℕ) (at : ℕ) (from : Cursor) where
         among = step-among s NODE at q c r x t p b n z w
 
         -- how far the moves come with this chunk
-        goes : nextTurn (nesting NODE) (nesting NODE) (reached_at 2 q.spent) t ≡ some (reached_of z)
-        goes = subst (λ (i : ℕ). nextTurn (nesting NODE) (nesting NODE) (reached_at i q.spent) t ≡ some (reached_of z)) v.turn (step-turn s NODE at q c r x t p b n z w)
+        goes : next_turn (nesting NODE) (nesting NODE) (reached_at 2 q.spent) t ≡ some (reached_of z)
+        goes = subst (λ (i : ℕ). next_turn (nesting NODE) (nesting NODE) (reached_at i q.spent) t ≡ some (reached_of z)) v.turn (step-turn s NODE at q c r x t p b n z w)
 
         to : (u : Tally) → Within u (n.at - from.at) → Going s at from n u
         to = going-to s at from c _ v.going NODE q r x t p b n z w
@@ -167,7 +167,7 @@ module _ (s : List ℕ) (at : ℕ) (from : Cursor) where
         moving_room = among.room
 
         pub moving_node : (t ≡ KEYS → ⊥) → (t ≡ ANIM → ⊥) → (u : Tally) → u ≡ plus m (anim_tally (anim_of q.spent)) → Right s at from (motion.Accept q.spent u c)
-        unfolding read_animation nextTurn onward if
+        unfolding read_animation next_turn onward if
         moving_node nk na u e =
             let (k, y) = node-turn q.spent (reached_of z) t goes (no_move t nk na) in
             finish u e (rw (rest-step s NODE at q c r x t p b n z w, rest-chunk s c (next.Chunk t p b n) (step-next s NODE at q c r x t p b n z w) NODE at (reached_at 3 false) t p b n refl, k, y))
@@ -189,7 +189,7 @@ module _ (s : List ℕ) (at : ℕ) (from : Cursor) where
               let f = among in
               let g = judged_good list_tally (read_keys p (left b s)) u (sym h.is ∙ y) in
               let i = going-one s at from c _ v.going NODE q r x t p b n z w list_tally _ j h u y in
-              let l = keys-turn q.spent z (subst (λ (t : Tag). nextTurn (nesting NODE) (nesting NODE) (reached_at 2 q.spent) t ≡ some (reached_of z)) k goes) in
+              let l = keys-turn q.spent z (subst (λ (t : Tag). next_turn (nesting NODE) (nesting NODE) (reached_at 2 q.spent) t ≡ some (reached_of z)) k goes) in
               record {
                 turn = l.0;
                 going = to _ (rw (e, l.1) (swapped m u (anim_tally (anim_of q.spent)) (c.at - from.at) (b.end - p) (n.at - from.at) v.going.within i (omega (arith, v.going.from_at))));
@@ -203,7 +203,7 @@ module _ (s : List ℕ) (at : ℕ) (from : Cursor) where
 
         module _ (k : t ≡ ANIM) where
           once : (q.spent ≡ false) × (z.turn ≡ 2) × (z.spent ≡ true)
-          once = anim-turn q.spent z (subst (λ (t : Tag). nextTurn (nesting NODE) (nesting NODE) (reached_at 2 q.spent) t ≡ some (reached_of z)) k goes)
+          once = anim-turn q.spent z (subst (λ (t : Tag). next_turn (nesting NODE) (nesting NODE) (reached_at 2 q.spent) t ≡ some (reached_of z)) k goes)
 
           anim-read : read_animation (anim_of q.spent) (rest_in s NODE at (reached_of q) c) ≡ (read_anim p (left b s) >>= λ ws. read_animation (anim ws) (rest_in s NODE at (reached_of z) n))
           unfolding read_animation if

@@ -19,7 +19,7 @@ use Rattle.b3d_spec.specs.declared.Tag.{Tag}
 use Rattle.b3d_spec.specs.declared.Tag.TheVariants.{BB3D, TEXS, BRUS, NODE}
 use Rattle.b3d_spec.specs.Tags.{is}
 use Rattle.b3d_spec.specs.Scene.{Brush, Forest, no_nodes, node}
-use Rattle.b3d_spec.specs.Nesting.{nesting, Reached, start, next as nextTurn, reached_at}
+use Rattle.b3d_spec.specs.Nesting.{nesting, Reached, start, next as next_turn, reached_at}
 use Rattle.b3d_spec.specs.Parse.{Inner, read_one, read_textures, read_brushes, read_node, read_root, slots_of}
 use Rattle.b3d_spec.specs.contracts.Tag.{the_type}
 use Rattle.b3d_spec.proofs.Files.TagCodeLaws.{by-tag}
@@ -140,7 +140,7 @@ module _ (s : List ℕ) (from : Cursor) (g : Among 0 from (length s)) (r : Enclo
 
     module _ (e : t ≡ TEXS) (j : Judged) (hj : Judges texs_tally (read_textures p (left b s)) p b.end j) where
       texs_read : read_one TEXS [] read_textures (rest_in s BB3D 0 start from) ≡ (read_textures p (left b s) >>= λ y. accept (record { value = y; rest = rest_in s BB3D 0 (reached_at 1 true) n }))
-      unfolding nextTurn if
+      unfolding next_turn if
       texs_read = one-read s from (next.Chunk t p b n) (found s from g (record { turn = 0; spent = false }) r x t p b n v w) TEXS [] read_textures start (reached_at 1 true) t p b n refl e refl tt
 
       pub texs_bad : (i q : ℕ) → j ≡ judge.Reject i q → Texs (phase.Reject i q)
@@ -150,7 +150,7 @@ module _ (s : List ℕ) (from : Cursor) (g : Among 0 from (length s)) (r : Enclo
       texs_good = phase_good s from g (record { turn = 0; spent = false }) r x TEXS [] read_textures (reached_at 1 true) texs_tally none_texs t p b n v w texs_read j hj
 
 pub texs_follows : T (plain BB3D (λ u. is u TEXS) start (reached_at 1 true) (0 ∷ 2 ∷ 3 ∷ 4 ∷ 5 ∷ 6 ∷ 7 ∷ 8 ∷ 9 ∷ []))
-unfolding plain is_none same_turn bool_same nextTurn if
+unfolding plain is_none same_turn bool_same next_turn if
 texs_follows = tt
 
 -- a tag other than TEXS is one of the nine others
@@ -176,10 +176,10 @@ root_judges (reject n p) from to j h = record { is = h.is; within = h.within }
 root_judges (accept i) from to j h = record { is = h.is ∙ ap judge.Accept (sym (plus_none (plus (data_tally i.self) (forest_tally i.below)))); within = h.within }
 
 -- after the brushes only the root may stand
-root-turn : (y : Reached) (t : Tag) → nextTurn (nesting BB3D) (nesting BB3D) (reached_at 2 true) t ≡ some y → t ≡ NODE
-unfolding nextTurn if
+root-turn : (y : Reached) (t : Tag) → next_turn (nesting BB3D) (nesting BB3D) (reached_at 2 true) t ≡ some y → t ≡ NODE
+unfolding next_turn if
 root-turn y t =
-    by-tag (λ t. nextTurn (nesting BB3D) (nesting BB3D) (reached_at 2 true) t ≡ some y → t ≡ NODE) (never, never, never, (λ h. refl), never, never, never, never, never, never) t
+    by-tag (λ t. next_turn (nesting BB3D) (nesting BB3D) (reached_at 2 true) t ≡ some y → t ≡ NODE) (never, never, never, (λ h. refl), never, never, never, never, never, never) t
 
 -- a root that is read in any way
 module _ (root : ℕ → List ℕ → Result Forest) (s : List ℕ) (from : Cursor) (g : Among 0 from (length s)) (r : Enclosed) (x : EnclosedIs s BB3D 0 (record { turn = 2; spent = true }) from r) where
@@ -194,7 +194,7 @@ module _ (root : ℕ → List ℕ → Result Forest) (s : List ℕ) (from : Curs
 
   module _ (t : Tag) (p : ℕ) (b n : Cursor) (v : State) (w : r ≡ enclosed.Chunk t p b n v) (j : Judged) (hj : Judges forest_tally (root p (left b s)) p b.end j) where
     root_read : read_one NODE no_nodes root (rest_in s BB3D 0 (reached_at 2 true) from) ≡ (root p (left b s) >>= λ y. accept (record { value = y; rest = rest_in s BB3D 0 (reached_at 3 true) n }))
-    unfolding nextTurn if
+    unfolding next_turn if
     root_read =
         one-read s from (next.Chunk t p b n) (found s from g (record { turn = 2; spent = true }) r x t p b n v w) NODE no_nodes root (reached_at 2 true) (reached_at 3 true) t p b n refl
         (root-turn (reached_of v) t (step-turn s BB3D 0 (record { turn = 2; spent = true }) from r x t p b n v w)) refl tt
@@ -237,7 +237,7 @@ slotted-good (accept v) k t h = record { value = v; is = refl; slots = cc; has =
 slotted-good (reject n p) k t h = let z : ◌≡◌ {A = ℕ} 0 1 = cc in absurd (omega arith)
 
 pub brus_follows : T (plain BB3D (λ u. is u BRUS) (reached_at 1 true) (reached_at 2 true) (0 ∷ 1 ∷ 3 ∷ 4 ∷ 5 ∷ 6 ∷ 7 ∷ 8 ∷ 9 ∷ []))
-unfolding plain is_none same_turn bool_same nextTurn if
+unfolding plain is_none same_turn bool_same next_turn if
 brus_follows = tt
 
 module _ (mode : Mode) (s : List ℕ) (from : Cursor) (g : Among 0 from (length s)) (r : Enclosed) (x : EnclosedIs s BB3D 0 (record { turn = 1; spent = true }) from r) (textures : ℕ) where
@@ -261,7 +261,7 @@ module _ (mode : Mode) (s : List ℕ) (from : Cursor) (g : Among 0 from (length 
 
     module _ (e : t ≡ BRUS) (j : BrushesSummary) (hj : SlotsAre (read_brushes mode textures p (left b s)) p b.end j) where
       brus_read : read_one BRUS (0, []) (read_brushes mode textures) (rest_in s BB3D 0 (reached_at 1 true) from) ≡ (read_brushes mode textures p (left b s) >>= λ y. accept (record { value = y; rest = rest_in s BB3D 0 (reached_at 2 true) n }))
-      unfolding nextTurn if
+      unfolding next_turn if
       brus_read = one-read s from (next.Chunk t p b n) (found s from g (record { turn = 1; spent = true }) r x t p b n v w) BRUS (0, []) (read_brushes mode textures) (reached_at 1 true) (reached_at 2 true) t p b n refl e refl tt
 
       pub brus_bad : (i q : ℕ) → j ≡ slotty.Reject i q → Brus (brushed.Reject i q)

@@ -17,7 +17,7 @@ use Rattle.b3d_spec.specs.declared.Tag.{Tag}
 use Rattle.b3d_spec.specs.declared.Tag.TheVariants.{BB3D, TEXS, BRUS, NODE, MESH, VRTS, TRIS, BONE, KEYS, ANIM}
 use Rattle.b3d_spec.specs.Tags.{Chunks, Found}
 use Rattle.b3d_spec.specs.Scene.{Brush, Forest, no_nodes}
-use Rattle.b3d_spec.specs.Nesting.{nesting, next as nextTurn, reached_at}
+use Rattle.b3d_spec.specs.Nesting.{nesting, next as next_turn, reached_at}
 use Rattle.b3d_spec.specs.Parse.{read_one, read_brushes, read_root, slots_of}
 use Rattle.b3d_judge_tally.specs.Tally.{forest_tally, plus, Within}
 use Rattle.b3d_judge_tally.specs.Answers.{judged, JudgedIn, Judges, Onward}
@@ -46,8 +46,8 @@ use Rattle.b3d_spec_chunk_places.proofs.TagTestLaws.{never}
 
 -- ---- the end of a file
 
-file-next : (t : Tag) → nextTurn (nesting BB3D) (nesting BB3D) (reached_at 3 true) t ≡ none
-unfolding nextTurn if
+file-next : (t : Tag) → next_turn (nesting BB3D) (nesting BB3D) (reached_at 3 true) t ≡ none
+unfolding next_turn if
 file-next BB3D = refl
 file-next TEXS = refl
 file-next BRUS = refl

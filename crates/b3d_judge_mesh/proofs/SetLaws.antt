@@ -19,7 +19,7 @@ use Rattle.b3d_spec.specs.declared.Tag.{Tag}
 use Rattle.b3d_spec.specs.declared.Tag.TheVariants.{MESH, VRTS}
 use Rattle.b3d_spec.specs.Scene.{TriangleSet, Mesh}
 use Rattle.b3d_spec.specs.Rules.{vertex_words}
-use Rattle.b3d_spec.specs.Nesting.{nesting, start, next as nextTurn, order, reached_at}
+use Rattle.b3d_spec.specs.Nesting.{nesting, start, next as next_turn, order, reached_at}
 use Rattle.b3d_spec.specs.Parse.{read_one, Vertices, read_vertices, read_triangles, read_sets}
 use Rattle.b3d_spec.proofs.Files.TagCodeLaws.{by-tag}
 use Rattle.b3d_chunk_cursor.specs.Chunks.{Among as Chunked}
@@ -204,10 +204,10 @@ pub ruleset rows_laws = (rows-small, rows_are)
 pub ruleset shape_laws = (shape-bad, shape-few, shape-wide, shape-sets-bad, shape-sets-small, shape-vertices-small, shape-good)
 
 -- the first chunk of a mesh is its VRTS
-first-turn : (t : Tag) (z : State) → nextTurn (nesting MESH) (nesting MESH) start t ≡ some (reached_of z) → (t ≡ VRTS) × (reached_of z ≡ reached_at 1 true)
-unfolding nextTurn if
+first-turn : (t : Tag) (z : State) → next_turn (nesting MESH) (nesting MESH) start t ≡ some (reached_of z) → (t ≡ VRTS) × (reached_of z ≡ reached_at 1 true)
+unfolding next_turn if
 first-turn t z =
-    by-tag (λ t. nextTurn (nesting MESH) (nesting MESH) start t ≡ some (reached_of z) → (t ≡ VRTS) × (reached_of z ≡ reached_at 1 true))
+    by-tag (λ t. next_turn (nesting MESH) (nesting MESH) start t ≡ some (reached_of z) → (t ≡ VRTS) × (reached_of z ≡ reached_at 1 true))
     (never, never, never, never, never, (λ h. (refl, some_inj h)), never, never, never, never) t
 
 module _ (mode : Mode) (s : List ℕ) (at brushes : ℕ) (from : Cursor) (g : Among at from (length s)) (far : at + 12 ≤ from.at) (r : Enclosed) (x : EnclosedIs s MESH at (record { turn = 0; spent = false }) from r) where

@@ -22,7 +22,7 @@ use Rattle.layout.proofs.ResultLaws.{if_no}
 use Rattle.b3d_spec.specs.Tags.{is}
 use Rattle.b3d_spec.specs.Scene.{Kind, mesh, bone}
 use Rattle.b3d_spec.specs.Rules.{own_vertices}
-use Rattle.b3d_spec.specs.Nesting.{start, next as nextTurn, onward, order, reached_at}
+use Rattle.b3d_spec.specs.Nesting.{start, next as next_turn, onward, order, reached_at}
 use Rattle.b3d_spec.specs.Parse.{read_mesh, read_bone, a_mesh, a_bone, read_kind}
 use Rattle.b3d_spec.specs.contracts.Tag.{the_type}
 use Rattle.b3d_chunk_cursor.specs.Chunks.{NextIs}
@@ -113,7 +113,7 @@ module _ (mode : Mode) (s : List ℕ) (at : ℕ) (from : Cursor) (g : Among at f
 
     module _ (e : t ≡ MESH) (j : MeshSummary) (h : Meshes (read_mesh mode brushes p (left b s)) p b.end j) where
       mesh-read : read_kind mode brushes bones (rest_in s NODE at start from) ≡ (read_mesh mode brushes p (left b s) >>= λ a. accept (record { value = mesh a; rest = rest_in s NODE at (reached_at 1 true) n }))
-      unfolding read_kind a_mesh nextTurn onward if
+      unfolding read_kind a_mesh next_turn onward if
       mesh-read = rw (rest-chunk s from (next.Chunk t p b n) found NODE at start t p b n refl, e)
 
       pub kind-mesh-bad : (i q : ℕ) → j ≡ meshes.Reject i q → Kinds (read_kind mode brushes bones (rest_in s NODE at start from)) (rest_in s NODE at (reached_at 2 false)) from (kind.Reject i q)
@@ -128,7 +128,7 @@ module _ (mode : Mode) (s : List ℕ) (at : ℕ) (from : Cursor) (g : Among at f
 
     module _ (e : t ≡ BONE) (j : Judged) (h : Judges bone_tally (read_bone bones p (left b s)) p b.end j) where
       bone-read : read_kind mode brushes bones (rest_in s NODE at start from) ≡ (read_bone bones p (left b s) >>= λ a. accept (record { value = bone a; rest = rest_in s NODE at (reached_at 1 true) n }))
-      unfolding read_kind a_bone nextTurn onward if
+      unfolding read_kind a_bone next_turn onward if
       bone-read = rw (rest-chunk s from (next.Chunk t p b n) found NODE at start t p b n refl, e)
 
       pub kind-bone-bad : (i q : ℕ) → j ≡ judge.Reject i q → Kinds (read_kind mode brushes bones (rest_in s NODE at start from)) (rest_in s NODE at (reached_at 2 false)) from (kind.Reject i q)
@@ -142,7 +142,7 @@ module _ (mode : Mode) (s : List ℕ) (at : ℕ) (from : Cursor) (g : Among at f
           taken (read_bone bones p (left b s)) bone bone-read v.value 0 m v.is refl v.has (subst (JudgedIn p b.end) y h.within)
 
 pub kind-follows : T (plain NODE takes start (reached_at 2 false) (0 ∷ 1 ∷ 2 ∷ 3 ∷ 5 ∷ 6 ∷ 8 ∷ 9 ∷ []))
-unfolding plain is_none same_turn bool_same nextTurn if
+unfolding plain is_none same_turn bool_same next_turn if
 kind-follows = tt
 
 -- a tag other than MESH and BONE is one of the eight others
@@ -150,8 +150,17 @@ pub kind_rest : (t : Tag) → (t ≡ MESH → ⊥) → (t ≡ BONE → ⊥) → 
 kind_rest t =
     let other = λ (n : ℕ) (h : T (has_key (0 ∷ 1 ∷ 2 ∷ 3 ∷ 5 ∷ 6 ∷ 8 ∷ 9 ∷ []) n)). hit (0 ∷ 1 ∷ 2 ∷ 3 ∷ 5 ∷ 6 ∷ 8 ∷ 9 ∷ []) n h in
     by-tag
-    (λ t. (t ≡ MESH → ⊥) → (t ≡ BONE → ⊥) → OneOf (0 ∷ 1 ∷ 2 ∷ 3 ∷ 5 ∷ 6 ∷ 8 ∷ 9 ∷ []) (tag_of the_type t))
-    ((λ m b. other 0 tt), (λ m b. other 1 tt), (λ m b. other 2 tt), (λ m b. other 3 tt), (λ m b. absurd (m refl)),
-    (λ m b. other 5 tt), (λ m b. other 6 tt), (λ m b. absurd (b refl)), (λ m b. other 8 tt), (λ m b. other 9 tt)) t
+    (λ t. (t ≡ MESH → ⊥) → (t ≡ BONE → ⊥) → OneOf (0 ∷ 1 ∷ 2 ∷ 3 ∷ 5 ∷ 6 ∷ 8 ∷ 9 ∷ []) (tag_of the_type t)) (
+      (λ m b. other 0 tt),
+      (λ m b. other 1 tt),
+      (λ m b. other 2 tt),
+      (λ m b. other 3 tt),
+      (λ m b. absurd (m refl)),
+      (λ m b. other 5 tt),
+      (λ m b. other 6 tt),
+      (λ m b. absurd (b refl)),
+      (λ m b. other 8 tt),
+      (λ m b. other 9 tt),
+    ) t
 
 pub ruleset kind_laws = (kind-follows, among-inside, among-head, kind-body, kind-end, kind-stop, kind-plain, kind-mesh-bad, kind-mesh, kind-bone-bad, kind-bone)

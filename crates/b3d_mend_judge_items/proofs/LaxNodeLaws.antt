@@ -16,7 +16,7 @@ use Rattle.b3d_spec.specs.Tags.{is, Chunks, Found}
 use Rattle.b3d_judge_tally.specs.Tally.{no_tally, plus, head_tally, kind_tally, bone_tally, lists_tally, anim_tally, data_tally, forest_tally, inner_tally}
 use Rattle.b3d_judge_tally.specs.declared.Tally.{Tally}
 use Rattle.b3d_mend_spec.specs.Edits.{Edit}
-use Rattle.b3d_mend_spec.specs.Mend.{Mended, as_read, mend_bone, Taken, found, mend_mesh, mend_kind, with_keys as mendKeys, with_anim, mend_moves, mend_nodes, data_of, mend_node, mend_root}
+use Rattle.b3d_mend_spec.specs.Mend.{Mended, as_read, mend_bone, Taken, found, mend_mesh, mend_kind, with_keys as mend_keys, with_anim, mend_moves, mend_nodes, data_of, mend_node, mend_root}
 use Rattle.b3d_mend_spec.specs.Pieces.{pieces, chunks_of}
 use Rattle.b3d_mend_judge_items.specs.Lax.{lax_bone, lax_inside, lax_mesh, lax_kind, lax_node, lax_root}
 use Rattle.b3d_mend_judge_items.proofs.AlikeLaws.{Alike, alike_bind, alike_both, alike-if}
@@ -55,7 +55,7 @@ behind m (reject n q) (accept w) g = absurd g
 behind m (reject n q) (reject i j) g = g
 
 pub moves-alike : (seen : Anim) (cs : Chunks) → Alike SameMoves (read_animation seen cs) (mend_moves seen cs)
-unfolding read_animation mend_moves with_keys mendKeys
+unfolding read_animation mend_moves with_keys mend_keys
 moves-alike seen done = record { value = refl; rest = refl }
 moves-alike seen (stop n p) = (refl, refl)
 moves-alike seen (chunk t p b r) =

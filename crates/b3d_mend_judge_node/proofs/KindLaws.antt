@@ -19,7 +19,7 @@ use Rattle.layout.proofs.ResultLaws.{if_no}
 use Rattle.b3d_spec.specs.Tags.{is}
 use Rattle.b3d_spec.specs.Scene.{Kind, mesh, bone}
 use Rattle.b3d_spec.specs.Rules.{own_vertices}
-use Rattle.b3d_spec.specs.Nesting.{start, next as nextTurn, onward, order, reached_at}
+use Rattle.b3d_spec.specs.Nesting.{start, next as next_turn, onward, order, reached_at}
 use Rattle.b3d_mend_judge_items.specs.Lax.{lax_mesh, lax_bone, lax_kind}
 use Rattle.b3d_spec.specs.contracts.Tag.{the_type}
 use Rattle.b3d_chunk_cursor.specs.Chunks.{NextIs}
@@ -107,7 +107,7 @@ module _ (s : List ℕ) (at : ℕ) (from : Cursor) (g : Among at from (length s)
 
     module _ (e : t ≡ MESH) (j : MeshSummary) (h : Meshes (lax_mesh p (left b s)) p b.end j) where
       mesh-read : lax_kind bones (rest_in s NODE at start from) ≡ (lax_mesh p (left b s) >>= λ a. accept (record { value = mesh a; rest = rest_in s NODE at (reached_at 1 true) n }))
-      unfolding lax_kind nextTurn onward if
+      unfolding lax_kind next_turn onward if
       mesh-read = rw (rest-chunk s from (next.Chunk t p b n) found NODE at start t p b n refl, e)
 
       pub kind-mesh-bad : (i q : ℕ) → j ≡ meshes.Reject i q → Kinds (lax_kind bones (rest_in s NODE at start from)) (rest_in s NODE at (reached_at 2 false)) from (kind.Reject i q)
@@ -122,7 +122,7 @@ module _ (s : List ℕ) (at : ℕ) (from : Cursor) (g : Among at from (length s)
 
     module _ (e : t ≡ BONE) (j : Judged) (h : Judges bone_tally (lax_bone bones p (left b s)) p b.end j) where
       bone-read : lax_kind bones (rest_in s NODE at start from) ≡ (lax_bone bones p (left b s) >>= λ a. accept (record { value = bone a; rest = rest_in s NODE at (reached_at 1 true) n }))
-      unfolding lax_kind nextTurn onward if
+      unfolding lax_kind next_turn onward if
       bone-read = rw (rest-chunk s from (next.Chunk t p b n) found NODE at start t p b n refl, e)
 
       pub kind-bone-bad : (i q : ℕ) → j ≡ judge.Reject i q → Kinds (lax_kind bones (rest_in s NODE at start from)) (rest_in s NODE at (reached_at 2 false)) from (kind.Reject i q)

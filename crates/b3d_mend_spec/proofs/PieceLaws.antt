@@ -11,7 +11,7 @@ use lib.Dec.{leb, eqb, leb→le, le→leb, eqb→eq}
 use Rattle.wire.specs.Bytes.{word, bytes, AllBytes}
 use Rattle.wire.specs.Test.{if}
 use Rattle.wire.proofs.WordLaws.{word_bytes, take-bytes, drop-bytes}
-use Rattle.layout.specs.Chunks.{done, stop, chunk, keep as keepOf}
+use Rattle.layout.specs.Chunks.{done, stop, chunk, keep as keep_of}
 use Rattle.layout.proofs.ChunkLaws.{split_step, split-none, split_unknown}
 use Rattle.layout.proofs.AllLaws.{All, all_append}
 use Rattle.layout.proofs.ResultLaws.{by_test, by-if, if_yes, if_no}
@@ -157,7 +157,7 @@ first q f zero = q
 first q f (suc i) = f i
 
 split-chunk : (q : ℕ) (t : Tag) (b r : List ℕ) → length b < 4294967296 → split q (bytes (code t) (bytes (length b) (b ++ r))) ≡ chunk t q b (split (q + 8 + length b) r)
-unfolding keepOf
+unfolding keep_of
 split-chunk q t b r hb =
     let k : length b ≤ length (b ++ r) = omega (arith, length-append b r) in
     rw (split_step tag_of, word_bytes (code t) (code-word t), word_bytes (length b) hb, tag-code t, take-append_seam b r, drop-append_seam b r)

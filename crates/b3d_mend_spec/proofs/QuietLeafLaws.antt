@@ -10,7 +10,7 @@ use lib.ListN.{length, take, drop, get_or, length-append}
 use lib.Dec.{leb}
 use Rattle.wire.specs.Bytes.{word}
 use Rattle.wire.specs.Test.{if}
-use Rattle.layout.specs.Chunks.{done, stop, chunk, keep as keepOf, split_in, split as splitOf}
+use Rattle.layout.specs.Chunks.{done, stop, chunk, keep as keep_of, split_in, split as split_of}
 use Rattle.layout.specs.Result.{Result, accept, reject}
 use Rattle.layout.specs.Parts.{Name, row, number, named, items}
 use Rattle.layout.proofs.AllLaws.{All, all_append}
@@ -101,8 +101,8 @@ strict_of (past p s) = stop 3 p
 strict_of (other o r) = strict_of r
 strict_of (known t p b r) = chunk t p b (strict_of r)
 
-piece_strict : (o : Option Tag) (p : ℕ) (h b : List ℕ) (r : Pieces) (c : Chunks) → c ≡ strict_of r → keepOf o p b c ≡ strict_of (piece o p h b r)
-unfolding keepOf piece strict_of
+piece_strict : (o : Option Tag) (p : ℕ) (h b : List ℕ) (r : Pieces) (c : Chunks) → c ≡ strict_of r → keep_of o p b c ≡ strict_of (piece o p h b r)
+unfolding keep_of piece strict_of
 piece_strict none p h b r c e = e
 piece_strict (some t) p h b r c e = ap (λ (z : Chunks). chunk t p b z) e
 
@@ -128,7 +128,7 @@ in_strict (suc f) p (a ∷ b ∷ c ∷ d ∷ e ∷ g ∷ h ∷ i ∷ s) =
     (piece_strict (tag_of (word a b c d)) p (a ∷ b ∷ c ∷ d ∷ e ∷ g ∷ h ∷ i ∷ []) (take n s) (pieces_in f (p + 8 + n) (drop n s)) _ (in_strict f (p + 8 + n) (drop n s)))
 
 pub split_strict : (p : ℕ) (s : List ℕ) → split p s ≡ strict_of (pieces p s)
-unfolding splitOf pieces
+unfolding split_of pieces
 split_strict p s = in_strict (length s) p s
 
 -- the same chunks, up to a refusal that is mended

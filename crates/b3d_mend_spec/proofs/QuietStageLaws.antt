@@ -15,7 +15,7 @@ use Rattle.layout.proofs.AllLaws.{All, all_append}
 use Rattle.layout.proofs.PartLaws.{words_append, row_fine, named-fine}
 use Rattle.b3d_spec.specs.declared.Mode.TheVariants.{Lenient}
 use Rattle.b3d_spec.specs.Nesting.{inside}
-use Rattle.b3d_spec.specs.Parse.{read_one, Vertices, no_vertices, read_vertices, read_triangles, read_sets, read_mesh, read_bone, read_keys, read_anim, a_mesh, a_bone, read_kind, Animation, with_keys as withKeysRead, read_animation, Inner, read_nodes, read_below, read_node, read_root}
+use Rattle.b3d_spec.specs.Parse.{read_one, Vertices, no_vertices, read_vertices, read_triangles, read_sets, read_mesh, read_bone, read_keys, read_anim, a_mesh, a_bone, read_kind, Animation, with_keys as with_keys_read, read_animation, Inner, read_nodes, read_below, read_node, read_root}
 use Rattle.b3d_spec.specs.Rules.{mesh_head, node_row, bone_limit, bone_limit_below, levels}
 use Rattle.b3d_spec.specs.Scene.{TriangleSet, Mesh, Kind, pivot, mesh, bone, Keys, Anim, no_anim, anim, Forest, no_nodes, node}
 use Rattle.b3d_spec.specs.Tags.{is, Chunks, Found}
@@ -148,7 +148,7 @@ kind-beside brushes vertices (chunk t p b r) c f h =
 
 moves-here : (seen : Anim) (t : Tag) (p : ℕ) (b : List ℕ) (r z : Chunks) → FineC (chunk t p b r) → Alike r z
     → ((s : Anim) → Beside (Both r) (read_animation s r) (mend_moves s z)) → Beside (Both (chunk t p b r)) (read_animation seen (chunk t p b r)) (mend_moves seen (chunk t p b z))
-unfolding read_animation withKeysRead mend_moves with_keys with_anim
+unfolding read_animation with_keys_read mend_moves with_keys with_anim
 moves-here seen t p b r z f h go =
     if-beside (Both (chunk t p b r)) (is t KEYS) _ _ _ _
     (λ u. bind_beside (Left b) (Both (chunk t p b r)) (read_keys p b) (as_read read_keys p b) _ _ (keys_leave p b f.0) (λ v m l.

@@ -14,7 +14,7 @@ use Rattle.layout.proofs.AllLaws.{all_append}
 use Rattle.layout.proofs.ResultLaws.{by_got, by-if, bad_got, got_inj, if_yes, if_no}
 use Rattle.layout.proofs.PartLaws.{row_back}
 use Rattle.b3d_spec.specs.declared.Mode.TheVariants.{Lenient}
-use Rattle.b3d_spec.specs.Parse.{read_one, Vertices, no_vertices, read_vertices, read_triangles, read_sets, read_mesh, read_bone, read_keys, read_anim, a_mesh, a_bone, read_kind, Animation, with_keys as withKeysRead, read_animation}
+use Rattle.b3d_spec.specs.Parse.{read_one, Vertices, no_vertices, read_vertices, read_triangles, read_sets, read_mesh, read_bone, read_keys, read_anim, a_mesh, a_bone, read_kind, Animation, with_keys as with_keys_read, read_animation}
 use Rattle.b3d_spec.specs.Rules.{mesh_head, brush_id}
 use Rattle.b3d_spec.specs.Scene.{TriangleSet, Kind, pivot, mesh, bone, Keys, Anim, anim}
 use Rattle.b3d_spec.specs.Tags.{is, Chunks, Found}
@@ -173,7 +173,7 @@ no_move seen t p b r u n (y ∷ ys) h place = (record { keys = []; anim = seen }
 
 keys-again : (seen : Anim) (t : Tag) (p : ℕ) (b : List ℕ) (r : Chunks) (m : Mended Keys) (l : Taken Animation) → T (is t KEYS) → Body plain read_keys b m → Stage plain (read_animation seen) r l
     → (ys : List (List Edit)) → Fill l.rest ys → (place : ℕ → ℕ) → Again plain (read_animation seen) (chunk t p b r) (m.edits ∷ l.bodies) (record { keys = m.value ∷ l.value.keys; anim = l.value.anim }) l.rest ys place
-unfolding read_animation withKeysRead
+unfolding read_animation with_keys_read
 keys-again seen t p b r m l u g k ys h place =
     let y = k.again ys h (λ i. place (suc i)) in
     (record { keys = m.value ∷ y.0.keys; anim = y.0.anim }, y.1, if_yes (is t KEYS) _ _ u ∙ rw (exactly read_keys b m g (place 0), y.2), ap (λ (v : Animation). record { keys = m.value ∷ v.keys; anim = v.anim }) y.3)

@@ -12,16 +12,16 @@ use Rattle.b3d_mend_spec.specs.declared.WrittenBoth.{WrittenBoth}
 use Rattle.b3d_mend_spec.proofs.Laws.{room-yes, room-file, room-report}
 use Rattle.b3d_mend_write_both.specs.BothSizes.{OfSizes}
 
-module _ (size reportSize room report_room q : ℕ) where
-  pub file_short : q ≡ size → room < size → OfSizes size reportSize room report_room (record { number = 11; place = q; size = 0; report_size = 0 })
+module _ (size report_size room report_room q : ℕ) where
+  pub file_short : q ≡ size → room < size → OfSizes size report_size room report_room (record { number = 11; place = q; size = 0; report_size = 0 })
   unfolding written_both
   file_short e h = record { is = λ m l k. rw (room-file room report_room m (omega (arith, l)), l, e) }
 
-  pub report_short : q ≡ reportSize → size ≤ room → report_room < reportSize → OfSizes size reportSize room report_room (record { number = 11; place = q; size = 0; report_size = 0 })
+  pub report_short : q ≡ report_size → size ≤ room → report_room < report_size → OfSizes size report_size room report_room (record { number = 11; place = q; size = 0; report_size = 0 })
   unfolding written_both
   report_short e h i = record { is = λ m l k. rw (room-report room report_room m (omega (arith, l)) (omega (arith, k)), k, e) }
 
-  pub both-fit : q ≡ size → size ≤ room → reportSize ≤ report_room → (p : ℕ) → p ≡ reportSize → OfSizes size reportSize room report_room (record { number = 0; place = 0; size = q; report_size = p })
+  pub both-fit : q ≡ size → size ≤ room → report_size ≤ report_room → (p : ℕ) → p ≡ report_size → OfSizes size report_size room report_room (record { number = 0; place = 0; size = q; report_size = p })
   unfolding written_both
   both-fit e h i p f = record { is = λ m l k. rw (room-yes room report_room m (omega (arith, l)) (omega (arith, k)), l, k, e, f) }
 

@@ -1,7 +1,7 @@
 // A number of a row is complete: it is judged, and the row goes on or ends.
 ghost use Rattle.std.specs.Prelude.{◌≡◌, ◌+◌, ◌≤◌};
 ghost use Rattle.wire.specs.Bytes.{IsWord};
-ghost use Rattle.b3d_pieces_spec.specs.Bodies.{keep as keepOf};
+ghost use Rattle.b3d_pieces_spec.specs.Bodies.{keep as keep_of};
 ghost use Rattle.b3d_pieces_spec.specs.Machine.{row_done, row_from, word_done, text_done};
 ghost use Rattle.b3d_pieces_spec.specs.Good.{Words};
 ghost use Rattle.b3d_pieces_item_steps.specs.Nows.{Ready, Gives};
@@ -17,7 +17,7 @@ use layout::refusals;
 
 // Returns `k` with number `i` set to `w`; from `i` 3 on nothing is kept.
 pub fn keep(i: usize, w: usize, k: Kept) -> Kept
-    ensures { result ≡ keepOf i w k }
+    ensures { result ≡ keep_of i w k }
 {
     let mut x = k;
     if i == 0 {

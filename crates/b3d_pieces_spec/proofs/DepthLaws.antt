@@ -17,7 +17,7 @@ use Rattle.b3d_spec.specs.declared.Tag.TheVariants.{BB3D, TEXS, BRUS, NODE, MESH
 use Rattle.b3d_spec.specs.Tags.{tag_of}
 use Rattle.b3d_spec.specs.Rules.{levels}
 use Rattle.b3d_spec.specs.Nesting.{nesting, Reached, required_between, end, next}
-use Rattle.b3d_spec.specs.Tables.{start as noCounts}
+use Rattle.b3d_spec.specs.Tables.{start as no_counts}
 use Rattle.b3d_spec.proofs.Files.TagCodeLaws.{by-tag}
 use Rattle.b3d_spec.proofs.Files.EntryLaws.{◌▸◌, EachTag, at_tag}
 use Rattle.b3d_pieces_spec.specs.declared.Totals.{Totals}
@@ -189,7 +189,7 @@ step-good n (fault k p) b v h = tt
 step-good n (over g) b v h = omega arith
 
 pub body-good : (n : ℕ) → Good 8 (body n)
-unfolding body noCounts
+unfolding body no_counts
 body-good n = enter-good 8 nothing (fresh BB3D 0 (8 + n) levels 0) [] ((omega arith, none-words, tt), omega arith) false
 
 -- ---- what is held between two pieces

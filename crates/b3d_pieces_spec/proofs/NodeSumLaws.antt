@@ -26,7 +26,7 @@ use Rattle.b3d_pieces_spec.proofs.RunLaws.{eqb_no, eqb_yes}
 use Rattle.b3d_pieces_spec.proofs.CountLaws.{anim_out, chunks_out, in_node, node_out}
 use Rattle.b3d_pieces_spec.proofs.SumLaws.{sets_totals, mesh_totals, kind_totals, keys_totals, anim_totals, node_totals, forest_totals, bone-out, keys-out}
 use Rattle.b3d_pieces_spec.proofs.MeshSumLaws.{cons-out, through, mesh-out}
-use Rattle.b3d_pieces_spec.proofs.PhaseLaws.{onlyNodes, moving, kinded, Only, by_phase, in-node}
+use Rattle.b3d_pieces_spec.proofs.PhaseLaws.{only_nodes, moving, kinded, Only, by_phase, in-node}
 
 -- ---- what a node's chunks leave as it is
 
@@ -177,7 +177,7 @@ module _ (nodes : Totals → ℕ → List ℕ → Result Totals) where
 
   -- E: what follows the chunks
   moves_out : (E : Totals → Result Totals) (cs : Chunks) → Only moving cs → (seen : Anim) (g : Totals) (K : Found Animation → Result Totals)
-      → ((m : Found Animation) → Only onlyNodes m.rest → (count m.rest (anim_totals m.value.anim (keys_totals m.value.keys g)) >>= E) ≡ K m)
+      → ((m : Found Animation) → Only only_nodes m.rest → (count m.rest (anim_totals m.value.anim (keys_totals m.value.keys g)) >>= E) ≡ K m)
       → (count cs (anim_totals seen g) >>= E) ≡ (read_animation seen cs >>= K)
   unfolding chunks_out read_animation if with_keys anim_out
   moves_out E done h seen g K k = k (record { value = record { keys = []; anim = seen }; rest = done }) tt
@@ -210,12 +210,12 @@ module _ (nodes : Totals → ℕ → List ℕ → Result Totals) where
   -- nodes that are read by `one` as they are counted
   module _ (brushes n : ℕ) (one : ℕ → List ℕ → Result Inner)
       (alike : (g : Totals) → Told brushes (some n) g → (p : ℕ) (b : List ℕ) → nodes g p b ≡ (one p b >>= λ x. accept (closed NODE 0 none_kept g.below (forest_totals x.below (node_totals x.self g))))) where
-    nodes-out : (cs : Chunks) → Only onlyNodes cs → (g : Totals) → Told brushes (some n) g → count cs g ≡ (read_nodes one cs >>= λ f. accept (forest_totals f g))
+    nodes-out : (cs : Chunks) → Only only_nodes cs → (g : Totals) → Told brushes (some n) g → count cs g ≡ (read_nodes one cs >>= λ f. accept (forest_totals f g))
     unfolding chunks_out read_nodes
     nodes-out done h g t = refl
     nodes-out (stop m p) h g t = refl
     nodes-out (chunk k p b r) h g t =
-        by_phase onlyNodes (λ u. count (chunk u p b r) g ≡ (read_nodes one (chunk u p b r) >>= λ f. accept (forest_totals f g))) r
+        by_phase only_nodes (λ u. count (chunk u p b r) g ≡ (read_nodes one (chunk u p b r) >>= λ f. accept (forest_totals f g))) r
         ((λ h. ap (λ (o : Result Totals). o >>= λ x. count r x) (alike g t p b)
         ∙ cons-out (one p b) (λ x. closed NODE 0 none_kept g.below (forest_totals x.below (node_totals x.self g))) (count r) (λ x. read_nodes one r) (λ x l. node x.self x.below l) (λ f. forest_totals f g)
         (λ x. nodes-out r h (closed NODE 0 none_kept g.below (forest_totals x.below (node_totals x.self g))) (whole-told brushes n x.self x.below g t))) ▸ tt) k h
@@ -228,7 +228,7 @@ Alike l = (brushes : ℕ) (above : Option ℕ) (g : Totals) → Told brushes abo
     → node_out l g p b ≡ (read_node Strict l brushes above p b >>= λ x. accept (closed NODE 0 none_kept g.below (forest_totals x.below (node_totals x.self g))))
 
 -- the nodes below a node
-below_out : (l : ℕ) → Alike l → (brushes : ℕ) (above : Option ℕ) (g : Totals) → Told brushes above g → (d : Data) (cs : Chunks) → Only onlyNodes cs
+below_out : (l : ℕ) → Alike l → (brushes : ℕ) (above : Option ℕ) (g : Totals) → Told brushes above g → (d : Data) (cs : Chunks) → Only only_nodes cs
     → (chunks_out (in_node (node_out l)) cs (node_totals d g) >>= λ x. accept (closed NODE 0 none_kept g.below x))
     ≡ (read_below (read_node Strict l brushes) above d cs >>= λ x. accept (closed NODE 0 none_kept g.below (forest_totals x.below (node_totals x.self g))))
 unfolding read_below

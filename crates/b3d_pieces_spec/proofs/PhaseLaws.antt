@@ -15,13 +15,13 @@ use Rattle.b3d_spec.proofs.Files.EntryLaws.{◌▸◌, same_tag, Either, Each, a
 -- In a NODE: nodes only; before them KEYS and ANIM; before those a MESH or a BONE.
 -- In a BB3D: nothing; before that a NODE; before that a BRUS; before that a TEXS.
 pub data Phase : Type 0 where
-  onlyNodes moving kinded empty rooted brushed textured : Phase
+  only_nodes moving kinded empty rooted brushed textured : Phase
 
 -- the tags that may come next, each with the phase after it
 abbrev allowed : Phase → List (Tag × Phase)
-allowed onlyNodes = (NODE, onlyNodes) ∷ []
-allowed moving = (KEYS, moving) ∷ (ANIM, moving) ∷ (NODE, onlyNodes) ∷ []
-allowed kinded = (MESH, moving) ∷ (BONE, moving) ∷ (KEYS, moving) ∷ (ANIM, moving) ∷ (NODE, onlyNodes) ∷ []
+allowed only_nodes = (NODE, only_nodes) ∷ []
+allowed moving = (KEYS, moving) ∷ (ANIM, moving) ∷ (NODE, only_nodes) ∷ []
+allowed kinded = (MESH, moving) ∷ (BONE, moving) ∷ (KEYS, moving) ∷ (ANIM, moving) ∷ (NODE, only_nodes) ∷ []
 allowed empty = []
 allowed rooted = (NODE, empty) ∷ []
 allowed brushed = (BRUS, rooted) ∷ (NODE, empty) ∷ []
@@ -58,7 +58,7 @@ by_phase h P r f t x = answer (allowed h) P r f t x
 
 -- how far the rule has come in each phase, inside a chunk of this tag
 data At : Tag → Phase → Reached → Type 0 where
-  nodes_at : At NODE onlyNodes (reached_at 3 false)
+  nodes_at : At NODE only_nodes (reached_at 3 false)
   first_at : At NODE moving (reached_at 1 true)
   moving_at : (x : Bool) → At NODE moving (reached_at 2 x)
   kinded-at : At NODE kinded start

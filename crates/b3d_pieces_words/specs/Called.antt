@@ -8,7 +8,7 @@ use Rattle.b3d_spec.specs.declared.Answer.{Answer}
 use Rattle.b3d_spec.specs.declared.Mode.TheVariants.{Strict}
 use Rattle.b3d_spec.specs.Answers.{read_answer}
 use Rattle.b3d_pieces_spec.specs.Close.{nothing, fresh_held, closing}
-use Rattle.b3d_pieces_spec.specs.Calls.{Pieces, taken, records as lentRecords}
+use Rattle.b3d_pieces_spec.specs.Calls.{Pieces, taken, records as lent_records}
 use Rattle.b3d_pieces_spec.specs.InPieces.{Ample}
 use Rattle.b3d_pieces_item_steps.specs.declared.Now.TheVariants.{Over}
 use Rattle.b3d_pieces_step.specs.Turns.{pends}
@@ -64,14 +64,14 @@ pub record RefusedAt {S R : Type 0} (n p : ℕ) (st : S) (row : R) (said at : �
 -- the promise of a piece s with the state st and the row: `said` and `at` are its number and place, `next` and `after` the state and the row after it
 pub record PieceIs {S R : Type 0} (h : Holding S R) (st : S) (row : R) (s : List ℕ) (said at : ℕ) (next : S) (after : R) : Type 0 where
   -- fewer than 19 records: 11 with size 19
-  pub short : h.count row < lentRecords → RefusedAt refusals.too_short lentRecords st row said at next after
+  pub short : h.count row < lent_records → RefusedAt refusals.too_short lent_records st row said at next after
   -- after the close: 15 at place 0
-  pub shut : lentRecords ≤ h.count row → (h.judge st).shut ≡ true → RefusedAt refusals.closed 0 st row said at next after
+  pub shut : lent_records ≤ h.count row → (h.judge st).shut ≡ true → RefusedAt refusals.closed 0 st row said at next after
   -- a state and a row as calls leave them: the piece is taken, and what is held is what the machine holds after its bytes
-  pub taken : lentRecords ≤ h.count row → (h.judge st).shut ≡ false → CanRun (h.judge st) (h.count row) (h.at row)
+  pub taken : lent_records ≤ h.count row → (h.judge st).shut ≡ false → CanRun (h.judge st) (h.count row) (h.at row)
       → (said ≡ 0) × (at ≡ 0) × RunIs (h.judge st) (h.at row) s (h.judge next) (h.count after) (h.at after)
   -- another state or row: 15 at place 0
-  pub other : lentRecords ≤ h.count row → (h.judge st).shut ≡ false → (CanRun (h.judge st) (h.count row) (h.at row) → ⊥)
+  pub other : lent_records ≤ h.count row → (h.judge st).shut ≡ false → (CanRun (h.judge st) (h.count row) (h.at row) → ⊥)
       → RefusedAt refusals.closed 0 st row said at next after
 
 -- what the judge holds, j, after the close
@@ -88,14 +88,14 @@ pub record NotClosed {S : Type 0} (n p : ℕ) (st : S) (a : Answer) (next : S) :
 -- the promise of the close with the state st and the row, which is only read: a is its answer, `next` the state after it
 pub record CloseIs {S R : Type 0} (h : Holding S R) (st : S) (row : R) (a : Answer) (next : S) : Type 0 where
   -- fewer than 19 records: 11 with size 19
-  pub short : h.count row < lentRecords → NotClosed refusals.too_short lentRecords st a next
+  pub short : h.count row < lent_records → NotClosed refusals.too_short lent_records st a next
   -- after the close: 15 at place 0
-  pub shut : lentRecords ≤ h.count row → (h.judge st).shut ≡ true → NotClosed refusals.closed 0 st a next
+  pub shut : lent_records ≤ h.count row → (h.judge st).shut ≡ true → NotClosed refusals.closed 0 st a next
   -- a state and a row as calls leave them: a is what all bytes joined come to, and the file is closed
-  pub taken : lentRecords ≤ h.count row → (h.judge st).shut ≡ false → CanRun (h.judge st) (h.count row) (h.at row)
+  pub taken : lent_records ≤ h.count row → (h.judge st).shut ≡ false → CanRun (h.judge st) (h.count row) (h.at row)
       → (a ≡ word_answer (answer_by (closing_of (closing (held_of (h.judge st) (h.at row)))))) × (h.judge next ≡ shutting (h.judge st))
   -- another state or row: 15 at place 0
-  pub other : lentRecords ≤ h.count row → (h.judge st).shut ≡ false → (CanRun (h.judge st) (h.count row) (h.at row) → ⊥)
+  pub other : lent_records ≤ h.count row → (h.judge st).shut ≡ false → (CanRun (h.judge st) (h.count row) (h.at row) → ⊥)
       → NotClosed refusals.closed 0 st a next
 
 -- calls of pieces one after the other, each with state and row as the last left them
@@ -106,7 +106,7 @@ pub data Called {S R : Type 0} (h : Holding S R) : S → R → List (ℕ × List
   call : {st st' : S} {row row' : R} {l : List (ℕ × List ℕ)} (s : List ℕ) (said at : ℕ) (next : S) (after : R) → PieceIs h st row s said at next after
       → Called h next after l st' row' → Called h st row ((h.count row, s) ∷ l) st' row'
   -- a call that is lent another row of fewer than 19 records; the next call gets the row as it was
-  short : {st st' : S} {row row' : R} {l : List (ℕ × List ℕ)} (few : R) (s : List ℕ) (said at : ℕ) (next : S) (after : R) → h.count few < lentRecords
+  short : {st st' : S} {row row' : R} {l : List (ℕ × List ℕ)} (few : R) (s : List ℕ) (said at : ℕ) (next : S) (after : R) → h.count few < lent_records
       → PieceIs h st few s said at next after → Called h next row l st' row'
       → Called h st row ((h.count few, s) ∷ l) st' row'
 
@@ -114,6 +114,6 @@ pub data Called {S R : Type 0} (h : Holding S R) : S → R → List (ℕ × List
 pub record JudgedInCalls {S R : Type 0} (h : Holding S R) : Type 0 where
   -- from a fresh state and any row of 19 records, after any calls of pieces, the close answers what the reader, lent ample tables, says of all bytes that
   -- were taken, joined
-  pub says : (st st' : S) (row row' : R) (l : List (ℕ × List ℕ)) (a : Answer) (next : S) → Fresh (h.judge st) → lentRecords ≤ h.count row
+  pub says : (st st' : S) (row row' : R) (l : List (ℕ × List ℕ)) (a : Answer) (next : S) → Fresh (h.judge st) → lent_records ≤ h.count row
       → Called h st row l st' row' → CloseIs h st' row' a next
       → AllBytes (taken l) → (room : ℕ → ℕ) → Ample room → a ≡ read_answer Strict room (taken l)

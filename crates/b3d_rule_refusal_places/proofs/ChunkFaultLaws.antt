@@ -12,7 +12,7 @@ use lib.Dec.{leb}
 use borrow.Author.Tests.{leb-true, leb-false}
 use Rattle.wire.specs.Bytes.{word, word_at}
 use Rattle.wire.specs.Test.{if}
-use Rattle.layout.specs.Chunks.{done, stop, chunk, keep, split_in, split as splitOf}
+use Rattle.layout.specs.Chunks.{done, stop, chunk, keep, split_in, split as split_of}
 use Rattle.layout.proofs.HeldLaws.{word_in}
 use Rattle.layout.proofs.PlaceLaws.{At, at-four, at-eight, at_take, at_drop}
 use Rattle.b3d_spec.specs.declared.Mode.{Mode}
@@ -198,5 +198,5 @@ module _ (mode : Mode) (s : List ℕ) where
         r (leb n (length t)) refl
 
     pub tie_inside : (h last : ℕ) (b : List ℕ) → At s h b → h + length b ≡ last → head + 8 ≤ h → Tie (From k head h last start) last (inside k head h b)
-    unfolding inside splitOf
+    unfolding inside split_of
     tie_inside h last b at e w = tie_chunks (length b) h last b at e (omega arith) w start

@@ -10,7 +10,7 @@ use lib.Seq.{length-take-le}
 use lib.Dec.{T, leb, eqb, leb→le}
 use Rattle.wire.specs.Test.{if}
 use Rattle.wire.specs.Bytes.{word}
-use Rattle.layout.specs.Chunks.{done, stop, chunk, keep, split_in, split as splitOf, ended}
+use Rattle.layout.specs.Chunks.{done, stop, chunk, keep, split_in, split as split_of, ended}
 use Rattle.layout.specs.Result.{Result, accept, reject, check, ◌>>=◌}
 use Rattle.layout.specs.Parts.{Step, row, number, named}
 use Rattle.layout.specs.Rules.{Rule, refusal}
@@ -107,7 +107,7 @@ order-low k head r (stop n p) g h = h
 order-low k head r (chunk t p b l) g h = onward-low (next (nesting k) (nesting k) r t) p _ (omega (arith, h.0)) (λ q. (h.0, order-low k head q l g h.1))
 
 inside-low : (k : Tag) (head p : ℕ) (s : List ℕ) → head ≤ most_bytes → p + length s ≤ most_bytes → LowC (inside k head p s)
-unfolding inside splitOf
+unfolding inside split_of
 inside-low k head p s g h = order-low k head start (split p s) g (split_in_low (length s) p s h)
 
 ended-low : {A : Type 0} (cs : Chunks) (a : A) → LowC cs → Low Any (ended cs a)

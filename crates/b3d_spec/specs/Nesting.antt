@@ -11,7 +11,7 @@ use Rattle.b3d_spec.specs.Tags.{is, Chunks, split}
 
 -- how often chunks of a tag may stand inside a chunk
 pub data Often : Type 0 where
-  atMostOnce once anyNumber atLeastOnce : Often
+  at_most_once once any_number at_least_once : Often
 
 -- a tag, the turn at which it may stand, and how often. Tags of one turn mix freely, but only one chunk of a turn has a tag that may not be repeated.
 pub data Entry : Type 0 where
@@ -19,11 +19,11 @@ pub data Entry : Type 0 where
 
 -- the table (01, chunks; E5): the tags that may stand inside a chunk of each tag
 abbrev pub nesting : Tag → List Entry
-nesting BB3D = entry TEXS 1 atMostOnce ∷ entry BRUS 2 atMostOnce ∷ entry NODE 3 atMostOnce ∷ []
+nesting BB3D = entry TEXS 1 at_most_once ∷ entry BRUS 2 at_most_once ∷ entry NODE 3 at_most_once ∷ []
 nesting TEXS = []
 nesting BRUS = []
-nesting NODE = entry MESH 1 atMostOnce ∷ entry BONE 1 atMostOnce ∷ entry KEYS 2 anyNumber ∷ entry ANIM 2 atMostOnce ∷ entry NODE 3 anyNumber ∷ []
-nesting MESH = entry VRTS 1 once ∷ entry TRIS 2 atLeastOnce ∷ []
+nesting NODE = entry MESH 1 at_most_once ∷ entry BONE 1 at_most_once ∷ entry KEYS 2 any_number ∷ entry ANIM 2 at_most_once ∷ entry NODE 3 any_number ∷ []
+nesting MESH = entry VRTS 1 once ∷ entry TRIS 2 at_least_once ∷ []
 nesting VRTS = []
 nesting TRIS = []
 nesting BONE = []
@@ -32,17 +32,17 @@ nesting ANIM = []
 
 -- more than one chunk may stand
 abbrev pub repeats : Often → Bool
-repeats atMostOnce = false
+repeats at_most_once = false
 repeats once = false
-repeats anyNumber = true
-repeats atLeastOnce = true
+repeats any_number = true
+repeats at_least_once = true
 
 -- at least one chunk must stand
 abbrev pub needed : Often → Bool
-needed atMostOnce = false
+needed at_most_once = false
 needed once = true
-needed anyNumber = false
-needed atLeastOnce = true
+needed any_number = false
+needed at_least_once = true
 
 -- how far the chunks read so far have come: the turn of the last, and whether a tag that may not be repeated stood at it
 pub record Reached : Type 0 where

@@ -4,8 +4,8 @@ use Rattle.std.proofs.Math.Option.{Option, none, some}
 use Rattle.wire.specs.Test.{if}
 use Rattle.b3d_spec.specs.declared.Tag.{Tag}
 use Rattle.b3d_spec.specs.declared.Tag.TheVariants.{BB3D, TEXS, BRUS, NODE, MESH, VRTS, TRIS, BONE, KEYS, ANIM}
-use Rattle.layout.specs.Chunks.{Chunks as ChunksOf, Found as FoundOf, split as splitOf}
-use Rattle.layout.specs.Write.{Chunk as ChunkOf, write_chunk as writeChunkOf, write_chunks as writeChunksOf}
+use Rattle.layout.specs.Chunks.{Chunks as ChunksOf, Found as FoundOf, split as split_of}
+use Rattle.layout.specs.Write.{Chunk as ChunkOf, write_chunk as write_chunk_of, write_chunks as write_chunks_of}
 
 -- the four letters of a tag as a number, the first one lowest
 abbrev pub code : Tag → ℕ
@@ -63,7 +63,7 @@ Found A = FoundOf Tag A
 
 -- the chunks of the bytes s from place p on; a chunk of another tag is passed over
 abbrev pub split : ℕ → List ℕ → Chunks
-split p s = splitOf tag_of p s
+split p s = split_of tag_of p s
 
 -- a chunk of one of these tags, to be written
 abbrev pub Chunk : Type 0
@@ -71,8 +71,8 @@ Chunk = ChunkOf Tag
 
 -- a chunk of tag t with body b before r: tag, length, body
 abbrev pub write_chunk : Tag → List ℕ → List ℕ → List ℕ
-write_chunk t b r = writeChunkOf code t b r
+write_chunk t b r = write_chunk_of code t b r
 
 -- the chunks of the list one after the other
 abbrev pub write_chunks : List Chunk → List ℕ
-write_chunks l = writeChunksOf code l
+write_chunks l = write_chunks_of code l

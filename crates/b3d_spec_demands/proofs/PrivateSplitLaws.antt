@@ -11,7 +11,7 @@ use lib.Dec.{leb}
 use Rattle.wire.specs.Bytes.{word, bytes, IsWord}
 use Rattle.wire.specs.Test.{if}
 use Rattle.wire.proofs.WordLaws.{word_bytes}
-use Rattle.layout.specs.Chunks.{done, stop, chunk as chunk_of, keep, split_in, split as splitOf}
+use Rattle.layout.specs.Chunks.{done, stop, chunk as chunk_of, keep, split_in, split as split_of}
 use Rattle.layout.proofs.ChunkLaws.{split-chunk, split_unknown}
 use Rattle.layout.proofs.PartLaws.{length-text}
 use Rattle.b3d_spec.specs.declared.Tag.{Tag}
@@ -83,7 +83,7 @@ in_twice k (suc f) p q (a ∷ b ∷ c ∷ d ∷ e ∷ g ∷ j ∷ i ∷ s) h =
     (in_twice k f (p + 8 + n) (q + 8 + n) (drop n s) (omega (arith, length-drop n s))))
 
 split_twice : (k : Tag) (p q : ℕ) (s : List ℕ) → Short s → Rel k (split p s) (split q s)
-unfolding splitOf
+unfolding split_of
 split_twice k p q s h = in_twice k (length s) p q s h
 
 split-written : (p : ℕ) (t : Tag) (b r : List ℕ) → Short b → split p (write_chunk t b r) ≡ chunk_of t p b (split (p + 8 + length b) r)

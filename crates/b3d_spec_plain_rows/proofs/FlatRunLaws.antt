@@ -10,7 +10,7 @@ use lib.Seq.{drop-drop, get_or-drop, take-append-le, drop-append-le}
 use lib.Dec.{T, leb, leb→le, le→leb, nleb→lt}
 use Rattle.wire.specs.Test.{if}
 use Rattle.wire.specs.Bytes.{word, word_at}
-use Rattle.layout.specs.Chunks.{done, stop, chunk, keep, split_in, split as splitOf}
+use Rattle.layout.specs.Chunks.{done, stop, chunk, keep, split_in, split as split_of}
 use Rattle.layout.specs.Result.{Result, accept, reject}
 use Rattle.layout.specs.Parts.{Name, Step, named}
 use Rattle.layout.proofs.ChunkLaws.{split_step, split-none}
@@ -90,7 +90,7 @@ module _ (s : List ℕ) (e : ℕ) where
         (λ t. rw (split_step tag_of p a b c f g i j l x, if_no (leb n (length x)) (keep o p (take n x) (split q (drop n x))) (stop 3 p) t) tt)
 
     laid_in : (m p : ℕ) (b : List ℕ) → length b ≤ m → drop p s ≡ b ++ drop e s → e ≡ p + length b → Laid s e p (split p b)
-    unfolding splitOf split_in
+    unfolding split_of split_in
     laid_in zero p [] h d k = let z : p ≡ e = omega arith in ap (rest s) z
     laid_in zero p (a ∷ x) h d k = absurd (omega arith)
     laid_in (suc m) p [] h d k = let z : p ≡ e = omega arith in ap (rest s) z

@@ -7,7 +7,7 @@ use mathlib.Core.List.{List, []}
 use lib.ListN.{length}
 use Rattle.wire.specs.Test.{if}
 use Rattle.layout.specs.Rules.{NONE}
-use Rattle.layout.specs.Write.{write_chunks as writeChunksOf}
+use Rattle.layout.specs.Write.{write_chunks as write_chunks_of}
 use Rattle.shared_output.specs.Writing.{Room, Put}
 use Rattle.shared_output.proofs.PartLaws.{none-put}
 use Rattle.b3d_spec.specs.declared.Counts.{Counts}
@@ -41,7 +41,7 @@ module _ (ns : List ℕ) (a : Counts) (t₃ t₄ t₅ t₆ t₇ t₈ t₉ t₁�
 
   -- without a node row there is no node
   no-root : a.nodes ≡ 0 → (f : Forest) → OfNodes ns R b f → nodes_bytes f ≡ []
-  unfolding nodes_bytes node_chunks writeChunksOf
+  unfolding nodes_bytes node_chunks write_chunks_of
   no-root e no_nodes h = refl
   no-root e (node d ch no_nodes) h = absurd (omega (arith, many-nodes (node d ch no_nodes) h, root-rows d ch))
   no-root e (node d ch (node c g i)) h = absurd h.root

@@ -1,7 +1,7 @@
 -- The bytes of nodes by their parts: a head and a body, what is a node's own and the nodes below, a node and those after it.
 use mathlib.Core.Path.{◌≡◌}
 use mathlib.Core.List.{[], ◌++◌}
-use Rattle.layout.specs.Write.{write_chunks as writeChunksOf}
+use Rattle.layout.specs.Write.{write_chunks as write_chunks_of}
 use Rattle.shared_output.specs.Writing.{chunk}
 use Rattle.shared_output.proofs.AppendLaws.{chunks-cons}
 use Rattle.shared_output.proofs.PartLaws.{chunk-is}
@@ -21,7 +21,7 @@ body-both d ch = node-append d (node_chunks ch)
 
 -- the chunk of a node
 pub node-chunk : (d : Data) (ch : Forest) → node_bytes d ch ≡ chunk (code NODE) [] (body_bytes d ch)
-unfolding node_bytes nodes_bytes body_bytes node_chunks writeChunksOf
+unfolding node_bytes nodes_bytes body_bytes node_chunks write_chunks_of
 node-chunk d ch = chunk-is code NODE [] (write_node d (node_chunks ch))
 
 -- the first node, then the others

@@ -14,7 +14,7 @@ use Rattle.b3d_spec.specs.Encode.{node_chunks}
 use Rattle.b3d_spec.specs.Rebuild.{Rows}
 use Rattle.b3d_spec.specs.Scene.{Data, Forest, no_nodes, node}
 use Rattle.b3d_spec.specs.Tables.{with_node, with_forest, node_width}
-use Rattle.layout.specs.Write.{write_chunks as writeChunksOf}
+use Rattle.layout.specs.Write.{write_chunks as write_chunks_of}
 use Rattle.b3d_spec.proofs.Rows.NodeRowLaws.{nodes-step}
 use Rattle.b3d_spec.proofs.Rows.TreeLaws.{nodes_rise}
 use Rattle.b3d_spec.proofs.Rows.RowListLaws.{cut-length}
@@ -28,7 +28,7 @@ use Rattle.b3d_write_nodes.proofs.StandingLaws.{stand-first, stand-others, first
 use Rattle.b3d_write_nodes.proofs.TableLaws.{first_of, below_all, rows_3}
 
 no-nodes : nodes_bytes no_nodes ≡ []
-unfolding nodes_bytes node_chunks writeChunksOf
+unfolding nodes_bytes node_chunks write_chunks_of
 no-nodes = refl
 
 -- of the nodes f that stand at the start, those left at m

@@ -1,6 +1,7 @@
 // The C functions that read, which terminals call: judge and read a B3D file, read a slip, read a tray label. `rust/build-lib` makes the archive,
 // include/kelompuris.h declares them. A slice is a pointer and a number of elements. Each promises what the function that it calls does, for every input.
 #![tactic(auto)]
+
 ghost use Rattle.std.specs.Prelude.{◌≡◌, [], ◌∷◌, ◌+◌, ◌≤◌, length};
 ghost use Rattle.b3d_spec.specs.Answers.{judge, answer};
 ghost use Rattle.b3d_read.specs.Reads.{Reads};

@@ -1,6 +1,7 @@
 // The C functions for cal3d skeletons and meshes, which terminals call. `rust/build-lib` puts them into the one archive, include/kelompuris.h declares them.
 // A slice is a pointer and a number of elements. Each promises what the function that it calls does, for every input.
 #![tactic(auto)]
+
 ghost use Rattle.std.specs.Prelude.{◌≡◌};
 ghost use Rattle.cal3d_spec.specs.Answers.{judge_skeleton, skeleton_answer, judge_mesh, mesh_answer};
 ghost use Rattle.cal3d_skeleton.specs.Skeletons.{ReadsSkeleton};

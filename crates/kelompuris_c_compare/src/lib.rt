@@ -1,6 +1,7 @@
 // What terminals call to compare two files, as a C function. `rust/build-lib` puts it beside those of kelompuris_c into the one archive,
 // include/kelompuris.h declares it. It promises what `b3d_compare::compare` does, for every input.
 #![tactic(auto)]
+
 ghost use Rattle.std.specs.Prelude.{◌≡◌};
 ghost use Rattle.b3d_compare_spec.specs.Compare.{compare_answer, compare_output};
 

@@ -1,6 +1,7 @@
 // What terminals call to mend a file, as a C function. `rust/build-lib` puts it beside those of kelompuris_c into the one archive, include/kelompuris.h
 // declares it. It promises what the function that it calls does, for every input.
 #![tactic(auto)]
+
 ghost use Rattle.std.specs.Prelude.{◌≡◌};
 ghost use Rattle.b3d_mend_spec.specs.Answers.{mend_answer, mend_output, mend_report};
 

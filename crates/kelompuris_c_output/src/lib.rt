@@ -2,6 +2,7 @@
 // those of kelompuris_c into the one archive, include/kelompuris.h declares them. Each promises what the function that it calls does, for every input. The
 // output past the size written stays as found; on a refusal all of it does.
 #![tactic(auto)]
+
 ghost use Rattle.std.specs.Prelude.{◌≡◌};
 ghost use Rattle.b3d_spec.specs.Answers.{clear_answer, clear_output};
 ghost use Rattle.b3d_check.specs.Lent.{lent_of};

@@ -5,7 +5,7 @@ use mathlib.Core.Option.{Option, none}
 use mathlib.Core.List.{List, [], ◌∷◌, ◌++◌}
 use lib.ListN.{length}
 use Rattle.wire.specs.Bytes.{AllBytes, bytes}
-use Rattle.layout.specs.Write.{write_words, write_text, write_items, write_chunks as writeChunksOf}
+use Rattle.layout.specs.Write.{write_words, write_text, write_items, write_chunks as write_chunks_of}
 use Rattle.layout.proofs.WellFormedLaws.{FitText}
 use Rattle.layout.proofs.AllLaws.{All}
 use Rattle.b3d_spec.specs.Encode.{write_texture, write_brush, write_vertices, write_triangles, set_chunks, write_mesh, write_keys, kind_chunks, key_chunks, anim_chunks, write_node, node_chunks, texture_chunks, brush_chunks, write_scene, encode}
@@ -42,7 +42,7 @@ abbrev Bodies : List Chunk → Type 0
 Bodies l = All (λ (c : Chunk). Good c.body) l
 
 chunks-bytes : (l : List Chunk) → Bodies l → Good (write_chunks l)
-unfolding writeChunksOf
+unfolding write_chunks_of
 chunks-bytes [] h = record { ok = tt }
 chunks-bytes (c ∷ l) h =
     let b = c.body in

@@ -13,7 +13,7 @@ use Rattle.wire.specs.Test.{if}
 use Rattle.layout.specs.Chunks.{done, stop, chunk, ended}
 use Rattle.layout.specs.Result.{Result, accept}
 use Rattle.layout.specs.Parts.{row}
-use Rattle.layout.specs.Write.{write_words, write_items, write_chunks as writeChunksOf}
+use Rattle.layout.specs.Write.{write_words, write_items, write_chunks as write_chunks_of}
 use Rattle.layout.proofs.ChunkLaws.{length-chunk, lay, Of, ended-fine}
 use Rattle.layout.proofs.WellFormedLaws.{Fits}
 use Rattle.layout.proofs.AllLaws.{All}
@@ -97,7 +97,7 @@ root-of brushes d f p x =
     (node x.inner.self x.inner.below no_nodes, rw x.is_got, cc (x.self, x.below))
 
 one-root : (brushes : ℕ) (f : Forest) → FitNodes levels brushes none f → OneRoot f → length (write_chunks (node_chunks f)) < 4294967296 → (p : ℕ) → RootBack brushes f p
-unfolding read_one node_chunks writeChunksOf
+unfolding read_one node_chunks write_chunks_of
 one-root brushes no_nodes h o n p = (no_nodes, refl, refl)
 one-root brushes (node d f no_nodes) h o n p =
     let lc = length-chunk code NODE (write_node d (node_chunks f)) (write_chunks (node_chunks no_nodes)) in
@@ -117,7 +117,7 @@ not_brus no_nodes = tt
 not_brus (node d f g) = tt
 
 nodes-short : (n : ℕ) (ts : List Texture) (bs : List Brush) (l : List Chunk) → length (write_chunks l) ≤ length (write_chunks (texture_chunks ts (brush_chunks n bs l)))
-unfolding writeChunksOf
+unfolding write_chunks_of
 nodes-short n [] [] l = omega arith
 nodes-short n (t ∷ ts) [] l = omega (arith, length-chunk code TEXS (write_items write_texture (t ∷ ts)) (write_chunks l))
 nodes-short n [] (b ∷ bs) l = omega (arith, length-chunk code BRUS (write_words (n ∷ []) (write_items write_brush (b ∷ bs))) (write_chunks l))
@@ -204,7 +204,7 @@ module _ {A : Type 0} (Ok : A → Type 0) (put : A → List Chunk → List Chunk
       (λ u e₁. subst (FineS Ok put n) (got_inj e₁) (record { ok = ok-none; size = n; of = h; short = λ l. rw (put-none l) (omega arith) }))
 
 texture-chunks : (l : List Texture) (r : List Chunk) → length (write_chunks (texture_chunks l r)) ≤ 8 + length (write_items write_texture l) + length (write_chunks r)
-unfolding writeChunksOf
+unfolding write_chunks_of
 texture-chunks [] r = omega arith
 texture-chunks (t ∷ l) r = omega (arith, length-chunk code TEXS (write_items write_texture (t ∷ l)) (write_chunks r))
 
@@ -225,7 +225,7 @@ put_brushes x l = brush_chunks (Slots x) x.1 l
 
 brushes_ok : (textures m n : ℕ) (l : List Brush) → BrushesOK textures m (n, l)
     → FitBrushes textures (n, l) × ((r : List Chunk) → length (write_chunks (put_brushes (n, l) r)) ≤ 8 + m + length (write_chunks r))
-unfolding slots_of writeChunksOf
+unfolding slots_of write_chunks_of
 brushes_ok textures m n [] h = ((refl, tt), λ r. omega arith)
 brushes_ok textures m n (b ∷ l) h = ((h.0, h.1), λ r. omega (arith, h.2, length-chunk code BRUS (write_words (n ∷ []) (write_items write_brush (b ∷ l))) (write_chunks r)))
 
@@ -251,7 +251,7 @@ root-chunks (node d f (node e g h)) o = absurd o
 
 root_ok : (brushes m : ℕ) (x : Inner) → NodeOK levels brushes none m x
     → FitRoot brushes (node x.self x.below no_nodes) × ((l : List Chunk) → length (write_chunks (put_root (node x.self x.below no_nodes) l)) ≤ 8 + m + length (write_chunks l))
-unfolding writeChunksOf
+unfolding write_chunks_of
 root_ok brushes m x h =
     (((h.0, h.1, tt), tt), λ l. omega (arith, h.2, length-chunk code NODE (write_node x.self (node_chunks x.below)) (write_chunks l)))
 
@@ -267,7 +267,7 @@ abbrev SceneOK : ℕ → Scene → Type 0
 SceneOK n t = WellFormed t × (length (write_scene t) ≤ n)
 
 body-fine : (p : ℕ) (s : List ℕ) (t : Scene) → AllBytes s → read_body Lenient p s ≡ accept t → SceneOK (length s) t
-unfolding read_body write_scene writeChunksOf
+unfolding read_body write_scene write_chunks_of
 body-fine p s t h e =
     by_got (row file_head p s) _ e (λ v ev e₁. let f = row_fine file_head p s v h ev in
     let one = head-one version v.value f.ok in

@@ -14,7 +14,7 @@ use Rattle.layout.specs.Chunks.{done, stop, chunk}
 use Rattle.layout.specs.Result.{accept, reject}
 use Rattle.layout.specs.Parts.{Step, row, named, items, words_of}
 use Rattle.layout.specs.Rules.{Rule, any}
-use Rattle.layout.specs.Write.{write_words, write_items, write_chunks as writeChunksOf}
+use Rattle.layout.specs.Write.{write_words, write_items, write_chunks as write_chunks_of}
 use Rattle.layout.proofs.ChunkLaws.{length-chunk, lay, Of, split-fine}
 use Rattle.layout.proofs.WellFormedLaws.{Fits}
 use Rattle.layout.proofs.AllLaws.{All}
@@ -294,7 +294,7 @@ module _ (brushes n : ℕ) where
   SetsOK size l = All (FitTriangles brushes n) l × (length (write_chunks (set_chunks l)) ≤ size)
 
   sets-fine : (size : ℕ) (cs : Chunks) (l : List TriangleSet) → Of size cs → read_sets brushes n cs ≡ accept l → SetsOK size l
-  unfolding read_sets writeChunksOf
+  unfolding read_sets write_chunks_of
   sets-fine size done l h e = subst (SetsOK size) (got_inj e) (tt, omega arith)
   sets-fine size (stop i p) l h e = bad_got e
   sets-fine size (chunk t p b r) l h e =
@@ -337,7 +337,7 @@ module _ (brushes : ℕ) where
   MeshOK n m = FitMesh brushes m × (length (write_mesh m) ≤ n)
 
   pub mesh-fine : (p : ℕ) (s : List ℕ) (m : Mesh) → AllBytes s → read_mesh Lenient brushes p s ≡ accept m → MeshOK (length s) m
-  unfolding read_mesh write_mesh writeChunksOf write_vertices inside
+  unfolding read_mesh write_mesh write_chunks_of write_vertices inside
   mesh-fine p s m h e =
       by_got (row (mesh_head brushes) (p + 8) s) _ e (λ y ey e₁. let f = row_fine (mesh_head brushes) (p + 8) s y h ey in
       let one = head-one (brush_id brushes) y.value f.ok in

@@ -15,7 +15,7 @@ use Rattle.layout.specs.WellFormed.{all}
 use Rattle.layout.specs.Result.{Result, accept, check, ◌>>=◌}
 use Rattle.layout.specs.Parts.{Name, Step, row, number, named, items}
 use Rattle.layout.specs.Rules.{Rule, any, unit, holds}
-use Rattle.layout.proofs.HeldLaws.{Held, same-held, held-as, first-held, bind_held, then-held, map-held, loose, passes as passesRules, passes-any, passes-unit, Says, row-held, named-held, items-held}
+use Rattle.layout.proofs.HeldLaws.{Held, same-held, held-as, first-held, bind_held, then-held, map-held, loose, passes as passes_rules, passes-any, passes-unit, Says, row-held, named-held, items-held}
 use Rattle.layout.proofs.ResultLaws.{by_got, got_inj}
 use Rattle.layout.proofs.PlaceLaws.{At, Stands, row-at, named-at}
 use Rattle.layout.proofs.TestLaws.{and_assoc, and_true}
@@ -70,12 +70,12 @@ loose_brush n k = ap (λ (l : List Rule). brush_row Lenient ++ l) (loose_ids n k
 
 -- ---- what they leave out, in cells
 
-ids-pass : (n k : ℕ) (ws : List ℕ) → passesRules (brush_ids n k) ws ≡ true
+ids-pass : (n k : ℕ) (ws : List ℕ) → passes_rules (brush_ids n k) ws ≡ true
 ids-pass zero k ws = refl
 ids-pass (suc n) k [] = refl
 ids-pass (suc n) k (w ∷ ws) = ids-pass n k ws
 
-any-pass : (n : ℕ) (ws : List ℕ) → passesRules (replicate n any) ws ≡ true
+any-pass : (n : ℕ) (ws : List ℕ) → passes_rules (replicate n any) ws ≡ true
 any-pass zero ws = refl
 any-pass (suc n) [] = refl
 any-pass (suc n) (w ∷ ws) = any-pass n ws

@@ -8,7 +8,7 @@ use lib.ListN.{length, length-map}
 use Rattle.wire.specs.Bytes.{AllBytes}
 use Rattle.layout.specs.Result.{accept}
 use Rattle.layout.specs.Parts.{Name}
-use Rattle.layout.specs.Write.{write_words, write_items, write_chunks as writeChunksOf}
+use Rattle.layout.specs.Write.{write_words, write_items, write_chunks as write_chunks_of}
 use Rattle.layout.proofs.ChunkLaws.{length-chunk}
 use Rattle.layout.proofs.AllLaws.{All}
 use Rattle.layout.proofs.ResultLaws.{got_inj}
@@ -159,19 +159,19 @@ abbrev Shorter : List Chunk → List Chunk → Type 0
 Shorter l m = length (write_chunks l) ≤ length (write_chunks m)
 
 short-keys : (ks : List Keys) (l m : List Chunk) → Shorter l m → Shorter (key_chunks ks l) (key_chunks ks m)
-unfolding writeChunksOf
+unfolding write_chunks_of
 short-keys [] l m h = h
 short-keys (k ∷ ks) l m h =
     omega (arith, short-keys ks l m h, length-chunk code KEYS (write_keys k) (write_chunks (key_chunks ks l)), length-chunk code KEYS (write_keys k) (write_chunks (key_chunks ks m)))
 
 short-anim : (a : Anim) (l m : List Chunk) → Shorter l m → Shorter (anim_chunks a l) (anim_chunks a m)
-unfolding writeChunksOf
+unfolding write_chunks_of
 short-anim no_anim l m h = h
 short-anim (anim ws) l m h =
     omega (arith, length-chunk code ANIM (write_words ws []) (write_chunks l), length-chunk code ANIM (write_words ws []) (write_chunks m))
 
 short-kind : (k : Kind) (l m : List Chunk) → Shorter l m → Shorter (kind_chunks k l) (kind_chunks k m)
-unfolding writeChunksOf
+unfolding write_chunks_of
 short-kind pivot l m h = h
 short-kind (mesh x) l m h = omega (arith, length-chunk code MESH (write_mesh x) (write_chunks l), length-chunk code MESH (write_mesh x) (write_chunks m))
 short-kind (bone ws) l m h =
@@ -186,7 +186,7 @@ short-node d l m h =
     omega (arith, length-words d.words (write_chunks cs), length-words d.words (write_chunks ds), length-text d.name.bytes (write_words d.words (write_chunks ds)))
 
 short-nodes : (f : Forest) → Shorter (node_chunks (rename_forest no_name f)) (node_chunks f)
-unfolding node_chunks writeChunksOf
+unfolding node_chunks write_chunks_of
 short-nodes no_nodes = omega arith
 short-nodes (node d f g) =
     let f' = node_chunks (rename_forest no_name f) in
@@ -194,7 +194,7 @@ short-nodes (node d f g) =
     omega (arith, short-node d f' (node_chunks f) (short-nodes f), short-nodes g, length-chunk code NODE (write_node (rename_data no_name d) f') (write_chunks g'), length-chunk code NODE (write_node d (node_chunks f)) (write_chunks (node_chunks g)))
 
 short-brush-chunks : (n : ℕ) (l : List Brush) (r s : List Chunk) → Shorter r s → Shorter (brush_chunks n (map (rename_brush no_name) l) r) (brush_chunks n l s)
-unfolding writeChunksOf
+unfolding write_chunks_of
 short-brush-chunks n [] r s h = h
 short-brush-chunks n (b ∷ l) r s h =
     omega (
@@ -205,7 +205,7 @@ short-brush-chunks n (b ∷ l) r s h =
     )
 
 short_texture_chunks : (l : List Texture) (r s : List Chunk) → Shorter r s → Shorter (texture_chunks (map (rename_texture no_name) l) r) (texture_chunks l s)
-unfolding writeChunksOf
+unfolding write_chunks_of
 short_texture_chunks [] r s h = h
 short_texture_chunks (t ∷ l) r s h =
     omega (

@@ -12,7 +12,7 @@ use Rattle.wire.specs.Test.{if}
 use Rattle.layout.specs.Chunks.{done, stop, chunk}
 use Rattle.layout.specs.Result.{Result, accept}
 use Rattle.layout.specs.Parts.{Name, named}
-use Rattle.layout.specs.Write.{write_words, write_items, write_chunks as writeChunksOf}
+use Rattle.layout.specs.Write.{write_words, write_items, write_chunks as write_chunks_of}
 use Rattle.layout.proofs.ChunkLaws.{length-chunk, lay, Of}
 use Rattle.layout.proofs.AllLaws.{All}
 use Rattle.layout.proofs.ResultLaws.{if_no, by-if, by_got, bad_got, got_inj}
@@ -46,7 +46,7 @@ no_kind [] no_anim (node d g h) = (tt, tt)
 
 kind-back : (brushes n : ℕ) (k : Kind) → FitKind brushes n k → (l : List Chunk) → NoKind l → length (write_chunks (kind_chunks k l)) < 4294967296 → (p : ℕ)
     → (q : ℕ) × (read_kind Lenient brushes n (lay p (kind_chunks k l)) ≡ accept (record { value = k; rest = lay q l }))
-unfolding read_kind a_mesh a_bone if writeChunksOf
+unfolding read_kind a_mesh a_bone if write_chunks_of
 kind-back brushes n pivot h [] s m p = (p, refl)
 kind-back brushes n pivot h (c ∷ l) s m p = (p, if_no (is c.tag MESH) _ _ s.0 ∙ if_no (is c.tag BONE) _ _ s.1)
 kind-back brushes n (mesh x) h l s m p =
@@ -79,13 +79,13 @@ bones-same none d n = refl
 bones-same (some m) d n = refl
 
 moves_longer : (ks : List Keys) (a : Anim) (l : List Chunk) → length (write_chunks l) ≤ length (write_chunks (key_chunks ks (anim_chunks a l)))
-unfolding writeChunksOf
+unfolding write_chunks_of
 moves_longer [] no_anim l = omega arith
 moves_longer [] (anim ws) l = omega (arith, length-chunk code ANIM (write_words ws []) (write_chunks l))
 moves_longer (k ∷ ks) a l = omega (arith, moves_longer ks a l, length-chunk code KEYS (write_keys k) (write_chunks (key_chunks ks (anim_chunks a l))))
 
 kind_longer : (k : Kind) (l : List Chunk) → length (write_chunks l) ≤ length (write_chunks (kind_chunks k l))
-unfolding writeChunksOf
+unfolding write_chunks_of
 kind_longer pivot l = omega arith
 kind_longer (mesh m) l = omega (arith, length-chunk code MESH (write_mesh m) (write_chunks l))
 kind_longer (bone ws) l = omega (arith, length-chunk code BONE (write_items write_words ws) (write_chunks l))
@@ -142,7 +142,7 @@ more-back one d f g p x y = record {
 -- the lengths of a first node and of those after it
 first_short : (d : Data) (f g : Forest) (n : ℕ) → length (write_chunks (node_chunks (node d f g))) < n
     → (length (write_node d (node_chunks f)) < n) × (length (write_chunks (node_chunks f)) < n) × (length (write_chunks (node_chunks g)) < n)
-unfolding node_chunks writeChunksOf
+unfolding node_chunks write_chunks_of
 first_short d f g n h =
     let b = write_node d (node_chunks f) in
     let lc = length-chunk code NODE b (write_chunks (node_chunks g)) in
@@ -174,7 +174,7 @@ pub record FineS {A : Type 0} (Ok : A → Type 0) (put : A → List Chunk → Li
 
 module _ (brushes m : ℕ) where
   kind_fine : (n : ℕ) (cs : Chunks) (x : Found Kind) → Of n cs → read_kind Lenient brushes m cs ≡ accept x → FineS (FitKind brushes m) kind_chunks n x
-  unfolding read_kind a_mesh a_bone writeChunksOf
+  unfolding read_kind a_mesh a_bone write_chunks_of
   kind_fine n done x h e = subst (FineS (FitKind brushes m) kind_chunks n) (got_inj e) (record { ok = tt; size = n; of = tt; short = λ l. omega arith })
   kind_fine n (stop i p) x h e = bad_got e
   kind_fine n (chunk t p b r) x h e =
@@ -197,7 +197,7 @@ record FineM (seen : Anim) (n : ℕ) (x : Found Animation) : Type 0 where
   short : (l : List Chunk) → length (write_chunks (key_chunks x.value.keys (anim_chunks x.value.anim l))) + size ≤ n + length (write_chunks (anim_chunks seen l))
 
 moves-fine : (n : ℕ) (cs : Chunks) (seen : Anim) (x : Found Animation) → FitAnim seen → Of n cs → read_animation seen cs ≡ accept x → FineM seen n x
-unfolding read_animation with_keys writeChunksOf
+unfolding read_animation with_keys write_chunks_of
 moves-fine n done seen x ha h e = subst (FineM seen n) (got_inj e) (record { keys = tt; anim-fits = ha; size = n; of = tt; short = λ l. omega arith })
 moves-fine n (stop i p) seen x ha h e = bad_got e
 moves-fine n (chunk t p b r) seen x ha h e =
@@ -235,7 +235,7 @@ NodesOK l brushes above n f = FitNodes l brushes above f × (length (write_chunk
 
 one_more : (l brushes : ℕ) (above : Option ℕ) (n : ℕ) (b : List ℕ) (x : Inner) (g : Forest) → NodeOK l brushes above (length b) x → 8 + length b ≤ n
     → NodesOK l brushes above (n - (8 + length b)) g → NodesOK l brushes above n (node x.self x.below g)
-unfolding node_chunks writeChunksOf
+unfolding node_chunks write_chunks_of
 one_more zero brushes above n b x g h k hg = absurd h
 one_more (suc l) brushes above n b x g h k hg =
     ((h.0, h.1, hg.0), omega (arith, h.2, hg.1, length-chunk code NODE (write_node x.self (node_chunks x.below)) (write_chunks (node_chunks g))))
@@ -243,7 +243,7 @@ one_more (suc l) brushes above n b x g h k hg =
 nodes-fine : (l brushes : ℕ) (above : Option ℕ) (one : ℕ → List ℕ → Result Inner)
     → ((p : ℕ) (b : List ℕ) (x : Inner) → AllBytes b → one p b ≡ accept x → NodeOK l brushes above (length b) x)
     → (n : ℕ) (cs : Chunks) (f : Forest) → Of n cs → read_nodes one cs ≡ accept f → NodesOK l brushes above n f
-unfolding read_nodes writeChunksOf node_chunks
+unfolding read_nodes write_chunks_of node_chunks
 nodes-fine l brushes above one go n done f h e = subst (NodesOK l brushes above n) (got_inj e) (no-nodes l brushes above, omega arith)
 nodes-fine l brushes above one go n (stop i p) f h e = bad_got e
 nodes-fine l brushes above one go n (chunk t p b r) f h e =

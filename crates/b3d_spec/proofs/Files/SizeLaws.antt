@@ -7,7 +7,7 @@ use mathlib.Core.Option.{Option, none}
 use mathlib.Core.List.{List, [], ◌∷◌}
 use lib.ListN.{length, length-replicate}
 use Rattle.layout.specs.Rules.{Rule, any}
-use Rattle.layout.specs.Write.{write_words, write_items, write_chunks as writeChunksOf}
+use Rattle.layout.specs.Write.{write_words, write_items, write_chunks as write_chunks_of}
 use Rattle.layout.proofs.ChunkLaws.{length-chunk}
 use Rattle.layout.proofs.WellFormedLaws.{Fits}
 use Rattle.layout.proofs.AllLaws.{All}
@@ -49,14 +49,14 @@ brushes-size n textures (b ∷ l) h =
     )
 
 sets-size : (brushes n : ℕ) (l : List TriangleSet) → All (FitTriangles brushes n) l → length (write_chunks (set_chunks l)) ≡ sets_size l
-unfolding writeChunksOf write_triangles
+unfolding write_chunks_of write_triangles
 sets-size brushes n [] h = refl
 sets-size brushes n (x ∷ l) h =
     let b = write_words (x.brush ∷ []) (write_items write_words x.triangles) in
     omega (arith, sets-size brushes n l h.1, rows-size (triangle_row n) x.triangles h.0.1, length-chunk code TRIS b (write_chunks (set_chunks l)))
 
 mesh-size : (brushes : ℕ) (m : Mesh) → FitMesh brushes m → 8 + length (write_mesh m) ≡ kind_size (mesh m)
-unfolding write_mesh writeChunksOf write_vertices
+unfolding write_mesh write_chunks_of write_vertices
 mesh-size brushes m h =
     let k = vertex_words m.flags m.sets m.size in
     let b = write_words (m.flags ∷ m.sets ∷ m.size ∷ []) (write_items write_words m.vertices) in
@@ -70,7 +70,7 @@ mesh-size brushes m h =
     )
 
 kind-size : (brushes n : ℕ) (k : Kind) (l : List Chunk) → FitKind brushes n k → length (write_chunks (kind_chunks k l)) ≡ kind_size k + length (write_chunks l)
-unfolding writeChunksOf
+unfolding write_chunks_of
 kind-size brushes n pivot l h = omega arith
 kind-size brushes n (mesh m) l h = omega (arith, mesh-size brushes m h, length-chunk code MESH (write_mesh m) (write_chunks l))
 kind-size brushes n (bone ws) l h = omega (arith, rows-size (weight_row n) ws h, length-chunk code BONE (write_items write_words ws) (write_chunks l))
@@ -83,12 +83,12 @@ key-size k h =
     omega (arith, rows-size (key_row k.flags) k.items h.1)
 
 keys-size : (ks : List Keys) (l : List Chunk) → All FitKeys ks → length (write_chunks (key_chunks ks l)) ≡ keys_size ks + length (write_chunks l)
-unfolding writeChunksOf
+unfolding write_chunks_of
 keys-size [] l h = omega arith
 keys-size (k ∷ ks) l h = omega (arith, keys-size ks l h.1, key-size k h.0, length-chunk code KEYS (write_keys k) (write_chunks (key_chunks ks l)))
 
 anim-size : (a : Anim) (l : List Chunk) → FitAnim a → length (write_chunks (anim_chunks a l)) ≡ anim_size a + length (write_chunks l)
-unfolding writeChunksOf
+unfolding write_chunks_of
 anim-size no_anim l h = omega arith
 anim-size (anim ws) l h = omega (arith, length-words ws [], length-fits anim_row ws h, length-chunk code ANIM (write_words ws []) (write_chunks l))
 
@@ -110,7 +110,7 @@ node-size brushes n d l h =
     )
 
 nodes-size : (l brushes : ℕ) (above : Option ℕ) (f : Forest) → FitNodes l brushes above f → length (write_chunks (node_chunks f)) ≡ nodes_size f
-unfolding node_chunks writeChunksOf
+unfolding node_chunks write_chunks_of
 nodes-size zero brushes above no_nodes h = refl
 nodes-size zero brushes above (node d f g) h = absurd h
 nodes-size (suc l) brushes above no_nodes h = refl
@@ -124,12 +124,12 @@ nodes-size (suc l) brushes above (node d f g) h =
     )
 
 texs-size : (l : List Texture) (r : List Chunk) → All FitTexture l → length (write_chunks (texture_chunks l r)) ≡ texs_size l + length (write_chunks r)
-unfolding writeChunksOf
+unfolding write_chunks_of
 texs-size [] r h = omega arith
 texs-size (t ∷ l) r h = omega (arith, textures-size (t ∷ l) h, length-chunk code TEXS (write_items write_texture (t ∷ l)) (write_chunks r))
 
 brus-size : (n textures : ℕ) (l : List Brush) (r : List Chunk) → All (FitBrush n textures) l → length (write_chunks (brush_chunks n l r)) ≡ brus_size n l + length (write_chunks r)
-unfolding writeChunksOf
+unfolding write_chunks_of
 brus-size n textures [] r h = omega arith
 brus-size n textures (b ∷ l) r h =
     omega (arith, brushes-size n textures (b ∷ l) h, length-chunk code BRUS (write_words (n ∷ []) (write_items write_brush (b ∷ l))) (write_chunks r))

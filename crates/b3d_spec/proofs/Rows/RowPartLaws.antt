@@ -25,7 +25,7 @@ use Rattle.b3d_spec.proofs.Rows.WordCountLaws.{any-words, ids-words, vertex-ones
 use Rattle.layout.proofs.WellFormedLaws.{Fits}
 use Rattle.layout.proofs.PartLaws.{length-fits}
 use Rattle.layout.specs.Rows.{name_cells}
-use Rattle.b3d_spec.specs.Rules.{vertex_row, key_row, triangle_row as triangleIds}
+use Rattle.b3d_spec.specs.Rules.{vertex_row, key_row, triangle_row as triangle_ids}
 
 -- a row of w words
 abbrev pub Wide : ℕ → List ℕ → Type 0
@@ -72,7 +72,7 @@ pub triangles-wide : (n v : ℕ) (ss : List TriangleSet) → All (FitTriangles n
 unfolding triangle_rows
 triangles-wide n v [] h = tt
 triangles-wide n v (s ∷ ss) h =
-    all_append (Wide 3) s.triangles (triangle_rows ss) (all_map (Fits (triangleIds v)) (Wide 3) (λ r f. length-fits (triangleIds v) r f) s.triangles h.0.1) (triangles-wide n v ss h.1)
+    all_append (Wide 3) s.triangles (triangle_rows ss) (all_map (Fits (triangle_ids v)) (Wide 3) (λ r f. length-fits (triangle_ids v) r f) s.triangles h.0.1) (triangles-wide n v ss h.1)
 
 pub sets-back : (i r : ℕ) (ss : List TriangleSet) (ts : List (List ℕ)) → sets_from (set_rows i r ss) (triangle_rows ss ++ ts) ≡ ss
 unfolding sets_from set_rows triangle_rows
