@@ -13,7 +13,6 @@ invariant-clear_nodes-loop-at l = EachLeft l.file NODE (node_copy l.levels) l.in
 abbrev pub decreases-clear_nodes-loop-at : goal.decreases-clear_nodes-loop-at
 decreases-clear_nodes-loop-at l = l.c.end - l.c.at
 
-
 abbrev pub decreases-clear_node : goal.decreases-clear_node
 decreases-clear_node l = 3 * l.levels
 

@@ -13,7 +13,6 @@ invariant-judge_nodes-loop-e l = Noding l.s l.at (read_node l.mode l.levels l.br
 abbrev pub decreases-judge_nodes-loop-e : goal.decreases-judge_nodes-loop-e
 decreases-judge_nodes-loop-e l = l.c.end - l.c.at
 
-
 abbrev pub decreases-judge_node : goal.decreases-judge_node
 decreases-judge_node l = 2 * l.levels
 

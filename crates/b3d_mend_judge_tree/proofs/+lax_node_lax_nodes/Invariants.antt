@@ -13,7 +13,6 @@ invariant-lax_nodes-loop-e l = Noding l.s l.at (lax_node l.levels (above_of l.ab
 abbrev pub decreases-lax_nodes-loop-e : goal.decreases-lax_nodes-loop-e
 decreases-lax_nodes-loop-e l = l.c.end - l.c.at
 
-
 abbrev pub decreases-lax_node : goal.decreases-lax_node
 decreases-lax_node l = 2 * l.levels
 

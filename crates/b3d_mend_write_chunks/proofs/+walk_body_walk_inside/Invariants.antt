@@ -11,7 +11,6 @@ invariant-walk_inside-loop-out l = Going l.file l.levels l.initial.c l.initial.k
 abbrev pub decreases-walk_inside-loop-out : goal.decreases-walk_inside-loop-out
 decreases-walk_inside-loop-out l = l.c.end - l.c.at
 
-
 abbrev pub decreases-walk_body : goal.decreases-walk_body
 decreases-walk_body l = 2 * l.levels
 
